@@ -1,0 +1,21 @@
+-- What a contract sees of a deque.
+use Rattle.std.specs.Prelude.{ℕ, ◌-◌, List, [], length, drop, slice_get, Option}
+use Rattle.arraydeque_ring.specs.Steps.{Steps, no_steps}
+
+-- a deque: its items from front to back, the place of the first in its region, and the steps of that region
+pub record DequeState (X : Type 0) : Type 0 where
+  pub items : List X
+  pub start : ℕ
+  pub steps : Steps
+
+module _ {X : Type 0} where
+  abbrev pub empty_deque : DequeState X
+  empty_deque = record { items = []; start = 0; steps = no_steps }
+
+  -- the last n items, or all if there are fewer
+  abbrev pub keep_last : ℕ → List X → List X
+  keep_last n xs = drop (length xs - n) xs
+
+  -- the last item, if there is one
+  abbrev pub last_item : List X → Option X
+  last_item xs = slice_get xs (length xs - 1)

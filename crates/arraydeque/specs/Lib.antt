@@ -1,0 +1,4 @@
+pub mod Deque
+pub mod Machine
+pub mod Policy
+pub mod Run

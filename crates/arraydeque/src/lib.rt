@@ -1,0 +1,11 @@
+//! A double-ended queue of fixed capacity in one ring, with a policy for what a push into a full one does.
+#![tactic(auto)]
+
+pub mod behavior;
+mod deque;
+mod error;
+pub mod run;
+
+pub use behavior::Saturating;
+pub use deque::ArrayDeque;
+pub use error::{CapacityError, MakeError};

@@ -1,0 +1,90 @@
+//! A whole list of calls on a deque, answered one by one.
+ghost use Rattle.std.specs.Prelude.{◌≡◌, ◌<◌, length, IfOk, IfErr, OnErr};
+ghost use Rattle.arraydeque.specs.Machine.{Step, answer_of};
+ghost use Rattle.arraydeque.specs.Policy.{saturating};
+ghost use Rattle.arraydeque.specs.Run.{Run};
+
+use crate::behavior::{Behavior, Saturating};
+use crate::deque::ArrayDeque;
+use crate::error::{CapacityError, MakeError};
+
+/// A call of a deque, as a value.
+#[derive(Drop)]
+pub enum Call<T> {
+    /// Adds an item at the front.
+    PushFront(T),
+    /// Adds an item at the back.
+    PushBack(T),
+    /// Takes the first item off.
+    PopFront,
+    /// Takes the last item off.
+    PopBack,
+    /// How many items there are.
+    Len,
+    /// How many items there may be.
+    Capacity,
+    /// Whether there is no item.
+    IsEmpty,
+}
+
+/// What a call answered.
+#[derive(Drop)]
+pub enum Reply<T, const CAP: usize, B: Behavior> {
+    /// The call did its work, and has nothing to tell.
+    Done,
+    /// The item that was taken off, if there was one.
+    Item(Option<T>),
+    /// A length or a capacity.
+    Number(usize),
+    /// Yes or no.
+    Truth(bool),
+    /// The part that was cut off.
+    Split(ArrayDeque<T, CAP, B>),
+    /// A push into a full deque. The element comes back, and the list is as it was.
+    Full(CapacityError<T>),
+}
+
+impl<T: Drop, const CAP: usize> ArrayDeque<T, CAP, Saturating> {
+    /// Makes the calls in order and answers each. A refused call does not stop the run.
+    ///
+    /// Room for the replies is taken before the first call, and none for an empty list. Where it is refused, nothing was done and the calls come back.
+    pub fn run(
+        &mut self,
+        calls: Vec<Call<T>>,
+    ) -> Result<Vec<Reply<T, CAP, Saturating>>, MakeError<Vec<Call<T>>>>
+        ensures ok { IfOk result (λ replies. Run saturating self.old.items calls.items replies.items self.new.items) }
+        ensures calls_come_back { IfErr result (λ refusal. refusal.source ≡ calls) }
+        ensures unchanged { OnErr result (self.new ≡ self.old) }
+        ensures some_calls { OnErr result (0 < length calls.items) }
+    {
+        let mut replies = match Vec::with_capacity(self.alloc(), calls.len()) {
+            Ok(replies) => replies,
+            Err(_) => return Err(MakeError { source: calls }),
+        };
+        for call in calls {
+            let reply = self.step(call);
+            replies.push_reserved(reply);
+        }
+        Ok(replies)
+    }
+
+    fn step(&mut self, call: Call<T>) -> Reply<T, CAP, Saturating>
+        ensures { Step saturating CAP self.old.items call (answer_of result) self.new.items }
+    {
+        match call {
+            Call::PushFront(element) => match self.push_front(element) {
+                Ok(()) => Reply::Done,
+                Err(refusal) => Reply::Full(refusal),
+            },
+            Call::PushBack(element) => match self.push_back(element) {
+                Ok(()) => Reply::Done,
+                Err(refusal) => Reply::Full(refusal),
+            },
+            Call::PopFront => Reply::Item(self.pop_front()),
+            Call::PopBack => Reply::Item(self.pop_back()),
+            Call::Len => Reply::Number(self.len()),
+            Call::Capacity => Reply::Number(self.capacity()),
+            Call::IsEmpty => Reply::Truth(self.is_empty()),
+        }
+    }
+}

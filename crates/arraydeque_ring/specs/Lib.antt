@@ -1,0 +1,4 @@
+pub mod Ownership
+pub mod Places
+pub mod Ring
+pub mod Steps

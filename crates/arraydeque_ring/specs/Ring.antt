@@ -1,0 +1,36 @@
+-- A list in the places of a region, round the region's end.
+use Rattle.std.specs.Prelude.{◌≡◌, ℕ, ◌+◌, ◌-◌, ◌%◌, ◌≤◌, List, [], ◌∷◌, ◌++◌, length, map, take, drop, replicate, Option, Some, None, Bool, true, false, is_some}
+use Rattle.arraydeque_ring.specs.Steps.{Steps, no_steps}
+
+-- a ring: its items from front to back, how many there may be, the place of the first, and the steps of its region
+pub record RingState (X : Type 0) : Type 0 where
+  pub items : List X
+  pub capacity : ℕ
+  pub start : ℕ
+  pub steps : Steps
+
+-- the place of item k, where the first item stands at `start`
+abbrev pub place_of : ℕ → ℕ → ℕ → ℕ
+place_of start k capacity = (start + k) % capacity
+
+module _ {X : Type 0} where
+  abbrev pub empty_ring : ℕ → RingState X
+  empty_ring n = record { items = []; capacity = n; start = 0; steps = no_steps }
+
+  -- the list read from the index `start` on, and on from its first element at its end
+  abbrev pub turned : ℕ → List X → List X
+  turned start xs = drop start xs ++ take start xs
+
+  -- the values that are there, in order
+  abbrev pub values : List (Option X) → List X
+  values [] = []
+  values (None ∷ ps) = values ps
+  values (Some x ∷ ps) = x ∷ values ps
+
+  -- which places hold a value
+  abbrev pub filled : List (Option X) → List Bool
+  filled ps = map is_some ps
+
+-- of the places whose fillings are given, the len from `start` on, round the end, are filled, and no others
+abbrev pub FilledFrom : ℕ → ℕ → List Bool → Type 0
+FilledFrom start len fs = turned start fs ≡ replicate len true ++ replicate (length fs - len) false

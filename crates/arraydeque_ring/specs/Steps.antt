@@ -1,0 +1,20 @@
+-- The steps that a region has made: five counts that cost nothing at run time.
+use Rattle.std.specs.Prelude.{ℕ, ◌+◌}
+
+pub record Steps : Type 0 where
+  pub puts : ℕ
+  pub takes : ℕ
+  pub moves : ℕ
+  pub exchanges : ℕ
+  pub lends : ℕ
+
+abbrev pub no_steps : Steps
+no_steps = record { puts = 0; takes = 0; moves = 0; exchanges = 0; lends = 0 }
+
+-- n values more were put into places
+abbrev pub more_puts : ℕ → Steps → Steps
+more_puts n s = record s { puts = s.puts + n }
+
+-- n values more were taken out of places
+abbrev pub more_takes : ℕ → Steps → Steps
+more_takes n s = record s { takes = s.takes + n }

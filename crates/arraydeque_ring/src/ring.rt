@@ -1,0 +1,169 @@
+//! A list of items in the places of a region, from the start on and round the region's end.
+//!
+//! A contract sees a [`Ring`] as its items from front to back, its capacity, the place of its first item and the steps of its region. A ring knows no policy: a push asks for room.
+ghost use Rattle.std.specs.Prelude.{◌≡◌, ◌-◌, ◌*◌, ◌+◌, ◌<◌, ◌≤◌, [], ◌∷◌, ◌++◌, length, take, drop, slice_get, option_copied, IfOk, OnErr, OnSome, IfNone};
+ghost use Rattle.std.specs.Mem.{type_size};
+ghost use Rattle.arraydeque_ring.specs.Ring.{empty_ring, place_of};
+ghost use Rattle.arraydeque_ring.specs.Steps.{more_puts, more_takes};
+
+use crate::slots::Slots;
+use crate::wrap::wrap_add;
+use std::alloc::{AllocError, Global};
+use std::marker::Model;
+
+/// A list of at most `capacity` items in one region, whose front may stand at any place.
+pub struct Ring<T> {
+    slots: Slots<T>,
+    start: usize,
+    len: usize,
+    alloc: Global,
+}
+
+impl<T> Model for Ring<T> {
+    ghost use Rattle.std.specs.Prelude.{◌≤◌, ◌-◌, length};
+    ghost use Rattle.arraydeque_ring.specs.Ring.{RingState, turned, values, filled, FilledFrom};
+
+    ghost Value = { RingState T };
+
+    ghost view = { λ r. record { items = values (turned r.start r.slots.places); capacity = length r.slots.places; start = r.start; steps = r.slots.steps } };
+
+    ghost invariant = { λ r. (r.start ≤ length r.slots.places - 1) × FilledFrom r.start r.len (filled r.slots.places) };
+}
+
+impl<T> Ring<T> {
+    /// An empty ring that starts at the first place. It is refused as the region is: never at capacity 0 or for items of size zero.
+    pub fn new(alloc: Global, capacity: usize) -> Result<Ring<T>, AllocError>
+        ensures ok { IfOk result (λ ring. ring ≡ empty_ring capacity) }
+        ensures refused { OnErr result (0 < capacity * type_size T.row) }
+    {
+        let slots = Slots::new(alloc, capacity)?;
+        Ok(Ring {
+            slots,
+            start: 0,
+            len: 0,
+            alloc,
+        })
+    }
+
+    /// How many items there are.
+    #[inline]
+    pub fn len(&self) -> usize
+        ensures len { result ≡ length self.now.items }
+        ensures within { result ≤ self.now.capacity }
+    {
+        self.len
+    }
+
+    /// How many items there may be.
+    #[inline]
+    pub fn capacity(&self) -> usize
+        ensures capacity { result ≡ self.now.capacity }
+        ensures within { length self.now.items ≤ result }
+    {
+        self.slots.capacity()
+    }
+
+    /// The allocator that the region came from.
+    pub fn alloc(&self) -> Global {
+        self.alloc
+    }
+
+    /// Adds an item behind the last one. No kept item moves.
+    #[inline]
+    pub fn push_back(&mut self, item: T)
+        requires { length self.old.items < self.old.capacity }
+        ensures { self.new ≡ record self.old { items = self.old.items ++ item ∷ []; steps = more_puts 1 self.old.steps } }
+    {
+        let place = wrap_add(self.start, self.len, self.slots.capacity());
+        self.slots.put(place, item);
+        self.len += 1;
+    }
+
+    /// Adds an item before the first one, whose place the start goes back to. No kept item moves.
+    #[inline]
+    pub fn push_front(&mut self, item: T)
+        requires { length self.old.items < self.old.capacity }
+        ensures { self.new ≡ record self.old { items = item ∷ self.old.items; start = place_of self.old.start (self.old.capacity - 1) self.old.capacity; steps = more_puts 1 self.old.steps } }
+    {
+        let capacity = self.slots.capacity();
+        let place = wrap_add(self.start, capacity - 1, capacity);
+        self.slots.put(place, item);
+        self.start = place;
+        self.len += 1;
+    }
+
+    /// Takes the first item off, if there is one. The start goes on to the next place, and no kept item moves.
+    #[inline]
+    pub fn pop_front(&mut self) -> Option<T>
+        ensures value { result ≡ slice_get self.old.items 0 }
+        ensures taken { OnSome result (self.new ≡ record self.old { items = drop 1 self.old.items; start = place_of self.old.start 1 self.old.capacity; steps = more_takes 1 self.old.steps }) }
+        ensures none { IfNone result (self.new ≡ self.old) }
+    {
+        if self.len == 0 {
+            return None;
+        }
+        let place = self.start;
+        self.start = wrap_add(place, 1, self.slots.capacity());
+        self.len -= 1;
+        Some(self.slots.take(place))
+    }
+
+    /// Takes the last item off, if there is one. The start stays, and no kept item moves.
+    #[inline]
+    pub fn pop_back(&mut self) -> Option<T>
+        ensures value { result ≡ slice_get self.old.items (length self.old.items - 1) }
+        ensures taken { OnSome result (self.new ≡ record self.old { items = take (length self.old.items - 1) self.old.items; steps = more_takes 1 self.old.steps }) }
+        ensures none { IfNone result (self.new ≡ self.old) }
+    {
+        if self.len == 0 {
+            return None;
+        }
+        self.len -= 1;
+        let place = wrap_add(self.start, self.len, self.slots.capacity());
+        Some(self.slots.take(place))
+    }
+
+    /// The item at an index, if there is one. Index 0 is the front.
+    #[inline]
+    pub fn get(&self, index: usize) -> Option<&T>
+        ensures { option_copied result ≡ slice_get self.now.items index }
+    {
+        if index >= self.len {
+            return None;
+        }
+        let place = wrap_add(self.start, index, self.slots.capacity());
+        Some(self.slots.get(place))
+    }
+
+    /// The items in two slices: those from the start to the region's end, then the wrapped rest.
+    #[inline]
+    pub fn as_slices(&self) -> (&[T], &[T])
+        ensures joined { result.0.now ++ result.1.now ≡ self.now.items }
+        ensures one_piece { self.now.start + length self.now.items ≤ self.now.capacity → result.1.now ≡ [] }
+    {
+        let to_end = self.slots.capacity() - self.start;
+        if self.len <= to_end {
+            (self.slots.slice(self.start, self.len), &[])
+        } else {
+            (
+                self.slots.slice(self.start, to_end),
+                self.slots.slice(0, self.len - to_end),
+            )
+        }
+    }
+}
+
+impl<T: Drop> Drop for Ring<T> {
+    /// Takes each item out and drops it, front to back, and gives the region back.
+    fn drop(mut self) {
+        for _ in 0..self.len() {
+            self.pop_front();
+        }
+        let Ring {
+            slots: _,
+            start: _,
+            len: _,
+            alloc: _,
+        } = self;
+    }
+}

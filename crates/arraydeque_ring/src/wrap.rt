@@ -1,0 +1,22 @@
+//! Places counted round the end of a region.
+ghost use Rattle.std.specs.Prelude.{◌≡◌, ◌+◌, ◌%◌, ◌<◌, ◌≤◌};
+
+/// The place `offset` places after `place` in a region of `capacity` places, round its end.
+///
+/// No sum of places passes `usize::MAX`, whatever the capacity, and a power of two takes no branch on the places.
+#[inline(always)]
+pub(crate) fn wrap_add(place: usize, offset: usize, capacity: usize) -> usize
+    requires in_region { place < capacity }
+    requires in_reach { offset ≤ capacity }
+    ensures { result ≡ (place + offset) % capacity }
+{
+    if capacity & (capacity - 1) == 0 {
+        return (place + offset) % capacity;
+    }
+    let to_end = capacity - place;
+    if offset < to_end {
+        place + offset
+    } else {
+        offset - to_end
+    }
+}
