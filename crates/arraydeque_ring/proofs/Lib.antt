@@ -1,1 +1,8 @@
+pub mod Blocks
+pub mod Heap
+pub mod Kit
+pub mod Lent
+pub mod Owned
+pub mod Regions
+pub mod Runs
 pub mod Sharing
