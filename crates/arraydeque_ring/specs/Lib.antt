@@ -1,3 +1,4 @@
+pub mod Counted
 pub mod Ownership
 pub mod Places
 pub mod Ring
