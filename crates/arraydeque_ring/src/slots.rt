@@ -2,6 +2,7 @@
 //!
 //! A contract sees a [`Slots`] as what each place holds and as the steps made so far. The steps are counted for contracts alone: they take no bytes and no time.
 ghost use Rattle.std.specs.Prelude.{◌≡◌, ℕ, ◌*◌, ◌^◌, ◌<◌, List, Option, Some, None, length, slice_set, swap, if◌then◌else◌, ◌==◌, IfOk, OnErr};
+ghost use Rattle.std.specs.Borrow.{sem};
 ghost use Rattle.std.specs.Mem.{type_size};
 ghost use prog.Memory.{capped};
 ghost use Rattle.arraydeque_ring.specs.Places.{empty_region, held_at, IsFilled, IsEmpty, HoldsRun, IsFilledRun, AreAllEmpty};
@@ -20,6 +21,7 @@ enum Step {
     Take,
     Move,
     Exchange,
+    Lend,
 }
 
 /// A region of places for values of type `T`, taken from the allocator at once and never grown.
@@ -50,6 +52,8 @@ impl<T> Model for Slots<T> {
 }
 
 impl<T> Slots<T> {
+    ghost use Rattle.arraydeque_ring.specs.Lends.{lends_place, lends_value};
+
     /// A region of `capacity` empty places.
     ///
     /// It is refused where the allocator refuses the memory, and where the region would be larger than the machine can name. A region of no bytes, of no places or of items of size zero, takes no memory and is never refused.
@@ -138,6 +142,17 @@ impl<T> Slots<T> {
         &self.slice(place, 1)[0]
     }
 
+    /// The value in a place, for writing. What is written through it changes that place and no other.
+    #[inline]
+    pub fn get_mut(&mut self, place: usize) -> &mut T
+        requires { IsFilled self.old.places place }
+        ensures* writes_back { sem 𝓛 (lends_place T.row self.entry place result) }
+        ensures value { held_at self.old.places place ≡ Some result.now }
+    {
+        self.count(Step::Lend, 1);
+        self.lend(place)
+    }
+
     /// The values in the `len` places from the place `from` on, in order. An empty run may start at the capacity.
     #[inline]
     pub fn slice(&self, from: usize, len: usize) -> &[T]
@@ -160,6 +175,14 @@ impl<T> Slots<T> {
         ensures region { self.new ≡ record self.old { places = slice_set self.old.places place None } }
     {
         unsafe { self.ptr.add(place).read() }
+    }
+
+    fn lend(&mut self, place: usize) -> &mut T
+        requires { IsFilled self.old.places place }
+        ensures* writes_back { sem 𝓛 (lends_value T.row self.entry place result) }
+        ensures value { held_at self.old.places place ≡ Some result.now }
+    {
+        unsafe { &mut *self.ptr.add(place) }
     }
 
     /// Counts steps of a kind. It does nothing at run time.
