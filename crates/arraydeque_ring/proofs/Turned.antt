@@ -16,6 +16,10 @@ place_of_cases t k n within = elim (cases_lt (t + k) n) [
 pub place_of-lt : (t k n : ℕ) → t + k < n + n → place_of t k n < n
 place_of-lt t k n within = elim (place_of_cases t k n within) [ inl below ↦ omega arith | inr past ↦ omega arith ]
 
+-- no step from a place leads to itself
+pub place_of-zero : (t n : ℕ) → t < n → place_of t 0 n ≡ t
+place_of-zero t n lt = mod-eq_of_lt (omega arith) ∙ omega arith
+
 -- two steps round the end are one
 pub place_of-place_of : (t k i n : ℕ) → place_of (place_of t k n) i n ≡ place_of t (place_of k i n) n
 place_of-place_of t k i n = mod-add-mod (t + k) n i ∙ ap (λ m. m % n) (add_assoc t k i) ∙ sym (add-mod-mod t (k + i) n)
@@ -67,6 +71,20 @@ module _ {X : Type 0} where
         | inr other ↦ moved ∙ get_or-set_other xs p (place_of t i n) c d (λ e. other (same_index t i k n (omega arith) within b e))
             ∙ sym (get_or-set_other (turned t xs) k i c d other ∙ get_or-turned t i xs d (omega arith) within)
       ])
+
+  -- the length elements from the index i on are those from the place p on, if the end does not part them
+  pub turned-run : (t i p len : ℕ) (xs : List X) → t ≤ length xs → i + len ≤ length xs → p + len ≤ length xs → (p ≡ t + i) ⊎ (p + length xs ≡ t + i) → take len (drop i (turned t xs)) ≡ take len (drop p xs)
+  turned-run t i p len xs a b c at =
+      let n = length xs in
+      let long = length-turned t xs in
+      let many : length (take len (drop i (turned t xs))) ≡ len = omega (arith, length-take len (drop i (turned t xs)), length-drop i (turned t xs)) in
+      same_lists (take len (drop i (turned t xs))) (take len (drop p xs)) (omega (arith, length-take len (drop p xs), length-drop p xs)) (λ j d lt.
+      let here : place_of t (i + j) n ≡ p + j = elim (place_of_cases t (i + j) n (omega arith)) [
+        | inl w ↦ elim at [ inl e ↦ omega arith | inr e ↦ omega arith ]
+        | inr w ↦ elim at [ inl e ↦ omega arith | inr e ↦ omega arith ]
+      ] in
+      get_or-take len (drop i (turned t xs)) j d (omega arith) ∙ get_or-drop i (turned t xs) j d ∙ get_or-turned t (i + j) xs d a (omega arith) ∙ ap (λ m. get_or xs m d) here
+      ∙ sym (get_or-take len (drop p xs) j d (omega arith) ∙ get_or-drop p xs j d))
 
   pub turned_at : (k : ℕ) (xs ys : List X) → length xs ≡ k → turned k (xs ++ ys) ≡ ys ++ xs
   turned_at k xs ys e = ap₂ (λ l r. l ++ r) (drop_at xs ys k e) (take_at xs ys k e)
