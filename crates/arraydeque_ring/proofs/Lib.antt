@@ -1,3 +1,4 @@
 pub mod Filled
+pub mod Opened
 pub mod Sharing
 pub mod Turned
