@@ -139,7 +139,7 @@ impl<T> Slots<T> {
             capacity,
             alloc: _,
         } = self;
-        if capacity * size_of::<T>() != 0 {
+        if 0 < capacity * size_of::<T>() {
             unsafe {
                 heap.deallocate(ptr as *mut u8, capacity * size_of::<T>(), align_of::<T>());
             }
