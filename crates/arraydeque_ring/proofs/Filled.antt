@@ -3,9 +3,9 @@ use Rattle.std.proofs.Common.{◌≡◌, ℕ, zero, suc, ◌+◌, ◌-◌, ◌<�
 use Rattle.std.proofs.lemmas.Bool.{cases_lt}
 use Rattle.std.proofs.lemmas.List.{length-append, length-map, length-replicate, length-take, length-drop, length-set, map-append, append_assoc, append-nil, get_or_append_left, get_or-append_right, get_or-drop, get_or-take, get_or-map, set_at, take-append-drop, take-append-le, drop-append-le, drop-map, take-map, nil_from_length}
 use Rattle.std.proofs.lemmas.Option.{slice_get_cases, slice_get_past}
-use Rattle.arraydeque_ring.specs.Places.{held_at, IsFilled, IsEmpty, HoldsRun}
+use Rattle.arraydeque_ring.specs.Places.{held_at, IsFilled, IsEmpty, HoldsRun, IsFilledRun, AreAllEmpty}
 use Rattle.arraydeque_ring.specs.Ring.{place_of, turned, values, filled, FilledFrom}
-use Rattle.arraydeque_ring.proofs.Turned.{place_of-lt, place_of-zero, length-turned, turned-run, turned-map, turned-turned, turned-set, turned_at, get_or-turned}
+use Rattle.arraydeque_ring.proofs.Turned.{place_of-lt, place_of-zero, length-turned, turned-run, turned-map, turned-turned, turned-set, turned_at, turned_back, turned-replicate, get_or-turned}
 
 module _ {X : Type 0} where
   -- the items, and then n empty places
@@ -92,6 +92,15 @@ module _ {X : Type 0} where
       let held = held_laid_out ps t xs k l (omega (arith, length_within ps t xs l)) in
       elim (slice_get_cases xs k).1 [ inl at ↦ (at.0, held ∙ at.2) | inr past ↦ absurd (omega arith) ]
 
+  -- the first place is the start itself
+  pub first_held : (ps : List (Option X)) (t : ℕ) (xs : List X) → LaidOut ps t xs → 0 < length xs → held_at ps t ≡ slice_get xs 0
+  first_held ps t xs l some = let lt = length_within ps t xs l in
+      ap (held_at ps) (sym (place_of-zero t (length ps) (omega (arith, l.in_region)))) ∙ held_laid_out ps t xs 0 l (omega arith)
+
+  pub first_filled : (ps : List (Option X)) (t : ℕ) (xs : List X) → LaidOut ps t xs → 0 < length xs → IsFilled ps t
+  first_filled ps t [] l some = absurd (omega arith)
+  first_filled ps t (x ∷ xs) l some = (x, first_held ps t (x ∷ xs) l some)
+
   pub empty_at : (ps : List (Option X)) (t : ℕ) (xs : List X) (k : ℕ) → LaidOut ps t xs → length xs ≤ k → k < length ps → IsEmpty ps (place_of t k (length ps))
   empty_at ps t xs k l past lt = (place_of-lt t k (length ps) (omega (arith, l.in_region)), held_laid_out ps t xs k l lt ∙ slice_get_past xs k past)
 
@@ -103,6 +112,27 @@ module _ {X : Type 0} where
       sym (turned-run t i p len ps (omega (arith, l.in_region)) (omega (arith, length_within ps t xs l)) fits at) ∙ ap (λ qs. take len (drop i qs)) l.is
       ∙ ap (take len) (drop-append-le i (map Some xs) (replicate n None) (omega arith)) ∙ take-append-le len (drop i (map Some xs)) (replicate n None) (omega (arith, length-drop i (map Some xs)))
       ∙ ap (take len) (drop-map Some i xs) ∙ take-map Some len (drop i xs)
+
+  pub run_filled : (ps : List (Option X)) (t : ℕ) (xs : List X) (i p len : ℕ) → LaidOut ps t xs → i + len ≤ length xs → p + len ≤ length ps → (p ≡ t + i) ⊎ (p + length ps ≡ t + i) → IsFilledRun ps p len
+  run_filled ps t xs i p len l within fits at = (fits, (take len (drop i xs), run_laid_out ps t xs i p len l within fits at))
+
+  values-map_Some : (xs : List X) → values (map Some xs) ≡ xs
+  values-map_Some [] = refl
+  values-map_Some (x ∷ xs) = ap (λ l. x ∷ l) (values-map_Some xs)
+
+  -- and whatever lies there are those items
+  pub run_is : (ps : List (Option X)) (t : ℕ) (xs ys : List X) (i p len : ℕ) → LaidOut ps t xs → HoldsRun ps p len ys → i + len ≤ length xs → p + len ≤ length ps → (p ≡ t + i) ⊎ (p + length ps ≡ t + i)
+      → ys ≡ take len (drop i xs)
+  run_is ps t xs ys i p len l held within fits at =
+      sym (values-map_Some ys) ∙ ap values (sym held ∙ run_laid_out ps t xs i p len l within fits at) ∙ values-map_Some (take len (drop i xs))
+
+  -- a ring of no items has empty places alone
+  pub all_empty : (ps : List (Option X)) (t : ℕ) (xs : List X) → LaidOut ps t xs → length xs ≡ 0 → AreAllEmpty ps
+  all_empty ps t xs l none =
+      let m = length ps in
+      let le : t ≤ m = omega (arith, l.in_region) in
+      let nothing : turned t ps ≡ replicate m None = l.is ∙ ap₂ and_empty (nil_from_length xs none) (omega arith) in
+      sym (turned_back t ps le) ∙ ap (turned (m - t)) nothing ∙ turned-replicate (m - t) m None (omega arith)
 
   -- an edit of the place of the index k is one of the index k
   pub set_laid_out : (ps : List (Option X)) (t : ℕ) (xs : List X) (k : ℕ) (c : Option X) → LaidOut ps t xs → k < length ps → turned t (set ps (place_of t k (length ps)) c) ≡ set (and_empty xs (length ps - length xs)) k c

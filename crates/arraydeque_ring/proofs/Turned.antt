@@ -1,8 +1,8 @@
 -- A list read from an index on, round its end.
-use Rattle.std.proofs.Common.{◌≡◌, ◌≢◌, ℕ, ◌+◌, ◌-◌, ◌%◌, ◌<◌, ◌≤◌, ◌⊎◌, inl, inr, List, [], ◌∷◌, ◌++◌, map, length, take, drop, set, get_or, refl, sym, ap, ap₂, ◌∙◌, arith}
+use Rattle.std.proofs.Common.{◌≡◌, ◌≢◌, ℕ, ◌+◌, ◌-◌, ◌%◌, ◌<◌, ◌≤◌, ◌⊎◌, inl, inr, List, [], ◌∷◌, ◌++◌, map, length, take, drop, set, get_or, replicate, refl, sym, ap, ap₂, ◌∙◌, arith}
 use Rattle.std.proofs.Math.Nat.{mod-eq_of_lt, mod-eq-sub-mod, add-mod-mod, mod-add-mod, add_assoc}
 use Rattle.std.proofs.lemmas.Bool.{cases_lt, cases_eq}
-use Rattle.std.proofs.lemmas.List.{length-append, length-take, length-drop, length-set, length-map, get_or_append_left, get_or-append_right, get_or-drop, get_or-take, get_or-set_same, get_or-set_other, same_lists, take_at, drop_at, map-append, drop-map, take-map}
+use Rattle.std.proofs.lemmas.List.{length-append, length-take, length-drop, length-set, length-map, get_or_append_left, get_or-append_right, get_or-drop, get_or-take, get_or-set_same, get_or-set_other, same_lists, take_at, drop_at, map-append, drop-map, take-map, take-append-drop, take-replicate, drop-replicate, replicate-append-replicate}
 use Rattle.arraydeque_ring.specs.Ring.{place_of, turned}
 
 -- a place is the sum itself below the end, and the sum less the capacity past it
@@ -88,6 +88,13 @@ module _ {X : Type 0} where
 
   pub turned_at : (k : ℕ) (xs ys : List X) → length xs ≡ k → turned k (xs ++ ys) ≡ ys ++ xs
   turned_at k xs ys e = ap₂ (λ l r. l ++ r) (drop_at xs ys k e) (take_at xs ys k e)
+
+  -- to turn on by what is left gives the list back
+  pub turned_back : (t : ℕ) (xs : List X) → t ≤ length xs → turned (length xs - t) (turned t xs) ≡ xs
+  turned_back t xs le = turned_at (length xs - t) (drop t xs) (take t xs) (length-drop t xs) ∙ take-append-drop t xs
+
+  pub turned-replicate : (k n : ℕ) (x : X) → k ≤ n → turned k (replicate n x) ≡ replicate n x
+  turned-replicate k n x le = ap₂ (λ l r. l ++ r) (drop-replicate k n x) (take-replicate k n x le) ∙ replicate-append-replicate (n - k) k x ∙ ap (λ m. replicate m x) (omega arith)
 
 pub turned-map : {X Y : Type 0} (f : X → Y) (t : ℕ) (xs : List X) → turned t (map f xs) ≡ map f (turned t xs)
 turned-map f t xs = ap₂ (λ l r. l ++ r) (drop-map f t xs) (take-map f t xs) ∙ sym (map-append f (drop t xs) (take t xs))

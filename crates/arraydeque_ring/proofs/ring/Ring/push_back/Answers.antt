@@ -14,7 +14,7 @@ put-requires g c =
 pub overflow_add-self : goal.overflow_add-self
 overflow_add-self g c = let ring = opened c.self.inside c.args.self.now c.self.invariant c.self.view_is in omega arith
 
-after : (g : Over) (c : goal.After-put g) → Opened record { slots = c.put.new.self; start = c.self.inside.start; len = c.self.inside.len + 1; alloc = c.self.inside.alloc }
+after : (g : Over) (c : goal.After-self-1 g) → Opened record { slots = c.put.new.self; start = c.self.inside.start; len = c.self.inside.len + 1; alloc = c.self.inside.alloc }
     record c.args.self.now { items = c.args.self.now.items ++ c.args.item ∷ []; steps = more_puts 1 c.args.self.now.steps }
 after g c =
     let ring = opened c.self.inside c.args.self.now c.self.invariant c.self.view_is in
