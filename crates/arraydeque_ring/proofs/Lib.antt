@@ -1,8 +1,11 @@
 pub mod Blocks
+pub mod Filled
 pub mod Heap
 pub mod Kit
 pub mod Lent
+pub mod Opened
 pub mod Owned
 pub mod Regions
 pub mod Runs
 pub mod Sharing
+pub mod Turned

@@ -1,0 +1,6 @@
+use Rattle.std.proofs.Common.{sym}
+use Rattle.arraydeque_ring.proofs.Opened.{opened}
+use Rattle.arraydeque_ring.proofs.ring.Ring.len.Goals as goal
+
+pub returns-clause-len : goal.returns-clause-len
+returns-clause-len g c = sym (opened c.self.inside c.args.self.now c.self.invariant c.self.view_is).len
