@@ -1,13 +1,17 @@
 //! The deque: a ring of at most `CAP` items under a policy.
-ghost use Rattle.std.specs.Prelude.{◌≡◌, ◌-◌, ◌*◌, ◌<◌, ◌≤◌, ◌==◌, ◌++◌, ◌∷◌, [], length, take, drop, slice_get, IfOk, IfErr, OnOk, OnErr, IsOk, ◌↔◌};
+ghost use Rattle.std.specs.Prelude.{◌≡◌, ◌-◌, ◌*◌, ◌+◌, ◌<◌, ◌≤◌, ◌==◌, ◌++◌, [], length, take, drop, slice_get, IfOk, OnErr, OnSome, IfNone};
 ghost use Rattle.std.specs.Mem.{type_size};
+ghost use Rattle.arraydeque_ring.specs.Ring.{place_of};
+ghost use Rattle.arraydeque_ring.specs.Steps.{more_takes};
 ghost use Rattle.arraydeque.specs.Deque.{empty_deque, last_item};
 
-use crate::behavior::{Behavior, Saturating};
-use crate::error::CapacityError;
+use crate::behavior::Behavior;
 use arraydeque_ring::ring::Ring;
 use std::alloc::{AllocError, Global};
 use std::marker::{Model, PhantomData};
+
+mod access;
+mod policies;
 
 /// A double-ended queue of at most `CAP` items, in one region that is taken when it is made. `B` says what a push into a full one does.
 ///
@@ -71,11 +75,23 @@ impl<T, const CAP: usize, B: Behavior> ArrayDeque<T, CAP, B> {
         self.len() == 0
     }
 
+    /// Whether there is room for no further item.
+    #[inline]
+    pub fn is_full(&self) -> bool
+        ensures full { result ≡ (length self.now.items == CAP) }
+        ensures within { length self.now.items ≤ CAP }
+    {
+        self.len() == CAP
+    }
+
     /// Takes the first item off, or answers `None` where there is none. No kept item moves.
     #[inline]
     pub fn pop_front(&mut self) -> Option<T>
         ensures value { result ≡ slice_get self.old.items 0 }
         ensures items { self.new.items ≡ drop 1 self.old.items }
+        ensures start { OnSome result (self.new.start ≡ place_of self.old.start 1 CAP) }
+        ensures steps { OnSome result (self.new.steps ≡ more_takes 1 self.old.steps) }
+        ensures none { IfNone result (self.new ≡ self.old) }
     {
         self.ring.pop_front()
     }
@@ -85,6 +101,9 @@ impl<T, const CAP: usize, B: Behavior> ArrayDeque<T, CAP, B> {
     pub fn pop_back(&mut self) -> Option<T>
         ensures value { result ≡ last_item self.old.items }
         ensures items { self.new.items ≡ take (length self.old.items - 1) self.old.items }
+        ensures start { self.new.start ≡ self.old.start }
+        ensures steps { OnSome result (self.new.steps ≡ more_takes 1 self.old.steps) }
+        ensures none { IfNone result (self.new ≡ self.old) }
     {
         self.ring.pop_back()
     }
@@ -93,43 +112,12 @@ impl<T, const CAP: usize, B: Behavior> ArrayDeque<T, CAP, B> {
     #[inline]
     pub fn as_slices(&self) -> (&[T], &[T])
         ensures joined { result.0.now ++ result.1.now ≡ self.now.items }
+        ensures one_piece { self.now.start + length self.now.items ≤ CAP → result.1.now ≡ [] }
     {
         self.ring.as_slices()
     }
 
     pub(crate) fn alloc(&self) -> Global {
         self.ring.alloc()
-    }
-}
-
-impl<T, const CAP: usize> ArrayDeque<T, CAP, Saturating> {
-    /// Adds an item before the first one. A full deque hands the element back and stays as it was.
-    #[inline]
-    pub fn push_front(&mut self, element: T) -> Result<(), CapacityError<T>>
-        ensures room { IsOk result ↔ (length self.old.items < CAP) }
-        ensures ok { OnOk result (self.new.items ≡ element ∷ self.old.items) }
-        ensures full { IfErr result (λ refusal. refusal.element ≡ element) }
-        ensures unchanged { OnErr result (self.new ≡ self.old) }
-    {
-        if self.ring.len() == CAP {
-            return Err(CapacityError { element });
-        }
-        self.ring.push_front(element);
-        Ok(())
-    }
-
-    /// Adds an item behind the last one. A full deque hands the element back and stays as it was.
-    #[inline]
-    pub fn push_back(&mut self, element: T) -> Result<(), CapacityError<T>>
-        ensures room { IsOk result ↔ (length self.old.items < CAP) }
-        ensures ok { OnOk result (self.new.items ≡ self.old.items ++ element ∷ []) }
-        ensures full { IfErr result (λ refusal. refusal.element ≡ element) }
-        ensures unchanged { OnErr result (self.new ≡ self.old) }
-    {
-        if self.ring.len() == CAP {
-            return Err(CapacityError { element });
-        }
-        self.ring.push_back(element);
-        Ok(())
     }
 }

@@ -6,6 +6,6 @@ mod deque;
 mod error;
 pub mod run;
 
-pub use behavior::Saturating;
+pub use behavior::{Saturating, Wrapping};
 pub use deque::ArrayDeque;
 pub use error::{CapacityError, MakeError};

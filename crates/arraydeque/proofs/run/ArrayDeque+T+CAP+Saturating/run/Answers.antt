@@ -10,7 +10,7 @@ use Rattle.arraydeque.proofs.run.ArrayDeque+T+CAP+Saturating.run.Goals as goal
 pub loop-call-preserved : goal.loop-call-preserved
 loop-call-preserved g c = record {
   room = omega (arith, c.loop-call.invariant.room, c.push_reserved.ensures.len, c.push_reserved.ensures.capacity, c.in-Some.ensures.steps.1);
-  so_far = rw c.push_reserved.ensures.items (Run-push saturating _ _ _ _ _ _ _ c.loop-call.invariant.so_far c.step-reply.ensures)
+  so_far = rw c.push_reserved.ensures.items (Run-push saturating _ _ _ _ _ _ _ c.loop-call.invariant.so_far c.step-reply.ensures);
 }
 
 pub returns-clause-ok : goal.returns-clause-ok

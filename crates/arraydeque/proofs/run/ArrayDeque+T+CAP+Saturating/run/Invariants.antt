@@ -8,5 +8,5 @@ use Rattle.arraydeque.proofs.run.ArrayDeque+T+CAP+Saturating.run.Given as goal
 abbrev pub invariant-loop-call : goal.invariant-loop-call
 invariant-loop-call g l = record {
   room : vec_len l.replies + into_iter_len l.call-iterator ≤ vec_capacity l.replies;
-  so_far : Run saturating l.fn.self.items l.yielded l.replies.items l.self.items
+  so_far : Run saturating l.fn.self.items l.yielded l.replies.items l.self.items;
 }

@@ -1,0 +1,89 @@
+//! What the two policies do differently: the pushes.
+ghost use Rattle.std.specs.Prelude.{◌≡◌, ◌<◌, ◌-◌, ◌++◌, ◌∷◌, [], length, take, slice_get, None, nat_lt, if◌then◌else◌, IfErr, OnOk, OnErr, IsOk, ◌↔◌};
+ghost use Rattle.arraydeque_ring.specs.Ring.{place_of};
+ghost use Rattle.arraydeque_ring.specs.Steps.{more_puts, more_takes};
+ghost use Rattle.arraydeque.specs.Deque.{keep_last};
+
+use super::ArrayDeque;
+use crate::behavior::{Saturating, Wrapping};
+use crate::error::CapacityError;
+
+impl<T, const CAP: usize> ArrayDeque<T, CAP, Saturating> {
+    /// Adds an item before the first one. A full deque hands the element back and stays as it was.
+    #[inline]
+    pub fn push_front(&mut self, element: T) -> Result<(), CapacityError<T>>
+        ensures room { IsOk result ↔ (length self.old.items < CAP) }
+        ensures items { OnOk result (self.new.items ≡ element ∷ self.old.items) }
+        ensures start { OnOk result (self.new.start ≡ place_of self.old.start (CAP - 1) CAP) }
+        ensures steps { OnOk result (self.new.steps ≡ more_puts 1 self.old.steps) }
+        ensures full { IfErr result (λ refusal. refusal.element ≡ element) }
+        ensures unchanged { OnErr result (self.new ≡ self.old) }
+    {
+        if self.is_full() {
+            return Err(CapacityError { element });
+        }
+        self.ring.push_front(element);
+        Ok(())
+    }
+
+    /// Adds an item behind the last one. A full deque hands the element back and stays as it was.
+    #[inline]
+    pub fn push_back(&mut self, element: T) -> Result<(), CapacityError<T>>
+        ensures room { IsOk result ↔ (length self.old.items < CAP) }
+        ensures items { OnOk result (self.new.items ≡ self.old.items ++ element ∷ []) }
+        ensures start { self.new.start ≡ self.old.start }
+        ensures steps { OnOk result (self.new.steps ≡ more_puts 1 self.old.steps) }
+        ensures full { IfErr result (λ refusal. refusal.element ≡ element) }
+        ensures unchanged { OnErr result (self.new ≡ self.old) }
+    {
+        if self.is_full() {
+            return Err(CapacityError { element });
+        }
+        self.ring.push_back(element);
+        Ok(())
+    }
+}
+
+impl<T, const CAP: usize> ArrayDeque<T, CAP, Wrapping> {
+    /// Adds an item before the first one. A full deque gives up its last item, and one of capacity 0 the element itself.
+    #[inline]
+    pub fn push_front(&mut self, element: T) -> Option<T>
+        ensures items { self.new.items ≡ take CAP (element ∷ self.old.items) }
+        ensures value { result ≡ slice_get (element ∷ self.old.items) CAP }
+        ensures start { 0 < CAP → self.new.start ≡ place_of self.old.start (CAP - 1) CAP }
+        ensures steps { 0 < CAP → self.new.steps ≡ more_puts 1 (more_takes (if nat_lt (length self.old.items) CAP then 0 else 1) self.old.steps) }
+        ensures no_places { CAP ≡ 0 → self.new ≡ self.old }
+    {
+        if !self.is_full() {
+            self.ring.push_front(element);
+            return None;
+        }
+        if CAP == 0 {
+            return Some(element);
+        }
+        let displaced = self.ring.pop_back();
+        self.ring.push_front(element);
+        displaced
+    }
+
+    /// Adds an item behind the last one. A full deque gives up its first item, and one of capacity 0 the element itself.
+    #[inline]
+    pub fn push_back(&mut self, element: T) -> Option<T>
+        ensures items { self.new.items ≡ keep_last CAP (self.old.items ++ element ∷ []) }
+        ensures value { result ≡ (if nat_lt (length self.old.items) CAP then None else slice_get (self.old.items ++ element ∷ []) 0) }
+        ensures start { 0 < CAP → self.new.start ≡ (if nat_lt (length self.old.items) CAP then self.old.start else place_of self.old.start 1 CAP) }
+        ensures steps { 0 < CAP → self.new.steps ≡ more_puts 1 (more_takes (if nat_lt (length self.old.items) CAP then 0 else 1) self.old.steps) }
+        ensures no_places { CAP ≡ 0 → self.new ≡ self.old }
+    {
+        if !self.is_full() {
+            self.ring.push_back(element);
+            return None;
+        }
+        if CAP == 0 {
+            return Some(element);
+        }
+        let displaced = self.ring.pop_front();
+        self.ring.push_back(element);
+        displaced
+    }
+}
