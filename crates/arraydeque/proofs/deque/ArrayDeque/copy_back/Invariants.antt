@@ -1,0 +1,8 @@
+use Rattle.std.proofs.Common.{◌≡◌, ◌++◌, take}
+use Rattle.arraydeque.proofs.deque.ArrayDeque.copy_back.Given as goal
+
+abbrev pub invariant-loop-item : goal.invariant-loop-item
+invariant-loop-item g l = record {
+  capacity : l.self-inside.ring.capacity ≡ g.row.CAP;
+  items : l.self-inside.ring.items ≡ l.fn.self.items ++ take l.item-index l.items;
+}

@@ -1,0 +1,10 @@
+use Rattle.std.proofs.Common.{◌≡◌, ◌++◌, take, reverse}
+use Rattle.arraydeque.specs.Deque.{keep_last}
+use Rattle.arraydeque.proofs.deque.extend.ArrayDeque+T+CAP+Wrapping.extend_back.Given as goal
+
+abbrev pub invariant-loop-element : goal.invariant-loop-element
+invariant-loop-element g l = record {
+  can_next : (goal.iterator-loop-element g).can_next l.element-iterator;
+  finite : (goal.iterator-loop-element g).is_finite l.element-iterator;
+  items : l.self.items ≡ keep_last g.row.CAP (l.fn.self.items ++ l.yielded);
+}
