@@ -1,3 +1,5 @@
+pub mod Counted
+pub mod Lends
 pub mod Ownership
 pub mod Places
 pub mod Ring

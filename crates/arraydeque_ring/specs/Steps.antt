@@ -18,3 +18,15 @@ more_puts n s = record s { puts = s.puts + n }
 -- n values more were taken out of places
 abbrev pub more_takes : ℕ → Steps → Steps
 more_takes n s = record s { takes = s.takes + n }
+
+-- n values more were moved from a place to another
+abbrev pub more_moves : ℕ → Steps → Steps
+more_moves n s = record s { moves = s.moves + n }
+
+-- n pairs of values more were exchanged
+abbrev pub more_exchanges : ℕ → Steps → Steps
+more_exchanges n s = record s { exchanges = s.exchanges + n }
+
+-- values were lent for writing n times more
+abbrev pub more_lends : ℕ → Steps → Steps
+more_lends n s = record s { lends = s.lends + n }

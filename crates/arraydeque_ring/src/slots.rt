@@ -1,16 +1,28 @@
 //! The raw region: places that each hold a value or nothing. This is the one module with raw pointers.
 //!
 //! A contract sees a [`Slots`] as what each place holds and as the steps made so far. The steps are counted for contracts alone: they take no bytes and no time.
-ghost use Rattle.std.specs.Prelude.{◌≡◌, ℕ, ◌*◌, ◌^◌, ◌<◌, List, Option, Some, None, length, slice_set, IfOk, OnErr};
+ghost use Rattle.std.specs.Prelude.{◌≡◌, ℕ, ◌*◌, ◌^◌, ◌<◌, List, Option, Some, None, length, slice_set, swap, if◌then◌else◌, ◌==◌, IfOk, OnErr};
+ghost use Rattle.std.specs.Borrow.{sem};
 ghost use Rattle.std.specs.Mem.{type_size};
 ghost use prog.Memory.{capped};
 ghost use Rattle.arraydeque_ring.specs.Places.{empty_region, held_at, IsFilled, IsEmpty, HoldsRun, IsFilledRun, AreAllEmpty};
-ghost use Rattle.arraydeque_ring.specs.Steps.{Steps, more_puts, more_takes};
+ghost use Rattle.arraydeque_ring.specs.Counted.{counted};
+ghost use Rattle.arraydeque_ring.specs.Steps.{Steps, more_puts, more_takes, more_moves, more_exchanges};
 
 use std::alloc::{AllocError, Allocator, Global};
 use std::marker::Model;
 use std::mem::{align_of, size_of};
 use std::slice;
+
+/// A kind of step that is counted.
+#[derive(Clone, Copy)]
+enum Step {
+    Put,
+    Take,
+    Move,
+    Exchange,
+    Lend,
+}
 
 /// A region of places for values of type `T`, taken from the allocator at once and never grown.
 ///
@@ -40,6 +52,8 @@ impl<T> Model for Slots<T> {
 }
 
 impl<T> Slots<T> {
+    ghost use Rattle.arraydeque_ring.specs.Lends.{lends_place, lends_value};
+
     /// A region of `capacity` empty places.
     ///
     /// It is refused where the allocator refuses the memory, and where the region would be larger than the machine can name. A region of no bytes, of no places or of items of size zero, takes no memory and is never refused.
@@ -72,7 +86,8 @@ impl<T> Slots<T> {
         ensures places { self.new.places ≡ slice_set self.old.places place (Some value) }
         ensures steps { self.new.steps ≡ more_puts 1 self.old.steps }
     {
-        unsafe { self.ptr.add(place).write(value) }
+        self.write(place, value);
+        self.count(Step::Put, 1);
     }
 
     /// Takes the value out of a place, which is empty from then on.
@@ -83,7 +98,39 @@ impl<T> Slots<T> {
         ensures places { self.new.places ≡ slice_set self.old.places place None }
         ensures steps { self.new.steps ≡ more_takes 1 self.old.steps }
     {
-        unsafe { self.ptr.add(place).read() }
+        self.count(Step::Take, 1);
+        self.read(place)
+    }
+
+    /// Moves the value in the place `src` to the empty place `dst`.
+    #[inline]
+    pub fn shift(&mut self, dst: usize, src: usize)
+        requires filled { IsFilled self.old.places src }
+        requires empty { IsEmpty self.old.places dst }
+        ensures places { self.new.places ≡ slice_set (slice_set self.old.places src None) dst (held_at self.old.places src) }
+        ensures steps { self.new.steps ≡ more_moves 1 self.old.steps }
+    {
+        let value = self.read(src);
+        self.write(dst, value);
+        self.count(Step::Move, 1);
+    }
+
+    /// Exchanges the values in two places. Nothing happens where the two are one.
+    #[inline]
+    pub fn exchange(&mut self, a: usize, b: usize)
+        requires a_filled { IsFilled self.old.places a }
+        requires b_filled { IsFilled self.old.places b }
+        ensures places { self.new.places ≡ swap self.old.places a b }
+        ensures steps { self.new.steps ≡ more_exchanges (if a == b then 0 else 1) self.old.steps }
+    {
+        if a == b {
+            return;
+        }
+        let left = self.read(a);
+        let right = self.read(b);
+        self.write(a, right);
+        self.write(b, left);
+        self.count(Step::Exchange, 1);
     }
 
     /// The value in a place.
@@ -95,6 +142,17 @@ impl<T> Slots<T> {
         &self.slice(place, 1)[0]
     }
 
+    /// The value in a place, for writing. What is written through it changes that place and no other.
+    #[inline]
+    pub fn get_mut(&mut self, place: usize) -> &mut T
+        requires { IsFilled self.old.places place }
+        ensures* writes_back { sem 𝓛 (lends_place T.row self.entry place result) }
+        ensures value { held_at self.old.places place ≡ Some result.now }
+    {
+        self.count(Step::Lend, 1);
+        self.lend(place)
+    }
+
     /// The values in the `len` places from the place `from` on, in order. An empty run may start at the capacity.
     #[inline]
     pub fn slice(&self, from: usize, len: usize) -> &[T]
@@ -103,6 +161,34 @@ impl<T> Slots<T> {
     {
         unsafe { slice::from_raw_parts(self.ptr.add(from), len) }
     }
+
+    fn write(&mut self, place: usize, value: T)
+        requires { IsEmpty self.old.places place }
+        ensures { self.new ≡ record self.old { places = slice_set self.old.places place (Some value) } }
+    {
+        unsafe { self.ptr.add(place).write(value) }
+    }
+
+    fn read(&mut self, place: usize) -> T
+        requires { IsFilled self.old.places place }
+        ensures value { held_at self.old.places place ≡ Some result }
+        ensures region { self.new ≡ record self.old { places = slice_set self.old.places place None } }
+    {
+        unsafe { self.ptr.add(place).read() }
+    }
+
+    fn lend(&mut self, place: usize) -> &mut T
+        requires { IsFilled self.old.places place }
+        ensures* writes_back { sem 𝓛 (lends_value T.row self.entry place result) }
+        ensures value { held_at self.old.places place ≡ Some result.now }
+    {
+        unsafe { &mut *self.ptr.add(place) }
+    }
+
+    /// Counts steps of a kind. It does nothing at run time.
+    fn count(&mut self, step: Step, times: usize)
+        ensures { self.new ≡ record self.old { steps = counted step times self.old.steps } }
+    {}
 
     fn without_memory(alloc: Global, capacity: usize) -> Slots<T>
         requires { capacity * type_size T.row ≡ 0 }

@@ -1,15 +1,14 @@
--- `take` empties a filled place. Assumes `Logic`.
-use Rattle.arraydeque_ring.proofs.Kit.{refl, List, [], ◌∷◌, ℕ, ◌+◌, ◌*◌, ◌<◌, ◌^◌, arith, length, get_or, None, Ura, full_share, fat, froom, ftrue, flft, Fn, inst_fn, named, w64, Val, vint, vptr, Env, ◌⊑◌, fact, tables, owns, types_at, ‵, raw, ◌⊛◌, some, given, at_ret, ◌$◌, ◌∵◌, !, qed, move, keep, use1, drop, split, join, pick, learn, rewrite, fsplit, fsplit3, fjoin, fjoin3, feq_i, suffices, done, whole, sub, look_in, enter, of_opd, size_lit, bin, load, look, stop, fld, first, blocks, exec, returns, alloc_all, pass_all, free_all, look_at, get, through, sets, sets_last, env, yes, plain, usize, uint_vals, uint_Tells, Stays, walk_of, stay_dropped, stay_ref, Goes-dropped, Goes-ref, ends_at, nothing, heard, as_raw, after, says_three, Good, El, R, args, el_x, elτ, times_below, one_below, proved}
+-- `read` empties a filled place. Assumes `Logic`.
+use Rattle.arraydeque_ring.proofs.Kit.{refl, List, [], ◌∷◌, ℕ, ◌+◌, ◌*◌, ◌<◌, ◌^◌, arith, length, get_or, None, Ura, full_share, fat, froom, ftrue, flft, Fn, inst_fn, named, w64, Val, vint, vptr, Env, ◌⊑◌, fact, tables, owns, types_at, ‵, raw, ◌⊛◌, some, given, at_ret, ◌$◌, ◌∵◌, !, qed, move, keep, use1, drop, split, join, pick, learn, rewrite, fsplit, fsplit3, fjoin, fjoin3, feq_i, suffices, done, whole, sub, look_in, enter, of_opd, size_lit, bin, load, look, stop, fld, first, blocks, exec, returns, alloc_all, pass_all, free_all, look_at, get, through, sets, sets_last, env, yes, plain, usize, uint_vals, uint_Tells, Stays, walk_of, stay_dropped, stay_ref, Goes-dropped, Goes-ref, ends_at, nothing, heard, as_raw, after, says_two, Good, El, R, args, el_x, elτ, times_below, one_below, proved}
 use denote.Ref.{mut_vals, mut_Tells}
 use Rattle.arraydeque_ring.specs.Ownership.{place_owned}
 use Rattle.arraydeque_ring.specs.Places.{IsFilled}
-use Rattle.arraydeque_ring.specs.Steps.{more_takes}
 use Rattle.arraydeque_ring.proofs.Owned.{item_size, Place, Others, place_out, value_out}
 use Rattle.arraydeque_ring.proofs.Regions.{Sr, Seen, with_place, slots_open, place_close}
 use Rattle.arraydeque_ring.proofs.Runs.{filled_within}
-use Rattle.arraydeque_ring.specs.contracts.slots.Slots.take as f
-use Rattle.arraydeque_ring.proofs.slots.Slots.take.Statement as stated
-use Rattle.arraydeque_ring.proofs.slots.Slots.take.Code as code
+use Rattle.arraydeque_ring.specs.contracts.slots.Slots.read as f
+use Rattle.arraydeque_ring.proofs.slots.Slots.read.Statement as stated
+use Rattle.arraydeque_ring.proofs.slots.Slots.read.Code as code
 
 module _ (E : El) where
   abbrev here : Fn
@@ -18,8 +17,8 @@ module _ (E : El) where
   abbrev stayed : Stays (f.ended E.row).signature.params (f.ended E.row).kept
   stayed = (stay_ref (0 ∷ []) tt (plain (λ _. Sr E)), (stay_dropped (plain (λ _. usize)) yes, tt))
 
-pub take_spec : {M : Type 1} → stated.statement M
-take_spec 𝓤 𝓛 𝓜 𝓡 wired X L =
+pub read_spec : {M : Type 1} → stated.statement M
+read_spec 𝓤 𝓛 𝓜 𝓡 wired X L =
     let E : El = record { row = X; laws = L } in
     let ended = f.ended X in let c = f.clauses X 𝓛 𝓜.mem 𝓡.returns in let W = walk_of 𝓛 ended (stayed E) c in let 𝓣 = tables 𝓤 𝓛.H 𝓜 𝓡 𝓡.env in
     proved 𝓛 ended (stayed E) c 𝓜 𝓡 (Goes-ref 𝓛 2 0 tt (plain (λ _. Sr E)), (Goes-dropped 𝓛 2 (plain (λ _. usize)) yes (λ κs x w. refl), tt))
@@ -50,7 +49,7 @@ take_spec 𝓤 𝓛 𝓜 𝓡 wired X L =
     sets_last ! (of_opd ! (load ! (through ! refl (stop !)) (look ! 0 refl))) refl v_fits $
     exec ! 𝓣.C 𝓣.Λ En (after 1 (here E).body) (at_ret En (W.post y)) $ sets ! (of_opd ! (get ! refl)) refl v_fits $
     use1 𝓛 (‵ (froom (elτ E) b (i * s + o))) (𝓛.laws.at_room (elτ E) b (i * s + o) v) $ as_raw ! (elτ E) b (i * s + o) $ move ! (0 ∷ 2 ∷ 3 ∷ 4 ∷ 5 ∷ 6 ∷ 7 ∷ []) $
-    place_close E ! tt g r i None (more_takes 1 r.steps) b o n rb ro ok within $ returns ! (look_at ! 0 refl) $ free_all ! refl $
-    suffices ! _ (ends_at 𝓛 ended (stayed E) c y v x (with_place E r i None (more_takes 1 r.steps), (tt, tt)) (tt, (tt, tt))) $ says_three ! (asked.1, refl, refl) $
+    place_close E ! tt g r i None r.steps b o n rb ro ok within $ returns ! (look_at ! 0 refl) $ free_all ! refl $
+    suffices ! _ (ends_at 𝓛 ended (stayed E) c y v x (with_place E r i None r.steps, (tt, tt)) (tt, (tt, tt))) $ says_two ! (asked.1, refl) $
     feq_i ! (List Val) (vptr rb ro ∷ []) (vptr rb ro ∷ []) refl $ fjoin3 ! $ nothing ! $ nothing ! $ fjoin ! $ move ! (1 ∷ 0 ∷ []) $ fjoin ! $
     move ! (1 ∷ 3 ∷ []) $ join ! $ keep ! (0 ∷ 1 ∷ 2 ∷ []) $ done !))))))

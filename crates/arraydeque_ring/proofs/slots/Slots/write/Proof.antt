@@ -1,13 +1,12 @@
--- `put` fills an empty place. Assumes `Logic`.
-use Rattle.arraydeque_ring.proofs.Kit.{refl, sym, subst, ◌∙◌, List, [], ◌∷◌, ℕ, ◌+◌, ◌*◌, ◌<◌, ◌^◌, arith, length, get_or, Some, None, Ura, ent, ftrue, flft, Fn, inst_fn, w64, Val, vunit, vint, vptr, Env, WpFn, ◌⊑◌, fact, tables, owns, types_at, ‵, raw, ◌⊛◌, at_ret, ◌$◌, ◌∵◌, !, qed, move, keep, use1, use2, drop, split, join, rewrite, fsplit, fsplit3, fjoin, fjoin3, feq_i, suffices, done, whole, sub, look_in, enter, of_opd, unit_lit, size_lit, bin, load, init, stop, fld, assigns_last, first, blocks, exec, returns, alloc_all, pass_all, free_all, look_at, get, through, sets, env, yes, no, plain, usize, Vals, Stays, walk_of, stay_dropped, stay_ref, Goes-dropped, Goes-ref, ends_at, nothing, heard, as_written, after, says_two, El, R, args, el_x, elτ, lawful, one, times_below, one_below, proved_at}
+-- `write` fills an empty place. Assumes `Logic`.
+use Rattle.arraydeque_ring.proofs.Kit.{refl, sym, subst, ◌∙◌, List, [], ◌∷◌, ℕ, ◌+◌, ◌*◌, ◌<◌, ◌^◌, arith, length, get_or, Some, None, Ura, ent, ftrue, flft, Fn, inst_fn, w64, Val, vunit, vint, vptr, Env, WpFn, ◌⊑◌, fact, tables, owns, types_at, ‵, raw, ◌⊛◌, at_ret, ◌$◌, ◌∵◌, !, qed, move, keep, use1, use2, drop, split, join, rewrite, fsplit, fsplit3, fjoin, fjoin3, feq_i, suffices, done, whole, sub, look_in, enter, of_opd, unit_lit, size_lit, bin, load, init, stop, fld, assigns_last, first, blocks, exec, returns, alloc_all, pass_all, free_all, look_at, get, through, sets, env, yes, no, plain, usize, Vals, Stays, walk_of, stay_dropped, stay_ref, Goes-dropped, Goes-ref, ends_at, nothing, heard, as_written, after, says, El, R, args, el_x, elτ, lawful, one, times_below, one_below, proved_at}
 use Rattle.arraydeque_ring.specs.Ownership.{place_owned}
 use Rattle.arraydeque_ring.specs.Places.{IsEmpty}
-use Rattle.arraydeque_ring.specs.Steps.{more_puts}
 use Rattle.arraydeque_ring.proofs.Owned.{item_size, Place, Others, place_out, value_in}
 use Rattle.arraydeque_ring.proofs.Regions.{Sr, Seen, with_place, slots_open, place_close}
-use Rattle.arraydeque_ring.specs.contracts.slots.Slots.put as f
-use Rattle.arraydeque_ring.proofs.slots.Slots.put.Statement as stated
-use Rattle.arraydeque_ring.proofs.slots.Slots.put.Code as code
+use Rattle.arraydeque_ring.specs.contracts.slots.Slots.write as f
+use Rattle.arraydeque_ring.proofs.slots.Slots.write.Statement as stated
+use Rattle.arraydeque_ring.proofs.slots.Slots.write.Code as code
 
 module _ (E : El) where
   abbrev here : Fn
@@ -16,8 +15,8 @@ module _ (E : El) where
   abbrev stayed : Stays (f.ended E.row).signature.params (f.ended E.row).kept
   stayed = (stay_ref (0 ∷ []) tt (plain (λ _. Sr E)), (stay_dropped (plain (λ _. usize)) yes, (stay_dropped (plain (λ _. R E)) no, tt)))
 
-pub put_spec : {M : Type 1} → stated.statement M
-put_spec 𝓤 𝓛 𝓜 𝓡 wired X L =
+pub write_spec : {M : Type 1} → stated.statement M
+write_spec 𝓤 𝓛 𝓜 𝓡 wired X L =
     let E : El = record { row = X; laws = L } in
     let ended = f.ended X in let c = f.clauses X 𝓛 𝓜.mem 𝓡.returns in let W = walk_of 𝓛 ended (stayed E) c in let 𝓣 = tables 𝓤 𝓛.H 𝓜 𝓡 𝓡.env in
     let Goes : W.Ghost → Type 1 = λ y. ent 𝓤 (W.pre y) (WpFn 𝓤 𝓛.H 𝓣.C 𝓣.Λ (here E) (W.args y) (W.post y)) in
@@ -50,7 +49,7 @@ put_spec 𝓤 𝓛 𝓜 𝓡 wired X L =
     assigns_last ! (of_opd ! (get ! refl)) (through ! refl (stop !)) (init ! 0 refl v_fits) $
     exec ! 𝓣.C 𝓣.Λ En (after 1 (here E).body) (at_ret En (W.post y)) $ sets ! (of_opd ! (unit_lit !)) refl (tt, tt) $
     move ! (0 ∷ 7 ∷ []) $ use2 𝓛 (‵ (place_owned (R E) b (i * s + o) (Some x))) (value_in 0 X L 𝓛 x b (i * s + o) v) $
-    place_close E ! tt g r i (Some x) (more_puts 1 r.steps) b o n rb ro ok within $ returns ! (look_at ! 0 refl) $ free_all ! refl $
-    suffices ! _ (ends_at 𝓛 ended (stayed E) c y vunit tt (with_place E r i (Some x) (more_puts 1 r.steps), (tt, (tt, tt))) (tt, (tt, (tt, tt)))) $ says_two ! (refl, refl) $
+    place_close E ! tt g r i (Some x) r.steps b o n rb ro ok within $ returns ! (look_at ! 0 refl) $ free_all ! refl $
+    suffices ! _ (ends_at 𝓛 ended (stayed E) c y vunit tt (with_place E r i (Some x) r.steps, (tt, (tt, tt))) (tt, (tt, (tt, tt)))) $ says ! refl $
     feq_i ! (List Val) (vptr rb ro ∷ []) (vptr rb ro ∷ []) refl $ fjoin3 ! $ nothing ! $ nothing ! $ fjoin ! $ nothing ! $ fjoin ! $ move ! (1 ∷ 0 ∷ []) $ fjoin ! $
     move ! (1 ∷ 2 ∷ []) $ join ! $ feq_i ! (List Val) (vunit ∷ []) (vunit ∷ []) refl $ keep ! (1 ∷ 2 ∷ 0 ∷ []) $ done !)))))
