@@ -1,7 +1,7 @@
 pub mod Blocks
-pub mod Filled
 pub mod Heap
 pub mod Kit
+pub mod LaidOut
 pub mod Lent
 pub mod Opened
 pub mod Owned

@@ -74,8 +74,8 @@ impl<T> Ring<T> {
         requires { length self.old.items < self.old.capacity }
         ensures { self.new ≡ record self.old { items = self.old.items ++ item ∷ []; steps = more_puts 1 self.old.steps } }
     {
-        let place = wrap_add(self.start, self.len, self.slots.capacity());
-        self.slots.put(place, item);
+        let behind = wrap_add(self.start, self.len, self.slots.capacity());
+        self.slots.put(behind, item);
         self.len += 1;
     }
 
@@ -86,9 +86,9 @@ impl<T> Ring<T> {
         ensures { self.new ≡ record self.old { items = item ∷ self.old.items; start = place_of self.old.start (self.old.capacity - 1) self.old.capacity; steps = more_puts 1 self.old.steps } }
     {
         let capacity = self.slots.capacity();
-        let place = wrap_add(self.start, capacity - 1, capacity);
-        self.slots.put(place, item);
-        self.start = place;
+        let before = wrap_add(self.start, capacity - 1, capacity);
+        self.slots.put(before, item);
+        self.start = before;
         self.len += 1;
     }
 
@@ -102,10 +102,10 @@ impl<T> Ring<T> {
         if self.len == 0 {
             return None;
         }
-        let place = self.start;
-        self.start = wrap_add(place, 1, self.slots.capacity());
+        let first = self.start;
+        self.start = wrap_add(first, 1, self.slots.capacity());
         self.len -= 1;
-        Some(self.slots.take(place))
+        Some(self.slots.take(first))
     }
 
     /// Takes the last item off, if there is one. The start stays, and no kept item moves.
@@ -119,8 +119,8 @@ impl<T> Ring<T> {
             return None;
         }
         self.len -= 1;
-        let place = wrap_add(self.start, self.len, self.slots.capacity());
-        Some(self.slots.take(place))
+        let last = wrap_add(self.start, self.len, self.slots.capacity());
+        Some(self.slots.take(last))
     }
 
     /// The item at an index, if there is one. Index 0 is the front.

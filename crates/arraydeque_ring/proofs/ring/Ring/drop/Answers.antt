@@ -1,8 +1,8 @@
-use Rattle.std.proofs.Common.{◌≡◌, ◌+◌, length, inl, inr, ap, ◌∙◌, arith}
+use Rattle.std.proofs.Common.{length, inl, inr, ap, arith}
 use Rattle.std.proofs.lemmas.List.{length-drop}
 use Rattle.std.proofs.lemmas.Option.{slice_get_cases}
 use Rattle.arraydeque_ring.specs.Ring.{RingState}
-use Rattle.arraydeque_ring.proofs.Filled.{all_empty}
+use Rattle.arraydeque_ring.proofs.LaidOut.{AreAllEmpty-LaidOut}
 use Rattle.arraydeque_ring.proofs.Opened.{opened}
 use Rattle.arraydeque_ring.proofs.ring.Ring.drop.Goals as goal
 
@@ -16,5 +16,5 @@ loop-preserved g c = elim (slice_get_cases c.loop.self.items 0).1 [
 
 pub drop-self-inside-requires : goal.drop-self-inside-requires
 drop-self-inside-requires g c =
-    let ring = opened c.self-2.inside c.loop.self c.self-2.invariant c.self-2.view_is in
-    all_empty _ _ _ ring.laid (omega (arith, c.loop.invariant))
+    let ring = opened c.self-2.inside c.self-2.invariant c.self-2.view_is in
+    AreAllEmpty-LaidOut ring.laid (omega (arith, c.loop.invariant))

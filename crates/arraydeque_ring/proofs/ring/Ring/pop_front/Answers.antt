@@ -1,47 +1,44 @@
-use Rattle.std.proofs.Common.{◌≡◌, ◌-◌, ◌<◌, length, drop, ap, sym, ◌∙◌, arith}
-use Rattle.std.proofs.lemmas.List.{length-set, length-drop}
+use Rattle.std.proofs.Common.{◌-◌, drop, ap, sym, ◌∙◌, arith}
+use Rattle.std.proofs.lemmas.List.{length-drop}
 use Rattle.std.proofs.lemmas.Option.{slice_get_past}
 use Rattle.arraydeque_ring.specs.Ring.{place_of}
 use Rattle.arraydeque_ring.specs.Steps.{more_takes}
-use Rattle.arraydeque_ring.proofs.Filled.{first_filled, first_held, take_front}
+use Rattle.arraydeque_ring.proofs.LaidOut.{length_within, held_at-start, IsFilled-start, LaidOut-take_front}
 use Rattle.arraydeque_ring.proofs.Opened.{Opened, opened, closed, kept}
 use Rattle.arraydeque_ring.proofs.ring.Ring.pop_front.Given.{Over}
 use Rattle.arraydeque_ring.proofs.ring.Ring.pop_front.Goals as goal
 
 pub returns-then-self-eq0-clause-value : goal.returns-then-self-eq0-clause-value
 returns-then-self-eq0-clause-value g c =
-    let ring = opened c.self.inside c.args.self.now c.self.invariant c.self.view_is in
+    let ring = opened c.self.inside c.self.invariant c.self.view_is in
     sym (slice_get_past c.args.self.now.items 0 (omega arith))
 
 pub take-requires : goal.take-requires
-take-requires g c =
-    let ring = opened c.self.inside c.args.self.now c.self.invariant c.self.view_is in
-    first_filled _ _ _ ring.laid (omega arith)
+take-requires g c = let ring = opened c.self.inside c.self.invariant c.self.view_is in IsFilled-start ring.laid (omega arith)
 
-after : (g : Over) (c : goal.After-take g) → Opened record { slots = c.take.new.self; start = c.wrap_add-self-inside.result; len = c.self.inside.len - 1; alloc = c.self.inside.alloc }
+popped : (g : Over) (c : goal.After-take g) → Opened record { slots = c.take.new.self; start = c.wrap_add-self-inside.result; len = c.self.inside.len - 1; alloc = c.self.inside.alloc }
     record c.args.self.now {
       items = drop 1 c.args.self.now.items;
       start = place_of c.args.self.now.start 1 c.args.self.now.capacity;
-      steps = more_takes 1 c.args.self.now.steps
+      steps = more_takes 1 c.args.self.now.steps;
     }
-after g c =
-    let ring = opened c.self.inside c.args.self.now c.self.invariant c.self.view_is in
-    let some : 0 < length c.args.self.now.items = omega arith in
+popped g c =
+    let ring = opened c.self.inside c.self.invariant c.self.view_is in
+    let all = c.capacity.ensures ∙ ring.laid.long in
     record {
-      laid = rw (c.take.ensures.places, c.wrap_add-self-inside.ensures, c.capacity.ensures) (take_front _ _ _ ring.laid some);
+      laid = rw (c.take.ensures.places, c.wrap_add-self-inside.ensures, all) (LaidOut-take_front ring.laid (omega arith));
       len = omega (arith, length-drop 1 c.args.self.now.items);
-      capacity = rw (c.take.ensures.places, length-set) ring.capacity;
-      start = rw (c.wrap_add-self-inside.ensures, c.capacity.ensures, ring.capacity, ring.start);
+      start = rw (c.wrap_add-self-inside.ensures, all, ring.start);
       steps = c.take.ensures.steps ∙ ap (more_takes 1) ring.steps;
     }
 
 pub invariant_of-self : goal.invariant_of-self
-invariant_of-self g c = kept _ _ (after g c)
+invariant_of-self g c = kept (popped g c)
 
 pub returns-clause-value : goal.returns-clause-value
 returns-clause-value g c =
-    let ring = opened c.self.inside c.args.self.now c.self.invariant c.self.view_is in
-    sym c.take.ensures.value ∙ first_held _ _ _ ring.laid (omega arith)
+    let ring = opened c.self.inside c.self.invariant c.self.view_is in
+    sym c.take.ensures.value ∙ held_at-start ring.laid (omega (arith, length_within ring.laid))
 
 pub returns-clause-taken : goal.returns-clause-taken
-returns-clause-taken g c = closed _ _ (after g c)
+returns-clause-taken g c = closed (popped g c)

@@ -1,34 +1,32 @@
-use Rattle.std.proofs.Common.{◌≡◌, ◌+◌, ◌<◌, ◌∷◌, [], ◌++◌, length, ap, ◌∙◌, Fits, w64, arith}
-use Rattle.std.proofs.lemmas.List.{length_push, length-set}
+use Rattle.std.proofs.Common.{◌+◌, ◌∷◌, [], ◌++◌, ap, ◌∙◌, arith}
+use Rattle.std.proofs.lemmas.List.{length_push}
 use Rattle.arraydeque_ring.specs.Steps.{more_puts}
-use Rattle.arraydeque_ring.proofs.Filled.{empty_at, put_back}
-use Rattle.arraydeque_ring.proofs.Opened.{Opened, opened, closed, kept}
+use Rattle.arraydeque_ring.proofs.LaidOut.{IsEmpty-place_of, LaidOut-put_back}
+use Rattle.arraydeque_ring.proofs.Opened.{Opened, opened, closed, kept, place_at}
 use Rattle.arraydeque_ring.proofs.ring.Ring.push_back.Given.{Over}
 use Rattle.arraydeque_ring.proofs.ring.Ring.push_back.Goals as goal
 
 pub put-requires : goal.put-requires
 put-requires g c =
-    let ring = opened c.self.inside c.args.self.now c.self.invariant c.self.view_is in
-    rw (c.wrap_add-place.ensures, c.capacity.ensures) (empty_at _ _ _ _ ring.laid (omega arith) (omega arith))
+    let ring = opened c.self.inside c.self.invariant c.self.view_is in
+    rw (place_at ring _ c.capacity.ensures c.wrap_add-behind.ensures, ← ring.len) (IsEmpty-place_of ring.laid _ (omega arith) c.requires)
 
 pub overflow_add-self : goal.overflow_add-self
-overflow_add-self g c = let ring = opened c.self.inside c.args.self.now c.self.invariant c.self.view_is in omega arith
+overflow_add-self g c = let ring = opened c.self.inside c.self.invariant c.self.view_is in omega (arith, ring.laid.long)
 
-after : (g : Over) (c : goal.After-self-1 g) → Opened record { slots = c.put.new.self; start = c.self.inside.start; len = c.self.inside.len + 1; alloc = c.self.inside.alloc }
+pushed : (g : Over) (c : goal.After-self-1 g) → Opened record { slots = c.put.new.self; start = c.self.inside.start; len = c.self.inside.len + 1; alloc = c.self.inside.alloc }
     record c.args.self.now { items = c.args.self.now.items ++ c.args.item ∷ []; steps = more_puts 1 c.args.self.now.steps }
-after g c =
-    let ring = opened c.self.inside c.args.self.now c.self.invariant c.self.view_is in
-    let room : length c.args.self.now.items < length c.self.inside.slots.places = omega arith in
+pushed g c =
+    let ring = opened c.self.inside c.self.invariant c.self.view_is in
     record {
-      laid = rw (c.put.ensures.places, c.wrap_add-place.ensures, c.capacity.ensures, ← ring.len) (put_back _ _ _ c.args.item ring.laid room);
+      laid = rw (c.put.ensures.places, place_at ring _ c.capacity.ensures c.wrap_add-behind.ensures, ← ring.len) (LaidOut-put_back ring.laid c.args.item c.requires);
       len = length_push c.args.self.now.items c.args.item ∙ ap (λ n. n + 1) ring.len;
-      capacity = rw (c.put.ensures.places, length-set) ring.capacity;
       start = ring.start;
       steps = c.put.ensures.steps ∙ ap (more_puts 1) ring.steps;
     }
 
 pub invariant_of-self : goal.invariant_of-self
-invariant_of-self g c = kept _ _ (after g c)
+invariant_of-self g c = kept (pushed g c)
 
 pub returns : goal.returns
-returns g c = closed _ _ (after g c)
+returns g c = closed (pushed g c)
