@@ -1,8 +1,11 @@
 -- What is taken of an iterator.
-use Rattle.std.proofs.Common.{◌≡◌, ℕ, ◌+◌, ◌<◌, ◌≤◌, zero, suc, List, [], ◌∷◌, length, take, Option, None, refl, sym, subst, arith}
+use Rattle.std.proofs.Common.{◌≡◌, ℕ, ◌+◌, ◌<◌, ◌≤◌, zero, suc, List, [], ◌∷◌, length, take, Option, None, Result, IfOk, refl, sym, subst, arith}
 use Rattle.std.specs.Iterator.{AlwaysYields, Yields, Drains}
 use Rattle.std.specs.Iterator.Adapters.{take_steps, take_source, take_count}
+use Rattle.std.specs.Vec.Iter.{into_iter_items, into_iter_len, into_iter_steps}
 use Rattle.std.specs.declared.iter.Take.{Take}
+use Rattle.std.proofs.lemmas.Iterator.Adapters.{YieldsList-from_vec}
+use Rattle.std.proofs.lemmas.Result.{IfOk-weaker}
 use Rattle.arraydeque.specs.Sources.{Takes}
 
 module _ {S A : Type 0} (steps : S → Option A → S → Type 0) where
@@ -39,3 +42,15 @@ module _ {S A : Type 0} (steps : S → Option A → S → Type 0) where
       let next = run.1.1.0 in let this = gives.1 x next run.1.1.1 in
       let rest = Drains-list next xs ys this.1 (run.0, (run.1.0, run.1.1.2, run.1.2)) in
       (λ i. this.0 i ∷ rest i)
+
+-- the same of a vector's iterator
+module _ {A Z : Type 0} (s : _) (xs items : List A) (holds : into_iter_items {X = A} {Z = Z} s ≡ items) (long : into_iter_len {X = A} {Z = Z} s ≡ length items) where
+  pub Takes-vec : (n : ℕ) → Takes (into_iter_steps {X = A} {Z = Z}) n s xs → xs ≡ take n items
+  Takes-vec n taken = Takes-list (into_iter_steps {X = A} {Z = Z}) n s xs items (YieldsList-from_vec items holds long).runs taken
+
+  pub Drains-vec : Drains (into_iter_steps {X = A} {Z = Z}) s xs → xs ≡ items
+  Drains-vec run = Drains-list (into_iter_steps {X = A} {Z = Z}) s xs items (YieldsList-from_vec items holds long).runs run
+
+-- what follows from a fact of each Ok follows of an Ok
+pub IfOk-follows : {X Y : Type 0} (r : Result X Y) (P Q : X → Type 0) → IfOk r P → ((x : X) → P x → Q x) → IfOk r Q
+IfOk-follows r P Q fact follows = IfOk-weaker r P Q follows fact

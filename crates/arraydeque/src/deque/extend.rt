@@ -26,7 +26,7 @@ impl<T: Drop, const CAP: usize> ArrayDeque<T, CAP, Saturating> {
     pub fn extend_front<I: IntoIterator<Item = T>>(&mut self, iter: I)
         requires { EachIterator I.into_iter_gives iter (λ it. I.IntoIter.can_next it) }
         ensures { TakesFrom I.into_iter_gives I.IntoIter.next_gives iter (CAP - length self.old.items)
-            (λ xs. self.new.items ≡ reverse xs ++ self.old.items) }
+            (λ xs. (self.new.items ≡ reverse xs ++ self.old.items) × (self.new.steps ≡ more_puts (length xs) self.old.steps)) }
     {
         let room = self.room();
         for element in iter.into_iter().take(room) {

@@ -50,8 +50,8 @@ impl<T: Drop, const CAP: usize> ArrayDeque<T, CAP, Saturating> {
     {
         match Self::new(alloc) {
             Ok(mut deque) => {
-                let taken = N.min(CAP);
-                deque.copy_back(&a[..taken]);
+                let items = &a[..];
+                deque.copy_back(&items[..N.min(CAP)]);
                 Ok(deque)
             }
             Err(_) => Err(MakeError { source: a }),
@@ -98,8 +98,8 @@ impl<T: Drop, const CAP: usize> ArrayDeque<T, CAP, Wrapping> {
     {
         match Self::new(alloc) {
             Ok(mut deque) => {
-                let skipped = N.saturating_sub(CAP);
-                deque.copy_back(&a[skipped..]);
+                let items = &a[..];
+                deque.copy_back(&items[N.saturating_sub(CAP)..]);
                 Ok(deque)
             }
             Err(_) => Err(MakeError { source: a }),

@@ -1,0 +1,7 @@
+use Rattle.std.proofs.Common.{ap, ◌∙◌}
+use Rattle.arraydeque.specs.Deque.{keep_last}
+use Rattle.arraydeque.proofs.Taken.{IfOk-follows, Drains-vec}
+use Rattle.arraydeque.proofs.deque.makers.ArrayDeque+T+CAP+Wrapping.from_vec.Goals as goal
+
+pub returns-clause-items : goal.returns-clause-items
+returns-clause-items g c = IfOk-follows c.from_iter.result _ _ c.from_iter.ensures.items (λ deque made. made.2.2 ∙ ap (keep_last g.row.CAP) (Drains-vec made.0 made.2.0 _ made.1.0 (made.1.1 ∙ c.args.v.ok.0) made.2.1))
