@@ -10,4 +10,5 @@ invariant-loop-element g l = record {
   capacity : l.self-inside.ring.capacity ≡ g.row.CAP;
   room : length l.yielded + take_count l.element-iterator ≡ g.row.CAP - length l.fn.self.items;
   items : l.self-inside.ring.items ≡ reverse l.yielded ++ l.fn.self.items;
+  steps : l.self-inside.ring.steps ≡ more_puts (length l.yielded) l.fn.self.steps;
 }
