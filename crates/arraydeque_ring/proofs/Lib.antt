@@ -1,4 +1,5 @@
 pub mod Blocks
+pub mod Edited
 pub mod Filled
 pub mod Heap
 pub mod Kit
