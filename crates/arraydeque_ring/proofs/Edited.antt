@@ -1,13 +1,21 @@
 -- What an edit of a ring's items in place does to what its places hold.
-use Rattle.std.proofs.Common.{◌≡◌, ℕ, ◌-◌, ◌<◌, List, [], ◌∷◌, ◌++◌, map, length, set, get_or, replicate, Option, Some, None, sym, ap, ap₂, ◌∙◌, arith, subst}
-use Rattle.std.specs.Prelude.{swap}
+use Rattle.std.proofs.Common.{◌≡◌, ℕ, ◌-◌, ◌<◌, ◌≤◌, inl, inr, List, [], ◌∷◌, ◌++◌, map, length, set, get_or, replicate, Option, Some, None, sym, ap, ap₂, ◌∙◌, arith, subst}
+use Rattle.std.specs.Prelude.{swap, ◌==◌}
+use Rattle.std.proofs.lemmas.Bool.{cases_eq, eq-eqb, ne_eqb}
 use Rattle.std.proofs.lemmas.List.{length-set, length-map, set-append_left, map-set}
 use Rattle.std.proofs.lemmas.List.Edits.{swap_is}
 use Rattle.std.proofs.lemmas.Option.{slice_get-get_or}
 use Rattle.arraydeque_ring.specs.Places.{held_at}
 use Rattle.arraydeque_ring.specs.Ring.{place_of}
-use Rattle.arraydeque_ring.proofs.Turned.{place_of-lt}
+use Rattle.arraydeque_ring.proofs.Turned.{place_of-lt, same_index}
 use Rattle.arraydeque_ring.proofs.Filled.{LaidOut, laid_out, length_within, held_laid_out, set_laid_out}
+
+-- indexes below the length share a place just where they are one
+pub one_place : (t i j n : ℕ) → t ≤ n → i < n → j < n → (place_of t i n == place_of t j n) ≡ (i == j)
+one_place t i j n a b c = elim (cases_eq i j) [
+  | inl same ↦ eq-eqb (place_of t i n) (place_of t j n) (ap (λ k. place_of t k n) same) ∙ sym (eq-eqb i j same)
+  | inr other ↦ ne_eqb (place_of t i n) (place_of t j n) (λ e. other (same_index t i j n a b c e)) ∙ sym (ne_eqb i j other)
+]
 
 module _ {X : Type 0} where
   -- another value in the place of an item is another item
