@@ -1,4 +1,5 @@
 pub mod Deque
+pub mod DequeLends
 pub mod Machine
 pub mod Policy
 pub mod Run

@@ -1,11 +1,15 @@
 pub mod Blocks
+pub mod Edited
+pub mod Filled
 pub mod Heap
 pub mod Kit
 pub mod LaidOut
 pub mod Lent
 pub mod Opened
+pub mod OpenedFields
 pub mod Owned
 pub mod Regions
 pub mod Runs
 pub mod Sharing
 pub mod Turned
+pub mod TurnedOld

@@ -3,4 +3,5 @@ pub mod Lends
 pub mod Ownership
 pub mod Places
 pub mod Ring
+pub mod RingLends
 pub mod Steps

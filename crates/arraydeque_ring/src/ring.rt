@@ -2,9 +2,13 @@
 //!
 //! A contract sees a [`Ring`] as its items from front to back, its capacity, the place of its first item and the steps of its region. A ring knows no policy: a push asks for room.
 ghost use Rattle.std.specs.Prelude.{◌≡◌, ◌-◌, ◌*◌, ◌+◌, ◌<◌, ◌≤◌, [], ◌∷◌, ◌++◌, length, take, drop, slice_get, option_copied, IfOk, OnErr, OnSome, IfNone};
+ghost use Rattle.std.specs.Borrow.{sem};
 ghost use Rattle.std.specs.Mem.{type_size};
+ghost use Rattle.std.specs.Option.{option_copied_mut};
 ghost use Rattle.arraydeque_ring.specs.Ring.{empty_ring, place_of};
 ghost use Rattle.arraydeque_ring.specs.Steps.{more_puts, more_takes};
+
+mod edits;
 
 use crate::slots::Slots;
 use crate::wrap::wrap_add;
@@ -31,6 +35,8 @@ impl<T> Model for Ring<T> {
 }
 
 impl<T> Ring<T> {
+    ghost use Rattle.arraydeque_ring.specs.RingLends.{lends_item};
+
     /// An empty ring that starts at the first place. It is refused as the region is: never at capacity 0 or for items of size zero.
     pub fn new(alloc: Global, capacity: usize) -> Result<Ring<T>, AllocError>
         ensures ok { IfOk result (λ ring. ring ≡ empty_ring capacity) }
@@ -133,6 +139,20 @@ impl<T> Ring<T> {
         }
         let place = wrap_add(self.start, index, self.slots.capacity());
         Some(self.slots.get(place))
+    }
+
+    /// The item at an index for writing, if there is one. What is written through it changes that item and no other.
+    #[inline]
+    pub fn get_mut(&mut self, index: usize) -> Option<&mut T>
+        ensures* writes_back { sem 𝓛 (lends_item T.row self.entry index result) }
+        ensures value { option_copied_mut result ≡ slice_get self.old.items index }
+    {
+        if index >= self.len {
+            return None;
+        }
+        let place = wrap_add(self.start, index, self.slots.capacity());
+        let slots = &mut self.slots;
+        Some(slots.get_mut(place))
     }
 
     /// The items in two slices: those from the start to the region's end, then the wrapped rest.

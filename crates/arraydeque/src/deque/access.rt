@@ -1,11 +1,14 @@
 //! Reading and writing items where they stand.
-ghost use Rattle.std.specs.Prelude.{◌≡◌, ◌<◌, length, slice_get, slice_index_or, option_copied};
+ghost use Rattle.std.specs.Prelude.{◌≡◌, ◌<◌, ◌-◌, length, slice_get, slice_index_or, option_copied};
+ghost use Rattle.std.specs.Borrow.{sem};
 ghost use Rattle.std.specs.List.{list_any};
+ghost use Rattle.std.specs.Option.{option_copied_mut};
 ghost use Rattle.arraydeque.specs.Deque.{last_item};
+ghost use Rattle.arraydeque.specs.DequeLends.{lends_item, lends_index};
 
 use super::ArrayDeque;
 use crate::behavior::Behavior;
-use std::ops::Index;
+use std::ops::{Index, IndexMut};
 
 impl<T, const CAP: usize, B: Behavior> ArrayDeque<T, CAP, B> {
     /// Whether some item is equal to `x`.
@@ -31,7 +34,7 @@ impl<T, const CAP: usize, B: Behavior> ArrayDeque<T, CAP, B> {
     pub fn back(&self) -> Option<&T>
         ensures { option_copied result ≡ last_item self.now.items }
     {
-        self.get(self.len().wrapping_sub(1))
+        self.get(self.len().saturating_sub(1))
     }
 
     /// The item at an index, if there is one. Index 0 is the front.
@@ -40,6 +43,34 @@ impl<T, const CAP: usize, B: Behavior> ArrayDeque<T, CAP, B> {
         ensures { option_copied result ≡ slice_get self.now.items index }
     {
         self.ring.get(index)
+    }
+
+    /// The first item for writing, if there is one.
+    #[inline]
+    pub fn front_mut(&mut self) -> Option<&mut T>
+        ensures* writes_back { sem 𝓛 (lends_item T.row CAP.row B.row self.entry 0 result) }
+        ensures value { option_copied_mut result ≡ slice_get self.old.items 0 }
+    {
+        self.get_mut(0)
+    }
+
+    /// The last item for writing, if there is one.
+    #[inline]
+    pub fn back_mut(&mut self) -> Option<&mut T>
+        ensures* writes_back { sem 𝓛 (lends_item T.row CAP.row B.row self.entry (length self.old.items - 1) result) }
+        ensures value { option_copied_mut result ≡ last_item self.old.items }
+    {
+        let last = self.len().saturating_sub(1);
+        self.get_mut(last)
+    }
+
+    /// The item at an index for writing, if there is one. Index 0 is the front.
+    #[inline]
+    pub fn get_mut(&mut self, index: usize) -> Option<&mut T>
+        ensures* writes_back { sem 𝓛 (lends_item T.row CAP.row B.row self.entry index result) }
+        ensures value { option_copied_mut result ≡ slice_get self.old.items index }
+    {
+        self.ring.get_mut(index)
     }
 }
 
@@ -53,5 +84,16 @@ impl<T, const CAP: usize, B: Behavior> Index<usize> for ArrayDeque<T, CAP, B> {
     #[inline]
     fn index(&self, index: usize) -> &T {
         self.get(index).unwrap()
+    }
+}
+
+impl<T, const CAP: usize, B: Behavior> IndexMut<usize> for ArrayDeque<T, CAP, B> {
+    #[inline]
+    fn index_mut(&mut self, index: usize) -> &mut T
+        requires { index < length self.old.items }
+        ensures* writes_back { sem 𝓛 (lends_index T.row CAP.row B.row self.entry index result) }
+        ensures value { result.now ≡ slice_index_or self.old.items index result.now }
+    {
+        self.get_mut(index).unwrap()
     }
 }
