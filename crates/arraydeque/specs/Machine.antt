@@ -1,46 +1,77 @@
 -- The plain list machine: what one call answers, and what list it leaves.
-use Rattle.std.specs.Prelude.{◌≡◌, ℕ, ◌-◌, List, [], ◌∷◌, ◌++◌, length, take, drop, slice_get, Option, Some, None, Bool, nat_lt, eqb}
+use Rattle.std.specs.Prelude.{◌≡◌, ℕ, ◌-◌, List, [], ◌∷◌, ◌++◌, length, take, drop, reverse, slice_get, slice_set, Option, Some, None, Bool, nat_lt, eqb}
 use Rattle.std.specs.Bool.{MatchBool}
 use Rattle.arraydeque.specs.Deque.{keep_last, last_item}
 use Rattle.arraydeque.specs.Policy.{Policy, saturating, wrapping}
 use Rattle.arraydeque.specs.declared.run.Call.{Call}
-use Rattle.arraydeque.specs.declared.run.Call.TheVariants.{PushFront, PushBack, PopFront, PopBack, Len, Capacity, IsEmpty}
+use Rattle.arraydeque.specs.declared.run.Call.TheVariants.{PushFront, PushBack, PopFront, PopBack, Replace, ExtendBack, ExtendFront, Extend, Len, Capacity, IsEmpty, IsFull}
 use Rattle.arraydeque.specs.declared.run.Reply.{Reply}
-use Rattle.arraydeque.specs.declared.run.Reply.TheVariants.{Done, Item, Number, Truth, Split, Full}
+use Rattle.arraydeque.specs.declared.run.Reply.TheVariants.{Done, Item, Displaced, Number, Truth, Split, Full, OutOfRange}
 
 -- a reply as the list machine gives it, with a list in place of what owns items
 pub data Answer (X : Type 0) : Type 0 where
   done : Answer X
   item : Option X → Answer X
+  displaced : Option X → Answer X
   number : ℕ → Answer X
   truth : Bool → Answer X
   split : List X → Answer X
   full : X → Answer X
+  out_of_range : Option X → Answer X
 
 module _ {X : Type 0} where
   abbrev pub answer_of : {n : ℕ} {B : Type 0} → Reply X n B → Answer X
   answer_of Done = done
-  answer_of (Item popped) = item popped
+  answer_of (Item taken) = item taken
+  answer_of (Displaced given_up) = displaced given_up
   answer_of (Number n) = number n
   answer_of (Truth b) = truth b
   answer_of (Split deque) = split deque.items
   answer_of (Full refusal) = full refusal.element
+  answer_of (OutOfRange element) = out_of_range element
 
   -- the call answers a and leaves the list l
   abbrev pub Gives : Answer X → List X → Answer X → List X → Type 0
   Gives a l answer left = (answer ≡ a) × (left ≡ l)
 
-  -- a push of x to l, which is `pushed` where there is room
-  abbrev pub Pushes : Policy → Bool → List X → X → List X → Answer X → List X → Type 0
-  Pushes saturating room l x pushed answer left = MatchBool room (Gives done pushed answer left) (Gives (full x) l answer left)
-  Pushes wrapping room l x pushed answer left = MatchBool room (Gives done pushed answer left) (Gives (full x) l answer left)
+  -- a push of x to l, which is `pushed` where there is room. Where there is none, saturating hands x back and leaves l, and wrapping gives up the item at the other end of `pushed` and leaves its rest
+  abbrev pub Pushes : Policy → Bool → List X → X → List X → Option X → List X → Answer X → List X → Type 0
+  Pushes saturating room l x pushed other_end rest answer left = MatchBool room (Gives done pushed answer left) (Gives (full x) l answer left)
+  Pushes wrapping room l x pushed other_end rest answer left = MatchBool room (Gives (displaced None) pushed answer left) (Gives (displaced other_end) rest answer left)
+
+  -- P where the indexes are in range, and else a refusal that hands the element back and leaves l
+  abbrev pub InRange : Bool → Option X → List X → (Answer X → List X → Type 0) → Answer X → List X → Type 0
+  InRange in_range element l P answer left = MatchBool in_range (P answer left) (Gives (out_of_range element) l answer left)
+
+  -- the list after items xs were added behind l: saturating adds while there is room, and wrapping keeps the last n
+  abbrev pub extended_back : Policy → ℕ → List X → List X → List X
+  extended_back saturating n l xs = l ++ take (n - length l) xs
+  extended_back wrapping n l xs = keep_last n (l ++ xs)
+
+  -- the list after they were added one by one before l: saturating adds while there is room, and wrapping keeps the first n
+  abbrev pub extended_front : Policy → ℕ → List X → List X → List X
+  extended_front saturating n l xs = reverse (take (n - length l) xs) ++ l
+  extended_front wrapping n l xs = take n (reverse xs ++ l)
+
+  -- the call means the same under every policy
+  abbrev pub IsAlike : Call X → Type 0
+  IsAlike (PushFront x) = ⊥
+  IsAlike (PushBack x) = ⊥
+  IsAlike (ExtendBack v) = ⊥
+  IsAlike (ExtendFront v) = ⊥
+  IsAlike _ = Unit {0}
 
   -- under the policy and the capacity n the call takes the list l to `left`, and is answered so
   abbrev pub Step : Policy → ℕ → List X → Call X → Answer X → List X → Type 0
-  Step p n l (PushFront x) answer left = Pushes p (nat_lt (length l) n) l x (x ∷ l) answer left
-  Step p n l (PushBack x) answer left = Pushes p (nat_lt (length l) n) l x (l ++ x ∷ []) answer left
+  Step p n l (PushFront x) answer left = Pushes p (nat_lt (length l) n) l x (x ∷ l) (slice_get (x ∷ l) n) (take n (x ∷ l)) answer left
+  Step p n l (PushBack x) answer left = Pushes p (nat_lt (length l) n) l x (l ++ x ∷ []) (slice_get (l ++ x ∷ []) 0) (keep_last n (l ++ x ∷ [])) answer left
   Step p n l PopFront answer left = Gives (item (slice_get l 0)) (drop 1 l) answer left
   Step p n l PopBack answer left = Gives (item (last_item l)) (take (length l - 1) l) answer left
+  Step p n l (Replace i x) answer left = InRange (nat_lt i (length l)) (Some x) l (Gives (item (slice_get l i)) (slice_set l i x)) answer left
+  Step p n l (ExtendBack v) answer left = Gives done (extended_back p n l v.items) answer left
+  Step p n l (ExtendFront v) answer left = Gives done (extended_front p n l v.items) answer left
+  Step p n l (Extend v) answer left = Gives done (extended_back saturating n l v.items) answer left
   Step p n l Len answer left = Gives (number (length l)) l answer left
   Step p n l Capacity answer left = Gives (number n) l answer left
   Step p n l IsEmpty answer left = Gives (truth (eqb (length l) 0)) l answer left
+  Step p n l IsFull answer left = Gives (truth (eqb (length l) n)) l answer left

@@ -1,12 +1,13 @@
 //! A whole list of calls on a deque, answered one by one.
 ghost use Rattle.std.specs.Prelude.{◌≡◌, ◌<◌, length, IfOk, IfErr, OnErr};
-ghost use Rattle.arraydeque.specs.Machine.{Step, answer_of};
-ghost use Rattle.arraydeque.specs.Policy.{saturating};
+ghost use Rattle.arraydeque.specs.Machine.{Step, answer_of, IsAlike};
+ghost use Rattle.arraydeque.specs.Policy.{Policy, saturating, wrapping};
 ghost use Rattle.arraydeque.specs.Run.{Run};
 
-use crate::behavior::{Behavior, Saturating};
+use crate::behavior::{Behavior, Saturating, Wrapping};
 use crate::deque::ArrayDeque;
 use crate::error::{CapacityError, MakeError};
+use std::mem;
 
 /// A call of a deque, as a value.
 #[derive(Drop)]
@@ -19,12 +20,22 @@ pub enum Call<T> {
     PopFront,
     /// Takes the last item off.
     PopBack,
+    /// Puts an item in the place of another.
+    Replace(usize, T),
+    /// Adds items at the back, in order.
+    ExtendBack(Vec<T>),
+    /// Adds items at the front, one by one.
+    ExtendFront(Vec<T>),
+    /// Adds items at the back while there is room.
+    Extend(Vec<T>),
     /// How many items there are.
     Len,
     /// How many items there may be.
     Capacity,
     /// Whether there is no item.
     IsEmpty,
+    /// Whether there is room for no further item.
+    IsFull,
 }
 
 /// What a call answered.
@@ -34,6 +45,8 @@ pub enum Reply<T, const CAP: usize, B: Behavior> {
     Done,
     /// The item that was taken off, if there was one.
     Item(Option<T>),
+    /// The item that a push into a full deque gave up, if it did.
+    Displaced(Option<T>),
     /// A length or a capacity.
     Number(usize),
     /// Yes or no.
@@ -42,6 +55,8 @@ pub enum Reply<T, const CAP: usize, B: Behavior> {
     Split(ArrayDeque<T, CAP, B>),
     /// A push into a full deque. The element comes back, and the list is as it was.
     Full(CapacityError<T>),
+    /// An index that is not there. The element comes back, if the call had one, and the list is as it was.
+    OutOfRange(Option<T>),
 }
 
 impl<T: Drop, const CAP: usize> ArrayDeque<T, CAP, Saturating> {
@@ -80,11 +95,86 @@ impl<T: Drop, const CAP: usize> ArrayDeque<T, CAP, Saturating> {
                 Ok(()) => Reply::Done,
                 Err(refusal) => Reply::Full(refusal),
             },
+            Call::ExtendBack(elements) => {
+                self.extend_back(elements);
+                Reply::Done
+            }
+            Call::ExtendFront(elements) => {
+                self.extend_front(elements);
+                Reply::Done
+            }
+            call => self.step_alike(call),
+        }
+    }
+}
+
+impl<T: Drop, const CAP: usize> ArrayDeque<T, CAP, Wrapping> {
+    /// Makes the calls in order and answers each. A refused call does not stop the run.
+    ///
+    /// Room for the replies is taken before the first call, and none for an empty list. Where it is refused, nothing was done and the calls come back.
+    pub fn run(
+        &mut self,
+        calls: Vec<Call<T>>,
+    ) -> Result<Vec<Reply<T, CAP, Wrapping>>, MakeError<Vec<Call<T>>>>
+        ensures ok { IfOk result (λ replies. Run wrapping self.old.items calls.items replies.items self.new.items) }
+        ensures calls_come_back { IfErr result (λ refusal. refusal.source ≡ calls) }
+        ensures unchanged { OnErr result (self.new ≡ self.old) }
+        ensures some_calls { OnErr result (0 < length calls.items) }
+    {
+        let mut replies = match Vec::with_capacity(self.alloc(), calls.len()) {
+            Ok(replies) => replies,
+            Err(_) => return Err(MakeError { source: calls }),
+        };
+        for call in calls {
+            let reply = self.step(call);
+            replies.push_reserved(reply);
+        }
+        Ok(replies)
+    }
+
+    fn step(&mut self, call: Call<T>) -> Reply<T, CAP, Wrapping>
+        ensures { Step wrapping CAP self.old.items call (answer_of result) self.new.items }
+    {
+        match call {
+            Call::PushFront(element) => Reply::Displaced(self.push_front(element)),
+            Call::PushBack(element) => Reply::Displaced(self.push_back(element)),
+            Call::ExtendBack(elements) => {
+                self.extend_back(elements);
+                Reply::Done
+            }
+            Call::ExtendFront(elements) => {
+                self.extend_front(elements);
+                Reply::Done
+            }
+            call => self.step_alike(call),
+        }
+    }
+}
+
+impl<T: Drop, const CAP: usize, B: Behavior> ArrayDeque<T, CAP, B> {
+    /// The calls that mean the same under every policy.
+    fn step_alike(&mut self, call: Call<T>) -> Reply<T, CAP, B>
+        requires { IsAlike call }
+        ensures { (p : Policy) → Step p CAP self.old.items call (answer_of result) self.new.items }
+    {
+        match call {
             Call::PopFront => Reply::Item(self.pop_front()),
             Call::PopBack => Reply::Item(self.pop_back()),
+            Call::Replace(index, element) => match self.get_mut(index) {
+                Some(item) => Reply::Item(Some(mem::replace(item, element))),
+                None => Reply::OutOfRange(Some(element)),
+            },
+            Call::Extend(elements) => {
+                self.fill_back(elements);
+                Reply::Done
+            }
             Call::Len => Reply::Number(self.len()),
             Call::Capacity => Reply::Number(self.capacity()),
             Call::IsEmpty => Reply::Truth(self.is_empty()),
+            Call::IsFull => Reply::Truth(self.is_full()),
+            Call::PushFront(_) | Call::PushBack(_) | Call::ExtendBack(_) | Call::ExtendFront(_) => {
+                unreachable!()
+            }
         }
     }
 }

@@ -16,10 +16,7 @@ impl<T: Drop, const CAP: usize> ArrayDeque<T, CAP, Saturating> {
         ensures { TakesFrom I.into_iter_gives I.IntoIter.next_gives iter (CAP - length self.old.items)
             (λ xs. self.new ≡ record self.old { items = self.old.items ++ xs; steps = more_puts (length xs) self.old.steps }) }
     {
-        let room = self.room();
-        for element in iter.into_iter().take(room) {
-            self.ring.push_back(element);
-        }
+        self.fill_back(iter);
     }
 
     /// Adds items before the first one while there is room, so that the last one taken comes to stand first. The iterator is asked for no more items than there is room for, and never after its first `None`.
@@ -73,7 +70,19 @@ impl<T: Drop, const CAP: usize, B: Behavior> Extend<T> for ArrayDeque<T, CAP, B>
     }
 }
 
-impl<T, const CAP: usize, B: Behavior> ArrayDeque<T, CAP, B> {
+impl<T: Drop, const CAP: usize, B: Behavior> ArrayDeque<T, CAP, B> {
+    /// Adds items behind the last one while there is room, and asks for no more.
+    pub(crate) fn fill_back<I: IntoIterator<Item = T>>(&mut self, iter: I)
+        requires { EachIterator I.into_iter_gives iter (λ it. I.IntoIter.can_next it) }
+        ensures { TakesFrom I.into_iter_gives I.IntoIter.next_gives iter (CAP - length self.old.items)
+            (λ xs. self.new ≡ record self.old { items = self.old.items ++ xs; steps = more_puts (length xs) self.old.steps }) }
+    {
+        let room = self.room();
+        for element in iter.into_iter().take(room) {
+            self.ring.push_back(element);
+        }
+    }
+
     /// How many more items there may be.
     fn room(&self) -> usize
         ensures { result ≡ CAP - length self.now.items }

@@ -2,7 +2,7 @@ use Rattle.std.proofs.Common.{sym, subst, ap, ◌∙◌, ◌-◌}
 use Rattle.std.specs.Iterator.{Drains}
 use Rattle.std.specs.Iterator.Adapters.{take_steps, take_source, take_count}
 use Rattle.arraydeque.proofs.Taken.{Takes-from_take}
-use Rattle.arraydeque.proofs.deque.extend.ArrayDeque+T+CAP+Saturating.extend_back.Goals as goal
+use Rattle.arraydeque.proofs.deque.ArrayDeque.fill_back.Goals as goal
 
 pub returns : goal.returns
 returns g c =
