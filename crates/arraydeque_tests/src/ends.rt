@@ -2,6 +2,7 @@
 use crate::build::{deque_at, holds};
 use arraydeque::{ArrayDeque, CapacityError, Saturating};
 use std::alloc::{AllocError, Global};
+use std::process::Abort;
 use std::test::Fail;
 
 #[derive(Clone, Copy, Debug)]
@@ -10,16 +11,18 @@ enum End {
     Back,
 }
 
-type Four = ArrayDeque<i64, 4, Saturating>;
-
-fn push(deque: &mut Four, end: End, item: i64) -> Result<(), CapacityError<i64>> {
+fn push<const CAP: usize>(
+    deque: &mut ArrayDeque<i64, CAP, Saturating>,
+    end: End,
+    item: i64,
+) -> Result<(), CapacityError<i64>> {
     match end {
         End::Front => deque.push_front(item),
         End::Back => deque.push_back(item),
     }
 }
 
-fn pop(deque: &mut Four, end: End) -> Option<i64> {
+fn pop<const CAP: usize>(deque: &mut ArrayDeque<i64, CAP, Saturating>, end: End) -> Option<i64> {
     match end {
         End::Front => deque.pop_front(),
         End::Back => deque.pop_back(),
@@ -91,29 +94,86 @@ fn the_front_may_wrap(rt: HostRuntime) -> Result<(), Fail> {
     Ok(())
 }
 
-/// The numbers from 0 on, `len` of them.
-fn numbers(alloc: Global, len: i64) -> Result<Vec<i64>, AllocError> {
-    (0..len).collect(alloc)
+/// The numbers from 0 on, `len` of them and at most 9.
+fn numbers(alloc: Global, len: usize) -> Result<Vec<i64>, AllocError> {
+    (0..9).take(len).collect(alloc)
 }
 
-#[test]
-fn pushes_at_every_start_and_length(rt: HostRuntime) -> Result<(), Fail> {
-    for start in 0..4 {
-        for len in 0..5 {
+fn compare_push<const CAP: usize>(
+    rt: &impl Abort,
+    alloc: Global,
+    start: usize,
+    len: usize,
+    end: End,
+) -> Result<(), Fail> {
+    let mut list = numbers(alloc, len)?;
+    let mut deque = deque_at::<CAP>(alloc, start, &list)?;
+    let back = refused(push(&mut deque, end, 9));
+    if len < CAP {
+        push_to_list(&mut list, end, 9)?;
+        assert_eq!(rt; back, None, "{end:?} of {CAP}, start {start}, length {len}");
+    } else {
+        assert_eq!(rt;
+            back,
+            Some(9),
+            "{end:?} of {CAP}, start {start}, length {len}"
+        );
+    }
+    assert!(rt;
+        holds(&deque, &list),
+        "{end:?} of {CAP}, start {start}, length {len}"
+    );
+    Ok(())
+}
+
+fn compare_pop<const CAP: usize>(
+    rt: &impl Abort,
+    alloc: Global,
+    start: usize,
+    len: usize,
+    end: End,
+) -> Result<(), Fail> {
+    let mut list = numbers(alloc, len)?;
+    let mut deque = deque_at::<CAP>(alloc, start, &list)?;
+    let popped = pop(&mut deque, end);
+    let expected = pop_from_list(&mut list, end);
+    assert_eq!(rt;
+        popped,
+        expected,
+        "{end:?} of {CAP}, start {start}, length {len}"
+    );
+    assert!(rt;
+        holds(&deque, &list),
+        "{end:?} of {CAP}, start {start}, length {len}"
+    );
+    Ok(())
+}
+
+fn compare_slices<const CAP: usize>(
+    rt: &impl Abort,
+    alloc: Global,
+    start: usize,
+    len: usize,
+) -> Result<(), Fail> {
+    let list = numbers(alloc, len)?;
+    let deque = deque_at::<CAP>(alloc, start, &list)?;
+    let cut = list.len().min(CAP.saturating_sub(start));
+    assert_eq!(rt;
+        deque.as_slices(),
+        list.split_at(cut),
+        "of {CAP}, start {start}, length {len}"
+    );
+    Ok(())
+}
+
+/// Pushes, pops and the slices beside a plain list, at each start and length.
+fn compare_all<const CAP: usize>(rt: &impl Abort, alloc: Global) -> Result<(), Fail> {
+    for start in 0..CAP {
+        for len in 0..=CAP {
+            compare_slices::<CAP>(rt, alloc, start, len)?;
             for end in [End::Front, End::Back] {
-                let mut list = numbers(rt.alloc(), len)?;
-                let mut deque = deque_at(rt.alloc(), start, &list)?;
-                let back = refused(push(&mut deque, end, 9));
-                if list.len() < 4 {
-                    push_to_list(&mut list, end, 9)?;
-                    assert_eq!(rt; back, None, "{end:?}, start {start}, length {len}");
-                } else {
-                    assert_eq!(rt; back, Some(9), "{end:?}, start {start}, length {len}");
-                }
-                assert!(rt;
-                    holds(&deque, &list),
-                    "{end:?}, start {start}, length {len}"
-                );
+                compare_push::<CAP>(rt, alloc, start, len, end)?;
+                compare_pop::<CAP>(rt, alloc, start, len, end)?;
             }
         }
     }
@@ -121,38 +181,9 @@ fn pushes_at_every_start_and_length(rt: HostRuntime) -> Result<(), Fail> {
 }
 
 #[test]
-fn pops_at_every_start_and_length(rt: HostRuntime) -> Result<(), Fail> {
-    for start in 0..4 {
-        for len in 0..5 {
-            for end in [End::Front, End::Back] {
-                let mut list = numbers(rt.alloc(), len)?;
-                let mut deque = deque_at(rt.alloc(), start, &list)?;
-                let popped = pop(&mut deque, end);
-                let expected = pop_from_list(&mut list, end);
-                assert_eq!(rt; popped, expected, "{end:?}, start {start}, length {len}");
-                assert!(rt;
-                    holds(&deque, &list),
-                    "{end:?}, start {start}, length {len}"
-                );
-            }
-        }
-    }
-    Ok(())
-}
-
-#[test]
-fn the_slices_cut_at_the_end_of_the_region(rt: HostRuntime) -> Result<(), Fail> {
-    for start in 0..4 {
-        for len in 0..5 {
-            let list = numbers(rt.alloc(), len)?;
-            let deque: Four = deque_at(rt.alloc(), start, &list)?;
-            let cut = list.len().min(4 - start);
-            assert_eq!(rt;
-                deque.as_slices(),
-                list.split_at(cut),
-                "start {start}, length {len}"
-            );
-        }
-    }
+fn every_start_and_length(rt: HostRuntime) -> Result<(), Fail> {
+    compare_all::<1>(&rt, rt.alloc())?;
+    compare_all::<3>(&rt, rt.alloc())?;
+    compare_all::<4>(&rt, rt.alloc())?;
     Ok(())
 }
