@@ -88,9 +88,13 @@ fn the_front_may_wrap(rt: HostRuntime) -> Result<(), Fail> {
     let mut deque = ArrayDeque::<i64, 7, Saturating>::new(rt.alloc())?;
     assert!(rt; deque.push_back(0).is_ok());
     assert!(rt; deque.push_back(1).is_ok());
-    assert_eq!(rt; deque.as_slices(), ([0, 1].as_slice(), [].as_slice()));
+    let (first, second) = deque.as_slices();
+    assert_eq!(rt; first, [0, 1].as_slice());
+    assert_eq!(rt; second, [].as_slice());
     assert!(rt; deque.push_front(2).is_ok());
-    assert_eq!(rt; deque.as_slices(), ([2].as_slice(), [0, 1].as_slice()));
+    let (first, second) = deque.as_slices();
+    assert_eq!(rt; first, [2].as_slice());
+    assert_eq!(rt; second, [0, 1].as_slice());
     Ok(())
 }
 
