@@ -3,7 +3,14 @@ use crate::build::holds;
 use arraydeque::{ArrayDeque, Saturating};
 use arraydeque_ring::ring::Ring;
 use arraydeque_ring::slots::Slots;
+use std::alloc::{AllocError, Global};
 use std::test::Fail;
+
+/// The capacity of a region that is made and given back empty.
+fn capacity_of_region<T>(alloc: Global, capacity: usize) -> Result<usize, AllocError> {
+    let slots = Slots::<T>::new(alloc, capacity)?;
+    Ok(slots.capacity())
+}
 
 #[test]
 fn capacity_zero_is_empty_and_full(rt: HostRuntime) -> Result<(), Fail> {
@@ -23,7 +30,7 @@ fn capacity_zero_is_empty_and_full(rt: HostRuntime) -> Result<(), Fail> {
     drop(deque);
     let ring = Ring::<i64>::new(rt.alloc(), 0)?;
     assert_eq!(rt; (ring.len(), ring.capacity(), ring.get(0)), (0, 0, None));
-    assert_eq!(rt; Slots::<i64>::new(rt.alloc(), 0)?.capacity(), 0);
+    assert_eq!(rt; capacity_of_region::<i64>(rt.alloc(), 0)?, 0);
     Ok(())
 }
 
@@ -54,10 +61,8 @@ fn a_ring_of_items_of_size_zero(rt: HostRuntime) -> Result<(), Fail> {
         (ring.pop_front(), ring.pop_back(), ring.pop_back()),
         (Some(()), Some(()), None)
     );
-    assert_eq!(rt;
-        Slots::<()>::new(rt.alloc(), usize::MAX)?.capacity(),
-        usize::MAX
-    );
+    let capacity = capacity_of_region::<()>(rt.alloc(), usize::MAX)?;
+    assert_eq!(rt; capacity, usize::MAX);
     Ok(())
 }
 
@@ -65,5 +70,5 @@ fn a_ring_of_items_of_size_zero(rt: HostRuntime) -> Result<(), Fail> {
 fn a_region_too_large_to_name_is_refused(rt: HostRuntime) {
     assert!(rt; ArrayDeque::<u64, { usize::MAX }, Saturating>::new(rt.alloc()).is_err());
     assert!(rt; Ring::<u64>::new(rt.alloc(), usize::MAX).is_err());
-    assert!(rt; Slots::<u64>::new(rt.alloc(), usize::MAX).is_err());
+    assert!(rt; capacity_of_region::<u64>(rt.alloc(), usize::MAX).is_err());
 }
