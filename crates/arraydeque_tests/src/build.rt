@@ -1,0 +1,45 @@
+//! What the tests build and compare: deques at every start, and their lists.
+use arraydeque::behavior::Behavior;
+use arraydeque::{ArrayDeque, Saturating};
+use std::alloc::{AllocError, Global};
+use std::test::Fail;
+
+/// A deque of `items`, the first of which stands at the place `start`.
+pub fn deque_at<const CAP: usize>(
+    alloc: Global,
+    start: usize,
+    items: &[i64],
+) -> Result<ArrayDeque<i64, CAP, Saturating>, Fail> {
+    let mut deque = ArrayDeque::new(alloc)?;
+    for _ in 0..start {
+        deque.push_back(0).map_err(|_| "no room")?;
+        deque.pop_front();
+    }
+    for &item in items {
+        deque.push_back(item).map_err(|_| "no room")?;
+    }
+    Ok(deque)
+}
+
+/// Whether the two slices, joined, are `items`.
+pub fn holds<T: PartialEq, const CAP: usize, B: Behavior>(
+    deque: &ArrayDeque<T, CAP, B>,
+    items: &[T],
+) -> bool {
+    let (first, second) = deque.as_slices();
+    match items.split_at_checked(first.len()) {
+        Some((front, rest)) => first == front && second == rest,
+        None => false,
+    }
+}
+
+/// The two slices, joined.
+pub fn list_of<T: Copy, const CAP: usize, B: Behavior>(
+    alloc: Global,
+    deque: &ArrayDeque<T, CAP, B>,
+) -> Result<Vec<T>, AllocError> {
+    let (first, second) = deque.as_slices();
+    let mut list = Vec::from_slice(alloc, first)?;
+    list.extend_from_slice(second)?;
+    Ok(list)
+}

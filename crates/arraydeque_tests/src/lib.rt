@@ -1,0 +1,15 @@
+//! Tests of the deque and of what it stands on. They cross the crates, so they stand apart from them; there is nothing here to call.
+#![tactic(auto)]
+
+#[cfg(test)]
+mod build;
+#[cfg(test)]
+mod capacities;
+#[cfg(test)]
+mod drops;
+#[cfg(test)]
+mod ends;
+#[cfg(test)]
+mod places;
+#[cfg(test)]
+mod runs;
