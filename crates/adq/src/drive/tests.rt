@@ -1,4 +1,4 @@
-//! Whole runs of the program, over streams in memory and over streams that fail.
+//! Whole runs, over streams in memory and over streams that fail.
 
 use super::drive;
 use std::alloc::{AllocError, Global};
@@ -6,52 +6,68 @@ use std::io;
 use std::io::{ErrorKind, Read, Write};
 use std::test::Fail;
 
-const CALLS: &str = "push_front 1\npush_front 2\npush_front 3\npush_front 4\npop_back\nlen\n";
+const CALLS: &[u8] = b"push_front 1\npush_front 2\npush_front 3\npush_front 4\npop_back\nlen\n";
 
-const REPLIES: &str = "ok\nok\nok\nfull 4\n1\n2\nlist: [3, 2]\n";
+const REPLIES: &[u8] = b"ok\nok\nok\nfull 4\n1\n2\nlist: [3, 2]\n";
 
-/// A reader of one byte a call, which fails once it was called so many times.
+/// What each kind of failing stream makes of a run that needs it.
+const FAILURES: [(ErrorKind, u8, &[u8]); 2] = [
+    (ErrorKind::BrokenPipe, 1, b"adq: input or output failed\n"),
+    (ErrorKind::OutOfMemory, 3, b"adq: out of memory\n"),
+];
+
+/// A stream of one byte a call, which fails once it was called so many times.
 #[derive(Drop)]
-struct FailingReader<'a> {
-    bytes: &'a [u8],
+struct Failing<S> {
+    stream: S,
     calls: usize,
     kind: ErrorKind,
 }
 
-impl Read for FailingReader<'_> {
-    fn read(&mut self, buffer: &mut [u8]) -> io::Result<usize> {
-        count_down(&mut self.calls, self.kind)?;
-        let count = buffer.len().min(1);
-        self.bytes.read(&mut buffer[..count])
+impl<S> Failing<S> {
+    fn count_down(&mut self) -> io::Result<()> {
+        if self.calls == 0 {
+            return Err(io::Error::from(self.kind));
+        }
+        self.calls -= 1;
+        Ok(())
     }
 }
 
-/// A writer of one byte a call, which fails once it was called so many times.
-#[derive(Drop)]
-struct FailingWriter<'a> {
-    bytes: &'a mut Vec<u8>,
-    calls: usize,
-    kind: ErrorKind,
+impl<S: Read> Read for Failing<S> {
+    fn read(&mut self, buffer: &mut [u8]) -> io::Result<usize> {
+        self.count_down()?;
+        let count = buffer.len().min(1);
+        self.stream.read(&mut buffer[..count])
+    }
 }
 
-impl Write for FailingWriter<'_> {
+impl<S: Write> Write for Failing<S> {
     fn write(&mut self, buffer: &[u8]) -> io::Result<usize> {
-        count_down(&mut self.calls, self.kind)?;
+        self.count_down()?;
         let count = buffer.len().min(1);
-        self.bytes.write(&buffer[..count])
+        self.stream.write(&buffer[..count])
     }
 
     fn flush(&mut self) -> io::Result<()> {
-        count_down(&mut self.calls, self.kind)
+        self.count_down()
     }
 }
 
-fn count_down(calls: &mut usize, kind: ErrorKind) -> io::Result<()> {
-    if *calls == 0 {
-        return Err(io::Error::from(kind));
+/// How a run ended, and what it wrote.
+#[derive(Debug, Drop)]
+struct End {
+    status: u8,
+    output: Vec<u8>,
+    faults: Vec<u8>,
+}
+
+impl End {
+    fn is(&self, status: u8, output: &[u8], faults: &[u8]) -> bool {
+        self.status == status
+            && self.output.as_slice() == output
+            && self.faults.as_slice() == faults
     }
-    *calls -= 1;
-    Ok(())
 }
 
 fn words(alloc: Global, text: &str) -> Result<Vec<String>, AllocError> {
@@ -62,20 +78,12 @@ fn words(alloc: Global, text: &str) -> Result<Vec<String>, AllocError> {
     Ok(words)
 }
 
-/// What a run leaves: its status, and what it wrote.
-#[derive(Drop)]
-struct Outcome {
-    status: u8,
-    output: Vec<u8>,
-    faults: Vec<u8>,
-}
-
-fn run(alloc: Global, args: &str, input: &[u8]) -> Result<Outcome, AllocError> {
+fn run<R: Read + Drop>(alloc: Global, args: &str, input: R) -> Result<End, AllocError> {
     let args = words(alloc, args)?;
     let mut output = Vec::new(alloc);
     let mut faults = Vec::new(alloc);
     let status = drive(alloc, args.as_slice(), input, &mut output, &mut faults);
-    Ok(Outcome {
+    Ok(End {
         status,
         output,
         faults,
@@ -83,122 +91,89 @@ fn run(alloc: Global, args: &str, input: &[u8]) -> Result<Outcome, AllocError> {
 }
 
 #[test]
-fn whole_runs(rt: HostRuntime) -> Result<(), Fail> {
-    for (args, input, status, output, faults) in [
-        ("sat 3", CALLS, 0, REPLIES, ""),
-        ("sat 2", "", 0, "list: []\n", ""),
-        (
-            "sat 2",
-            "push_back 1\npush_back x\n",
-            2,
-            "",
-            "adq: bad line 2\n",
-        ),
-        (
-            "sat 1",
-            "push_back 9223372036854775808\n",
-            2,
-            "",
-            "adq: bad line 1\n",
-        ),
-        (
-            "sat 3",
-            "\n  \npush_back 1\r\npush_back 007\nremove x",
-            2,
-            "",
-            "adq: bad line 5\n",
-        ),
-        (
-            "sat 3",
-            "\n  \npush_back 1\r\npush_back 007\n",
-            0,
-            "ok\nok\nlist: [1, 7]\n",
-            "",
-        ),
+fn good_runs(rt: HostRuntime) -> Result<(), Fail> {
+    for (args, input, output) in [
+        ("sat 3", CALLS, REPLIES),
+        ("sat 2", b"", b"list: []\n"),
         (
             "sat 0",
-            "push_back 5\npop_front\ncapacity\n",
-            0,
-            "full 5\nnone\n0\nlist: []\n",
-            "",
+            b"push_back 5\npop_front\ncapacity\n",
+            b"full 5\nnone\n0\nlist: []\n",
         ),
-        (
-            "sat 1",
-            "capacity\nis_empty\n",
-            0,
-            "1\ntrue\nlist: []\n",
-            "",
-        ),
-        ("sat 2", "capacity\n", 0, "2\nlist: []\n", ""),
-        ("sat 3", "capacity\n", 0, "3\nlist: []\n", ""),
-        ("sat 5", "capacity\n", 0, "5\nlist: []\n", ""),
-        ("sat 7", "capacity\n", 0, "7\nlist: []\n", ""),
+        ("sat 1", b"capacity\nis_empty\n", b"1\ntrue\nlist: []\n"),
+        ("sat 2", b"capacity\n", b"2\nlist: []\n"),
+        ("sat 3", b"capacity\n", b"3\nlist: []\n"),
+        ("sat 5", b"capacity\n", b"5\nlist: []\n"),
+        ("sat 7", b"capacity\n", b"7\nlist: []\n"),
         (
             "sat 8",
-            "push_back -7\ncapacity\nis_empty\n",
-            0,
-            "ok\n8\nfalse\nlist: [-7]\n",
-            "",
+            b"push_back 0\ncapacity\nis_empty\n",
+            b"ok\n8\nfalse\nlist: [0]\n",
         ),
-        ("", "x\n", 2, "", "adq: bad arguments\n"),
-        ("sat", "x\n", 2, "", "adq: bad arguments\n"),
-        ("sat 4", "x\n", 2, "", "adq: bad arguments\n"),
-        ("sat 03", "x\n", 2, "", "adq: bad arguments\n"),
-        ("sat 3 3", "x\n", 2, "", "adq: bad arguments\n"),
-        ("Sat 3", "x\n", 2, "", "adq: bad arguments\n"),
-        ("wrap 3", "x\n", 2, "", "adq: bad arguments\n"),
+        (
+            "sat 3",
+            b"\n  \npush_back 1\r\npush_back 007\n",
+            b"ok\nok\nlist: [1, 7]\n",
+        ),
     ] {
-        let outcome = run(rt.alloc(), args, input.as_bytes())?;
-        assert_eq!(rt; outcome.status, status, "{args}: {input}");
-        assert_eq!(rt;
-            outcome.output.as_slice(),
-            output.as_bytes(),
-            "{args}: {input}"
-        );
-        assert_eq!(rt;
-            outcome.faults.as_slice(),
-            faults.as_bytes(),
-            "{args}: {input}"
-        );
+        let end = run(rt.alloc(), args, input)?;
+        assert!(rt; end.is(0, output, b""), "{args}: {input:?}: {end:?}");
     }
     Ok(())
 }
 
 #[test]
-fn lines(rt: HostRuntime) -> Result<(), Fail> {
+fn good_lines(rt: HostRuntime) -> Result<(), Fail> {
     let none = b"list: []\n".as_slice();
     let one = b"ok\nlist: [1]\n".as_slice();
     let zero = b"ok\nlist: [0]\n".as_slice();
     let least = b"ok\nlist: [-9223372036854775808]\n".as_slice();
     let most = b"ok\nlist: [9223372036854775807]\n".as_slice();
     for (input, output) in [
-        (b"push_back 1\n".as_slice(), one),
-        (b"push_back 1", one),
-        (b"push_back 1\r\n", one),
+        (b"push_back 1".as_slice(), one),
         (b"push_back 1\r", one),
+        (b"push_back 1\r\n", one),
         (b"  push_back   1  \r\n", one),
-        (b"\n \n  \r\n\r\npush_back 1\n\n", one),
-        (b"push_back 007\n", b"ok\nlist: [7]\n"),
-        (b"push_back 0\n", zero),
-        (b"push_back -0\n", zero),
-        (b"push_back -9223372036854775808\n", least),
-        (b"push_back -0009223372036854775808\n", least),
-        (b"push_back 9223372036854775807\n", most),
+        (b"\r\n\npush_back 1\n\n \n", one),
+        (b"push_back 0", zero),
+        (b"push_back -0", zero),
+        (b"push_back -9223372036854775808", least),
+        (b"push_back -0009223372036854775808", least),
+        (b"push_back 9223372036854775807", most),
         (b"\n", none),
         (b"\r", none),
         (b" ", none),
     ] {
-        let outcome = run(rt.alloc(), "sat 3", input)?;
-        assert_eq!(rt; outcome.status, 0, "{input:?}");
-        assert_eq!(rt; outcome.output.as_slice(), output, "{input:?}");
-        assert_eq!(rt; outcome.faults.len(), 0, "{input:?}");
+        let end = run(rt.alloc(), "sat 3", input)?;
+        assert!(rt; end.is(0, output, b""), "{input:?}: {end:?}");
     }
     Ok(())
 }
 
 #[test]
 fn bad_lines(rt: HostRuntime) -> Result<(), Fail> {
-    for line in [
+    for (args, input, said) in [
+        (
+            "sat 2",
+            b"push_back 1\npush_back x\n".as_slice(),
+            b"adq: bad line 2\n",
+        ),
+        (
+            "sat 1",
+            b"push_back 9223372036854775808\n",
+            b"adq: bad line 1\n",
+        ),
+        (
+            "sat 3",
+            b"\n  \npush_back 1\r\npush_back 007\nremove x",
+            b"adq: bad line 5\n",
+        ),
+        ("sat 3", b"len\nx\nlen\n\xff\n", b"adq: bad line 2\n"),
+    ] {
+        let end = run(rt.alloc(), args, input)?;
+        assert!(rt; end.is(2, b"", said), "{args}: {input:?}: {end:?}");
+    }
+    for input in [
         b"push_back".as_slice(),
         b"push_back 1 2",
         b"push_back +1",
@@ -229,46 +204,40 @@ fn bad_lines(rt: HostRuntime) -> Result<(), Fail> {
         b"\t",
         b"\r\r",
     ] {
-        let mut input = Vec::from_slice(rt.alloc(), b"len\n\n")?;
-        input.extend_from_slice(line)?;
-        input.extend_from_slice(b"\n\xff\n")?;
-        let outcome = run(rt.alloc(), "sat 3", input.as_slice())?;
-        assert_eq!(rt; outcome.status, 2, "{line:?}");
-        assert_eq!(rt; outcome.output.len(), 0, "{line:?}");
-        assert_eq!(rt;
-            outcome.faults.as_slice(),
-            b"adq: bad line 3\n".as_slice(),
-            "{line:?}"
-        );
+        let end = run(rt.alloc(), "sat 3", input)?;
+        assert!(rt; end.is(2, b"", b"adq: bad line 1\n"), "{input:?}: {end:?}");
     }
     Ok(())
 }
 
-/// A stream that fails for want of memory tells the same as an allocator that refuses.
-const KINDS: [(ErrorKind, u8, &str); 2] = [
-    (ErrorKind::BrokenPipe, 1, "adq: input or output failed\n"),
-    (ErrorKind::OutOfMemory, 3, "adq: out of memory\n"),
-];
+/// Where the arguments are bad, the input isn't read: it would fail.
+#[test]
+fn bad_arguments(rt: HostRuntime) -> Result<(), Fail> {
+    for args in [
+        "", "sat", "sat 4", "sat 03", "sat +3", "sat 3 3", "Sat 3", "3 sat", "wrap 3",
+    ] {
+        let input = Failing {
+            stream: CALLS,
+            calls: 0,
+            kind: ErrorKind::BrokenPipe,
+        };
+        let end = run(rt.alloc(), args, input)?;
+        assert!(rt; end.is(2, b"", b"adq: bad arguments\n"), "{args}: {end:?}");
+    }
+    Ok(())
+}
 
 #[test]
 fn failing_input(rt: HostRuntime) -> Result<(), Fail> {
-    let args = words(rt.alloc(), "sat 3")?;
-    for (kind, status, said) in KINDS {
+    for (kind, status, said) in FAILURES {
         for calls in 0..=CALLS.len() {
-            let input = FailingReader {
-                bytes: CALLS.as_bytes(),
+            let input = Failing {
+                stream: CALLS,
                 calls,
                 kind,
             };
-            let mut output: Vec<u8> = Vec::new(rt.alloc());
-            let mut faults: Vec<u8> = Vec::new(rt.alloc());
-            assert_eq!(rt;
-                drive(rt.alloc(), args.as_slice(), input, &mut output, &mut faults),
-                status,
-                "{calls}"
-            );
-            assert_eq!(rt; output.len(), 0, "{calls}");
-            assert_eq!(rt; faults.as_slice(), said.as_bytes(), "{calls}");
+            let end = run(rt.alloc(), "sat 3", input)?;
+            assert!(rt; end.is(status, b"", said), "{calls}: {end:?}");
         }
     }
     Ok(())
@@ -276,33 +245,22 @@ fn failing_input(rt: HostRuntime) -> Result<(), Fail> {
 
 #[test]
 fn failing_output(rt: HostRuntime) -> Result<(), Fail> {
-    let args = words(rt.alloc(), "sat 3")?;
-    for (kind, status, said) in KINDS {
+    let alloc = rt.alloc();
+    let args = words(alloc, "sat 3")?;
+    for (kind, status, said) in FAILURES {
         for calls in 0..=REPLIES.len() {
-            let mut written = Vec::new(rt.alloc());
-            let output = FailingWriter {
-                bytes: &mut written,
+            let mut end = End {
+                status: 0,
+                output: Vec::new(alloc),
+                faults: Vec::new(alloc),
+            };
+            let output = Failing {
+                stream: &mut end.output,
                 calls,
                 kind,
             };
-            let mut faults: Vec<u8> = Vec::new(rt.alloc());
-            assert_eq!(rt;
-                drive(
-                    rt.alloc(),
-                    args.as_slice(),
-                    CALLS.as_bytes(),
-                    output,
-                    &mut faults
-                ),
-                status,
-                "{calls}"
-            );
-            assert_eq!(rt; written.len(), calls);
-            assert!(rt;
-                REPLIES.as_bytes().starts_with(written.as_slice()),
-                "{calls}"
-            );
-            assert_eq!(rt; faults.as_slice(), said.as_bytes(), "{calls}");
+            end.status = drive(alloc, args.as_slice(), CALLS, output, &mut end.faults);
+            assert!(rt; end.is(status, &REPLIES[..calls], said), "{calls}: {end:?}");
         }
     }
     Ok(())
@@ -310,27 +268,25 @@ fn failing_output(rt: HostRuntime) -> Result<(), Fail> {
 
 #[test]
 fn failing_faults(rt: HostRuntime) -> Result<(), Fail> {
-    for (args, input, status) in [("sat 4", "", 2), ("sat 3", "x\n", 2), ("sat 3", "", 0)] {
-        let args = words(rt.alloc(), args)?;
+    let alloc = rt.alloc();
+    for (args, input, status) in [("sat 4", "", 2), ("sat 3", "x", 2), ("sat 3", "", 0)] {
+        let args = words(alloc, args)?;
         for calls in 0..3 {
-            let mut output: Vec<u8> = Vec::new(rt.alloc());
-            let mut written = Vec::new(rt.alloc());
-            let faults = FailingWriter {
-                bytes: &mut written,
+            let mut output: Vec<u8> = Vec::new(alloc);
+            let mut said: Vec<u8> = Vec::new(alloc);
+            let faults = Failing {
+                stream: &mut said,
                 calls,
                 kind: ErrorKind::BrokenPipe,
             };
-            assert_eq!(rt;
-                drive(
-                    rt.alloc(),
-                    args.as_slice(),
-                    input.as_bytes(),
-                    &mut output,
-                    faults
-                ),
-                status,
-                "{calls}"
+            let ended = drive(
+                alloc,
+                args.as_slice(),
+                input.as_bytes(),
+                &mut output,
+                faults,
             );
+            assert_eq!(rt; ended, status, "{calls}");
         }
     }
     Ok(())
