@@ -6,7 +6,7 @@ use crate::line::calls;
 use crate::print::{print_deque, print_reply};
 use arraydeque::behavior::Behavior;
 use arraydeque::run::{Call, Reply};
-use arraydeque::{ArrayDeque, Saturating};
+use arraydeque::{ArrayDeque, Saturating, Wrapping};
 use std::alloc::Global;
 use std::io::{BufWriter, Read, Write};
 
@@ -45,6 +45,13 @@ fn dispatch<R: Read + Drop, W: Write + Drop>(
         ("sat", "5") => saturating::<R, W, 5>(alloc, input, output),
         ("sat", "7") => saturating::<R, W, 7>(alloc, input, output),
         ("sat", "8") => saturating::<R, W, 8>(alloc, input, output),
+        ("wrap", "0") => wrapping::<R, W, 0>(alloc, input, output),
+        ("wrap", "1") => wrapping::<R, W, 1>(alloc, input, output),
+        ("wrap", "2") => wrapping::<R, W, 2>(alloc, input, output),
+        ("wrap", "3") => wrapping::<R, W, 3>(alloc, input, output),
+        ("wrap", "5") => wrapping::<R, W, 5>(alloc, input, output),
+        ("wrap", "7") => wrapping::<R, W, 7>(alloc, input, output),
+        ("wrap", "8") => wrapping::<R, W, 8>(alloc, input, output),
         _ => Err(Fault::Arguments),
     }
 }
@@ -56,6 +63,17 @@ fn saturating<R: Read + Drop, W: Write + Drop, const CAP: usize>(
 ) -> Result<(), Fault> {
     let calls = read(alloc, input)?;
     let mut deque = ArrayDeque::<i64, CAP, Saturating>::new(alloc)?;
+    let replies = deque.run(calls)?;
+    print(alloc, output, replies, &deque)
+}
+
+fn wrapping<R: Read + Drop, W: Write + Drop, const CAP: usize>(
+    alloc: Global,
+    input: R,
+    output: W,
+) -> Result<(), Fault> {
+    let calls = read(alloc, input)?;
+    let mut deque = ArrayDeque::<i64, CAP, Wrapping>::new(alloc)?;
     let replies = deque.run(calls)?;
     print(alloc, output, replies, &deque)
 }

@@ -1,5 +1,6 @@
 //! Lines of text as calls of a deque.
 ghost use Rattle.std.specs.Prelude.{◌≡◌, ◌<◌, length, IfOk, IfErr, IfSome};
+ghost use Rattle.adq.specs.Fault.{IsLineOrMemory};
 
 use crate::fault::Fault;
 use arraydeque::run::Call;
@@ -13,7 +14,7 @@ use std::str::FromStr;
 pub fn calls(alloc: Global, text: &[u8]) -> Result<Vec<Call<i64>>, Fault> {
     let mut calls = Vec::new(alloc);
     for (index, line) in text.split(|byte| *byte == b'\n').enumerate() {
-        if let Some(call) = Line::new(index + 1, line)?.call()? {
+        if let Some(call) = Line::new(index + 1, line)?.call(alloc)? {
             calls.push(call)?;
         }
     }
@@ -40,8 +41,8 @@ impl<'a> Line<'a> {
     }
 
     /// The call that the whole line names, if it has words.
-    fn call(&mut self) -> Result<Option<Call<i64>>, Fault>
-        ensures { IfErr result (λ fault. fault ≡ Fault.Line self.old.number) }
+    fn call(&mut self, alloc: Global) -> Result<Option<Call<i64>>, Fault>
+        ensures { IfErr result (IsLineOrMemory self.old.number) }
     {
         let Some(name) = self.word() else {
             return Ok(None);
@@ -51,15 +52,43 @@ impl<'a> Line<'a> {
             "push_back" => Call::PushBack(self.number()?),
             "pop_front" => Call::PopFront,
             "pop_back" => Call::PopBack,
+            "insert" => Call::Insert(self.number()?, self.number()?),
+            "remove" => Call::Remove(self.number()?),
+            "swap_remove_back" => Call::SwapRemoveBack(self.number()?),
+            "swap_remove_front" => Call::SwapRemoveFront(self.number()?),
+            "swap" => Call::Swap(self.number()?, self.number()?),
+            "replace" => Call::Replace(self.number()?, self.number()?),
+            "clear" => Call::Clear,
+            "extend_back" => Call::ExtendBack(self.numbers(alloc)?),
+            "extend_front" => Call::ExtendFront(self.numbers(alloc)?),
+            "extend" => Call::Extend(self.numbers(alloc)?),
+            "drain" => Call::Drain(self.number()?, self.number()?),
+            "split_off" => Call::SplitOff(self.number()?),
             "len" => Call::Len,
             "capacity" => Call::Capacity,
             "is_empty" => Call::IsEmpty,
+            "is_full" => Call::IsFull,
             _ => return Err(self.bad()),
         };
         match self.word() {
             Some(_) => Err(self.bad()),
             None => Ok(Some(call)),
         }
+    }
+
+    /// Takes the words that are left, each of which must be a number.
+    fn numbers(&mut self, alloc: Global) -> Result<Vec<i64>, Fault>
+        ensures number { self.new.number ≡ self.old.number }
+        ensures blamed { IfErr result (IsLineOrMemory self.old.number) }
+    {
+        let mut numbers = Vec::new(alloc);
+        while let Some(word) = self.word() {
+            let Some(number) = number_of(word) else {
+                return Err(self.bad());
+            };
+            numbers.push(number)?;
+        }
+        Ok(numbers)
     }
 
     /// Takes the next word, if there is one.
@@ -73,7 +102,7 @@ impl<'a> Line<'a> {
         if word.is_empty() { None } else { Some(word) }
     }
 
-    /// Takes the next word, which must be a decimal number within the range of its type. `parse` alone would take a `+` before it.
+    /// Takes the next word, which must be a number.
     fn number<N: FromStr>(&mut self) -> Result<N, Fault>
     where
         N::Err: Drop,
@@ -81,8 +110,7 @@ impl<'a> Line<'a> {
         ensures blamed { IfErr result (λ fault. fault ≡ Fault.Line self.old.number) }
     {
         if let Some(word) = self.word()
-            && !word.starts_with('+')
-            && let Ok(number) = word.parse()
+            && let Some(number) = number_of(word)
         {
             return Ok(number);
         }
@@ -94,4 +122,15 @@ impl<'a> Line<'a> {
     {
         Fault::Line(self.number)
     }
+}
+
+/// The decimal number that a word is, if it is within the range of its type. `parse` alone would take a `+` before it.
+fn number_of<N: FromStr>(word: &str) -> Option<N>
+where
+    N::Err: Drop,
+{
+    if word.starts_with('+') {
+        return None;
+    }
+    word.parse().ok()
 }

@@ -14,15 +14,19 @@ pub fn print_reply<W: Write, const CAP: usize, B: Behavior>(
 ) -> io::Result<()> {
     match reply {
         Reply::Done => writeln!(output, "ok"),
-        Reply::Item(Some(item)) => writeln!(output, "{item}"),
-        Reply::Item(None) => writeln!(output, "none"),
+        Reply::Item(Some(item)) | Reply::Displaced(Some(item)) => writeln!(output, "{item}"),
+        Reply::Item(None) | Reply::Displaced(None) => writeln!(output, "none"),
         Reply::Number(number) => writeln!(output, "{number}"),
         Reply::Truth(truth) => writeln!(output, "{truth}"),
+        Reply::Drained(items) => print_list(output, items),
         Reply::Split(deque) => print_deque(output, &deque),
         Reply::Full(refusal) => {
             let element = refusal.element;
             writeln!(output, "full {element}")
         }
+        Reply::OutOfRange(_) => writeln!(output, "range"),
+        Reply::NoMemory => writeln!(output, "memory"),
+        Reply::NotOffered(_) => writeln!(output, "unoffered"),
     }
 }
 
