@@ -1,9 +1,11 @@
 pub mod Blocks
 pub mod Edited
+pub mod Emptied
 pub mod Filled
 pub mod Heap
 pub mod Kit
 pub mod Lent
+pub mod MoreSteps
 pub mod Opened
 pub mod Owned
 pub mod Regions
