@@ -1,10 +1,12 @@
 pub mod Blocks
 pub mod Edited
+pub mod Emptied
 pub mod Filled
 pub mod Heap
 pub mod Kit
 pub mod LaidOut
 pub mod Lent
+pub mod MoreSteps
 pub mod Opened
 pub mod OpenedFields
 pub mod Owned

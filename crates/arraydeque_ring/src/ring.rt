@@ -174,11 +174,9 @@ impl<T> Ring<T> {
 }
 
 impl<T: Drop> Drop for Ring<T> {
-    /// Takes each item out and drops it, front to back, and gives the region back.
+    /// Drops each item, front to back, and gives the region back.
     fn drop(mut self) {
-        for _ in 0..self.len() {
-            self.pop_front();
-        }
+        self.clear();
         let Ring {
             slots: _,
             start: _,
