@@ -1,4 +1,5 @@
 pub mod Blocks
+pub mod Crossed
 pub mod Filled
 pub mod Heap
 pub mod Kit

@@ -6,6 +6,8 @@ ghost use Rattle.std.specs.Mem.{type_size};
 ghost use Rattle.arraydeque_ring.specs.Ring.{empty_ring, place_of};
 ghost use Rattle.arraydeque_ring.specs.Steps.{more_puts, more_takes};
 
+mod moves;
+
 use crate::slots::Slots;
 use crate::wrap::wrap_add;
 use std::alloc::{AllocError, Global};
