@@ -124,7 +124,7 @@ module _ {X : Type 0} where
   filled_turned : (ps : List (Option X)) (t i : ℕ) (x : X) → t ≤ length ps → i < length ps → get_or (turned t ps) i None ≡ Some x → IsFilled ps (place_of t i (length ps))
   filled_turned ps t i x a b e = (x, sym (get_or-turned t i ps None a b) ∙ e)
 
-  empty_turned : (ps : List (Option X)) (t i : ℕ) → t < length ps → i < length ps → get_or (turned t ps) i None ≡ None → IsEmpty ps (place_of t i (length ps))
+  pub empty_turned : (ps : List (Option X)) (t i : ℕ) → t < length ps → i < length ps → get_or (turned t ps) i None ≡ None → IsEmpty ps (place_of t i (length ps))
   empty_turned ps t i a b e = (place_of-lt t i (length ps) (omega arith), sym (get_or-turned t i ps None (omega arith) b) ∙ e)
 
   -- one value goes from the index i to the index j

@@ -1,11 +1,13 @@
 pub mod Blocks
 pub mod Crossed
 pub mod Filled
+pub mod Gapped
 pub mod Heap
 pub mod Kit
 pub mod Lent
 pub mod Opened
 pub mod Owned
+pub mod Parted
 pub mod Regions
 pub mod Runs
 pub mod Sharing
