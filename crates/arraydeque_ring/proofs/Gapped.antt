@@ -133,6 +133,9 @@ module _ {X : Type 0} where
       set_laid_out ps t xs i None l (omega (arith, length_within ps t xs l)) ∙ set_split (and_empty xs k) i None (omega (arith, length-and_empty xs k))
       ∙ ap₂ (λ a b. a ++ None ∷ b) (take-and_empty i xs k (omega arith)) (drop-and_empty (suc i) xs k lt)
 
+  pub length_closed : (ps : List (Option X)) (t : ℕ) (xs ys : List X) (n k : ℕ) → turned t ps ≡ replicate n None ++ (map Some xs ++ and_empty ys k) → length ps ≡ length xs + n + length ys + k
+  length_closed ps t xs ys n k e = omega (arith, length-turned t ps, ap length e, length_three (replicate n None) (map Some xs) (and_empty ys k), length-map xs Some, length-replicate {A = Option X} n None, length-and_empty ys k)
+
   -- to close a gap, the items before it move on, and the start with them
   pub closes_before : (ps : List (Option X)) (t : ℕ) (xs ys : List X) (i n k : ℕ) → turned t ps ≡ gapped xs n ys k → length xs ≡ i → Later (turned t ps) 0 i n (replicate n None ++ (map Some xs ++ and_empty ys k))
   closes_before ps t xs ys i n k e long = goes_later (turned t ps) [] (and_empty ys k) xs 0 i n e refl long

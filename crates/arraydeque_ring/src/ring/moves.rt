@@ -42,17 +42,31 @@ impl<T> Ring<T> {
         ensures start { self.new.start ≡ (if nat_lt index (length self.old.items - 1 - index) then place_of self.old.start 1 self.old.capacity else self.old.start) }
         ensures steps { self.new.steps ≡ more_moves (min index (length self.old.items - 1 - index)) (more_takes 1 self.old.steps) }
     {
-        let capacity = self.slots.capacity();
+        let item = self.slots.take(wrap_add(self.start, index, self.slots.capacity()));
         self.len -= 1;
-        let behind = self.len - index;
-        let item = self.slots.take(wrap_add(self.start, index, capacity));
-        if index < behind {
-            shift_later(&mut self.slots, self.start, 0, index, 1);
-            self.start = wrap_add(self.start, 1, capacity);
-        } else {
-            shift_earlier(&mut self.slots, self.start, index, behind, 1);
-        }
+        self.start = close_gap(&mut self.slots, self.start, index, 1, self.len - index);
         item
+    }
+}
+
+/// Closes the `gap` empty places between the `before` values from the place `start` on and the `behind` values that follow the gap. The values on one side move: those before it where they are the fewer, else those behind it. The answer is the place where the list starts then.
+fn close_gap<T>(slots: &mut Slots<T>, start: usize, before: usize, gap: usize, behind: usize) -> usize
+    requires in_region { start < length slots.old.places }
+    requires some { 0 < gap }
+    requires filled_before { IsFilledRun (turned start slots.old.places) 0 before }
+    requires empty { IsEmptyRun (turned start slots.old.places) before gap }
+    requires filled_behind { IsFilledRun (turned start slots.old.places) (before + gap) behind }
+    ensures start { result ≡ (if nat_lt before behind then place_of start gap (length slots.old.places) else start) }
+    ensures places { turned start slots.new.places ≡ (if nat_lt before behind then runs_swapped 0 before gap (turned start slots.old.places) else runs_swapped before gap behind (turned start slots.old.places)) }
+    ensures steps { slots.new.steps ≡ more_moves (min before behind) slots.old.steps }
+{
+    let capacity = slots.capacity();
+    if before < behind {
+        shift_later(slots, start, 0, before, gap);
+        wrap_add(start, gap, capacity)
+    } else {
+        shift_earlier(slots, start, before, behind, gap);
+        start
     }
 }
 
