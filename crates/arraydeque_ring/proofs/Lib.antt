@@ -1,7 +1,9 @@
 pub mod Blocks
+pub mod Crossed
 pub mod Edited
 pub mod Emptied
 pub mod Filled
+pub mod Gapped
 pub mod Heap
 pub mod Kit
 pub mod LaidOut
@@ -10,6 +12,7 @@ pub mod MoreSteps
 pub mod Opened
 pub mod OpenedFields
 pub mod Owned
+pub mod Parted
 pub mod Regions
 pub mod Runs
 pub mod Sharing
