@@ -5,7 +5,7 @@ use Rattle.std.proofs.lemmas.Option.{slice_get_cases}
 use Rattle.arraydeque_ring.specs.Places.{held_at, IsFilled, IsEmpty, IsFilledRun}
 use Rattle.arraydeque_ring.specs.Ring.{place_of, turned}
 use Rattle.arraydeque_ring.specs.Gaps.{IsEmptyRun, runs_swapped}
-use Rattle.arraydeque_ring.proofs.Turned.{place_of-lt, length-turned, get_or-turned, turned-set}
+use Rattle.arraydeque_ring.proofs.TurnedOld.{place_of-lt, length-turned, get_or-turned, turned-set}
 
 -- two lists of places that differ in where a value stands: behind the n empty places from the index p on, or before them
 pub record Crossed {X : Type 0} (behind before : List (Option X)) (p n : ℕ) : Type 0 where

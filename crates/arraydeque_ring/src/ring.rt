@@ -8,11 +8,8 @@ ghost use Rattle.std.specs.Option.{option_copied_mut};
 ghost use Rattle.arraydeque_ring.specs.Ring.{empty_ring, place_of};
 ghost use Rattle.arraydeque_ring.specs.Steps.{more_puts, more_takes};
 
-<<<<<<< HEAD
 mod edits;
-=======
 mod moves;
->>>>>>> wip/moves
 
 use crate::slots::Slots;
 use crate::wrap::wrap_add;
