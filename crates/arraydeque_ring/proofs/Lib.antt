@@ -1,3 +1,4 @@
+pub mod Answered
 pub mod Blocks
 pub mod Edited
 pub mod Emptied
@@ -8,6 +9,7 @@ pub mod Lent
 pub mod MoreSteps
 pub mod Opened
 pub mod Owned
+pub mod Parted
 pub mod Regions
 pub mod Runs
 pub mod Sharing
