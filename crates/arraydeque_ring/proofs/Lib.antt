@@ -1,5 +1,6 @@
 pub mod Blocks
 pub mod Crossed
+pub mod Emptied
 pub mod Filled
 pub mod Gapped
 pub mod Heap
