@@ -2,7 +2,8 @@
 use Rattle.std.proofs.Common.{◌≡◌, ℕ, suc, ◌+◌, ◌-◌, ◌<◌, ◌≤◌, List, [], ◌∷◌, ◌++◌, length, take, drop, set, get_or, replicate, Option, Some, None, refl, sym, ap, ap₂, ◌∙◌, arith}
 use Rattle.std.proofs.lemmas.List.{length-append, length-replicate, length-take-le, length-drop, append_assoc, get_or-drop, take_more, drop_more, take-append-drop, replicate_more}
 use Rattle.arraydeque_ring.specs.Places.{held_at, IsFilled, IsFilledRun}
-use Rattle.arraydeque_ring.specs.Ring.{place_of, turned, values}
+use Rattle.arraydeque_ring.specs.Ring.{RingState, empty_ring, place_of, turned, values}
+use Rattle.arraydeque_ring.specs.Steps.{no_steps, more_puts}
 use Rattle.arraydeque_ring.specs.Gaps.{run_emptied}
 use Rattle.arraydeque_ring.proofs.Turned.{length-turned, get_or-turned, turned-set}
 use Rattle.arraydeque_ring.proofs.Crossed.{behind_at, behind_is, held_in_run}
@@ -46,3 +47,8 @@ module _ {X : Type 0} where
   -- nothing is out yet
   pub none_out : (ps : List (Option X)) (at : ℕ) → ps ≡ run_emptied at 0 ps
   none_out ps at = sym (take-append-drop at ps) ∙ ap (λ i. take at ps ++ drop i ps) (omega arith)
+
+  -- a ring that was made for a run and was given it
+  pub made_of : (made v : RingState X) (ys zs : List X) (capacity n : ℕ) → made ≡ record v { items = v.items ++ ys; steps = more_puts n v.steps } → v ≡ empty_ring capacity → ys ≡ zs
+      → made ≡ record { items = zs; capacity = capacity; start = 0; steps = more_puts n no_steps }
+  made_of made v ys zs capacity n is empty same = is ∙ ap₂ (λ (r : RingState X) l. record r { items = r.items ++ l; steps = more_puts n r.steps }) empty same

@@ -1,32 +1,42 @@
-use Rattle.std.proofs.Common.{rules, ◌≡◌, ◌-◌, ◌+◌, ◌*◌, ◌<◌, ◌≤◌, ◌++◌, length, take, drop, slice_get, slice_range, min, nat_lt, if◌then◌else◌, IfOk, OnOk, OnErr, ℕ, ◌/◌, ◌%◌, Bool, true, false, nat_eq, List, [], ◌∷◌, slice_index_or, slice_set, bit_and, bit_or, Fits, w8, w32, w64, Bor, MutBor}
-use Rattle.std.specs.List.{insert, remove, remove_range}
-use Rattle.std.specs.Mem.{type_size}
-use Rattle.arraydeque_ring.specs.Places.{IsFilledRun}
-use Rattle.arraydeque_ring.specs.Ring.{place_of, turned, values}
-use Rattle.arraydeque_ring.specs.Gaps.{IsEmptyRun, runs_swapped, run_emptied}
-use Rattle.arraydeque_ring.specs.Steps.{no_steps, more_puts, more_takes, more_moves}
+use Rattle.std.proofs.Common.{◌≡◌, ◌+◌, ◌-◌, ◌≤◌, length, take, drop, refl, sym, ap, ◌∙◌, arith}
+use Rattle.std.proofs.lemmas.List.{take_rest}
+use Rattle.arraydeque_ring.specs.Ring.{RingState, empty_ring}
+use Rattle.arraydeque_ring.specs.Steps.{more_takes}
+use Rattle.arraydeque_ring.proofs.Emptied.{made_of}
+use Rattle.arraydeque_ring.proofs.Filled.{length_within}
+use Rattle.arraydeque_ring.proofs.Gapped.{items_filled, items_run}
+use Rattle.arraydeque_ring.proofs.Opened.{Opened, opened, closed, kept}
+use Rattle.arraydeque_ring.proofs.Parted.{rest_out}
+use Rattle.arraydeque_ring.proofs.ring.Ring.split_off.Given.{Over}
 use Rattle.arraydeque_ring.proofs.ring.Ring.split_off.Goals as goal
 
--- src/ring/moves.rt:87:51
 pub overflow_sub-self-inside : goal.overflow_sub-self-inside
-overflow_sub-self-inside g c = ?
+overflow_sub-self-inside g c = let ring = opened c.self.inside c.args.self.now c.self.invariant c.self.view_is in omega arith
 
--- src/ring/moves.rt:87:9
 pub take_run-requires-clause-filled : goal.take_run-requires-clause-filled
-take_run-requires-clause-filled g c = ?
+take_run-requires-clause-filled g c =
+    let ring = opened c.self.inside c.args.self.now c.self.invariant c.self.view_is in
+    items_filled _ _ _ _ _ ring.laid (omega arith)
 
--- src/ring/moves.rt:87:9
 pub take_run-requires-clause-room : goal.take_run-requires-clause-room
-take_run-requires-clause-room g c = ?
+take_run-requires-clause-room g c =
+    let ring = opened c.self.inside c.args.self.now c.self.invariant c.self.view_is in
+    rw c.in_ok-rest.ensures.ok (omega (arith, length_within _ _ _ ring.laid))
 
--- src/ring/moves.rt:79:5
+after : (g : Over) (c : goal.After-self-1 g) → Opened record { slots = c.take_run.new.slots; start = c.self.inside.start; len = c.args.at; alloc = c.self.inside.alloc }
+    record c.args.self.now { items = take c.args.at c.args.self.now.items; steps = more_takes (length c.args.self.now.items - c.args.at) c.args.self.now.steps }
+after g c =
+    let ring = opened c.self.inside c.args.self.now c.self.invariant c.self.view_is in
+    rw ring.len (rest_out _ _ c.take_run.new.slots c.args.at (c.self.inside.len - c.args.at) ring (omega arith) c.take_run.ensures.places c.take_run.ensures.steps (omega arith))
+
 pub invariant_of-self : goal.invariant_of-self
-invariant_of-self g c = ?
+invariant_of-self g c = kept _ _ (after g c)
 
--- src/ring/moves.rt:79:5
 pub returns-clause-split : goal.returns-clause-split
-returns-clause-split g c = ?
+returns-clause-split g c =
+    let ring = opened c.self.inside c.args.self.now c.self.invariant c.self.view_is in
+    let last = items_run _ _ _ c.args.at (length c.args.self.now.items - c.args.at) ring.laid (omega arith) ∙ take_rest c.args.self.now.items c.args.at in
+    rw (← ring.capacity, ← c.capacity.ensures) (made_of c.take_run.new.taken c.in_ok-rest.rest _ _ c.capacity.result (length c.args.self.now.items - c.args.at) (rw ring.len c.take_run.ensures.taken) c.in_ok-rest.ensures.ok last)
 
--- src/ring/moves.rt:79:5
 pub returns-clause-kept : goal.returns-clause-kept
-returns-clause-kept g c = ?
+returns-clause-kept g c = closed _ _ (after g c)
