@@ -95,7 +95,7 @@ module _ {X : Type 0} where
   crosses_at ps p k gap held empty =
       let here : p < length ps = omega (arith, empty.0) in
       let rest : List (Option X) = take k (drop (p + 1) ps) ++ drop (p + (k + 1) + gap) ps in
-      let first : take (k + 1) (drop p ps) ≡ Some held.0 ∷ take k (drop (p + 1) ps) = ap (take (k + 1)) (drop_more ps p None here) ∙ rw add-one (ap (λ q. q ∷ take k (drop (p + 1) ps)) held.1) in
+      let first : take (k + 1) (drop p ps) ≡ Some held.0 ∷ take k (drop (p + 1) ps) = ap (take (k + 1)) (drop_more ps p None here) ∙ ap (λ n. take n (get_or ps p None ∷ drop (p + 1) ps)) (add-one k) ∙ ap (λ q. q ∷ take k (drop (p + 1) ps)) held.1 in
       let last : take (p + 1) ps ≡ take p ps ++ Some held.0 ∷ [] = take_more ps p None here ∙ ap (λ q. take p ps ++ q ∷ []) held.1 in
       let one : p + 1 + k ≡ p + (k + 1) = omega arith in
       record {
