@@ -3,7 +3,7 @@ use Rattle.std.proofs.Common.{◌≡◌, ◌≢◌, ℕ, zero, suc, ◌+◌, ◌
 use Rattle.std.proofs.lemmas.List.{length-append, length-map, length-set, append_assoc, get_or_append_left, get_or_at, set_at, set-append_left, map_push, replicate_more, replicate-append-replicate}
 use Rattle.arraydeque_ring.specs.Places.{held_at, IsEmpty}
 use Rattle.arraydeque_ring.specs.Ring.{place_of, turned}
-use Rattle.arraydeque_ring.proofs.Turned.{place_of-lt, length-turned, get_or-turned, turned-set}
+use Rattle.arraydeque_ring.proofs.TurnedOld.{place_of-lt, length-turned, get_or-turned, turned-set}
 use Rattle.arraydeque_ring.proofs.Filled.{and_empty, length-and_empty, LaidOut, laid_out}
 
 -- from the place t on, round the end, the places hold the items xs, then nothing at `gap` places, and then the items ys

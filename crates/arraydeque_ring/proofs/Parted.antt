@@ -7,10 +7,10 @@ use Rattle.arraydeque_ring.specs.Places.{Region, IsFilledRun}
 use Rattle.arraydeque_ring.specs.Gaps.{IsEmptyRun, runs_swapped, run_emptied}
 use Rattle.arraydeque_ring.specs.Ring.{RingState, place_of, turned}
 use Rattle.arraydeque_ring.specs.Steps.{Steps, more_puts, more_takes, more_moves}
-use Rattle.arraydeque_ring.proofs.Turned.{place_of-lt, length-turned}
+use Rattle.arraydeque_ring.proofs.TurnedOld.{place_of-lt, length-turned}
 use Rattle.arraydeque_ring.proofs.Filled.{and_empty, length-and_empty, laid_out, length_within}
 use Rattle.arraydeque_ring.proofs.Gapped.{gapped, length_parted, opens_before, opens_behind, gap_filled, item_taken, items_taken, closes_before, closed_before, closes_behind, length_closed}
-use Rattle.arraydeque_ring.proofs.Opened.{Opened}
+use Rattle.arraydeque_ring.proofs.OpenedFields.{Opened}
 
 -- the fields r hold the ring v, but for its items: they are xs and ys, with a gap of n places between them and k empty places behind
 pub record Parted {X : Type 0} (r : Inside X) (v : RingState X) (xs : List X) (n : ℕ) (ys : List X) (k : ℕ) : Type 0 where
