@@ -43,7 +43,9 @@ impl<T> Ring<T> {
         ensures start { self.new.start ≡ (if nat_lt index (length self.old.items - 1 - index) then place_of self.old.start 1 self.old.capacity else self.old.start) }
         ensures steps { self.new.steps ≡ more_moves (min index (length self.old.items - 1 - index)) (more_takes 1 self.old.steps) }
     {
-        let item = self.slots.take(wrap_add(self.start, index, self.slots.capacity()));
+        let item = self
+            .slots
+            .take(wrap_add(self.start, index, self.slots.capacity()));
         self.len -= 1;
         self.start = close_gap(&mut self.slots, self.start, index, 1, self.len - index);
         item
@@ -107,7 +109,13 @@ fn take_run<T>(slots: &mut Slots<T>, start: usize, at: usize, len: usize, taken:
 }
 
 /// Closes the `gap` empty places between the `before` values from the place `start` on and the `behind` values that follow the gap. The values on one side move: those before it where they are the fewer, else those behind it. The answer is the place where the list starts then.
-fn close_gap<T>(slots: &mut Slots<T>, start: usize, before: usize, gap: usize, behind: usize) -> usize
+fn close_gap<T>(
+    slots: &mut Slots<T>,
+    start: usize,
+    before: usize,
+    gap: usize,
+    behind: usize,
+) -> usize
     requires in_region { start < length slots.old.places }
     requires some { 0 < gap }
     requires filled_before { IsFilledRun (turned start slots.old.places) 0 before }

@@ -1,11 +1,9 @@
-use Rattle.std.proofs.Common.{◌≡◌, ◌+◌, ◌-◌, ◌<◌, ◌≤◌, length, take, drop, Fits, w64, min, nat_lt, if◌then◌else◌, refl, ap, ap₂, sym, ◌∙◌, arith}
+use Rattle.std.proofs.Common.{◌≡◌, ◌+◌, ◌-◌, ◌≤◌, length, take, drop, min, nat_lt, if◌then◌else◌, refl, ap, arith}
 use Rattle.std.specs.List.{insert}
 use Rattle.std.proofs.lemmas.Bool.{cond_below, cond_above}
-use Rattle.std.proofs.lemmas.List.{length-set, length-take-le, length-drop}
-use Rattle.std.proofs.lemmas.List.Edits.{length-insert}
+use Rattle.std.proofs.lemmas.List.{length-take-le}
 use Rattle.arraydeque_ring.specs.Ring.{RingState, place_of}
 use Rattle.arraydeque_ring.specs.Steps.{more_puts, more_moves}
-use Rattle.arraydeque_ring.proofs.Turned.{place_of-lt}
 use Rattle.arraydeque_ring.proofs.Gapped.{opens_behind, opens_before, gap_empty}
 use Rattle.arraydeque_ring.proofs.Parted.{Parted, parted_before, parted_behind, parted_within, gap_put}
 use Rattle.arraydeque_ring.proofs.Opened.{Opened, opened, closed, kept}
@@ -40,7 +38,7 @@ parted : (g : Over) (c : After-wrap_add g) → let old = c.args.self.now in let 
     Parted c.if-index-behind.self-inside
     record old {
       start = (if nat_lt c.args.index behind then place_of old.start (old.capacity - 1) old.capacity else old.start);
-      steps = more_moves (min c.args.index behind) old.steps
+      steps = more_moves (min c.args.index behind) old.steps;
     } (take c.args.index old.items) 1 (drop c.args.index old.items) (old.capacity - length old.items - 1)
 parted g c =
     let old = c.args.self.now in
@@ -74,7 +72,7 @@ after : (g : Over) (c : goal.After-self-2-1 g) → let old = c.args.self.now in 
       items = insert old.items c.args.index c.args.item;
       capacity = old.capacity;
       start = (if nat_lt c.args.index behind then place_of old.start (old.capacity - 1) old.capacity else old.start);
-      steps = more_puts 1 (more_moves (min c.args.index behind) old.steps)
+      steps = more_puts 1 (more_moves (min c.args.index behind) old.steps);
     }
 after g c =
     let at = (goal.at.invariant_of-self g c).After-wrap_add in

@@ -1,4 +1,4 @@
-use Rattle.std.proofs.Common.{◌≡◌, suc, ◌+◌, ◌-◌, ◌<◌, length, take, drop, min, nat_lt, if◌then◌else◌, ap, sym, ◌∙◌, arith}
+use Rattle.std.proofs.Common.{◌≡◌, suc, ◌-◌, length, take, drop, min, nat_lt, if◌then◌else◌, ap, sym, ◌∙◌, arith}
 use Rattle.std.specs.List.{remove}
 use Rattle.std.proofs.lemmas.List.{length-take-le, length-drop}
 use Rattle.arraydeque_ring.specs.Ring.{RingState, place_of}
@@ -60,7 +60,7 @@ after : (g : Over) (c : goal.After-self-2-1 g) → let old = c.args.self.now in 
       items = remove old.items c.args.index;
       capacity = old.capacity;
       start = (if nat_lt c.args.index behind then place_of old.start 1 old.capacity else old.start);
-      steps = more_moves (min c.args.index behind) (more_takes 1 old.steps)
+      steps = more_moves (min c.args.index behind) (more_takes 1 old.steps);
     }
 after g c =
     let ring = opened c.self.inside c.args.self.now c.self.invariant c.self.view_is in
