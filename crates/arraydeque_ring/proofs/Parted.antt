@@ -1,5 +1,5 @@
 -- What the fields of an open ring hold while there is a gap among its items.
-use Rattle.std.proofs.Common.{◌≡◌, ℕ, suc, ◌+◌, ◌-◌, ◌<◌, ◌≤◌, List, ◌∷◌, ◌++◌, length, map, take, drop, set, replicate, min, nat_lt, if◌then◌else◌, true, false, ◌⊎◌, inl, inr, Option, Some, None, refl, sym, ap, ◌∙◌, arith}
+use Rattle.std.proofs.Common.{◌≡◌, ℕ, suc, ◌+◌, ◌-◌, ◌<◌, ◌≤◌, List, ◌∷◌, ◌++◌, length, map, take, drop, set, replicate, min, nat_lt, if◌then◌else◌, true, false, inl, inr, Some, None, refl, sym, ap, ◌∙◌, arith}
 use Rattle.std.proofs.lemmas.Bool.{cases_lt, lt-ltb, le-ltb}
 use Rattle.std.proofs.lemmas.List.{length-append, length-set, length-take-le, length-drop, drop_all, replicate-append-replicate}
 use Rattle.arraydeque_ring.specs.declared.ring.Ring.TheInside.{Inside}
@@ -21,7 +21,6 @@ pub record Parted {X : Type 0} (r : Inside X) (v : RingState X) (xs : List X) (n
   pub start : r.start ≡ v.start
   pub steps : r.slots.steps ≡ v.steps
 
-<<<<<<< HEAD
 module _ {X : Type 0} (r : Inside X) (v : RingState X) (s : Region X) (i : ℕ) (o : Opened r v) (le : i ≤ length v.items) (room : length v.items < v.capacity) where
   -- the items before the index i moved to a start one place back
   pub parted_before : (t start : ℕ) (steps : Steps) → t ≡ place_of r.start (length r.slots.places - 1) (length r.slots.places)
@@ -39,12 +38,6 @@ module _ {X : Type 0} (r : Inside X) (v : RingState X) (s : Region X) (i : ℕ) 
         start = at ∙ rw (o.start, o.capacity) to_start;
         steps = counted ∙ ap (more_moves i) o.steps ∙ to_steps;
       }
-=======
-module _ {X : Type 0} where
-  -- the parts, the gap and what is left over make up the region
-  total : (ps : List (Option X)) (t : ℕ) (xs : List X) (gap : ℕ) (ys : List X) (k : ℕ) → turned t ps ≡ and_empty xs gap ++ and_empty ys k → length xs + gap + length ys + k ≡ length ps
-  total ps t xs gap ys k e = omega (arith, length-turned t ps, ap length e, length-append (and_empty xs gap) (and_empty ys k), length-and_empty xs gap, length-and_empty ys k)
->>>>>>> wip/edits
 
   -- those from the index i on moved one place on
   pub parted_behind : (start : ℕ) (steps : Steps)
@@ -62,15 +55,9 @@ module _ {X : Type 0} where
         steps = counted ∙ ap (more_moves (length v.items - i)) o.steps ∙ to_steps;
       }
 
-<<<<<<< HEAD
 -- there are as many places as items and gap
 pub parted_within : {X : Type 0} (r : Inside X) (v : RingState X) (xs ys : List X) (n k : ℕ) → Parted r v xs n ys k → r.len + n ≤ v.capacity
 parted_within r v xs ys n k p = omega (arith, p.len, p.capacity, length_parted r.slots.places r.start xs ys n k p.is)
-=======
-  -- so they fit in it
-  pub parted_within : (ps : List (Option X)) (t : ℕ) (xs : List X) (gap : ℕ) (ys : List X) → Parted ps t xs gap ys → length xs + gap + length ys ≤ length ps
-  parted_within ps t xs gap ys p = omega (arith, total ps t xs gap ys (length ps - length xs - gap - length ys) p.is)
->>>>>>> wip/edits
 
 -- an item fills the gap
 pub gap_put : {X : Type 0} (r : Inside X) (v : RingState X) (s : Region X) (xs ys : List X) (x : X) (i k : ℕ) → Parted r v xs 1 ys k → length xs ≡ i
@@ -123,7 +110,7 @@ module _ {X : Type 0} (r : Inside X) (v : RingState X) (s : Region X) (from n : 
   rest_out all =
       let k = length r.slots.places - length v.items in
       let kept : turned r.start s.places ≡ and_empty (take from v.items) (n + k) = emptied
-          ∙ ap (λ ys. gapped (take from v.items) n ys k) (drop_all (from + n) v.items (omega arith)) ∙ ap (λ l. map Some (take from v.items) ++ l) (replicate-append-replicate n k None) in
+      ∙ ap (λ ys. gapped (take from v.items) n ys k) (drop_all (from + n) v.items (omega arith)) ∙ ap (λ l. map Some (take from v.items) ++ l) (replicate-append-replicate n k None) in
       record {
         laid = laid_out s.places r.start (take from v.items) (n + k) (omega (arith, same_places, o.laid.in_region)) kept;
         len = length-take-le from v.items (omega arith);
