@@ -1,6 +1,6 @@
 -- A run of places that is emptied, one place after another.
 use Rattle.std.proofs.Common.{◌≡◌, ℕ, ◌+◌, ◌-◌, ◌<◌, ◌≤◌, List, [], ◌∷◌, ◌++◌, length, take, drop, set, get_or, replicate, Option, Some, None, refl, sym, ap, ap₂, ◌∙◌, arith}
-use Rattle.std.proofs.lemmas.List.{length-append, length-replicate, length-take-le, length-drop, append_assoc, get_or-drop, take_more, drop_more, take-append-drop, replicate_more}
+use Rattle.std.proofs.lemmas.List.{length-append, length-replicate, length-take-le, length-drop, append_assoc, get_or-drop, take_more, drop_more, replicate_more}
 use Rattle.arraydeque_ring.specs.Places.{held_at, IsFilled, IsFilledRun}
 use Rattle.arraydeque_ring.specs.Ring.{place_of, turned, values}
 use Rattle.arraydeque_ring.specs.Gaps.{run_emptied}
@@ -19,11 +19,7 @@ module _ {X : Type 0} where
   values-append (None ∷ ps) qs = values-append ps qs
   values-append (Some x ∷ ps) qs = ap (λ l. x ∷ l) (values-append ps qs)
 
-  -- nothing is out yet
-  pub none_out : (ps : List (Option X)) (at : ℕ) → ps ≡ run_emptied at 0 ps
-  none_out ps at = sym (take-append-drop at ps) ∙ ap (λ i. take at ps ++ drop i ps) (omega arith)
-
-  -- by the last place of the run
+  -- the same run, said by its end
   pub run_emptied-up_to : (ps : List (Option X)) (from end : ℕ) → from ≤ end → take from ps ++ replicate (end - from) None ++ drop end ps ≡ run_emptied from (end - from) ps
   run_emptied-up_to ps from end le = append_assoc (take from ps) (replicate (end - from) None) (drop end ps) ∙ ap (λ i. take from ps ++ (replicate (end - from) None ++ drop i ps)) (omega arith)
 

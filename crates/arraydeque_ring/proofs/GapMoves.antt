@@ -24,7 +24,7 @@ pub record Later {X : Type 0} (n t i gap m : ℕ) (ps : List (Option X)) (xs ys 
 
 module _ {X : Type 0} {n t : ℕ} {ws : List X} {gap : ℕ} {zs : List X} {ps : List (Option X)} (p : Gapped n t ws gap zs ps) where
   -- the first items behind the gap
-  pub goes_earlier : (xs ys : List X) → zs ≡ xs ++ ys → (i m : ℕ) → length ws ≡ i → length xs ≡ m → Earlier n t i gap m ps (ws ++ xs) ys
+  goes_earlier : (xs ys : List X) → zs ≡ xs ++ ys → (i m : ℕ) → length ws ≡ i → length xs ≡ m → Earlier n t i gap m ps (ws ++ xs) ys
   goes_earlier xs ys parts i m front many =
       let none : List (Option X) = replicate gap None in
       let rest = and_empty ys p.left in
@@ -44,7 +44,7 @@ module _ {X : Type 0} {n t : ℕ} {ws : List X} {gap : ℕ} {zs : List X} {ps : 
       }
 
   -- the last items before the gap
-  pub goes_later : (xs ys : List X) → ws ≡ xs ++ ys → (i m : ℕ) → length xs ≡ i → length ys ≡ m → Later n t i gap m ps xs (ys ++ zs)
+  goes_later : (xs ys : List X) → ws ≡ xs ++ ys → (i m : ℕ) → length xs ≡ i → length ys ≡ m → Later n t i gap m ps xs (ys ++ zs)
   goes_later xs ys parts i m front many =
       let none : List (Option X) = replicate gap None in
       let rest = and_empty zs p.left in

@@ -1,4 +1,4 @@
--- Items in two parts, with a gap of empty places between them: how a gap comes about, moves and closes.
+-- Items in two parts, with a gap of empty places between them: how it comes about, is filled and ends.
 use Rattle.std.proofs.Common.{◌≡◌, ℕ, zero, suc, ◌+◌, ◌-◌, ◌<◌, ◌≤◌, List, [], ◌∷◌, ◌++◌, map, length, take, drop, set, get_or, replicate, Option, Some, None, sym, ap, ap₂, ◌∙◌, subst, arith}
 use Rattle.std.proofs.lemmas.List.{length-append, length-map, length-replicate, length-take-le, length-drop, append_assoc, map_push, set_at, set_split, get_or_at, drop-drop, drop-append-le, replicate-append-replicate}
 use Rattle.arraydeque_ring.specs.Places.{held_at, IsEmpty}
@@ -30,7 +30,7 @@ module _ {X : Type 0} {n t : ℕ} {xs : List X} {ps : List (Option X)} (l : Laid
   pub Gapped-none : Gapped n t [] 0 xs ps
   Gapped-none = record { left = n - length xs; all = omega (arith, length_within l); in_region = l.in_region; is = l.is }
 
-  -- one of one place behind the items
+  -- a gap of one place behind the items
   pub Gapped-behind : length xs < n → Gapped n t xs 1 [] ps
   Gapped-behind room =
       let one : n - length xs ≡ suc (n - length xs - 1) = omega arith in
@@ -116,7 +116,7 @@ module _ {X : Type 0} {n t : ℕ} {xs ys : List X} {ps : List (Option X)} where
   )
 
   -- an item put there
-  pub Gapped-put : {gap : ℕ} (i : ℕ) (x : X) → Gapped n t xs (suc gap) ys ps → length xs ≡ i → Gapped n t (xs ++ x ∷ []) gap ys (set ps (place_of t i n) (Some x))
+  Gapped-put : {gap : ℕ} (i : ℕ) (x : X) → Gapped n t xs (suc gap) ys ps → length xs ≡ i → Gapped n t (xs ++ x ∷ []) gap ys (set ps (place_of t i n) (Some x))
   Gapped-put {gap} i x p front =
       let rest = replicate gap None ++ and_empty ys p.left in
       record {

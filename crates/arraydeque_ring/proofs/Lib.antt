@@ -13,6 +13,7 @@ pub mod Lent
 pub mod Opened
 pub mod Owned
 pub mod Regions
+pub mod Retaining
 pub mod Runs
 pub mod Sharing
 pub mod Swapped

@@ -1,6 +1,5 @@
 -- A list read from an index on, round its end.
-use Rattle.std.proofs.Common.{◌≡◌, ℕ, zero, suc, ◌+◌, ◌-◌, ◌%◌, ◌<◌, ◌≤◌, ◌⊎◌, inl, inr, List, ◌++◌, map, length, take, drop, set, get_or, replicate, sym, ap, ap₂, ◌∙◌, arith}
-use Rattle.std.specs.Prelude.{◌==◌}
+use Rattle.std.proofs.Common.{◌≡◌, ℕ, zero, suc, ◌+◌, ◌-◌, ◌%◌, ◌<◌, ◌≤◌, ◌⊎◌, ◌==◌, inl, inr, List, ◌++◌, map, length, take, drop, set, get_or, replicate, sym, ap, ap₂, ◌∙◌, arith}
 use Rattle.std.proofs.Math.Nat.{mod-eq_of_lt, mod-eq-sub-mod, add-mod-mod, mod-add-mod, add_assoc}
 use Rattle.std.proofs.lemmas.Bool.{cases_lt, cases_eq, eq-eqb, ne_eqb}
 use Rattle.std.proofs.lemmas.List.{length-append, length-take, length-drop, length-set, get_or_append_left, get_or-append_right, get_or-drop, get_or-take, get_or-set_same, get_or-set_other, same_lists, take_at, drop_at, map-append, drop-map, take-map, take-append-drop, take-replicate, drop-replicate, replicate-append-replicate}
@@ -23,11 +22,11 @@ place_of-zero t zero le = let none : t ≡ 0 = omega arith in ap (λ m. place_of
 place_of-zero t (suc n) le = mod-eq_of_lt (omega arith) ∙ omega arith
 
 -- to go on by k and then by i is to go on by both, round the end
-pub place_of-place_of : (t k i n : ℕ) → place_of (place_of t k n) i n ≡ place_of t (place_of k i n) n
+place_of-place_of : (t k i n : ℕ) → place_of (place_of t k n) i n ≡ place_of t (place_of k i n) n
 place_of-place_of t k i n = mod-add-mod (t + k) n i ∙ ap (λ m. m % n) (add_assoc t k i) ∙ sym (add-mod-mod t (k + i) n)
 
 -- two indexes have two places
-pub same_index : (t i j n : ℕ) → t ≤ n → i < n → j < n → place_of t i n ≡ place_of t j n → i ≡ j
+same_index : (t i j n : ℕ) → t ≤ n → i < n → j < n → place_of t i n ≡ place_of t j n → i ≡ j
 same_index t i j n a b c e = elim (place_of_cases t i n (omega arith)) [
   | inl x ↦ elim (place_of_cases t j n (omega arith)) [ inl y ↦ omega arith | inr y ↦ omega arith ]
   | inr x ↦ elim (place_of_cases t j n (omega arith)) [ inl y ↦ omega arith | inr y ↦ omega arith ]
