@@ -2,19 +2,19 @@
 pub use mathlib.Core.Path.{◌≡◌, refl, sym, ap, subst, ◌∙◌}
 pub use mathlib.Core.Bool.{Bool, true, false}
 pub use mathlib.Core.List.{List, [], ◌∷◌, ◌++◌, map}
-pub use Prim.Native.Nat.{ℕ, zero, suc, ◌+◌, ◌-◌, ◌*◌, ◌<◌, ◌≤◌, ◌^◌}
+pub use Prim.Native.Nat.{ℕ, zero, suc, ◌+◌, ◌*◌, ◌<◌, ◌≤◌, ◌^◌}
 pub use native.Mathlib.Omega.{arith}
 pub use native.Mathlib.Nat.{zero-mul, suc-mul}
 pub use lib.Dec.{T, lit<}
 pub use lib.ListN.{length, take, drop as drop_list, set, get_or, replicate, take-append-drop, length-take, length-drop, length-map, length-set, length-replicate}
-pub use lib.Seq.{drop-cons, drop-drop, set_split}
+pub use lib.Seq.{drop-cons, set_split}
 pub use Rattle.std.specs.Prelude.{Option, Some, None, Ok, Err}
 pub use Rattle.std.specs.Mem.{type_size}
 pub use seplogic.Ra.Ura.{Ura}
 pub use base.Fraction.{full_share}
 pub use base.Stored.{Gv}
 pub use base.Logic.{SProp, ent, sep, emp, ex, guard, guard_i, wand, via, id⊢, never, snd∗, mono_r}
-pub use base.Fml.{Lft, Share, GName, Fml, ftrue, fsep, fat, froom, flt, flft, fobs, fauth, fbor, fobor, fhide}
+pub use base.Fml.{Lft, Share, GName, Fml, ftrue, fsep, fat, froom, flft, fobs, fauth, fbor, fobor, fhide}
 pub use mir.Syntax.{Fn, Body, Ty, named, w64, ty_array, ty_ptr, ty_unit}
 pub use mir.MapTy.{inst_fn}
 pub use mir.Val.{Val, vunit, vint, vptr, vstruct, vcons, vnil, of_list, has_ty, WT}
@@ -34,10 +34,10 @@ pub use types.Run.{enter, of_opd, lit, unit_lit, size_word, align_word, size_lit
 pub use types.ByLocal.{alloc_all, pass_all, free_all, look_at, get, get_in, get_tag, through, sets, sets_last, lands_as, lands_last, is, env}
 pub use denote.Exit.{yes, no}
 pub use denote.RattleType.{RattleType, Valss, owns}
-pub use denote.Laws.{Is, shows, Typed}
+pub use denote.Laws.{Is, shows}
 pub use denote.Param.{param, layout}
 pub use denote.Param.Laws.{Laws, param_laws}
-pub use denote.Memory.{lone, part_at, cell_at, hidden_shr, mem}
+pub use denote.Memory.{part_at, cell_at, hidden_shr, mem}
 pub use denote.Plain.{uint_vals, uint_Tells}
 pub use denote.RawPtr.{Ptr, RawPtr, block_ptr, null_ptr, ptr_val, in_a_block}
 pub use denote.Ref.{shr_vals, shr_Tells}
@@ -54,7 +54,7 @@ pub use Rattle.std.proofs.Handle.{heap_val, heap_Tells}
 pub use Rattle.std.proofs.RawLayout.{as_written, as_raw}
 pub use Rattle.std.proofs.RcSteps.{Good, first_Good}
 pub use Rattle.std.proofs.VecSteps.Shapes.{after, head, arm_body}
-pub use Rattle.std.proofs.mem.Facts.{says_two, says_three}
+pub use Rattle.std.proofs.mem.Facts.{says_two}
 pub use Rattle.std.proofs.mem.Param.{El, R, args, el_x, elτ, lawful, one}
 pub use Rattle.std.proofs.ptr.Rows.{times_below, one_below}
 pub use Rattle.std.proofs.raw_atomic.Walks.{proved, proved_at}

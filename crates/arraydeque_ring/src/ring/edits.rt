@@ -81,7 +81,8 @@ impl<T> Ring<T> {
         let mut kept = 0;
         for index in 0..len {
             let place = wrap_add(start, index, capacity);
-            if f(slots.get(place)) {
+            let keeps = f(slots.get(place));
+            if keeps {
                 settle(slots, wrap_add(start, kept, capacity), place);
                 kept += 1;
             } else {

@@ -9,7 +9,7 @@ use Rattle.arraydeque_ring.proofs.Retaining.{none_asked, next_filled, room_for_n
 use Rattle.arraydeque_ring.proofs.Opened.{Opened, opened, closed, kept}
 use Rattle.arraydeque_ring.proofs.ring.Ring.retain.Given.{Over}
 use Rattle.arraydeque_ring.proofs.ring.Ring.retain.Goals as goal
-use Rattle.arraydeque_ring.proofs.ring.Ring.retain.Goals.{then-f, else-f}
+use Rattle.arraydeque_ring.proofs.ring.Ring.retain.Goals.{then-keeps, else-keeps}
 
 pub loop-index-init : goal.loop-index-init
 loop-index-init g c =
@@ -49,16 +49,16 @@ loop-index-preserved g c =
     let ring = opened c.self.inside c.self.invariant c.self.view_is in
     let so_far = c.loop-index.invariant.so_far in
     let held = rw c.wrap_add-place.ensures at c.get.ensures in
-    let said = called_at g.F.FnMut c.f.ensures refl in
-    let answered : Bool → Type 0 = λ b. CalledAt g.F.FnMut c.loop-index.f c.get.result.now b c.f.new.self in
-    elim c.if-f.branch [
-      | then-f w ↦ record {
+    let said = called_at g.F.FnMut c.f-keeps.ensures refl in
+    let answered : Bool → Type 0 = λ b. CalledAt g.F.FnMut c.loop-index.f c.get.result.now b c.f-keeps.new.self in
+    elim c.if-keeps.branch [
+      | then-keeps w ↦ record {
         callable = search of_calls;
-        so_far = rw (w.slots-is, w.kept-is, w.settle.ensures.places, w.settle.ensures.steps, w.wrap_add.ensures, c.wrap_add-place.ensures) (one_stays so_far (omega arith) _ _ held (subst answered w.if-f.true said));
+        so_far = rw (w.slots-is, w.kept-is, w.settle.ensures.places, w.settle.ensures.steps, w.wrap_add.ensures, c.wrap_add-place.ensures) (one_stays so_far (omega arith) _ _ held (subst answered w.if-keeps.true said));
       }
-      | else-f w ↦ record {
+      | else-keeps w ↦ record {
         callable = search of_calls;
-        so_far = rw (w.slots-is, w.kept-is, w.take.ensures.places, w.take.ensures.steps, c.wrap_add-place.ensures) (one_goes so_far (omega arith) _ _ held (subst answered w.if-f.false said));
+        so_far = rw (w.slots-is, w.kept-is, w.take.ensures.places, w.take.ensures.steps, c.wrap_add-place.ensures) (one_goes so_far (omega arith) _ _ held (subst answered w.if-keeps.false said));
       }
     ]
 
