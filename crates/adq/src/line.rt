@@ -10,7 +10,8 @@ use std::str::FromStr;
 
 /// The calls that the lines of `text` name, in order.
 ///
-/// A line ends at a line feed or at the end of the text, and one carriage return before that end is no part of it. A line without words names no call.
+/// A line ends at a line feed or at the end of the text, and one carriage return before that end is
+/// no part of it. A line without words names no call.
 pub fn calls(alloc: Global, text: &[u8]) -> Result<Vec<Call<i64>>, Fault> {
     let mut calls = Vec::new(alloc);
     for (index, line) in text.split(|byte| *byte == b'\n').enumerate() {
@@ -137,7 +138,8 @@ impl<'a> Line<'a> {
     }
 }
 
-/// The decimal number that a word is, if it is within the range of its type. `parse` alone would take a `+` before it.
+/// The decimal number that a word is, if it is within the range of its type. `parse` alone would
+/// take a `+` before it.
 fn number_of<N: FromStr>(word: &str) -> Option<N>
 where
     N::Err: Drop,

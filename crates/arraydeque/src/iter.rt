@@ -6,7 +6,8 @@ use arraydeque_ring::ring::Ring;
 use std::iter::FusedIterator;
 use std::marker::Model;
 
-/// The items that a drain took out, front to back or back to front. It owns them, and drops those that are not taken.
+/// The items that a drain took out, front to back or back to front. It owns them, and drops those
+/// that are not taken.
 #[derive(Drop)]
 pub struct Drain<T> {
     ring: Ring<T>,

@@ -1,4 +1,5 @@
-//! A double-ended queue of fixed capacity in one ring, with a policy for what a push into a full one does.
+//! A double-ended queue of fixed capacity in one ring, with a policy for what a push into a full
+//! one does.
 #![tactic(auto)]
 
 pub mod behavior;
