@@ -1,6 +1,6 @@
 //! The smallest and the largest capacities, and items of size zero.
 use crate::build::holds;
-use arraydeque::{ArrayDeque, Saturating};
+use arraydeque::{ArrayDeque, Saturating, Wrapping};
 use arraydeque_ring::ring::Ring;
 use arraydeque_ring::slots::Slots;
 use std::alloc::{AllocError, Global};
@@ -27,6 +27,10 @@ fn capacity_zero_is_empty_and_full(rt: HostRuntime) -> Result<(), Fail> {
     assert_eq!(rt; (deque.pop_front(), deque.pop_back()), (None, None));
     assert_eq!(rt; (deque.len(), deque.capacity()), (0, 0));
     assert!(rt; deque.is_empty());
+    drop(deque);
+    let mut deque = ArrayDeque::<i64, 0, Wrapping>::new(rt.alloc())?;
+    assert_eq!(rt; (deque.push_back(5), deque.push_front(6)), (Some(5), Some(6)));
+    assert_eq!(rt; deque.as_slices(), ([].as_slice(), [].as_slice()));
     drop(deque);
     let ring = Ring::<i64>::new(rt.alloc(), 0)?;
     assert_eq!(rt; (ring.len(), ring.capacity(), ring.get(0)), (0, 0, None));

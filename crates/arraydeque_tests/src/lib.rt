@@ -2,6 +2,10 @@
 #![tactic(auto)]
 
 #[cfg(test)]
+mod access;
+#[cfg(test)]
+mod asked;
+#[cfg(test)]
 mod build;
 #[cfg(test)]
 mod capacities;
@@ -10,6 +14,12 @@ mod drops;
 #[cfg(test)]
 mod ends;
 #[cfg(test)]
+mod extends;
+#[cfg(test)]
+mod makers;
+#[cfg(test)]
 mod places;
+#[cfg(test)]
+mod refusals;
 #[cfg(test)]
 mod runs;

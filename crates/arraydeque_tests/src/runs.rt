@@ -11,10 +11,12 @@ use std::test::Fail;
 enum Answer {
     Done,
     Item(Option<i64>),
+    Displaced(Option<i64>),
     Number(usize),
     Truth(bool),
     Split(Vec<i64>),
     Full(i64),
+    OutOfRange(Option<i64>),
 }
 
 fn answers<const CAP: usize, B: Behavior>(
@@ -26,10 +28,12 @@ fn answers<const CAP: usize, B: Behavior>(
         answers.push(match reply {
             Reply::Done => Answer::Done,
             Reply::Item(item) => Answer::Item(item),
+            Reply::Displaced(item) => Answer::Displaced(item),
             Reply::Number(number) => Answer::Number(number),
             Reply::Truth(truth) => Answer::Truth(truth),
             Reply::Split(deque) => Answer::Split(list_of(alloc, &deque)?),
             Reply::Full(refusal) => Answer::Full(refusal.element),
+            Reply::OutOfRange(element) => Answer::OutOfRange(element),
         })?;
     }
     Ok(answers)

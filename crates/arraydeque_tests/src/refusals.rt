@@ -1,0 +1,55 @@
+//! What comes back where memory is refused. Each test holds whichever request is refused, and also where none is.
+use crate::build::{deque_at, holds};
+use arraydeque::{ArrayDeque, Saturating, Wrapping};
+use std::test::Fail;
+
+#[test]
+fn a_refused_iterator_comes_back(rt: HostRuntime) -> Result<(), Fail> {
+    match ArrayDeque::<i64, 3, Saturating>::from_iter(rt.alloc(), 1..5) {
+        Ok(deque) => assert!(rt; holds(&deque, &[1, 2, 3])),
+        Err(mut refusal) => assert_eq!(rt; refusal.source.next(), Some(1)),
+    }
+    match ArrayDeque::<i64, 3, Wrapping>::from_iter(rt.alloc(), 1..5) {
+        Ok(deque) => assert!(rt; holds(&deque, &[2, 3, 4])),
+        Err(mut refusal) => assert_eq!(rt; refusal.source.next(), Some(1)),
+    }
+    Ok(())
+}
+
+#[test]
+fn a_refused_array_comes_back(rt: HostRuntime) -> Result<(), Fail> {
+    match ArrayDeque::<i64, 3, Saturating>::from_array(rt.alloc(), [1, 2, 3, 4]) {
+        Ok(deque) => assert!(rt; holds(&deque, &[1, 2, 3])),
+        Err(refusal) => assert_eq!(rt; refusal.source, [1, 2, 3, 4]),
+    }
+    match ArrayDeque::<i64, 3, Wrapping>::from_array(rt.alloc(), [1, 2, 3, 4]) {
+        Ok(deque) => assert!(rt; holds(&deque, &[2, 3, 4])),
+        Err(refusal) => assert_eq!(rt; refusal.source, [1, 2, 3, 4]),
+    }
+    Ok(())
+}
+
+#[test]
+fn a_refused_vector_comes_back(rt: HostRuntime) -> Result<(), Fail> {
+    let list = vec![in rt.alloc(); 1, 2, 3, 4]?;
+    match ArrayDeque::<i64, 3, Saturating>::from_vec(rt.alloc(), list) {
+        Ok(deque) => assert!(rt; holds(&deque, &[1, 2, 3])),
+        Err(refusal) => assert_eq!(rt; refusal.source.as_slice(), [1, 2, 3, 4].as_slice()),
+    }
+    let list = vec![in rt.alloc(); 1, 2, 3, 4]?;
+    match ArrayDeque::<i64, 3, Wrapping>::from_vec(rt.alloc(), list) {
+        Ok(deque) => assert!(rt; holds(&deque, &[2, 3, 4])),
+        Err(refusal) => assert_eq!(rt; refusal.source.as_slice(), [1, 2, 3, 4].as_slice()),
+    }
+    Ok(())
+}
+
+#[test]
+fn a_refused_deque_comes_back(rt: HostRuntime) -> Result<(), Fail> {
+    let deque = deque_at::<3>(rt.alloc(), 2, &[2, 3, 4])?;
+    match deque.into_vec() {
+        Ok(list) => assert_eq!(rt; list.as_slice(), [2, 3, 4].as_slice()),
+        Err(refusal) => assert!(rt; holds(&refusal.source, &[2, 3, 4])),
+    }
+    Ok(())
+}
