@@ -1,5 +1,6 @@
 -- What a contract sees of a deque.
 use Rattle.std.specs.Prelude.{ℕ, ◌-◌, List, [], length, drop, slice_get, Option}
+use Rattle.arraydeque_ring.specs.Ring.{RingState}
 use Rattle.arraydeque_ring.specs.Steps.{Steps, no_steps}
 
 -- a deque: its items from front to back, the place of the first in its region, and the steps of that region
@@ -11,6 +12,10 @@ pub record DequeState (X : Type 0) : Type 0 where
 module _ {X : Type 0} where
   abbrev pub empty_deque : DequeState X
   empty_deque = record { items = []; start = 0; steps = no_steps }
+
+  -- the deque of capacity n as the ring that it is
+  abbrev pub as_ring : ℕ → DequeState X → RingState X
+  as_ring n deque = record { items = deque.items; capacity = n; start = deque.start; steps = deque.steps }
 
   -- the last n items, or all if there are fewer
   abbrev pub keep_last : ℕ → List X → List X

@@ -1,12 +1,13 @@
 -- The plain list machine: what one call answers, and what list it leaves.
-use Rattle.std.specs.Prelude.{◌≡◌, ℕ, ◌-◌, List, [], ◌∷◌, ◌++◌, length, take, drop, reverse, slice_get, slice_set, Option, Some, None, Bool, nat_lt, eqb}
+use Rattle.std.specs.Prelude.{◌≡◌, ℕ, ◌-◌, List, [], ◌∷◌, ◌++◌, length, take, drop, reverse, slice_get, slice_set, slice_range, insert, remove, Option, Some, None, Bool, true, ◌&&◌, nat_lt, nat_le, eqb, if◌then◌else◌, ◌⊎◌}
 use Rattle.std.specs.Bool.{MatchBool}
+use Rattle.std.specs.List.{swap, remove_range}
 use Rattle.arraydeque.specs.Deque.{keep_last, last_item}
 use Rattle.arraydeque.specs.Policy.{Policy, saturating, wrapping}
 use Rattle.arraydeque.specs.declared.run.Call.{Call}
-use Rattle.arraydeque.specs.declared.run.Call.TheVariants.{PushFront, PushBack, PopFront, PopBack, Replace, ExtendBack, ExtendFront, Extend, Len, Capacity, IsEmpty, IsFull}
+use Rattle.arraydeque.specs.declared.run.Call.TheVariants.{PushFront, PushBack, PopFront, PopBack, Insert, Remove, SwapRemoveBack, SwapRemoveFront, Swap, Replace, Clear, ExtendBack, ExtendFront, Extend, Drain, SplitOff, Len, Capacity, IsEmpty, IsFull}
 use Rattle.arraydeque.specs.declared.run.Reply.{Reply}
-use Rattle.arraydeque.specs.declared.run.Reply.TheVariants.{Done, Item, Displaced, Number, Truth, Split, Full, OutOfRange}
+use Rattle.arraydeque.specs.declared.run.Reply.TheVariants.{Done, Item, Displaced, Number, Truth, Drained, Split, Full, OutOfRange, NoMemory, NotOffered}
 
 -- a reply as the list machine gives it, with a list in place of what owns items
 pub data Answer (X : Type 0) : Type 0 where
@@ -15,9 +16,12 @@ pub data Answer (X : Type 0) : Type 0 where
   displaced : Option X → Answer X
   number : ℕ → Answer X
   truth : Bool → Answer X
+  drained : List X → Answer X
   split : List X → Answer X
   full : X → Answer X
   out_of_range : Option X → Answer X
+  no_memory : Answer X
+  not_offered : X → Answer X
 
 module _ {X : Type 0} where
   abbrev pub answer_of : {n : ℕ} {B : Type 0} → Reply X n B → Answer X
@@ -26,9 +30,12 @@ module _ {X : Type 0} where
   answer_of (Displaced given_up) = displaced given_up
   answer_of (Number n) = number n
   answer_of (Truth b) = truth b
+  answer_of (Drained items) = drained items
   answer_of (Split deque) = split deque.items
   answer_of (Full refusal) = full refusal.element
   answer_of (OutOfRange element) = out_of_range element
+  answer_of NoMemory = no_memory
+  answer_of (NotOffered element) = not_offered element
 
   -- the call answers a and leaves the list l
   abbrev pub Gives : Answer X → List X → Answer X → List X → Type 0
@@ -42,6 +49,15 @@ module _ {X : Type 0} where
   -- P where the indexes are in range, and else a refusal that hands the element back and leaves l
   abbrev pub InRange : Bool → Option X → List X → (Answer X → List X → Type 0) → Answer X → List X → Type 0
   InRange in_range element l P answer left = MatchBool in_range (P answer left) (Gives (out_of_range element) l answer left)
+
+  -- P, or a refusal for memory that leaves l, which can come only where the call asks for memory
+  abbrev pub OrNoMemory : Bool → List X → (Answer X → List X → Type 0) → Answer X → List X → Type 0
+  OrNoMemory asks l P answer left = P answer left ⊎ ((asks ≡ true) × Gives no_memory l answer left)
+
+  -- an insert of x at i, which saturating alone offers
+  abbrev pub Inserts : Policy → Bool → List X → ℕ → X → Answer X → List X → Type 0
+  Inserts saturating room l i x answer left = InRange (nat_le i (length l)) (Some x) l (Pushes saturating room l x (insert l i x) None []) answer left
+  Inserts wrapping room l i x answer left = Gives (not_offered x) l answer left
 
   -- the list after items xs were added behind l: saturating adds while there is room, and wrapping keeps the last n
   abbrev pub extended_back : Policy → ℕ → List X → List X → List X
@@ -57,6 +73,7 @@ module _ {X : Type 0} where
   abbrev pub IsAlike : Call X → Type 0
   IsAlike (PushFront x) = ⊥
   IsAlike (PushBack x) = ⊥
+  IsAlike (Insert i x) = ⊥
   IsAlike (ExtendBack v) = ⊥
   IsAlike (ExtendFront v) = ⊥
   IsAlike _ = Unit {0}
@@ -67,10 +84,18 @@ module _ {X : Type 0} where
   Step p n l (PushBack x) answer left = Pushes p (nat_lt (length l) n) l x (l ++ x ∷ []) (slice_get (l ++ x ∷ []) 0) (keep_last n (l ++ x ∷ [])) answer left
   Step p n l PopFront answer left = Gives (item (slice_get l 0)) (drop 1 l) answer left
   Step p n l PopBack answer left = Gives (item (last_item l)) (take (length l - 1) l) answer left
+  Step p n l (Insert i x) answer left = Inserts p (nat_lt (length l) n) l i x answer left
+  Step p n l (Remove i) answer left = Gives (item (slice_get l i)) (remove l i) answer left
+  Step p n l (SwapRemoveBack i) answer left = Gives (item (slice_get l i)) (if nat_lt i (length l) then take (length l - 1) (swap l i (length l - 1)) else l) answer left
+  Step p n l (SwapRemoveFront i) answer left = Gives (item (slice_get l i)) (if nat_lt i (length l) then drop 1 (swap l i 0) else l) answer left
+  Step p n l (Swap i j) answer left = InRange (nat_lt i (length l) && nat_lt j (length l)) None l (Gives done (swap l i j)) answer left
   Step p n l (Replace i x) answer left = InRange (nat_lt i (length l)) (Some x) l (Gives (item (slice_get l i)) (slice_set l i x)) answer left
+  Step p n l Clear answer left = Gives done [] answer left
   Step p n l (ExtendBack v) answer left = Gives done (extended_back p n l v.items) answer left
   Step p n l (ExtendFront v) answer left = Gives done (extended_front p n l v.items) answer left
   Step p n l (Extend v) answer left = Gives done (extended_back saturating n l v.items) answer left
+  Step p n l (Drain s e) answer left = InRange (nat_le s e && nat_le e (length l)) None l (OrNoMemory (nat_lt s e) l (Gives (drained (slice_range l s e)) (remove_range l s e))) answer left
+  Step p n l (SplitOff at) answer left = InRange (nat_le at (length l)) None l (OrNoMemory (nat_lt 0 n) l (Gives (split (drop at l)) (take at l))) answer left
   Step p n l Len answer left = Gives (number (length l)) l answer left
   Step p n l Capacity answer left = Gives (number n) l answer left
   Step p n l IsEmpty answer left = Gives (truth (eqb (length l) 0)) l answer left

@@ -4,8 +4,11 @@
 pub mod behavior;
 mod deque;
 mod error;
+pub mod iter;
+mod range;
 pub mod run;
 
 pub use behavior::{Saturating, Wrapping};
 pub use deque::ArrayDeque;
 pub use error::{CapacityError, MakeError};
+pub use range::RangeArgument;

@@ -7,6 +7,7 @@ ghost use Rattle.arraydeque.specs.Run.{Run};
 use crate::behavior::{Behavior, Saturating, Wrapping};
 use crate::deque::ArrayDeque;
 use crate::error::{CapacityError, MakeError};
+use crate::iter::Drain;
 use std::mem;
 
 /// A call of a deque, as a value.
@@ -20,14 +21,30 @@ pub enum Call<T> {
     PopFront,
     /// Takes the last item off.
     PopBack,
+    /// Adds an item before the one at an index.
+    Insert(usize, T),
+    /// Takes out the item at an index.
+    Remove(usize),
+    /// Takes out the item at an index, and puts the last one in its place.
+    SwapRemoveBack(usize),
+    /// Takes out the item at an index, and puts the first one in its place.
+    SwapRemoveFront(usize),
+    /// Exchanges two items.
+    Swap(usize, usize),
     /// Puts an item in the place of another.
     Replace(usize, T),
+    /// Drops every item.
+    Clear,
     /// Adds items at the back, in order.
     ExtendBack(Vec<T>),
     /// Adds items at the front, one by one.
     ExtendFront(Vec<T>),
     /// Adds items at the back while there is room.
     Extend(Vec<T>),
+    /// Takes out the items from an index up to another.
+    Drain(usize, usize),
+    /// Cuts off the items from an index on.
+    SplitOff(usize),
     /// How many items there are.
     Len,
     /// How many items there may be.
@@ -51,12 +68,18 @@ pub enum Reply<T, const CAP: usize, B: Behavior> {
     Number(usize),
     /// Yes or no.
     Truth(bool),
+    /// The items that were taken out.
+    Drained(Drain<T>),
     /// The part that was cut off.
     Split(ArrayDeque<T, CAP, B>),
     /// A push into a full deque. The element comes back, and the list is as it was.
     Full(CapacityError<T>),
     /// An index that is not there. The element comes back, if the call had one, and the list is as it was.
     OutOfRange(Option<T>),
+    /// Memory was refused, and the list is as it was.
+    NoMemory,
+    /// The policy offers no insert. The element comes back, and the list is as it was.
+    NotOffered(T),
 }
 
 impl<T: Drop, const CAP: usize> ArrayDeque<T, CAP, Saturating> {
@@ -95,6 +118,15 @@ impl<T: Drop, const CAP: usize> ArrayDeque<T, CAP, Saturating> {
                 Ok(()) => Reply::Done,
                 Err(refusal) => Reply::Full(refusal),
             },
+            Call::Insert(index, element) => {
+                if index > self.len() {
+                    return Reply::OutOfRange(Some(element));
+                }
+                match self.insert(index, element) {
+                    Ok(()) => Reply::Done,
+                    Err(refusal) => Reply::Full(refusal),
+                }
+            }
             Call::ExtendBack(elements) => {
                 self.extend_back(elements);
                 Reply::Done
@@ -138,6 +170,7 @@ impl<T: Drop, const CAP: usize> ArrayDeque<T, CAP, Wrapping> {
         match call {
             Call::PushFront(element) => Reply::Displaced(self.push_front(element)),
             Call::PushBack(element) => Reply::Displaced(self.push_back(element)),
+            Call::Insert(_, element) => Reply::NotOffered(element),
             Call::ExtendBack(elements) => {
                 self.extend_back(elements);
                 Reply::Done
@@ -160,21 +193,56 @@ impl<T: Drop, const CAP: usize, B: Behavior> ArrayDeque<T, CAP, B> {
         match call {
             Call::PopFront => Reply::Item(self.pop_front()),
             Call::PopBack => Reply::Item(self.pop_back()),
+            Call::Remove(index) => Reply::Item(self.remove(index)),
+            Call::SwapRemoveBack(index) => Reply::Item(self.swap_remove_back(index)),
+            Call::SwapRemoveFront(index) => Reply::Item(self.swap_remove_front(index)),
+            Call::Swap(i, j) => {
+                let len = self.len();
+                if i >= len || j >= len {
+                    return Reply::OutOfRange(None);
+                }
+                self.swap(i, j);
+                Reply::Done
+            }
             Call::Replace(index, element) => match self.get_mut(index) {
                 Some(item) => Reply::Item(Some(mem::replace(item, element))),
                 None => Reply::OutOfRange(Some(element)),
             },
+            Call::Clear => {
+                self.clear();
+                Reply::Done
+            }
             Call::Extend(elements) => {
                 self.fill_back(elements);
                 Reply::Done
+            }
+            Call::Drain(start, end) => {
+                if start > end || end > self.len() {
+                    return Reply::OutOfRange(None);
+                }
+                match self.drain(start..end) {
+                    Ok(drained) => Reply::Drained(drained),
+                    Err(_) => Reply::NoMemory,
+                }
+            }
+            Call::SplitOff(at) => {
+                if at > self.len() {
+                    return Reply::OutOfRange(None);
+                }
+                match self.split_off(at) {
+                    Ok(tail) => Reply::Split(tail),
+                    Err(_) => Reply::NoMemory,
+                }
             }
             Call::Len => Reply::Number(self.len()),
             Call::Capacity => Reply::Number(self.capacity()),
             Call::IsEmpty => Reply::Truth(self.is_empty()),
             Call::IsFull => Reply::Truth(self.is_full()),
-            Call::PushFront(_) | Call::PushBack(_) | Call::ExtendBack(_) | Call::ExtendFront(_) => {
-                unreachable!()
-            }
+            Call::PushFront(_)
+            | Call::PushBack(_)
+            | Call::Insert(_, _)
+            | Call::ExtendBack(_)
+            | Call::ExtendFront(_) => unreachable!(),
         }
     }
 }

@@ -9,6 +9,7 @@ ghost use Rattle.arraydeque_ring.specs.Ring.{empty_ring, place_of};
 ghost use Rattle.arraydeque_ring.specs.Steps.{more_puts, more_takes};
 
 mod edits;
+mod moves;
 
 use crate::slots::Slots;
 use crate::wrap::wrap_add;
@@ -174,11 +175,9 @@ impl<T> Ring<T> {
 }
 
 impl<T: Drop> Drop for Ring<T> {
-    /// Takes each item out and drops it, front to back, and gives the region back.
+    /// Drops each item, front to back, and gives the region back.
     fn drop(mut self) {
-        for _ in 0..self.len() {
-            self.pop_front();
-        }
+        self.clear();
         let Ring {
             slots: _,
             start: _,

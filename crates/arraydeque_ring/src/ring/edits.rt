@@ -1,9 +1,11 @@
 //! Edits in place: exchanges, removals that exchange, and those of many items at once.
-ghost use Rattle.std.specs.Prelude.{◌≡◌, ◌+◌, ◌-◌, ◌<◌, ◌≤◌, [], length, take, drop, swap, slice_get, OnSome, IfNone, if◌then◌else◌, ◌==◌};
+ghost use Rattle.std.specs.Prelude.{◌≡◌, ◌+◌, ◌-◌, ◌<◌, ◌≤◌, [], ◌++◌, length, take, drop, replicate, swap, slice_get, None, OnSome, IfNone, if◌then◌else◌, ◌==◌};
+ghost use Rattle.arraydeque_ring.specs.Places.{IsFilledRun};
 ghost use Rattle.arraydeque_ring.specs.Ring.{place_of};
 ghost use Rattle.arraydeque_ring.specs.Steps.{more_takes, more_exchanges};
 
 use super::Ring;
+use crate::slots::Slots;
 use crate::wrap::wrap_add;
 
 impl<T> Ring<T> {
@@ -47,5 +49,30 @@ impl<T> Ring<T> {
         }
         self.swap(index, 0);
         self.pop_front()
+    }
+
+    /// Drops every item, front to back. The next item stands at the first place.
+    pub fn clear(&mut self)
+    where
+        T: Drop,
+        ensures { self.new ≡ record self.old { items = []; start = 0; steps = more_takes (length self.old.items) self.old.steps } }
+    {
+        let first = self.len.min(self.slots.capacity() - self.start);
+        drop_run(&mut self.slots, self.start, self.start + first);
+        drop_run(&mut self.slots, 0, self.len - first);
+        self.start = 0;
+        self.len = 0;
+    }
+}
+
+/// Drops the values in the places from `from` up to `end`, in order.
+fn drop_run<T: Drop>(slots: &mut Slots<T>, from: usize, end: usize)
+    requires order { from ≤ end }
+    requires filled { IsFilledRun slots.old.places from (end - from) }
+    ensures places { slots.new.places ≡ take from slots.old.places ++ replicate (end - from) None ++ drop end slots.old.places }
+    ensures steps { slots.new.steps ≡ more_takes (end - from) slots.old.steps }
+{
+    for place in from..end {
+        drop(slots.take(place));
     }
 }

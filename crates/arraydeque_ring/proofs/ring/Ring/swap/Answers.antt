@@ -1,4 +1,4 @@
-use Rattle.std.proofs.Common.{◌<◌, length, swap, if◌then◌else◌, ◌==◌, ap, ◌∙◌, arith}
+use Rattle.std.proofs.Common.{length, swap, if◌then◌else◌, ◌==◌, ◌∙◌, arith}
 use Rattle.std.proofs.lemmas.List.Edits.{length-swap}
 use Rattle.arraydeque_ring.specs.Steps.{more_exchanges}
 use Rattle.arraydeque_ring.proofs.Edited.{swap_items, one_place}

@@ -1,0 +1,86 @@
+//! Why a run ends early, and how it says so.
+ghost use Rattle.std.specs.Prelude.{◌≡◌, ◌≢◌};
+ghost use Rattle.std.specs.IoError.{error_kind};
+ghost use Rattle.std.specs.declared.io.ErrorKind.TheVariants.{OutOfMemory};
+ghost use Rattle.adq.specs.declared.fault.Fault.TheVariants.{Io, Memory};
+ghost use Rattle.adq.specs.Fault.{status_of};
+
+use arraydeque::MakeError;
+use std::alloc::{AllocError, AllocFailed};
+use std::io::{ErrorKind, Write};
+use std::{fmt, io};
+
+/// Why a run ends early.
+#[derive(Drop)]
+pub enum Fault {
+    /// The arguments are not those of the program.
+    Arguments,
+    /// The line of this number, counted from 1, is not a call.
+    Line(usize),
+    /// Memory was refused.
+    Memory,
+    /// A read or a write failed.
+    Io,
+}
+
+impl Fault {
+    /// Says on `faults` why the run ends, and answers its status, which is the same where that can't be said.
+    pub fn report<F: Write + Drop>(self, mut faults: F) -> u8
+        ensures { result ≡ status_of self }
+    {
+        let _ = writeln!(faults, "adq: {self}");
+        let _ = faults.flush();
+        match self {
+            Fault::Io => 1,
+            Fault::Arguments | Fault::Line(_) => 2,
+            Fault::Memory => 3,
+        }
+    }
+}
+
+impl fmt::Display for Fault {
+    fn fmt<W: fmt::Write>(&self, f: &mut fmt::Formatter<W>) -> fmt::Result {
+        match self {
+            Fault::Arguments => write!(f, "bad arguments"),
+            Fault::Line(number) => write!(f, "bad line {number}"),
+            Fault::Memory => write!(f, "out of memory"),
+            Fault::Io => write!(f, "input or output failed"),
+        }
+    }
+}
+
+impl From<AllocError> for Fault {
+    ghost from_gives = { λ _ fault. fault ≡ Memory };
+
+    fn from(_: AllocError) -> Fault {
+        Fault::Memory
+    }
+}
+
+impl<T: Drop> From<AllocFailed<T>> for Fault {
+    ghost from_gives = { λ _ fault. fault ≡ Memory };
+
+    fn from(_: AllocFailed<T>) -> Fault {
+        Fault::Memory
+    }
+}
+
+impl<S: Drop> From<MakeError<S>> for Fault {
+    ghost from_gives = { λ _ fault. fault ≡ Memory };
+
+    fn from(_: MakeError<S>) -> Fault {
+        Fault::Memory
+    }
+}
+
+/// A stream or a buffer that is refused memory tells it by an `io::Error` too.
+impl From<io::Error> for Fault {
+    ghost from_gives = { λ error fault. (error_kind error ≡ OutOfMemory → fault ≡ Memory) × (error_kind error ≢ OutOfMemory → fault ≡ Io) };
+
+    fn from(error: io::Error) -> Fault {
+        match error.kind() {
+            ErrorKind::OutOfMemory => Fault::Memory,
+            _ => Fault::Io,
+        }
+    }
+}

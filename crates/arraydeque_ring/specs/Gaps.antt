@@ -1,0 +1,11 @@
+-- Runs of empty places, and what it means to move a run of values across one.
+use Rattle.std.specs.Prelude.{◌≡◌, ℕ, ◌+◌, ◌≤◌, List, ◌++◌, length, take, drop, replicate, Option, None}
+
+module _ {X : Type 0} where
+  -- there are the len places from the index `from` on, and none of them holds a value
+  abbrev pub IsEmptyRun : List (Option X) → ℕ → ℕ → Type 0
+  IsEmptyRun ps from len = (from + len ≤ length ps) × (take len (drop from ps) ≡ replicate len None)
+
+  -- the m elements from the index `at` on, and the n behind them, in each other's place
+  abbrev pub runs_swapped : ℕ → ℕ → ℕ → List X → List X
+  runs_swapped at m n xs = take at xs ++ (take n (drop (at + m) xs) ++ (take m (drop at xs) ++ drop (at + m + n) xs))
