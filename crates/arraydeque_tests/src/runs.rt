@@ -243,3 +243,75 @@ fn a_wrapping_deque_has_its_replies(rt: HostRuntime) -> Result<(), Fail> {
     assert!(rt; holds(&deque, &[0, 1, 4]));
     Ok(())
 }
+
+#[test]
+fn no_places_have_their_replies(rt: HostRuntime) -> Result<(), Fail> {
+    let mut deque = ArrayDeque::<i64, 0, Saturating>::new(rt.alloc())?;
+    let calls = vec![in rt.alloc();
+        Call::Insert(0, 5),
+        Call::Insert(1, 5),
+        Call::Remove(0),
+        Call::Swap(0, 0),
+        Call::Replace(0, 5),
+        Call::ExtendFront(vec![in rt.alloc(); 1, 2]?),
+        Call::Drain(0, 0),
+        Call::Drain(0, 1),
+        Call::SplitOff(0),
+        Call::Clear,
+        Call::IsEmpty,
+        Call::IsFull,
+    ]?;
+    let replies = deque.run(calls).map_err(|_| "no room for the replies")?;
+    let expected = [
+        Answer::Full(5),
+        Answer::OutOfRange(Some(5)),
+        Answer::Item(None),
+        Answer::OutOfRange(None),
+        Answer::OutOfRange(Some(5)),
+        Answer::Done,
+        Answer::Drained(vec![in rt.alloc()]?),
+        Answer::OutOfRange(None),
+        Answer::Split(vec![in rt.alloc()]?),
+        Answer::Done,
+        Answer::Truth(true),
+        Answer::Truth(true),
+    ];
+    assert_eq!(rt;
+        answers(rt.alloc(), replies)?.as_slice(),
+        expected.as_slice()
+    );
+    assert!(rt; deque.is_empty());
+    Ok(())
+}
+
+#[test]
+fn one_place_has_its_replies(rt: HostRuntime) -> Result<(), Fail> {
+    let mut deque = ArrayDeque::<i64, 1, Wrapping>::new(rt.alloc())?;
+    let calls = vec![in rt.alloc();
+        Call::PushBack(1),
+        Call::PushFront(2),
+        Call::PushBack(3),
+        Call::ExtendBack(vec![in rt.alloc(); 4, 5]?),
+        Call::ExtendFront(vec![in rt.alloc(); 6, 7]?),
+        Call::SplitOff(0),
+        Call::SplitOff(0),
+        Call::Len,
+    ]?;
+    let replies = deque.run(calls).map_err(|_| "no room for the replies")?;
+    let expected = [
+        Answer::Displaced(None),
+        Answer::Displaced(Some(1)),
+        Answer::Displaced(Some(2)),
+        Answer::Done,
+        Answer::Done,
+        Answer::Split(vec![in rt.alloc(); 7]?),
+        Answer::Split(vec![in rt.alloc()]?),
+        Answer::Number(0),
+    ];
+    assert_eq!(rt;
+        answers(rt.alloc(), replies)?.as_slice(),
+        expected.as_slice()
+    );
+    assert!(rt; deque.is_empty());
+    Ok(())
+}
