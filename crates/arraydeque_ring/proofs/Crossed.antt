@@ -16,18 +16,18 @@ pub record Crossed {X : Type 0} (behind before : List (Option X)) (p n : ℕ) : 
   pub is_behind : behind ≡ front ++ (replicate n None ++ Some value ∷ rest)
   pub is_before : before ≡ front ++ Some value ∷ (replicate n None ++ rest)
 
-repeated : {X : Type 0} (n : ℕ) (y : X) (ys : List X) → replicate n y ++ y ∷ ys ≡ y ∷ (replicate n y ++ ys)
+pub repeated : {X : Type 0} (n : ℕ) (y : X) (ys : List X) → replicate n y ++ y ∷ ys ≡ y ∷ (replicate n y ++ ys)
 repeated zero y ys = refl
 repeated (suc n) y ys = ap (λ l. y ∷ l) (repeated n y ys)
 
 module _ {X : Type 0} where
-  behind_at : (front rest : List (Option X)) (p n : ℕ) (v c : Option X) → length front ≡ p → set (front ++ (replicate n None ++ v ∷ rest)) (p + n) c ≡ front ++ (replicate n None ++ c ∷ rest)
+  pub behind_at : (front rest : List (Option X)) (p n : ℕ) (v c : Option X) → length front ≡ p → set (front ++ (replicate n None ++ v ∷ rest)) (p + n) c ≡ front ++ (replicate n None ++ c ∷ rest)
   behind_at front rest p n v c e =
       ap (λ l. set l (p + n) c) (sym (append_assoc front (replicate n None) (v ∷ rest)))
       ∙ set_at (front ++ replicate n None) v rest c (p + n) (omega (arith, length-append front (replicate n None), length-replicate {A = Option X} n None))
       ∙ append_assoc front (replicate n None) (c ∷ rest)
 
-  behind_is : (front rest : List (Option X)) (p n : ℕ) (v : Option X) → length front ≡ p → get_or (front ++ (replicate n None ++ v ∷ rest)) (p + n) None ≡ v
+  pub behind_is : (front rest : List (Option X)) (p n : ℕ) (v : Option X) → length front ≡ p → get_or (front ++ (replicate n None ++ v ∷ rest)) (p + n) None ≡ v
   behind_is front rest p n v e =
       ap (λ l. get_or l (p + n) None) (sym (append_assoc front (replicate n None) (v ∷ rest)))
       ∙ get_or_at (front ++ replicate n None) v rest None (p + n) (omega (arith, length-append front (replicate n None), length-replicate {A = Option X} n None))
@@ -64,7 +64,7 @@ module _ {X : Type 0} where
   within_behind ls ms p n c = omega (arith, c.long, ap length c.is_behind, length-append c.front (replicate n None ++ Some c.value ∷ c.rest), length-append (replicate n None) (Some c.value ∷ c.rest), length-replicate {A = Option X} n None)
 
   -- a value of a filled run
-  held_in_run : (ps : List (Option X)) (from len k : ℕ) → IsFilledRun ps from len → k < len → (x : X) × (get_or ps (from + k) None ≡ Some x)
+  pub held_in_run : (ps : List (Option X)) (from len k : ℕ) → IsFilledRun ps from len → k < len → (x : X) × (get_or ps (from + k) None ≡ Some x)
   held_in_run ps from len k run lt =
       let xs = run.1.0 in
       let many : length xs ≡ len = omega (arith, run.0, ap length run.1.1, length-map xs Some, length-take-le len (drop from ps) (omega (arith, run.0, length-drop from ps))) in
@@ -95,7 +95,7 @@ module _ {X : Type 0} where
   crosses_at ps p k gap held empty =
       let here : p < length ps = omega (arith, empty.0) in
       let rest : List (Option X) = take k (drop (p + 1) ps) ++ drop (p + (k + 1) + gap) ps in
-      let first : take (k + 1) (drop p ps) ≡ Some held.0 ∷ take k (drop (p + 1) ps) = ap (take (k + 1)) (drop_more ps p None here) ∙ rw add-one (ap (λ q. q ∷ take k (drop (p + 1) ps)) held.1) in
+      let first : take (k + 1) (drop p ps) ≡ Some held.0 ∷ take k (drop (p + 1) ps) = ap (take (k + 1)) (drop_more ps p None here) ∙ ap (λ n. take n (get_or ps p None ∷ drop (p + 1) ps)) (add-one k) ∙ ap (λ q. q ∷ take k (drop (p + 1) ps)) held.1 in
       let last : take (p + 1) ps ≡ take p ps ++ Some held.0 ∷ [] = take_more ps p None here ∙ ap (λ q. take p ps ++ q ∷ []) held.1 in
       let one : p + 1 + k ≡ p + (k + 1) = omega arith in
       record {

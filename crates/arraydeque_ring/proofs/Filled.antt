@@ -116,7 +116,7 @@ module _ {X : Type 0} where
   pub run_filled : (ps : List (Option X)) (t : ℕ) (xs : List X) (i p len : ℕ) → LaidOut ps t xs → i + len ≤ length xs → p + len ≤ length ps → (p ≡ t + i) ⊎ (p + length ps ≡ t + i) → IsFilledRun ps p len
   run_filled ps t xs i p len l within fits at = (fits, (take len (drop i xs), run_laid_out ps t xs i p len l within fits at))
 
-  values-map_Some : (xs : List X) → values (map Some xs) ≡ xs
+  pub values-map_Some : (xs : List X) → values (map Some xs) ≡ xs
   values-map_Some [] = refl
   values-map_Some (x ∷ xs) = ap (λ l. x ∷ l) (values-map_Some xs)
 

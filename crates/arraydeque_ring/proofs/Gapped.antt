@@ -2,10 +2,10 @@
 use Rattle.std.proofs.Common.{◌≡◌, ℕ, zero, suc, ◌+◌, ◌-◌, ◌<◌, ◌≤◌, List, [], ◌∷◌, ◌++◌, map, length, take, drop, set, get_or, replicate, Option, Some, None, refl, sym, ap, ap₂, ◌∙◌, arith}
 use Rattle.std.proofs.lemmas.List.{length-append, length-map, length-replicate, length-take-le, length-drop, length-set, append_assoc, append-nil, map-append, take_at, drop_at, set_at, get_or_at, set_split, take-append-drop, take-append-le, drop-append-le, take-map, drop-map, drop-drop, replicate-append-replicate, replicate_more}
 use Rattle.arraydeque_ring.specs.Places.{IsEmpty, IsFilledRun}
-use Rattle.arraydeque_ring.specs.Ring.{place_of, turned}
-use Rattle.arraydeque_ring.specs.Gaps.{IsEmptyRun, runs_swapped}
+use Rattle.arraydeque_ring.specs.Ring.{place_of, turned, values}
+use Rattle.arraydeque_ring.specs.Gaps.{IsEmptyRun, runs_swapped, run_emptied}
 use Rattle.arraydeque_ring.proofs.TurnedOld.{place_of-lt, length-turned, turned-set, turned-turned, turned_at}
-use Rattle.arraydeque_ring.proofs.Filled.{and_empty, length-and_empty, LaidOut, laid_out, length_within, set_laid_out}
+use Rattle.arraydeque_ring.proofs.Filled.{and_empty, length-and_empty, LaidOut, laid_out, length_within, set_laid_out, values-map_Some}
 use Rattle.arraydeque_ring.proofs.Crossed.{empty_turned}
 
 -- the len values behind the gap at an index can be moved before it, and `after` is read then
@@ -125,6 +125,24 @@ module _ {X : Type 0} where
       laid_out (set ps (place_of t i (length ps)) (Some x)) t (xs ++ x ∷ ys) k (omega (arith, length-set ps (place_of t i (length ps)) (Some x)))
       (turned-set t i ps (Some x) within (omega (arith, length-turned t ps, ap length e, length_three (map Some xs) (None ∷ []) (and_empty ys k)))
       ∙ ap (λ l. set l i (Some x)) e ∙ set_at (map Some xs) None (and_empty ys k) (Some x) i first ∙ sym (and_empty-append xs (x ∷ ys) k))
+
+  -- the n items from an index on, as they are read from the start
+  pub run_of_items : (ps : List (Option X)) (t : ℕ) (xs : List X) (at n : ℕ) → LaidOut ps t xs → at + n ≤ length xs → take n (drop at (turned t ps)) ≡ map Some (take n (drop at xs))
+  run_of_items ps t xs at n l le =
+      let k = length ps - length xs in
+      ap (λ r. take n (drop at r)) l.is ∙ ap (take n) (drop-and_empty at xs k (omega arith)) ∙ take-and_empty n (drop at xs) k (omega (arith, length-drop at xs))
+
+  pub items_filled : (ps : List (Option X)) (t : ℕ) (xs : List X) (at n : ℕ) → LaidOut ps t xs → at + n ≤ length xs → IsFilledRun (turned t ps) at n
+  items_filled ps t xs at n l le = (omega (arith, length-turned t ps, length_within ps t xs l), (take n (drop at xs), run_of_items ps t xs at n l le))
+
+  pub items_run : (ps : List (Option X)) (t : ℕ) (xs : List X) (at n : ℕ) → LaidOut ps t xs → at + n ≤ length xs → values (take n (drop at (turned t ps))) ≡ take n (drop at xs)
+  items_run ps t xs at n l le = ap values (run_of_items ps t xs at n l le) ∙ values-map_Some (take n (drop at xs))
+
+  -- a gap where n items are taken out
+  pub items_taken : (ps : List (Option X)) (t : ℕ) (xs : List X) (at n : ℕ) → LaidOut ps t xs → at + n ≤ length xs → run_emptied at n (turned t ps) ≡ gapped (take at xs) n (drop (at + n) xs) (length ps - length xs)
+  items_taken ps t xs at n l le =
+      let k = length ps - length xs in
+      ap₂ (λ a b. a ++ (replicate n None ++ b)) (ap (take at) l.is ∙ take-and_empty at xs k (omega arith)) (ap (drop (at + n)) l.is ∙ drop-and_empty (at + n) xs k le)
 
   -- a gap where an item is taken out
   pub item_taken : (ps : List (Option X)) (t : ℕ) (xs : List X) (i : ℕ) → LaidOut ps t xs → i < length xs → turned t (set ps (place_of t i (length ps)) None) ≡ gapped (take i xs) 1 (drop (suc i) xs) (length ps - length xs)

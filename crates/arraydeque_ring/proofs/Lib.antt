@@ -1,9 +1,12 @@
+pub mod Answered
 pub mod Blocks
 pub mod Crossed
 pub mod Edited
 pub mod Emptied
+pub mod EmptiedRuns
 pub mod Filled
 pub mod Gapped
+pub mod Halves
 pub mod Heap
 pub mod Kit
 pub mod LaidOut

@@ -1,15 +1,15 @@
 -- What the fields of an open ring hold while there is a gap among its items.
 use Rattle.std.proofs.Common.{◌≡◌, ℕ, suc, ◌+◌, ◌-◌, ◌<◌, ◌≤◌, List, ◌∷◌, ◌++◌, length, map, take, drop, set, replicate, min, nat_lt, if◌then◌else◌, true, false, ◌⊎◌, inl, inr, Option, Some, None, refl, sym, ap, ◌∙◌, arith}
 use Rattle.std.proofs.lemmas.Bool.{cases_lt, lt-ltb, le-ltb}
-use Rattle.std.proofs.lemmas.List.{length-append, length-set, length-take-le, length-drop}
+use Rattle.std.proofs.lemmas.List.{length-append, length-set, length-take-le, length-drop, drop_all, replicate-append-replicate}
 use Rattle.arraydeque_ring.specs.declared.ring.Ring.TheInside.{Inside}
 use Rattle.arraydeque_ring.specs.Places.{Region, IsFilledRun}
-use Rattle.arraydeque_ring.specs.Gaps.{IsEmptyRun, runs_swapped}
+use Rattle.arraydeque_ring.specs.Gaps.{IsEmptyRun, runs_swapped, run_emptied}
 use Rattle.arraydeque_ring.specs.Ring.{RingState, place_of, turned}
 use Rattle.arraydeque_ring.specs.Steps.{Steps, more_puts, more_takes, more_moves}
 use Rattle.arraydeque_ring.proofs.TurnedOld.{place_of-lt, length-turned}
 use Rattle.arraydeque_ring.proofs.Filled.{and_empty, length-and_empty, laid_out, length_within}
-use Rattle.arraydeque_ring.proofs.Gapped.{gapped, length_parted, opens_before, opens_behind, gap_filled, item_taken, closes_before, closed_before, closes_behind, length_closed}
+use Rattle.arraydeque_ring.proofs.Gapped.{gapped, length_parted, opens_before, opens_behind, gap_filled, item_taken, items_taken, closes_before, closed_before, closes_behind, length_closed}
 use Rattle.arraydeque_ring.proofs.OpenedFields.{Opened}
 
 -- the fields r hold the ring v, but for its items: they are xs and ys, with a gap of n places between them and k empty places behind
@@ -84,6 +84,40 @@ item_out r v s i o lt out counted =
       start = o.start;
       steps = counted ∙ ap (more_takes 1) o.steps;
     }
+
+module _ {X : Type 0} (r : Inside X) (v : RingState X) (s : Region X) (from n : ℕ) (o : Opened r v) (le : from + n ≤ length v.items)
+    (out : turned r.start s.places ≡ run_emptied from n (turned r.start r.slots.places)) (counted : s.steps ≡ more_takes n r.slots.steps) where
+  emptied : turned r.start s.places ≡ gapped (take from v.items) n (drop (from + n) v.items) (length r.slots.places - length v.items)
+  emptied = out ∙ items_taken r.slots.places r.start v.items from n o.laid le
+
+  same_places : length s.places ≡ length r.slots.places
+  same_places = length_parted s.places r.start (take from v.items) (drop (from + n) v.items) n (length r.slots.places - length v.items) emptied
+      ∙ omega (arith, length-take-le from v.items (omega arith), length-drop (from + n) v.items, length_within r.slots.places r.start v.items o.laid)
+
+  -- a run of items was taken out
+  pub run_out : 0 < n → Parted record r { slots = s; len = r.len - n } record v { steps = more_takes n v.steps } (take from v.items) n (drop (from + n) v.items) (length r.slots.places - length v.items)
+  run_out some = record {
+    in_region = omega (arith, same_places, o.laid.in_region, length_within r.slots.places r.start v.items o.laid);
+    is = emptied;
+    len = omega (arith, o.len, length-take-le from v.items (omega arith), length-drop (from + n) v.items);
+    capacity = same_places ∙ o.capacity;
+    start = o.start;
+    steps = counted ∙ ap (more_takes n) o.steps;
+  }
+
+  -- the last items were taken out
+  pub rest_out : from + n ≡ length v.items → Opened record r { slots = s; len = from } record v { items = take from v.items; steps = more_takes n v.steps }
+  rest_out all =
+      let k = length r.slots.places - length v.items in
+      let kept : turned r.start s.places ≡ and_empty (take from v.items) (n + k) = emptied
+          ∙ ap (λ ys. gapped (take from v.items) n ys k) (drop_all (from + n) v.items (omega arith)) ∙ ap (λ l. map Some (take from v.items) ++ l) (replicate-append-replicate n k None) in
+      record {
+        laid = laid_out s.places r.start (take from v.items) (n + k) (omega (arith, same_places, o.laid.in_region)) kept;
+        len = length-take-le from v.items (omega arith);
+        capacity = same_places ∙ o.capacity;
+        start = o.start;
+        steps = counted ∙ ap (more_takes n) o.steps;
+      }
 
 module _ {X : Type 0} (r : Inside X) (v : RingState X) (xs : List X) (n : ℕ) (ys : List X) (k : ℕ) (p : Parted r v xs n ys k) (s : Region X) (start : ℕ) (steps : Steps) where
   -- the items before the gap moved on, and the start with them

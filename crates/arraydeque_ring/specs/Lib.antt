@@ -3,6 +3,7 @@ pub mod Gaps
 pub mod Lends
 pub mod Ownership
 pub mod Places
+pub mod Retained
 pub mod Ring
 pub mod RingLends
 pub mod Steps

@@ -1,8 +1,10 @@
 //! Edits in place: exchanges, removals that exchange, and those of many items at once.
-ghost use Rattle.std.specs.Prelude.{◌≡◌, ◌+◌, ◌-◌, ◌<◌, ◌≤◌, [], ◌++◌, length, take, drop, replicate, swap, slice_get, None, OnSome, IfNone, if◌then◌else◌, ◌==◌};
-ghost use Rattle.arraydeque_ring.specs.Places.{IsFilledRun};
+ghost use Rattle.std.specs.Prelude.{◌≡◌, ◌≢◌, ◌+◌, ◌-◌, ◌<◌, ◌≤◌, [], ◌++◌, length, take, drop, replicate, swap, slice_get, slice_set, None, OnSome, IfNone, if◌then◌else◌, ◌==◌};
+ghost use Rattle.std.specs.Fn.{CalledAt};
+ghost use Rattle.arraydeque_ring.specs.Places.{held_at, IsFilled, IsEmpty, IsFilledRun};
+ghost use Rattle.arraydeque_ring.specs.Retained.{Retains};
 ghost use Rattle.arraydeque_ring.specs.Ring.{place_of};
-ghost use Rattle.arraydeque_ring.specs.Steps.{more_takes, more_exchanges};
+ghost use Rattle.arraydeque_ring.specs.Steps.{more_takes, more_moves, more_exchanges};
 
 use super::Ring;
 use crate::slots::Slots;
@@ -63,6 +65,31 @@ impl<T> Ring<T> {
         self.start = 0;
         self.len = 0;
     }
+
+    /// Keeps the items at which `f` answers true, in their order, and drops the others. It is called once on each item, front to back, and takes no memory.
+    pub fn retain<F: FnMut(&T) -> bool>(&mut self, mut f: F)
+    where
+        T: Drop,
+        F: Drop,
+        requires { F.IsAlwaysCallable f }
+        ensures retains { Retains (CalledAt F.FnMut) f self.old self.new }
+        ensures no_longer { length self.new.items ≤ length self.old.items }
+    {
+        let (start, len) = (self.start, self.len);
+        let slots = &mut self.slots;
+        let capacity = slots.capacity();
+        let mut kept = 0;
+        for index in 0..len {
+            let place = wrap_add(start, index, capacity);
+            if f(slots.get(place)) {
+                settle(slots, wrap_add(start, kept, capacity), place);
+                kept += 1;
+            } else {
+                drop(slots.take(place));
+            }
+        }
+        self.len = kept;
+    }
 }
 
 /// Drops the values in the places from `from` up to `end`, in order.
@@ -74,5 +101,18 @@ fn drop_run<T: Drop>(slots: &mut Slots<T>, from: usize, end: usize)
 {
     for place in from..end {
         drop(slots.take(place));
+    }
+}
+
+/// Moves the value in the place `src` to the place `dst`, where that is another.
+#[inline]
+fn settle<T>(slots: &mut Slots<T>, dst: usize, src: usize)
+    requires filled { IsFilled slots.old.places src }
+    requires empty { dst ≢ src → IsEmpty slots.old.places dst }
+    ensures places { slots.new.places ≡ slice_set (slice_set slots.old.places src None) dst (held_at slots.old.places src) }
+    ensures steps { slots.new.steps ≡ more_moves (if dst == src then 0 else 1) slots.old.steps }
+{
+    if dst != src {
+        slots.shift(dst, src);
     }
 }

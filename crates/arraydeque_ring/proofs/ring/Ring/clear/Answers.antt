@@ -4,7 +4,7 @@ use Rattle.std.proofs.lemmas.List.{length-drop}
 use Rattle.arraydeque_ring.specs.Places.{IsFilledRun}
 use Rattle.arraydeque_ring.specs.Ring.{place_of}
 use Rattle.arraydeque_ring.specs.Steps.{more_takes}
-use Rattle.arraydeque_ring.proofs.Emptied.{emptied, length-emptied, run_taken, one_run_filled, one_run_emptied, rest_starts}
+use Rattle.arraydeque_ring.proofs.EmptiedRuns.{emptied, length-emptied, run_taken, one_run_filled, one_run_emptied, rest_starts}
 use Rattle.arraydeque_ring.proofs.Filled.{LaidOut, length_within, run_filled}
 use Rattle.arraydeque_ring.proofs.MoreSteps.{takes_on_takes}
 use Rattle.arraydeque_ring.proofs.OpenedFields.{Opened, opened, closed, kept}

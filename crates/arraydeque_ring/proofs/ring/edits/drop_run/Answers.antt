@@ -1,7 +1,7 @@
 use Rattle.std.proofs.Common.{ap, set, None, ◌∙◌, arith}
 use Rattle.arraydeque_ring.specs.Places.{held_at}
 use Rattle.arraydeque_ring.specs.Steps.{more_takes}
-use Rattle.arraydeque_ring.proofs.Emptied.{emptied_more, held_past, filled_in_run}
+use Rattle.arraydeque_ring.proofs.EmptiedRuns.{emptied_more, held_past, filled_in_run}
 use Rattle.arraydeque_ring.proofs.MoreSteps.{takes_on_takes}
 use Rattle.arraydeque_ring.proofs.ring.edits.drop_run.Goals as goal
 

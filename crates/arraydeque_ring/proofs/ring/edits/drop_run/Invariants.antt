@@ -1,6 +1,6 @@
 use Rattle.std.proofs.Common.{◌≡◌, ◌-◌}
 use Rattle.arraydeque_ring.specs.Steps.{more_takes}
-use Rattle.arraydeque_ring.proofs.Emptied.{emptied}
+use Rattle.arraydeque_ring.proofs.EmptiedRuns.{emptied}
 use Rattle.arraydeque_ring.proofs.ring.edits.drop_run.Given as goal
 
 abbrev pub invariant-loop-place : goal.invariant-loop-place

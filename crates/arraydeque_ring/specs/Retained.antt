@@ -1,0 +1,20 @@
+-- What a ring keeps of its items by the answers of a closure, and what it costs.
+use Rattle.std.specs.Prelude.{◌≡◌, ℕ, List, [], ◌∷◌, length, not, Bool, true, false, count_by}
+use Rattle.std.specs.List.{items_where_true}
+use Rattle.std.specs.List.Retain.{ReturnsInTurn}
+use Rattle.arraydeque_ring.specs.Ring.{RingState}
+use Rattle.arraydeque_ring.specs.Steps.{more_takes, more_moves}
+
+-- of how many items the index changes: those answered true, past the first answered false
+abbrev pub count_moved : List Bool → ℕ
+count_moved [] = 0
+count_moved (true ∷ bs) = count_moved bs
+count_moved (false ∷ bs) = count_by (λ b. b) bs
+
+-- R answered once at each item in turn, from f on, and the items answered true stay, in order; each that goes is taken out, and each whose index changes is moved once
+pub record Retains {F X : Type 0} (R : F → X → Bool → F → Type 0) (f : F) (old new : RingState X) : Type 0 where
+  pub answers : List Bool
+  pub last : F
+  pub one_each : length answers ≡ length old.items
+  pub in_turn : ReturnsInTurn R f answers old.items last
+  pub kept : new ≡ record old { items = items_where_true answers old.items; steps = more_takes (count_by not answers) (more_moves (count_moved answers) old.steps) }
