@@ -23,6 +23,7 @@ kept_and_gone (b ∷ bs) [] le = absurd (omega arith)
 kept_and_gone (true ∷ bs) (x ∷ xs) le = omega (arith, kept_and_gone bs xs (omega arith))
 kept_and_gone (false ∷ bs) (x ∷ xs) le = let more : count_by not (false ∷ bs) ≡ 1 + count_by not bs = sum_by-cons (λ b. cond (not b) 1 0) false bs in omega (arith, kept_and_gone bs xs (omega arith))
 
+-- one more to count
 pub count_by-push : (p : Bool → Bool) (bs : List Bool) (b : Bool) → count_by p (bs ++ b ∷ []) ≡ count_by p bs + cond (p b) 1 0
 count_by-push p bs b = let sum = sum_by-append (λ x. cond (p x) 1 0) bs (b ∷ []) in omega arith
 
@@ -32,13 +33,14 @@ moved-push_true [] n e = ap (λ (m : ℕ). 0 + (if m == 0 then 0 else 1)) (sym e
 moved-push_true (true ∷ bs) n e = moved-push_true bs n (omega arith)
 moved-push_true (false ∷ bs) n e = count_by-push (λ b. b) bs true ∙ ap (λ c. count_by (λ b. b) bs + (if c then 0 else 1)) (sym (ne_eqb n 0 (λ none. let more : count_by not (false ∷ bs) ≡ 1 + count_by not bs = sum_by-cons (λ b. cond (not b) 1 0) false bs in omega arith)))
 
+-- one that goes moves none
 pub moved-push_false : (bs : List Bool) → count_moved (bs ++ false ∷ []) ≡ count_moved bs
 moved-push_false [] = refl
 moved-push_false (true ∷ bs) = moved-push_false bs
 moved-push_false (false ∷ bs) = let same = count_by-push (λ b. b) bs false in omega arith
 
 module _ {X : Type 0} where
-  -- one more item is asked about
+  -- one more item stays
   pub where_true-push_true : (bs : List Bool) (xs : List X) (x : X) (rest : List X) → drop (length bs) xs ≡ x ∷ rest → items_where_true (bs ++ true ∷ []) xs ≡ items_where_true bs xs ++ x ∷ []
   where_true-push_true [] [] x rest e = cc
   where_true-push_true [] (y ∷ xs) x rest e = ap (λ l. get_or l 0 x ∷ []) e
@@ -46,6 +48,7 @@ module _ {X : Type 0} where
   where_true-push_true (true ∷ bs) (y ∷ xs) x rest e = ap (λ l. y ∷ l) (where_true-push_true bs xs x rest e)
   where_true-push_true (false ∷ bs) (y ∷ xs) x rest e = where_true-push_true bs xs x rest e
 
+  -- one more item goes
   pub where_true-push_false : (bs : List Bool) (xs : List X) → items_where_true (bs ++ false ∷ []) xs ≡ items_where_true bs xs
   where_true-push_false [] [] = refl
   where_true-push_false [] (y ∷ xs) = refl
@@ -53,6 +56,7 @@ module _ {X : Type 0} where
   where_true-push_false (true ∷ bs) (y ∷ xs) = ap (λ l. y ∷ l) (where_true-push_false bs xs)
   where_true-push_false (false ∷ bs) (y ∷ xs) = where_true-push_false bs xs
 
+  -- one more item is asked about
   pub in_turn-push : {F : Type 0} (R : F → X → Bool → F → Type 0) (f g h : F) (bs : List Bool) (xs : List X) (x : X) (rest : List X) (b : Bool) → ReturnsInTurn R f bs xs g → drop (length bs) xs ≡ x ∷ rest → R g x b h → ReturnsInTurn R f (bs ++ b ∷ []) xs h
   in_turn-push R f g h [] [] x rest b told e last = cc
   in_turn-push R f g h [] (y ∷ xs) x rest b told e last =
@@ -61,7 +65,7 @@ module _ {X : Type 0} where
   in_turn-push R f g h (a ∷ bs) [] x rest b told e last = cc
   in_turn-push R f g h (a ∷ bs) (y ∷ xs) x rest b told e last = (told.0, told.1, in_turn-push R told.0 g h bs xs x rest b told.2 e last)
 
--- two counts agree on whether they differ
+-- all asked about stay just where none is gone
 same_test : (kept gone index : ℕ) → kept + gone ≡ index → (kept == index) ≡ (gone == 0)
 same_test kept gone index e = elim (cases_eq gone 0) [
   | inl none ↦ eq-eqb kept index (omega arith) ∙ sym (eq-eqb gone 0 none)
@@ -78,12 +82,14 @@ pub record SoFar {F X : Type 0} (R : F → X → Bool → F → Type 0) (f : F) 
   pub cost : steps ≡ more_takes (count_by not answers) (more_moves (count_moved answers) before)
 
 module _ {F X : Type 0} (R : F → X → Bool → F → Type 0) (f : F) (items : List X) (before : Steps) (t : ℕ) where
+  -- before the first answer
   pub none_asked : (ps : List (Option X)) → LaidOut ps t items → SoFar R f items before t 0 0 ps before f
   none_asked ps l =
       let no_takes : before.takes ≡ before.takes + 0 = omega arith in
       let no_moves : before.moves ≡ before.moves + 0 = omega arith in
       record { answers = []; asked = refl; in_turn = refl; many = refl; places = all_behind ps t items l; cost = ap₂ (λ a b. record before { takes = a; moves = b }) no_takes no_moves }
 
+  -- the items asked about stay or are gone
   counted : (index kept : ℕ) (ps : List (Option X)) (steps : Steps) (g : F) → (s : SoFar R f items before t index kept ps steps g) → index ≤ length items → kept + count_by not s.answers ≡ index
   counted index kept ps steps g s le = omega (arith, kept_and_gone s.answers items (omega (arith, s.asked)), s.asked, s.many)
 
@@ -103,6 +109,7 @@ module _ {F X : Type 0} (R : F → X → Bool → F → Type 0) (f : F) (items :
     | inr past ↦ absurd (omega arith)
   ]
 
+  -- the place behind those that stay is empty, or holds that very item
   pub room_for_next : (index kept : ℕ) (ps : List (Option X)) (steps : Steps) (g : F) → SoFar R f items before t index kept ps steps g → index < length items
       → place_of t kept (length ps) ≢ place_of t index (length ps) → IsEmpty ps (place_of t kept (length ps))
   room_for_next index kept ps steps g s lt apart =
@@ -112,6 +119,7 @@ module _ {F X : Type 0} (R : F → X → Bool → F → Type 0) (f : F) (items :
       subst (λ n. IsEmpty ps (place_of t n (length ps))) s.many
       (gap_empty ps t ks gap (drop index items) s.places (omega (arith, length-drop index items)) (λ e. apart (ap (λ n. place_of t n (length ps)) (sym s.many) ∙ e ∙ ap (λ n. place_of t n (length ps)) here)))
 
+  -- no more stay than were asked about, and all lie in the region
   pub all_within : (index kept : ℕ) (ps : List (Option X)) (steps : Steps) (g : F) → SoFar R f items before t index kept ps steps g → index ≤ length items → (kept ≤ index) × (length items ≤ length ps)
   all_within index kept ps steps g s le =
       let within = parted_within ps t (items_where_true s.answers items) (count_by not s.answers) (drop index items) s.places in

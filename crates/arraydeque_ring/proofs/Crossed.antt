@@ -1,5 +1,5 @@
 -- A value that crosses a run of empty places.
-use Rattle.std.proofs.Common.{◌≡◌, ℕ, zero, suc, ◌+◌, ◌-◌, ◌<◌, ◌≤◌, List, [], ◌∷◌, ◌++◌, length, take, drop, set, get_or, replicate, Option, Some, None, inl, inr, refl, sym, ap, ap₂, ◌∙◌, add-one, map, arith}
+use Rattle.std.proofs.Common.{◌≡◌, ℕ, zero, suc, ◌+◌, ◌-◌, ◌<◌, ◌≤◌, List, [], ◌∷◌, ◌++◌, length, take, drop, set, get_or, replicate, Option, Some, None, inl, inr, refl, sym, ap, ap₂, ◌∙◌, add-one, arith}
 use Rattle.std.proofs.lemmas.List.{length-append, length-replicate, length-take-le, length-drop, append_assoc, get_or_at, set_at, get_or-take, get_or-drop, take_more, drop_more, take-append-drop, drop-drop, length-set, length-map, get_or-map}
 use Rattle.std.proofs.lemmas.Option.{slice_get_cases}
 use Rattle.arraydeque_ring.specs.Places.{held_at, IsFilled, IsEmpty, IsFilledRun}

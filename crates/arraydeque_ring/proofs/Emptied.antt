@@ -1,5 +1,5 @@
 -- A run of values that is taken out, one value after another.
-use Rattle.std.proofs.Common.{◌≡◌, ℕ, suc, ◌+◌, ◌-◌, ◌<◌, ◌≤◌, List, [], ◌∷◌, ◌++◌, length, take, drop, set, get_or, replicate, Option, Some, None, refl, sym, ap, ap₂, ◌∙◌, arith}
+use Rattle.std.proofs.Common.{◌≡◌, ℕ, ◌+◌, ◌-◌, ◌<◌, ◌≤◌, List, [], ◌∷◌, ◌++◌, length, take, drop, set, get_or, replicate, Option, Some, None, refl, sym, ap, ap₂, ◌∙◌, arith}
 use Rattle.std.proofs.lemmas.List.{length-append, length-replicate, length-take-le, length-drop, append_assoc, get_or-drop, take_more, drop_more, take-append-drop, replicate_more}
 use Rattle.arraydeque_ring.specs.Places.{held_at, IsFilled, IsFilledRun}
 use Rattle.arraydeque_ring.specs.Ring.{RingState, empty_ring, place_of, turned, values}

@@ -19,17 +19,20 @@ module _ {X : Type 0} where
   abbrev pub emptied : ℕ → ℕ → List (Option X) → List (Option X)
   emptied from end ps = take from ps ++ replicate (end - from) None ++ drop end ps
 
+  -- the places before the end of the run, emptied or not
   before_end : (ps : List (Option X)) (from end : ℕ) → from ≤ end → end ≤ length ps → length (take from ps ++ replicate (end - from) None) ≡ end
   before_end ps from end a b = omega (arith, length-append (take from ps) (replicate (end - from) None), length-take from ps, length-replicate {A = Option X} (end - from) None)
 
   pub length-emptied : (ps : List (Option X)) (from end : ℕ) → from ≤ end → end ≤ length ps → length (emptied from end ps) ≡ length ps
   length-emptied ps from end a b = omega (arith, length-append (take from ps ++ replicate (end - from) None) (drop end ps), before_end ps from end a b, length-drop end ps)
 
+  -- a run of none changes nothing
   pub emptied_none : (ps : List (Option X)) (from : ℕ) → emptied from from ps ≡ ps
   emptied_none ps from =
       let none : from - from ≡ 0 = omega arith in
       ap (λ n. take from ps ++ replicate n None ++ drop from ps) none ∙ ap (λ l. l ++ drop from ps) (append-nil (take from ps)) ∙ take-append-drop from ps
 
+  -- a run is emptied place by place
   pub emptied_more : (ps : List (Option X)) (from end : ℕ) → from ≤ end → end < length ps → set (emptied from end ps) end None ≡ emptied from (end + 1) ps
   emptied_more ps from end a b =
       let before = take from ps ++ replicate (end - from) None in
@@ -46,6 +49,7 @@ module _ {X : Type 0} where
       get_or-append_right (take from ps ++ replicate (end - from) None) (drop end ps) end end None (before_end ps from end a b) (omega arith)
       ∙ ap (λ i. get_or (drop end ps) i None) none ∙ get_or-drop end ps 0 None ∙ ap (held_at ps) same
 
+  -- each place of a filled run is filled
   pub filled_in_run : (ps : List (Option X)) (from len i : ℕ) → IsFilledRun ps from len → from ≤ i → i < from + len → IsFilled ps i
   filled_in_run ps from len i run a b =
       let k = i - from in
@@ -84,9 +88,11 @@ module _ {X : Type 0} where
   one_run_filled ps t (x ∷ xs) l (inl none) = absurd (omega arith)
   one_run_filled ps t (x ∷ xs) l (inr first) = run_filled ps t (x ∷ xs) 0 0 (length (x ∷ xs)) l (omega arith) (omega (arith, length_within ps t (x ∷ xs) l)) (inl (omega arith))
 
+  -- where no place holds a value, no item is laid out
   empty_laid_out : (ps : List (Option X)) → AreAllEmpty ps → LaidOut {X = X} ps 0 []
   empty_laid_out ps e = subst (λ qs. LaidOut {X = X} qs 0 []) (sym e) (nothing_laid_out (length ps))
 
+  -- and once that run is emptied, no item is left
   pub one_run_emptied : (ps : List (Option X)) (t : ℕ) (xs : List X) → LaidOut ps t xs → (length xs ≡ 0) ⊎ (t ≡ 0) → LaidOut {X = X} (emptied 0 (length xs) ps) 0 []
   one_run_emptied ps t [] l at = subst (λ qs. LaidOut {X = X} qs 0 []) (sym (emptied_none ps 0)) (empty_laid_out ps (all_empty ps t [] l refl))
   one_run_emptied ps t (x ∷ xs) l (inl none) = absurd (omega arith)

@@ -1,6 +1,6 @@
 -- A ring that has a gap of empty places among its items: how the gap comes about, and how it closes.
-use Rattle.std.proofs.Common.{◌≡◌, ℕ, zero, suc, ◌+◌, ◌-◌, ◌<◌, ◌≤◌, List, [], ◌∷◌, ◌++◌, map, length, take, drop, set, get_or, replicate, Option, Some, None, refl, sym, ap, ap₂, ◌∙◌, arith}
-use Rattle.std.proofs.lemmas.List.{length-append, length-map, length-replicate, length-take-le, length-drop, length-set, append_assoc, append-nil, map-append, take_at, drop_at, set_at, get_or_at, set_split, take-append-drop, take-append-le, drop-append-le, take-map, drop-map, drop-drop, replicate-append-replicate, replicate_more}
+use Rattle.std.proofs.Common.{◌≡◌, ℕ, suc, ◌+◌, ◌-◌, ◌<◌, ◌≤◌, List, [], ◌∷◌, ◌++◌, map, length, take, drop, set, get_or, replicate, Option, Some, None, refl, sym, ap, ap₂, ◌∙◌, arith}
+use Rattle.std.proofs.lemmas.List.{length-append, length-map, length-replicate, length-take-le, length-drop, length-set, append_assoc, map-append, take_at, drop_at, set_at, get_or_at, set_split, take-append-drop, take-append-le, drop-append-le, take-map, drop-map, drop-drop, replicate-append-replicate, replicate_more}
 use Rattle.arraydeque_ring.specs.Places.{IsEmpty, IsFilledRun}
 use Rattle.arraydeque_ring.specs.Ring.{place_of, turned, values}
 use Rattle.arraydeque_ring.specs.Gaps.{IsEmptyRun, runs_swapped, run_emptied}

@@ -12,6 +12,7 @@ pub record Parted {X : Type 0} (ps : List (Option X)) (t : ℕ) (xs : List X) (g
   pub is : turned t ps ≡ and_empty xs gap ++ and_empty ys (length ps - length xs - gap - length ys)
 
 module _ {X : Type 0} where
+  -- the parts, the gap and what is left over make up the region
   total : (ps : List (Option X)) (t : ℕ) (xs : List X) (gap : ℕ) (ys : List X) (k : ℕ) → turned t ps ≡ and_empty xs gap ++ and_empty ys k → length xs + gap + length ys + k ≡ length ps
   total ps t xs gap ys k e = omega (arith, length-turned t ps, ap length e, length-append (and_empty xs gap) (and_empty ys k), length-and_empty xs gap, length-and_empty ys k)
 
@@ -21,6 +22,7 @@ module _ {X : Type 0} where
       let left : k ≡ length ps - length xs - gap - length ys = omega (arith, total ps t xs gap ys k e) in
       record { in_region = within; is = e ∙ ap (λ n. and_empty xs gap ++ and_empty ys n) left }
 
+  -- so they fit in it
   pub parted_within : (ps : List (Option X)) (t : ℕ) (xs : List X) (gap : ℕ) (ys : List X) → Parted ps t xs gap ys → length xs + gap + length ys ≤ length ps
   parted_within ps t xs gap ys p = omega (arith, total ps t xs gap ys (length ps - length xs - gap - length ys) p.is)
 

@@ -1,5 +1,5 @@
 -- What the fields of an open ring hold while there is a gap among its items.
-use Rattle.std.proofs.Common.{◌≡◌, ℕ, suc, ◌+◌, ◌-◌, ◌<◌, ◌≤◌, List, ◌∷◌, ◌++◌, length, map, take, drop, set, replicate, min, nat_lt, if◌then◌else◌, true, false, ◌⊎◌, inl, inr, Option, Some, None, refl, sym, ap, ◌∙◌, arith}
+use Rattle.std.proofs.Common.{◌≡◌, ℕ, suc, ◌+◌, ◌-◌, ◌<◌, ◌≤◌, List, ◌∷◌, ◌++◌, length, map, take, drop, set, replicate, min, nat_lt, if◌then◌else◌, true, false, inl, inr, Some, None, refl, sym, ap, ◌∙◌, arith}
 use Rattle.std.proofs.lemmas.Bool.{cases_lt, lt-ltb, le-ltb}
 use Rattle.std.proofs.lemmas.List.{length-append, length-set, length-take-le, length-drop, drop_all, replicate-append-replicate}
 use Rattle.arraydeque_ring.specs.declared.ring.Ring.TheInside.{Inside}
@@ -110,7 +110,7 @@ module _ {X : Type 0} (r : Inside X) (v : RingState X) (s : Region X) (from n : 
   rest_out all =
       let k = length r.slots.places - length v.items in
       let kept : turned r.start s.places ≡ and_empty (take from v.items) (n + k) = emptied
-          ∙ ap (λ ys. gapped (take from v.items) n ys k) (drop_all (from + n) v.items (omega arith)) ∙ ap (λ l. map Some (take from v.items) ++ l) (replicate-append-replicate n k None) in
+      ∙ ap (λ ys. gapped (take from v.items) n ys k) (drop_all (from + n) v.items (omega arith)) ∙ ap (λ l. map Some (take from v.items) ++ l) (replicate-append-replicate n k None) in
       record {
         laid = laid_out s.places r.start (take from v.items) (n + k) (omega (arith, same_places, o.laid.in_region)) kept;
         len = length-take-le from v.items (omega arith);

@@ -28,7 +28,7 @@ impl<T> Ring<T> {
     #[inline]
     pub fn swap_remove_back(&mut self, index: usize) -> Option<T>
         ensures value { result ≡ slice_get self.old.items index }
-        ensures taken { OnSome result (self.new ≡ record self.old { items = take (length self.old.items - 1) (swap self.old.items index (length self.old.items - 1)); steps = more_takes 1 (more_exchanges (if index == length self.old.items - 1 then 0 else 1) self.old.steps) }) }
+        ensures taken { let last = length self.old.items - 1 in OnSome result (self.new ≡ record self.old { items = take last (swap self.old.items index last); steps = more_takes 1 (more_exchanges (if index == last then 0 else 1) self.old.steps) }) }
         ensures none { IfNone result (self.new ≡ self.old) }
     {
         let len = self.len();
@@ -66,7 +66,7 @@ impl<T> Ring<T> {
         self.len = 0;
     }
 
-    /// Keeps the items at which `f` answers true, in their order, and drops the others. It is called once on each item, front to back, and takes no memory.
+    /// Keeps the items at which `f` answers true, in their order, and drops the others, in place. `f` is called once on each item, front to back.
     pub fn retain<F: FnMut(&T) -> bool>(&mut self, mut f: F)
     where
         T: Drop,

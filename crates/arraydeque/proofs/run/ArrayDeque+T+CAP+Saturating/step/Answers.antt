@@ -1,7 +1,14 @@
 use Rattle.std.proofs.Common.{refl, ap, ◌∙◌, ◌++◌, reverse}
 use Rattle.arraydeque.specs.Deque.{DequeState}
+use Rattle.arraydeque.proofs.Alike.{IsAlike-rest}
 use Rattle.arraydeque.proofs.Taken.{Takes-vec}
 use Rattle.arraydeque.proofs.run.ArrayDeque+T+CAP+Saturating.step.Goals as goal
+
+pub step_alike-requires : goal.step_alike-requires
+step_alike-requires g c =
+    let other = c.in_default in
+    let alike = IsAlike-rest c.args.call other.not-PushFront other.not-PushBack other.not-Insert other.not-ExtendBack other.not-ExtendFront in
+    assumption alike
 
 pub returns-in-ExtendBack : goal.returns-in-ExtendBack
 returns-in-ExtendBack g c =

@@ -1,4 +1,4 @@
-use Rattle.std.proofs.Common.{◌≡◌, ◌+◌, ◌-◌, ◌<◌, ◌≤◌, length, take, drop, min, nat_lt, if◌then◌else◌, true, inl, inr, refl, sym, ap, ◌∙◌, arith}
+use Rattle.std.proofs.Common.{◌≡◌, ◌+◌, ◌-◌, ◌<◌, length, take, drop, min, nat_lt, if◌then◌else◌, inl, inr, refl, ap, ◌∙◌, arith}
 use Rattle.std.specs.List.{remove_range}
 use Rattle.std.proofs.lemmas.Bool.{cases_lt, cond_below, cond_above, lt-ltb}
 use Rattle.std.proofs.lemmas.List.{length-take-le, length-drop}
@@ -79,7 +79,7 @@ after : (g : Over) (c : goal.After-self-2-1 g) → let old = c.args.self.now in 
       items = remove_range old.items c.args.from c.args.to;
       capacity = old.capacity;
       start = (if nat_lt c.args.from behind then place_of old.start count old.capacity else old.start);
-      steps = more_moves (min c.args.from behind) (more_takes count old.steps)
+      steps = more_moves (min c.args.from behind) (more_takes count old.steps);
     }
 after g c =
     let ring = opened c.self.inside c.args.self.now c.self.invariant c.self.view_is in

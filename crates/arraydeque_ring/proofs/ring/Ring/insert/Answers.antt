@@ -1,11 +1,9 @@
-use Rattle.std.proofs.Common.{◌≡◌, ◌+◌, ◌-◌, ◌<◌, ◌≤◌, length, take, drop, Fits, w64, min, nat_lt, if◌then◌else◌, refl, ap, ap₂, sym, ◌∙◌, arith}
+use Rattle.std.proofs.Common.{◌≡◌, ◌+◌, ◌-◌, ◌≤◌, length, take, drop, min, nat_lt, if◌then◌else◌, refl, ap, arith}
 use Rattle.std.specs.List.{insert}
 use Rattle.std.proofs.lemmas.Bool.{cond_below, cond_above}
-use Rattle.std.proofs.lemmas.List.{length-set, length-take-le, length-drop}
-use Rattle.std.proofs.lemmas.List.Edits.{length-insert}
+use Rattle.std.proofs.lemmas.List.{length-take-le}
 use Rattle.arraydeque_ring.specs.Ring.{RingState, place_of}
 use Rattle.arraydeque_ring.specs.Steps.{more_puts, more_moves}
-use Rattle.arraydeque_ring.proofs.TurnedOld.{place_of-lt}
 use Rattle.arraydeque_ring.proofs.Gapped.{opens_behind, opens_before, gap_empty}
 use Rattle.arraydeque_ring.proofs.Parted.{Parted, parted_before, parted_behind, parted_within, gap_put}
 use Rattle.arraydeque_ring.proofs.OpenedFields.{Opened, opened, closed, kept}

@@ -1,6 +1,5 @@
-use Rattle.std.proofs.Common.{◌≡◌, ◌+◌, ◌-◌, ◌≤◌, length, take, drop, refl, sym, ap, ◌∙◌, arith}
+use Rattle.std.proofs.Common.{◌-◌, length, take, ◌∙◌, arith}
 use Rattle.std.proofs.lemmas.List.{take_rest}
-use Rattle.arraydeque_ring.specs.Ring.{RingState, empty_ring}
 use Rattle.arraydeque_ring.specs.Steps.{more_takes}
 use Rattle.arraydeque_ring.proofs.Emptied.{made_of}
 use Rattle.arraydeque_ring.proofs.Filled.{length_within}

@@ -1,4 +1,4 @@
-use Rattle.std.proofs.Common.{◌+◌, length, map, ap, sym, ◌∙◌, arith, length-set}
+use Rattle.std.proofs.Common.{◌+◌, sym, arith, length-set}
 use Rattle.arraydeque_ring.specs.Gaps.{runs_swapped}
 use Rattle.arraydeque_ring.specs.Ring.{turned}
 use Rattle.arraydeque_ring.proofs.Crossed.{Shifts, crosses_before, shifts_before, none_before}

@@ -1,9 +1,9 @@
-use Rattle.std.proofs.Common.{◌≡◌, ◌+◌, ◌++◌, ◌∷◌, [], length, take, drop, refl, sym, ap, ap₂, ◌∙◌, arith}
-use Rattle.std.proofs.lemmas.List.{length-set, length_push, append-nil, append_assoc}
+use Rattle.std.proofs.Common.{◌+◌, ◌++◌, ◌∷◌, [], length, take, drop, sym, ap, ap₂, ◌∙◌, arith}
+use Rattle.std.proofs.lemmas.List.{length-set, length_push, append_assoc}
 use Rattle.arraydeque_ring.specs.Gaps.{run_emptied}
 use Rattle.arraydeque_ring.specs.Ring.{RingState, turned}
 use Rattle.arraydeque_ring.specs.Steps.{more_puts}
-use Rattle.arraydeque_ring.proofs.Emptied.{Takes, takes_next, none_out}
+use Rattle.arraydeque_ring.proofs.Emptied.{Takes, takes_next}
 use Rattle.arraydeque_ring.proofs.ring.moves.take_run.Given.{Over}
 use Rattle.arraydeque_ring.proofs.ring.moves.take_run.Goals.{After-wrap_add}
 use Rattle.arraydeque_ring.proofs.ring.moves.take_run.Goals as goal
