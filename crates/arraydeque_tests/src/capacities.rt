@@ -31,7 +31,10 @@ fn capacity_zero_is_empty_and_full(rt: HostRuntime) -> Result<(), Fail> {
     assert!(rt; deque.is_empty());
     drop(deque);
     let mut deque = ArrayDeque::<i64, 0, Wrapping>::new(rt.alloc())?;
-    assert_eq!(rt; (deque.push_back(5), deque.push_front(6)), (Some(5), Some(6)));
+    assert_eq!(rt;
+        (deque.push_back(5), deque.push_front(6)),
+        (Some(5), Some(6))
+    );
     assert_eq!(rt; deque.as_slices(), ([].as_slice(), [].as_slice()));
     drop(deque);
     let ring = Ring::<i64>::new(rt.alloc(), 0)?;
@@ -45,10 +48,16 @@ fn calls_on_no_items<const CAP: usize, B: Behavior>(
     rt: &impl Abort,
     mut deque: ArrayDeque<i64, CAP, B>,
 ) -> Result<(), Fail> {
-    assert_eq!(rt; (deque.len(), deque.is_empty(), deque.capacity()), (0, true, CAP));
+    assert_eq!(rt;
+        (deque.len(), deque.is_empty(), deque.capacity()),
+        (0, true, CAP)
+    );
     assert_eq!(rt; deque.is_full(), CAP == 0);
     assert_eq!(rt; (deque.pop_front(), deque.pop_back()), (None, None));
-    assert_eq!(rt; (deque.front(), deque.back(), deque.get(0)), (None, None, None));
+    assert_eq!(rt;
+        (deque.front(), deque.back(), deque.get(0)),
+        (None, None, None)
+    );
     assert_eq!(rt; deque.front_mut(), None);
     assert_eq!(rt; deque.back_mut(), None);
     assert_eq!(rt; deque.get_mut(0), None);
@@ -78,8 +87,9 @@ fn empty_deques_of_capacity_zero_and_one(rt: HostRuntime) -> Result<(), Fail> {
 
 #[test]
 fn makers_and_extends_of_capacity_zero_and_one(rt: HostRuntime) -> Result<(), Fail> {
-    let mut none = ArrayDeque::<i64, 0, Saturating>::from_array(rt.alloc(), [1, 2])
-        .map_err(|_| "refused")?;
+    let mut none = ArrayDeque::<i64, 0, Saturating>::from_array(rt.alloc(), [1, 2]).map_err(
+        |_| "refused",
+    )?;
     none.extend_back([3]);
     none.extend_front([4]);
     none.extend([5])?;
@@ -89,13 +99,15 @@ fn makers_and_extends_of_capacity_zero_and_one(rt: HostRuntime) -> Result<(), Fa
     none.extend_front([4]);
     none.extend([5])?;
     assert!(rt; none.is_empty());
-    let mut one = ArrayDeque::<i64, 1, Saturating>::from_iter(rt.alloc(), 1..3)
-        .map_err(|_| "refused")?;
+    let mut one = ArrayDeque::<i64, 1, Saturating>::from_iter(rt.alloc(), 1..3).map_err(
+        |_| "refused",
+    )?;
     one.extend_back([3]);
     one.extend_front([4]);
     assert!(rt; holds(&one, &[1]));
-    let mut one =
-        ArrayDeque::<i64, 1, Wrapping>::from_iter(rt.alloc(), 1..3).map_err(|_| "refused")?;
+    let mut one = ArrayDeque::<i64, 1, Wrapping>::from_iter(rt.alloc(), 1..3).map_err(
+        |_| "refused",
+    )?;
     assert!(rt; holds(&one, &[2]));
     one.extend_back([3, 4]);
     assert!(rt; holds(&one, &[4]));

@@ -124,26 +124,39 @@ fn clearing_and_retaining_drop(rt: HostRuntime) -> Result<(), Fail> {
 #[test]
 fn displaced_and_surplus_items_are_dropped(rt: HostRuntime) -> Result<(), Fail> {
     let drops = Drops::new(rt.alloc());
-    let mut deque: ArrayDeque<Noted<'_>, 3, Wrapping> =
-        ArrayDeque::from(deque_of::<3>(rt.alloc(), &drops, 3)?);
+    let mut deque: ArrayDeque<Noted<'_>, 3, Wrapping> = ArrayDeque::from(deque_of::<3>(
+        rt.alloc(),
+        &drops,
+        3,
+    )?);
     let items = vec![in rt.alloc(); drops.item(4), drops.item(5)]?;
     deque.extend_back(items);
     assert_eq!(rt; drops.since(rt.alloc())?.as_slice(), [1, 2].as_slice());
     drop(deque);
     drops.since(rt.alloc())?;
     let items = vec![in rt.alloc();
-        drops.item(1), drops.item(2), drops.item(3), drops.item(4), drops.item(5)
+        drops.item(1),
+        drops.item(2),
+        drops.item(3),
+        drops.item(4),
+        drops.item(5),
     ]?;
-    let deque = ArrayDeque::<Noted<'_>, 3, Saturating>::from_vec(rt.alloc(), items)
-        .map_err(|_| "refused")?;
+    let deque = ArrayDeque::<Noted<'_>, 3, Saturating>::from_vec(rt.alloc(), items).map_err(
+        |_| "refused",
+    )?;
     assert_eq!(rt; drops.since(rt.alloc())?.as_slice(), [4, 5].as_slice());
     drop(deque);
     drops.since(rt.alloc())?;
     let items = vec![in rt.alloc();
-        drops.item(1), drops.item(2), drops.item(3), drops.item(4), drops.item(5)
+        drops.item(1),
+        drops.item(2),
+        drops.item(3),
+        drops.item(4),
+        drops.item(5),
     ]?;
-    let deque = ArrayDeque::<Noted<'_>, 3, Wrapping>::from_vec(rt.alloc(), items)
-        .map_err(|_| "refused")?;
+    let deque = ArrayDeque::<Noted<'_>, 3, Wrapping>::from_vec(rt.alloc(), items).map_err(
+        |_| "refused",
+    )?;
     assert_eq!(rt; drops.since(rt.alloc())?.as_slice(), [1, 2].as_slice());
     drop(deque);
     Ok(())

@@ -13,7 +13,10 @@ fn insert<const CAP: usize>(
     item: i64,
 ) -> Option<i64> {
     assert!(rt; index <= deque.len());
-    deque.insert(index, item).err().map(|refusal| refusal.element)
+    deque
+        .insert(index, item)
+        .err()
+        .map(|refusal| refusal.element)
 }
 
 #[test]
@@ -96,7 +99,11 @@ fn compare_inserts<const CAP: usize>(
         if list.len() < CAP {
             assert!(rt; index <= list.len());
             list.insert(index, 99)?;
-            assert_eq!(rt; refused, None, "insert {index} of {CAP}, start {start}, length {len}");
+            assert_eq!(rt;
+                refused,
+                None,
+                "insert {index} of {CAP}, start {start}, length {len}"
+            );
         } else {
             assert_eq!(rt; refused, Some(99), "insert {index} of {CAP}, start {start}");
         }

@@ -40,14 +40,20 @@ fn extends_into_three_places(rt: HostRuntime) -> Result<(), Fail> {
         assert!(rt; holds(&deque, &[1, 2, 3]), "start {start}");
         deque.extend_back([4, 5]);
         assert!(rt; holds(&deque, &[1, 2, 3]), "start {start}");
-        let mut deque: ArrayDeque<i64, 3, Wrapping> =
-            ArrayDeque::from(deque_at::<3>(rt.alloc(), start, &[])?);
+        let mut deque: ArrayDeque<i64, 3, Wrapping> = ArrayDeque::from(deque_at::<3>(
+            rt.alloc(),
+            start,
+            &[],
+        )?);
         deque.extend_front([1, 2, 3]);
         assert!(rt; holds(&deque, &[3, 2, 1]), "start {start}");
         deque.extend_front([4, 5]);
         assert!(rt; holds(&deque, &[5, 4, 3]), "start {start}");
-        let mut deque: ArrayDeque<i64, 3, Wrapping> =
-            ArrayDeque::from(deque_at::<3>(rt.alloc(), start, &[])?);
+        let mut deque: ArrayDeque<i64, 3, Wrapping> = ArrayDeque::from(deque_at::<3>(
+            rt.alloc(),
+            start,
+            &[],
+        )?);
         deque.extend_back([1, 2, 3]);
         assert!(rt; holds(&deque, &[1, 2, 3]), "start {start}");
         deque.extend_back([4, 5]);
@@ -61,8 +67,11 @@ fn the_trait_displaces_none(rt: HostRuntime) -> Result<(), Fail> {
     let mut deque = deque_at::<3>(rt.alloc(), 0, &[1, 2])?;
     deque.extend([3, 4, 5])?;
     assert!(rt; holds(&deque, &[1, 2, 3]));
-    let mut deque: ArrayDeque<i64, 3, Wrapping> =
-        ArrayDeque::from(deque_at::<3>(rt.alloc(), 0, &[1, 2])?);
+    let mut deque: ArrayDeque<i64, 3, Wrapping> = ArrayDeque::from(deque_at::<3>(
+        rt.alloc(),
+        0,
+        &[1, 2],
+    )?);
     deque.extend([3, 4, 5])?;
     assert!(rt; holds(&deque, &[1, 2, 3]));
     Ok(())
@@ -84,8 +93,9 @@ fn an_extend_asks_for_what_it_has_room_for(rt: HostRuntime) -> Result<(), Fail> 
     assert_eq!(rt; count.asked, 2);
     assert!(rt; holds(&deque, &[11, 10, 1]));
     let mut count = Count::from(10);
-    let deque = ArrayDeque::<i64, 3, Saturating>::from_iter(rt.alloc(), &mut count)
-        .map_err(|_| "refused")?;
+    let deque = ArrayDeque::<i64, 3, Saturating>::from_iter(rt.alloc(), &mut count).map_err(
+        |_| "refused",
+    )?;
     assert_eq!(rt; count.asked, 3);
     assert!(rt; holds(&deque, &[10, 11, 12]));
     Ok(())
@@ -117,11 +127,14 @@ fn an_extend_ends_at_the_first_none(rt: HostRuntime) -> Result<(), Fail> {
 #[test]
 fn a_maker_ends_at_the_first_none(rt: HostRuntime) -> Result<(), Fail> {
     let answers = [Some(1), None, Some(2)];
-    let deque = ArrayDeque::<i64, 5, Saturating>::from_iter(rt.alloc(), Script::of(&answers))
-        .map_err(|_| "refused")?;
+    let deque = ArrayDeque::<i64, 5, Saturating>::from_iter(
+        rt.alloc(),
+        Script::of(&answers),
+    ).map_err(|_| "refused")?;
     assert!(rt; holds(&deque, &[1]));
-    let deque = ArrayDeque::<i64, 5, Wrapping>::from_iter(rt.alloc(), Script::of(&answers))
-        .map_err(|_| "refused")?;
+    let deque = ArrayDeque::<i64, 5, Wrapping>::from_iter(rt.alloc(), Script::of(&answers)).map_err(
+        |_| "refused",
+    )?;
     assert!(rt; holds(&deque, &[1]));
     Ok(())
 }

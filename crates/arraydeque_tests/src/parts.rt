@@ -2,8 +2,7 @@
 ghost use Rattle.std.specs.Prelude.{Some, ◌+◌};
 
 use crate::build::{deque_at, holds, numbers};
-use arraydeque::RangeArgument;
-use arraydeque::{ArrayDeque, Saturating};
+use arraydeque::{ArrayDeque, RangeArgument, Saturating};
 use std::alloc::Global;
 use std::process::Abort;
 use std::test::Fail;

@@ -106,7 +106,12 @@ fn a_run_goes_on_after_a_refused_drain(rt: HostRuntime) -> Result<(), Fail> {
         }
         Err(refusal) => {
             let calls = refusal.source.as_slice();
-            assert!(rt; matches!(calls, [Call::PushBack(4), Call::Drain(1, 3), Call::PopFront]));
+            assert!(rt;
+                matches!(
+                    calls,
+                    [Call::PushBack(4), Call::Drain(1, 3), Call::PopFront]
+                )
+            );
             assert!(rt; holds(&deque, &[0, 1, 2, 3]));
         }
     }
@@ -126,8 +131,14 @@ fn most_calls_ask_for_no_memory(rt: HostRuntime) -> Result<(), Fail> {
     assert!(rt; deque.push_back(6).is_err());
     assert!(rt; holds(&deque, &[0, 5, 1, 2]));
     assert_eq!(rt; (deque.len(), deque.capacity()), (4, 4));
-    assert_eq!(rt; (deque.is_empty(), deque.is_full(), deque.contains(&5)), (false, true, true));
-    assert_eq!(rt; (deque.front(), deque.back(), deque.get(1)), (Some(&0), Some(&2), Some(&5)));
+    assert_eq!(rt;
+        (deque.is_empty(), deque.is_full(), deque.contains(&5)),
+        (false, true, true)
+    );
+    assert_eq!(rt;
+        (deque.front(), deque.back(), deque.get(1)),
+        (Some(&0), Some(&2), Some(&5))
+    );
     *deque.front_mut().ok_or("no item")? = 7;
     *deque.back_mut().ok_or("no item")? = 8;
     *deque.get_mut(1).ok_or("no item")? = 9;
@@ -137,6 +148,7 @@ fn most_calls_ask_for_no_memory(rt: HostRuntime) -> Result<(), Fail> {
     assert_eq!(rt; deque[3], 8);
     deque.swap(0, 3);
     assert!(rt; holds(&deque, &[8, 9, 6, 7]));
+    assert_eq!(rt; deque.len(), 4);
     assert_eq!(rt; deque.drain(1..1)?.next(), None);
     assert_eq!(rt; deque.remove(1), Some(9));
     assert_eq!(rt; deque.swap_remove_back(0), Some(8));
