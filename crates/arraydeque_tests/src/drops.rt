@@ -204,3 +204,24 @@ fn a_drain_drops_what_is_left(rt: HostRuntime) -> Result<(), Fail> {
     assert_eq!(rt; drops.since(rt.alloc())?.as_slice(), [4, 1, 5].as_slice());
     Ok(())
 }
+
+#[test]
+fn vectors_in_a_deque_drop_their_items(rt: HostRuntime) -> Result<(), Fail> {
+    let drops = Drops::new(rt.alloc());
+    let mut deque = ArrayDeque::<Vec<Noted<'_>>, 3, Saturating>::new(rt.alloc())?;
+    let one = vec![in rt.alloc(); drops.item(1)]?;
+    let two = vec![in rt.alloc(); drops.item(2), drops.item(3)]?;
+    let surplus = vec![in rt.alloc(); drops.item(4)]?;
+    for items in [one, two, Vec::new(rt.alloc())] {
+        assert!(rt; deque.push_back(items).is_ok());
+    }
+    assert!(rt; deque.push_back(surplus).is_err());
+    assert_eq!(rt; drops.since(rt.alloc())?.as_slice(), [4].as_slice());
+    drop(deque.pop_back());
+    assert_eq!(rt; drops.since(rt.alloc())?.len(), 0);
+    drop(deque.pop_back());
+    assert_eq!(rt; drops.since(rt.alloc())?.as_slice(), [2, 3].as_slice());
+    drop(deque);
+    assert_eq!(rt; drops.since(rt.alloc())?.as_slice(), [1].as_slice());
+    Ok(())
+}

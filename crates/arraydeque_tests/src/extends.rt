@@ -1,6 +1,6 @@
 //! Extends at both ends, and how often they ask.
 use crate::asked::{Count, Script};
-use crate::build::{deque_at, holds};
+use crate::build::{deque_at, holds, wrapping_at};
 use arraydeque::{ArrayDeque, Saturating, Wrapping};
 use std::test::Fail;
 
@@ -40,20 +40,12 @@ fn extends_into_three_places(rt: HostRuntime) -> Result<(), Fail> {
         assert!(rt; holds(&deque, &[1, 2, 3]), "start {start}");
         deque.extend_back([4, 5]);
         assert!(rt; holds(&deque, &[1, 2, 3]), "start {start}");
-        let mut deque: ArrayDeque<i64, 3, Wrapping> = ArrayDeque::from(deque_at::<3>(
-            rt.alloc(),
-            start,
-            &[],
-        )?);
+        let mut deque = wrapping_at::<3>(rt.alloc(), start, &[])?;
         deque.extend_front([1, 2, 3]);
         assert!(rt; holds(&deque, &[3, 2, 1]), "start {start}");
         deque.extend_front([4, 5]);
         assert!(rt; holds(&deque, &[5, 4, 3]), "start {start}");
-        let mut deque: ArrayDeque<i64, 3, Wrapping> = ArrayDeque::from(deque_at::<3>(
-            rt.alloc(),
-            start,
-            &[],
-        )?);
+        let mut deque = wrapping_at::<3>(rt.alloc(), start, &[])?;
         deque.extend_back([1, 2, 3]);
         assert!(rt; holds(&deque, &[1, 2, 3]), "start {start}");
         deque.extend_back([4, 5]);
@@ -67,11 +59,7 @@ fn the_trait_displaces_none(rt: HostRuntime) -> Result<(), Fail> {
     let mut deque = deque_at::<3>(rt.alloc(), 0, &[1, 2])?;
     deque.extend([3, 4, 5])?;
     assert!(rt; holds(&deque, &[1, 2, 3]));
-    let mut deque: ArrayDeque<i64, 3, Wrapping> = ArrayDeque::from(deque_at::<3>(
-        rt.alloc(),
-        0,
-        &[1, 2],
-    )?);
+    let mut deque = wrapping_at::<3>(rt.alloc(), 0, &[1, 2])?;
     deque.extend([3, 4, 5])?;
     assert!(rt; holds(&deque, &[1, 2, 3]));
     Ok(())

@@ -37,6 +37,8 @@ fn each_kind_of_range(rt: HostRuntime) -> Result<(), Fail> {
     let drained: Vec<i64> = deque.drain(2..)?.collect(rt.alloc())?;
     assert_eq!(rt; drained.as_slice(), [2].as_slice());
     assert!(rt; holds(&deque, &[0, 1]));
+    drop(deque.drain(..)?);
+    assert!(rt; deque.is_empty());
     let mut deque = deque_at::<3>(rt.alloc(), 0, &[0, 1, 2])?;
     assert_eq!(rt; deque.len(), 3);
     let drained: Vec<i64> = deque.drain(..2)?.collect(rt.alloc())?;
