@@ -4,11 +4,12 @@
 pub mod behavior;
 mod deque;
 mod error;
-pub mod iter;
+mod iter;
 mod range;
 pub mod run;
 
 pub use behavior::{Saturating, Wrapping};
 pub use deque::ArrayDeque;
 pub use error::{CapacityError, MakeError};
+pub use iter::Drain;
 pub use range::RangeArgument;

@@ -4,7 +4,7 @@ ghost use Rattle.std.specs.List.{remove_range};
 ghost use Rattle.std.specs.Mem.{type_size};
 ghost use Rattle.arraydeque_ring.specs.Ring.{place_of};
 ghost use Rattle.arraydeque_ring.specs.Steps.{no_steps, more_moves, more_puts, more_takes};
-ghost use Rattle.arraydeque.specs.Range.{first_of, end_of};
+ghost use Rattle.arraydeque.specs.Range.{first_of, end_of, count_within, count_behind, items_within, items_around};
 
 use super::ArrayDeque;
 use crate::behavior::Behavior;
@@ -22,10 +22,18 @@ impl<T, const CAP: usize, B: Behavior> ArrayDeque<T, CAP, B> {
         R: Drop,
         requires ordered { first_of (R.names_start range) ≤ end_of (R.names_end range) (length self.old.items) }
         requires in_bounds { end_of (R.names_end range) (length self.old.items) ≤ length self.old.items }
-        ensures drained { IfOk result (λ drained. drained ≡ slice_range self.old.items (first_of (R.names_start range)) (end_of (R.names_end range) (length self.old.items))) }
-        ensures items { OnOk result (self.new.items ≡ remove_range self.old.items (first_of (R.names_start range)) (end_of (R.names_end range) (length self.old.items))) }
+        ensures drained { IfOk result (λ drained. drained ≡ items_within (R.names_start range) (R.names_end range) self.old.items) }
+        ensures items { OnOk result (self.new.items ≡ items_around (R.names_start range) (R.names_end range) self.old.items) }
+        ensures start { let before = first_of (R.names_start range) in
+            let gap = count_within (R.names_start range) (R.names_end range) self.old.items in
+            let behind = count_behind (R.names_start range) (R.names_end range) self.old.items in
+            OnOk result (self.new.start ≡ (if nat_lt before behind then place_of self.old.start gap CAP else self.old.start)) }
+        ensures steps { let before = first_of (R.names_start range) in
+            let gap = count_within (R.names_start range) (R.names_end range) self.old.items in
+            let behind = count_behind (R.names_start range) (R.names_end range) self.old.items in
+            OnOk result (self.new.steps ≡ more_moves (if nat_lt 0 gap then min before behind else 0) (more_takes gap self.old.steps)) }
         ensures unchanged { OnErr result (self.new ≡ self.old) }
-        ensures refused { OnErr result (0 < (end_of (R.names_end range) (length self.old.items) - first_of (R.names_start range)) * type_size T.row) }
+        ensures refused { OnErr result (0 < count_within (R.names_start range) (R.names_end range) self.old.items * type_size T.row) }
     {
         let start = match range.start() {
             Some(start) => start,
