@@ -1,7 +1,7 @@
 //! Which items are dropped, and in which order.
 use arraydeque::run::Call;
 use arraydeque::{ArrayDeque, Saturating, Wrapping};
-use std::alloc::Global;
+use std::alloc::{AllocError, Global};
 use std::cell::RefCell;
 use std::test::Fail;
 
@@ -43,6 +43,19 @@ fn deque_of<'a, const CAP: usize>(
             .map_err(|_| "no room")?;
     }
     Ok(deque)
+}
+
+/// A vector of items of these names.
+fn vector_of<'a>(
+    alloc: Global,
+    drops: &'a Drops,
+    names: &[u8],
+) -> Result<Vec<Noted<'a>>, AllocError> {
+    let mut items = Vec::new(alloc);
+    for name in names {
+        items.push(drops.item(*name))?;
+    }
+    Ok(items)
 }
 
 impl Drop for Noted<'_> {
@@ -129,31 +142,19 @@ fn displaced_and_surplus_items_are_dropped(rt: HostRuntime) -> Result<(), Fail> 
         &drops,
         3,
     )?);
-    let items = vec![in rt.alloc(); drops.item(4), drops.item(5)]?;
+    let items = vector_of(rt.alloc(), &drops, &[4, 5])?;
     deque.extend_back(items);
     assert_eq!(rt; drops.since(rt.alloc())?.as_slice(), [1, 2].as_slice());
     drop(deque);
     drops.since(rt.alloc())?;
-    let items = vec![in rt.alloc();
-        drops.item(1),
-        drops.item(2),
-        drops.item(3),
-        drops.item(4),
-        drops.item(5),
-    ]?;
+    let items = vector_of(rt.alloc(), &drops, &[1, 2, 3, 4, 5])?;
     let deque = ArrayDeque::<Noted<'_>, 3, Saturating>::from_vec(rt.alloc(), items).map_err(
         |_| "refused",
     )?;
     assert_eq!(rt; drops.since(rt.alloc())?.as_slice(), [4, 5].as_slice());
     drop(deque);
     drops.since(rt.alloc())?;
-    let items = vec![in rt.alloc();
-        drops.item(1),
-        drops.item(2),
-        drops.item(3),
-        drops.item(4),
-        drops.item(5),
-    ]?;
+    let items = vector_of(rt.alloc(), &drops, &[1, 2, 3, 4, 5])?;
     let deque = ArrayDeque::<Noted<'_>, 3, Wrapping>::from_vec(rt.alloc(), items).map_err(
         |_| "refused",
     )?;
@@ -209,12 +210,12 @@ fn a_drain_drops_what_is_left(rt: HostRuntime) -> Result<(), Fail> {
 fn vectors_in_a_deque_drop_their_items(rt: HostRuntime) -> Result<(), Fail> {
     let drops = Drops::new(rt.alloc());
     let mut deque = ArrayDeque::<Vec<Noted<'_>>, 3, Saturating>::new(rt.alloc())?;
-    let one = vec![in rt.alloc(); drops.item(1)]?;
-    let two = vec![in rt.alloc(); drops.item(2), drops.item(3)]?;
-    let surplus = vec![in rt.alloc(); drops.item(4)]?;
-    for items in [one, two, Vec::new(rt.alloc())] {
+    let lists: [&[u8]; 3] = [&[1], &[2, 3], &[]];
+    for names in lists {
+        let items = vector_of(rt.alloc(), &drops, names)?;
         assert!(rt; deque.push_back(items).is_ok());
     }
+    let surplus = vector_of(rt.alloc(), &drops, &[4])?;
     assert!(rt; deque.push_back(surplus).is_err());
     assert_eq!(rt; drops.since(rt.alloc())?.as_slice(), [4].as_slice());
     drop(deque.pop_back());
