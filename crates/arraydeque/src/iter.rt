@@ -1,5 +1,5 @@
 //! Iterators over the items of a deque. A contract sees each as the list of the items that remain.
-ghost use Rattle.std.specs.Prelude.{◌≡◌};
+ghost use Rattle.std.specs.Prelude.{◌≡◌, length, Some};
 ghost use Rattle.std.specs.Iterator.{YieldsFirst, YieldsLast, item_count};
 
 use arraydeque_ring::ring::Ring;
@@ -40,7 +40,9 @@ impl<T: Drop> Iterator for Drain<T> {
         self.ring.pop_front()
     }
 
-    fn size_hint(&self) -> (usize, Option<usize>) {
+    fn size_hint(&self) -> (usize, Option<usize>)
+        ensures exact { result ≡ (length self.now, Some (length self.now)) }
+    {
         let len = self.len();
         (len, Some(len))
     }

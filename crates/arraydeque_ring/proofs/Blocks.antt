@@ -1,5 +1,5 @@
 -- The size of a region's block, and the right to free it. Assumes `Logic`.
-use Rattle.arraydeque_ring.proofs.Kit.{◌≡◌, refl, sym, ap, subst, ◌∙◌, ℕ, zero, suc, ◌*◌, ◌<◌, ◌^◌, arith, zero-mul, suc-mul, Ura, ent, emp, guard, guard_i, id⊢, fact_use, Logic, sem, Ty, ty_array, size, align, capped, capped_is, Ptr, block_ptr, El, R, elτ}
+use Rattle.arraydeque_ring.proofs.Kit.{◌≡◌, sym, ap, subst, ◌∙◌, ℕ, zero, suc, ◌*◌, ◌<◌, ◌^◌, arith, zero-mul, suc-mul, Ura, ent, emp, guard, guard_i, id⊢, fact_use, Logic, sem, Ty, ty_array, size, align, capped, capped_is, Ptr, block_ptr, El, R, elτ}
 use mir.Raw.{raw as bare}
 use prog.RawLaws.{size-raw, align-raw}
 use Rattle.std.proofs.lemmas.Bool.{lt-ltb, le-ltb}

@@ -1,7 +1,7 @@
 -- A `Slots` is taken apart into its words, its places and its right to free, and made of them; a `&mut` to one is opened and closed. Assumes `Logic`.
-use Rattle.arraydeque_ring.proofs.Kit.{◌≡◌, refl, sym, ap, subst, ◌∙◌, List, [], ◌∷◌, ◌++◌, ℕ, zero, suc, ◌+◌, ◌*◌, ◌<◌, ◌^◌, length, set, length-set, Option, Ura, full_share, Gv, ent, emp, id⊢, never, Lft, Share, GName, Fml, fsep, flt, flft, fobs, fauth, fbor, fobor, ftrue, w64, Val, vunit, vint, vptr, vstruct, vcons, vnil, of_list, Logic, sem, Borrowed, Goal, Soaks, Step, step, Seq, Item, ‵, ◌$◌, move, drop, rewrite, use0, use2, fsplit, fjoin, fpick, fpack, feq_l, feq_i, flt_l, flt_i, RattleType, Valss, Is, shows, layout, cell_at, mem, Ptr, block_ptr, ptr_val, in_a_block, nothing, opens, closes, peeks, Good, heap_val, heap_Tells, El, R, el_x}
+use Rattle.arraydeque_ring.proofs.Kit.{◌≡◌, refl, sym, ap, subst, ◌∙◌, List, [], ◌∷◌, ◌++◌, ℕ, ◌+◌, ◌*◌, ◌<◌, ◌^◌, length, set, length-set, Option, Ura, full_share, Gv, ent, emp, id⊢, never, Lft, Share, GName, Fml, fsep, flft, fobs, fauth, fbor, fobor, ftrue, w64, Val, vunit, vint, vptr, vstruct, vcons, vnil, of_list, Logic, sem, Borrowed, Goal, Soaks, Step, step, Seq, Item, ‵, ◌$◌, move, drop, rewrite, use0, use2, fsplit, fjoin, fpick, fpack, feq_l, feq_i, flt_l, flt_i, RattleType, Valss, Is, shows, layout, cell_at, mem, Ptr, block_ptr, ptr_val, in_a_block, nothing, opens, closes, peeks, Good, heap_val, heap_Tells, El, R, el_x}
 use denote.Shadow.{makes_shadow}
-use denote.Struct.Struct.{Struct, within}
+use denote.Struct.Struct.{within}
 use denote.Struct.Owning.{Owning, shape}
 use Rattle.std.specs.contracts.alloc.Global as heap
 use Rattle.std.specs.declared.alloc.Global.{Global}

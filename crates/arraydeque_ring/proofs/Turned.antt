@@ -1,7 +1,7 @@
 -- A list read from an index on, round its end.
-use Rattle.std.proofs.Common.{◌≡◌, ℕ, ◌+◌, ◌-◌, ◌%◌, ◌<◌, ◌≤◌, ◌⊎◌, inl, inr, List, ◌++◌, map, length, take, drop, set, get_or, replicate, sym, ap, ap₂, ◌∙◌, arith}
+use Rattle.std.proofs.Common.{◌≡◌, ℕ, zero, suc, ◌+◌, ◌-◌, ◌%◌, ◌<◌, ◌≤◌, ◌⊎◌, ◌==◌, inl, inr, List, ◌++◌, map, length, take, drop, set, get_or, replicate, sym, ap, ap₂, ◌∙◌, arith}
 use Rattle.std.proofs.Math.Nat.{mod-eq_of_lt, mod-eq-sub-mod, add-mod-mod, mod-add-mod, add_assoc}
-use Rattle.std.proofs.lemmas.Bool.{cases_lt, cases_eq}
+use Rattle.std.proofs.lemmas.Bool.{cases_lt, cases_eq, eq-eqb, ne_eqb}
 use Rattle.std.proofs.lemmas.List.{length-append, length-take, length-drop, length-set, get_or_append_left, get_or-append_right, get_or-drop, get_or-take, get_or-set_same, get_or-set_other, same_lists, take_at, drop_at, map-append, drop-map, take-map, take-append-drop, take-replicate, drop-replicate, replicate-append-replicate}
 use Rattle.arraydeque_ring.specs.Ring.{place_of, turned}
 
@@ -17,18 +17,25 @@ pub place_of-lt : (t k n : ℕ) → t + k < n + n → place_of t k n < n
 place_of-lt t k n within = elim (place_of_cases t k n within) [ inl below ↦ omega arith | inr past ↦ omega arith ]
 
 -- the index 0 has the start itself
-pub place_of-zero : (t n : ℕ) → t < n → place_of t 0 n ≡ t
-place_of-zero t n lt = mod-eq_of_lt (omega arith) ∙ omega arith
+pub place_of-zero : (t n : ℕ) → t ≤ n - 1 → place_of t 0 n ≡ t
+place_of-zero t zero le = let none : t ≡ 0 = omega arith in ap (λ m. place_of m 0 0) none ∙ sym none
+place_of-zero t (suc n) le = mod-eq_of_lt (omega arith) ∙ omega arith
 
 -- to go on by k and then by i is to go on by both, round the end
-pub place_of-place_of : (t k i n : ℕ) → place_of (place_of t k n) i n ≡ place_of t (place_of k i n) n
+place_of-place_of : (t k i n : ℕ) → place_of (place_of t k n) i n ≡ place_of t (place_of k i n) n
 place_of-place_of t k i n = mod-add-mod (t + k) n i ∙ ap (λ m. m % n) (add_assoc t k i) ∙ sym (add-mod-mod t (k + i) n)
 
 -- two indexes have two places
-pub same_index : (t i j n : ℕ) → t ≤ n → i < n → j < n → place_of t i n ≡ place_of t j n → i ≡ j
+same_index : (t i j n : ℕ) → t ≤ n → i < n → j < n → place_of t i n ≡ place_of t j n → i ≡ j
 same_index t i j n a b c e = elim (place_of_cases t i n (omega arith)) [
   | inl x ↦ elim (place_of_cases t j n (omega arith)) [ inl y ↦ omega arith | inr y ↦ omega arith ]
   | inr x ↦ elim (place_of_cases t j n (omega arith)) [ inl y ↦ omega arith | inr y ↦ omega arith ]
+]
+
+pub one_place : (t i j n : ℕ) → t ≤ n → i < n → j < n → (place_of t i n == place_of t j n) ≡ (i == j)
+one_place t i j n a b c = elim (cases_eq i j) [
+  | inl same ↦ eq-eqb (place_of t i n) (place_of t j n) (ap (λ k. place_of t k n) same) ∙ sym (eq-eqb i j same)
+  | inr other ↦ ne_eqb (place_of t i n) (place_of t j n) (λ e. other (same_index t i j n a b c e)) ∙ sym (ne_eqb i j other)
 ]
 
 -- a run from the index i on may start at the place p: the place of i, or the region's end in its stead
@@ -86,7 +93,7 @@ module _ {X : Type 0} where
 
   -- to write at the start is to write the first element
   pub turned-set_start : (t n : ℕ) (xs : List X) (c : X) → length xs ≡ n → t < n → turned t (set xs t c) ≡ set (turned t xs) 0 c
-  turned-set_start t n xs c long lt = ap (λ p. turned t (set xs p c)) (sym (place_of-zero t n lt)) ∙ turned-set t 0 n xs c long lt (omega arith)
+  turned-set_start t n xs c long lt = ap (λ p. turned t (set xs p c)) (sym (place_of-zero t n (omega arith))) ∙ turned-set t 0 n xs c long lt (omega arith)
 
   -- the len elements from the index i on are those from the place p on
   pub turned-run : (t i n p len : ℕ) (xs : List X) → length xs ≡ n → t ≤ n → MayStartAt t i n p → i + len ≤ n → p + len ≤ n → take len (drop i (turned t xs)) ≡ take len (drop p xs)

@@ -5,7 +5,7 @@ use Rattle.std.specs.contracts.impls.GlobalAllocator.TheImpl as heap
 use Rattle.std.specs.declared.alloc.Global.{Global}
 use base.Fraction.{full_share}
 use base.Fml.{Lft, Fml, ftrue, ffalse, fsep, flt, froom}
-use mir.Syntax.{Ty, ty_array}
+use mir.Syntax.{ty_array}
 use mir.Raw.{raw}
 use denote.RattleType.{RattleType}
 use denote.Memory.{lone, part_at, shared_of}

@@ -2,7 +2,7 @@
 ghost use Rattle.std.specs.Prelude.{◌≡◌, ◌<◌, ◌*◌, ◌+◌, ◌≤◌, ◌++◌, length, take, IfOk, IfErr, OnErr};
 ghost use Rattle.std.specs.Iterator.{IsFinite};
 ghost use Rattle.std.specs.Mem.{type_size};
-ghost use Rattle.arraydeque.specs.Deque.{keep_last};
+ghost use Rattle.arraydeque.specs.Deque.{empty_deque, keep_last, put_behind};
 ghost use Rattle.arraydeque.specs.Sources.{EachIterator, TakesFrom, TakesAll};
 
 use super::ArrayDeque;
@@ -18,7 +18,7 @@ impl<T: Drop, const CAP: usize> ArrayDeque<T, CAP, Saturating> {
         iter: I,
     ) -> Result<Self, MakeError<I>>
         requires { EachIterator I.into_iter_gives iter (λ it. I.IntoIter.can_next it) }
-        ensures items { IfOk result (λ deque. TakesFrom I.into_iter_gives I.IntoIter.next_gives iter CAP (λ xs. deque.items ≡ xs)) }
+        ensures items { IfOk result (λ deque. TakesFrom I.into_iter_gives I.IntoIter.next_gives iter CAP (λ xs. deque ≡ put_behind xs empty_deque)) }
         ensures source { IfErr result (λ refusal. refusal.source ≡ iter) }
         ensures refused { OnErr result (0 < CAP * type_size T.row) }
     {
@@ -33,7 +33,7 @@ impl<T: Drop, const CAP: usize> ArrayDeque<T, CAP, Saturating> {
 
     /// A deque of the first `CAP` items of a vector; the others are dropped. Where the region is refused the vector comes back as it was.
     pub fn from_vec(alloc: Global, v: Vec<T>) -> Result<Self, MakeError<Vec<T>>>
-        ensures items { IfOk result (λ deque. deque.items ≡ take CAP v.items) }
+        ensures items { IfOk result (λ deque. deque ≡ put_behind (take CAP v.items) empty_deque) }
         ensures source { IfErr result (λ refusal. refusal.source ≡ v) }
         ensures refused { OnErr result (0 < CAP * type_size T.row) }
     {
@@ -44,7 +44,7 @@ impl<T: Drop, const CAP: usize> ArrayDeque<T, CAP, Saturating> {
     pub fn from_array<const N: usize>(alloc: Global, a: [T; N]) -> Result<Self, MakeError<[T; N]>>
     where
         T: Copy,
-        ensures items { IfOk result (λ deque. deque.items ≡ take CAP a) }
+        ensures items { IfOk result (λ deque. deque ≡ put_behind (take CAP a) empty_deque) }
         ensures source { IfErr result (λ refusal. refusal.source ≡ a) }
         ensures refused { OnErr result (0 < CAP * type_size T.row) }
     {
@@ -92,7 +92,7 @@ impl<T: Drop, const CAP: usize> ArrayDeque<T, CAP, Wrapping> {
     pub fn from_array<const N: usize>(alloc: Global, a: [T; N]) -> Result<Self, MakeError<[T; N]>>
     where
         T: Copy,
-        ensures items { IfOk result (λ deque. deque.items ≡ keep_last CAP a) }
+        ensures items { IfOk result (λ deque. deque ≡ put_behind (keep_last CAP a) empty_deque) }
         ensures source { IfErr result (λ refusal. refusal.source ≡ a) }
         ensures refused { OnErr result (0 < CAP * type_size T.row) }
     {
@@ -113,7 +113,7 @@ impl<T, const CAP: usize, B: Behavior> ArrayDeque<T, CAP, B> {
     where
         T: Copy,
         requires { length self.old.items + length items.now ≤ CAP }
-        ensures { self.new.items ≡ self.old.items ++ items.now }
+        ensures { self.new ≡ put_behind items.now self.old }
     {
         for item in items {
             self.ring.push_back(*item);

@@ -3,22 +3,21 @@ use Rattle.std.proofs.Common.{inl, inr, set, Some, sym, ap, ◌∙◌, arith}
 use Rattle.std.proofs.lemmas.List.{length-set}
 use Rattle.std.proofs.lemmas.Option.{slice_get_past}
 use Rattle.arraydeque_ring.specs.Steps.{more_lends}
-use Rattle.arraydeque_ring.proofs.Edited.{set_item}
-use Rattle.arraydeque_ring.proofs.Filled.{length_within, filled_at, held_laid_out}
-use Rattle.arraydeque_ring.proofs.OpenedFields.{Opened, opened, closed, kept}
+use Rattle.arraydeque_ring.proofs.LaidOut.{length_within, held_at-place_of, IsFilled-place_of, LaidOut-set}
+use Rattle.arraydeque_ring.proofs.Opened.{Opened, opened, closed, kept, place_at}
 use Rattle.arraydeque_ring.proofs.ring.Ring.get_mut.Given.{Over}
 use Rattle.arraydeque_ring.proofs.ring.Ring.get_mut.Goals as goal
 use Rattle.arraydeque_ring.proofs.ring.Ring.get_mut.Goals.{After-get_mut}
 
 pub returns-then-index-self : goal.returns-then-index-self
 returns-then-index-self g c =
-    let ring = opened c.self.inside c.args.self.now c.self.invariant c.self.view_is in
+    let ring = opened c.self.inside c.self.invariant c.self.view_is in
     (ap inr c.self.view_is, record { writes_back = tt; value = sym (slice_get_past c.args.self.now.items c.args.index (omega arith)) })
 
 pub get_mut-requires : goal.get_mut-requires
 get_mut-requires g c =
-    let ring = opened c.self.inside c.args.self.now c.self.invariant c.self.view_is in
-    rw (c.wrap_add-place.ensures, c.capacity.ensures) (filled_at _ _ _ _ ring.laid (omega arith))
+    let ring = opened c.self.inside c.self.invariant c.self.view_is in
+    rw (place_at ring _ c.capacity.ensures c.wrap_add-place.ensures) (IsFilled-place_of ring.laid _ (omega arith))
 
 after : (g : Over) (c : After-get_mut g) (w : g.row.T.Denot) → Opened record {
   slots = record { places = set c.self.inside.slots.places c.wrap_add-place.result (Some w); steps = more_lends 1 c.self.inside.slots.steps };
@@ -28,22 +27,21 @@ after : (g : Over) (c : After-get_mut g) (w : g.row.T.Denot) → Opened record {
 }
     record c.args.self.now { items = set c.args.self.now.items c.args.index w; steps = more_lends 1 c.args.self.now.steps }
 after g c w =
-    let ring = opened c.self.inside c.args.self.now c.self.invariant c.self.view_is in
+    let ring = opened c.self.inside c.self.invariant c.self.view_is in
     record {
-      laid = rw (c.wrap_add-place.ensures, c.capacity.ensures) (set_item _ _ _ _ w ring.laid (omega arith));
+      laid = rw (place_at ring _ c.capacity.ensures c.wrap_add-place.ensures) (LaidOut-set ring.laid _ w (omega arith));
       len = length-set c.args.self.now.items c.args.index w ∙ ring.len;
-      capacity = rw length-set ring.capacity;
       start = ring.start;
       steps = ap (more_lends 1) ring.steps;
     }
 
 pub invariant_of-self-lent : goal.invariant_of-self-lent
-invariant_of-self-lent g c w = kept _ _ (after g c w)
+invariant_of-self-lent g c w = kept (after g c w)
 
 pub returns : goal.returns
 returns g c =
-    let ring = opened c.self.inside c.args.self.now c.self.invariant c.self.view_is in
-    let lent = held_laid_out _ _ _ c.args.index ring.laid (omega (arith, length_within _ _ _ ring.laid)) in (
-      ap (λ ends. inl (c.get_mut.result.ghost_name, ends)) (fun_ext (λ w. closed _ _ (after g (goal.at.returns g c).After-get_mut w))),
-      record { writes_back = tt; value = sym c.get_mut.ensures.value ∙ rw (c.wrap_add-place.ensures, c.capacity.ensures) lent },
+    let ring = opened c.self.inside c.self.invariant c.self.view_is in
+    let lent = held_at-place_of ring.laid c.args.index (omega (arith, length_within ring.laid)) in (
+      ap (λ ends. inl (c.get_mut.result.ghost_name, ends)) (fun_ext (λ w. closed (after g (goal.at.returns g c).After-get_mut w))),
+      record { writes_back = tt; value = sym c.get_mut.ensures.value ∙ rw (place_at ring _ c.capacity.ensures c.wrap_add-place.ensures) lent },
     )

@@ -1,59 +1,51 @@
-use Rattle.std.proofs.Common.{◌≡◌, suc, ◌-◌, length, take, drop, min, nat_lt, if◌then◌else◌, ap, sym, ◌∙◌, arith}
+use Rattle.std.proofs.Common.{suc, ◌-◌, length, take, drop, min, nat_lt, if◌then◌else◌, ap, sym, ◌∙◌, arith}
 use Rattle.std.specs.List.{remove}
 use Rattle.std.proofs.lemmas.List.{length-take-le, length-drop}
+use Rattle.std.proofs.lemmas.List.Edits.{length-remove}
 use Rattle.arraydeque_ring.specs.Ring.{RingState, place_of}
 use Rattle.arraydeque_ring.specs.Steps.{more_takes, more_moves}
-use Rattle.arraydeque_ring.proofs.Filled.{filled_at, held_laid_out, length_within}
-use Rattle.arraydeque_ring.proofs.OpenedFields.{Opened, opened, closed, kept}
-use Rattle.arraydeque_ring.proofs.Parted.{Parted, item_out, before_filled, gap_empty, behind_filled, joined}
+use Rattle.arraydeque_ring.proofs.GapMoves.{Closes, closes}
+use Rattle.arraydeque_ring.proofs.Gapped.{Gapped, Gapped-taken_one, length_places}
+use Rattle.arraydeque_ring.proofs.LaidOut.{length_within, held_at-place_of, IsFilled-place_of}
+use Rattle.arraydeque_ring.proofs.Opened.{Opened, opened, closed, kept, place_at}
 use Rattle.arraydeque_ring.proofs.ring.Ring.remove.Given.{Over}
 use Rattle.arraydeque_ring.proofs.ring.Ring.remove.Goals.{After-take-item}
 use Rattle.arraydeque_ring.proofs.ring.Ring.remove.Goals as goal
 
 pub wrap_add-requires-clause-in_reach : goal.wrap_add-requires-clause-in_reach
 wrap_add-requires-clause-in_reach g c =
-    let ring = opened c.self.inside c.args.self.now c.self.invariant c.self.view_is in
-    omega (arith, length_within _ _ _ ring.laid)
+    let ring = opened c.self.inside c.self.invariant c.self.view_is in
+    omega (arith, ring.laid.long, length_within ring.laid)
 
 pub take-item-requires : goal.take-item-requires
 take-item-requires g c =
-    let ring = opened c.self.inside c.args.self.now c.self.invariant c.self.view_is in
-    rw (c.wrap_add.ensures, c.capacity.ensures) (filled_at _ _ _ _ ring.laid c.requires)
+    let ring = opened c.self.inside c.self.invariant c.self.view_is in
+    rw (place_at ring _ c.capacity.ensures c.wrap_add.ensures) (IsFilled-place_of ring.laid _ c.requires)
 
 pub overflow_sub-self : goal.overflow_sub-self
-overflow_sub-self g c = let ring = opened c.self.inside c.args.self.now c.self.invariant c.self.view_is in omega arith
+overflow_sub-self g c = let ring = opened c.self.inside c.self.invariant c.self.view_is in omega arith
 
 pub overflow_sub-self-inside : goal.overflow_sub-self-inside
-overflow_sub-self-inside g c = let ring = opened c.self.inside c.args.self.now c.self.invariant c.self.view_is in omega arith
+overflow_sub-self-inside g c = let ring = opened c.self.inside c.self.invariant c.self.view_is in omega arith
 
-parted : (g : Over) (c : After-take-item g) → Parted record { slots = c.take-item.new.self; start = c.self.inside.start; len = c.self.inside.len - 1; alloc = c.self.inside.alloc }
-    record c.args.self.now { steps = more_takes 1 c.args.self.now.steps } (take c.args.index c.args.self.now.items) 1 (drop (suc c.args.index) c.args.self.now.items) (c.args.self.now.capacity - length c.args.self.now.items)
-parted g c =
-    let ring = opened c.self.inside c.args.self.now c.self.invariant c.self.view_is in
-    item_out c.self.inside c.args.self.now c.take-item.new.self c.args.index ring c.requires (rw (c.take-item.ensures.places, c.wrap_add.ensures, c.capacity.ensures)) c.take-item.ensures.steps
+gap : (g : Over) (c : After-take-item g) → let old = c.args.self.now in Gapped old.capacity c.self.inside.start (take c.args.index old.items) 1 (drop (suc c.args.index) old.items) c.take-item.new.self.places
+gap g c =
+    let ring = opened c.self.inside c.self.invariant c.self.view_is in
+    rw (c.take-item.ensures.places, place_at ring _ c.capacity.ensures c.wrap_add.ensures) (Gapped-taken_one ring.laid c.args.index c.requires)
 
-before : (g : Over) (c : After-take-item g) → length (take c.args.index c.args.self.now.items) ≡ c.args.index
-before g c = length-take-le c.args.index c.args.self.now.items (omega arith)
-
-behind : (g : Over) (c : After-take-item g) → length (drop (suc c.args.index) c.args.self.now.items) ≡ c.self.inside.len - 1 - c.args.index
-behind g c =
-    let ring = opened c.self.inside c.args.self.now c.self.invariant c.self.view_is in
-    omega (arith, length-drop (suc c.args.index) c.args.self.now.items)
+closing : (g : Over) (c : After-take-item g) → let old = c.args.self.now in Closes old.capacity c.self.inside.start c.args.index 1 (c.self.inside.len - 1 - c.args.index) c.take-item.new.self.places (remove old.items c.args.index)
+closing g c =
+    let ring = opened c.self.inside c.self.invariant c.self.view_is in
+    closes _ _ (gap g c) (length-take-le c.args.index c.args.self.now.items (omega arith)) (omega (arith, length-drop (suc c.args.index) c.args.self.now.items))
 
 pub close_gap-self-inside-requires-clause-filled_before : goal.close_gap-self-inside-requires-clause-filled_before
-close_gap-self-inside-requires-clause-filled_before g c =
-    let at = (goal.at.close_gap-self-inside-requires-clause-filled_before g c).After-take-item in
-    before_filled _ _ _ _ _ _ _ _ (parted g at) (before g at) (behind g at)
+close_gap-self-inside-requires-clause-filled_before g c = (closing g (goal.at.close_gap-self-inside-requires-clause-filled_before g c).After-take-item).filled_before
 
 pub close_gap-self-inside-requires-clause-empty : goal.close_gap-self-inside-requires-clause-empty
-close_gap-self-inside-requires-clause-empty g c =
-    let at = (goal.at.close_gap-self-inside-requires-clause-empty g c).After-take-item in
-    gap_empty _ _ _ _ _ _ _ _ (parted g at) (before g at) (behind g at)
+close_gap-self-inside-requires-clause-empty g c = (closing g (goal.at.close_gap-self-inside-requires-clause-empty g c).After-take-item).empty
 
 pub close_gap-self-inside-requires-clause-filled_behind : goal.close_gap-self-inside-requires-clause-filled_behind
-close_gap-self-inside-requires-clause-filled_behind g c =
-    let at = (goal.at.close_gap-self-inside-requires-clause-filled_behind g c).After-take-item in
-    behind_filled _ _ _ _ _ _ _ _ (parted g at) (before g at) (behind g at)
+close_gap-self-inside-requires-clause-filled_behind g c = (closing g (goal.at.close_gap-self-inside-requires-clause-filled_behind g c).After-take-item).filled_behind
 
 after : (g : Over) (c : goal.After-self-2-1 g) → let old = c.args.self.now in let behind = length old.items - 1 - c.args.index in
     Opened record { slots = c.close_gap-self-inside.new.slots; start = c.close_gap-self-inside.result; len = c.self.inside.len - 1; alloc = c.self.inside.alloc } record {
@@ -63,24 +55,30 @@ after : (g : Over) (c : goal.After-self-2-1 g) → let old = c.args.self.now in 
       steps = more_moves (min c.args.index behind) (more_takes 1 old.steps);
     }
 after g c =
-    let ring = opened c.self.inside c.args.self.now c.self.invariant c.self.view_is in
+    let ring = opened c.self.inside c.self.invariant c.self.view_is in
     let at = (goal.at.invariant_of-self g c).After-take-item in
-    let closing = c.close_gap-self-inside in
-    rw ring.len (joined _ _ _ _ _ _ _ _ (parted g at) (before g at) (behind g at) closing.new.slots closing.result closing.ensures.start closing.ensures.places closing.ensures.steps)
+    let moved = c.close_gap-self-inside in
+    let start = rw (length_places (gap g at)) at moved.ensures.start in
+    rw (ring.len, ← ring.start) (record {
+      laid = (closing g at).after _ _ start moved.ensures.places;
+      len = omega (arith, length-remove c.args.self.now.items c.args.index c.requires);
+      start = start;
+      steps = moved.ensures.steps ∙ ap (more_moves (min c.args.index (c.self.inside.len - 1 - c.args.index))) (c.take-item.ensures.steps ∙ ap (more_takes 1) ring.steps);
+    })
 
 pub invariant_of-self : goal.invariant_of-self
-invariant_of-self g c = kept _ _ (after g c)
+invariant_of-self g c = kept (after g c)
 
 pub returns-clause-value : goal.returns-clause-value
 returns-clause-value g c =
-    let ring = opened c.self.inside c.args.self.now c.self.invariant c.self.view_is in
-    sym (held_laid_out _ _ _ c.args.index ring.laid (omega (arith, length_within _ _ _ ring.laid))) ∙ rw (c.wrap_add.ensures, c.capacity.ensures) at c.take-item.ensures.value
+    let ring = opened c.self.inside c.self.invariant c.self.view_is in
+    sym (held_at-place_of ring.laid c.args.index (omega (arith, length_within ring.laid))) ∙ rw (place_at ring _ c.capacity.ensures c.wrap_add.ensures) at c.take-item.ensures.value
 
 pub returns-clause-items : goal.returns-clause-items
-returns-clause-items g c = ap (λ (r : RingState g.row.T.Denot). r.items) (closed _ _ (after g c))
+returns-clause-items g c = ap (λ (r : RingState g.row.T.Denot). r.items) (closed (after g c))
 
 pub returns-clause-capacity : goal.returns-clause-capacity
-returns-clause-capacity g c = (after g c).capacity
+returns-clause-capacity g c = (after g c).laid.long
 
 pub returns-clause-start : goal.returns-clause-start
 returns-clause-start g c = (after g c).start

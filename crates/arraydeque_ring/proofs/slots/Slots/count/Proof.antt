@@ -1,10 +1,10 @@
 -- `count` lets the counts grow, and does nothing else. Assumes `Logic`.
-use Rattle.arraydeque_ring.proofs.Kit.{refl, List, [], ◌∷◌, ℕ, ◌<◌, ◌^◌, Ura, ftrue, flft, Fn, inst_fn, named, w64, Val, vunit, vint, vptr, ◌⊑◌, fact, tables, owns, types_at, ‵, raw, ◌⊛◌, ◌$◌, ◌∵◌, !, qed, move, keep, drop, split, join, fsplit, fsplit3, fjoin, fjoin3, feq_i, suffices, done, enter, of_opd, unit_lit, returns, alloc_all, pass_all, free_all, look_at, sets, yes, plain, usize, uint_vals, uint_Tells, Stays, walk_of, says, stay_dropped, stay_ref, Goes-dropped, Goes-ref, ends_at, nothing, El, R, args, proved}
+use Rattle.arraydeque_ring.proofs.Kit.{refl, List, [], ◌∷◌, ℕ, ◌<◌, ◌^◌, ftrue, flft, Fn, inst_fn, named, w64, Val, vunit, vptr, tables, owns, types_at, ‵, raw, ◌⊛◌, ◌$◌, ◌∵◌, !, qed, move, keep, split, join, fsplit3, fjoin, fjoin3, feq_i, suffices, done, enter, of_opd, unit_lit, returns, alloc_all, pass_all, free_all, look_at, sets, yes, plain, usize, uint_vals, uint_Tells, Stays, walk_of, says, stay_dropped, stay_ref, Goes-dropped, Goes-ref, ends_at, nothing, El, args, proved}
 use denote.Enum.Laws.{low_vals, Tells-lowered}
 use denote.Ref.{mut_vals, mut_Tells}
 use Rattle.arraydeque_ring.specs.contracts.slots.Step as kind
 use Rattle.arraydeque_ring.specs.declared.slots.Step.{Step}
-use Rattle.arraydeque_ring.proofs.slots.Step.TheLaws.{the_laws, the_row_laws, lowered}
+use Rattle.arraydeque_ring.proofs.slots.Step.TheLaws.{the_laws, the_row_laws}
 use Rattle.arraydeque_ring.specs.Counted.{counted}
 use Rattle.arraydeque_ring.proofs.Regions.{Sr, Seen, slots_open, slots_close}
 use Rattle.arraydeque_ring.specs.contracts.slots.Slots.count as f

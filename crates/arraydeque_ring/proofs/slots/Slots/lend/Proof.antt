@@ -1,5 +1,5 @@
 -- `lend` lends the value in a filled place, and that place follows it. Assumes `Logic`.
-use Rattle.arraydeque_ring.proofs.Kit.{refl, sym, subst, ◌∙◌, List, [], ◌∷◌, ℕ, ◌+◌, ◌*◌, ◌<◌, ◌^◌, arith, length, set, get_or, length-set, Some, None, Ura, full_share, ent, sep, id⊢, GName, Fml, ftrue, fsep, flft, Fn, inst_fn, named, w64, Val, vint, vptr, Env, ◌⊑◌, fact, tables, Logic, sem, owns, types_at, ‵, raw, ◌⊛◌, some, later, at_ret, ◌$◌, ◌∵◌, !, qed, move, keep, use1, use2, drop, split, join, pick, frame, rewrite, await, fsplit3, fjoin, fjoin3, fpack, suffices, done, whole, sub, look_in, enter, of_opd, size_lit, bin, load, addr, stop, fld, first, blocks, exec, returns, alloc_all, pass_all, free_all, look_at, get, through, sets, sets_last, env, yes, no, plain, usize, uint_vals, uint_Tells, mem, cell_at, block_ptr, Stays, walk_of, says, stay_dropped, Goes-dropped, ends_at, nothing, heard, after, El, R, args, el_x, times_below, one_below, proved}
+use Rattle.arraydeque_ring.proofs.Kit.{refl, sym, List, [], ◌∷◌, ℕ, ◌+◌, ◌*◌, ◌<◌, ◌^◌, arith, length, get_or, length-set, Some, None, Ura, full_share, ent, sep, id⊢, GName, Fml, ftrue, fsep, flft, Fn, inst_fn, named, w64, Val, vint, vptr, Env, ◌⊑◌, fact, tables, Logic, sem, owns, types_at, ‵, raw, ◌⊛◌, some, later, at_ret, ◌$◌, ◌∵◌, !, qed, move, keep, use1, use2, drop, split, join, pick, frame, rewrite, await, fsplit3, fjoin, fjoin3, fpack, suffices, done, whole, sub, look_in, enter, of_opd, size_lit, bin, load, addr, stop, fld, first, blocks, exec, returns, alloc_all, pass_all, free_all, look_at, get, through, sets, sets_last, env, yes, no, plain, usize, uint_vals, uint_Tells, mem, cell_at, block_ptr, Stays, walk_of, says, stay_dropped, Goes-dropped, ends_at, nothing, heard, after, El, R, args, el_x, times_below, one_below, proved}
 use types.Kit.{split3, group}
 use denote.Follow.{follows, Part, lends_Part}
 use denote.Memory.{part_of}
