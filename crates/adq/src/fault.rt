@@ -24,7 +24,8 @@ pub enum Fault {
 }
 
 impl Fault {
-    /// Says on `faults` why the run ends, and answers its status, which is the same where that can't be said.
+    /// Says on `faults` why the run ends, and answers its status, which is the same where that
+    /// can't be said.
     pub fn report<F: Write + Drop>(self, mut faults: F) -> u8
         ensures { result ≡ status_of self }
     {

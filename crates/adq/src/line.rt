@@ -10,7 +10,8 @@ use std::str::FromStr;
 
 /// The calls that the lines of `text` name, in order.
 ///
-/// A line ends at a line feed or at the end of the text, and one carriage return before that end is no part of it. A line without words names no call.
+/// A line ends at a line feed or at the end of the text, and one carriage return before that end is
+/// no part of it. A line without words names no call.
 pub fn calls(alloc: Global, text: &[u8]) -> Result<Vec<Call<i64>>, Fault> {
     let mut calls = Vec::new(alloc);
     for (index, line) in text.split(|byte| *byte == b'\n').enumerate() {
@@ -47,32 +48,40 @@ impl<'a> Line<'a> {
         let Some(name) = self.word() else {
             return Ok(None);
         };
-        let call = match name {
-            "push_front" => Call::PushFront(self.number()?),
-            "push_back" => Call::PushBack(self.number()?),
-            "pop_front" => Call::PopFront,
-            "pop_back" => Call::PopBack,
-            "insert" => Call::Insert(self.number()?, self.number()?),
-            "remove" => Call::Remove(self.number()?),
-            "swap_remove_back" => Call::SwapRemoveBack(self.number()?),
-            "swap_remove_front" => Call::SwapRemoveFront(self.number()?),
-            "swap" => Call::Swap(self.number()?, self.number()?),
-            "replace" => Call::Replace(self.number()?, self.number()?),
-            "clear" => Call::Clear,
-            "extend_back" => Call::ExtendBack(self.numbers(alloc)?),
-            "extend_front" => Call::ExtendFront(self.numbers(alloc)?),
-            "extend" => Call::Extend(self.numbers(alloc)?),
-            "drain" => Call::Drain(self.number()?, self.number()?),
-            "split_off" => Call::SplitOff(self.number()?),
-            "len" => Call::Len,
-            "capacity" => Call::Capacity,
-            "is_empty" => Call::IsEmpty,
-            "is_full" => Call::IsFull,
-            _ => return Err(self.bad()),
-        };
+        let call = self.call_named(name, alloc)?;
         match self.word() {
             Some(_) => Err(self.bad()),
             None => Ok(Some(call)),
+        }
+    }
+
+    /// The call of this name, whose arguments are the words that follow.
+    fn call_named(&mut self, name: &str, alloc: Global) -> Result<Call<i64>, Fault>
+        ensures number { self.new.number ≡ self.old.number }
+        ensures blamed { IfErr result (IsLineOrMemory self.old.number) }
+    {
+        match name {
+            "push_front" => Ok(Call::PushFront(self.number()?)),
+            "push_back" => Ok(Call::PushBack(self.number()?)),
+            "pop_front" => Ok(Call::PopFront),
+            "pop_back" => Ok(Call::PopBack),
+            "insert" => Ok(Call::Insert(self.number()?, self.number()?)),
+            "remove" => Ok(Call::Remove(self.number()?)),
+            "swap_remove_back" => Ok(Call::SwapRemoveBack(self.number()?)),
+            "swap_remove_front" => Ok(Call::SwapRemoveFront(self.number()?)),
+            "swap" => Ok(Call::Swap(self.number()?, self.number()?)),
+            "replace" => Ok(Call::Replace(self.number()?, self.number()?)),
+            "clear" => Ok(Call::Clear),
+            "extend_back" => Ok(Call::ExtendBack(self.numbers(alloc)?)),
+            "extend_front" => Ok(Call::ExtendFront(self.numbers(alloc)?)),
+            "extend" => Ok(Call::Extend(self.numbers(alloc)?)),
+            "drain" => Ok(Call::Drain(self.number()?, self.number()?)),
+            "split_off" => Ok(Call::SplitOff(self.number()?)),
+            "len" => Ok(Call::Len),
+            "capacity" => Ok(Call::Capacity),
+            "is_empty" => Ok(Call::IsEmpty),
+            "is_full" => Ok(Call::IsFull),
+            _ => Err(self.bad()),
         }
     }
 
@@ -82,11 +91,16 @@ impl<'a> Line<'a> {
         ensures blamed { IfErr result (IsLineOrMemory self.old.number) }
     {
         let mut numbers = Vec::new(alloc);
-        while let Some(word) = self.word() {
-            let Some(number) = number_of(word) else {
-                return Err(self.bad());
-            };
-            numbers.push(number)?;
+        let rest = self.rest;
+        self.rest = "";
+        for word in rest.split(' ') {
+            if word.is_empty() {
+                continue;
+            }
+            match number_of(word) {
+                Some(number) => numbers.push(number)?,
+                None => return Err(self.bad()),
+            }
         }
         Ok(numbers)
     }
@@ -124,7 +138,8 @@ impl<'a> Line<'a> {
     }
 }
 
-/// The decimal number that a word is, if it is within the range of its type. `parse` alone would take a `+` before it.
+/// The decimal number that a word is, if it is within the range of its type. `parse` alone would
+/// take a `+` before it.
 fn number_of<N: FromStr>(word: &str) -> Option<N>
 where
     N::Err: Drop,

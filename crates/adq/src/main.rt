@@ -1,4 +1,5 @@
-//! `adq sat CAP` or `adq wrap CAP` reads calls of a deque of numbers from standard input, makes them, and prints what each answered.
+//! `adq sat CAP` or `adq wrap CAP` reads calls of a deque of numbers from standard input, makes
+//! them, and prints what each answered.
 #![tactic(auto)]
 
 mod drive;

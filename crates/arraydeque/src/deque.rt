@@ -17,7 +17,8 @@ mod makers;
 mod parts;
 mod policies;
 
-/// A double-ended queue of at most `CAP` items, in one region that is taken when it is made. `B` says what a push into a full one does.
+/// A double-ended queue of at most `CAP` items, in one region that is taken when it is made. `B`
+/// says what a push into a full one does.
 ///
 /// A capacity of 0 is allowed: such a deque is always empty and always full.
 #[derive(Drop)]
@@ -40,7 +41,8 @@ impl<T, const CAP: usize, B: Behavior> Model for ArrayDeque<T, CAP, B> {
 impl<T, const CAP: usize, B: Behavior> ArrayDeque<T, CAP, B> {
     /// An empty deque, over a new region of `CAP` places from `alloc`.
     ///
-    /// It is refused where the allocator refuses the memory, and where the region would be larger than the machine can name; never at capacity 0 or for items of size zero.
+    /// It is refused where the allocator refuses the memory, and where the region would be larger
+    /// than the machine can name; never at capacity 0 or for items of size zero.
     pub fn new(alloc: Global) -> Result<Self, AllocError>
         ensures ok { IfOk result (λ deque. deque ≡ empty_deque) }
         ensures refused { OnErr result (0 < CAP * type_size T.row) }
@@ -112,7 +114,8 @@ impl<T, const CAP: usize, B: Behavior> ArrayDeque<T, CAP, B> {
         self.ring.pop_back()
     }
 
-    /// The items in two slices: those from the front to the region's end, then the wrapped rest. Where all lie in one piece, the second is empty.
+    /// The items in two slices: those from the front to the region's end, then the wrapped rest.
+    /// Where all lie in one piece, the second is empty.
     #[inline]
     pub fn as_slices(&self) -> (&[T], &[T])
         ensures joined { result.0.now ++ result.1.now ≡ self.now.items }

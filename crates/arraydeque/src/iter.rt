@@ -1,12 +1,13 @@
 //! Iterators over the items of a deque. A contract sees each as the list of the items that remain.
-ghost use Rattle.std.specs.Prelude.{◌≡◌};
+ghost use Rattle.std.specs.Prelude.{◌≡◌, length, Some};
 ghost use Rattle.std.specs.Iterator.{YieldsFirst, YieldsLast, item_count};
 
 use arraydeque_ring::ring::Ring;
 use std::iter::FusedIterator;
 use std::marker::Model;
 
-/// The items that a drain took out, front to back or back to front. It owns them, and drops those that are not taken.
+/// The items that a drain took out, front to back or back to front. It owns them, and drops those
+/// that are not taken.
 #[derive(Drop)]
 pub struct Drain<T> {
     ring: Ring<T>,
@@ -40,7 +41,9 @@ impl<T: Drop> Iterator for Drain<T> {
         self.ring.pop_front()
     }
 
-    fn size_hint(&self) -> (usize, Option<usize>) {
+    fn size_hint(&self) -> (usize, Option<usize>)
+        ensures exact { result ≡ (length self.now, Some (length self.now)) }
+    {
         let len = self.len();
         (len, Some(len))
     }

@@ -1,14 +1,16 @@
-//! A double-ended queue of fixed capacity in one ring, with a policy for what a push into a full one does.
+//! A double-ended queue of fixed capacity in one ring, with a policy for what a push into a full
+//! one does.
 #![tactic(auto)]
 
 pub mod behavior;
 mod deque;
 mod error;
-pub mod iter;
+mod iter;
 mod range;
 pub mod run;
 
 pub use behavior::{Saturating, Wrapping};
 pub use deque::ArrayDeque;
 pub use error::{CapacityError, MakeError};
+pub use iter::Drain;
 pub use range::RangeArgument;

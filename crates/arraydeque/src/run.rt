@@ -74,7 +74,8 @@ pub enum Reply<T, const CAP: usize, B: Behavior> {
     Split(ArrayDeque<T, CAP, B>),
     /// A push into a full deque. The element comes back, and the list is as it was.
     Full(CapacityError<T>),
-    /// An index that is not there. The element comes back, if the call had one, and the list is as it was.
+    /// An index that is not there. The element comes back, if the call had one, and the list is as
+    /// it was.
     OutOfRange(Option<T>),
     /// Memory was refused, and the list is as it was.
     NoMemory,
@@ -85,7 +86,8 @@ pub enum Reply<T, const CAP: usize, B: Behavior> {
 impl<T: Drop, const CAP: usize> ArrayDeque<T, CAP, Saturating> {
     /// Makes the calls in order and answers each. A refused call does not stop the run.
     ///
-    /// Room for the replies is taken before the first call, and none for an empty list. Where it is refused, nothing was done and the calls come back.
+    /// Room for the replies is taken before the first call, and none for an empty list. Where it is
+    /// refused, nothing was done and the calls come back.
     pub fn run(
         &mut self,
         calls: Vec<Call<T>>,
@@ -143,7 +145,8 @@ impl<T: Drop, const CAP: usize> ArrayDeque<T, CAP, Saturating> {
 impl<T: Drop, const CAP: usize> ArrayDeque<T, CAP, Wrapping> {
     /// Makes the calls in order and answers each. A refused call does not stop the run.
     ///
-    /// Room for the replies is taken before the first call, and none for an empty list. Where it is refused, nothing was done and the calls come back.
+    /// Room for the replies is taken before the first call, and none for an empty list. Where it is
+    /// refused, nothing was done and the calls come back.
     pub fn run(
         &mut self,
         calls: Vec<Call<T>>,

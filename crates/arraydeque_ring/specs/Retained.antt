@@ -11,7 +11,8 @@ count_moved [] = 0
 count_moved (true ∷ bs) = count_moved bs
 count_moved (false ∷ bs) = count_by (λ b. b) bs
 
--- R answered once at each item in turn, from f on, and the items answered true stay, in order; each that goes is taken out, and each whose index changes is moved once
+-- R answered once at each item in turn, from f on, and the items answered true stay, in order; each
+-- that goes is taken out, and each whose index changes is moved once
 pub record Retains {F X : Type 0} (R : F → X → Bool → F → Type 0) (f : F) (old new : RingState X) : Type 0 where
   pub answers : List Bool
   pub last : F

@@ -1,6 +1,7 @@
 //! A list of items in the places of a region, from the start on and round the region's end.
 //!
-//! A contract sees a [`Ring`] as its items from front to back, its capacity, the place of its first item and the steps of its region. A ring knows no policy: a push asks for room.
+//! A contract sees a [`Ring`] as its items from front to back, its capacity, the place of its first
+//! item and the steps of its region. A ring knows no policy: a push asks for room.
 ghost use Rattle.std.specs.Prelude.{◌≡◌, ◌-◌, ◌*◌, ◌+◌, ◌<◌, ◌≤◌, [], ◌∷◌, ◌++◌, length, take, drop, slice_get, option_copied, IfOk, OnErr, OnSome, IfNone};
 ghost use Rattle.std.specs.Borrow.{sem};
 ghost use Rattle.std.specs.Mem.{type_size};
@@ -30,7 +31,12 @@ impl<T> Model for Ring<T> {
 
     ghost Value = { RingState T };
 
-    ghost view = { λ r. record { items = values (turned r.start r.slots.places); capacity = length r.slots.places; start = r.start; steps = r.slots.steps } };
+    ghost view = { λ r. record {
+      items = values (turned r.start r.slots.places);
+      capacity = length r.slots.places;
+      start = r.start;
+      steps = r.slots.steps;
+    } };
 
     ghost invariant = { λ r. (r.start ≤ length r.slots.places - 1) × FilledFrom r.start r.len (filled r.slots.places) };
 }
@@ -38,7 +44,8 @@ impl<T> Model for Ring<T> {
 impl<T> Ring<T> {
     ghost use Rattle.arraydeque_ring.specs.RingLends.{lends_item};
 
-    /// An empty ring that starts at the first place. It is refused as the region is: never at capacity 0 or for items of size zero.
+    /// An empty ring that starts at the first place. It is refused as the region is: never at
+    /// capacity 0 or for items of size zero.
     pub fn new(alloc: Global, capacity: usize) -> Result<Ring<T>, AllocError>
         ensures ok { IfOk result (λ ring. ring ≡ empty_ring capacity) }
         ensures refused { OnErr result (0 < capacity * type_size T.row) }
@@ -79,7 +86,10 @@ impl<T> Ring<T> {
     #[inline]
     pub fn push_back(&mut self, item: T)
         requires { length self.old.items < self.old.capacity }
-        ensures { self.new ≡ record self.old { items = self.old.items ++ item ∷ []; steps = more_puts 1 self.old.steps } }
+        ensures { self.new ≡ record self.old {
+          items = self.old.items ++ item ∷ [];
+          steps = more_puts 1 self.old.steps;
+        } }
     {
         let behind = wrap_add(self.start, self.len, self.slots.capacity());
         self.slots.put(behind, item);
@@ -90,7 +100,11 @@ impl<T> Ring<T> {
     #[inline]
     pub fn push_front(&mut self, item: T)
         requires { length self.old.items < self.old.capacity }
-        ensures { self.new ≡ record self.old { items = item ∷ self.old.items; start = place_of self.old.start (self.old.capacity - 1) self.old.capacity; steps = more_puts 1 self.old.steps } }
+        ensures { self.new ≡ record self.old {
+          items = item ∷ self.old.items;
+          start = place_of self.old.start (self.old.capacity - 1) self.old.capacity;
+          steps = more_puts 1 self.old.steps;
+        } }
     {
         let capacity = self.slots.capacity();
         let before = wrap_add(self.start, capacity - 1, capacity);
@@ -99,11 +113,16 @@ impl<T> Ring<T> {
         self.len += 1;
     }
 
-    /// Takes the first item off, if there is one. The start goes on to the next place, and no kept item moves.
+    /// Takes the first item off, if there is one. The start goes on to the next place, and no kept
+    /// item moves.
     #[inline]
     pub fn pop_front(&mut self) -> Option<T>
         ensures value { result ≡ slice_get self.old.items 0 }
-        ensures taken { OnSome result (self.new ≡ record self.old { items = drop 1 self.old.items; start = place_of self.old.start 1 self.old.capacity; steps = more_takes 1 self.old.steps }) }
+        ensures taken { OnSome result (self.new ≡ record self.old {
+          items = drop 1 self.old.items;
+          start = place_of self.old.start 1 self.old.capacity;
+          steps = more_takes 1 self.old.steps;
+        }) }
         ensures none { IfNone result (self.new ≡ self.old) }
     {
         if self.len == 0 {
@@ -119,7 +138,10 @@ impl<T> Ring<T> {
     #[inline]
     pub fn pop_back(&mut self) -> Option<T>
         ensures value { result ≡ slice_get self.old.items (length self.old.items - 1) }
-        ensures taken { OnSome result (self.new ≡ record self.old { items = take (length self.old.items - 1) self.old.items; steps = more_takes 1 self.old.steps }) }
+        ensures taken { OnSome result (self.new ≡ record self.old {
+          items = take (length self.old.items - 1) self.old.items;
+          steps = more_takes 1 self.old.steps;
+        }) }
         ensures none { IfNone result (self.new ≡ self.old) }
     {
         if self.len == 0 {
@@ -142,7 +164,8 @@ impl<T> Ring<T> {
         Some(self.slots.get(place))
     }
 
-    /// The item at an index for writing, if there is one. What is written through it changes that item and no other.
+    /// The item at an index for writing, if there is one. What is written through it changes that
+    /// item and no other.
     #[inline]
     pub fn get_mut(&mut self, index: usize) -> Option<&mut T>
         ensures* writes_back { sem 𝓛 (lends_item T.row self.entry index result) }

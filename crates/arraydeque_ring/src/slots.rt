@@ -1,6 +1,8 @@
-//! The raw region: places that each hold a value or nothing. This is the one module with raw pointers.
+//! The raw region: places that each hold a value or nothing. This is the one module with raw
+//! pointers.
 //!
-//! A contract sees a [`Slots`] as what each place holds and as the steps made so far. The steps are counted for contracts alone: they take no bytes and no time.
+//! A contract sees a [`Slots`] as what each place holds and as the steps made so far. The steps are
+//! counted for contracts alone: they take no bytes and no time.
 ghost use Rattle.std.specs.Prelude.{◌≡◌, ℕ, ◌*◌, ◌^◌, ◌<◌, List, Option, Some, None, length, slice_set, swap, if◌then◌else◌, ◌==◌, IfOk, OnErr};
 ghost use Rattle.std.specs.Borrow.{sem};
 ghost use Rattle.std.specs.Mem.{type_size};
@@ -26,7 +28,8 @@ enum Step {
 
 /// A region of places for values of type `T`, taken from the allocator at once and never grown.
 ///
-/// A place is named by its number, below the capacity. A region can be dropped only once every place is empty, so that no value is ever lost with it.
+/// A place is named by its number, below the capacity. A region can be dropped only once every
+/// place is empty, so that no value is ever lost with it.
 pub struct Slots<T> {
     ptr: *mut T,
     capacity: usize,
@@ -56,7 +59,9 @@ impl<T> Slots<T> {
 
     /// A region of `capacity` empty places.
     ///
-    /// It is refused where the allocator refuses the memory, and where the region would be larger than the machine can name. A region of no bytes, of no places or of items of size zero, takes no memory and is never refused.
+    /// It is refused where the allocator refuses the memory, and where the region would be larger
+    /// than the machine can name. A region of no bytes, of no places or of items of size zero,
+    /// takes no memory and is never refused.
     pub fn new(alloc: Global, capacity: usize) -> Result<Slots<T>, AllocError>
         ensures ok { IfOk result (λ slots. slots ≡ empty_region capacity) }
         ensures refused { OnErr result (0 < capacity * type_size T.row) }
@@ -107,7 +112,8 @@ impl<T> Slots<T> {
     pub fn shift(&mut self, dst: usize, src: usize)
         requires filled { IsFilled self.old.places src }
         requires empty { IsEmpty self.old.places dst }
-        ensures places { self.new.places ≡ slice_set (slice_set self.old.places src None) dst (held_at self.old.places src) }
+        ensures places { self.new.places ≡
+            slice_set (slice_set self.old.places src None) dst (held_at self.old.places src) }
         ensures steps { self.new.steps ≡ more_moves 1 self.old.steps }
     {
         let value = self.read(src);
@@ -142,7 +148,8 @@ impl<T> Slots<T> {
         &self.slice(place, 1)[0]
     }
 
-    /// The value in a place, for writing. What is written through it changes that place and no other.
+    /// The value in a place, for writing. What is written through it changes that place and no
+    /// other.
     #[inline]
     pub fn get_mut(&mut self, place: usize) -> &mut T
         requires { IsFilled self.old.places place }
@@ -153,7 +160,8 @@ impl<T> Slots<T> {
         self.lend(place)
     }
 
-    /// The values in the `len` places from the place `from` on, in order. An empty run may start at the capacity.
+    /// The values in the `len` places from the place `from` on, in order. An empty run may start at
+    /// the capacity.
     #[inline]
     pub fn slice(&self, from: usize, len: usize) -> &[T]
         requires { IsFilledRun self.now.places from len }
@@ -164,7 +172,9 @@ impl<T> Slots<T> {
 
     fn write(&mut self, place: usize, value: T)
         requires { IsEmpty self.old.places place }
-        ensures { self.new ≡ record self.old { places = slice_set self.old.places place (Some value) } }
+        ensures { self.new ≡ record self.old {
+          places = slice_set self.old.places place (Some value);
+        } }
     {
         unsafe { self.ptr.add(place).write(value) }
     }
@@ -172,7 +182,9 @@ impl<T> Slots<T> {
     fn read(&mut self, place: usize) -> T
         requires { IsFilled self.old.places place }
         ensures value { held_at self.old.places place ≡ Some result }
-        ensures region { self.new ≡ record self.old { places = slice_set self.old.places place None } }
+        ensures region { self.new ≡ record self.old {
+          places = slice_set self.old.places place None;
+        } }
     {
         unsafe { self.ptr.add(place).read() }
     }

@@ -3,7 +3,8 @@ ghost use Rattle.std.specs.Prelude.{◌≡◌, ◌+◌, ◌%◌, ◌<◌, ◌≤
 
 /// The place `offset` places after `place` in a region of `capacity` places, round its end.
 ///
-/// No sum of places passes `usize::MAX`, whatever the capacity, and a power of two takes no branch on the places.
+/// No sum of places passes `usize::MAX`, whatever the capacity, and a power of two takes no branch
+/// on the places.
 #[inline(always)]
 pub(crate) fn wrap_add(place: usize, offset: usize, capacity: usize) -> usize
     requires in_region { place < capacity }

@@ -1,6 +1,6 @@
 //! What the tests build and compare: deques at every start, and their lists.
 use arraydeque::behavior::Behavior;
-use arraydeque::{ArrayDeque, Saturating};
+use arraydeque::{ArrayDeque, Saturating, Wrapping};
 use std::alloc::{AllocError, Global};
 use std::test::Fail;
 
@@ -10,7 +10,7 @@ pub fn deque_at<const CAP: usize>(
     start: usize,
     items: &[i64],
 ) -> Result<ArrayDeque<i64, CAP, Saturating>, Fail> {
-    let mut deque = ArrayDeque::new(alloc)?;
+    let mut deque = ArrayDeque::<i64, CAP, Saturating>::new(alloc)?;
     for _ in 0..start {
         deque.push_back(0).map_err(|_| "no room")?;
         deque.pop_front();
@@ -19,6 +19,20 @@ pub fn deque_at<const CAP: usize>(
         deque.push_back(item).map_err(|_| "no room")?;
     }
     Ok(deque)
+}
+
+/// The same under the policy that displaces.
+pub fn wrapping_at<const CAP: usize>(
+    alloc: Global,
+    start: usize,
+    items: &[i64],
+) -> Result<ArrayDeque<i64, CAP, Wrapping>, Fail> {
+    Ok(deque_at(alloc, start, items)?.into())
+}
+
+/// The numbers from 0 on, `len` of them.
+pub fn numbers(alloc: Global, len: usize) -> Result<Vec<i64>, AllocError> {
+    (0..i64::MAX).take(len).collect(alloc)
 }
 
 /// Whether the two slices, joined, are `items`.

@@ -1,6 +1,7 @@
 //! Which items are dropped, and in which order.
-use arraydeque::{ArrayDeque, Saturating};
-use std::alloc::Global;
+use arraydeque::run::Call;
+use arraydeque::{ArrayDeque, Saturating, Wrapping};
+use std::alloc::{AllocError, Global};
 use std::cell::RefCell;
 use std::test::Fail;
 
@@ -27,6 +28,34 @@ impl Drops {
     fn since(&self, alloc: Global) -> Result<Vec<u8>, Fail> {
         Ok(self.0.try_replace(Vec::new(alloc))?)
     }
+}
+
+/// A deque of the items 1 to `len`.
+fn deque_of<'a, const CAP: usize>(
+    alloc: Global,
+    drops: &'a Drops,
+    len: u8,
+) -> Result<ArrayDeque<Noted<'a>, CAP, Saturating>, Fail> {
+    let mut deque = ArrayDeque::<Noted<'a>, CAP, Saturating>::new(alloc)?;
+    for name in 0..len {
+        deque
+            .push_back(drops.item(name.saturating_add(1)))
+            .map_err(|_| "no room")?;
+    }
+    Ok(deque)
+}
+
+/// A vector of items of these names.
+fn vector_of<'a>(
+    alloc: Global,
+    drops: &'a Drops,
+    names: &[u8],
+) -> Result<Vec<Noted<'a>>, AllocError> {
+    let mut items = Vec::new(alloc);
+    for name in names {
+        items.push(drops.item(*name))?;
+    }
+    Ok(items)
 }
 
 impl Drop for Noted<'_> {
@@ -82,5 +111,118 @@ fn pops_and_refused_pushes_drop_nothing(rt: HostRuntime) -> Result<(), Fail> {
         drops.since(rt.alloc())?.as_slice(),
         [5, 4, 3, 1, 2].as_slice()
     );
+    Ok(())
+}
+
+#[test]
+fn clearing_and_retaining_drop(rt: HostRuntime) -> Result<(), Fail> {
+    let drops = Drops::new(rt.alloc());
+    let mut deque = deque_of::<5>(rt.alloc(), &drops, 5)?;
+    deque.clear();
+    assert_eq!(rt;
+        drops.since(rt.alloc())?.as_slice(),
+        [1, 2, 3, 4, 5].as_slice()
+    );
+    drop(deque);
+    let mut deque = deque_of::<5>(rt.alloc(), &drops, 5)?;
+    deque.retain(|item| item.name % 2 == 0);
+    let mut dropped = drops.since(rt.alloc())?;
+    dropped.sort()?;
+    assert_eq!(rt; dropped.as_slice(), [1, 3, 5].as_slice());
+    drop(deque);
+    assert_eq!(rt; drops.since(rt.alloc())?.as_slice(), [2, 4].as_slice());
+    Ok(())
+}
+
+#[test]
+fn displaced_and_surplus_items_are_dropped(rt: HostRuntime) -> Result<(), Fail> {
+    let drops = Drops::new(rt.alloc());
+    let mut deque: ArrayDeque<Noted<'_>, 3, Wrapping> = ArrayDeque::from(deque_of::<3>(
+        rt.alloc(),
+        &drops,
+        3,
+    )?);
+    let items = vector_of(rt.alloc(), &drops, &[4, 5])?;
+    deque.extend_back(items);
+    assert_eq!(rt; drops.since(rt.alloc())?.as_slice(), [1, 2].as_slice());
+    drop(deque);
+    drops.since(rt.alloc())?;
+    let items = vector_of(rt.alloc(), &drops, &[1, 2, 3, 4, 5])?;
+    let deque = ArrayDeque::<Noted<'_>, 3, Saturating>::from_vec(rt.alloc(), items).map_err(
+        |_| "refused",
+    )?;
+    assert_eq!(rt; drops.since(rt.alloc())?.as_slice(), [4, 5].as_slice());
+    drop(deque);
+    drops.since(rt.alloc())?;
+    let items = vector_of(rt.alloc(), &drops, &[1, 2, 3, 4, 5])?;
+    let deque = ArrayDeque::<Noted<'_>, 3, Wrapping>::from_vec(rt.alloc(), items).map_err(
+        |_| "refused",
+    )?;
+    assert_eq!(rt; drops.since(rt.alloc())?.as_slice(), [1, 2].as_slice());
+    drop(deque);
+    Ok(())
+}
+
+#[test]
+fn what_is_handed_out_is_not_dropped(rt: HostRuntime) -> Result<(), Fail> {
+    let drops = Drops::new(rt.alloc());
+    let mut deque = deque_of::<3>(rt.alloc(), &drops, 3)?;
+    let removed = deque.remove(1);
+    let calls = vec![in rt.alloc(); Call::Replace(0, drops.item(4))]?;
+    let replies = deque.run(calls).map_err(|_| "no room for the replies")?;
+    let wrapping: ArrayDeque<Noted<'_>, 3, Wrapping> = deque.into();
+    let list = wrapping.into_vec().map_err(|_| "refused")?;
+    assert_eq!(rt; drops.since(rt.alloc())?.len(), 0);
+    drop(removed);
+    drop(replies);
+    drop(list);
+    assert_eq!(rt;
+        drops.since(rt.alloc())?.as_slice(),
+        [2, 1, 4, 3].as_slice()
+    );
+    Ok(())
+}
+
+#[test]
+fn a_drain_drops_what_is_left(rt: HostRuntime) -> Result<(), Fail> {
+    let drops = Drops::new(rt.alloc());
+    let mut deque = deque_of::<5>(rt.alloc(), &drops, 4)?;
+    assert_eq!(rt; deque.len(), 4);
+    let drain = deque.drain(1..3)?;
+    assert_eq!(rt; drops.since(rt.alloc())?.len(), 0);
+    drop(drain);
+    assert_eq!(rt; drops.since(rt.alloc())?.as_slice(), [2, 3].as_slice());
+    drop(deque);
+    assert_eq!(rt; drops.since(rt.alloc())?.as_slice(), [1, 4].as_slice());
+    let mut deque = deque_of::<5>(rt.alloc(), &drops, 5)?;
+    assert_eq!(rt; deque.len(), 5);
+    let mut drain = deque.drain(1..4)?;
+    let last = drain.next_back();
+    drop(drain);
+    assert_eq!(rt; drops.since(rt.alloc())?.as_slice(), [2, 3].as_slice());
+    drop(last);
+    drop(deque);
+    assert_eq!(rt; drops.since(rt.alloc())?.as_slice(), [4, 1, 5].as_slice());
+    Ok(())
+}
+
+#[test]
+fn vectors_in_a_deque_drop_their_items(rt: HostRuntime) -> Result<(), Fail> {
+    let drops = Drops::new(rt.alloc());
+    let mut deque = ArrayDeque::<Vec<Noted<'_>>, 3, Saturating>::new(rt.alloc())?;
+    let lists: [&[u8]; 3] = [&[1], &[2, 3], &[]];
+    for names in lists {
+        let items = vector_of(rt.alloc(), &drops, names)?;
+        assert!(rt; deque.push_back(items).is_ok());
+    }
+    let surplus = vector_of(rt.alloc(), &drops, &[4])?;
+    assert!(rt; deque.push_back(surplus).is_err());
+    assert_eq!(rt; drops.since(rt.alloc())?.as_slice(), [4].as_slice());
+    drop(deque.pop_back());
+    assert_eq!(rt; drops.since(rt.alloc())?.len(), 0);
+    drop(deque.pop_back());
+    assert_eq!(rt; drops.since(rt.alloc())?.as_slice(), [2, 3].as_slice());
+    drop(deque);
+    assert_eq!(rt; drops.since(rt.alloc())?.as_slice(), [1].as_slice());
     Ok(())
 }

@@ -1,6 +1,7 @@
 //! Pushes and pops at both ends, and where the two slices cut the list.
-use crate::build::{deque_at, holds};
-use arraydeque::{ArrayDeque, CapacityError, Saturating};
+use crate::build::{deque_at, holds, numbers};
+use arraydeque::behavior::Behavior;
+use arraydeque::{ArrayDeque, CapacityError, Saturating, Wrapping};
 use std::alloc::{AllocError, Global};
 use std::process::Abort;
 use std::test::Fail;
@@ -22,7 +23,10 @@ fn push<const CAP: usize>(
     }
 }
 
-fn pop<const CAP: usize>(deque: &mut ArrayDeque<i64, CAP, Saturating>, end: End) -> Option<i64> {
+fn pop<const CAP: usize, B: Behavior>(
+    deque: &mut ArrayDeque<i64, CAP, B>,
+    end: End,
+) -> Option<i64> {
     match end {
         End::Front => deque.pop_front(),
         End::Back => deque.pop_back(),
@@ -55,12 +59,14 @@ fn the_documented_examples(rt: HostRuntime) -> Result<(), Fail> {
     let mut deque = ArrayDeque::<i64, 2, Saturating>::new(rt.alloc())?;
     assert_eq!(rt; (deque.capacity(), deque.len()), (2, 0));
     assert!(rt; deque.is_empty());
+    assert!(rt; !deque.is_full());
     assert_eq!(rt; deque.pop_back(), None);
     assert_eq!(rt; refused(deque.push_back(1)), None);
     assert_eq!(rt; refused(deque.push_back(2)), None);
     assert_eq!(rt; refused(deque.push_back(3)), Some(3));
     assert_eq!(rt; deque.len(), 2);
     assert!(rt; !deque.is_empty());
+    assert!(rt; deque.is_full());
     assert_eq!(rt; deque.pop_front(), Some(1));
     assert_eq!(rt; deque.pop_front(), Some(2));
     assert_eq!(rt; deque.pop_front(), None);
@@ -84,6 +90,57 @@ fn a_full_deque_refuses(rt: HostRuntime) -> Result<(), Fail> {
 }
 
 #[test]
+fn a_full_deque_displaces(rt: HostRuntime) -> Result<(), Fail> {
+    let mut deque = ArrayDeque::<i64, 3, Wrapping>::new(rt.alloc())?;
+    for item in [1, 2, 3] {
+        assert_eq!(rt; deque.push_back(item), None);
+    }
+    assert_eq!(rt; deque.push_back(4), Some(1));
+    assert_eq!(rt; deque.back(), Some(&4));
+    assert!(rt; holds(&deque, &[2, 3, 4]));
+    let mut deque = ArrayDeque::<i64, 3, Wrapping>::new(rt.alloc())?;
+    for item in [1, 2, 3] {
+        assert_eq!(rt; deque.push_front(item), None);
+    }
+    assert_eq!(rt; deque.push_front(4), Some(1));
+    assert_eq!(rt; deque.back(), Some(&2));
+    assert!(rt; holds(&deque, &[4, 3, 2]));
+    Ok(())
+}
+
+/// Takes 1, 2, 3, 4 off at one end.
+fn pop_in_order<B: Behavior>(rt: &impl Abort, mut deque: ArrayDeque<i64, 7, B>, end: End) {
+    assert_eq!(rt; (deque.capacity(), deque.len()), (7, 4));
+    for (item, len) in [(1, 3), (2, 2), (3, 1), (4, 0)] {
+        assert_eq!(rt; pop(&mut deque, end), Some(item), "{end:?}");
+        assert_eq!(rt; deque.len(), len, "{end:?}");
+    }
+    assert_eq!(rt; pop(&mut deque, end), None, "{end:?}");
+    assert!(rt; deque.is_empty());
+}
+
+#[test]
+fn first_in_is_first_out(rt: HostRuntime) -> Result<(), Fail> {
+    for (in_at, out_at) in [(End::Back, End::Front), (End::Front, End::Back)] {
+        let mut saturating = ArrayDeque::<i64, 7, Saturating>::new(rt.alloc())?;
+        let mut wrapping = ArrayDeque::<i64, 7, Wrapping>::new(rt.alloc())?;
+        for item in [1, 2, 3, 4] {
+            assert_eq!(rt; refused(push(&mut saturating, in_at, item)), None);
+            assert_eq!(rt;
+                match in_at {
+                    End::Front => wrapping.push_front(item),
+                    End::Back => wrapping.push_back(item),
+                },
+                None
+            );
+        }
+        pop_in_order(&rt, saturating, out_at);
+        pop_in_order(&rt, wrapping, out_at);
+    }
+    Ok(())
+}
+
+#[test]
 fn the_front_may_wrap(rt: HostRuntime) -> Result<(), Fail> {
     let mut deque = ArrayDeque::<i64, 7, Saturating>::new(rt.alloc())?;
     assert!(rt; deque.push_back(0).is_ok());
@@ -96,11 +153,6 @@ fn the_front_may_wrap(rt: HostRuntime) -> Result<(), Fail> {
     assert_eq!(rt; first, [2].as_slice());
     assert_eq!(rt; second, [0, 1].as_slice());
     Ok(())
-}
-
-/// The numbers from 0 on, `len` of them and at most 9.
-fn numbers(alloc: Global, len: usize) -> Result<Vec<i64>, AllocError> {
-    (0..9).take(len).collect(alloc)
 }
 
 fn compare_push<const CAP: usize>(
@@ -189,5 +241,6 @@ fn every_start_and_length(rt: HostRuntime) -> Result<(), Fail> {
     compare_all::<1>(&rt, rt.alloc())?;
     compare_all::<3>(&rt, rt.alloc())?;
     compare_all::<4>(&rt, rt.alloc())?;
+    compare_all::<10>(&rt, rt.alloc())?;
     Ok(())
 }

@@ -115,6 +115,45 @@ fn good_runs(rt: HostRuntime) -> Result<(), Fail> {
             b"\n  \npush_back 1\r\npush_back 007\n",
             b"ok\nok\nlist: [1, 7]\n",
         ),
+        (
+            "wrap 3",
+            b"extend_back 1 2 3 4\ninsert 0 9\npush_back 5\ndrain 0 1\ndrain 1 9\ndrain 1 1\n",
+            b"ok\nunoffered\n2\n[3]\nrange\n[]\nlist: [4, 5]\n",
+        ),
+        (
+            "wrap 0",
+            b"push_back 5\npush_front -6\nlen\ncapacity\nis_full\n",
+            b"5\n-6\n0\n0\ntrue\nlist: []\n",
+        ),
+        (
+            "sat 2",
+            b"extend_back 7 8 9\nreplace 1 -1\nreplace 2 5\nswap 0 1\nswap 0 2\npop_front\npop_front\npop_front\n",
+            b"ok\n8\nrange\nok\nrange\n-1\n7\nnone\nlist: []\n",
+        ),
+        (
+            "sat 3",
+            b"insert 0 3\ninsert 0 1\ninsert 1 2\ninsert 1 4\ninsert 4 9\nremove 1\nis_full\nsplit_off 1\n",
+            b"ok\nok\nok\nfull 4\nrange\n2\nfalse\n[3]\nlist: [1]\n",
+        ),
+        (
+            "sat 7",
+            b"extend_back 0 1 2 3 4 5\ninsert 2 9\nremove 3\nswap 0 5\nswap_remove_back 4\nswap_remove_front 0\ninsert 9 8\n",
+            b"ok\nok\n2\nok\n4\n5\nrange\nlist: [1, 9, 3, 0]\n",
+        ),
+        (
+            "sat 0",
+            b"insert 0 5\ninsert 1 5\nremove 0\nswap 0 0\nreplace 0 5\nextend_front 1 2\ndrain 0 0\ndrain 0 1\nsplit_off 0\nclear\nis_empty\nis_full\n",
+            b"full 5\nrange\nnone\nrange\nrange\nok\n[]\nrange\n[]\nok\ntrue\ntrue\nlist: []\n",
+        ),
+        (
+            "wrap 1",
+            b"push_back 1\npush_front 2\npush_back 3\nextend_back 4 5\nextend_front 6 7\nsplit_off 0\nsplit_off 0\nlen\n",
+            b"none\n1\n2\nok\nok\n[7]\n[]\n0\nlist: []\n",
+        ),
+        ("wrap 2", b"capacity\n", b"2\nlist: []\n"),
+        ("wrap 5", b"capacity\n", b"5\nlist: []\n"),
+        ("wrap 7", b"capacity\n", b"7\nlist: []\n"),
+        ("wrap 8", b"capacity\n", b"8\nlist: []\n"),
     ] {
         let end = run(rt.alloc(), args, input)?;
         assert!(rt; end.is(0, output, b""), "{args}: {input:?}: {end:?}");
@@ -140,6 +179,10 @@ fn good_lines(rt: HostRuntime) -> Result<(), Fail> {
         (b"push_back -9223372036854775808", least),
         (b"push_back -0009223372036854775808", least),
         (b"push_back 9223372036854775807", most),
+        (b"extend_back", b"ok\nlist: []\n"),
+        (b"extend  1   2 ", b"ok\nlist: [1, 2]\n"),
+        (b"remove 18446744073709551615", b"none\nlist: []\n"),
+        (b"remove 000", b"none\nlist: []\n"),
         (b"\n", none),
         (b"\r", none),
         (b" ", none),
@@ -175,6 +218,17 @@ fn bad_lines(rt: HostRuntime) -> Result<(), Fail> {
     }
     for input in [
         b"push_back".as_slice(),
+        b"insert -1 2",
+        b"insert 1",
+        b"swap 1",
+        b"swap 1 2 3",
+        b"remove -0",
+        b"remove 18446744073709551616",
+        b"drain 0",
+        b"split_off",
+        b"clear 1",
+        b"extend 1 2 x",
+        b"PUSH_BACK 1",
         b"push_back 1 2",
         b"push_back +1",
         b"push_back -+1",
@@ -214,7 +268,8 @@ fn bad_lines(rt: HostRuntime) -> Result<(), Fail> {
 #[test]
 fn bad_arguments(rt: HostRuntime) -> Result<(), Fail> {
     for args in [
-        "", "sat", "sat 4", "sat 03", "sat +3", "sat 3 3", "Sat 3", "3 sat", "wrap 3",
+        "", "sat", "sat 4", "sat 03", "sat +3", "sat 3 3", "Sat 3", "3 sat", "wrap", "wrap 4",
+        "wrap 3 3",
     ] {
         let input = Failing {
             stream: CALLS,

@@ -11,12 +11,17 @@ use super::ArrayDeque;
 use crate::behavior::Behavior;
 
 impl<T, const CAP: usize, B: Behavior> ArrayDeque<T, CAP, B> {
-    /// Takes out the item at an index, or answers `None` where there is none. The items on the side with fewer of them move by one place, at most half of the items.
+    /// Takes out the item at an index, or answers `None` where there is none. The items on the side
+    /// with fewer of them move by one place, at most half of the items.
     pub fn remove(&mut self, index: usize) -> Option<T>
         ensures value { result ≡ slice_get self.old.items index }
         ensures items { self.new.items ≡ remove self.old.items index }
-        ensures start { OnSome result (self.new.start ≡ (if nat_lt index (length self.old.items - 1 - index) then place_of self.old.start 1 CAP else self.old.start)) }
-        ensures steps { OnSome result (self.new.steps ≡ more_moves (min index (length self.old.items - 1 - index)) (more_takes 1 self.old.steps)) }
+        ensures start { OnSome result (self.new.start ≡
+            (if nat_lt index (length self.old.items - 1 - index)
+            then place_of self.old.start 1 CAP
+            else self.old.start)) }
+        ensures steps { OnSome result (self.new.steps ≡
+            more_moves (min index (length self.old.items - 1 - index)) (more_takes 1 self.old.steps)) }
         ensures none { IfNone result (self.new ≡ self.old) }
     {
         if index >= self.len() {
@@ -25,23 +30,33 @@ impl<T, const CAP: usize, B: Behavior> ArrayDeque<T, CAP, B> {
         Some(self.ring.remove(index))
     }
 
-    /// Takes out the item at an index, or answers `None` where there is none. The last item takes its place, by one exchange at most.
+    /// Takes out the item at an index, or answers `None` where there is none. The last item takes
+    /// its place, by one exchange at most.
     pub fn swap_remove_back(&mut self, index: usize) -> Option<T>
         ensures value { result ≡ slice_get self.old.items index }
-        ensures items { self.new.items ≡ (if nat_lt index (length self.old.items) then take (length self.old.items - 1) (swap self.old.items index (length self.old.items - 1)) else self.old.items) }
+        ensures items { self.new.items ≡
+            (if nat_lt index (length self.old.items)
+            then take (length self.old.items - 1) (swap self.old.items index (length self.old.items - 1))
+            else self.old.items) }
         ensures start { self.new.start ≡ self.old.start }
-        ensures steps { OnSome result (self.new.steps ≡ more_takes 1 (more_exchanges (if index == length self.old.items - 1 then 0 else 1) self.old.steps)) }
+        ensures steps { OnSome result (self.new.steps ≡ more_takes 1
+            (more_exchanges (if index == length self.old.items - 1 then 0 else 1) self.old.steps)) }
         ensures none { IfNone result (self.new ≡ self.old) }
     {
         self.ring.swap_remove_back(index)
     }
 
-    /// Takes out the item at an index, or answers `None` where there is none. The first item takes its place, by one exchange at most.
+    /// Takes out the item at an index, or answers `None` where there is none. The first item takes
+    /// its place, by one exchange at most.
     pub fn swap_remove_front(&mut self, index: usize) -> Option<T>
         ensures value { result ≡ slice_get self.old.items index }
-        ensures items { self.new.items ≡ (if nat_lt index (length self.old.items) then drop 1 (swap self.old.items index 0) else self.old.items) }
+        ensures items { self.new.items ≡
+            (if nat_lt index (length self.old.items)
+            then drop 1 (swap self.old.items index 0)
+            else self.old.items) }
         ensures start { OnSome result (self.new.start ≡ place_of self.old.start 1 CAP) }
-        ensures steps { OnSome result (self.new.steps ≡ more_takes 1 (more_exchanges (if index == 0 then 0 else 1) self.old.steps)) }
+        ensures steps { OnSome result (self.new.steps ≡ more_takes 1
+            (more_exchanges (if index == 0 then 0 else 1) self.old.steps)) }
         ensures none { IfNone result (self.new ≡ self.old) }
     {
         self.ring.swap_remove_front(index)
@@ -63,14 +78,20 @@ impl<T, const CAP: usize, B: Behavior> ArrayDeque<T, CAP, B> {
     pub fn clear(&mut self)
     where
         T: Drop,
-        ensures { self.new ≡ record { items = []; start = 0; steps = more_takes (length self.old.items) self.old.steps } }
+        ensures { self.new ≡ record {
+          items = [];
+          start = 0;
+          steps = more_takes (length self.old.items) self.old.steps;
+        } }
     {
         self.ring.clear();
     }
 
-    /// Keeps the items that `f` answers true for, in order, and drops the others. `f` is called once on each item, front to back.
+    /// Keeps the items that `f` answers true for, in order, and drops the others. `f` is called
+    /// once on each item, front to back.
     ///
-    /// In place: each item that stays behind the first that goes moves once, and no memory is taken.
+    /// In place: each item that stays behind the first that goes moves once, and no memory is
+    /// taken.
     pub fn retain<F: FnMut(&T) -> bool>(&mut self, f: F)
     where
         T: Drop,

@@ -1,8 +1,8 @@
 //! Adding the items of an iterator.
-ghost use Rattle.std.specs.Prelude.{◌≡◌, ◌-◌, ◌++◌, length, reverse, take};
-ghost use Rattle.std.specs.Iterator.{IsFinite};
+ghost use Rattle.std.specs.Prelude.{◌≡◌, ◌-◌, ◌++◌, length, reverse, take, IsOk};
+ghost use Rattle.std.specs.Iterator.{IsFinite, ExtendsWithItems};
 ghost use Rattle.arraydeque_ring.specs.Steps.{more_puts};
-ghost use Rattle.arraydeque.specs.Deque.{keep_last};
+ghost use Rattle.arraydeque.specs.Deque.{keep_last, put_behind};
 ghost use Rattle.arraydeque.specs.Sources.{EachIterator, TakesFrom, TakesAll};
 
 use super::ArrayDeque;
@@ -10,20 +10,24 @@ use crate::behavior::{Behavior, Saturating, Wrapping};
 use std::alloc::AllocError;
 
 impl<T: Drop, const CAP: usize> ArrayDeque<T, CAP, Saturating> {
-    /// Adds items behind the last one while there is room. The iterator is asked for no more items than there is room for, and never after its first `None`.
+    /// Adds items behind the last one while there is room. The iterator is asked for no more items
+    /// than there is room for, and never after its first `None`.
     pub fn extend_back<I: IntoIterator<Item = T>>(&mut self, iter: I)
         requires { EachIterator I.into_iter_gives iter (λ it. I.IntoIter.can_next it) }
         ensures { TakesFrom I.into_iter_gives I.IntoIter.next_gives iter (CAP - length self.old.items)
-            (λ xs. self.new ≡ record self.old { items = self.old.items ++ xs; steps = more_puts (length xs) self.old.steps }) }
+            (λ xs. self.new ≡ put_behind xs self.old) }
     {
         self.fill_back(iter);
     }
 
-    /// Adds items before the first one while there is room, so that the last one taken comes to stand first. The iterator is asked for no more items than there is room for, and never after its first `None`.
+    /// Adds items before the first one while there is room, so that the last one taken comes to
+    /// stand first. The iterator is asked for no more items than there is room for, and never after
+    /// its first `None`.
     pub fn extend_front<I: IntoIterator<Item = T>>(&mut self, iter: I)
         requires { EachIterator I.into_iter_gives iter (λ it. I.IntoIter.can_next it) }
         ensures { TakesFrom I.into_iter_gives I.IntoIter.next_gives iter (CAP - length self.old.items)
-            (λ xs. (self.new.items ≡ reverse xs ++ self.old.items) × (self.new.steps ≡ more_puts (length xs) self.old.steps)) }
+            (λ xs. (self.new.items ≡ reverse xs ++ self.old.items)
+            × (self.new.steps ≡ more_puts (length xs) self.old.steps)) }
     {
         let room = self.room();
         for element in iter.into_iter().take(room) {
@@ -36,7 +40,8 @@ impl<T: Drop, const CAP: usize> ArrayDeque<T, CAP, Wrapping> {
     /// Pushes each item behind the last one. A full deque drops its first item for each.
     pub fn extend_back<I: IntoIterator<Item = T>>(&mut self, iter: I)
         requires { EachIterator I.into_iter_gives iter (λ it. I.IntoIter.can_next it × IsFinite (I.IntoIter.remaining it)) }
-        ensures { TakesAll I.into_iter_gives I.IntoIter.next_gives iter (λ xs. self.new.items ≡ keep_last CAP (self.old.items ++ xs)) }
+        ensures { TakesAll I.into_iter_gives I.IntoIter.next_gives iter
+            (λ xs. self.new.items ≡ keep_last CAP (self.old.items ++ xs)) }
     {
         let _len = self.len();
         for element in iter {
@@ -44,10 +49,12 @@ impl<T: Drop, const CAP: usize> ArrayDeque<T, CAP, Wrapping> {
         }
     }
 
-    /// Pushes each item before the first one, so that the last one comes to stand first. A full deque drops its last item for each.
+    /// Pushes each item before the first one, so that the last one comes to stand first. A full
+    /// deque drops its last item for each.
     pub fn extend_front<I: IntoIterator<Item = T>>(&mut self, iter: I)
         requires { EachIterator I.into_iter_gives iter (λ it. I.IntoIter.can_next it × IsFinite (I.IntoIter.remaining it)) }
-        ensures { TakesAll I.into_iter_gives I.IntoIter.next_gives iter (λ xs. self.new.items ≡ take CAP (reverse xs ++ self.old.items)) }
+        ensures { TakesAll I.into_iter_gives I.IntoIter.next_gives iter
+            (λ xs. self.new.items ≡ take CAP (reverse xs ++ self.old.items)) }
     {
         let _len = self.len();
         for element in iter {
@@ -57,10 +64,16 @@ impl<T: Drop, const CAP: usize> ArrayDeque<T, CAP, Wrapping> {
 }
 
 impl<T: Drop, const CAP: usize, B: Behavior> Extend<T> for ArrayDeque<T, CAP, B> {
-    ghost extend_gives = { λ old xs new. new.items ≡ old.items ++ take (CAP - length old.items) xs };
+    ghost extend_gives = { λ old xs new. new ≡ put_behind (take (CAP - length old.items) xs) old };
 
-    /// Adds items behind the last one while there is room, displaces none, and drops the rest of the iterator's items. The answer is always `Ok`.
-    fn extend<I: IntoIterator<Item = T>>(&mut self, iter: I) -> Result<(), AllocError> {
+    /// Adds items behind the last one while there is room, displaces none, and drops the rest of
+    /// the iterator's items. The answer is always `Ok`.
+    fn extend<I: IntoIterator<Item = T>>(&mut self, iter: I) -> Result<(), AllocError>
+        requires { EachIterator I.into_iter_gives iter (λ it. I.IntoIter.can_next it × IsFinite (I.IntoIter.remaining it)) }
+        ensures ran { ExtendsWithItems I.into_iter_gives I.IntoIter.next_gives
+            (λ old xs new. new ≡ put_behind (take (CAP - length old.items) xs) old) iter self.old self.new result }
+        ensures ok { IsOk result }
+    {
         for element in iter {
             if !self.is_full() {
                 self.ring.push_back(element);
@@ -75,7 +88,7 @@ impl<T: Drop, const CAP: usize, B: Behavior> ArrayDeque<T, CAP, B> {
     pub(crate) fn fill_back<I: IntoIterator<Item = T>>(&mut self, iter: I)
         requires { EachIterator I.into_iter_gives iter (λ it. I.IntoIter.can_next it) }
         ensures { TakesFrom I.into_iter_gives I.IntoIter.next_gives iter (CAP - length self.old.items)
-            (λ xs. self.new ≡ record self.old { items = self.old.items ++ xs; steps = more_puts (length xs) self.old.steps }) }
+            (λ xs. self.new ≡ put_behind xs self.old) }
     {
         let room = self.room();
         for element in iter.into_iter().take(room) {

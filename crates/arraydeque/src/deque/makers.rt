@@ -2,7 +2,7 @@
 ghost use Rattle.std.specs.Prelude.{◌≡◌, ◌<◌, ◌*◌, ◌+◌, ◌≤◌, ◌++◌, length, take, IfOk, IfErr, OnErr};
 ghost use Rattle.std.specs.Iterator.{IsFinite};
 ghost use Rattle.std.specs.Mem.{type_size};
-ghost use Rattle.arraydeque.specs.Deque.{keep_last};
+ghost use Rattle.arraydeque.specs.Deque.{empty_deque, keep_last, put_behind};
 ghost use Rattle.arraydeque.specs.Sources.{EachIterator, TakesFrom, TakesAll};
 
 use super::ArrayDeque;
@@ -12,13 +12,15 @@ use std::alloc::Global;
 use std::marker::PhantomData;
 
 impl<T: Drop, const CAP: usize> ArrayDeque<T, CAP, Saturating> {
-    /// A deque of the first `CAP` items of an iterator. The region is taken first; where it is refused the source comes back as it was, asked for nothing.
+    /// A deque of the first `CAP` items of an iterator. The region is taken first; where it is
+    /// refused the source comes back as it was, asked for nothing.
     pub fn from_iter<I: IntoIterator<Item = T>>(
         alloc: Global,
         iter: I,
     ) -> Result<Self, MakeError<I>>
         requires { EachIterator I.into_iter_gives iter (λ it. I.IntoIter.can_next it) }
-        ensures items { IfOk result (λ deque. TakesFrom I.into_iter_gives I.IntoIter.next_gives iter CAP (λ xs. deque.items ≡ xs)) }
+        ensures items { IfOk result (λ deque. TakesFrom I.into_iter_gives I.IntoIter.next_gives iter CAP
+            (λ xs. deque ≡ put_behind xs empty_deque)) }
         ensures source { IfErr result (λ refusal. refusal.source ≡ iter) }
         ensures refused { OnErr result (0 < CAP * type_size T.row) }
     {
@@ -31,20 +33,22 @@ impl<T: Drop, const CAP: usize> ArrayDeque<T, CAP, Saturating> {
         }
     }
 
-    /// A deque of the first `CAP` items of a vector; the others are dropped. Where the region is refused the vector comes back as it was.
+    /// A deque of the first `CAP` items of a vector; the others are dropped. Where the region is
+    /// refused the vector comes back as it was.
     pub fn from_vec(alloc: Global, v: Vec<T>) -> Result<Self, MakeError<Vec<T>>>
-        ensures items { IfOk result (λ deque. deque.items ≡ take CAP v.items) }
+        ensures items { IfOk result (λ deque. deque ≡ put_behind (take CAP v.items) empty_deque) }
         ensures source { IfErr result (λ refusal. refusal.source ≡ v) }
         ensures refused { OnErr result (0 < CAP * type_size T.row) }
     {
         Self::from_iter(alloc, v)
     }
 
-    /// A deque of the first `CAP` items of an array. Where the region is refused the array comes back as it was.
+    /// A deque of the first `CAP` items of an array. Where the region is refused the array comes
+    /// back as it was.
     pub fn from_array<const N: usize>(alloc: Global, a: [T; N]) -> Result<Self, MakeError<[T; N]>>
     where
         T: Copy,
-        ensures items { IfOk result (λ deque. deque.items ≡ take CAP a) }
+        ensures items { IfOk result (λ deque. deque ≡ put_behind (take CAP a) empty_deque) }
         ensures source { IfErr result (λ refusal. refusal.source ≡ a) }
         ensures refused { OnErr result (0 < CAP * type_size T.row) }
     {
@@ -60,13 +64,15 @@ impl<T: Drop, const CAP: usize> ArrayDeque<T, CAP, Saturating> {
 }
 
 impl<T: Drop, const CAP: usize> ArrayDeque<T, CAP, Wrapping> {
-    /// A deque of the last `CAP` items of an iterator; the others are dropped. The region is taken first; where it is refused the source comes back as it was, asked for nothing.
+    /// A deque of the last `CAP` items of an iterator; the others are dropped. The region is taken
+    /// first; where it is refused the source comes back as it was, asked for nothing.
     pub fn from_iter<I: IntoIterator<Item = T>>(
         alloc: Global,
         iter: I,
     ) -> Result<Self, MakeError<I>>
         requires { EachIterator I.into_iter_gives iter (λ it. I.IntoIter.can_next it × IsFinite (I.IntoIter.remaining it)) }
-        ensures items { IfOk result (λ deque. TakesAll I.into_iter_gives I.IntoIter.next_gives iter (λ xs. deque.items ≡ keep_last CAP xs)) }
+        ensures items { IfOk result (λ deque. TakesAll I.into_iter_gives I.IntoIter.next_gives iter
+            (λ xs. deque.items ≡ keep_last CAP xs)) }
         ensures source { IfErr result (λ refusal. refusal.source ≡ iter) }
         ensures refused { OnErr result (0 < CAP * type_size T.row) }
     {
@@ -79,7 +85,8 @@ impl<T: Drop, const CAP: usize> ArrayDeque<T, CAP, Wrapping> {
         }
     }
 
-    /// A deque of the last `CAP` items of a vector; the others are dropped. Where the region is refused the vector comes back as it was.
+    /// A deque of the last `CAP` items of a vector; the others are dropped. Where the region is
+    /// refused the vector comes back as it was.
     pub fn from_vec(alloc: Global, v: Vec<T>) -> Result<Self, MakeError<Vec<T>>>
         ensures items { IfOk result (λ deque. deque.items ≡ keep_last CAP v.items) }
         ensures source { IfErr result (λ refusal. refusal.source ≡ v) }
@@ -88,11 +95,12 @@ impl<T: Drop, const CAP: usize> ArrayDeque<T, CAP, Wrapping> {
         Self::from_iter(alloc, v)
     }
 
-    /// A deque of the last `CAP` items of an array. Where the region is refused the array comes back as it was.
+    /// A deque of the last `CAP` items of an array. Where the region is refused the array comes
+    /// back as it was.
     pub fn from_array<const N: usize>(alloc: Global, a: [T; N]) -> Result<Self, MakeError<[T; N]>>
     where
         T: Copy,
-        ensures items { IfOk result (λ deque. deque.items ≡ keep_last CAP a) }
+        ensures items { IfOk result (λ deque. deque ≡ put_behind (keep_last CAP a) empty_deque) }
         ensures source { IfErr result (λ refusal. refusal.source ≡ a) }
         ensures refused { OnErr result (0 < CAP * type_size T.row) }
     {
@@ -113,7 +121,7 @@ impl<T, const CAP: usize, B: Behavior> ArrayDeque<T, CAP, B> {
     where
         T: Copy,
         requires { length self.old.items + length items.now ≤ CAP }
-        ensures { self.new.items ≡ self.old.items ++ items.now }
+        ensures { self.new ≡ put_behind items.now self.old }
     {
         for item in items {
             self.ring.push_back(*item);
@@ -122,7 +130,8 @@ impl<T, const CAP: usize, B: Behavior> ArrayDeque<T, CAP, B> {
 }
 
 impl<T: Drop, const CAP: usize, B: Behavior> ArrayDeque<T, CAP, B> {
-    /// A vector of the items, front to back. Where its memory is refused the deque comes back as it was; an empty deque asks for none.
+    /// A vector of the items, front to back. Where its memory is refused the deque comes back as it
+    /// was; an empty deque asks for none.
     pub fn into_vec(mut self) -> Result<Vec<T>, MakeError<Self>>
         ensures items { IfOk result (λ v. v.items ≡ self.items) }
         ensures source { IfErr result (λ refusal. refusal.source ≡ self) }

@@ -4,7 +4,7 @@ ghost use Rattle.std.specs.List.{remove_range};
 ghost use Rattle.std.specs.Mem.{type_size};
 ghost use Rattle.arraydeque_ring.specs.Ring.{place_of};
 ghost use Rattle.arraydeque_ring.specs.Steps.{no_steps, more_moves, more_puts, more_takes};
-ghost use Rattle.arraydeque.specs.Range.{first_of, end_of};
+ghost use Rattle.arraydeque.specs.Range.{first_of, end_of, count_within, count_behind, items_within, items_around};
 
 use super::ArrayDeque;
 use crate::behavior::Behavior;
@@ -14,18 +14,32 @@ use std::alloc::AllocError;
 use std::marker::PhantomData;
 
 impl<T, const CAP: usize, B: Behavior> ArrayDeque<T, CAP, B> {
-    /// Takes a stretch of items out, which the answer owns in a region of its own. The gap is closed when the call returns, by moving the items on the side with fewer of them.
+    /// Takes a stretch of items out, which the answer owns in a region of its own. The gap is
+    /// closed when the call returns, by moving the items on the side with fewer of them.
     ///
-    /// A bound that the range leaves open is the front or the end of the list. Refused for memory alone, with nothing changed; an empty stretch asks for none.
+    /// A bound that the range leaves open is the front or the end of the list. Refused for memory
+    /// alone, with nothing changed; an empty stretch asks for none.
     pub fn drain<R: RangeArgument<usize>>(&mut self, range: R) -> Result<Drain<T>, AllocError>
     where
         R: Drop,
         requires ordered { first_of (R.names_start range) ≤ end_of (R.names_end range) (length self.old.items) }
         requires in_bounds { end_of (R.names_end range) (length self.old.items) ≤ length self.old.items }
-        ensures drained { IfOk result (λ drained. drained ≡ slice_range self.old.items (first_of (R.names_start range)) (end_of (R.names_end range) (length self.old.items))) }
-        ensures items { OnOk result (self.new.items ≡ remove_range self.old.items (first_of (R.names_start range)) (end_of (R.names_end range) (length self.old.items))) }
+        ensures drained { IfOk result (λ drained. drained ≡
+            items_within (R.names_start range) (R.names_end range) self.old.items) }
+        ensures items { OnOk result (self.new.items ≡
+            items_around (R.names_start range) (R.names_end range) self.old.items) }
+        ensures start { let before = first_of (R.names_start range) in
+            let gap = count_within (R.names_start range) (R.names_end range) self.old.items in
+            let behind = count_behind (R.names_start range) (R.names_end range) self.old.items in
+            OnOk result (self.new.start ≡
+            (if nat_lt before behind then place_of self.old.start gap CAP else self.old.start)) }
+        ensures steps { let before = first_of (R.names_start range) in
+            let gap = count_within (R.names_start range) (R.names_end range) self.old.items in
+            let behind = count_behind (R.names_start range) (R.names_end range) self.old.items in
+            OnOk result (self.new.steps ≡
+            more_moves (if nat_lt 0 gap then min before behind else 0) (more_takes gap self.old.steps)) }
         ensures unchanged { OnErr result (self.new ≡ self.old) }
-        ensures refused { OnErr result (0 < (end_of (R.names_end range) (length self.old.items) - first_of (R.names_start range)) * type_size T.row) }
+        ensures refused { OnErr result (0 < count_within (R.names_start range) (R.names_end range) self.old.items * type_size T.row) }
     {
         let start = match range.start() {
             Some(start) => start,
@@ -39,15 +53,22 @@ impl<T, const CAP: usize, B: Behavior> ArrayDeque<T, CAP, B> {
         Ok(Drain::of(ring))
     }
 
-    /// Cuts the deque in two: the items before an index stay, and the answer, of the same capacity, holds the others.
+    /// Cuts the deque in two: the items before an index stay, and the answer, of the same capacity,
+    /// holds the others.
     ///
-    /// Refused for memory alone, with nothing changed; never at capacity 0 or for items of size zero.
+    /// Refused for memory alone, with nothing changed; never at capacity 0 or for items of size
+    /// zero.
     pub fn split_off(&mut self, at: usize) -> Result<Self, AllocError>
         requires { at ≤ length self.old.items }
-        ensures tail { IfOk result (λ tail. tail ≡ record { items = drop at self.old.items; start = 0; steps = more_puts (length self.old.items - at) no_steps }) }
+        ensures tail { IfOk result (λ tail. tail ≡ record {
+          items = drop at self.old.items;
+          start = 0;
+          steps = more_puts (length self.old.items - at) no_steps;
+        }) }
         ensures items { OnOk result (self.new.items ≡ take at self.old.items) }
         ensures start { self.new.start ≡ self.old.start }
-        ensures steps { OnOk result (self.new.steps ≡ more_takes (length self.old.items - at) self.old.steps) }
+        ensures steps { OnOk result (self.new.steps ≡
+            more_takes (length self.old.items - at) self.old.steps) }
         ensures unchanged { OnErr result (self.new ≡ self.old) }
         ensures refused { OnErr result (0 < CAP * type_size T.row) }
     {

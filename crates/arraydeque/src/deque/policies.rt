@@ -44,13 +44,19 @@ impl<T, const CAP: usize> ArrayDeque<T, CAP, Saturating> {
         Ok(())
     }
 
-    /// Adds an item before the one at an index, or behind the last one. The items on the side with fewer of them move by one place, at most half of the items. A full deque hands the element back and stays as it was.
+    /// Adds an item before the one at an index, or behind the last one. The items on the side with
+    /// fewer of them move by one place, at most half of the items. A full deque hands the element
+    /// back and stays as it was.
     pub fn insert(&mut self, index: usize, element: T) -> Result<(), CapacityError<T>>
         requires { index ≤ length self.old.items }
         ensures room { IsOk result ↔ (length self.old.items < CAP) }
         ensures items { OnOk result (self.new.items ≡ insert self.old.items index element) }
-        ensures start { OnOk result (self.new.start ≡ (if nat_lt index (length self.old.items - index) then place_of self.old.start (CAP - 1) CAP else self.old.start)) }
-        ensures steps { OnOk result (self.new.steps ≡ more_puts 1 (more_moves (min index (length self.old.items - index)) self.old.steps)) }
+        ensures start { OnOk result (self.new.start ≡
+            (if nat_lt index (length self.old.items - index)
+            then place_of self.old.start (CAP - 1) CAP
+            else self.old.start)) }
+        ensures steps { OnOk result (self.new.steps ≡
+            more_puts 1 (more_moves (min index (length self.old.items - index)) self.old.steps)) }
         ensures full { IfErr result (λ refusal. refusal.element ≡ element) }
         ensures unchanged { OnErr result (self.new ≡ self.old) }
     {
@@ -63,13 +69,15 @@ impl<T, const CAP: usize> ArrayDeque<T, CAP, Saturating> {
 }
 
 impl<T, const CAP: usize> ArrayDeque<T, CAP, Wrapping> {
-    /// Adds an item before the first one. A full deque gives up its last item, and one of capacity 0 the element itself.
+    /// Adds an item before the first one. A full deque gives up its last item, and one of capacity
+    /// 0 the element itself.
     #[inline]
     pub fn push_front(&mut self, element: T) -> Option<T>
         ensures items { self.new.items ≡ take CAP (element ∷ self.old.items) }
         ensures value { result ≡ slice_get (element ∷ self.old.items) CAP }
         ensures start { 0 < CAP → self.new.start ≡ place_of self.old.start (CAP - 1) CAP }
-        ensures steps { 0 < CAP → self.new.steps ≡ more_puts 1 (more_takes (if nat_lt (length self.old.items) CAP then 0 else 1) self.old.steps) }
+        ensures steps { 0 < CAP → self.new.steps ≡ more_puts 1
+            (more_takes (if nat_lt (length self.old.items) CAP then 0 else 1) self.old.steps) }
         ensures no_places { CAP ≡ 0 → self.new ≡ self.old }
     {
         if !self.is_full() {
@@ -84,13 +92,21 @@ impl<T, const CAP: usize> ArrayDeque<T, CAP, Wrapping> {
         displaced
     }
 
-    /// Adds an item behind the last one. A full deque gives up its first item, and one of capacity 0 the element itself.
+    /// Adds an item behind the last one. A full deque gives up its first item, and one of capacity
+    /// 0 the element itself.
     #[inline]
     pub fn push_back(&mut self, element: T) -> Option<T>
         ensures items { self.new.items ≡ keep_last CAP (self.old.items ++ element ∷ []) }
-        ensures value { result ≡ (if nat_lt (length self.old.items) CAP then None else slice_get (self.old.items ++ element ∷ []) 0) }
-        ensures start { 0 < CAP → self.new.start ≡ (if nat_lt (length self.old.items) CAP then self.old.start else place_of self.old.start 1 CAP) }
-        ensures steps { 0 < CAP → self.new.steps ≡ more_puts 1 (more_takes (if nat_lt (length self.old.items) CAP then 0 else 1) self.old.steps) }
+        ensures value { result ≡
+            (if nat_lt (length self.old.items) CAP
+            then None
+            else slice_get (self.old.items ++ element ∷ []) 0) }
+        ensures start { 0 < CAP → self.new.start ≡
+            (if nat_lt (length self.old.items) CAP
+            then self.old.start
+            else place_of self.old.start 1 CAP) }
+        ensures steps { 0 < CAP → self.new.steps ≡ more_puts 1
+            (more_takes (if nat_lt (length self.old.items) CAP then 0 else 1) self.old.steps) }
         ensures no_places { CAP ≡ 0 → self.new ≡ self.old }
     {
         if !self.is_full() {

@@ -16,7 +16,10 @@ impl<T> Ring<T> {
     pub fn swap(&mut self, i: usize, j: usize)
         requires i_in_bounds { i < length self.old.items }
         requires j_in_bounds { j < length self.old.items }
-        ensures { self.new ≡ record self.old { items = swap self.old.items i j; steps = more_exchanges (if i == j then 0 else 1) self.old.steps } }
+        ensures { self.new ≡ record self.old {
+          items = swap self.old.items i j;
+          steps = more_exchanges (if i == j then 0 else 1) self.old.steps;
+        } }
     {
         let capacity = self.slots.capacity();
         let a = wrap_add(self.start, i, capacity);
@@ -28,7 +31,11 @@ impl<T> Ring<T> {
     #[inline]
     pub fn swap_remove_back(&mut self, index: usize) -> Option<T>
         ensures value { result ≡ slice_get self.old.items index }
-        ensures taken { let last = length self.old.items - 1 in OnSome result (self.new ≡ record self.old { items = take last (swap self.old.items index last); steps = more_takes 1 (more_exchanges (if index == last then 0 else 1) self.old.steps) }) }
+        ensures taken { let last = length self.old.items - 1 in
+            OnSome result (self.new ≡ record self.old {
+              items = take last (swap self.old.items index last);
+              steps = more_takes 1 (more_exchanges (if index == last then 0 else 1) self.old.steps);
+            }) }
         ensures none { IfNone result (self.new ≡ self.old) }
     {
         let len = self.len();
@@ -39,11 +46,16 @@ impl<T> Ring<T> {
         self.pop_back()
     }
 
-    /// Takes the item at an index off, if there is one, and puts the first item in its place. The start goes on to the next place.
+    /// Takes the item at an index off, if there is one, and puts the first item in its place. The
+    /// start goes on to the next place.
     #[inline]
     pub fn swap_remove_front(&mut self, index: usize) -> Option<T>
         ensures value { result ≡ slice_get self.old.items index }
-        ensures taken { OnSome result (self.new ≡ record self.old { items = drop 1 (swap self.old.items index 0); start = place_of self.old.start 1 self.old.capacity; steps = more_takes 1 (more_exchanges (if index == 0 then 0 else 1) self.old.steps) }) }
+        ensures taken { OnSome result (self.new ≡ record self.old {
+          items = drop 1 (swap self.old.items index 0);
+          start = place_of self.old.start 1 self.old.capacity;
+          steps = more_takes 1 (more_exchanges (if index == 0 then 0 else 1) self.old.steps);
+        }) }
         ensures none { IfNone result (self.new ≡ self.old) }
     {
         if index >= self.len() {
@@ -57,7 +69,11 @@ impl<T> Ring<T> {
     pub fn clear(&mut self)
     where
         T: Drop,
-        ensures { self.new ≡ record self.old { items = []; start = 0; steps = more_takes (length self.old.items) self.old.steps } }
+        ensures { self.new ≡ record self.old {
+          items = [];
+          start = 0;
+          steps = more_takes (length self.old.items) self.old.steps;
+        } }
     {
         let first = self.len.min(self.slots.capacity() - self.start);
         drop_run(&mut self.slots, self.start, self.start + first);
@@ -66,7 +82,8 @@ impl<T> Ring<T> {
         self.len = 0;
     }
 
-    /// Keeps the items at which `f` answers true, in their order, and drops the others, in place. `f` is called once on each item, front to back.
+    /// Keeps the items at which `f` answers true, in their order, and drops the others, in place.
+    /// `f` is called once on each item, front to back.
     pub fn retain<F: FnMut(&T) -> bool>(&mut self, mut f: F)
     where
         T: Drop,
@@ -97,7 +114,8 @@ impl<T> Ring<T> {
 fn drop_run<T: Drop>(slots: &mut Slots<T>, from: usize, end: usize)
     requires order { from ≤ end }
     requires filled { IsFilledRun slots.old.places from (end - from) }
-    ensures places { slots.new.places ≡ take from slots.old.places ++ replicate (end - from) None ++ drop end slots.old.places }
+    ensures places { slots.new.places ≡
+        take from slots.old.places ++ replicate (end - from) None ++ drop end slots.old.places }
     ensures steps { slots.new.steps ≡ more_takes (end - from) slots.old.steps }
 {
     for place in from..end {
@@ -110,7 +128,8 @@ fn drop_run<T: Drop>(slots: &mut Slots<T>, from: usize, end: usize)
 fn settle<T>(slots: &mut Slots<T>, dst: usize, src: usize)
     requires filled { IsFilled slots.old.places src }
     requires empty { dst ≢ src → IsEmpty slots.old.places dst }
-    ensures places { slots.new.places ≡ slice_set (slice_set slots.old.places src None) dst (held_at slots.old.places src) }
+    ensures places { slots.new.places ≡
+        slice_set (slice_set slots.old.places src None) dst (held_at slots.old.places src) }
     ensures steps { slots.new.steps ≡ more_moves (if dst == src then 0 else 1) slots.old.steps }
 {
     if dst != src {
