@@ -1,10 +1,9 @@
 -- A push at the front that keeps the first n items.
-use Rattle.std.proofs.Common.{◌≡◌, ℕ, ◌<◌, List, ◌∷◌, length, take, nat_lt, slice_get, Option, Bool, subst, sym, ap, ◌∙◌, arith, inl, inr}
-use Rattle.std.specs.Bool.{MatchBool}
+use Rattle.std.proofs.Common.{◌≡◌, ℕ, List, ◌∷◌, length, take, nat_lt, slice_get, Option, Bool, subst, sym, ap, ◌∙◌, arith, inl, inr}
 use Rattle.std.proofs.lemmas.Bool.{cases_lt, lt-ltb, le-ltb}
 use Rattle.std.proofs.lemmas.List.{take_all}
 use Rattle.std.proofs.lemmas.Option.{slice_get_past}
-use Rattle.arraydeque.specs.Machine.{Answer, displaced, Pushes}
+use Rattle.arraydeque.specs.Machine.{displaced, Pushes}
 use Rattle.arraydeque.specs.Policy.{wrapping}
 
 -- keeps them all where there is room

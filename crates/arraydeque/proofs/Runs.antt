@@ -1,5 +1,5 @@
 -- A run of the list machine grows by one call at its end.
-use Rattle.std.proofs.Common.{◌≡◌, ℕ, List, [], ◌∷◌, ◌++◌, refl, subst}
+use Rattle.std.proofs.Common.{ℕ, List, [], ◌∷◌, ◌++◌, refl, subst}
 use Rattle.arraydeque.specs.Machine.{Step, answer_of}
 use Rattle.arraydeque.specs.Policy.{Policy}
 use Rattle.arraydeque.specs.Run.{Run}

@@ -1,6 +1,6 @@
 -- What is taken of an iterator.
-use Rattle.std.proofs.Common.{◌≡◌, ℕ, ◌+◌, ◌<◌, ◌≤◌, zero, suc, List, [], ◌∷◌, length, take, Option, None, Result, IfOk, refl, sym, subst, arith}
-use Rattle.std.specs.Iterator.{AlwaysYields, Yields, Drains}
+use Rattle.std.proofs.Common.{◌≡◌, ℕ, ◌<◌, zero, suc, List, [], ◌∷◌, length, take, Option, None, Result, IfOk, refl, sym, subst, arith}
+use Rattle.std.specs.Iterator.{AlwaysYields, Drains}
 use Rattle.std.specs.Iterator.Adapters.{take_steps, take_source, take_count}
 use Rattle.std.specs.Vec.Iter.{into_iter_items, into_iter_len, into_iter_steps}
 use Rattle.std.specs.declared.iter.Take.{Take}

@@ -1,5 +1,5 @@
 -- What a source of items gives, once it is turned into an iterator.
-use Rattle.std.specs.Prelude.{◌≡◌, ℕ, ◌<◌, ◌≤◌, List, length, Option, None}
+use Rattle.std.specs.Prelude.{ℕ, ◌<◌, ◌≤◌, List, length, Option, None}
 use Rattle.std.specs.Iterator.{Yields, Drains}
 
 -- the calls from s gave xs, at most n items, and fewer only where a None came after them

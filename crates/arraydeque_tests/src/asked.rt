@@ -10,6 +10,7 @@ pub struct Count {
 }
 
 impl Count {
+    /// The count from `next` on, not asked yet.
     pub fn from(next: i64) -> Count {
         Count { next, asked: 0 }
     }
@@ -34,6 +35,7 @@ pub struct Script<'a> {
 }
 
 impl<'a> Script<'a> {
+    /// An iterator that gives these answers, and `None` after them.
     pub fn of(answers: &'a [Option<i64>]) -> Script<'a> {
         Script {
             rest: answers,

@@ -1,4 +1,4 @@
-use Rattle.std.proofs.Common.{◌≡◌, ◌+◌, ◌-◌, ◌++◌, length, reverse}
+use Rattle.std.proofs.Common.{◌≡◌, ◌+◌, ◌-◌, ◌++◌, length}
 use Rattle.std.specs.Iterator.Adapters.{take_count}
 use Rattle.arraydeque_ring.specs.Steps.{more_puts}
 use Rattle.arraydeque.proofs.deque.ArrayDeque.fill_back.Given as goal

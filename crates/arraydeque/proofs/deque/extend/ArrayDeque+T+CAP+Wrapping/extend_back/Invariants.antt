@@ -1,4 +1,4 @@
-use Rattle.std.proofs.Common.{◌≡◌, ◌++◌, take, reverse}
+use Rattle.std.proofs.Common.{◌≡◌, ◌++◌}
 use Rattle.arraydeque.specs.Deque.{keep_last}
 use Rattle.arraydeque.proofs.deque.extend.ArrayDeque+T+CAP+Wrapping.extend_back.Given as goal
 

@@ -1,5 +1,4 @@
 use Rattle.std.proofs.Common.{◌≡◌, ◌++◌, take, reverse}
-use Rattle.arraydeque.specs.Deque.{keep_last}
 use Rattle.arraydeque.proofs.deque.extend.ArrayDeque+T+CAP+Wrapping.extend_front.Given as goal
 
 abbrev pub invariant-loop-element : goal.invariant-loop-element
