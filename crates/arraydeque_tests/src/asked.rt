@@ -4,14 +4,14 @@ ghost use Rattle.std.specs.Iterator.{at_most};
 
 /// Counts upwards without end.
 #[derive(Drop)]
-pub struct Count {
+pub(crate) struct Count {
     next: i64,
-    pub asked: usize,
+    pub(crate) asked: usize,
 }
 
 impl Count {
     /// The count from `next` on, not asked yet.
-    pub fn from(next: i64) -> Count {
+    pub(crate) fn from(next: i64) -> Count {
         Count { next, asked: 0 }
     }
 }
@@ -29,14 +29,14 @@ impl Iterator for Count {
 
 /// Gives the answers that it was made with, a `None` among them too, and `None` ever after.
 #[derive(Drop)]
-pub struct Script<'a> {
+pub(crate) struct Script<'a> {
     rest: &'a [Option<i64>],
-    pub asked: usize,
+    pub(crate) asked: usize,
 }
 
 impl<'a> Script<'a> {
     /// An iterator that gives these answers, and `None` after them.
-    pub fn of(answers: &'a [Option<i64>]) -> Script<'a> {
+    pub(crate) fn of(answers: &'a [Option<i64>]) -> Script<'a> {
         Script {
             rest: answers,
             asked: 0,

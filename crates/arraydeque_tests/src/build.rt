@@ -5,7 +5,7 @@ use std::alloc::{AllocError, Global};
 use std::test::Fail;
 
 /// A deque of `items`, the first of which stands at the place `start`.
-pub fn deque_at<const CAP: usize>(
+pub(crate) fn deque_at<const CAP: usize>(
     alloc: Global,
     start: usize,
     items: &[i64],
@@ -22,7 +22,7 @@ pub fn deque_at<const CAP: usize>(
 }
 
 /// The same under the policy that displaces.
-pub fn wrapping_at<const CAP: usize>(
+pub(crate) fn wrapping_at<const CAP: usize>(
     alloc: Global,
     start: usize,
     items: &[i64],
@@ -31,12 +31,12 @@ pub fn wrapping_at<const CAP: usize>(
 }
 
 /// The numbers from 0 on, `len` of them.
-pub fn numbers(alloc: Global, len: usize) -> Result<Vec<i64>, AllocError> {
+pub(crate) fn numbers(alloc: Global, len: usize) -> Result<Vec<i64>, AllocError> {
     (0..i64::MAX).take(len).collect(alloc)
 }
 
 /// Whether the two slices, joined, are `items`.
-pub fn holds<T: PartialEq, const CAP: usize, B: Behavior>(
+pub(crate) fn holds<T: PartialEq, const CAP: usize, B: Behavior>(
     deque: &ArrayDeque<T, CAP, B>,
     items: &[T],
 ) -> bool {
@@ -48,7 +48,7 @@ pub fn holds<T: PartialEq, const CAP: usize, B: Behavior>(
 }
 
 /// The two slices, joined.
-pub fn list_of<T: Copy, const CAP: usize, B: Behavior>(
+pub(crate) fn list_of<T: Copy, const CAP: usize, B: Behavior>(
     alloc: Global,
     deque: &ArrayDeque<T, CAP, B>,
 ) -> Result<Vec<T>, AllocError> {
