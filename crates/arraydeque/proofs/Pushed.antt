@@ -1,12 +1,17 @@
--- A push at the front that keeps the first n items.
-use Rattle.std.proofs.Common.{◌≡◌, ℕ, List, ◌∷◌, length, take, nat_lt, slice_get, Option, Bool, subst, sym, ap, ◌∙◌, arith, inl, inr}
+-- What pushes leave, one and many.
+use Rattle.std.proofs.Common.{◌≡◌, ℕ, zero, suc, ◌+◌, ◌-◌, ◌*◌, ◌%◌, ◌<◌, ◌≤◌, List, [], ◌∷◌, ◌++◌, length, take, reverse, nat_lt, slice_get, Option, Bool, if◌then◌else◌, subst, sym, ap, ap₂, ◌∙◌, arith, inl, inr}
+use Rattle.std.proofs.Math.Nat.{mod-add-mod, add_assoc}
+use native.Mathlib.Nat.{suc-mul}
 use Rattle.std.proofs.lemmas.Bool.{cases_lt, lt-ltb, le-ltb}
-use Rattle.std.proofs.lemmas.List.{take_all}
+use Rattle.std.proofs.lemmas.List.{take_all, length-append, length-drop, length-take, length-reverse}
 use Rattle.std.proofs.lemmas.Option.{slice_get_past}
+use Rattle.arraydeque_ring.specs.Ring.{place_of}
+use Rattle.arraydeque_ring.specs.Steps.{Steps, more_puts, more_takes}
+use Rattle.arraydeque.specs.Deque.{DequeState, keep_last, back_by, pushed_behind, pushed_before}
 use Rattle.arraydeque.specs.Machine.{displaced, Pushes}
 use Rattle.arraydeque.specs.Policy.{wrapping}
 
--- keeps them all where there is room
+-- a push at the front that keeps the first n items keeps them all where there is room
 pub Pushes-front : {X : Type 0} (n : ℕ) (l : List X) (x : X) (given_up : Option X) (left : List X) → given_up ≡ slice_get (x ∷ l) n → left ≡ take n (x ∷ l)
     → Pushes wrapping (nat_lt (length l) n) l x (x ∷ l) (slice_get (x ∷ l) n) (take n (x ∷ l)) (displaced given_up) left
 Pushes-front {X = X} n l x given_up left value items =
@@ -15,3 +20,81 @@ Pushes-front {X = X} n l x given_up left value items =
       | inl room ↦ subst P (sym (lt-ltb (length l) n room)) (ap displaced (value ∙ slice_get_past (x ∷ l) n (omega arith)), items ∙ take_all n (x ∷ l) (omega arith))
       | inr none ↦ subst P (sym (le-ltb (length l) n none)) (ap displaced value, items)
     ]
+
+-- to go on by j and then by k is to go on by both
+place_of-on : (s j k n : ℕ) → place_of (place_of s j n) k n ≡ place_of s (j + k) n
+place_of-on s j k n = mod-add-mod (s + j) n k ∙ ap (λ m. m % n) (add_assoc s j k)
+
+-- to go back by k places and then by one is to go back by one more
+back_by-one : (k s n : ℕ) → place_of (back_by k s n) (n - 1) n ≡ back_by (suc k) s n
+back_by-one zero s n = ap (λ m. place_of s m n) (omega arith)
+back_by-one (suc k) s n =
+    let back : (j : ℕ) → back_by (suc j) s n ≡ place_of s (suc j * (n - 1)) n = λ j. ap (λ b. if b then place_of s (suc j * (n - 1)) n else s) (lt-ltb 0 (suc j) (omega arith)) in
+    ap (λ t. place_of t (n - 1) n) (back k) ∙ place_of-on s (suc k * (n - 1)) (n - 1) n ∙ ap (λ m. place_of s m n) (omega (arith, suc-mul (suc k) (n - 1))) ∙ sym (back (suc k))
+
+-- where one item more is pushed, it displaces one where there was no room
+out_by_one : (total kept n : ℕ) → kept ≡ total - (total - n) → (total - n) + (if nat_lt kept n then 0 else 1) ≡ suc total - n
+out_by_one total kept n long = elim (cases_lt kept n) [
+  | inl room ↦ ap (λ b. (total - n) + (if b then 0 else 1)) (lt-ltb kept n room) ∙ omega arith
+  | inr none ↦ ap (λ b. (total - n) + (if b then 0 else 1)) (le-ltb kept n none) ∙ omega arith
+]
+
+module _ {X : Type 0} (xs : List X) (x : X) where
+  long : length (xs ++ x ∷ []) ≡ suc (length xs)
+  long = length-append xs (x ∷ []) ∙ omega arith
+
+  pub back_by-push : (s n : ℕ) → place_of (back_by (length xs) s n) (n - 1) n ≡ back_by (length (xs ++ x ∷ [])) s n
+  back_by-push s n = back_by-one (length xs) s n ∙ ap (λ k. back_by k s n) (sym long)
+
+module _ {X : Type 0} (n : ℕ) (old mid new : DequeState X) (xs : List X) (x : X) where
+
+  -- the steps of one push more
+  one_more : length mid.items ≡ length old.items + length xs - (length old.items + length xs - n)
+      → mid.steps ≡ more_puts (length xs) (more_takes (length old.items + length xs - n) old.steps)
+      → new.steps ≡ more_puts 1 (more_takes (if nat_lt (length mid.items) n then 0 else 1) mid.steps)
+      → new.steps ≡ more_puts (length (xs ++ x ∷ [])) (more_takes (length old.items + length (xs ++ x ∷ []) - n) old.steps)
+  one_more kept before steps =
+      let out : old.steps.takes + (length old.items + length xs - n) + (if nat_lt (length mid.items) n then 0 else 1) ≡ old.steps.takes + (length old.items + length (xs ++ x ∷ []) - n) =
+          add_assoc old.steps.takes (length old.items + length xs - n) _ ∙ ap (λ m. old.steps.takes + m) (out_by_one (length old.items + length xs) (length mid.items) n kept ∙ omega (arith, long xs x)) in
+      steps ∙ ap (λ s. more_puts 1 (more_takes (if nat_lt (length mid.items) n then 0 else 1) s)) before
+      ∙ ap₂ (λ p t. record old.steps { puts = p; takes = t }) (omega (arith, long xs x)) out
+
+  -- one item more is pushed behind
+  pub pushed_behind-one : mid ≡ pushed_behind n xs old
+      → new.items ≡ keep_last n (old.items ++ (xs ++ x ∷ []))
+      → new.start ≡ (if nat_lt (length mid.items) n then mid.start else place_of mid.start 1 n)
+      → new.steps ≡ more_puts 1 (more_takes (if nat_lt (length mid.items) n then 0 else 1) mid.steps)
+      → new ≡ pushed_behind n (xs ++ x ∷ []) old
+  pushed_behind-one before items start steps =
+      let total = length old.items + length xs in
+      let more = length old.items + length (xs ++ x ∷ []) in
+      let kept : length mid.items ≡ total - (total - n) = ap (λ (d : DequeState X). length d.items) before ∙ length-drop (length (old.items ++ xs) - n) (old.items ++ xs) ∙ omega (arith, length-append old.items xs) in
+      let was : mid.start ≡ (if nat_lt n total then place_of old.start (total - n) n else old.start) = ap (λ (d : DequeState X). d.start) before in
+      let here : new.start ≡ (if nat_lt n more then place_of old.start (more - n) n else old.start) = elim (cases_lt total n) [
+        | inl room ↦ start ∙ ap (λ b. if b then mid.start else place_of mid.start 1 n) (lt-ltb (length mid.items) n (omega arith))
+            ∙ was ∙ ap (λ b. if b then place_of old.start (total - n) n else old.start) (le-ltb n total (omega arith))
+            ∙ sym (ap (λ b. if b then place_of old.start (more - n) n else old.start) (le-ltb n more (omega (arith, long xs x))))
+        | inr none ↦
+            let past = sym (ap (λ b. if b then place_of old.start (more - n) n else old.start) (lt-ltb n more (omega (arith, long xs x)))) in
+            start ∙ ap (λ b. if b then mid.start else place_of mid.start 1 n) (le-ltb (length mid.items) n (omega arith))
+            ∙ elim (cases_lt n total) [
+              | inl over ↦ ap (λ s. place_of s 1 n) (was ∙ ap (λ b. if b then place_of old.start (total - n) n else old.start) (lt-ltb n total over))
+                  ∙ place_of-on old.start (total - n) 1 n ∙ ap (λ k. place_of old.start k n) (omega (arith, long xs x)) ∙ past
+              | inr up_to ↦ ap (λ s. place_of s 1 n) (was ∙ ap (λ b. if b then place_of old.start (total - n) n else old.start) (le-ltb n total up_to))
+                  ∙ ap (λ k. place_of old.start k n) (omega (arith, long xs x)) ∙ past
+            ]
+      ] in
+      let counted = one_more kept (ap (λ (d : DequeState X). d.steps) before) steps in
+      (λ i. record { items = items i; start = here i; steps = counted i })
+
+  -- one item more is pushed before
+  pub pushed_before-one : mid ≡ pushed_before n xs old
+      → new.items ≡ take n (reverse (xs ++ x ∷ []) ++ old.items)
+      → new.start ≡ place_of mid.start (n - 1) n
+      → new.steps ≡ more_puts 1 (more_takes (if nat_lt (length mid.items) n then 0 else 1) mid.steps)
+      → new ≡ pushed_before n (xs ++ x ∷ []) old
+  pushed_before-one before items start steps =
+      let kept : length mid.items ≡ length old.items + length xs - (length old.items + length xs - n) = ap (λ (d : DequeState X). length d.items) before ∙ length-take n (reverse xs ++ old.items) ∙ omega (arith, length-append (reverse xs) old.items, length-reverse xs) in
+      let here : new.start ≡ back_by (length (xs ++ x ∷ [])) old.start n = start ∙ ap (λ (d : DequeState X). place_of d.start (n - 1) n) before ∙ back_by-push xs x old.start n in
+      let counted = one_more kept (ap (λ (d : DequeState X). d.steps) before) steps in
+      (λ i. record { items = items i; start = here i; steps = counted i })

@@ -1,7 +1,7 @@
 -- What a contract sees of a deque.
-use Rattle.std.specs.Prelude.{ℕ, ◌-◌, List, [], ◌++◌, length, drop, slice_get, Option}
-use Rattle.arraydeque_ring.specs.Ring.{RingState}
-use Rattle.arraydeque_ring.specs.Steps.{Steps, no_steps, more_puts}
+use Rattle.std.specs.Prelude.{ℕ, ◌+◌, ◌-◌, ◌*◌, List, [], ◌++◌, length, take, drop, reverse, slice_get, Option, nat_lt, if◌then◌else◌}
+use Rattle.arraydeque_ring.specs.Ring.{RingState, place_of}
+use Rattle.arraydeque_ring.specs.Steps.{Steps, no_steps, more_puts, more_takes}
 
 -- a deque: its items from front to back, the place of the first in its region, and the steps of that region
 pub record DequeState (X : Type 0) : Type 0 where
@@ -9,22 +9,49 @@ pub record DequeState (X : Type 0) : Type 0 where
   pub start : ℕ
   pub steps : Steps
 
+-- the start after it went k places back, one by one, in a region of n places
+abbrev pub back_by : ℕ → ℕ → ℕ → ℕ
+back_by k start n = if nat_lt 0 k then place_of start (k * (n - 1)) n else start
+
 module _ {X : Type 0} where
   abbrev pub empty_deque : DequeState X
   empty_deque = record { items = []; start = 0; steps = no_steps }
-
-  -- the deque with xs put behind its last item, where no other item moves
-  abbrev pub put_behind : List X → DequeState X → DequeState X
-  put_behind xs deque = record deque { items = deque.items ++ xs; steps = more_puts (length xs) deque.steps }
 
   -- the deque of capacity n as the ring that it is
   abbrev pub as_ring : ℕ → DequeState X → RingState X
   as_ring n deque = record { items = deque.items; capacity = n; start = deque.start; steps = deque.steps }
 
+  -- the last item, if there is one
+  abbrev pub last_item : List X → Option X
+  last_item xs = slice_get xs (length xs - 1)
+
   -- the last n items, or all if there are fewer
   abbrev pub keep_last : ℕ → List X → List X
   keep_last n xs = drop (length xs - n) xs
 
-  -- the last item, if there is one
-  abbrev pub last_item : List X → Option X
-  last_item xs = slice_get xs (length xs - 1)
+  -- the deque with xs put behind its last item, where no other item moves
+  abbrev pub put_behind : List X → DequeState X → DequeState X
+  put_behind xs deque = record deque { items = deque.items ++ xs; steps = more_puts (length xs) deque.steps }
+
+  -- the deque of capacity n with xs put one by one before its first item, where no other item moves
+  abbrev pub put_before : ℕ → List X → DequeState X → DequeState X
+  put_before n xs deque = record { items = reverse xs ++ deque.items; start = back_by (length xs) deque.start n; steps = more_puts (length xs) deque.steps }
+
+  -- the deque of capacity n with xs pushed one by one behind its last item, where each push into a full one takes its first item out
+  abbrev pub pushed_behind : ℕ → List X → DequeState X → DequeState X
+  pushed_behind n xs deque =
+      let total = length deque.items + length xs in
+      record {
+        items = keep_last n (deque.items ++ xs);
+        start = if nat_lt n total then place_of deque.start (total - n) n else deque.start;
+        steps = more_puts (length xs) (more_takes (total - n) deque.steps);
+      }
+
+  -- the deque of capacity n with xs pushed one by one before its first item, where each push into a full one takes its last item out
+  abbrev pub pushed_before : ℕ → List X → DequeState X → DequeState X
+  pushed_before n xs deque =
+      record {
+        items = take n (reverse xs ++ deque.items);
+        start = back_by (length xs) deque.start n;
+        steps = more_puts (length xs) (more_takes (length deque.items + length xs - n) deque.steps);
+      }

@@ -60,6 +60,7 @@ impl<T, const CAP: usize, B: Behavior> ArrayDeque<T, CAP, B> {
         ensures capacity { result ≡ CAP }
         ensures within { length self.now.items ≤ CAP }
     {
+        // That the list is within the capacity is known once the fields are looked at.
         let _ring = &self.ring;
         CAP
     }

@@ -1,8 +1,7 @@
 //! Adding the items of an iterator.
-ghost use Rattle.std.specs.Prelude.{◌≡◌, ◌-◌, ◌++◌, length, reverse, take, IsOk};
+ghost use Rattle.std.specs.Prelude.{◌≡◌, ◌<◌, ◌-◌, ◌++◌, length, reverse, take, IsOk};
 ghost use Rattle.std.specs.Iterator.{IsFinite, ExtendsWithItems};
-ghost use Rattle.arraydeque_ring.specs.Steps.{more_puts};
-ghost use Rattle.arraydeque.specs.Deque.{keep_last, put_behind};
+ghost use Rattle.arraydeque.specs.Deque.{keep_last, put_behind, put_before, pushed_behind, pushed_before};
 ghost use Rattle.arraydeque.specs.Sources.{EachIterator, TakesFrom, TakesAll};
 
 use super::ArrayDeque;
@@ -26,8 +25,7 @@ impl<T: Drop, const CAP: usize> ArrayDeque<T, CAP, Saturating> {
     pub fn extend_front<I: IntoIterator<Item = T>>(&mut self, iter: I)
         requires { EachIterator I.into_iter_gives iter (λ it. I.IntoIter.can_next it) }
         ensures { TakesFrom I.into_iter_gives I.IntoIter.next_gives iter (CAP - length self.old.items)
-            (λ xs. (self.new.items ≡ reverse xs ++ self.old.items)
-            × (self.new.steps ≡ more_puts (length xs) self.old.steps)) }
+            (λ xs. self.new ≡ put_before CAP xs self.old) }
     {
         let room = self.room();
         for element in iter.into_iter().take(room) {
@@ -41,11 +39,14 @@ impl<T: Drop, const CAP: usize> ArrayDeque<T, CAP, Wrapping> {
     pub fn extend_back<I: IntoIterator<Item = T>>(&mut self, iter: I)
         requires { EachIterator I.into_iter_gives iter (λ it. I.IntoIter.can_next it × IsFinite (I.IntoIter.remaining it)) }
         ensures { TakesAll I.into_iter_gives I.IntoIter.next_gives iter
-            (λ xs. self.new.items ≡ keep_last CAP (self.old.items ++ xs)) }
+            (λ xs. (self.new.items ≡ keep_last CAP (self.old.items ++ xs))
+            × (0 < CAP → self.new ≡ pushed_behind CAP xs self.old)
+            × (CAP ≡ 0 → self.new ≡ self.old)) }
     {
+        // That the list is within the capacity is what `len` promises.
         let _len = self.len();
         for element in iter {
-            self.push_back(element);
+            drop(self.push_back(element));
         }
     }
 
@@ -54,11 +55,14 @@ impl<T: Drop, const CAP: usize> ArrayDeque<T, CAP, Wrapping> {
     pub fn extend_front<I: IntoIterator<Item = T>>(&mut self, iter: I)
         requires { EachIterator I.into_iter_gives iter (λ it. I.IntoIter.can_next it × IsFinite (I.IntoIter.remaining it)) }
         ensures { TakesAll I.into_iter_gives I.IntoIter.next_gives iter
-            (λ xs. self.new.items ≡ take CAP (reverse xs ++ self.old.items)) }
+            (λ xs. (self.new.items ≡ take CAP (reverse xs ++ self.old.items))
+            × (0 < CAP → self.new ≡ pushed_before CAP xs self.old)
+            × (CAP ≡ 0 → self.new ≡ self.old)) }
     {
+        // That the list is within the capacity is what `len` promises.
         let _len = self.len();
         for element in iter {
-            self.push_front(element);
+            drop(self.push_front(element));
         }
     }
 }

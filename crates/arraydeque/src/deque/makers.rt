@@ -2,7 +2,7 @@
 ghost use Rattle.std.specs.Prelude.{◌≡◌, ◌<◌, ◌*◌, ◌+◌, ◌≤◌, length, take, IfOk, IfErr, OnErr};
 ghost use Rattle.std.specs.Iterator.{IsFinite};
 ghost use Rattle.std.specs.Mem.{type_size};
-ghost use Rattle.arraydeque.specs.Deque.{empty_deque, keep_last, put_behind};
+ghost use Rattle.arraydeque.specs.Deque.{empty_deque, keep_last, put_behind, pushed_behind};
 ghost use Rattle.arraydeque.specs.Sources.{EachIterator, TakesFrom, TakesAll};
 
 use super::ArrayDeque;
@@ -72,7 +72,9 @@ impl<T: Drop, const CAP: usize> ArrayDeque<T, CAP, Wrapping> {
     ) -> Result<Self, MakeError<I>>
         requires { EachIterator I.into_iter_gives iter (λ it. I.IntoIter.can_next it × IsFinite (I.IntoIter.remaining it)) }
         ensures items { IfOk result (λ deque. TakesAll I.into_iter_gives I.IntoIter.next_gives iter
-            (λ xs. deque.items ≡ keep_last CAP xs)) }
+            (λ xs. (deque.items ≡ keep_last CAP xs)
+            × (0 < CAP → deque ≡ pushed_behind CAP xs empty_deque)
+            × (CAP ≡ 0 → deque ≡ empty_deque))) }
         ensures source { IfErr result (λ refusal. refusal.source ≡ iter) }
         ensures refused { OnErr result (0 < CAP * type_size T.row) }
     {
@@ -89,6 +91,8 @@ impl<T: Drop, const CAP: usize> ArrayDeque<T, CAP, Wrapping> {
     /// refused the vector comes back as it was.
     pub fn from_vec(alloc: Global, v: Vec<T>) -> Result<Self, MakeError<Vec<T>>>
         ensures items { IfOk result (λ deque. deque.items ≡ keep_last CAP v.items) }
+        ensures pushed { IfOk result (λ deque. 0 < CAP → deque ≡ pushed_behind CAP v.items empty_deque) }
+        ensures no_places { IfOk result (λ deque. CAP ≡ 0 → deque ≡ empty_deque) }
         ensures source { IfErr result (λ refusal. refusal.source ≡ v) }
         ensures refused { OnErr result (0 < CAP * type_size T.row) }
     {

@@ -20,4 +20,4 @@ pub returns-in-ExtendFront : goal.returns-in-ExtendFront
 returns-in-ExtendFront g c =
     let took = c.extend_front.ensures in
     let items = Takes-vec took.0 took.2.0 _ took.1.0 (took.1.1 ∙ c.in-ExtendFront.elements.ok.0) _ took.2.1 in
-    rw c.in-ExtendFront.is (refl, took.2.2.0 ∙ ap (λ xs. reverse xs ++ c.args.self.now.items) items)
+    rw c.in-ExtendFront.is (refl, ap (λ (d : DequeState g.row.T.Denot). d.items) took.2.2 ∙ ap (λ xs. reverse xs ++ c.args.self.now.items) items)
