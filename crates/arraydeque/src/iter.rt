@@ -1,4 +1,4 @@
-//! Iterators over the items of a deque. A contract sees each as the list of the items that remain.
+//! The iterator of the items that a drain took out. A contract sees the list of those that remain.
 ghost use Rattle.std.specs.Prelude.{◌≡◌, length, Some};
 ghost use Rattle.std.specs.Iterator.{YieldsFirst, YieldsLast, item_count};
 

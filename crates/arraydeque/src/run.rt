@@ -60,7 +60,7 @@ pub enum Call<T> {
 pub enum Reply<T, const CAP: usize, B: Behavior> {
     /// The call did its work, and has nothing to tell.
     Done,
-    /// The item that was taken off, if there was one.
+    /// The item that was taken off, if there was one, or the one that another took the place of.
     Item(Option<T>),
     /// The item that a push into a full deque gave up, if it did.
     Displaced(Option<T>),
@@ -72,10 +72,10 @@ pub enum Reply<T, const CAP: usize, B: Behavior> {
     Drained(Drain<T>),
     /// The part that was cut off.
     Split(ArrayDeque<T, CAP, B>),
-    /// A push into a full deque. The element comes back, and the list is as it was.
+    /// A push or an insert into a full deque. The element comes back, and the list is as it was.
     Full(CapacityError<T>),
-    /// An index that is not there. The element comes back, if the call had one, and the list is as
-    /// it was.
+    /// An index that is not there, or a drain's two out of order. The element comes back, if the
+    /// call had one, and the list is as it was.
     OutOfRange(Option<T>),
     /// Memory was refused, and the list is as it was.
     NoMemory,

@@ -1,6 +1,7 @@
 //! A ring of items in one raw region: what a fixed-capacity deque stands on.
 //!
-//! [`slots`] is the region, a map from places to values, and the only module with raw pointers.
+//! [`slots`] is the region, places that each hold a value or nothing, and the only module with raw
+//! pointers.
 //! [`ring`] is a list of items that wraps round the region's end.
 #![tactic(auto)]
 

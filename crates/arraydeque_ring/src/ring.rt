@@ -44,8 +44,8 @@ impl<T> Model for Ring<T> {
 impl<T> Ring<T> {
     ghost use Rattle.arraydeque_ring.specs.RingLends.{lends_item};
 
-    /// An empty ring that starts at the first place. It is refused as the region is: never at
-    /// capacity 0 or for items of size zero.
+    /// An empty ring that starts at the first place. It is refused where its region is, which is
+    /// never at capacity 0 or for items of size zero.
     pub fn new(alloc: Global, capacity: usize) -> Result<Ring<T>, AllocError>
         ensures ok { IfOk result (λ ring. ring ≡ empty_ring capacity) }
         ensures refused { OnErr result (0 < capacity * type_size T.row) }

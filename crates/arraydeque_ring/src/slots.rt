@@ -2,7 +2,7 @@
 //! pointers.
 //!
 //! A contract sees a [`Slots`] as what each place holds and as the steps made so far. The steps are
-//! counted for contracts alone: they take no bytes and no time.
+//! counted for contracts alone: they take no bytes.
 ghost use Rattle.std.specs.Prelude.{◌≡◌, ◌*◌, ◌^◌, ◌<◌, List, Option, Some, None, length, slice_set, swap, if◌then◌else◌, ◌==◌, IfOk, OnErr};
 ghost use Rattle.std.specs.Borrow.{sem};
 ghost use Rattle.std.specs.Mem.{type_size};

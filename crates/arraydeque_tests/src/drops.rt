@@ -30,13 +30,19 @@ impl Drops {
     }
 }
 
-/// A deque of the items 1 to `len`.
-fn deque_of<'a, const CAP: usize>(
+/// A deque of the items 1 to `len`, the first of which stands at the place `start`.
+fn deque_at<'a, const CAP: usize>(
     alloc: Global,
     drops: &'a Drops,
+    start: usize,
     len: u8,
 ) -> Result<ArrayDeque<Noted<'a>, CAP, Saturating>, Fail> {
     let mut deque = ArrayDeque::<Noted<'a>, CAP, Saturating>::new(alloc)?;
+    for _ in 0..start {
+        deque.push_back(drops.item(0)).map_err(|_| "no room")?;
+        deque.pop_front();
+    }
+    drops.since(alloc)?;
     for name in 0..len {
         deque
             .push_back(drops.item(name.saturating_add(1)))
@@ -71,15 +77,7 @@ impl Drop for Noted<'_> {
 fn a_deque_drops_its_items_front_to_back(rt: HostRuntime) -> Result<(), Fail> {
     let drops = Drops::new(rt.alloc());
     for start in 0..4 {
-        let mut deque = ArrayDeque::<Noted<'_>, 4, Saturating>::new(rt.alloc())?;
-        for _ in 0..start {
-            assert!(rt; deque.push_back(drops.item(0)).is_ok());
-            deque.pop_front();
-        }
-        for name in [1, 2, 3, 4] {
-            assert!(rt; deque.push_back(drops.item(name)).is_ok());
-        }
-        drops.since(rt.alloc())?;
+        let deque = deque_at::<4>(rt.alloc(), &drops, start, 4)?;
         drop(deque);
         assert_eq!(rt;
             drops.since(rt.alloc())?.as_slice(),
@@ -117,29 +115,37 @@ fn pops_and_refused_pushes_drop_nothing(rt: HostRuntime) -> Result<(), Fail> {
 #[test]
 fn clearing_and_retaining_drop(rt: HostRuntime) -> Result<(), Fail> {
     let drops = Drops::new(rt.alloc());
-    let mut deque = deque_of::<5>(rt.alloc(), &drops, 5)?;
-    deque.clear();
-    assert_eq!(rt;
-        drops.since(rt.alloc())?.as_slice(),
-        [1, 2, 3, 4, 5].as_slice()
-    );
-    drop(deque);
-    let mut deque = deque_of::<5>(rt.alloc(), &drops, 5)?;
-    deque.retain(|item| item.name % 2 == 0);
-    let mut dropped = drops.since(rt.alloc())?;
-    dropped.sort()?;
-    assert_eq!(rt; dropped.as_slice(), [1, 3, 5].as_slice());
-    drop(deque);
-    assert_eq!(rt; drops.since(rt.alloc())?.as_slice(), [2, 4].as_slice());
+    for start in 0..5 {
+        let mut deque = deque_at::<5>(rt.alloc(), &drops, start, 5)?;
+        deque.clear();
+        assert_eq!(rt;
+            drops.since(rt.alloc())?.as_slice(),
+            [1, 2, 3, 4, 5].as_slice(),
+            "start {start}"
+        );
+        drop(deque);
+        let mut deque = deque_at::<5>(rt.alloc(), &drops, start, 5)?;
+        deque.retain(|item| item.name % 2 == 0);
+        let mut dropped = drops.since(rt.alloc())?;
+        dropped.sort()?;
+        assert_eq!(rt; dropped.as_slice(), [1, 3, 5].as_slice(), "start {start}");
+        drop(deque);
+        assert_eq!(rt;
+            drops.since(rt.alloc())?.as_slice(),
+            [2, 4].as_slice(),
+            "start {start}"
+        );
+    }
     Ok(())
 }
 
 #[test]
 fn displaced_and_surplus_items_are_dropped(rt: HostRuntime) -> Result<(), Fail> {
     let drops = Drops::new(rt.alloc());
-    let mut deque: ArrayDeque<Noted<'_>, 3, Wrapping> = ArrayDeque::from(deque_of::<3>(
+    let mut deque: ArrayDeque<Noted<'_>, 3, Wrapping> = ArrayDeque::from(deque_at::<3>(
         rt.alloc(),
         &drops,
+        0,
         3,
     )?);
     let items = vector_of(rt.alloc(), &drops, &[4, 5])?;
@@ -166,7 +172,7 @@ fn displaced_and_surplus_items_are_dropped(rt: HostRuntime) -> Result<(), Fail> 
 #[test]
 fn what_is_handed_out_is_not_dropped(rt: HostRuntime) -> Result<(), Fail> {
     let drops = Drops::new(rt.alloc());
-    let mut deque = deque_of::<3>(rt.alloc(), &drops, 3)?;
+    let mut deque = deque_at::<3>(rt.alloc(), &drops, 0, 3)?;
     let removed = deque.remove(1);
     let calls = vec![in rt.alloc(); Call::Replace(0, drops.item(4))]?;
     let replies = deque.run(calls).map_err(|_| "no room for the replies")?;
@@ -186,7 +192,7 @@ fn what_is_handed_out_is_not_dropped(rt: HostRuntime) -> Result<(), Fail> {
 #[test]
 fn a_drain_drops_what_is_left(rt: HostRuntime) -> Result<(), Fail> {
     let drops = Drops::new(rt.alloc());
-    let mut deque = deque_of::<5>(rt.alloc(), &drops, 4)?;
+    let mut deque = deque_at::<5>(rt.alloc(), &drops, 0, 4)?;
     assert_eq!(rt; deque.len(), 4);
     let drain = deque.drain(1..3)?;
     assert_eq!(rt; drops.since(rt.alloc())?.len(), 0);
@@ -194,7 +200,7 @@ fn a_drain_drops_what_is_left(rt: HostRuntime) -> Result<(), Fail> {
     assert_eq!(rt; drops.since(rt.alloc())?.as_slice(), [2, 3].as_slice());
     drop(deque);
     assert_eq!(rt; drops.since(rt.alloc())?.as_slice(), [1, 4].as_slice());
-    let mut deque = deque_of::<5>(rt.alloc(), &drops, 5)?;
+    let mut deque = deque_at::<5>(rt.alloc(), &drops, 0, 5)?;
     assert_eq!(rt; deque.len(), 5);
     let mut drain = deque.drain(1..4)?;
     let last = drain.next_back();

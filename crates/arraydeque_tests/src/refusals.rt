@@ -1,4 +1,5 @@
-//! What comes back where memory is refused. Each test holds whichever request is refused, and also where none is.
+//! What comes back where memory is refused. Each test holds where none is, and whichever request of the calls that it is of
+//! is refused; where one is refused that its set-up makes, it ends there.
 use crate::build::{deque_at, holds};
 use arraydeque::run::{Call, Reply};
 use arraydeque::{ArrayDeque, Saturating, Wrapping};

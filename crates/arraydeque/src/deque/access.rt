@@ -81,6 +81,7 @@ impl<T, const CAP: usize, B: Behavior> Index<usize> for ArrayDeque<T, CAP, B> {
 
     ghost index_gives = { λ d i x. x ≡ slice_index_or d.items i x };
 
+    /// The item at an index that is there. Index 0 is the front.
     #[inline]
     fn index(&self, index: usize) -> &T {
         self.get(index).unwrap()
@@ -88,6 +89,7 @@ impl<T, const CAP: usize, B: Behavior> Index<usize> for ArrayDeque<T, CAP, B> {
 }
 
 impl<T, const CAP: usize, B: Behavior> IndexMut<usize> for ArrayDeque<T, CAP, B> {
+    /// The item at an index that is there, for writing. Index 0 is the front.
     #[inline]
     fn index_mut(&mut self, index: usize) -> &mut T
         requires { index < length self.old.items }

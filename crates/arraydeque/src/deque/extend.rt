@@ -35,7 +35,8 @@ impl<T: Drop, const CAP: usize> ArrayDeque<T, CAP, Saturating> {
 }
 
 impl<T: Drop, const CAP: usize> ArrayDeque<T, CAP, Wrapping> {
-    /// Pushes each item behind the last one. A full deque drops its first item for each.
+    /// Pushes each item of an iterator that ends behind the last one. A full deque drops its first
+    /// item for each, and one of capacity 0 the item itself.
     pub fn extend_back<I: IntoIterator<Item = T>>(&mut self, iter: I)
         requires { EachIterator I.into_iter_gives iter (λ it. I.IntoIter.can_next it × IsFinite (I.IntoIter.remaining it)) }
         ensures { TakesAll I.into_iter_gives I.IntoIter.next_gives iter
@@ -50,8 +51,8 @@ impl<T: Drop, const CAP: usize> ArrayDeque<T, CAP, Wrapping> {
         }
     }
 
-    /// Pushes each item before the first one, so that the last one comes to stand first. A full
-    /// deque drops its last item for each.
+    /// Pushes each item of an iterator that ends before the first one, so that the last one comes to
+    /// stand first. A full deque drops its last item for each, and one of capacity 0 the item itself.
     pub fn extend_front<I: IntoIterator<Item = T>>(&mut self, iter: I)
         requires { EachIterator I.into_iter_gives iter (λ it. I.IntoIter.can_next it × IsFinite (I.IntoIter.remaining it)) }
         ensures { TakesAll I.into_iter_gives I.IntoIter.next_gives iter
@@ -70,8 +71,8 @@ impl<T: Drop, const CAP: usize> ArrayDeque<T, CAP, Wrapping> {
 impl<T: Drop, const CAP: usize, B: Behavior> Extend<T> for ArrayDeque<T, CAP, B> {
     ghost extend_gives = { λ old xs new. new ≡ put_behind (take (CAP - length old.items) xs) old };
 
-    /// Adds items behind the last one while there is room, displaces none, and drops the rest of
-    /// the iterator's items. The answer is always `Ok`.
+    /// Adds items of an iterator that ends behind the last one while there is room, displaces none,
+    /// and drops the rest of the iterator's items. The answer is always `Ok`.
     fn extend<I: IntoIterator<Item = T>>(&mut self, iter: I) -> Result<(), AllocError>
         requires { EachIterator I.into_iter_gives iter (λ it. I.IntoIter.can_next it × IsFinite (I.IntoIter.remaining it)) }
         ensures ran { ExtendsWithItems I.into_iter_gives I.IntoIter.next_gives

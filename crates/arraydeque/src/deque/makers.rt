@@ -64,8 +64,8 @@ impl<T: Drop, const CAP: usize> ArrayDeque<T, CAP, Saturating> {
 }
 
 impl<T: Drop, const CAP: usize> ArrayDeque<T, CAP, Wrapping> {
-    /// A deque of the last `CAP` items of an iterator; the others are dropped. The region is taken
-    /// first; where it is refused the source comes back as it was, asked for nothing.
+    /// A deque of the last `CAP` items of an iterator that ends; the others are dropped. The region
+    /// is taken first; where it is refused the source comes back as it was, asked for nothing.
     pub fn from_iter<I: IntoIterator<Item = T>>(
         alloc: Global,
         iter: I,

@@ -17,7 +17,7 @@ impl<T, const CAP: usize, B: Behavior> ArrayDeque<T, CAP, B> {
     /// closed when the call returns, by moving the items on the side with fewer of them.
     ///
     /// A bound that the range leaves open is the front or the end of the list. Refused for memory
-    /// alone, with nothing changed; an empty stretch asks for none.
+    /// alone, with nothing changed; never for an empty stretch or for items of size zero.
     pub fn drain<R: RangeArgument<usize>>(&mut self, range: R) -> Result<Drain<T>, AllocError>
     where
         R: Drop,
@@ -55,8 +55,8 @@ impl<T, const CAP: usize, B: Behavior> ArrayDeque<T, CAP, B> {
     /// Cuts the deque in two: the items before an index stay, and the answer, of the same capacity,
     /// holds the others.
     ///
-    /// Refused for memory alone, with nothing changed; never at capacity 0 or for items of size
-    /// zero.
+    /// No kept item moves. Refused for memory alone, with nothing changed; never at capacity 0 or
+    /// for items of size zero.
     pub fn split_off(&mut self, at: usize) -> Result<Self, AllocError>
         requires { at ≤ length self.old.items }
         ensures tail { IfOk result (λ tail. tail ≡ record {

@@ -10,7 +10,8 @@ use crate::behavior::{Saturating, Wrapping};
 use crate::error::CapacityError;
 
 impl<T, const CAP: usize> ArrayDeque<T, CAP, Saturating> {
-    /// Adds an item before the first one. A full deque hands the element back and stays as it was.
+    /// Adds an item before the first one. No kept item moves. A full deque hands the element back
+    /// and stays as it was.
     #[inline]
     pub fn push_front(&mut self, element: T) -> Result<(), CapacityError<T>>
         ensures room { IsOk result ↔ (length self.old.items < CAP) }
@@ -27,7 +28,8 @@ impl<T, const CAP: usize> ArrayDeque<T, CAP, Saturating> {
         Ok(())
     }
 
-    /// Adds an item behind the last one. A full deque hands the element back and stays as it was.
+    /// Adds an item behind the last one. No kept item moves. A full deque hands the element back and
+    /// stays as it was.
     #[inline]
     pub fn push_back(&mut self, element: T) -> Result<(), CapacityError<T>>
         ensures room { IsOk result ↔ (length self.old.items < CAP) }
@@ -69,8 +71,8 @@ impl<T, const CAP: usize> ArrayDeque<T, CAP, Saturating> {
 }
 
 impl<T, const CAP: usize> ArrayDeque<T, CAP, Wrapping> {
-    /// Adds an item before the first one. A full deque gives up its last item, and one of capacity
-    /// 0 the element itself.
+    /// Adds an item before the first one. No kept item moves. A full deque gives up its last item,
+    /// and one of capacity 0 the element itself.
     #[inline]
     pub fn push_front(&mut self, element: T) -> Option<T>
         ensures items { self.new.items ≡ take CAP (element ∷ self.old.items) }
@@ -92,8 +94,8 @@ impl<T, const CAP: usize> ArrayDeque<T, CAP, Wrapping> {
         displaced
     }
 
-    /// Adds an item behind the last one. A full deque gives up its first item, and one of capacity
-    /// 0 the element itself.
+    /// Adds an item behind the last one. No kept item moves. A full deque gives up its first item,
+    /// and one of capacity 0 the element itself.
     #[inline]
     pub fn push_back(&mut self, element: T) -> Option<T>
         ensures items { self.new.items ≡ keep_last CAP (self.old.items ++ element ∷ []) }

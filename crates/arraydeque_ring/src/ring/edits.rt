@@ -27,7 +27,8 @@ impl<T> Ring<T> {
         self.slots.exchange(a, b);
     }
 
-    /// Takes the item at an index off, if there is one, and puts the last item in its place.
+    /// Takes the item at an index off, if there is one, and puts the last item in its place, by one
+    /// exchange at most.
     #[inline]
     pub fn swap_remove_back(&mut self, index: usize) -> Option<T>
         ensures value { result ≡ slice_get self.old.items index }
@@ -46,8 +47,8 @@ impl<T> Ring<T> {
         self.pop_back()
     }
 
-    /// Takes the item at an index off, if there is one, and puts the first item in its place. The
-    /// start goes on to the next place.
+    /// Takes the item at an index off, if there is one, and puts the first item in its place, by one
+    /// exchange at most. The start goes on to the next place.
     #[inline]
     pub fn swap_remove_front(&mut self, index: usize) -> Option<T>
         ensures value { result ≡ slice_get self.old.items index }
@@ -65,7 +66,7 @@ impl<T> Ring<T> {
         self.pop_front()
     }
 
-    /// Drops every item, front to back. The next item stands at the first place.
+    /// Drops every item, front to back. The list starts at the first place again.
     pub fn clear(&mut self)
     where
         T: Drop,
@@ -83,7 +84,8 @@ impl<T> Ring<T> {
     }
 
     /// Keeps the items at which `f` answers true, in their order, and drops the others, in place.
-    /// `f` is called once on each item, front to back.
+    /// `f` is called once on each item, front to back. Each item that stays behind the first that
+    /// goes moves once.
     pub fn retain<F: FnMut(&T) -> bool>(&mut self, mut f: F)
     where
         T: Drop,

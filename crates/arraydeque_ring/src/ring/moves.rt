@@ -15,7 +15,8 @@ use std::alloc::AllocError;
 
 impl<T> Ring<T> {
     /// Adds an item before the one at an index, or behind the last one. The fewer items on either
-    /// side of it move: those before it where they are the fewer, else those behind it.
+    /// side of it move: those before it where they are the fewer, and the start with them, else those
+    /// behind it.
     pub fn insert(&mut self, index: usize, item: T)
         requires in_bounds { index ≤ length self.old.items }
         requires room { length self.old.items < self.old.capacity }
@@ -67,7 +68,8 @@ impl<T> Ring<T> {
     /// them, else those behind. Nothing moves for an empty range.
     ///
     /// The items go into a ring of their own, whose region is taken first and has no place to
-    /// spare. An empty range takes no memory.
+    /// spare. Where that is refused nothing has changed. A range of no items, or of items of size
+    /// zero, takes no memory and is never refused.
     pub fn drain(&mut self, from: usize, to: usize) -> Result<Ring<T>, AllocError>
         requires in_order { from ≤ to }
         requires in_bounds { to ≤ length self.old.items }
@@ -101,7 +103,8 @@ impl<T> Ring<T> {
     }
 
     /// Takes out the items from the index `at` on, into a ring of the same capacity, whose region
-    /// is taken first. No kept item moves.
+    /// is taken first. Where that is refused nothing has changed; it never is at capacity 0 or for
+    /// items of size zero. No kept item moves.
     pub fn split_off(&mut self, at: usize) -> Result<Ring<T>, AllocError>
         requires { at ≤ length self.old.items }
         ensures split { IfOk result (λ ring. ring ≡ record {
