@@ -70,6 +70,7 @@ impl<T, const CAP: usize, B: Behavior> ArrayDeque<T, CAP, B> {
     pub fn len(&self) -> usize
         ensures len { result ≡ length self.now.items }
         ensures within { result ≤ CAP }
+        ensures start { self.now.start ≤ CAP - 1 }
     {
         self.ring.len()
     }

@@ -64,6 +64,7 @@ impl<T> Ring<T> {
     pub fn len(&self) -> usize
         ensures len { result ≡ length self.now.items }
         ensures within { result ≤ self.now.capacity }
+        ensures start { self.now.start ≤ self.now.capacity - 1 }
     {
         self.len
     }
