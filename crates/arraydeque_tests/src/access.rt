@@ -30,9 +30,14 @@ fn the_items_at_both_ends(rt: HostRuntime) -> Result<(), Fail> {
 #[test]
 fn the_item_at_an_index(rt: HostRuntime) -> Result<(), Fail> {
     for start in 0..3 {
-        let deque = deque_at::<3>(rt.alloc(), start, &[0, 1, 2])?;
+        let mut deque = deque_at::<3>(rt.alloc(), start, &[0, 1, 2])?;
         for (index, item) in [(0, Some(0)), (1, Some(1)), (2, Some(2)), (3, None)] {
             assert_eq!(rt; deque.get(index).copied(), item, "start {start}");
+            assert_eq!(rt;
+                deque.get_mut(index).map(|item| *item),
+                item,
+                "start {start}"
+            );
         }
     }
     Ok(())

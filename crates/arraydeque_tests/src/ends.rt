@@ -85,7 +85,14 @@ fn a_full_deque_refuses(rt: HostRuntime) -> Result<(), Fail> {
     }
     assert_eq!(rt; refused(deque.push_front(4)), Some(4));
     assert_eq!(rt; refused(deque.push_back(5)), Some(5));
+    assert_eq!(rt; deque.back(), Some(&1));
     assert!(rt; holds(&deque, &[3, 2, 1]));
+    let mut deque = ArrayDeque::<i64, 3, Saturating>::new(rt.alloc())?;
+    for item in [1, 2, 3] {
+        assert_eq!(rt; refused(deque.push_back(item)), None);
+    }
+    assert_eq!(rt; refused(deque.push_back(4)), Some(4));
+    assert_eq!(rt; deque.back(), Some(&3));
     Ok(())
 }
 
@@ -105,6 +112,20 @@ fn a_full_deque_displaces(rt: HostRuntime) -> Result<(), Fail> {
     assert_eq!(rt; deque.push_front(4), Some(1));
     assert_eq!(rt; deque.back(), Some(&2));
     assert!(rt; holds(&deque, &[4, 3, 2]));
+    let mut deque = ArrayDeque::<i64, 2, Wrapping>::new(rt.alloc())?;
+    for (item, displaced) in [(1, None), (2, None), (3, Some(1))] {
+        assert_eq!(rt; deque.push_back(item), displaced);
+    }
+    Ok(())
+}
+
+#[test]
+fn an_emptied_deque_has_nothing_to_pop(rt: HostRuntime) -> Result<(), Fail> {
+    let mut deque = ArrayDeque::<i64, 2, Saturating>::new(rt.alloc())?;
+    assert_eq!(rt; refused(deque.push_back(1)), None);
+    assert_eq!(rt; deque.pop_front(), Some(1));
+    assert_eq!(rt; (deque.is_empty(), deque.len()), (true, 0));
+    assert_eq!(rt; deque.pop_front(), None);
     Ok(())
 }
 

@@ -1,5 +1,5 @@
 //! Lists of calls and their replies.
-use crate::build::{deque_at, holds, list_of};
+use crate::build::{deque_at, holds, list_of, wrapping_at};
 use arraydeque::behavior::Behavior;
 use arraydeque::run::{Call, Reply};
 use arraydeque::{ArrayDeque, Saturating, Wrapping};
@@ -110,6 +110,10 @@ fn the_other_calls_have_theirs(rt: HostRuntime) -> Result<(), Fail> {
 #[test]
 fn no_calls_have_no_replies(rt: HostRuntime) -> Result<(), Fail> {
     let mut deque: ArrayDeque<i64, 3, Saturating> = deque_at(rt.alloc(), 2, &[1, 2])?;
+    let replies = deque.run(Vec::new(rt.alloc())).map_err(|_| "refused")?;
+    assert!(rt; replies.is_empty());
+    assert!(rt; holds(&deque, &[1, 2]));
+    let mut deque = wrapping_at::<3>(rt.alloc(), 2, &[1, 2])?;
     let replies = deque.run(Vec::new(rt.alloc())).map_err(|_| "refused")?;
     assert!(rt; replies.is_empty());
     assert!(rt; holds(&deque, &[1, 2]));

@@ -103,6 +103,9 @@ fn retain_keeps_what_the_closure_wants(rt: HostRuntime) -> Result<(), Fail> {
         assert!(rt; holds(&deque, &[0, 2, 4, 6, 8]), "start {start}");
     }
     let mut deque = deque_at::<4>(rt.alloc(), 0, &[0, 1, 2, 3])?;
+    deque.retain(|item| item % 2 == 0);
+    assert!(rt; holds(&deque, &[0, 2]));
+    let mut deque = deque_at::<4>(rt.alloc(), 0, &[0, 1, 2, 3])?;
     let mut calls = 0_usize;
     deque.retain(|_| {
         calls = calls.wrapping_add(1);

@@ -252,7 +252,7 @@ fn bad_lines(rt: HostRuntime) -> Result<(), Fail> {
         b"\xc3",
         b"\xef\xbb\xbflen",
         b"\xc2\xa0len",
-        b"PUSH_BACK 1",
+        b"linearize",
         b"pop_front 1",
         b"len len",
         b"\t",

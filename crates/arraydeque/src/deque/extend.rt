@@ -8,7 +8,7 @@ use super::ArrayDeque;
 use crate::behavior::{Behavior, Saturating, Wrapping};
 use std::alloc::AllocError;
 
-impl<T: Drop, const CAP: usize> ArrayDeque<T, CAP, Saturating> {
+impl<T, const CAP: usize> ArrayDeque<T, CAP, Saturating> {
     /// Adds items behind the last one while there is room. The iterator is asked for no more items
     /// than there is room for, and never after its first `None`.
     pub fn extend_back<I: IntoIterator<Item = T>>(&mut self, iter: I)
@@ -88,7 +88,7 @@ impl<T: Drop, const CAP: usize, B: Behavior> Extend<T> for ArrayDeque<T, CAP, B>
     }
 }
 
-impl<T: Drop, const CAP: usize, B: Behavior> ArrayDeque<T, CAP, B> {
+impl<T, const CAP: usize, B: Behavior> ArrayDeque<T, CAP, B> {
     /// Adds items behind the last one while there is room, and asks for no more.
     pub(crate) fn fill_back<I: IntoIterator<Item = T>>(&mut self, iter: I)
         requires { EachIterator I.into_iter_gives iter (λ it. I.IntoIter.can_next it) }

@@ -11,7 +11,7 @@ use crate::error::MakeError;
 use std::alloc::Global;
 use std::marker::PhantomData;
 
-impl<T: Drop, const CAP: usize> ArrayDeque<T, CAP, Saturating> {
+impl<T, const CAP: usize> ArrayDeque<T, CAP, Saturating> {
     /// A deque of the first `CAP` items of an iterator. The region is taken first; where it is
     /// refused the source comes back as it was, asked for nothing.
     pub fn from_iter<I: IntoIterator<Item = T>>(
@@ -36,6 +36,8 @@ impl<T: Drop, const CAP: usize> ArrayDeque<T, CAP, Saturating> {
     /// A deque of the first `CAP` items of a vector; the others are dropped. Where the region is
     /// refused the vector comes back as it was.
     pub fn from_vec(alloc: Global, v: Vec<T>) -> Result<Self, MakeError<Vec<T>>>
+    where
+        T: Drop,
         ensures items { IfOk result (λ deque. deque ≡ put_behind (take CAP v.items) empty_deque) }
         ensures source { IfErr result (λ refusal. refusal.source ≡ v) }
         ensures refused { OnErr result (0 < CAP * type_size T.row) }
