@@ -1,12 +1,12 @@
 -- What pushes leave, one and many.
-use Rattle.std.proofs.Common.{◌≡◌, ℕ, zero, suc, ◌+◌, ◌-◌, ◌*◌, ◌%◌, ◌<◌, ◌≤◌, List, [], ◌∷◌, ◌++◌, length, take, reverse, nat_lt, slice_get, Option, Bool, if◌then◌else◌, subst, sym, ap, ap₂, ◌∙◌, arith, inl, inr}
+use Rattle.std.proofs.Common.{◌≡◌, ℕ, zero, suc, ◌+◌, ◌-◌, ◌*◌, ◌%◌, List, [], ◌∷◌, ◌++◌, length, take, reverse, nat_lt, slice_get, Option, Bool, if◌then◌else◌, subst, sym, ap, ap₂, ◌∙◌, arith, inl, inr}
 use Rattle.std.proofs.Math.Nat.{mod-add-mod, add_assoc}
 use native.Mathlib.Nat.{suc-mul}
 use Rattle.std.proofs.lemmas.Bool.{cases_lt, lt-ltb, le-ltb}
 use Rattle.std.proofs.lemmas.List.{take_all, length-append, length-drop, length-take, length-reverse}
 use Rattle.std.proofs.lemmas.Option.{slice_get_past}
 use Rattle.arraydeque_ring.specs.Ring.{place_of}
-use Rattle.arraydeque_ring.specs.Steps.{Steps, more_puts, more_takes}
+use Rattle.arraydeque_ring.specs.Steps.{more_puts, more_takes}
 use Rattle.arraydeque.specs.Deque.{DequeState, keep_last, back_by, pushed_behind, pushed_before}
 use Rattle.arraydeque.specs.Machine.{displaced, Pushes}
 use Rattle.arraydeque.specs.Policy.{wrapping}
@@ -47,7 +47,6 @@ module _ {X : Type 0} (xs : List X) (x : X) where
   back_by-push s n = back_by-one (length xs) s n ∙ ap (λ k. back_by k s n) (sym long)
 
 module _ {X : Type 0} (n : ℕ) (old mid new : DequeState X) (xs : List X) (x : X) where
-
   -- the steps of one push more
   one_more : length mid.items ≡ length old.items + length xs - (length old.items + length xs - n)
       → mid.steps ≡ more_puts (length xs) (more_takes (length old.items + length xs - n) old.steps)
@@ -55,7 +54,7 @@ module _ {X : Type 0} (n : ℕ) (old mid new : DequeState X) (xs : List X) (x : 
       → new.steps ≡ more_puts (length (xs ++ x ∷ [])) (more_takes (length old.items + length (xs ++ x ∷ []) - n) old.steps)
   one_more kept before steps =
       let out : old.steps.takes + (length old.items + length xs - n) + (if nat_lt (length mid.items) n then 0 else 1) ≡ old.steps.takes + (length old.items + length (xs ++ x ∷ []) - n) =
-          add_assoc old.steps.takes (length old.items + length xs - n) _ ∙ ap (λ m. old.steps.takes + m) (out_by_one (length old.items + length xs) (length mid.items) n kept ∙ omega (arith, long xs x)) in
+      add_assoc old.steps.takes (length old.items + length xs - n) _ ∙ ap (λ m. old.steps.takes + m) (out_by_one (length old.items + length xs) (length mid.items) n kept ∙ omega (arith, long xs x)) in
       steps ∙ ap (λ s. more_puts 1 (more_takes (if nat_lt (length mid.items) n then 0 else 1) s)) before
       ∙ ap₂ (λ p t. record old.steps { puts = p; takes = t }) (omega (arith, long xs x)) out
 

@@ -14,4 +14,3 @@ loop-element-preserved g c =
           (c.loop-element.invariant.pushed some) (grind (arith, common_steps)) (push.start some) (push.steps some);
       no_places = search rules;
     }
-
