@@ -11,11 +11,13 @@ use std::alloc::{AllocError, Global};
 use std::marker::{Model, PhantomData};
 
 mod access;
-mod edits;
 mod extend;
 mod makers;
+mod moves;
 mod parts;
 mod policies;
+mod retain;
+mod swaps;
 
 /// A double-ended queue of at most `CAP` items, in one region that is taken when it is made. `B`
 /// says what a push into a full one does.

@@ -1,11 +1,11 @@
 -- How the counts grow, by the kind of step.
 use Rattle.std.specs.Prelude.{ℕ}
 use Rattle.arraydeque_ring.specs.Steps.{Steps, more_puts, more_takes, more_moves, more_exchanges, more_lends}
-use Rattle.arraydeque_ring.specs.declared.slots.Step.{Step}
-use Rattle.arraydeque_ring.specs.declared.slots.Step.TheVariants.{Put, Take, Move, Exchange, Lend}
+use Rattle.arraydeque_ring.specs.declared.slots.StepKind.{StepKind}
+use Rattle.arraydeque_ring.specs.declared.slots.StepKind.TheVariants.{Put, Take, Move, Exchange, Lend}
 
 -- the steps, with n more of a kind
-abbrev pub counted : Step → ℕ → Steps → Steps
+abbrev pub counted : StepKind → ℕ → Steps → Steps
 counted Put n s = more_puts n s
 counted Take n s = more_takes n s
 counted Move n s = more_moves n s

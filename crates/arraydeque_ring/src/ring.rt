@@ -9,8 +9,10 @@ ghost use Rattle.std.specs.Option.{option_copied_mut};
 ghost use Rattle.arraydeque_ring.specs.Ring.{empty_ring, place_of};
 ghost use Rattle.arraydeque_ring.specs.Steps.{more_puts, more_takes};
 
-mod edits;
 mod moves;
+mod parts;
+mod retain;
+mod swaps;
 
 use crate::slots::Slots;
 use crate::wrap::wrap_add;

@@ -1,24 +1,24 @@
-//! The raw region: places that each hold a value or nothing. This is the one module with raw
-//! pointers.
+//! The region: places that each hold a value or nothing. What touches its memory stands in `raw`,
+//! the one file with pointers.
 //!
 //! A contract sees a [`Slots`] as what each place holds and as the steps made so far. The steps are
 //! counted for contracts alone: they take no bytes.
-ghost use Rattle.std.specs.Prelude.{◌≡◌, ◌*◌, ◌^◌, ◌<◌, List, Option, Some, None, length, slice_set, swap, if◌then◌else◌, ◌==◌, IfOk, OnErr};
+ghost use Rattle.std.specs.Prelude.{◌≡◌, ◌*◌, ◌<◌, List, Option, Some, None, length, slice_set, swap, if◌then◌else◌, ◌==◌, IfOk, OnErr};
 ghost use Rattle.std.specs.Borrow.{sem};
 ghost use Rattle.std.specs.Mem.{type_size};
-ghost use prog.Memory.{capped};
 ghost use Rattle.arraydeque_ring.specs.Places.{empty_region, held_at, IsFilled, IsEmpty, HoldsRun, IsFilledRun, AreAllEmpty};
 ghost use Rattle.arraydeque_ring.specs.Counted.{counted};
 ghost use Rattle.arraydeque_ring.specs.Steps.{Steps, more_puts, more_takes, more_moves, more_exchanges};
 
-use std::alloc::{AllocError, Allocator, Global};
+mod raw;
+
+use raw::size_of_item;
+use std::alloc::{AllocError, Global};
 use std::marker::Model;
-use std::mem::{align_of, size_of};
-use std::slice;
 
 /// A kind of step that is counted.
 #[derive(Clone, Copy)]
-enum Step {
+enum StepKind {
     Put,
     Take,
     Move,
@@ -55,7 +55,7 @@ impl<T> Model for Slots<T> {
 }
 
 impl<T> Slots<T> {
-    ghost use Rattle.arraydeque_ring.specs.Lends.{lends_place, lends_value};
+    ghost use Rattle.arraydeque_ring.specs.Lends.{lends_place};
 
     /// A region of `capacity` empty places.
     ///
@@ -92,7 +92,7 @@ impl<T> Slots<T> {
         ensures steps { self.new.steps ≡ more_puts 1 self.old.steps }
     {
         self.write(place, value);
-        self.count(Step::Put, 1);
+        self.count(StepKind::Put, 1);
     }
 
     /// Takes the value out of a place, which is empty from then on.
@@ -103,7 +103,7 @@ impl<T> Slots<T> {
         ensures places { self.new.places ≡ slice_set self.old.places place None }
         ensures steps { self.new.steps ≡ more_takes 1 self.old.steps }
     {
-        self.count(Step::Take, 1);
+        self.count(StepKind::Take, 1);
         self.read(place)
     }
 
@@ -118,7 +118,7 @@ impl<T> Slots<T> {
     {
         let value = self.read(src);
         self.write(dst, value);
-        self.count(Step::Move, 1);
+        self.count(StepKind::Move, 1);
     }
 
     /// Exchanges the values in two places. Nothing happens where the two are one.
@@ -136,7 +136,7 @@ impl<T> Slots<T> {
         let right = self.read(b);
         self.write(a, right);
         self.write(b, left);
-        self.count(Step::Exchange, 1);
+        self.count(StepKind::Exchange, 1);
     }
 
     /// The value in a place.
@@ -156,7 +156,7 @@ impl<T> Slots<T> {
         ensures* writes_back { sem 𝓛 (lends_place T.row self.entry place result) }
         ensures value { held_at self.old.places place ≡ Some result.now }
     {
-        self.count(Step::Lend, 1);
+        self.count(StepKind::Lend, 1);
         self.lend(place)
     }
 
@@ -167,89 +167,13 @@ impl<T> Slots<T> {
         requires { IsFilledRun self.now.places from len }
         ensures { HoldsRun self.now.places from len result.now }
     {
-        unsafe { slice::from_raw_parts(self.ptr.add(from), len) }
-    }
-
-    fn write(&mut self, place: usize, value: T)
-        requires { IsEmpty self.old.places place }
-        ensures { self.new ≡ record self.old {
-          places = slice_set self.old.places place (Some value);
-        } }
-    {
-        unsafe { self.ptr.add(place).write(value) }
-    }
-
-    fn read(&mut self, place: usize) -> T
-        requires { IsFilled self.old.places place }
-        ensures value { held_at self.old.places place ≡ Some result }
-        ensures region { self.new ≡ record self.old {
-          places = slice_set self.old.places place None;
-        } }
-    {
-        unsafe { self.ptr.add(place).read() }
-    }
-
-    fn lend(&mut self, place: usize) -> &mut T
-        requires { IsFilled self.old.places place }
-        ensures* writes_back { sem 𝓛 (lends_value T.row self.entry place result) }
-        ensures value { held_at self.old.places place ≡ Some result.now }
-    {
-        unsafe { &mut *self.ptr.add(place) }
+        self.run(from, len)
     }
 
     /// Counts steps of a kind. It does nothing at run time.
-    fn count(&mut self, step: Step, times: usize)
-        ensures { self.new ≡ record self.old { steps = counted step times self.old.steps } }
+    fn count(&mut self, kind: StepKind, times: usize)
+        ensures { self.new ≡ record self.old { steps = counted kind times self.old.steps } }
     {}
-
-    fn without_memory(alloc: Global, capacity: usize) -> Slots<T>
-        requires { capacity * type_size T.row ≡ 0 }
-        ensures { result ≡ empty_region capacity }
-    {
-        let mut nothing: [T; 0] = [];
-        Slots {
-            ptr: &raw mut nothing as *mut T,
-            capacity,
-            alloc,
-        }
-    }
-
-    fn with_memory(heap: &Global, alloc: Global, capacity: usize) -> Result<Slots<T>, AllocError>
-        requires some_bytes { 0 < capacity * type_size T.row }
-        requires can_be_named { capacity * type_size T.row < 2 ^ 63 }
-        ensures { IfOk result (λ slots. slots ≡ empty_region capacity) }
-    {
-        match heap.allocate(capacity * size_of::<T>(), align_of::<T>()) {
-            Ok(block) => Ok(Slots {
-                ptr: block as *mut T,
-                capacity,
-                alloc,
-            }),
-            Err(refusal) => Err(refusal),
-        }
-    }
-
-    fn give_back(self, heap: &Global)
-        requires { AreAllEmpty self.places }
-    {
-        let Slots {
-            ptr,
-            capacity,
-            alloc: _,
-        } = self;
-        if 0 < capacity * size_of::<T>() {
-            unsafe {
-                heap.deallocate(ptr as *mut u8, capacity * size_of::<T>(), align_of::<T>());
-            }
-        }
-    }
-}
-
-/// The bytes that an item takes.
-fn size_of_item<T>() -> usize
-    ensures { result ≡ capped (type_size T.row) }
-{
-    size_of::<T>()
 }
 
 impl<T> Drop for Slots<T> {

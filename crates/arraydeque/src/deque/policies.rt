@@ -1,8 +1,7 @@
-//! What the two policies do differently: pushes, and an insert that only one of them offers.
-ghost use Rattle.std.specs.Prelude.{◌≡◌, ◌<◌, ◌≤◌, ◌-◌, ◌++◌, ◌∷◌, [], length, take, slice_get, None, min, nat_lt, if◌then◌else◌, IfErr, OnOk, OnErr, IsOk, ◌↔◌};
-ghost use Rattle.std.specs.List.{insert};
+//! Pushes, which differ by the policy.
+ghost use Rattle.std.specs.Prelude.{◌≡◌, ◌<◌, ◌-◌, ◌++◌, ◌∷◌, [], length, take, slice_get, None, nat_lt, if◌then◌else◌, IfErr, OnOk, OnErr, IsOk, ◌↔◌};
 ghost use Rattle.arraydeque_ring.specs.Ring.{place_of};
-ghost use Rattle.arraydeque_ring.specs.Steps.{more_moves, more_puts, more_takes};
+ghost use Rattle.arraydeque_ring.specs.Steps.{more_puts, more_takes};
 ghost use Rattle.arraydeque.specs.Deque.{keep_last};
 
 use super::ArrayDeque;
@@ -43,29 +42,6 @@ impl<T, const CAP: usize> ArrayDeque<T, CAP, Saturating> {
             return Err(CapacityError { element });
         }
         self.ring.push_back(element);
-        Ok(())
-    }
-
-    /// Adds an item before the one at an index, or behind the last one. The items on the side with
-    /// fewer of them move by one place, at most half of the items. A full deque hands the element
-    /// back and stays as it was.
-    pub fn insert(&mut self, index: usize, element: T) -> Result<(), CapacityError<T>>
-        requires { index ≤ length self.old.items }
-        ensures room { IsOk result ↔ (length self.old.items < CAP) }
-        ensures items { OnOk result (self.new.items ≡ insert self.old.items index element) }
-        ensures start { OnOk result (self.new.start ≡
-            (if nat_lt index (length self.old.items - index)
-            then place_of self.old.start (CAP - 1) CAP
-            else self.old.start)) }
-        ensures steps { OnOk result (self.new.steps ≡
-            more_puts 1 (more_moves (min index (length self.old.items - index)) self.old.steps)) }
-        ensures full { IfErr result (λ refusal. refusal.element ≡ element) }
-        ensures unchanged { OnErr result (self.new ≡ self.old) }
-    {
-        if self.is_full() {
-            return Err(CapacityError { element });
-        }
-        self.ring.insert(index, element);
         Ok(())
     }
 }

@@ -1,6 +1,6 @@
 use Rattle.std.proofs.Common.{arith}
-use Rattle.arraydeque_ring.proofs.LaidOut.{length_within}
-use Rattle.arraydeque_ring.proofs.Opened.{opened}
+use Rattle.arraydeque_ring.proofs.places.LaidOut.{length_within}
+use Rattle.arraydeque_ring.proofs.places.Opened.{opened}
 use Rattle.arraydeque_ring.proofs.ring.Ring.capacity.Goals as goal
 
 pub returns-clause-within : goal.returns-clause-within

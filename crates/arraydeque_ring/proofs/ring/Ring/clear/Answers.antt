@@ -1,10 +1,10 @@
 use Rattle.std.proofs.Common.{◌≡◌, ◌+◌, ◌-◌, ◌⊎◌, inl, inr, [], length, refl, arith}
 use Rattle.std.proofs.lemmas.Bool.{cases_lt}
 use Rattle.arraydeque_ring.specs.Steps.{more_takes}
-use Rattle.arraydeque_ring.proofs.Cleared.{rest_filled, all_out}
-use Rattle.arraydeque_ring.proofs.Emptied.{run_emptied-up_to}
-use Rattle.arraydeque_ring.proofs.LaidOut.{IsFilledRun-LaidOut}
-use Rattle.arraydeque_ring.proofs.Opened.{Opened, opened, closed, kept}
+use Rattle.arraydeque_ring.proofs.places.Cleared.{rest_filled, all_out}
+use Rattle.arraydeque_ring.proofs.places.Emptied.{run_emptied-up_to}
+use Rattle.arraydeque_ring.proofs.places.LaidOut.{IsFilledRun-LaidOut}
+use Rattle.arraydeque_ring.proofs.places.Opened.{Opened, opened, closed, kept}
 use Rattle.arraydeque_ring.proofs.ring.Ring.clear.Given.{Over}
 use Rattle.arraydeque_ring.proofs.ring.Ring.clear.Goals as goal
 use Rattle.arraydeque_ring.proofs.ring.Ring.clear.Goals.{After-drop_run}

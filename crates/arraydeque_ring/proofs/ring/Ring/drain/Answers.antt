@@ -4,11 +4,11 @@ use Rattle.std.proofs.lemmas.Bool.{cases_lt, cond_below, cond_above, lt-ltb}
 use Rattle.std.proofs.lemmas.List.{length-append, length-take-le, length-drop}
 use Rattle.arraydeque_ring.specs.Ring.{RingState, place_of}
 use Rattle.arraydeque_ring.specs.Steps.{more_takes, more_moves}
-use Rattle.arraydeque_ring.proofs.GapMoves.{Closes, closes}
-use Rattle.arraydeque_ring.proofs.Gapped.{Gapped, Gapped-taken, length_places}
-use Rattle.arraydeque_ring.proofs.LaidOut.{IsFilledRun-turned, values-run}
-use Rattle.arraydeque_ring.proofs.Opened.{Opened, opened, closed, kept}
-use Rattle.arraydeque_ring.proofs.Turned.{place_of-zero}
+use Rattle.arraydeque_ring.proofs.places.GapMoves.{Closes, closes}
+use Rattle.arraydeque_ring.proofs.places.Gapped.{Gapped, Gapped-taken, length_places}
+use Rattle.arraydeque_ring.proofs.places.LaidOut.{IsFilledRun-turned, values-run}
+use Rattle.arraydeque_ring.proofs.places.Opened.{Opened, opened, closed, kept}
+use Rattle.arraydeque_ring.proofs.places.Turned.{place_of-zero}
 use Rattle.arraydeque_ring.proofs.ring.Ring.drain.Given.{Over}
 use Rattle.arraydeque_ring.proofs.ring.Ring.drain.Goals.{After-take_run}
 use Rattle.arraydeque_ring.proofs.ring.Ring.drain.Goals as goal

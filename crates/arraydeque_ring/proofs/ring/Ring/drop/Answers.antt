@@ -1,7 +1,7 @@
 use Rattle.std.proofs.Common.{ap, length}
 use Rattle.arraydeque_ring.specs.Ring.{RingState}
-use Rattle.arraydeque_ring.proofs.LaidOut.{AreAllEmpty-LaidOut}
-use Rattle.arraydeque_ring.proofs.Opened.{opened}
+use Rattle.arraydeque_ring.proofs.places.LaidOut.{AreAllEmpty-LaidOut}
+use Rattle.arraydeque_ring.proofs.places.Opened.{opened}
 use Rattle.arraydeque_ring.proofs.ring.Ring.drop.Goals as goal
 
 pub drop-self-inside-requires : goal.drop-self-inside-requires

@@ -1,7 +1,7 @@
 use Rattle.std.proofs.Common.{sym, ◌∙◌, arith}
 use Rattle.std.proofs.lemmas.Option.{slice_get_past}
-use Rattle.arraydeque_ring.proofs.LaidOut.{length_within, held_at-place_of, IsFilled-place_of}
-use Rattle.arraydeque_ring.proofs.Opened.{opened, place_at}
+use Rattle.arraydeque_ring.proofs.places.LaidOut.{length_within, held_at-place_of, IsFilled-place_of}
+use Rattle.arraydeque_ring.proofs.places.Opened.{opened, place_at}
 use Rattle.arraydeque_ring.proofs.ring.Ring.get.Goals as goal
 
 pub returns-then-index-self : goal.returns-then-index-self

@@ -3,8 +3,8 @@ use Rattle.std.proofs.Common.{inl, inr, set, Some, sym, ap, ◌∙◌, arith}
 use Rattle.std.proofs.lemmas.List.{length-set}
 use Rattle.std.proofs.lemmas.Option.{slice_get_past}
 use Rattle.arraydeque_ring.specs.Steps.{more_lends}
-use Rattle.arraydeque_ring.proofs.LaidOut.{length_within, held_at-place_of, IsFilled-place_of, LaidOut-set}
-use Rattle.arraydeque_ring.proofs.Opened.{Opened, opened, closed, kept, place_at}
+use Rattle.arraydeque_ring.proofs.places.LaidOut.{length_within, held_at-place_of, IsFilled-place_of, LaidOut-set}
+use Rattle.arraydeque_ring.proofs.places.Opened.{Opened, opened, closed, kept, place_at}
 use Rattle.arraydeque_ring.proofs.ring.Ring.get_mut.Given.{Over}
 use Rattle.arraydeque_ring.proofs.ring.Ring.get_mut.Goals as goal
 use Rattle.arraydeque_ring.proofs.ring.Ring.get_mut.Goals.{After-get_mut}

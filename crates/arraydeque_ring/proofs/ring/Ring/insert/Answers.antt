@@ -5,9 +5,9 @@ use Rattle.std.proofs.lemmas.List.{length-take-le}
 use Rattle.std.proofs.lemmas.List.Edits.{length-insert}
 use Rattle.arraydeque_ring.specs.Ring.{RingState, place_of}
 use Rattle.arraydeque_ring.specs.Steps.{more_puts, more_moves}
-use Rattle.arraydeque_ring.proofs.GapMoves.{opens_before, opens_behind}
-use Rattle.arraydeque_ring.proofs.Gapped.{Gapped, IsEmpty-gap, LaidOut-put}
-use Rattle.arraydeque_ring.proofs.Opened.{Opened, opened, closed, kept}
+use Rattle.arraydeque_ring.proofs.places.GapMoves.{opens_before, opens_behind}
+use Rattle.arraydeque_ring.proofs.places.Gapped.{Gapped, IsEmpty-gap, LaidOut-put}
+use Rattle.arraydeque_ring.proofs.places.Opened.{Opened, opened, closed, kept}
 use Rattle.arraydeque_ring.proofs.ring.Ring.insert.Given.{Over}
 use Rattle.arraydeque_ring.proofs.ring.Ring.insert.Goals.{After-wrap_add, then-index-behind, else-index-behind}
 use Rattle.arraydeque_ring.proofs.ring.Ring.insert.Goals as goal

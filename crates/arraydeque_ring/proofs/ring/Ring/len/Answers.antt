@@ -1,5 +1,5 @@
 use Rattle.std.proofs.Common.{sym}
-use Rattle.arraydeque_ring.proofs.Opened.{opened}
+use Rattle.arraydeque_ring.proofs.places.Opened.{opened}
 use Rattle.arraydeque_ring.proofs.ring.Ring.len.Goals as goal
 
 pub returns-clause-len : goal.returns-clause-len

@@ -1,7 +1,7 @@
 use Rattle.std.proofs.Common.{refl}
 use Rattle.arraydeque_ring.specs.Ring.{empty_ring}
-use Rattle.arraydeque_ring.proofs.LaidOut.{LaidOut-nothing}
-use Rattle.arraydeque_ring.proofs.Opened.{Opened, closed, kept}
+use Rattle.arraydeque_ring.proofs.places.LaidOut.{LaidOut-nothing}
+use Rattle.arraydeque_ring.proofs.places.Opened.{Opened, closed, kept}
 use Rattle.arraydeque_ring.proofs.ring.Ring.new.Given.{Over}
 use Rattle.arraydeque_ring.proofs.ring.Ring.new.Goals as goal
 

@@ -2,8 +2,8 @@ use Rattle.std.proofs.Common.{◌-◌, length, take, ap, sym, ◌∙◌, arith}
 use Rattle.std.proofs.lemmas.List.{length-take-le}
 use Rattle.std.proofs.lemmas.Option.{slice_get_past}
 use Rattle.arraydeque_ring.specs.Steps.{more_takes}
-use Rattle.arraydeque_ring.proofs.LaidOut.{length_within, held_at-place_of, IsFilled-place_of, LaidOut-take_back}
-use Rattle.arraydeque_ring.proofs.Opened.{Opened, opened, closed, kept, place_at}
+use Rattle.arraydeque_ring.proofs.places.LaidOut.{length_within, held_at-place_of, IsFilled-place_of, LaidOut-take_back}
+use Rattle.arraydeque_ring.proofs.places.Opened.{Opened, opened, closed, kept, place_at}
 use Rattle.arraydeque_ring.proofs.ring.Ring.pop_back.Given.{Over}
 use Rattle.arraydeque_ring.proofs.ring.Ring.pop_back.Goals as goal
 

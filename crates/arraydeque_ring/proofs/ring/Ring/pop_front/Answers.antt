@@ -3,8 +3,8 @@ use Rattle.std.proofs.lemmas.List.{length-drop}
 use Rattle.std.proofs.lemmas.Option.{slice_get_past}
 use Rattle.arraydeque_ring.specs.Ring.{place_of}
 use Rattle.arraydeque_ring.specs.Steps.{more_takes}
-use Rattle.arraydeque_ring.proofs.LaidOut.{length_within, held_at-start, IsFilled-start, LaidOut-take_front}
-use Rattle.arraydeque_ring.proofs.Opened.{Opened, opened, closed, kept}
+use Rattle.arraydeque_ring.proofs.places.LaidOut.{length_within, held_at-start, IsFilled-start, LaidOut-take_front}
+use Rattle.arraydeque_ring.proofs.places.Opened.{Opened, opened, closed, kept}
 use Rattle.arraydeque_ring.proofs.ring.Ring.pop_front.Given.{Over}
 use Rattle.arraydeque_ring.proofs.ring.Ring.pop_front.Goals as goal
 

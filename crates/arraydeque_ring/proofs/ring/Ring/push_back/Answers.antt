@@ -1,8 +1,8 @@
 use Rattle.std.proofs.Common.{◌+◌, ◌∷◌, [], ◌++◌, ap, ◌∙◌, arith}
 use Rattle.std.proofs.lemmas.List.{length_push}
 use Rattle.arraydeque_ring.specs.Steps.{more_puts}
-use Rattle.arraydeque_ring.proofs.LaidOut.{IsEmpty-place_of, LaidOut-put_back}
-use Rattle.arraydeque_ring.proofs.Opened.{Opened, opened, closed, kept, place_at}
+use Rattle.arraydeque_ring.proofs.places.LaidOut.{IsEmpty-place_of, LaidOut-put_back}
+use Rattle.arraydeque_ring.proofs.places.Opened.{Opened, opened, closed, kept, place_at}
 use Rattle.arraydeque_ring.proofs.ring.Ring.push_back.Given.{Over}
 use Rattle.arraydeque_ring.proofs.ring.Ring.push_back.Goals as goal
 

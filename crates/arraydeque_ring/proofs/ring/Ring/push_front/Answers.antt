@@ -1,8 +1,8 @@
 use Rattle.std.proofs.Common.{◌+◌, ◌-◌, ◌∷◌, ap, ◌∙◌, arith}
 use Rattle.arraydeque_ring.specs.Ring.{place_of}
 use Rattle.arraydeque_ring.specs.Steps.{more_puts}
-use Rattle.arraydeque_ring.proofs.LaidOut.{IsEmpty-place_of, LaidOut-put_front}
-use Rattle.arraydeque_ring.proofs.Opened.{Opened, opened, closed, kept, place_at}
+use Rattle.arraydeque_ring.proofs.places.LaidOut.{IsEmpty-place_of, LaidOut-put_front}
+use Rattle.arraydeque_ring.proofs.places.Opened.{Opened, opened, closed, kept, place_at}
 use Rattle.arraydeque_ring.proofs.ring.Ring.push_front.Given.{Over}
 use Rattle.arraydeque_ring.proofs.ring.Ring.push_front.Goals as goal
 

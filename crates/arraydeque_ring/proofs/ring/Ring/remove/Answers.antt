@@ -4,10 +4,10 @@ use Rattle.std.proofs.lemmas.List.{length-take-le, length-drop}
 use Rattle.std.proofs.lemmas.List.Edits.{length-remove}
 use Rattle.arraydeque_ring.specs.Ring.{RingState, place_of}
 use Rattle.arraydeque_ring.specs.Steps.{more_takes, more_moves}
-use Rattle.arraydeque_ring.proofs.GapMoves.{Closes, closes}
-use Rattle.arraydeque_ring.proofs.Gapped.{Gapped, Gapped-taken_one, length_places}
-use Rattle.arraydeque_ring.proofs.LaidOut.{length_within, held_at-place_of, IsFilled-place_of}
-use Rattle.arraydeque_ring.proofs.Opened.{Opened, opened, closed, kept, place_at}
+use Rattle.arraydeque_ring.proofs.places.GapMoves.{Closes, closes}
+use Rattle.arraydeque_ring.proofs.places.Gapped.{Gapped, Gapped-taken_one, length_places}
+use Rattle.arraydeque_ring.proofs.places.LaidOut.{length_within, held_at-place_of, IsFilled-place_of}
+use Rattle.arraydeque_ring.proofs.places.Opened.{Opened, opened, closed, kept, place_at}
 use Rattle.arraydeque_ring.proofs.ring.Ring.remove.Given.{Over}
 use Rattle.arraydeque_ring.proofs.ring.Ring.remove.Goals.{After-take-item}
 use Rattle.arraydeque_ring.proofs.ring.Ring.remove.Goals as goal

@@ -5,8 +5,8 @@ use Rattle.std.proofs.lemmas.Fn.{called_at}
 use Rattle.arraydeque_ring.specs.Retained.{count_moved}
 use Rattle.arraydeque_ring.specs.Ring.{RingState}
 use Rattle.arraydeque_ring.specs.Steps.{more_takes, more_moves}
-use Rattle.arraydeque_ring.proofs.Retaining.{none_asked, next_filled, room_for_next, all_within, one_stays, one_goes, all_asked}
-use Rattle.arraydeque_ring.proofs.Opened.{Opened, opened, closed, kept}
+use Rattle.arraydeque_ring.proofs.retained.Retaining.{none_asked, next_filled, room_for_next, all_within, one_stays, one_goes, all_asked}
+use Rattle.arraydeque_ring.proofs.places.Opened.{Opened, opened, closed, kept}
 use Rattle.arraydeque_ring.proofs.ring.Ring.retain.Given.{Over}
 use Rattle.arraydeque_ring.proofs.ring.Ring.retain.Goals as goal
 use Rattle.arraydeque_ring.proofs.ring.Ring.retain.Goals.{then-keeps, else-keeps}

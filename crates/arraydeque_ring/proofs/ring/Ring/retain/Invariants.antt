@@ -1,5 +1,5 @@
 use Rattle.std.specs.Fn.{CalledAt}
-use Rattle.arraydeque_ring.proofs.Retaining.{SoFar}
+use Rattle.arraydeque_ring.proofs.retained.Retaining.{SoFar}
 use Rattle.arraydeque_ring.proofs.ring.Ring.retain.Given as goal
 
 abbrev pub invariant-loop-index : goal.invariant-loop-index

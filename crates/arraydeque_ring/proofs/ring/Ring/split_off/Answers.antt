@@ -1,9 +1,9 @@
 use Rattle.std.proofs.Common.{◌+◌, ◌-◌, length, take, ap, ◌∙◌, arith}
 use Rattle.std.proofs.lemmas.List.{length-take-le, drop_all, take_rest}
 use Rattle.arraydeque_ring.specs.Steps.{more_takes}
-use Rattle.arraydeque_ring.proofs.Gapped.{Gapped-taken, LaidOut-gap_last}
-use Rattle.arraydeque_ring.proofs.LaidOut.{length_within, IsFilledRun-turned, values-run}
-use Rattle.arraydeque_ring.proofs.Opened.{Opened, opened, closed, kept}
+use Rattle.arraydeque_ring.proofs.places.Gapped.{Gapped-taken, LaidOut-gap_last}
+use Rattle.arraydeque_ring.proofs.places.LaidOut.{length_within, IsFilledRun-turned, values-run}
+use Rattle.arraydeque_ring.proofs.places.Opened.{Opened, opened, closed, kept}
 use Rattle.arraydeque_ring.proofs.ring.Ring.split_off.Given.{Over}
 use Rattle.arraydeque_ring.proofs.ring.Ring.split_off.Goals as goal
 

@@ -1,9 +1,9 @@
 use Rattle.std.proofs.Common.{swap, if◌then◌else◌, ◌==◌, ◌∙◌, arith}
 use Rattle.std.proofs.lemmas.List.Edits.{length-swap}
 use Rattle.arraydeque_ring.specs.Steps.{more_exchanges}
-use Rattle.arraydeque_ring.proofs.LaidOut.{length_within, IsFilled-place_of, LaidOut-swap}
-use Rattle.arraydeque_ring.proofs.Opened.{Opened, opened, closed, kept, place_at}
-use Rattle.arraydeque_ring.proofs.Turned.{one_place}
+use Rattle.arraydeque_ring.proofs.places.LaidOut.{length_within, IsFilled-place_of, LaidOut-swap}
+use Rattle.arraydeque_ring.proofs.places.Opened.{Opened, opened, closed, kept, place_at}
+use Rattle.arraydeque_ring.proofs.places.Turned.{one_place}
 use Rattle.arraydeque_ring.proofs.ring.Ring.swap.Given.{Over}
 use Rattle.arraydeque_ring.proofs.ring.Ring.swap.Goals as goal
 

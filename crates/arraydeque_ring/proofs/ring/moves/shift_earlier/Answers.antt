@@ -1,7 +1,7 @@
 use Rattle.std.proofs.Common.{◌+◌, sym, arith, length-set}
 use Rattle.arraydeque_ring.specs.Gaps.{runs_swapped}
 use Rattle.arraydeque_ring.specs.Ring.{turned}
-use Rattle.arraydeque_ring.proofs.Crossed.{Shifts, crosses_before, shifts_before, none_before}
+use Rattle.arraydeque_ring.proofs.places.Crossed.{Shifts, crosses_before, shifts_before, none_before}
 use Rattle.arraydeque_ring.proofs.ring.moves.shift_earlier.Given.{Over}
 use Rattle.arraydeque_ring.proofs.ring.moves.shift_earlier.Goals.{After-wrap_add-src}
 use Rattle.arraydeque_ring.proofs.ring.moves.shift_earlier.Goals as goal

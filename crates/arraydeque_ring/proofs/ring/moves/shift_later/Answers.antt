@@ -1,7 +1,7 @@
 use Rattle.std.proofs.Common.{◌+◌, ◌-◌, sym, arith, length-set}
 use Rattle.arraydeque_ring.specs.Gaps.{runs_swapped}
 use Rattle.arraydeque_ring.specs.Ring.{turned}
-use Rattle.arraydeque_ring.proofs.Crossed.{Shifts, crosses_behind, shifts_behind, none_behind}
+use Rattle.arraydeque_ring.proofs.places.Crossed.{Shifts, crosses_behind, shifts_behind, none_behind}
 use Rattle.arraydeque_ring.proofs.ring.moves.shift_later.Given.{Over}
 use Rattle.arraydeque_ring.proofs.ring.moves.shift_later.Goals.{After-wrap_add-dst}
 use Rattle.arraydeque_ring.proofs.ring.moves.shift_later.Goals as goal

@@ -12,7 +12,7 @@ use Rattle.std.specs.contracts.alloc.Global as heap
 use Rattle.std.specs.contracts.rt.Memory as memory
 use Rattle.arraydeque_ring.specs.contracts.slots.Slots.TheInside as inside
 use Rattle.arraydeque_ring.proofs.slots.Slots.TheLaw.Statement.{statement}
-use Rattle.arraydeque_ring.proofs.Sharing.{slots_shr_laws, Lends-slots}
+use Rattle.arraydeque_ring.proofs.memory.Sharing.{slots_shr_laws, Lends-slots}
 
 pub shares : (R : RattleType) (L : Laws R) → statement R L
 shares R L =

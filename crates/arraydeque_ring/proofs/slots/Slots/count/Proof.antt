@@ -1,12 +1,12 @@
 -- `count` lets the counts grow, and does nothing else. Assumes `Logic`.
-use Rattle.arraydeque_ring.proofs.Kit.{refl, List, [], ◌∷◌, ℕ, ◌<◌, ◌^◌, ftrue, flft, Fn, inst_fn, named, w64, Val, vunit, vptr, tables, owns, types_at, ‵, raw, ◌⊛◌, ◌$◌, ◌∵◌, !, qed, move, keep, split, join, fsplit3, fjoin, fjoin3, feq_i, suffices, done, enter, of_opd, unit_lit, returns, alloc_all, pass_all, free_all, look_at, sets, yes, plain, usize, uint_vals, uint_Tells, Stays, walk_of, says, stay_dropped, stay_ref, Goes-dropped, Goes-ref, ends_at, nothing, El, args, proved}
+use Rattle.arraydeque_ring.proofs.memory.Kit.{refl, List, [], ◌∷◌, ℕ, ◌<◌, ◌^◌, ftrue, flft, Fn, inst_fn, named, w64, Val, vunit, vptr, tables, owns, types_at, ‵, raw, ◌⊛◌, ◌$◌, ◌∵◌, !, qed, move, keep, split, join, fsplit3, fjoin, fjoin3, feq_i, suffices, done, enter, of_opd, unit_lit, returns, alloc_all, pass_all, free_all, look_at, sets, yes, plain, usize, uint_vals, uint_Tells, Stays, walk_of, says, stay_dropped, stay_ref, Goes-dropped, Goes-ref, ends_at, nothing, El, args, proved}
 use denote.Enum.Laws.{low_vals, Tells-lowered}
 use denote.Ref.{mut_vals, mut_Tells}
-use Rattle.arraydeque_ring.specs.contracts.slots.Step as kind
-use Rattle.arraydeque_ring.specs.declared.slots.Step.{Step}
-use Rattle.arraydeque_ring.proofs.slots.Step.TheLaws.{the_laws, the_row_laws}
+use Rattle.arraydeque_ring.specs.contracts.slots.StepKind as kind
+use Rattle.arraydeque_ring.specs.declared.slots.StepKind.{StepKind}
+use Rattle.arraydeque_ring.proofs.slots.StepKind.TheLaws.{the_laws, the_row_laws}
 use Rattle.arraydeque_ring.specs.Counted.{counted}
-use Rattle.arraydeque_ring.proofs.Regions.{Sr, Seen, slots_open, slots_close}
+use Rattle.arraydeque_ring.proofs.memory.Regions.{Sr, Seen, slots_open, slots_close}
 use Rattle.arraydeque_ring.specs.contracts.slots.Slots.count as f
 use Rattle.arraydeque_ring.proofs.slots.Slots.count.Statement as stated
 use Rattle.arraydeque_ring.proofs.slots.Slots.count.Code as code
@@ -27,7 +27,7 @@ count_spec 𝓤 𝓛 𝓜 𝓡 wired X L =
     (f.Key.name (args E)) (here E) (code.unfolded 𝓤 𝓛.H 𝓜 𝓡 wired (X, tt))
     (λ κs. (mut_vals, (kind_vals, (uint_vals w64, tt)))) (λ κs. (mut_Tells (named 0) κs.0 (Sr E), (Tells-lowered kind.enum the_laws, (uint_Tells w64, tt)))) (λ κs qs bounds a _ are.
     let κ = κs.0 in let κ₁ = κs.1.0 in let q = qs.0 in let q₁ = qs.1.0 in
-    let rb : ℕ = a.0.ref_ptr.0 in let ro : ℕ = a.0.ref_ptr.1 in let r : Seen E = a.0.now in let k : Step = a.1.0 in let n : ℕ = a.1.1.0 in let n_fits : n < 2 ^ 64 = are.1.1.0.1 in
+    let rb : ℕ = a.0.ref_ptr.0 in let ro : ℕ = a.0.ref_ptr.1 in let r : Seen E = a.0.now in let k : StepKind = a.1.0 in let n : ℕ = a.1.1.0 in let n_fits : n < 2 ^ 64 = are.1.1.0.1 in
     let y : W.Ghost = ((κs, qs, bounds, a, (mut_vals a.0, (kind_vals k, (uint_vals w64 n, tt)))), tt) in
     let new : Seen E = record r { steps = counted k n r.steps } in
     qed 𝓛 (((‵ (flft κ q) ⊛ ‵ (flft κ₁ q₁) ⊛ ‵ ftrue) ⊛ ‵ (owns (types_at ended.signature.params κs) a y.0.4)) ∷ raw ((c κs a).requires tt) ∷ []) ∵

@@ -1,5 +1,5 @@
 -- `lend` lends the value in a filled place, and that place follows it. Assumes `Logic`.
-use Rattle.arraydeque_ring.proofs.Kit.{refl, sym, List, [], ◌∷◌, ℕ, ◌+◌, ◌*◌, ◌<◌, ◌^◌, arith, length, get_or, length-set, Some, None, Ura, full_share, ent, sep, id⊢, GName, Fml, ftrue, fsep, flft, Fn, inst_fn, named, w64, Val, vint, vptr, Env, ◌⊑◌, fact, tables, Logic, sem, owns, types_at, ‵, raw, ◌⊛◌, some, later, at_ret, ◌$◌, ◌∵◌, !, qed, move, keep, use1, use2, drop, split, join, pick, frame, rewrite, await, fsplit3, fjoin, fjoin3, fpack, suffices, done, whole, sub, look_in, enter, of_opd, size_lit, bin, load, addr, stop, fld, first, blocks, exec, returns, alloc_all, pass_all, free_all, look_at, get, through, sets, sets_last, env, yes, no, plain, usize, uint_vals, uint_Tells, mem, cell_at, block_ptr, Stays, walk_of, says, stay_dropped, Goes-dropped, ends_at, nothing, heard, after, El, R, args, el_x, times_below, one_below, proved}
+use Rattle.arraydeque_ring.proofs.memory.Kit.{refl, sym, List, [], ◌∷◌, ℕ, ◌+◌, ◌*◌, ◌<◌, ◌^◌, arith, length, get_or, length-set, Some, None, Ura, full_share, ent, sep, id⊢, GName, Fml, ftrue, fsep, flft, Fn, inst_fn, named, w64, Val, vint, vptr, Env, ◌⊑◌, fact, tables, Logic, sem, owns, types_at, ‵, raw, ◌⊛◌, some, later, at_ret, ◌$◌, ◌∵◌, !, qed, move, keep, use1, use2, drop, split, join, pick, frame, rewrite, await, fsplit3, fjoin, fjoin3, fpack, suffices, done, whole, sub, look_in, enter, of_opd, size_lit, bin, load, addr, stop, fld, first, blocks, exec, returns, alloc_all, pass_all, free_all, look_at, get, through, sets, sets_last, env, yes, no, plain, usize, uint_vals, uint_Tells, mem, cell_at, block_ptr, Stays, walk_of, says, stay_dropped, Goes-dropped, ends_at, nothing, heard, after, El, R, args, el_x, times_below, one_below, proved}
 use types.Kit.{split3, group}
 use denote.Follow.{follows, Part, lends_Part}
 use denote.Memory.{part_of}
@@ -9,9 +9,9 @@ use denote.Triple.Walked.{Goes-spent_ref}
 use Rattle.std.specs.declared.alloc.Global.{Global}
 use Rattle.arraydeque_ring.specs.Ownership.{place_owned, right_to_free}
 use Rattle.arraydeque_ring.specs.Places.{IsFilled}
-use Rattle.arraydeque_ring.proofs.Owned.{item_size, Place, Others, place_out, place_in}
-use Rattle.arraydeque_ring.proofs.Regions.{Sr, Seen, Fits, Fits-with_place, with_place, places, right, slots_val, slots_made, slots_open}
-use Rattle.arraydeque_ring.proofs.Runs.{filled_within}
+use Rattle.arraydeque_ring.proofs.memory.Owned.{item_size, Place, Others, place_out, place_in}
+use Rattle.arraydeque_ring.proofs.memory.Regions.{Sr, Seen, Fits, Fits-with_place, with_place, places, right, slots_val, slots_made, slots_open}
+use Rattle.arraydeque_ring.proofs.places.Filled.{filled_within}
 use Rattle.arraydeque_ring.specs.contracts.slots.Slots.lend as f
 use Rattle.arraydeque_ring.proofs.slots.Slots.lend.Statement as stated
 use Rattle.arraydeque_ring.proofs.slots.Slots.lend.Code as code

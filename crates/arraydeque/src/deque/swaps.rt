@@ -1,0 +1,54 @@
+//! Exchanges, and removals by an exchange.
+ghost use Rattle.std.specs.Prelude.{◌≡◌, ◌-◌, ◌<◌, ◌==◌, length, take, drop, slice_get, nat_lt, if◌then◌else◌, OnSome, IfNone};
+ghost use Rattle.std.specs.List.{swap};
+ghost use Rattle.arraydeque_ring.specs.Ring.{place_of};
+ghost use Rattle.arraydeque_ring.specs.Steps.{more_exchanges, more_takes};
+
+use super::ArrayDeque;
+use crate::behavior::Behavior;
+
+impl<T, const CAP: usize, B: Behavior> ArrayDeque<T, CAP, B> {
+    /// Takes out the item at an index, or answers `None` where there is none. The last item takes
+    /// its place, by one exchange at most.
+    pub fn swap_remove_back(&mut self, index: usize) -> Option<T>
+        ensures value { result ≡ slice_get self.old.items index }
+        ensures items { self.new.items ≡
+            (if nat_lt index (length self.old.items)
+            then take (length self.old.items - 1) (swap self.old.items index (length self.old.items - 1))
+            else self.old.items) }
+        ensures start { self.new.start ≡ self.old.start }
+        ensures steps { OnSome result (self.new.steps ≡ more_takes 1
+            (more_exchanges (if index == length self.old.items - 1 then 0 else 1) self.old.steps)) }
+        ensures none { IfNone result (self.new ≡ self.old) }
+    {
+        self.ring.swap_remove_back(index)
+    }
+
+    /// Takes out the item at an index, or answers `None` where there is none. The first item takes
+    /// its place, by one exchange at most.
+    pub fn swap_remove_front(&mut self, index: usize) -> Option<T>
+        ensures value { result ≡ slice_get self.old.items index }
+        ensures items { self.new.items ≡
+            (if nat_lt index (length self.old.items)
+            then drop 1 (swap self.old.items index 0)
+            else self.old.items) }
+        ensures start { OnSome result (self.new.start ≡ place_of self.old.start 1 CAP) }
+        ensures steps { OnSome result (self.new.steps ≡ more_takes 1
+            (more_exchanges (if index == 0 then 0 else 1) self.old.steps)) }
+        ensures none { IfNone result (self.new ≡ self.old) }
+    {
+        self.ring.swap_remove_front(index)
+    }
+
+    /// Exchanges two items. Nothing happens where the two are one.
+    #[inline]
+    pub fn swap(&mut self, i: usize, j: usize)
+        requires i_in_bounds { i < length self.old.items }
+        requires j_in_bounds { j < length self.old.items }
+        ensures items { self.new.items ≡ swap self.old.items i j }
+        ensures start { self.new.start ≡ self.old.start }
+        ensures steps { self.new.steps ≡ more_exchanges (if i == j then 0 else 1) self.old.steps }
+    {
+        self.ring.swap(i, j);
+    }
+}

@@ -1,0 +1,42 @@
+-- The size of a region's block, and the right to free it. Assumes `Logic`.
+use Rattle.arraydeque_ring.proofs.memory.Kit.{◌≡◌, sym, ap, subst, ◌∙◌, ℕ, zero, suc, ◌*◌, ◌<◌, ◌^◌, arith, zero-mul, suc-mul, Ura, ent, emp, guard, guard_i, id⊢, fact_use, Logic, sem, Ty, ty_array, size, align, capped, capped_is, Ptr, block_ptr, El, R, elτ}
+use mir.Raw.{raw as bare}
+use prog.RawLaws.{size-raw, align-raw}
+use Rattle.std.proofs.lemmas.Bool.{lt-ltb, le-ltb}
+use Rattle.std.proofs.GlobalToken.{dealloc_token_start}
+use Rattle.std.specs.contracts.impls.GlobalAllocator.TheImpl as heap
+use Rattle.std.specs.declared.alloc.Global.{Global}
+use Rattle.arraydeque_ring.specs.Ownership.{owned_if, right_to_free}
+use Rattle.arraydeque_ring.proofs.memory.Owned.{item_size}
+
+-- a product that fits a word is not changed by a cap on one factor
+pub uncapped : (n k : ℕ) → n * k < 2 ^ 64 → n * capped k ≡ n * k
+uncapped zero k fits = zero-mul (capped k) ∙ sym (zero-mul k)
+uncapped (suc n) k fits = let more = suc-mul n k in ap (λ j. suc n * j) (capped_is k (omega arith))
+
+module _ (E : El) where
+  -- the type that a block of n places is asked for
+  abbrev pub block_ty : ℕ → Ty
+  block_ty n = bare (ty_array (elτ E) n)
+
+  pub block_size : (n : ℕ) → n * item_size E < 2 ^ 64 → capped (size (block_ty n)) ≡ n * item_size E
+  block_size n fits = ap capped (size-raw (ty_array (elτ E) n)) ∙ capped_is (n * item_size E) fits
+
+  pub block_align : (n : ℕ) → capped (align (block_ty n)) ≡ capped (align (elτ E))
+  block_align n = ap capped (align-raw (ty_array (elτ E) n))
+
+  -- the allocator's right to free a block of n places
+  abbrev pub token : Global → ℕ → Ptr → base.Fml.Fml
+  token alloc n p = heap.ghosts.dealloc_token alloc (block_ty n) p
+
+  -- a block of some bytes comes with that right, and one of no bytes needs none
+  pub right_is : (alloc : Global) (n : ℕ) (p : Ptr) → 0 < n * item_size E → right_to_free (R E) alloc n p ≡ token alloc n p
+  right_is alloc n p some = ap (λ t. owned_if t (token alloc n p)) (lt-ltb 0 (n * item_size E) some)
+
+  pub no_right : {M : Type 1} {𝓤 : Ura M} (𝓛 : Logic 𝓤) (alloc : Global) (n : ℕ) (p : Ptr) → n * item_size E ≡ 0 → ent 𝓤 (emp 𝓤) (sem 𝓛 (right_to_free (R E) alloc n p))
+  no_right {𝓤 = 𝓤} 𝓛 alloc n p none = subst (λ t. ent 𝓤 (emp 𝓤) (sem 𝓛 (owned_if t (token alloc n p)))) (sym (le-ltb 0 (n * item_size E) (omega arith))) (id⊢ 𝓤 (emp 𝓤))
+
+  -- a block that may be freed begins at its offset 0
+  pub token_at_start : {M : Type 1} {𝓤 : Ura M} (𝓛 : Logic 𝓤) (alloc : Global) (n b o : ℕ)
+      → ent 𝓤 (sem 𝓛 (token alloc n (block_ptr b o))) (guard 𝓤 (o ≡ 0) (sem 𝓛 (token alloc n (block_ptr b o))))
+  token_at_start {𝓤 = 𝓤} 𝓛 alloc n b o = fact_use 𝓤 (o ≡ 0) (dealloc_token_start 𝓛 alloc (block_ty n) (block_ptr b o)) (λ start. guard_i 𝓤 (o ≡ 0) (sem 𝓛 (token alloc n (block_ptr b o))) start)

@@ -1,0 +1,124 @@
+-- A `Slots` is taken apart into its words, its places and its right to free, and made of them; a `&mut` to one is opened and closed. Assumes `Logic`.
+use Rattle.arraydeque_ring.proofs.memory.Kit.{◌≡◌, refl, sym, ap, subst, ◌∙◌, List, [], ◌∷◌, ◌++◌, ℕ, ◌+◌, ◌*◌, ◌<◌, ◌^◌, length, set, length-set, Option, Ura, full_share, Gv, ent, emp, id⊢, never, Lft, Share, GName, Fml, fsep, flft, fobs, fauth, fbor, fobor, ftrue, w64, Val, vunit, vint, vptr, vstruct, vcons, vnil, of_list, Logic, sem, Borrowed, Goal, Soaks, Step, step, Seq, Item, ‵, ◌$◌, move, drop, rewrite, use0, use2, fsplit, fjoin, fpick, fpack, feq_l, feq_i, flt_l, flt_i, RattleType, Valss, Is, shows, layout, cell_at, mem, Ptr, block_ptr, ptr_val, in_a_block, nothing, opens, closes, peeks, Good, heap_val, heap_Tells, El, R, el_x}
+use denote.Shadow.{makes_shadow}
+use denote.Struct.Struct.{within}
+use denote.Struct.Owning.{Owning, shape}
+use Rattle.std.specs.contracts.alloc.Global as heap
+use Rattle.std.specs.declared.alloc.Global.{Global}
+use Rattle.arraydeque_ring.specs.Steps.{Steps}
+use Rattle.arraydeque_ring.specs.Places.{Region}
+use Rattle.arraydeque_ring.specs.Ownership.{place_owned, places_owned, right_to_free, slots_owned}
+use Rattle.arraydeque_ring.specs.contracts.slots.Slots as slots
+use Rattle.arraydeque_ring.specs.contracts.slots.Slots.TheInside as inside
+use Rattle.arraydeque_ring.specs.declared.slots.Slots.TheInside.{Inside}
+use Rattle.arraydeque_ring.proofs.memory.Owned.{item_size, Place, Others, place_in}
+
+-- the words of a `Slots`: the pointer, the capacity and the allocator
+abbrev pub words_val : Ptr → ℕ → Val
+words_val p n = vstruct (vcons (ptr_val p) (vcons (vint w64 n) (vcons heap_val vnil)))
+
+abbrev pub slots_val : ℕ → ℕ → ℕ → Val
+slots_val b o n = words_val (block_ptr b o) n
+
+pub heap_Good : Good (layout heap.the_row) heap_val
+heap_Good = (tt, ((tt, tt), tt))
+
+heap_made : {M : Type 1} {𝓤 : Ura M} (𝓛 : Logic 𝓤) (g : Global) → ent 𝓤 (emp 𝓤) (sem 𝓛 (heap.the_row.own_val g (heap_val ∷ [])))
+heap_made 𝓛 g = makes_shadow 𝓛 (heap.the_row.own_val g (heap_val ∷ [])) (λ vss. (tt, ((λ uss. (tt, (tt, tt))), tt)))
+    ((vstruct (vcons vunit vnil) ∷ [], tt), (refl, (((vunit ∷ [], tt), (refl, (refl, tt))), tt)))
+
+module _ (E : El) where
+  abbrev pub owning : Owning
+  owning = inside.the_type (R E)
+
+  -- the type `Slots`, and what a contract sees of a value of it
+  abbrev pub Sr : RattleType
+  Sr = slots.the_row (R E)
+
+  abbrev pub Seen : Type 0
+  Seen = Region (el_x E)
+
+  pub slots_Good : (b o n : ℕ) → n < 2 ^ 64 → Good (layout Sr) (slots_val b o n)
+  slots_Good b o n fits = (tt, (tt, (record { fits = fits }, (heap_Good.1, tt))))
+
+  abbrev pub places : Seen → ℕ → ℕ → Fml
+  places r b o = places_owned (R E) b o r.places
+
+  abbrev pub right : Global → Seen → ℕ → ℕ → Fml
+  right g r b o = right_to_free (R E) g (length r.places) (block_ptr b o)
+
+  -- what the words say of the region: its capacity, which fits a word, and that its places are in reach
+  pub record Fits (r : Seen) (o n : ℕ) : Type 0 where
+    pub capacity : n ≡ length r.places
+    pub word : n < 2 ^ 64
+    pub reach : length r.places * item_size E + o < 2 ^ 63
+
+module _ (E : El) {M : Type 1} {𝓤 : Ura M} {𝓛 : Logic 𝓤} {K : Type 0} {Γ : List (Item 𝓤)} {G : Goal 𝓤 𝓛.H} where
+  -- leaves [the places; the right]
+  pub slots_apart : K → (r : Seen E) (vs : List Val)
+      → ((g : Global) (b o n : ℕ) → Fits E r o n → vs ≡ slots_val b o n ∷ [] → Seq K 𝓛 (‵ (places E r b o) ∷ ‵ (right E g r b o) ∷ Γ) G)
+      → Seq K 𝓛 (‵ ((Sr E).own_val r vs) ∷ Γ) G
+  slots_apart t r vs then =
+      fpick t (λ x. fsplit t $ move t (1 ∷ []) $ drop t $
+      let a = x.0 in
+      let same : a.places ≡ r.places = ap (λ (v : Seen E). v.places) x.1.0 in
+      fsplit t $ fpick t (λ vss. fsplit t $ feq_l t (λ all. fsplit t $ feq_l t (λ pointer. fsplit t $ fsplit t $ feq_l t (λ word. flt_l t (λ fits. fsplit t $
+      peeks t heap.the_row (Is heap.the_row) (shows 𝓛 heap.the_row) a.alloc vss.1.1.0 (λ is. drop t $ drop t $
+      in_a_block t a.ptr (λ p. slots_owned (R E) a.alloc p a.places) (id⊢ 𝓤 (never 𝓤)) (λ b o at.
+      rewrite t 0 (λ (ps : List (Option (el_x E))). ‵ (slots_owned (R E) a.alloc (block_ptr b o) ps)) same refl $
+      fsplit t $ flt_l t (λ reach. fsplit t $
+      then a.alloc b o a.capacity (record { capacity = x.1.1 ∙ ap length same; word = fits; reach = reach })
+      (all ∙ ((λ i. vstruct (of_list (pointer i ++ (word i ++ (heap_Tells a.alloc vss.1.1.0 is i ++ [])))) ∷ []) ∙ ap (λ (p : Ptr). words_val p a.capacity ∷ []) at)))))))))))
+
+  -- takes [the places; the right]
+  pub slots_made : K → (g : Global) (r : Seen E) (b o n : ℕ) → Fits E r o n
+      → Step K 𝓛 (‵ ((Sr E).own_val r (slots_val b o n ∷ [])) ∷ Γ) G (‵ (places E r b o) ∷ ‵ (right E g r b o) ∷ Γ) G
+  slots_made t g r b o n ok = step (λ s.
+      let a : Inside (el_x E) = record { ptr = block_ptr b o; capacity = n; alloc = g; places = r.places; steps = r.steps } in
+      let vs : List Val = slots_val b o n ∷ [] in
+      fjoin t $ flt_i t (length r.places * item_size E + o) (2 ^ 63) ok.reach $ fjoin t $
+      nothing t $ use0 𝓛 (‵ (heap.the_row.own_val g (heap_val ∷ []))) (heap_made 𝓛 g) $ fjoin t $
+      flt_i t n (2 ^ 64) ok.word $ feq_i t (List Val) (vint w64 n ∷ []) (vint w64 n ∷ []) refl $ fjoin t $ fjoin t $
+      feq_i t (List Val) (vptr b o ∷ []) (vptr b o ∷ []) refl $ fjoin t $ feq_i t (List Val) vs vs refl $ fjoin t $
+      fpack t (Valss (shape (owning E)).fields) (within (shape (owning E)) (block_ptr b o, (n, (heap.the_type.to g, tt))) vs) (vptr b o ∷ [], (vint w64 n ∷ [], (heap_val ∷ [], tt))) $ fjoin t $
+      nothing t $ move t (1 ∷ 0 ∷ []) $ fjoin t $
+      fpack t ((x : Inside (el_x E)) × ((record { places = x.places; steps = x.steps } ≡ r) × (x.capacity ≡ length x.places))) (λ x. fsep ((inside.the_row (R E)).own_val x.0 vs) ftrue) (a, (refl, ok.capacity)) $ s)
+
+module _ (E : El) {M : Type 1} {𝓤 : Ura M} {𝓛 : Logic 𝓤} {K : Type 0} {Γ : List (Item 𝓤)} {G : Goal 𝓤 𝓛.H} where
+  -- a `&mut` is opened: [the places; the right; the words; the open borrow, in three]
+  pub slots_open : K → Soaks G → {κ : Lft} {q : Share} {γ : GName} (r : Seen E) (rb ro : ℕ)
+      → ((g : Global) (b o n : ℕ) → Fits E r o n
+      → Seq K 𝓛 (‵ (places E r b o) ∷ ‵ (right E g r b o) ∷ ‵ (cell_at full_share (Sr E).mir (slots_val b o n ∷ []) rb ro)
+      ∷ ‵ (fobor κ q (Borrowed (mem (Sr E)) rb ro γ)) ∷ ‵ (fobs γ ((Sr E).coded.code r)) ∷ ‵ (fauth γ ((Sr E).coded.code r)) ∷ Γ) G)
+      → Seq K 𝓛 (‵ (fobs γ ((Sr E).coded.code r)) ∷ ‵ (fbor κ (Borrowed (mem (Sr E)) rb ro γ)) ∷ ‵ (flft κ q) ∷ Γ) G
+  slots_open t z r rb ro then =
+      opens t z (Sr E) {h = r} rb ro (λ vs. move t (1 ∷ []) $ slots_apart E t r vs (λ g b o n ok is.
+      rewrite t 2 (λ (ws : List Val). ‵ (cell_at full_share (Sr E).mir ws rb ro)) is refl $ then g b o n ok))
+
+  -- and closed at the region r, of as many places
+  pub slots_close : K → Soaks G → {κ : Lft} {q : Share} {u v : Gv} {γ : GName} (g : Global) (r : Seen E) (b o n rb ro : ℕ) → Fits E r o n
+      → Step K 𝓛 (‵ (fobs γ ((Sr E).coded.code r)) ∷ ‵ (fbor κ (Borrowed (mem (Sr E)) rb ro γ)) ∷ ‵ (flft κ q) ∷ Γ) G
+      (‵ (places E r b o) ∷ ‵ (right E g r b o) ∷ ‵ (cell_at full_share (Sr E).mir (slots_val b o n ∷ []) rb ro) ∷ ‵ (fobor κ q (Borrowed (mem (Sr E)) rb ro γ)) ∷ ‵ (fobs γ u) ∷ ‵ (fauth γ v) ∷ Γ) G
+  slots_close t z g r b o n rb ro ok = step (λ s. slots_made E t g r b o n ok $ move t (1 ∷ 0 ∷ []) $ closes t z (Sr E) r (slots_val b o n ∷ []) rb ro $ s)
+
+module _ (E : El) where
+  -- the region with p in the place i, after the steps st
+  abbrev pub with_place : Seen E → ℕ → Place E → Steps → Seen E
+  with_place r i p st = record { places = set r.places i p; steps = st }
+
+  pub Fits-with_place : (r : Seen E) (i : ℕ) (p : Place E) (st : Steps) (o n : ℕ) → Fits E r o n → Fits E (with_place r i p st) o n
+  Fits-with_place r i p st o n ok =
+      let same : length r.places ≡ length (set r.places i p) = sym (length-set r.places i p) in
+      record { capacity = ok.capacity ∙ same; word = ok.word; reach = subst (λ k. k * item_size E + o < 2 ^ 63) same ok.reach }
+
+module _ (E : El) {M : Type 1} {𝓤 : Ura M} {𝓛 : Logic 𝓤} {K : Type 0} {Γ : List (Item 𝓤)} {G : Goal 𝓤 𝓛.H} where
+  -- closed with p in the i-th place: takes [that place; the others; the right; ..]
+  pub place_close : K → Soaks G → {κ : Lft} {q : Share} {u v : Gv} {γ : GName} (g : Global) (r : Seen E) (i : ℕ) (p : Place E) (st : Steps) (b o n rb ro : ℕ) → Fits E r o n → i < length r.places
+      → Step K 𝓛 (‵ (fobs γ ((Sr E).coded.code (with_place E r i p st))) ∷ ‵ (fbor κ (Borrowed (mem (Sr E)) rb ro γ)) ∷ ‵ (flft κ q) ∷ Γ) G
+      (‵ (place_owned (R E) b (i * item_size E + o) p) ∷ ‵ (Others E 𝓛 b o r.places i) ∷ ‵ (right E g r b o)
+      ∷ ‵ (cell_at full_share (Sr E).mir (slots_val b o n ∷ []) rb ro) ∷ ‵ (fobor κ q (Borrowed (mem (Sr E)) rb ro γ)) ∷ ‵ (fobs γ u) ∷ ‵ (fauth γ v) ∷ Γ) G
+  place_close t z g r i p st b o n rb ro ok lt = step (λ s.
+      let new : Seen E = with_place E r i p st in
+      use2 𝓛 (‵ (places E new b o)) (place_in E 𝓛 b o r.places i lt p) $ move t (1 ∷ []) $
+      rewrite t 0 (λ (m : ℕ). ‵ (right_to_free (R E) g m (block_ptr b o))) (sym (length-set r.places i p)) refl $ move t (1 ∷ 0 ∷ []) $
+      slots_close E t z g new b o n rb ro (Fits-with_place E r i p st o n ok) $ s)

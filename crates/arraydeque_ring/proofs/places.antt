@@ -1,0 +1,11 @@
+pub mod AndEmpty
+pub mod Cleared
+pub mod Crossed
+pub mod Emptied
+pub mod Filled
+pub mod GapMoves
+pub mod Gapped
+pub mod LaidOut
+pub mod Opened
+pub mod Swapped
+pub mod Turned

@@ -1,0 +1,14 @@
+use Rattle.std.proofs.Common.{◌≡◌, ◌+◌, ◌++◌, length, take, drop}
+use Rattle.arraydeque_ring.specs.Gaps.{run_emptied}
+use Rattle.arraydeque_ring.specs.Ring.{turned, values}
+use Rattle.arraydeque_ring.specs.Steps.{more_puts, more_takes}
+use Rattle.arraydeque_ring.proofs.ring.parts.take_run.Given as goal
+
+abbrev pub invariant-loop-k : goal.invariant-loop-k
+invariant-loop-k g l = let old = turned l.start l.initial.slots.places in record {
+  capacity : length l.slots.places ≡ l.capacity;
+  places : turned l.start l.slots.places ≡ run_emptied l.at l.k old;
+  steps : l.slots.steps ≡ more_takes l.k l.initial.slots.steps;
+  many : length l.taken.items ≡ length l.initial.taken.items + l.k;
+  taken : l.taken ≡ record l.initial.taken { items = l.initial.taken.items ++ values (take l.k (drop l.at old)); steps = more_puts l.k l.initial.taken.steps };
+}

@@ -1,0 +1,100 @@
+//! Parts of a ring that become rings of their own: the items of a range, and those from an index on.
+ghost use Rattle.std.specs.Prelude.{◌≡◌, ◌-◌, ◌+◌, ◌*◌, ◌<◌, ◌≤◌, ◌++◌, length, take, drop, slice_range, min, nat_lt, if◌then◌else◌, IfOk, OnOk, OnErr};
+ghost use Rattle.std.specs.List.{remove_range};
+ghost use Rattle.std.specs.Mem.{type_size};
+ghost use Rattle.arraydeque_ring.specs.Places.{IsFilledRun};
+ghost use Rattle.arraydeque_ring.specs.Ring.{place_of, turned, values};
+ghost use Rattle.arraydeque_ring.specs.Gaps.{run_emptied};
+ghost use Rattle.arraydeque_ring.specs.Steps.{no_steps, more_puts, more_takes, more_moves};
+
+use super::Ring;
+use super::moves::close_gap;
+use crate::slots::Slots;
+use crate::wrap::wrap_add;
+use std::alloc::AllocError;
+
+impl<T> Ring<T> {
+    /// Takes out the items from the index `from` up to `to`, which is not among them. The fewer
+    /// items on either side of them move: those before where they are the fewer, and the start with
+    /// them, else those behind. Nothing moves for an empty range.
+    ///
+    /// The items go into a ring of their own, whose region is taken first and has no place to
+    /// spare. Where that is refused nothing has changed. A range of no items, or of items of size
+    /// zero, takes no memory and is never refused.
+    pub fn drain(&mut self, from: usize, to: usize) -> Result<Ring<T>, AllocError>
+        requires in_order { from ≤ to }
+        requires in_bounds { to ≤ length self.old.items }
+        ensures drained { IfOk result (λ ring. ring ≡ record {
+          items = slice_range self.old.items from to;
+          capacity = to - from;
+          start = 0;
+          steps = more_puts (to - from) no_steps;
+        }) }
+        ensures items { OnOk result (self.new.items ≡ remove_range self.old.items from to) }
+        ensures capacity { OnOk result (self.new.capacity ≡ self.old.capacity) }
+        ensures start { OnOk result (self.new.start ≡
+            (if nat_lt from (length self.old.items - to)
+            then place_of self.old.start (to - from) self.old.capacity
+            else self.old.start)) }
+        ensures steps { OnOk result (self.new.steps ≡ more_moves
+            (if nat_lt from to then min from (length self.old.items - to) else 0)
+            (more_takes (to - from) self.old.steps)) }
+        ensures err { OnErr result (self.new ≡ self.old) }
+        ensures refused { OnErr result (0 < (to - from) * type_size T.row) }
+    {
+        let count = to - from;
+        let mut drained = Ring::new(self.alloc, count)?;
+        if count == 0 {
+            return Ok(drained);
+        }
+        take_run(&mut self.slots, self.start, from, count, &mut drained);
+        self.len -= count;
+        self.start = close_gap(&mut self.slots, self.start, from, count, self.len - from);
+        Ok(drained)
+    }
+
+    /// Takes out the items from the index `at` on, into a ring of the same capacity, whose region
+    /// is taken first. Where that is refused nothing has changed; it never is at capacity 0 or for
+    /// items of size zero. No kept item moves.
+    pub fn split_off(&mut self, at: usize) -> Result<Ring<T>, AllocError>
+        requires { at ≤ length self.old.items }
+        ensures split { IfOk result (λ ring. ring ≡ record {
+          items = drop at self.old.items;
+          capacity = self.old.capacity;
+          start = 0;
+          steps = more_puts (length self.old.items - at) no_steps;
+        }) }
+        ensures kept { OnOk result (self.new ≡ record self.old {
+          items = take at self.old.items;
+          steps = more_takes (length self.old.items - at) self.old.steps;
+        }) }
+        ensures err { OnErr result (self.new ≡ self.old) }
+        ensures refused { OnErr result (0 < self.old.capacity * type_size T.row) }
+    {
+        let mut rest = Ring::new(self.alloc, self.slots.capacity())?;
+        take_run(&mut self.slots, self.start, at, self.len - at, &mut rest);
+        self.len = at;
+        Ok(rest)
+    }
+}
+
+/// Takes the `len` values from the index `at` on out of the region, the first value first, and adds
+/// them to the items of `taken`. Indexes count from the place `start`, round the end.
+fn take_run<T>(slots: &mut Slots<T>, start: usize, at: usize, len: usize, taken: &mut Ring<T>)
+    requires in_region { start ≤ length slots.old.places - 1 }
+    requires filled { IsFilledRun (turned start slots.old.places) at len }
+    requires room { length taken.old.items + len ≤ taken.old.capacity }
+    ensures places { turned start slots.new.places ≡
+        run_emptied at len (turned start slots.old.places) }
+    ensures steps { slots.new.steps ≡ more_takes len slots.old.steps }
+    ensures taken { taken.new ≡ record taken.old {
+      items = taken.old.items ++ values (take len (drop at (turned start slots.old.places)));
+      steps = more_puts len taken.old.steps;
+    } }
+{
+    let capacity = slots.capacity();
+    for k in 0..len {
+        let item = slots.take(wrap_add(start, at + k, capacity));
+        taken.push_back(item);
+    }
+}

@@ -1,0 +1,64 @@
+//! Exchanges, and removals by an exchange.
+ghost use Rattle.std.specs.Prelude.{◌≡◌, ◌-◌, ◌<◌, length, take, drop, swap, slice_get, OnSome, IfNone, if◌then◌else◌, ◌==◌};
+ghost use Rattle.arraydeque_ring.specs.Ring.{place_of};
+ghost use Rattle.arraydeque_ring.specs.Steps.{more_takes, more_exchanges};
+
+use super::Ring;
+use crate::wrap::wrap_add;
+
+impl<T> Ring<T> {
+    /// Exchanges two items. Nothing happens where the two are one.
+    #[inline]
+    pub fn swap(&mut self, i: usize, j: usize)
+        requires i_in_bounds { i < length self.old.items }
+        requires j_in_bounds { j < length self.old.items }
+        ensures { self.new ≡ record self.old {
+          items = swap self.old.items i j;
+          steps = more_exchanges (if i == j then 0 else 1) self.old.steps;
+        } }
+    {
+        let capacity = self.slots.capacity();
+        let a = wrap_add(self.start, i, capacity);
+        let b = wrap_add(self.start, j, capacity);
+        self.slots.exchange(a, b);
+    }
+
+    /// Takes the item at an index off, if there is one, and puts the last item in its place, by one
+    /// exchange at most.
+    #[inline]
+    pub fn swap_remove_back(&mut self, index: usize) -> Option<T>
+        ensures value { result ≡ slice_get self.old.items index }
+        ensures taken { let last = length self.old.items - 1 in
+            OnSome result (self.new ≡ record self.old {
+              items = take last (swap self.old.items index last);
+              steps = more_takes 1 (more_exchanges (if index == last then 0 else 1) self.old.steps);
+            }) }
+        ensures none { IfNone result (self.new ≡ self.old) }
+    {
+        let len = self.len();
+        if index >= len {
+            return None;
+        }
+        self.swap(index, len - 1);
+        self.pop_back()
+    }
+
+    /// Takes the item at an index off, if there is one, and puts the first item in its place, by one
+    /// exchange at most. The start goes on to the next place.
+    #[inline]
+    pub fn swap_remove_front(&mut self, index: usize) -> Option<T>
+        ensures value { result ≡ slice_get self.old.items index }
+        ensures taken { OnSome result (self.new ≡ record self.old {
+          items = drop 1 (swap self.old.items index 0);
+          start = place_of self.old.start 1 self.old.capacity;
+          steps = more_takes 1 (more_exchanges (if index == 0 then 0 else 1) self.old.steps);
+        }) }
+        ensures none { IfNone result (self.new ≡ self.old) }
+    {
+        if index >= self.len() {
+            return None;
+        }
+        self.swap(index, 0);
+        self.pop_front()
+    }
+}

@@ -1,0 +1,111 @@
+//! The raw memory of a region: the one file with pointers.
+//!
+//! Each leaf changes what the places hold, or the memory that they lie in, and counts no step.
+ghost use Rattle.std.specs.Prelude.{◌≡◌, ◌*◌, ◌^◌, ◌<◌, slice_set, Some, None, IfOk};
+ghost use Rattle.std.specs.Borrow.{sem};
+ghost use Rattle.std.specs.Mem.{type_size};
+ghost use prog.Memory.{capped};
+ghost use Rattle.arraydeque_ring.specs.Lends.{lends_value};
+ghost use Rattle.arraydeque_ring.specs.Places.{empty_region, held_at, IsFilled, IsEmpty, HoldsRun, IsFilledRun, AreAllEmpty};
+
+use super::Slots;
+use std::alloc::{AllocError, Allocator, Global};
+use std::mem::{align_of, size_of};
+use std::slice;
+
+impl<T> Slots<T> {
+    /// Writes into an empty place.
+    pub(super) fn write(&mut self, place: usize, value: T)
+        requires { IsEmpty self.old.places place }
+        ensures { self.new ≡ record self.old {
+          places = slice_set self.old.places place (Some value);
+        } }
+    {
+        unsafe { self.ptr.add(place).write(value) }
+    }
+
+    /// Reads a place, which is empty from then on.
+    pub(super) fn read(&mut self, place: usize) -> T
+        requires { IsFilled self.old.places place }
+        ensures value { held_at self.old.places place ≡ Some result }
+        ensures region { self.new ≡ record self.old {
+          places = slice_set self.old.places place None;
+        } }
+    {
+        unsafe { self.ptr.add(place).read() }
+    }
+
+    /// Lends a place for writing.
+    pub(super) fn lend(&mut self, place: usize) -> &mut T
+        requires { IsFilled self.old.places place }
+        ensures* writes_back { sem 𝓛 (lends_value T.row self.entry place result) }
+        ensures value { held_at self.old.places place ≡ Some result.now }
+    {
+        unsafe { &mut *self.ptr.add(place) }
+    }
+
+    /// Lends a run of places for reading.
+    #[inline]
+    pub(super) fn run(&self, from: usize, len: usize) -> &[T]
+        requires { IsFilledRun self.now.places from len }
+        ensures { HoldsRun self.now.places from len result.now }
+    {
+        unsafe { slice::from_raw_parts(self.ptr.add(from), len) }
+    }
+
+    /// A region of no bytes, over no memory.
+    pub(super) fn without_memory(alloc: Global, capacity: usize) -> Slots<T>
+        requires { capacity * type_size T.row ≡ 0 }
+        ensures { result ≡ empty_region capacity }
+    {
+        let mut nothing: [T; 0] = [];
+        Slots {
+            ptr: &raw mut nothing as *mut T,
+            capacity,
+            alloc,
+        }
+    }
+
+    /// A region over memory that the allocator gives, all places empty.
+    pub(super) fn with_memory(
+        heap: &Global,
+        alloc: Global,
+        capacity: usize,
+    ) -> Result<Slots<T>, AllocError>
+        requires some_bytes { 0 < capacity * type_size T.row }
+        requires can_be_named { capacity * type_size T.row < 2 ^ 63 }
+        ensures { IfOk result (λ slots. slots ≡ empty_region capacity) }
+    {
+        match heap.allocate(capacity * size_of::<T>(), align_of::<T>()) {
+            Ok(block) => Ok(Slots {
+                ptr: block as *mut T,
+                capacity,
+                alloc,
+            }),
+            Err(refusal) => Err(refusal),
+        }
+    }
+
+    /// Gives the memory back to the allocator.
+    pub(super) fn give_back(self, heap: &Global)
+        requires { AreAllEmpty self.places }
+    {
+        let Slots {
+            ptr,
+            capacity,
+            alloc: _,
+        } = self;
+        if 0 < capacity * size_of::<T>() {
+            unsafe {
+                heap.deallocate(ptr as *mut u8, capacity * size_of::<T>(), align_of::<T>());
+            }
+        }
+    }
+}
+
+/// The bytes that an item takes.
+pub(super) fn size_of_item<T>() -> usize
+    ensures { result ≡ capped (type_size T.row) }
+{
+    size_of::<T>()
+}
