@@ -4,7 +4,6 @@ ghost use Rattle.arraydeque_ring.specs.Ring.{place_of};
 ghost use Rattle.arraydeque_ring.specs.Steps.{more_takes, more_exchanges};
 
 use super::Ring;
-use crate::wrap::wrap_add;
 
 impl<T> Ring<T> {
     /// Exchanges two items. Nothing happens where the two are one.
@@ -17,9 +16,8 @@ impl<T> Ring<T> {
           steps = more_exchanges (if i == j then 0 else 1) self.old.steps;
         } }
     {
-        let capacity = self.slots.capacity();
-        let a = wrap_add(self.start, i, capacity);
-        let b = wrap_add(self.start, j, capacity);
+        let a = self.place(i);
+        let b = self.place(j);
         self.slots.exchange(a, b);
     }
 
