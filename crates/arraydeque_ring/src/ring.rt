@@ -40,7 +40,8 @@ impl<T> Model for Ring<T> {
       steps = r.slots.steps;
     } };
 
-    ghost invariant = { λ r. (r.start ≤ length r.slots.places - 1) × FilledFrom r.start r.len (filled r.slots.places) };
+    ghost invariant = { λ r. (r.start ≤ length r.slots.places - 1)
+        × FilledFrom r.start r.len (filled r.slots.places) };
 }
 
 impl<T> Ring<T> {

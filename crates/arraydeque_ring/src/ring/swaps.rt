@@ -41,8 +41,8 @@ impl<T> Ring<T> {
         self.pop_back()
     }
 
-    /// Takes the item at an index off, if there is one, and puts the first item in its place, by one
-    /// exchange at most. The start goes on to the next place.
+    /// Takes the item at an index off, if there is one, and puts the first item in its place, by
+    /// one exchange at most. The start goes on to the next place.
     #[inline]
     pub fn swap_remove_front(&mut self, index: usize) -> Option<T>
         ensures value { result ≡ slice_get self.old.items index }
