@@ -1,6 +1,6 @@
 //! A whole list of calls on a deque, answered one by one.
 ghost use Rattle.std.specs.Prelude.{◌≡◌, ◌<◌, length, IfOk, IfErr, OnErr};
-ghost use Rattle.arraydeque.specs.Machine.{Step, answer_of, IsAlike};
+ghost use Rattle.arraydeque.specs.Machine.{Answers, answer_of, IsAlike};
 ghost use Rattle.arraydeque.specs.Policy.{Policy, saturating, wrapping};
 ghost use Rattle.arraydeque.specs.Run.{Run};
 
@@ -117,7 +117,7 @@ pub(crate) trait Answering<T, const CAP: usize>: Behavior {
 
     /// Makes one call of the deque and tells its answer. A refused call leaves the list as it was.
     fn answer(deque: &mut ArrayDeque<T, CAP, Self>, call: Call<T>) -> Reply<T, CAP, Self>
-        ensures { Step policy CAP deque.old.items call (answer_of result) deque.new.items };
+        ensures { Answers policy CAP deque.old.items call (answer_of result) deque.new.items };
 }
 
 impl<T: Drop, const CAP: usize> Answering<T, CAP> for Saturating {
@@ -127,7 +127,7 @@ impl<T: Drop, const CAP: usize> Answering<T, CAP> for Saturating {
         deque: &mut ArrayDeque<T, CAP, Saturating>,
         call: Call<T>,
     ) -> Reply<T, CAP, Saturating>
-        ensures { Step saturating CAP deque.old.items call (answer_of result) deque.new.items }
+        ensures { Answers saturating CAP deque.old.items call (answer_of result) deque.new.items }
     {
         match call {
             Call::PushFront(element) => match deque.push_front(element) {
@@ -155,7 +155,7 @@ impl<T: Drop, const CAP: usize> Answering<T, CAP> for Saturating {
                 deque.extend_front(elements);
                 Reply::Done
             }
-            call => deque.step_alike(call),
+            call => deque.answer_alike(call),
         }
     }
 }
@@ -164,7 +164,7 @@ impl<T: Drop, const CAP: usize> Answering<T, CAP> for Wrapping {
     ghost policy = { wrapping };
 
     fn answer(deque: &mut ArrayDeque<T, CAP, Wrapping>, call: Call<T>) -> Reply<T, CAP, Wrapping>
-        ensures { Step wrapping CAP deque.old.items call (answer_of result) deque.new.items }
+        ensures { Answers wrapping CAP deque.old.items call (answer_of result) deque.new.items }
     {
         match call {
             Call::PushFront(element) => Reply::Displaced(deque.push_front(element)),
@@ -178,16 +178,16 @@ impl<T: Drop, const CAP: usize> Answering<T, CAP> for Wrapping {
                 deque.extend_front(elements);
                 Reply::Done
             }
-            call => deque.step_alike(call),
+            call => deque.answer_alike(call),
         }
     }
 }
 
 impl<T: Drop, const CAP: usize, B: Behavior> ArrayDeque<T, CAP, B> {
     /// The calls that mean the same under every policy.
-    fn step_alike(&mut self, call: Call<T>) -> Reply<T, CAP, B>
+    fn answer_alike(&mut self, call: Call<T>) -> Reply<T, CAP, B>
         requires { IsAlike call }
-        ensures { (p : Policy) → Step p CAP self.old.items call (answer_of result) self.new.items }
+        ensures { (p : Policy) → Answers p CAP self.old.items call (answer_of result) self.new.items }
     {
         match call {
             Call::PopFront => Reply::Item(self.pop_front()),
@@ -215,11 +215,11 @@ impl<T: Drop, const CAP: usize, B: Behavior> ArrayDeque<T, CAP, B> {
                 self.fill_back(elements);
                 Reply::Done
             }
-            Call::Drain(start, end) => {
-                if start > end || end > self.len() {
+            Call::Drain(from, to) => {
+                if from > to || to > self.len() {
                     return Reply::OutOfRange(None);
                 }
-                match self.drain(start..end) {
+                match self.drain(from..to) {
                     Ok(drained) => Reply::Drained(drained),
                     Err(_) => Reply::NoMemory,
                 }

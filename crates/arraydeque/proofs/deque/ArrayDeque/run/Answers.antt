@@ -3,7 +3,7 @@ use Rattle.std.proofs.lemmas.Iterator.Adapters.{YieldsList-from_vec}
 use Rattle.std.proofs.lemmas.Iterator.Consumers.{YieldsList-end}
 use Rattle.std.proofs.lemmas.List.{map-id}
 use Rattle.arraydeque.specs.Run.{Run}
-use Rattle.arraydeque.proofs.Runs.{Run-push}
+use Rattle.arraydeque.proofs.MachineRuns.{Run-push}
 use Rattle.arraydeque.proofs.deque.ArrayDeque.run.Goals as goal
 
 pub loop-call-preserved : goal.loop-call-preserved

@@ -4,8 +4,8 @@ use Rattle.arraydeque.proofs.Alike.{IsAlike-rest}
 use Rattle.arraydeque.proofs.Taken.{Takes-vec}
 use Rattle.arraydeque.proofs.run.SaturatingAnswering.answer.Goals as goal
 
-pub step_alike-requires : goal.step_alike-requires
-step_alike-requires g c =
+pub answer_alike-requires : goal.answer_alike-requires
+answer_alike-requires g c =
     let other = c.in_default in
     let alike = IsAlike-rest c.args.call other.not-PushFront other.not-PushBack other.not-Insert other.not-ExtendBack other.not-ExtendFront in
     assumption alike
