@@ -1,3 +1,4 @@
+pub mod Compared
 pub mod Deque
 pub mod DequeLends
 pub mod Machine
