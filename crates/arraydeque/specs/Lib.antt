@@ -1,3 +1,4 @@
+pub mod Cloned
 pub mod Compared
 pub mod Deque
 pub mod DequeLends

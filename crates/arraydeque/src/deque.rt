@@ -12,6 +12,7 @@ use std::fmt;
 use std::marker::{Model, PhantomData};
 
 mod access;
+mod clone;
 mod compare;
 mod extend;
 mod makers;
