@@ -1,3 +1,5 @@
+pub mod Cloned
+pub mod Compared
 pub mod Deque
 pub mod DequeLends
 pub mod Machine
