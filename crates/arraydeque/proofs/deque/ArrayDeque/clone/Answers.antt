@@ -7,14 +7,14 @@ use Rattle.arraydeque.proofs.deque.ArrayDeque.clone.Goals as goal
 pub clone_back-requires : goal.clone_back-requires
 clone_back-requires g c =
     let slices = c.as_slices.result in
-    let same = same_first g.T.Clone.is_clone slices.0.now slices.1.now (rw c.as_slices.ensures.joined c.requires) in
+    let same = same_first slices.0.now slices.1.now g.T.Clone.is_clone (rw c.as_slices.ensures.joined c.requires) in
     let long = simp length-append at (ap length c.as_slices.ensures.joined) in
     grind (arith, common_steps)
 
 pub clone_back-requires-2 : goal.clone_back-requires-2
 clone_back-requires-2 g c =
     let slices = c.as_slices.result in
-    let same = same_second g.T.Clone.is_clone slices.0.now slices.1.now (rw c.as_slices.ensures.joined c.requires) in
+    let same = same_second slices.0.now slices.1.now g.T.Clone.is_clone (rw c.as_slices.ensures.joined c.requires) in
     let long = simp length-append at (ap length c.as_slices.ensures.joined) in
     grind (arith, common_steps)
 

@@ -1,9 +1,8 @@
 use Rattle.std.proofs.Common.{sym, arith}
 use Rattle.std.proofs.lemmas.Grind.{common_steps}
-use Rattle.arraydeque.proofs.Clones.{same_at}
 use Rattle.arraydeque.proofs.deque.ArrayDeque.clone_back.Goals as goal
 
 pub loop-item-preserved : goal.loop-item-preserved
 loop-item-preserved g c =
-    let same = same_at g.T.Clone.is_clone c.args.items.now c.loop-item.item-index _ _ c.requires.same c.loop-item-test.true (sym c.item-item.is) c.in_ok-clone.ensures.cases in
+    let same = c.requires.same _ _ (c.loop-item.item-index, c.loop-item-test.true, sym c.item-item.is) c.in_ok-clone.ensures.cases in
     grind (arith, common_steps)
