@@ -1,9 +1,9 @@
 //! The deque: a ring of at most `CAP` items under a policy.
 ghost use Rattle.std.specs.Prelude.{◌≡◌, ◌-◌, ◌*◌, ◌+◌, ◌<◌, ◌≤◌, ◌==◌, ◌++◌, [], length, take, drop, slice_get, IfOk, OnErr, OnSome, IfNone};
 ghost use Rattle.std.specs.Mem.{type_size};
-ghost use Rattle.arraydeque_ring.specs.Ring.{place_of};
+ghost use Rattle.arraydeque_ring.specs.Ring.{place_of, IsInOnePiece};
 ghost use Rattle.arraydeque_ring.specs.Steps.{more_takes};
-ghost use Rattle.arraydeque.specs.Deque.{empty_deque, last_item};
+ghost use Rattle.arraydeque.specs.Deque.{empty_deque, as_ring, last_item};
 
 use crate::behavior::Behavior;
 use arraydeque_ring::ring::Ring;
@@ -12,6 +12,7 @@ use std::marker::{Model, PhantomData};
 
 mod access;
 mod extend;
+mod linearize;
 mod makers;
 mod moves;
 mod parts;
@@ -123,7 +124,7 @@ impl<T, const CAP: usize, B: Behavior> ArrayDeque<T, CAP, B> {
     #[inline]
     pub fn as_slices(&self) -> (&[T], &[T])
         ensures joined { result.0.now ++ result.1.now ≡ self.now.items }
-        ensures one_piece { self.now.start + length self.now.items ≤ CAP → result.1.now ≡ [] }
+        ensures one_piece { IsInOnePiece (as_ring CAP self.now) → result.1.now ≡ [] }
     {
         self.ring.as_slices()
     }

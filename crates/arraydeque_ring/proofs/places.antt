@@ -2,6 +2,7 @@ pub mod AndEmpty
 pub mod Cleared
 pub mod Crossed
 pub mod Emptied
+pub mod Exchanged
 pub mod Filled
 pub mod GapMoves
 pub mod Gapped
@@ -9,3 +10,4 @@ pub mod LaidOut
 pub mod Opened
 pub mod Swapped
 pub mod Turned
+pub mod Underway

@@ -1,4 +1,5 @@
 pub mod Counted
+pub mod Exchanged
 pub mod Gaps
 pub mod Lends
 pub mod Ownership

@@ -1,5 +1,5 @@
 -- A list in the places of a region, round the region's end.
-use Rattle.std.specs.Prelude.{◌≡◌, ℕ, ◌+◌, ◌-◌, ◌%◌, List, [], ◌∷◌, ◌++◌, length, map, take, drop, replicate, Option, Some, None, Bool, true, false, is_some}
+use Rattle.std.specs.Prelude.{◌≡◌, ℕ, ◌+◌, ◌-◌, ◌%◌, ◌≤◌, List, [], ◌∷◌, ◌++◌, length, map, take, drop, replicate, Option, Some, None, Bool, true, false, is_some}
 use Rattle.arraydeque_ring.specs.Steps.{Steps, no_steps}
 
 -- a ring: its items from front to back, how many there may be, the place of the first, and the
@@ -17,6 +17,10 @@ place_of start k capacity = (start + k) % capacity
 module _ {X : Type 0} where
   abbrev pub empty_ring : ℕ → RingState X
   empty_ring n = record { items = []; capacity = n; start = 0; steps = no_steps }
+
+  -- the list lies in one piece: from its start on, it ends at or before the region's end
+  abbrev pub IsInOnePiece : RingState X → Type 0
+  IsInOnePiece ring = ring.start + length ring.items ≤ ring.capacity
 
   -- the list read from the index `start` on, and on from its first element at its end
   abbrev pub turned : ℕ → List X → List X

@@ -1,5 +1,5 @@
 -- The steps that a region has made: five counts that cost nothing at run time.
-use Rattle.std.specs.Prelude.{ℕ, ◌+◌}
+use Rattle.std.specs.Prelude.{◌≡◌, ℕ, ◌+◌, ◌≤◌}
 
 pub record Steps : Type 0 where
   pub puts : ℕ
@@ -30,3 +30,8 @@ more_exchanges n s = record s { exchanges = s.exchanges + n }
 -- values were lent for writing n times more
 abbrev pub more_lends : ℕ → Steps → Steps
 more_lends n s = record s { lends = s.lends + n }
+
+-- n moves and exchanges more at most, taken together, and no other step
+abbrev pub Rearranges : ℕ → Steps → Steps → Type 0
+Rearranges n old new =
+    (m : ℕ) × (e : ℕ) × (m + e ≤ n) × (new ≡ more_moves m (more_exchanges e old))

@@ -6,9 +6,10 @@ ghost use Rattle.std.specs.Prelude.{◌≡◌, ◌-◌, ◌*◌, ◌+◌, ◌^�
 ghost use Rattle.std.specs.Borrow.{sem};
 ghost use Rattle.std.specs.Mem.{type_size};
 ghost use Rattle.std.specs.Option.{option_copied_mut};
-ghost use Rattle.arraydeque_ring.specs.Ring.{empty_ring, place_of};
+ghost use Rattle.arraydeque_ring.specs.Ring.{empty_ring, place_of, IsInOnePiece};
 ghost use Rattle.arraydeque_ring.specs.Steps.{more_puts, more_takes};
 
+mod linearize;
 mod moves;
 mod parts;
 mod retain;
@@ -185,7 +186,7 @@ impl<T> Ring<T> {
     #[inline]
     pub fn as_slices(&self) -> (&[T], &[T])
         ensures joined { result.0.now ++ result.1.now ≡ self.now.items }
-        ensures one_piece { self.now.start + length self.now.items ≤ self.now.capacity → result.1.now ≡ [] }
+        ensures one_piece { IsInOnePiece self.now → result.1.now ≡ [] }
     {
         let to_end = self.slots.capacity() - self.start;
         if self.len <= to_end {

@@ -3,11 +3,12 @@
 //!
 //! A contract sees a [`Slots`] as what each place holds and as the steps made so far. The steps are
 //! counted for contracts alone: they take no bytes.
-ghost use Rattle.std.specs.Prelude.{◌≡◌, ◌*◌, ◌<◌, List, Option, Some, None, length, slice_set, swap, if◌then◌else◌, ◌==◌, IfOk, OnErr};
+ghost use Rattle.std.specs.Prelude.{◌≡◌, ◌*◌, ◌+◌, ◌<◌, ◌≤◌, List, Option, Some, None, length, slice_set, swap, if◌then◌else◌, ◌==◌, IfOk, OnErr};
 ghost use Rattle.std.specs.Borrow.{sem};
 ghost use Rattle.std.specs.Mem.{type_size};
 ghost use Rattle.arraydeque_ring.specs.Places.{empty_region, held_at, IsFilled, IsEmpty, HoldsRun, IsFilledRun, AreAllEmpty};
 ghost use Rattle.arraydeque_ring.specs.Counted.{counted};
+ghost use Rattle.arraydeque_ring.specs.Exchanged.{runs_exchanged};
 ghost use Rattle.arraydeque_ring.specs.Steps.{Steps, more_puts, more_takes, more_moves, more_exchanges};
 
 mod raw;
@@ -15,6 +16,7 @@ mod raw;
 use raw::size_of_item;
 use std::alloc::{AllocError, Global};
 use std::marker::{Model, Send, Sync};
+use std::mem::replace;
 
 /// A kind of step that is counted.
 #[derive(Clone, Copy)]
@@ -143,6 +145,36 @@ impl<T> Slots<T> {
         self.write(a, right);
         self.write(b, left);
         self.count(StepKind::Exchange, 1);
+    }
+
+    /// Exchanges the values in the `len` places from `a` on with those in the `len` places from `b`
+    /// on, which come later: the first with the first, and so on.
+    pub(crate) fn exchange_runs(&mut self, a: usize, b: usize, len: usize)
+        requires apart { a + len ≤ b }
+        requires a_filled { IsFilledRun self.old.places a len }
+        requires b_filled { IsFilledRun self.old.places b len }
+        ensures places { self.new.places ≡ runs_exchanged a b len self.old.places }
+        ensures steps { self.new.steps ≡ more_exchanges len self.old.steps }
+    {
+        let alloc = self.alloc;
+        let region = replace(self, Slots::without_memory(alloc, 0));
+        let _nothing = replace(self, region.with_runs_exchanged(a, b, len));
+    }
+
+    /// The same. It takes the region by value, so that the loop need not look up its memory anew
+    /// for each pair.
+    fn with_runs_exchanged(self, a: usize, b: usize, len: usize) -> Slots<T>
+        requires apart { a + len ≤ b }
+        requires a_filled { IsFilledRun self.places a len }
+        requires b_filled { IsFilledRun self.places b len }
+        ensures places { result.places ≡ runs_exchanged a b len self.places }
+        ensures steps { result.steps ≡ more_exchanges len self.steps }
+    {
+        let mut slots = self;
+        for k in 0..len {
+            slots.exchange(a + k, b + k);
+        }
+        slots
     }
 
     /// The value in a place.

@@ -1,9 +1,10 @@
 -- Places as a list: what is filled, and what a run of empty places has behind it.
 use Rattle.std.proofs.Common.{◌≡◌, ◌≢◌, ℕ, zero, suc, ◌+◌, ◌<◌, inl, inr, List, [], ◌∷◌, ◌++◌, length, drop, set, get_or, replicate, swap, Option, Some, None, refl, sym, ap, ◌∙◌, arith}
-use Rattle.std.proofs.lemmas.List.{length-append, length-replicate, length-map, length-take-le, length-drop, append_assoc, get_or_at, get_or-take, get_or-drop, get_or-map, get_or-set_other, set_at, set-set, set_comm}
+use Rattle.std.proofs.lemmas.List.{length-append, length-replicate, length-map, length-take-le, length-drop, append_assoc, get_or_at, get_or-take, get_or-drop, get_or-map, get_or-replicate, get_or-set_other, set_at, set-set, set_comm}
 use Rattle.std.proofs.lemmas.List.Edits.{swap_is}
 use Rattle.std.proofs.lemmas.Option.{slice_get_cases}
 use Rattle.arraydeque_ring.specs.Places.{IsFilled, HoldsRun, IsFilledRun}
+use Rattle.arraydeque_ring.specs.Gaps.{IsEmptyRun}
 
 module _ {X : Type 0} where
   -- a filled place is one of the region's
@@ -30,6 +31,11 @@ module _ {X : Type 0} where
         | inl at ↦ (at.0, sym (get_or-take len (drop from ps) k None lt ∙ get_or-drop from ps k None) ∙ ap (λ l. get_or l k None) run.1.1 ∙ get_or-map Some xs k at.0 None at.1 ∙ ap Some at.3)
         | inr past ↦ absurd (omega arith)
       ]
+
+  -- each place of an empty run is empty
+  pub empty_in_run : (ps : List (Option X)) (from len k : ℕ) → IsEmptyRun ps from len → k < len → get_or ps (from + k) None ≡ None
+  empty_in_run ps from len k run lt =
+      sym (get_or-take len (drop from ps) k None lt ∙ get_or-drop from ps k None) ∙ ap (λ l. get_or l k None) run.1 ∙ get_or-replicate len k None None lt
 
   -- two values that are taken out and put into each other's place
   pub exchanged : (ps : List (Option X)) (i j : ℕ) (x y : X) → i ≢ j → get_or ps i None ≡ Some x → get_or (set ps i None) j None ≡ Some y

@@ -8,10 +8,10 @@ module _ {X : Type 0} where
   pub length_three : (front run rest : List X) → length (front ++ (run ++ rest)) ≡ length front + length run + length rest
   length_three front run rest = omega (arith, length-append front (run ++ rest), length-append run rest)
 
-  drop_two : (front run rest : List X) (at n : ℕ) → length front ≡ at → length run ≡ n → drop (at + n) (front ++ (run ++ rest)) ≡ rest
+  pub drop_two : (front run rest : List X) (at n : ℕ) → length front ≡ at → length run ≡ n → drop (at + n) (front ++ (run ++ rest)) ≡ rest
   drop_two front run rest at n a b = sym (drop-drop n at (front ++ (run ++ rest))) ∙ ap (drop n) (drop_at front (run ++ rest) at a) ∙ drop_at run rest n b
 
-  run_at : (front run rest : List X) (at n : ℕ) → length front ≡ at → length run ≡ n → take n (drop at (front ++ (run ++ rest))) ≡ run
+  pub run_at : (front run rest : List X) (at n : ℕ) → length front ≡ at → length run ≡ n → take n (drop at (front ++ (run ++ rest))) ≡ run
   run_at front run rest at n a b = ap (take n) (drop_at front (run ++ rest) at a) ∙ take_at run rest n b
 
   -- two runs that follow each other change places

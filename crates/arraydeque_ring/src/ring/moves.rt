@@ -93,7 +93,13 @@ pub(super) fn close_gap<T>(
 
 /// Moves the `len` values behind the `gap` empty places from the index `at` on to the front of
 /// these, the first value first. Indexes count from the place `start`, round the end.
-fn shift_earlier<T>(slots: &mut Slots<T>, start: usize, at: usize, len: usize, gap: usize)
+pub(super) fn shift_earlier<T>(
+    slots: &mut Slots<T>,
+    start: usize,
+    at: usize,
+    len: usize,
+    gap: usize,
+)
     requires in_region { start < length slots.old.places }
     requires some { 0 < gap }
     requires empty { IsEmptyRun (turned start slots.old.places) at gap }
@@ -112,7 +118,7 @@ fn shift_earlier<T>(slots: &mut Slots<T>, start: usize, at: usize, len: usize, g
 
 /// Moves the `len` values from the index `at` on behind the `gap` empty places that follow them,
 /// the last value first. Indexes count from the place `start`, round the end.
-fn shift_later<T>(slots: &mut Slots<T>, start: usize, at: usize, len: usize, gap: usize)
+pub(super) fn shift_later<T>(slots: &mut Slots<T>, start: usize, at: usize, len: usize, gap: usize)
     requires in_region { start < length slots.old.places }
     requires some { 0 < gap }
     requires filled { IsFilledRun (turned start slots.old.places) at len }

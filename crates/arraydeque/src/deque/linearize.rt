@@ -1,0 +1,24 @@
+//! Laying the list in one piece.
+ghost use Rattle.std.specs.Prelude.{◌≡◌, length};
+ghost use Rattle.arraydeque_ring.specs.Ring.{IsInOnePiece};
+ghost use Rattle.arraydeque_ring.specs.Steps.{Rearranges};
+ghost use Rattle.arraydeque.specs.Deque.{as_ring};
+
+use super::ArrayDeque;
+use crate::behavior::Behavior;
+
+impl<T, const CAP: usize, B: Behavior> ArrayDeque<T, CAP, B> {
+    /// Lays the list in one piece, so that the first slice of `as_slices` has all items. Nothing
+    /// happens where it lies in one piece already.
+    ///
+    /// In place: no memory is taken, and there are no more moves and exchanges than items.
+    pub fn linearize(&mut self)
+        ensures items { self.new.items ≡ self.old.items }
+        ensures one_piece { IsInOnePiece (as_ring CAP self.new) }
+        ensures start { ¬ IsInOnePiece (as_ring CAP self.old) → self.new.start ≡ 0 }
+        ensures steps { Rearranges (length self.old.items) self.old.steps self.new.steps }
+        ensures unchanged { IsInOnePiece (as_ring CAP self.old) → self.new ≡ self.old }
+    {
+        self.ring.linearize();
+    }
+}

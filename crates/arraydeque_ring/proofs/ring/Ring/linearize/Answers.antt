@@ -1,0 +1,51 @@
+use Rattle.std.proofs.Common.{length, refl, sym, ap, subst, ◌∙◌, arith}
+use Rattle.std.proofs.lemmas.List.{append-nil}
+use Rattle.arraydeque_ring.specs.Ring.{IsInOnePiece}
+use Rattle.arraydeque_ring.proofs.places.LaidOut.{length_within, values-LaidOut}
+use Rattle.arraydeque_ring.proofs.places.Opened.{Opened, opened, closed, kept}
+use Rattle.arraydeque_ring.proofs.places.Turned.{length-turned}
+use Rattle.arraydeque_ring.proofs.ring.Ring.linearize.Given.{Over}
+use Rattle.arraydeque_ring.proofs.ring.Ring.linearize.Goals.{After-turn}
+use Rattle.arraydeque_ring.proofs.ring.Ring.linearize.Goals as goal
+
+after : (g : Over) (c : After-turn g) → Opened record { slots = c.turn.new.slots; start = 0; len = c.self.inside.len; alloc = c.self.inside.alloc } record c.args.self.now { start = 0; steps = c.turn.new.slots.steps }
+after g c =
+    let ring = opened c.self.inside c.self.invariant c.self.view_is in
+    record {
+      laid = record {
+        long = ap length c.turn.ensures.places ∙ length-turned c.self.inside.start c.self.inside.slots.places ∙ ring.laid.long;
+        in_region = omega arith;
+        is = append-nil c.turn.new.slots.places ∙ c.turn.ensures.places ∙ ring.laid.is;
+      };
+      len = ring.len;
+      start = refl;
+      steps = refl;
+    }
+
+pub returns-then-self-capacity-clause-one_piece : goal.returns-then-self-capacity-clause-one_piece
+returns-then-self-capacity-clause-one_piece g c =
+    let ring = opened c.self.inside c.self.invariant c.self.view_is in
+    omega (arith, ring.laid.long, ring.laid.in_region, length_within ring.laid, ring.len, ring.start)
+
+pub returns-then-self-capacity-clause-start : goal.returns-then-self-capacity-clause-start
+returns-then-self-capacity-clause-start g c =
+    let ring = opened c.self.inside c.self.invariant c.self.view_is in
+    λ wraps. absurd (wraps (omega (arith, ring.laid.long, ring.laid.in_region, length_within ring.laid, ring.len, ring.start)))
+
+pub invariant_of-self : goal.invariant_of-self
+invariant_of-self g c = kept (after g (goal.at.invariant_of-self g c).After-turn)
+
+pub returns-clause-one_piece : goal.returns-clause-one_piece
+returns-clause-one_piece g c =
+    let ring = opened c.self.inside c.self.invariant c.self.view_is in
+    subst IsInOnePiece (sym (closed (after g (goal.at.returns-clause-one_piece g c).After-turn))) (omega (arith, length_within ring.laid))
+
+pub returns-clause-steps : goal.returns-clause-steps
+returns-clause-steps g c =
+    let ring = opened c.self.inside c.self.invariant c.self.view_is in
+    rw (ring.len, ← ring.steps) c.turn.ensures.steps
+
+pub returns-clause-unchanged : goal.returns-clause-unchanged
+returns-clause-unchanged g c =
+    let ring = opened c.self.inside c.self.invariant c.self.view_is in
+    λ in_one_piece. absurd (omega (arith, ring.laid.long, ring.len, ring.start))

@@ -1,0 +1,13 @@
+use Rattle.std.proofs.Common.{◌-◌}
+use Rattle.arraydeque_ring.specs.Steps.{Rearranges}
+use Rattle.arraydeque_ring.proofs.places.Underway.{Turning}
+use Rattle.arraydeque_ring.proofs.ring.linearize.turn.Given as goal
+
+abbrev pub invariant-loop-next : goal.invariant-loop-next
+invariant-loop-next g l = record {
+  walk : Turning l.capacity l.start l.len l.dst l.next l.initial.slots.places l.slots.places;
+  steps : Rearranges l.dst l.initial.slots.steps l.slots.steps;
+}
+
+abbrev pub decreases-loop-next : goal.decreases-loop-next
+decreases-loop-next g l = l.len - l.dst

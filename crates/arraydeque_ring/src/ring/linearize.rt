@@ -1,0 +1,99 @@
+//! Laying the list in one piece, in place.
+ghost use Rattle.std.specs.Prelude.{◌≡◌, ◌+◌, ◌-◌, ◌<◌, ◌≤◌, ◌⊎◌, ◌==◌, length, if◌then◌else◌};
+ghost use Rattle.arraydeque_ring.specs.Exchanged.{runs_exchanged};
+ghost use Rattle.arraydeque_ring.specs.Gaps.{IsEmptyRun, runs_swapped};
+ghost use Rattle.arraydeque_ring.specs.Places.{IsFilledRun};
+ghost use Rattle.arraydeque_ring.specs.Ring.{IsInOnePiece, turned, filled, FilledFrom};
+ghost use Rattle.arraydeque_ring.specs.Steps.{more_moves, Rearranges};
+
+use super::Ring;
+use super::moves::{shift_earlier, shift_later};
+use crate::slots::Slots;
+
+impl<T> Ring<T> {
+    /// Lays the list in one piece that starts at the first place, by no more moves and exchanges
+    /// than there are items. Nothing happens where it lies in one piece already, wherever that is.
+    pub fn linearize(&mut self)
+        ensures items { self.new.items ≡ self.old.items }
+        ensures capacity { self.new.capacity ≡ self.old.capacity }
+        ensures one_piece { IsInOnePiece self.new }
+        ensures start { ¬ IsInOnePiece self.old → self.new.start ≡ 0 }
+        ensures steps { Rearranges (length self.old.items) self.old.steps self.new.steps }
+        ensures unchanged { IsInOnePiece self.old → self.new ≡ self.old }
+    {
+        if self.len <= self.slots.capacity() - self.start {
+            return;
+        }
+        turn(&mut self.slots, self.start, self.len);
+        self.start = 0;
+    }
+}
+
+/// Turns the region, in which `len` values stand from the place `start` on, round the end, so that
+/// they stand from the first place on.
+fn turn<T>(slots: &mut Slots<T>, start: usize, len: usize)
+    requires in_region { start < length slots.old.places }
+    requires filled { FilledFrom start len (filled slots.old.places) }
+    ensures places { slots.new.places ≡ turned start slots.old.places }
+    ensures steps { Rearranges len slots.old.steps slots.new.steps }
+{
+    let capacity = slots.capacity();
+    // The values before `dst` are in their places. Of the others the first stand from `next` to the
+    // end, and the rest, wrapped, from `dst` on.
+    let mut dst = 0;
+    let mut next = start;
+    while next < len && capacity - next < len - dst {
+        let first = capacity - next;
+        let run = first.min(next - dst);
+        let wrapped = (len - dst - first).min(run);
+        slots.exchange_runs(dst, next, wrapped);
+        move_run(slots, dst + wrapped, next + wrapped, run - wrapped);
+        dst += run;
+        if run < first {
+            next += run;
+        }
+    }
+    place_rest(slots, dst, next, len);
+}
+
+/// Brings the values that aren't in their places yet to these by moves alone: they stand in one
+/// piece from `next` on, or there is room before `next` for those that stand before it.
+fn place_rest<T>(slots: &mut Slots<T>, dst: usize, next: usize, len: usize)
+    requires in_order { dst ≤ next }
+    requires in_region { next < length slots.old.places }
+    requires some_left { dst ≤ len }
+    requires room { (len - dst ≤ length slots.old.places - next) ⊎ (len ≤ next) }
+    requires filled { let gap = next - dst in let behind = length slots.old.places - next in
+        FilledFrom 0 len (filled (runs_swapped dst gap behind slots.old.places)) }
+    ensures places { let gap = next - dst in let behind = length slots.old.places - next in
+        slots.new.places ≡ runs_swapped dst gap behind slots.old.places }
+    ensures steps { slots.new.steps ≡ more_moves (if dst == next then 0 else len - dst) slots.old.steps }
+{
+    if dst == next {
+        return;
+    }
+    let first = slots.capacity() - next;
+    let left = len - dst;
+    if left <= first {
+        shift_earlier(slots, 0, dst, left, next - dst);
+    } else {
+        shift_later(slots, 0, dst, left - first, first);
+        move_run(slots, dst, next, first);
+    }
+}
+
+/// Moves the values in the `len` places from `src` on to the empty places from `dst` on, which come
+/// before: the first to the first, and so on.
+fn move_run<T>(slots: &mut Slots<T>, dst: usize, src: usize, len: usize)
+    requires apart { dst + len ≤ src }
+    requires empty { IsEmptyRun slots.old.places dst len }
+    requires filled { IsFilledRun slots.old.places src len }
+    ensures places { slots.new.places ≡ runs_exchanged dst src len slots.old.places }
+    ensures steps { slots.new.steps ≡ more_moves len slots.old.steps }
+{
+    // That a sum of places fits a word is what `capacity` promises.
+    let _capacity = slots.capacity();
+    for k in 0..len {
+        slots.shift(dst + k, src + k);
+    }
+}
