@@ -1,5 +1,6 @@
 //! A whole list of calls on a deque, answered one by one.
 ghost use Rattle.std.specs.Prelude.{◌≡◌, ◌<◌, length, IfOk, IfErr, OnErr};
+ghost use Rattle.arraydeque.specs.Costs.{CallCosts, RunCosts};
 ghost use Rattle.arraydeque.specs.Machine.{Answers, answer_of, IsAlike};
 ghost use Rattle.arraydeque.specs.Policy.{Policy, saturating, wrapping};
 ghost use Rattle.arraydeque.specs.Run.{Run};
@@ -94,6 +95,8 @@ impl<T: Drop, const CAP: usize, B: Answering<T, CAP>> ArrayDeque<T, CAP, B> {
     ) -> Result<Vec<Reply<T, CAP, B>>, MakeError<Vec<Call<T>>>>
         ensures ok { IfOk result (λ replies.
             Run B.policy self.old.items calls.items replies.items self.new.items) }
+        ensures costs { IfOk result (λ replies.
+            RunCosts B.policy self.old calls.items replies.items self.new) }
         ensures calls_come_back { IfErr result (λ refusal. refusal.source ≡ calls) }
         ensures unchanged { OnErr result (self.new ≡ self.old) }
         ensures some_calls { OnErr result (0 < length calls.items) }
@@ -117,7 +120,9 @@ pub(crate) trait Answering<T, const CAP: usize>: Behavior {
 
     /// Makes one call of the deque and tells its answer. A refused call leaves the list as it was.
     fn answer(deque: &mut ArrayDeque<T, CAP, Self>, call: Call<T>) -> Reply<T, CAP, Self>
-        ensures { Answers policy CAP deque.old.items call (answer_of result) deque.new.items };
+        ensures answers { Answers policy CAP deque.old.items call (answer_of result)
+            deque.new.items }
+        ensures costs { CallCosts call (answer_of result) deque.old deque.new };
 }
 
 impl<T: Drop, const CAP: usize> Answering<T, CAP> for Saturating {
@@ -127,7 +132,9 @@ impl<T: Drop, const CAP: usize> Answering<T, CAP> for Saturating {
         deque: &mut ArrayDeque<T, CAP, Saturating>,
         call: Call<T>,
     ) -> Reply<T, CAP, Saturating>
-        ensures { Answers saturating CAP deque.old.items call (answer_of result) deque.new.items }
+        ensures answers { Answers saturating CAP deque.old.items call (answer_of result)
+            deque.new.items }
+        ensures costs { CallCosts call (answer_of result) deque.old deque.new }
     {
         match call {
             Call::PushFront(element) => match deque.push_front(element) {
@@ -164,7 +171,9 @@ impl<T: Drop, const CAP: usize> Answering<T, CAP> for Wrapping {
     ghost policy = { wrapping };
 
     fn answer(deque: &mut ArrayDeque<T, CAP, Wrapping>, call: Call<T>) -> Reply<T, CAP, Wrapping>
-        ensures { Answers wrapping CAP deque.old.items call (answer_of result) deque.new.items }
+        ensures answers { Answers wrapping CAP deque.old.items call (answer_of result)
+            deque.new.items }
+        ensures costs { CallCosts call (answer_of result) deque.old deque.new }
     {
         match call {
             Call::PushFront(element) => Reply::Displaced(deque.push_front(element)),
@@ -187,7 +196,9 @@ impl<T: Drop, const CAP: usize, B: Behavior> ArrayDeque<T, CAP, B> {
     /// The calls that mean the same under every policy.
     fn answer_alike(&mut self, call: Call<T>) -> Reply<T, CAP, B>
         requires { IsAlike call }
-        ensures { (p : Policy) → Answers p CAP self.old.items call (answer_of result) self.new.items }
+        ensures answers { (p : Policy) →
+            Answers p CAP self.old.items call (answer_of result) self.new.items }
+        ensures costs { CallCosts call (answer_of result) self.old self.new }
     {
         match call {
             Call::PopFront => Reply::Item(self.pop_front()),

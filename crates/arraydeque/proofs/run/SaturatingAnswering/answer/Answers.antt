@@ -10,14 +10,14 @@ answer_alike-requires g c =
     let alike = IsAlike-rest c.args.call other.not-PushFront other.not-PushBack other.not-Insert other.not-ExtendBack other.not-ExtendFront in
     assumption alike
 
-pub returns-in-ExtendBack : goal.returns-in-ExtendBack
-returns-in-ExtendBack g c =
+pub returns-in-ExtendBack-clause-answers : goal.returns-in-ExtendBack-clause-answers
+returns-in-ExtendBack-clause-answers g c =
     let took = c.extend_back.ensures in
     let items = Takes-vec took.0 took.2.0 _ took.1.0 (took.1.1 ∙ c.in-ExtendBack.elements.ok.0) _ took.2.1 in
     rw c.in-ExtendBack.is (refl, ap (λ (d : DequeState g.row.T.Denot). d.items) took.2.2 ∙ ap (λ xs. c.args.deque.now.items ++ xs) items)
 
-pub returns-in-ExtendFront : goal.returns-in-ExtendFront
-returns-in-ExtendFront g c =
+pub returns-in-ExtendFront-clause-answers : goal.returns-in-ExtendFront-clause-answers
+returns-in-ExtendFront-clause-answers g c =
     let took = c.extend_front.ensures in
     let items = Takes-vec took.0 took.2.0 _ took.1.0 (took.1.1 ∙ c.in-ExtendFront.elements.ok.0) _ took.2.1 in
     rw c.in-ExtendFront.is (refl, ap (λ (d : DequeState g.row.T.Denot). d.items) took.2.2 ∙ ap (λ xs. reverse xs ++ c.args.deque.now.items) items)
