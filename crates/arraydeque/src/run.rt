@@ -187,7 +187,8 @@ impl<T: Drop, const CAP: usize, B: Behavior> ArrayDeque<T, CAP, B> {
     /// The calls that mean the same under every policy.
     fn answer_alike(&mut self, call: Call<T>) -> Reply<T, CAP, B>
         requires { IsAlike call }
-        ensures { (p : Policy) → Answers p CAP self.old.items call (answer_of result) self.new.items }
+        ensures { (p : Policy) →
+            Answers p CAP self.old.items call (answer_of result) self.new.items }
     {
         match call {
             Call::PopFront => Reply::Item(self.pop_front()),

@@ -198,17 +198,24 @@ impl<T> Ring<T> {
             )
         }
     }
-}
 
-impl<T: Drop> Drop for Ring<T> {
-    /// Drops each item, front to back, and gives the region back.
-    fn drop(mut self) {
-        self.clear();
+    /// Gives the region of a ring that holds no item back.
+    pub fn give_back(self)
+        requires { self.items ≡ [] }
+    {
         let Ring {
             slots: _,
             start: _,
             len: _,
             alloc: _,
         } = self;
+    }
+}
+
+impl<T: Drop> Drop for Ring<T> {
+    /// Drops each item, front to back, and gives the region back.
+    fn drop(mut self) {
+        self.clear();
+        self.give_back();
     }
 }
