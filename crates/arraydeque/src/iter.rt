@@ -22,7 +22,9 @@ impl<T> Model for Drain<T> {
 }
 
 impl<T> Drain<T> {
+    /// The drain of the items of a ring that has no place to spare.
     pub(crate) fn of(ring: Ring<T>) -> Drain<T>
+        requires { length ring.items ≡ ring.capacity }
         ensures { result ≡ ring.items }
     {
         Drain { ring }
