@@ -5,7 +5,7 @@ use Rattle.std.specs.List.{swap, remove_range}
 use Rattle.arraydeque.specs.Deque.{keep_last, last_item}
 use Rattle.arraydeque.specs.Policy.{Policy, saturating, wrapping}
 use Rattle.arraydeque.specs.declared.run.Call.{Call}
-use Rattle.arraydeque.specs.declared.run.Call.TheVariants.{PushFront, PushBack, PopFront, PopBack, Insert, Remove, SwapRemoveBack, SwapRemoveFront, Swap, Replace, Clear, ExtendBack, ExtendFront, Extend, Drain, SplitOff, Len, Capacity, IsEmpty, IsFull}
+use Rattle.arraydeque.specs.declared.run.Call.TheVariants.{PushFront, PushBack, PopFront, PopBack, Insert, Remove, SwapRemoveBack, SwapRemoveFront, Swap, Replace, Clear, Linearize, ExtendBack, ExtendFront, Extend, Drain, SplitOff, Len, Capacity, IsEmpty, IsFull}
 use Rattle.arraydeque.specs.declared.run.Reply.{Reply}
 use Rattle.arraydeque.specs.declared.run.Reply.TheVariants.{Done, Item, Displaced, Number, Truth, Drained, Split, Full, OutOfRange, NoMemory, NotOffered}
 
@@ -91,6 +91,7 @@ module _ {X : Type 0} where
   Answers p n l (Swap i j) answer left = InRange (nat_lt i (length l) && nat_lt j (length l)) None l (Gives done (swap l i j)) answer left
   Answers p n l (Replace i x) answer left = InRange (nat_lt i (length l)) (Some x) l (Gives (item (slice_get l i)) (slice_set l i x)) answer left
   Answers p n l Clear answer left = Gives done [] answer left
+  Answers p n l Linearize answer left = Gives done l answer left
   Answers p n l (ExtendBack v) answer left = Gives done (extended_back p n l v.items) answer left
   Answers p n l (ExtendFront v) answer left = Gives done (extended_front p n l v.items) answer left
   Answers p n l (Extend v) answer left = Gives done (extended_back saturating n l v.items) answer left
