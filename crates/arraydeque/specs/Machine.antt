@@ -5,7 +5,7 @@ use Rattle.std.specs.List.{swap, remove_range}
 use Rattle.arraydeque.specs.Deque.{keep_last, last_item}
 use Rattle.arraydeque.specs.Policy.{Policy, saturating, wrapping}
 use Rattle.arraydeque.specs.declared.run.Call.{Call}
-use Rattle.arraydeque.specs.declared.run.Call.TheVariants.{PushFront, PushBack, PopFront, PopBack, Insert, Remove, SwapRemoveBack, SwapRemoveFront, Swap, Replace, Clear, ExtendBack, ExtendFront, Extend, Drain, SplitOff, Len, Capacity, IsEmpty, IsFull}
+use Rattle.arraydeque.specs.declared.run.Call.TheVariants.{PushFront, PushBack, PopFront, PopBack, Insert, Remove, SwapRemoveBack, SwapRemoveFront, Swap, Replace, Clear, Linearize, ExtendBack, ExtendFront, Extend, Drain, SplitOff, Len, Capacity, IsEmpty, IsFull}
 use Rattle.arraydeque.specs.declared.run.Reply.{Reply}
 use Rattle.arraydeque.specs.declared.run.Reply.TheVariants.{Done, Item, Displaced, Number, Truth, Drained, Split, Full, OutOfRange, NoMemory, NotOffered}
 
@@ -118,6 +118,7 @@ module _ {X : Type 0} where
   Answers p n l (Replace i x) =
       InRange (nat_lt i (length l)) (Some x) l (Gives (item (slice_get l i)) (slice_set l i x))
   Answers p n l Clear = Gives done []
+  Answers p n l Linearize = Gives done l
   Answers p n l (ExtendBack v) = Gives done (extended_back p n l v.items)
   Answers p n l (ExtendFront v) = Gives done (extended_front p n l v.items)
   Answers p n l (Extend v) = Gives done (extended_back saturating n l v.items)
