@@ -1,0 +1,130 @@
+//! Looking ahead in an iterator.
+ghost use Rattle.std.specs.Prelude.{◌≡◌, ◌<◌, ◌*◌, ◌-◌, ◌≤◌, ◌+◌, ◌∷◌, [], drop, max, length, ⊤, true, false, slice_get, option_copied, IfOk, IfErr, OnErr, OnOk, OnSome, IfNone, IsOk, ◌↔◌};
+ghost use Rattle.std.specs.Borrow.{sem};
+ghost use Rattle.std.specs.Iterator.{MakesProgress};
+ghost use Rattle.std.specs.Mem.{type_size};
+ghost use Rattle.std.specs.Option.{option_to_list};
+ghost use Rattle.arraydeque.specs.Lookahead.{fresh_scanner, left_by, Reads, HandsOut, KeepsRest, Peeks};
+
+use crate::behavior::Saturating;
+use crate::deque::ArrayDeque;
+use crate::error::{CapacityError, MakeError};
+use std::alloc::Global;
+use std::marker::Model;
+
+/// An iterator with room to look ahead.
+#[derive(Drop)]
+pub struct Scanner<I: Iterator, const CAP: usize> {
+    iter: I,
+    buffer: ArrayDeque<I::Item, CAP, Saturating>,
+    ended: bool,
+}
+
+impl<I: Iterator, const CAP: usize> Model for Scanner<I, CAP> {
+    ghost use Rattle.std.specs.Prelude.{◌≡◌, false};
+    ghost use Rattle.arraydeque.specs.Lookahead.{ScannerState};
+
+    ghost Value = { ScannerState I I.Item };
+
+    ghost view = { λ s. record { buffer = s.buffer.items; iter = s.iter; ended = s.ended } };
+
+    ghost invariant = { λ s. s.ended ≡ false → I.can_next s.iter };
+}
+
+impl<I: Iterator, const CAP: usize> Scanner<I, CAP> {
+    ghost use Rattle.arraydeque.specs.contracts.lookahead.Scanner.{the_row};
+    ghost use mathlib.Core.Option.{none};
+    ghost use denote.Follow.{follows_so};
+
+    /// A scanner.
+    pub fn new(alloc: Global, iter: I) -> Result<Self, MakeError<I>>
+        requires { I.can_next iter }
+        ensures ok { IfOk result (λ scanner. scanner ≡ fresh_scanner iter) }
+        ensures source { IfErr result (λ refusal. refusal.source ≡ iter) }
+        ensures refused { OnErr result (0 < CAP * type_size I.Item.row) }
+    {
+        match ArrayDeque::new(alloc) {
+            Ok(buffer) => Ok(Scanner {
+                iter,
+                buffer,
+                ended: false,
+            }),
+            Err(_) => Err(MakeError { source: iter }),
+        }
+    }
+
+    /// The item `k` places ahead.
+    pub fn peek(&mut self, k: usize) -> Option<&I::Item>
+        requires { k < CAP }
+        ensures* peeks { sem 𝓛 (follows_so (the_row I.row CAP.row I.Item.row I.Iterator)
+            (the_row I.row CAP.row I.Item.row I.Iterator) self.entry.ghost_name none (λ _ _. ⊤)
+            (λ new. Peeks I.next_gives I.remaining self.old k (option_copied result) new)) }
+    {
+        self.fill(k);
+        self.buffer.get(k)
+    }
+
+    /// Takes the next item.
+    pub fn next(&mut self) -> Option<I::Item>
+        ensures hands_out { HandsOut I.next_gives self.old (option_to_list result) self.new }
+        ensures rest { KeepsRest I.next_gives self.old (option_to_list result) self.new }
+        ensures buffered { 0 < length self.old.buffer → (result ≡ slice_get self.old.buffer 0)
+            × (self.new ≡ record self.old { buffer = drop 1 self.old.buffer }) }
+        ensures empty { self.old.buffer ≡ [] → self.new.buffer ≡ [] }
+        ensures none { IfNone result (self.new.ended ≡ true) }
+        ensures some { OnSome result (self.new.ended ≡ self.old.ended) }
+        ensures left { MakesProgress (λ _. ⊤) (left_by I.remaining) self.old result self.new }
+    {
+        match self.buffer.pop_front() {
+            Some(item) => Some(item),
+            None => self.read(),
+        }
+    }
+
+    /// Puts an item back.
+    pub fn unread(&mut self, item: I::Item) -> Result<(), CapacityError<I::Item>>
+        ensures room { IsOk result ↔ (length self.old.buffer < CAP) }
+        ensures buffer { OnOk result (self.new ≡ record self.old { buffer = item ∷ self.old.buffer }) }
+        ensures full { IfErr result (λ refusal. refusal.element ≡ item) }
+        ensures unchanged { OnErr result (self.new ≡ self.old) }
+    {
+        self.buffer.push_front(item)
+    }
+
+    /// Reads on until the buffer has an item at `k`, or the iterator ends.
+    fn fill(&mut self, k: usize)
+        requires { k < CAP }
+        ensures { Peeks I.next_gives I.remaining self.old k (slice_get self.new.buffer k) self.new }
+    {
+        while self.buffer.len() <= k {
+            let Some(item) = self.read() else {
+                return;
+            };
+            match self.buffer.push_back(item) {
+                Ok(()) => {}
+                Err(_) => unreachable!(),
+            }
+        }
+    }
+
+    /// Asks the iterator once, unless it has given its first `None`.
+    fn read(&mut self) -> Option<I::Item>
+        ensures reads { Reads I.next_gives self.old.ended self.old.iter (option_to_list result)
+            self.new.ended self.new.iter }
+        ensures buffer { self.new.buffer ≡ self.old.buffer }
+        ensures none { IfNone result (self.new.ended ≡ true) }
+        ensures some { OnSome result (self.new.ended ≡ self.old.ended) }
+        ensures left { MakesProgress (λ _. ⊤) (left_by I.remaining) self.old result self.new }
+    {
+        if self.ended {
+            return None;
+        }
+        match self.iter.next() {
+            Some(item) => Some(item),
+            None => {
+                self.ended = true;
+                None
+            }
+        }
+    }
+}
