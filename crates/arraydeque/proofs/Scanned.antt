@@ -1,7 +1,8 @@
 -- One stretch of a scanner's calls after another.
-use Rattle.std.proofs.Common.{◌≡◌, Bool, true, false, true≢false, List, [], ◌∷◌, ◌++◌, Option, None, sym, ◌∙◌, ap, subst, append-nil, append_assoc}
-use Rattle.std.specs.Iterator.{Yields, YieldsThen}
-use Rattle.arraydeque.specs.Lookahead.{ScannerState, Reads, HandsOut, HasRest, KeepsRest}
+use Rattle.std.proofs.Common.{◌≡◌, Bool, true, false, true≢false, List, [], ◌∷◌, ◌++◌, Option, Some, None, IfNone, sym, ◌∙◌, ap, subst, append-nil, append_assoc}
+use Rattle.std.specs.Iterator.{Yields}
+use Rattle.std.specs.Option.{option_to_list}
+use Rattle.arraydeque.specs.Lookahead.{ScannerState, Reads, HandsOut, HasRest, TakesOff}
 
 module _ {S A : Type 0} (steps : S → Option A → S → Type 0) where
   Yields-append : (s t u : S) (xs ys : List A) → Yields steps s xs t → Yields steps t ys u → Yields steps s (xs ++ ys) u
@@ -27,9 +28,16 @@ module _ {S A : Type 0} (steps : S → Option A → S → Type 0) where
     )
 
   -- what is handed out goes off the rest
-  pub KeepsRest-from_out : (old new : ScannerState S A) (ys : List A) → HandsOut steps old ys new → KeepsRest steps old ys new
-  KeepsRest-from_out old new ys given rest after = (
+  pub TakesOff-from_out : (old new : ScannerState S A) (ys : List A) → HandsOut steps old ys new → TakesOff steps old ys new
+  unfolding HasRest
+  TakesOff-from_out old new ys given rest after = (
     given.0 ++ after.0,
     (after.1.0, Reads-append old.ended new.ended true old.iter new.iter after.1.0 given.0 after.0 given.1 after.1.1),
     ap (λ l. ys ++ l) after.2 ∙ sym (append_assoc ys new.buffer after.0) ∙ ap (λ l. l ++ after.0) (sym given.2) ∙ append_assoc old.buffer given.0 after.0,
   )
+
+  -- where no item is handed out and the scanner is spent, it had nothing left
+  pub HasRest-none : (old new : ScannerState S A) (item : Option A) → HandsOut steps old (option_to_list item) new → new.buffer ≡ [] → IfNone item (new.ended ≡ true) → IfNone item (HasRest steps old [])
+  unfolding HasRest
+  HasRest-none old new None given empty ended = (given.0, (new.iter, subst (λ e. Reads steps old.ended old.iter given.0 e new.iter) ended given.1), sym (given.2 ∙ empty))
+  HasRest-none old new (Some item) given empty ended = tt

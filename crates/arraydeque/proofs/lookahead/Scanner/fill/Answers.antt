@@ -1,7 +1,7 @@
-use Rattle.std.proofs.Common.{arith, refl, [], ◌∷◌, ◌<◌, length, ap, ◌∙◌, inl, inr}
+use Rattle.std.proofs.Common.{arith, refl, [], ◌∷◌, ◌<◌, length, inl, inr}
 use Rattle.std.proofs.lemmas.Grind.{common_steps}
 use Rattle.std.proofs.lemmas.Option.{slice_get_cases, slice_get_past}
-use Rattle.arraydeque.proofs.Scanned.{HandsOut-append, KeepsRest-from_out}
+use Rattle.arraydeque.proofs.Scanned.{HandsOut-append, TakesOff-from_out}
 use Rattle.arraydeque.proofs.lookahead.Scanner.fill.Goals as goal
 
 pub loop-self-preserved : goal.loop-self-preserved
@@ -12,7 +12,7 @@ loop-self-preserved g c =
       ended = grind (arith, common_steps);
       within = grind (arith, common_steps);
       unchanged = λ there. absurd (grind (arith, common_steps));
-      left = grind (arith, common_steps);
+      goes = grind (arith, common_steps);
     }
 
 pub returns-in_default : goal.returns-in_default
@@ -22,13 +22,13 @@ returns-in_default g c =
     let past = slice_get_past c.read.new.self.buffer c.args.k (grind (arith, common_steps)) in
     record {
       hands_out = whole;
-      rest = KeepsRest-from_out g.I.Iterator.next_gives _ _ [] whole;
+      rest = TakesOff-from_out g.I.Iterator.next_gives _ _ [] whole;
       sees = refl;
       none = grind (arith, past);
       some = grind (arith, past);
       within = grind (arith, common_steps);
       unchanged = λ there. absurd (grind (arith, common_steps));
-      left = grind (arith, common_steps);
+      goes = grind (arith, common_steps);
     }
 
 pub returns : goal.returns
@@ -37,14 +37,14 @@ returns g c =
     let there : c.args.k < length c.loop-self.self.buffer = grind (arith, common_steps) in
     elim (slice_get_cases c.loop-self.self.buffer c.args.k).1 [
       | inl here ↦ record {
-          hands_out = was.hands_out;
-          rest = KeepsRest-from_out g.I.Iterator.next_gives _ _ [] was.hands_out;
-          sees = refl;
-          none = grind (arith, here.2);
-          some = grind (arith, was.ended);
-          within = was.within;
-          unchanged = was.unchanged;
-          left = was.left;
-        }
+        hands_out = was.hands_out;
+        rest = TakesOff-from_out g.I.Iterator.next_gives _ _ [] was.hands_out;
+        sees = refl;
+        none = grind (arith, here.2);
+        some = grind (arith, was.ended);
+        within = was.within;
+        unchanged = was.unchanged;
+        goes = was.goes;
+      }
       | inr past ↦ absurd (omega arith)
     ]

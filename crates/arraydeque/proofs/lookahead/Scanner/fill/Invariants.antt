@@ -1,6 +1,6 @@
 use Rattle.std.proofs.Common.{◌≡◌, ◌+◌, ◌-◌, ◌<◌, ◌≤◌, [], length, max}
 use Rattle.std.specs.Iterator.{IsFinite, UpTo, size}
-use Rattle.arraydeque.specs.Lookahead.{HandsOut, left_by}
+use Rattle.arraydeque.specs.Lookahead.{HandsOut, left_of}
 use Rattle.arraydeque.proofs.lookahead.Scanner.fill.Given as goal
 
 abbrev pub invariant-loop-self : goal.invariant-loop-self
@@ -9,7 +9,7 @@ invariant-loop-self g l = record {
   ended : l.self.ended ≡ l.fn.self.ended;
   within : length l.self.buffer ≤ max (length l.fn.self.buffer) (l.k + 1);
   unchanged : l.k < length l.fn.self.buffer → l.self ≡ l.fn.self;
-  left : IsFinite (left_by g.I.Iterator.remaining l.fn.self) → UpTo (left_by g.I.Iterator.remaining l.self) (size (left_by g.I.Iterator.remaining l.fn.self));
+  goes : IsFinite (left_of g.I.Iterator.remaining l.fn.self) → UpTo (left_of g.I.Iterator.remaining l.self) (size (left_of g.I.Iterator.remaining l.fn.self));
 }
 
 abbrev pub decreases-loop-self : goal.decreases-loop-self

@@ -1,0 +1,13 @@
+use Rattle.std.proofs.Common.{◌≡◌}
+use Rattle.std.specs.Iterator.{IsFinite, size}
+use Rattle.arraydeque.specs.Lookahead.{KeepsRest, left_by}
+use Rattle.uses_tokens.proofs.digits.Given as goal
+
+abbrev pub invariant-loop-next : goal.invariant-loop-next
+invariant-loop-next g l = record {
+  finite : IsFinite (left_by g.I.Iterator.remaining l.s);
+  kept : KeepsRest g.I.Iterator.next_gives l.fn.s l.v.items l.s;
+}
+
+abbrev pub decreases-loop-next : goal.decreases-loop-next
+decreases-loop-next g l = size (left_by g.I.Iterator.remaining l.s)
