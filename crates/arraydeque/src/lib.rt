@@ -6,6 +6,7 @@ pub mod behavior;
 mod deque;
 mod error;
 mod iter;
+pub mod lookahead;
 mod range;
 pub mod run;
 
