@@ -2,7 +2,7 @@
 ghost use Rattle.std.specs.Prelude.{◌≡◌, ◌⊎◌, ◌<◌, ◌≤◌, ◌+◌, ◌*◌, length, Any, IfOk, OnOk, OnErr};
 ghost use Rattle.std.specs.Mem.{type_size};
 ghost use Rattle.arraydeque.specs.Cloned.{ClonesAreSame};
-ghost use Rattle.arraydeque.specs.Deque.{empty_deque, put_behind};
+ghost use Rattle.arraydeque.specs.Deque.{empty_deque, with_back};
 
 use super::ArrayDeque;
 use crate::behavior::Behavior;
@@ -16,7 +16,7 @@ impl<T: Clone, const CAP: usize, B: Behavior> ArrayDeque<T, CAP, B> {
     /// were made are dropped.
     pub fn clone(&self) -> Result<Self, AllocError>
         requires { ClonesAreSame T.is_clone self.now.items }
-        ensures items { IfOk result (λ deque. deque ≡ put_behind self.now.items empty_deque) }
+        ensures items { IfOk result (λ deque. deque ≡ with_back self.now.items empty_deque) }
         ensures refused { OnErr result
             ((0 < CAP * type_size T.row) ⊎ Any (λ x. ¬ T.is_infallible x) self.now.items) }
     {
@@ -33,7 +33,7 @@ impl<T: Clone, const CAP: usize, B: Behavior> ArrayDeque<T, CAP, B> {
     fn clone_back(&mut self, items: &[T]) -> Result<(), AllocError>
         requires room { length self.old.items + length items.now ≤ CAP }
         requires same { ClonesAreSame T.is_clone items.now }
-        ensures ok { OnOk result (self.new ≡ put_behind items.now self.old) }
+        ensures ok { OnOk result (self.new ≡ with_back items.now self.old) }
         ensures refused { OnErr result (Any (λ x. ¬ T.is_infallible x) items.now) }
     {
         for item in items {

@@ -1,7 +1,7 @@
 use Rattle.std.proofs.Common.{refl, ap, ◌∙◌, ◌++◌}
 use Rattle.arraydeque.specs.Deque.{DequeState}
 use Rattle.arraydeque.proofs.Taken.{Takes-vec}
-use Rattle.arraydeque.proofs.deque.ArrayDeque.step_alike.Goals as goal
+use Rattle.arraydeque.proofs.deque.ArrayDeque.answer_alike.Goals as goal
 
 pub returns-in-Extend : goal.returns-in-Extend
 returns-in-Extend g c p =

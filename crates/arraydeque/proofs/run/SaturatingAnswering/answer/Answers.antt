@@ -2,10 +2,10 @@ use Rattle.std.proofs.Common.{refl, ap, ◌∙◌, ◌++◌, reverse}
 use Rattle.arraydeque.specs.Deque.{DequeState}
 use Rattle.arraydeque.proofs.Alike.{IsAlike-rest}
 use Rattle.arraydeque.proofs.Taken.{Takes-vec}
-use Rattle.arraydeque.proofs.run.ArrayDeque+T+CAP+Saturating.step.Goals as goal
+use Rattle.arraydeque.proofs.run.SaturatingAnswering.answer.Goals as goal
 
-pub step_alike-requires : goal.step_alike-requires
-step_alike-requires g c =
+pub answer_alike-requires : goal.answer_alike-requires
+answer_alike-requires g c =
     let other = c.in_default in
     let alike = IsAlike-rest c.args.call other.not-PushFront other.not-PushBack other.not-Insert other.not-ExtendBack other.not-ExtendFront in
     assumption alike
@@ -14,10 +14,10 @@ pub returns-in-ExtendBack : goal.returns-in-ExtendBack
 returns-in-ExtendBack g c =
     let took = c.extend_back.ensures in
     let items = Takes-vec took.0 took.2.0 _ took.1.0 (took.1.1 ∙ c.in-ExtendBack.elements.ok.0) _ took.2.1 in
-    rw c.in-ExtendBack.is (refl, ap (λ (d : DequeState g.row.T.Denot). d.items) took.2.2 ∙ ap (λ xs. c.args.self.now.items ++ xs) items)
+    rw c.in-ExtendBack.is (refl, ap (λ (d : DequeState g.row.T.Denot). d.items) took.2.2 ∙ ap (λ xs. c.args.deque.now.items ++ xs) items)
 
 pub returns-in-ExtendFront : goal.returns-in-ExtendFront
 returns-in-ExtendFront g c =
     let took = c.extend_front.ensures in
     let items = Takes-vec took.0 took.2.0 _ took.1.0 (took.1.1 ∙ c.in-ExtendFront.elements.ok.0) _ took.2.1 in
-    rw c.in-ExtendFront.is (refl, ap (λ (d : DequeState g.row.T.Denot). d.items) took.2.2 ∙ ap (λ xs. reverse xs ++ c.args.self.now.items) items)
+    rw c.in-ExtendFront.is (refl, ap (λ (d : DequeState g.row.T.Denot). d.items) took.2.2 ∙ ap (λ xs. reverse xs ++ c.args.deque.now.items) items)
