@@ -7,7 +7,7 @@ use Rattle.std.proofs.lemmas.List.{take_all, length-append, length-drop, length-
 use Rattle.std.proofs.lemmas.Option.{slice_get_past}
 use Rattle.arraydeque_ring.specs.Ring.{place_of}
 use Rattle.arraydeque_ring.specs.Steps.{more_puts, more_takes}
-use Rattle.arraydeque.specs.Deque.{DequeState, keep_last, back_by, pushed_behind, pushed_before}
+use Rattle.arraydeque.specs.Deque.{DequeState, keep_last, back_by, wrapped_back, wrapped_front}
 use Rattle.arraydeque.specs.Machine.{displaced, Pushes}
 use Rattle.arraydeque.specs.Policy.{wrapping}
 
@@ -59,12 +59,12 @@ module _ {X : Type 0} (n : ℕ) (old mid new : DequeState X) (xs : List X) (x : 
       ∙ ap₂ (λ p t. record old.steps { puts = p; takes = t }) (omega (arith, long xs x)) out
 
   -- one item more is pushed behind
-  pub pushed_behind-one : mid ≡ pushed_behind n xs old
+  pub wrapped_back-push : mid ≡ wrapped_back n xs old
       → new.items ≡ keep_last n (old.items ++ (xs ++ x ∷ []))
       → new.start ≡ (if nat_lt (length mid.items) n then mid.start else place_of mid.start 1 n)
       → new.steps ≡ more_puts 1 (more_takes (if nat_lt (length mid.items) n then 0 else 1) mid.steps)
-      → new ≡ pushed_behind n (xs ++ x ∷ []) old
-  pushed_behind-one before items start steps =
+      → new ≡ wrapped_back n (xs ++ x ∷ []) old
+  wrapped_back-push before items start steps =
       let total = length old.items + length xs in
       let more = length old.items + length (xs ++ x ∷ []) in
       let kept : length mid.items ≡ total - (total - n) = ap (λ (d : DequeState X). length d.items) before ∙ length-drop (length (old.items ++ xs) - n) (old.items ++ xs) ∙ omega (arith, length-append old.items xs) in
@@ -87,12 +87,12 @@ module _ {X : Type 0} (n : ℕ) (old mid new : DequeState X) (xs : List X) (x : 
       (λ i. record { items = items i; start = here i; steps = counted i })
 
   -- one item more is pushed before
-  pub pushed_before-one : mid ≡ pushed_before n xs old
+  pub wrapped_front-push : mid ≡ wrapped_front n xs old
       → new.items ≡ take n (reverse (xs ++ x ∷ []) ++ old.items)
       → new.start ≡ place_of mid.start (n - 1) n
       → new.steps ≡ more_puts 1 (more_takes (if nat_lt (length mid.items) n then 0 else 1) mid.steps)
-      → new ≡ pushed_before n (xs ++ x ∷ []) old
-  pushed_before-one before items start steps =
+      → new ≡ wrapped_front n (xs ++ x ∷ []) old
+  wrapped_front-push before items start steps =
       let kept : length mid.items ≡ length old.items + length xs - (length old.items + length xs - n) = ap (λ (d : DequeState X). length d.items) before ∙ length-take n (reverse xs ++ old.items) ∙ omega (arith, length-append (reverse xs) old.items, length-reverse xs) in
       let here : new.start ≡ back_by (length (xs ++ x ∷ [])) old.start n = start ∙ ap (λ (d : DequeState X). place_of d.start (n - 1) n) before ∙ back_by-push xs x old.start n in
       let counted = one_more kept (ap (λ (d : DequeState X). d.steps) before) steps in

@@ -30,16 +30,16 @@ module _ {X : Type 0} where
   keep_last n xs = drop (length xs - n) xs
 
   -- the deque with xs put behind its last item, where no other item moves
-  abbrev pub put_behind : List X → DequeState X → DequeState X
-  put_behind xs deque = record deque { items = deque.items ++ xs; steps = more_puts (length xs) deque.steps }
+  abbrev pub with_back : List X → DequeState X → DequeState X
+  with_back xs deque = record deque { items = deque.items ++ xs; steps = more_puts (length xs) deque.steps }
 
   -- the deque of capacity n with xs put one by one before its first item, where no other item moves
-  abbrev pub put_before : ℕ → List X → DequeState X → DequeState X
-  put_before n xs deque = record { items = reverse xs ++ deque.items; start = back_by (length xs) deque.start n; steps = more_puts (length xs) deque.steps }
+  abbrev pub with_front : ℕ → List X → DequeState X → DequeState X
+  with_front n xs deque = record { items = reverse xs ++ deque.items; start = back_by (length xs) deque.start n; steps = more_puts (length xs) deque.steps }
 
   -- the deque of capacity n with xs pushed one by one behind its last item, where each push into a full one takes its first item out
-  abbrev pub pushed_behind : ℕ → List X → DequeState X → DequeState X
-  pushed_behind n xs deque =
+  abbrev pub wrapped_back : ℕ → List X → DequeState X → DequeState X
+  wrapped_back n xs deque =
       let total = length deque.items + length xs in
       record {
         items = keep_last n (deque.items ++ xs);
@@ -48,8 +48,8 @@ module _ {X : Type 0} where
       }
 
   -- the deque of capacity n with xs pushed one by one before its first item, where each push into a full one takes its last item out
-  abbrev pub pushed_before : ℕ → List X → DequeState X → DequeState X
-  pushed_before n xs deque =
+  abbrev pub wrapped_front : ℕ → List X → DequeState X → DequeState X
+  wrapped_front n xs deque =
       record {
         items = take n (reverse xs ++ deque.items);
         start = back_by (length xs) deque.start n;

@@ -78,25 +78,25 @@ module _ {X : Type 0} where
   IsAlike (ExtendFront v) = ⊥
   IsAlike _ = Unit {0}
 
-  -- under the policy and the capacity n the call takes the list l to `left`, and is answered so
-  abbrev pub Step : Policy → ℕ → List X → Call X → Answer X → List X → Type 0
-  Step p n l (PushFront x) answer left = Pushes p (nat_lt (length l) n) l x (x ∷ l) (slice_get (x ∷ l) n) (take n (x ∷ l)) answer left
-  Step p n l (PushBack x) answer left = Pushes p (nat_lt (length l) n) l x (l ++ x ∷ []) (slice_get (l ++ x ∷ []) 0) (keep_last n (l ++ x ∷ [])) answer left
-  Step p n l PopFront answer left = Gives (item (slice_get l 0)) (drop 1 l) answer left
-  Step p n l PopBack answer left = Gives (item (last_item l)) (take (length l - 1) l) answer left
-  Step p n l (Insert i x) answer left = Inserts p (nat_lt (length l) n) l i x answer left
-  Step p n l (Remove i) answer left = Gives (item (slice_get l i)) (remove l i) answer left
-  Step p n l (SwapRemoveBack i) answer left = Gives (item (slice_get l i)) (if nat_lt i (length l) then take (length l - 1) (swap l i (length l - 1)) else l) answer left
-  Step p n l (SwapRemoveFront i) answer left = Gives (item (slice_get l i)) (if nat_lt i (length l) then drop 1 (swap l i 0) else l) answer left
-  Step p n l (Swap i j) answer left = InRange (nat_lt i (length l) && nat_lt j (length l)) None l (Gives done (swap l i j)) answer left
-  Step p n l (Replace i x) answer left = InRange (nat_lt i (length l)) (Some x) l (Gives (item (slice_get l i)) (slice_set l i x)) answer left
-  Step p n l Clear answer left = Gives done [] answer left
-  Step p n l (ExtendBack v) answer left = Gives done (extended_back p n l v.items) answer left
-  Step p n l (ExtendFront v) answer left = Gives done (extended_front p n l v.items) answer left
-  Step p n l (Extend v) answer left = Gives done (extended_back saturating n l v.items) answer left
-  Step p n l (Drain s e) answer left = InRange (nat_le s e && nat_le e (length l)) None l (OrNoMemory (nat_lt s e) l (Gives (drained (slice_range l s e)) (remove_range l s e))) answer left
-  Step p n l (SplitOff at) answer left = InRange (nat_le at (length l)) None l (OrNoMemory (nat_lt 0 n) l (Gives (split (drop at l)) (take at l))) answer left
-  Step p n l Len answer left = Gives (number (length l)) l answer left
-  Step p n l Capacity answer left = Gives (number n) l answer left
-  Step p n l IsEmpty answer left = Gives (truth (eqb (length l) 0)) l answer left
-  Step p n l IsFull answer left = Gives (truth (eqb (length l) n)) l answer left
+  -- under the policy and the capacity n the call is answered so, and takes the list l to `left`
+  abbrev pub Answers : Policy → ℕ → List X → Call X → Answer X → List X → Type 0
+  Answers p n l (PushFront x) answer left = Pushes p (nat_lt (length l) n) l x (x ∷ l) (slice_get (x ∷ l) n) (take n (x ∷ l)) answer left
+  Answers p n l (PushBack x) answer left = Pushes p (nat_lt (length l) n) l x (l ++ x ∷ []) (slice_get (l ++ x ∷ []) 0) (keep_last n (l ++ x ∷ [])) answer left
+  Answers p n l PopFront answer left = Gives (item (slice_get l 0)) (drop 1 l) answer left
+  Answers p n l PopBack answer left = Gives (item (last_item l)) (take (length l - 1) l) answer left
+  Answers p n l (Insert i x) answer left = Inserts p (nat_lt (length l) n) l i x answer left
+  Answers p n l (Remove i) answer left = Gives (item (slice_get l i)) (remove l i) answer left
+  Answers p n l (SwapRemoveBack i) answer left = Gives (item (slice_get l i)) (if nat_lt i (length l) then take (length l - 1) (swap l i (length l - 1)) else l) answer left
+  Answers p n l (SwapRemoveFront i) answer left = Gives (item (slice_get l i)) (if nat_lt i (length l) then drop 1 (swap l i 0) else l) answer left
+  Answers p n l (Swap i j) answer left = InRange (nat_lt i (length l) && nat_lt j (length l)) None l (Gives done (swap l i j)) answer left
+  Answers p n l (Replace i x) answer left = InRange (nat_lt i (length l)) (Some x) l (Gives (item (slice_get l i)) (slice_set l i x)) answer left
+  Answers p n l Clear answer left = Gives done [] answer left
+  Answers p n l (ExtendBack v) answer left = Gives done (extended_back p n l v.items) answer left
+  Answers p n l (ExtendFront v) answer left = Gives done (extended_front p n l v.items) answer left
+  Answers p n l (Extend v) answer left = Gives done (extended_back saturating n l v.items) answer left
+  Answers p n l (Drain from to) answer left = InRange (nat_le from to && nat_le to (length l)) None l (OrNoMemory (nat_lt from to) l (Gives (drained (slice_range l from to)) (remove_range l from to))) answer left
+  Answers p n l (SplitOff at) answer left = InRange (nat_le at (length l)) None l (OrNoMemory (nat_lt 0 n) l (Gives (split (drop at l)) (take at l))) answer left
+  Answers p n l Len answer left = Gives (number (length l)) l answer left
+  Answers p n l Capacity answer left = Gives (number n) l answer left
+  Answers p n l IsEmpty answer left = Gives (truth (eqb (length l) 0)) l answer left
+  Answers p n l IsFull answer left = Gives (truth (eqb (length l) n)) l answer left

@@ -1,6 +1,6 @@
 -- A run of the list machine over a list of calls: one reply a call, in order.
 use Rattle.std.specs.Prelude.{◌≡◌, ℕ, List, [], ◌∷◌}
-use Rattle.arraydeque.specs.Machine.{Step, answer_of}
+use Rattle.arraydeque.specs.Machine.{Answers, answer_of}
 use Rattle.arraydeque.specs.Policy.{Policy}
 use Rattle.arraydeque.specs.declared.run.Call.{Call}
 use Rattle.arraydeque.specs.declared.run.Reply.{Reply}
@@ -10,4 +10,4 @@ abbrev pub Run : {X B : Type 0} {n : ℕ} → Policy → List X → List (Call X
 Run p l [] [] last = last ≡ l
 Run p l [] (r ∷ rs) last = ⊥
 Run p l (c ∷ cs) [] last = ⊥
-Run {X} {B} {n} p l (c ∷ cs) (r ∷ rs) last = (next : List X) × Step p n l c (answer_of r) next × Run p next cs rs last
+Run {X} {B} {n} p l (c ∷ cs) (r ∷ rs) last = (next : List X) × Answers p n l c (answer_of r) next × Run p next cs rs last

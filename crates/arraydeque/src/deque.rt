@@ -8,9 +8,12 @@ ghost use Rattle.arraydeque.specs.Deque.{empty_deque, as_ring, last_item};
 use crate::behavior::Behavior;
 use arraydeque_ring::ring::Ring;
 use std::alloc::{AllocError, Global};
+use std::fmt;
 use std::marker::{Model, PhantomData};
 
 mod access;
+mod clone;
+mod compare;
 mod extend;
 mod linearize;
 mod makers;
@@ -131,5 +134,13 @@ impl<T, const CAP: usize, B: Behavior> ArrayDeque<T, CAP, B> {
 
     pub(crate) fn alloc(&self) -> Global {
         self.ring.alloc()
+    }
+}
+
+impl<T: fmt::Debug, const CAP: usize, B: Behavior> fmt::Debug for ArrayDeque<T, CAP, B> {
+    /// The items as a list, like `[0, 1, 2, 3]`.
+    fn fmt<W: fmt::Write>(&self, f: &mut fmt::Formatter<W>) -> fmt::Result {
+        let (front, back) = self.as_slices();
+        f.debug_list().slice(front).slice(back).finish()
     }
 }

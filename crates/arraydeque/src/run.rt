@@ -1,6 +1,7 @@
 //! A whole list of calls on a deque, answered one by one.
 ghost use Rattle.std.specs.Prelude.{◌≡◌, ◌<◌, length, IfOk, IfErr, OnErr};
-ghost use Rattle.arraydeque.specs.Machine.{Step, answer_of, IsAlike};
+ghost use Rattle.arraydeque.specs.Costs.{CallCosts, RunCosts};
+ghost use Rattle.arraydeque.specs.Machine.{Answers, answer_of, IsAlike};
 ghost use Rattle.arraydeque.specs.Policy.{Policy, saturating, wrapping};
 ghost use Rattle.arraydeque.specs.Run.{Run};
 
@@ -83,7 +84,7 @@ pub enum Reply<T, const CAP: usize, B: Behavior> {
     NotOffered(T),
 }
 
-impl<T: Drop, const CAP: usize> ArrayDeque<T, CAP, Saturating> {
+impl<T: Drop, const CAP: usize, B: Answering<T, CAP>> ArrayDeque<T, CAP, B> {
     /// Makes the calls in order and answers each. A refused call does not stop the run.
     ///
     /// Room for the replies is taken before the first call, and none for an empty list. Where it is
@@ -91,8 +92,11 @@ impl<T: Drop, const CAP: usize> ArrayDeque<T, CAP, Saturating> {
     pub fn run(
         &mut self,
         calls: Vec<Call<T>>,
-    ) -> Result<Vec<Reply<T, CAP, Saturating>>, MakeError<Vec<Call<T>>>>
-        ensures ok { IfOk result (λ replies. Run saturating self.old.items calls.items replies.items self.new.items) }
+    ) -> Result<Vec<Reply<T, CAP, B>>, MakeError<Vec<Call<T>>>>
+        ensures ok { IfOk result (λ replies.
+            Run B.policy self.old.items calls.items replies.items self.new.items) }
+        ensures costs { IfOk result (λ replies.
+            RunCosts B.policy self.old calls.items replies.items self.new) }
         ensures calls_come_back { IfErr result (λ refusal. refusal.source ≡ calls) }
         ensures unchanged { OnErr result (self.new ≡ self.old) }
         ensures some_calls { OnErr result (0 < length calls.items) }
@@ -102,96 +106,99 @@ impl<T: Drop, const CAP: usize> ArrayDeque<T, CAP, Saturating> {
             Err(_) => return Err(MakeError { source: calls }),
         };
         for call in calls {
-            let reply = self.step(call);
+            let reply = B::answer(self, call);
             replies.push_reserved(reply);
         }
         Ok(replies)
     }
+}
 
-    fn step(&mut self, call: Call<T>) -> Reply<T, CAP, Saturating>
-        ensures { Step saturating CAP self.old.items call (answer_of result) self.new.items }
+/// A policy whose deques answer every call.
+pub(crate) trait Answering<T, const CAP: usize>: Behavior {
+    // What the list machine calls it.
+    ghost policy: { Policy };
+
+    /// Makes one call of the deque and tells its answer. A refused call leaves the list as it was.
+    fn answer(deque: &mut ArrayDeque<T, CAP, Self>, call: Call<T>) -> Reply<T, CAP, Self>
+        ensures answers { Answers policy CAP deque.old.items call (answer_of result)
+            deque.new.items }
+        ensures costs { CallCosts call (answer_of result) deque.old deque.new };
+}
+
+impl<T: Drop, const CAP: usize> Answering<T, CAP> for Saturating {
+    ghost policy = { saturating };
+
+    fn answer(
+        deque: &mut ArrayDeque<T, CAP, Saturating>,
+        call: Call<T>,
+    ) -> Reply<T, CAP, Saturating>
+        ensures answers { Answers saturating CAP deque.old.items call (answer_of result)
+            deque.new.items }
+        ensures costs { CallCosts call (answer_of result) deque.old deque.new }
     {
         match call {
-            Call::PushFront(element) => match self.push_front(element) {
+            Call::PushFront(element) => match deque.push_front(element) {
                 Ok(()) => Reply::Done,
                 Err(refusal) => Reply::Full(refusal),
             },
-            Call::PushBack(element) => match self.push_back(element) {
+            Call::PushBack(element) => match deque.push_back(element) {
                 Ok(()) => Reply::Done,
                 Err(refusal) => Reply::Full(refusal),
             },
             Call::Insert(index, element) => {
-                if index > self.len() {
+                if index > deque.len() {
                     return Reply::OutOfRange(Some(element));
                 }
-                match self.insert(index, element) {
+                match deque.insert(index, element) {
                     Ok(()) => Reply::Done,
                     Err(refusal) => Reply::Full(refusal),
                 }
             }
             Call::ExtendBack(elements) => {
-                self.extend_back(elements);
+                deque.extend_back(elements);
                 Reply::Done
             }
             Call::ExtendFront(elements) => {
-                self.extend_front(elements);
+                deque.extend_front(elements);
                 Reply::Done
             }
-            call => self.step_alike(call),
+            call => deque.answer_alike(call),
         }
     }
 }
 
-impl<T: Drop, const CAP: usize> ArrayDeque<T, CAP, Wrapping> {
-    /// Makes the calls in order and answers each. A refused call does not stop the run.
-    ///
-    /// Room for the replies is taken before the first call, and none for an empty list. Where it is
-    /// refused, nothing was done and the calls come back.
-    pub fn run(
-        &mut self,
-        calls: Vec<Call<T>>,
-    ) -> Result<Vec<Reply<T, CAP, Wrapping>>, MakeError<Vec<Call<T>>>>
-        ensures ok { IfOk result (λ replies. Run wrapping self.old.items calls.items replies.items self.new.items) }
-        ensures calls_come_back { IfErr result (λ refusal. refusal.source ≡ calls) }
-        ensures unchanged { OnErr result (self.new ≡ self.old) }
-        ensures some_calls { OnErr result (0 < length calls.items) }
-    {
-        let mut replies = match Vec::with_capacity(self.alloc(), calls.len()) {
-            Ok(replies) => replies,
-            Err(_) => return Err(MakeError { source: calls }),
-        };
-        for call in calls {
-            let reply = self.step(call);
-            replies.push_reserved(reply);
-        }
-        Ok(replies)
-    }
+impl<T: Drop, const CAP: usize> Answering<T, CAP> for Wrapping {
+    ghost policy = { wrapping };
 
-    fn step(&mut self, call: Call<T>) -> Reply<T, CAP, Wrapping>
-        ensures { Step wrapping CAP self.old.items call (answer_of result) self.new.items }
+    fn answer(deque: &mut ArrayDeque<T, CAP, Wrapping>, call: Call<T>) -> Reply<T, CAP, Wrapping>
+        ensures answers { Answers wrapping CAP deque.old.items call (answer_of result)
+            deque.new.items }
+        ensures costs { CallCosts call (answer_of result) deque.old deque.new }
     {
         match call {
-            Call::PushFront(element) => Reply::Displaced(self.push_front(element)),
-            Call::PushBack(element) => Reply::Displaced(self.push_back(element)),
+            Call::PushFront(element) => Reply::Displaced(deque.push_front(element)),
+            Call::PushBack(element) => Reply::Displaced(deque.push_back(element)),
             Call::Insert(_, element) => Reply::NotOffered(element),
             Call::ExtendBack(elements) => {
-                self.extend_back(elements);
+                deque.extend_back(elements);
                 Reply::Done
             }
             Call::ExtendFront(elements) => {
-                self.extend_front(elements);
+                deque.extend_front(elements);
                 Reply::Done
             }
-            call => self.step_alike(call),
+            call => deque.answer_alike(call),
         }
     }
 }
 
 impl<T: Drop, const CAP: usize, B: Behavior> ArrayDeque<T, CAP, B> {
     /// The calls that mean the same under every policy.
-    fn step_alike(&mut self, call: Call<T>) -> Reply<T, CAP, B>
+    fn answer_alike(&mut self, call: Call<T>) -> Reply<T, CAP, B>
         requires { IsAlike call }
-        ensures { (p : Policy) → Step p CAP self.old.items call (answer_of result) self.new.items }
+        ensures answers { (p : Policy) →
+            Answers p CAP self.old.items call (answer_of result) self.new.items }
+        ensures costs { CallCosts call (answer_of result) self.old self.new }
     {
         match call {
             Call::PopFront => Reply::Item(self.pop_front()),
@@ -219,11 +226,11 @@ impl<T: Drop, const CAP: usize, B: Behavior> ArrayDeque<T, CAP, B> {
                 self.fill_back(elements);
                 Reply::Done
             }
-            Call::Drain(start, end) => {
-                if start > end || end > self.len() {
+            Call::Drain(from, to) => {
+                if from > to || to > self.len() {
                     return Reply::OutOfRange(None);
                 }
-                match self.drain(start..end) {
+                match self.drain(from..to) {
                     Ok(drained) => Reply::Drained(drained),
                     Err(_) => Reply::NoMemory,
                 }

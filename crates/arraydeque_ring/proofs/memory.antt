@@ -1,4 +1,5 @@
 pub mod Blocks
+pub mod Crossing
 pub mod Heap
 pub mod Kit
 pub mod Lent

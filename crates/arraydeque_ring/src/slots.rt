@@ -15,7 +15,7 @@ mod raw;
 
 use raw::size_of_item;
 use std::alloc::{AllocError, Global};
-use std::marker::Model;
+use std::marker::{Model, Send, Sync};
 use std::mem::replace;
 
 /// A kind of step that is counted.
@@ -55,6 +55,12 @@ impl<T> Model for Slots<T> {
 
     ghost also_shares = { λ s _ κ. slots_lent T.row s.ptr s.places κ };
 }
+
+// A region owns the values in its places and the right to free its memory, which every thread may
+// use. A `&` to a region reaches the values alone.
+unsafe impl<T: Send> Send for Slots<T> {}
+
+unsafe impl<T: Sync> Sync for Slots<T> {}
 
 impl<T> Slots<T> {
     ghost use Rattle.arraydeque_ring.specs.Lends.{lends_place};

@@ -28,4 +28,6 @@ mod refusals;
 #[cfg(test)]
 mod runs;
 #[cfg(test)]
+mod sent;
+#[cfg(test)]
 mod swaps;

@@ -1,7 +1,7 @@
 //! Adding the items of an iterator.
 ghost use Rattle.std.specs.Prelude.{◌≡◌, ◌<◌, ◌-◌, ◌++◌, length, reverse, take, IsOk};
 ghost use Rattle.std.specs.Iterator.{IsFinite, ExtendsWithItems};
-ghost use Rattle.arraydeque.specs.Deque.{keep_last, put_behind, put_before, pushed_behind, pushed_before};
+ghost use Rattle.arraydeque.specs.Deque.{keep_last, with_back, with_front, wrapped_back, wrapped_front};
 ghost use Rattle.arraydeque.specs.Sources.{EachIterator, TakesFrom, TakesAll};
 
 use super::ArrayDeque;
@@ -14,7 +14,7 @@ impl<T, const CAP: usize> ArrayDeque<T, CAP, Saturating> {
     pub fn extend_back<I: IntoIterator<Item = T>>(&mut self, iter: I)
         requires { EachIterator I.into_iter_gives iter (λ it. I.IntoIter.can_next it) }
         ensures { TakesFrom I.into_iter_gives I.IntoIter.next_gives iter (CAP - length self.old.items)
-            (λ xs. self.new ≡ put_behind xs self.old) }
+            (λ xs. self.new ≡ with_back xs self.old) }
     {
         self.fill_back(iter);
     }
@@ -25,7 +25,7 @@ impl<T, const CAP: usize> ArrayDeque<T, CAP, Saturating> {
     pub fn extend_front<I: IntoIterator<Item = T>>(&mut self, iter: I)
         requires { EachIterator I.into_iter_gives iter (λ it. I.IntoIter.can_next it) }
         ensures { TakesFrom I.into_iter_gives I.IntoIter.next_gives iter (CAP - length self.old.items)
-            (λ xs. self.new ≡ put_before CAP xs self.old) }
+            (λ xs. self.new ≡ with_front CAP xs self.old) }
     {
         let room = self.room();
         for element in iter.into_iter().take(room) {
@@ -41,7 +41,7 @@ impl<T: Drop, const CAP: usize> ArrayDeque<T, CAP, Wrapping> {
         requires { EachIterator I.into_iter_gives iter (λ it. I.IntoIter.can_next it × IsFinite (I.IntoIter.remaining it)) }
         ensures { TakesAll I.into_iter_gives I.IntoIter.next_gives iter
             (λ xs. (self.new.items ≡ keep_last CAP (self.old.items ++ xs))
-            × (0 < CAP → self.new ≡ pushed_behind CAP xs self.old)
+            × (0 < CAP → self.new ≡ wrapped_back CAP xs self.old)
             × (CAP ≡ 0 → self.new ≡ self.old)) }
     {
         // That the list is within the capacity is what `len` promises.
@@ -57,7 +57,7 @@ impl<T: Drop, const CAP: usize> ArrayDeque<T, CAP, Wrapping> {
         requires { EachIterator I.into_iter_gives iter (λ it. I.IntoIter.can_next it × IsFinite (I.IntoIter.remaining it)) }
         ensures { TakesAll I.into_iter_gives I.IntoIter.next_gives iter
             (λ xs. (self.new.items ≡ take CAP (reverse xs ++ self.old.items))
-            × (0 < CAP → self.new ≡ pushed_before CAP xs self.old)
+            × (0 < CAP → self.new ≡ wrapped_front CAP xs self.old)
             × (CAP ≡ 0 → self.new ≡ self.old)) }
     {
         // That the list is within the capacity is what `len` promises.
@@ -69,14 +69,14 @@ impl<T: Drop, const CAP: usize> ArrayDeque<T, CAP, Wrapping> {
 }
 
 impl<T: Drop, const CAP: usize, B: Behavior> Extend<T> for ArrayDeque<T, CAP, B> {
-    ghost extend_gives = { λ old xs new. new ≡ put_behind (take (CAP - length old.items) xs) old };
+    ghost extend_gives = { λ old xs new. new ≡ with_back (take (CAP - length old.items) xs) old };
 
     /// Adds items of an iterator that ends behind the last one while there is room, displaces none,
     /// and drops the rest of the iterator's items. The answer is always `Ok`.
     fn extend<I: IntoIterator<Item = T>>(&mut self, iter: I) -> Result<(), AllocError>
         requires { EachIterator I.into_iter_gives iter (λ it. I.IntoIter.can_next it × IsFinite (I.IntoIter.remaining it)) }
         ensures ran { ExtendsWithItems I.into_iter_gives I.IntoIter.next_gives
-            (λ old xs new. new ≡ put_behind (take (CAP - length old.items) xs) old) iter self.old self.new result }
+            (λ old xs new. new ≡ with_back (take (CAP - length old.items) xs) old) iter self.old self.new result }
         ensures ok { IsOk result }
     {
         for element in iter {
@@ -93,7 +93,7 @@ impl<T, const CAP: usize, B: Behavior> ArrayDeque<T, CAP, B> {
     pub(crate) fn fill_back<I: IntoIterator<Item = T>>(&mut self, iter: I)
         requires { EachIterator I.into_iter_gives iter (λ it. I.IntoIter.can_next it) }
         ensures { TakesFrom I.into_iter_gives I.IntoIter.next_gives iter (CAP - length self.old.items)
-            (λ xs. self.new ≡ put_behind xs self.old) }
+            (λ xs. self.new ≡ with_back xs self.old) }
     {
         let room = self.room();
         for element in iter.into_iter().take(room) {

@@ -2,7 +2,7 @@
 ghost use Rattle.std.specs.Prelude.{◌≡◌, ◌<◌, ◌*◌, ◌+◌, ◌≤◌, length, take, IfOk, IfErr, OnErr};
 ghost use Rattle.std.specs.Iterator.{IsFinite};
 ghost use Rattle.std.specs.Mem.{type_size};
-ghost use Rattle.arraydeque.specs.Deque.{empty_deque, keep_last, put_behind, pushed_behind};
+ghost use Rattle.arraydeque.specs.Deque.{empty_deque, keep_last, with_back, wrapped_back};
 ghost use Rattle.arraydeque.specs.Sources.{EachIterator, TakesFrom, TakesAll};
 
 use super::ArrayDeque;
@@ -20,7 +20,7 @@ impl<T, const CAP: usize> ArrayDeque<T, CAP, Saturating> {
     ) -> Result<Self, MakeError<I>>
         requires { EachIterator I.into_iter_gives iter (λ it. I.IntoIter.can_next it) }
         ensures items { IfOk result (λ deque. TakesFrom I.into_iter_gives I.IntoIter.next_gives iter CAP
-            (λ xs. deque ≡ put_behind xs empty_deque)) }
+            (λ xs. deque ≡ with_back xs empty_deque)) }
         ensures source { IfErr result (λ refusal. refusal.source ≡ iter) }
         ensures refused { OnErr result (0 < CAP * type_size T.row) }
     {
@@ -38,7 +38,7 @@ impl<T, const CAP: usize> ArrayDeque<T, CAP, Saturating> {
     pub fn from_vec(alloc: Global, v: Vec<T>) -> Result<Self, MakeError<Vec<T>>>
     where
         T: Drop,
-        ensures items { IfOk result (λ deque. deque ≡ put_behind (take CAP v.items) empty_deque) }
+        ensures items { IfOk result (λ deque. deque ≡ with_back (take CAP v.items) empty_deque) }
         ensures source { IfErr result (λ refusal. refusal.source ≡ v) }
         ensures refused { OnErr result (0 < CAP * type_size T.row) }
     {
@@ -50,7 +50,7 @@ impl<T, const CAP: usize> ArrayDeque<T, CAP, Saturating> {
     pub fn from_array<const N: usize>(alloc: Global, a: [T; N]) -> Result<Self, MakeError<[T; N]>>
     where
         T: Copy,
-        ensures items { IfOk result (λ deque. deque ≡ put_behind (take CAP a) empty_deque) }
+        ensures items { IfOk result (λ deque. deque ≡ with_back (take CAP a) empty_deque) }
         ensures source { IfErr result (λ refusal. refusal.source ≡ a) }
         ensures refused { OnErr result (0 < CAP * type_size T.row) }
     {
@@ -75,7 +75,7 @@ impl<T: Drop, const CAP: usize> ArrayDeque<T, CAP, Wrapping> {
         requires { EachIterator I.into_iter_gives iter (λ it. I.IntoIter.can_next it × IsFinite (I.IntoIter.remaining it)) }
         ensures items { IfOk result (λ deque. TakesAll I.into_iter_gives I.IntoIter.next_gives iter
             (λ xs. (deque.items ≡ keep_last CAP xs)
-            × (0 < CAP → deque ≡ pushed_behind CAP xs empty_deque)
+            × (0 < CAP → deque ≡ wrapped_back CAP xs empty_deque)
             × (CAP ≡ 0 → deque ≡ empty_deque))) }
         ensures source { IfErr result (λ refusal. refusal.source ≡ iter) }
         ensures refused { OnErr result (0 < CAP * type_size T.row) }
@@ -93,7 +93,7 @@ impl<T: Drop, const CAP: usize> ArrayDeque<T, CAP, Wrapping> {
     /// refused the vector comes back as it was.
     pub fn from_vec(alloc: Global, v: Vec<T>) -> Result<Self, MakeError<Vec<T>>>
         ensures items { IfOk result (λ deque. deque.items ≡ keep_last CAP v.items) }
-        ensures pushed { IfOk result (λ deque. 0 < CAP → deque ≡ pushed_behind CAP v.items empty_deque) }
+        ensures pushed { IfOk result (λ deque. 0 < CAP → deque ≡ wrapped_back CAP v.items empty_deque) }
         ensures no_places { IfOk result (λ deque. CAP ≡ 0 → deque ≡ empty_deque) }
         ensures source { IfErr result (λ refusal. refusal.source ≡ v) }
         ensures refused { OnErr result (0 < CAP * type_size T.row) }
@@ -106,7 +106,7 @@ impl<T: Drop, const CAP: usize> ArrayDeque<T, CAP, Wrapping> {
     pub fn from_array<const N: usize>(alloc: Global, a: [T; N]) -> Result<Self, MakeError<[T; N]>>
     where
         T: Copy,
-        ensures items { IfOk result (λ deque. deque ≡ put_behind (keep_last CAP a) empty_deque) }
+        ensures items { IfOk result (λ deque. deque ≡ with_back (keep_last CAP a) empty_deque) }
         ensures source { IfErr result (λ refusal. refusal.source ≡ a) }
         ensures refused { OnErr result (0 < CAP * type_size T.row) }
     {
@@ -127,7 +127,7 @@ impl<T, const CAP: usize, B: Behavior> ArrayDeque<T, CAP, B> {
     where
         T: Copy,
         requires { length self.old.items + length items.now ≤ CAP }
-        ensures { self.new ≡ put_behind items.now self.old }
+        ensures { self.new ≡ with_back items.now self.old }
     {
         for item in items {
             self.ring.push_back(*item);

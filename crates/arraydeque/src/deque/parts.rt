@@ -39,15 +39,15 @@ impl<T, const CAP: usize, B: Behavior> ArrayDeque<T, CAP, B> {
         ensures unchanged { OnErr result (self.new ≡ self.old) }
         ensures refused { OnErr result (0 < count_within (R.names_start range) (R.names_end range) self.old.items * type_size T.row) }
     {
-        let start = match range.start() {
-            Some(start) => start,
+        let from = match range.start() {
+            Some(from) => from,
             None => 0,
         };
-        let end = match range.end() {
-            Some(end) => end,
+        let to = match range.end() {
+            Some(to) => to,
             None => self.len(),
         };
-        let ring = self.ring.drain(start, end)?;
+        let ring = self.ring.drain(from, to)?;
         Ok(Drain::of(ring))
     }
 

@@ -1,5 +1,5 @@
 use Rattle.std.proofs.Common.{◌≡◌, ◌<◌, ◌++◌, take, reverse}
-use Rattle.arraydeque.specs.Deque.{pushed_before}
+use Rattle.arraydeque.specs.Deque.{wrapped_front}
 use Rattle.arraydeque.proofs.deque.extend.ArrayDeque+T+CAP+Wrapping.extend_front.Given as goal
 
 abbrev pub invariant-loop-element : goal.invariant-loop-element
@@ -7,6 +7,6 @@ invariant-loop-element g l = record {
   can_next : (goal.iterator-loop-element g).can_next l.element-iterator;
   finite : (goal.iterator-loop-element g).is_finite l.element-iterator;
   items : l.self.items ≡ take g.row.CAP (reverse l.yielded ++ l.fn.self.items);
-  pushed : 0 < g.row.CAP → l.self ≡ pushed_before g.row.CAP l.yielded l.fn.self;
+  pushed : 0 < g.row.CAP → l.self ≡ wrapped_front g.row.CAP l.yielded l.fn.self;
   no_places : g.row.CAP ≡ 0 → l.self ≡ l.fn.self;
 }

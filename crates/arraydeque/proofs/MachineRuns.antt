@@ -1,0 +1,34 @@
+-- A run of the list machine grows by one call at its end, and costs what that call costs more.
+use Rattle.std.proofs.Common.{◌≡◌, ℕ, ◌+◌, List, [], ◌∷◌, ◌++◌, refl, ap, subst, arith}
+use Rattle.arraydeque.specs.Costs.{price_of, price_of_run, CallCosts, RunCosts}
+use Rattle.arraydeque.specs.Deque.{DequeState}
+use Rattle.arraydeque.specs.Machine.{Answers, answer_of}
+use Rattle.arraydeque.specs.Policy.{Policy}
+use Rattle.arraydeque.specs.Run.{Run}
+use Rattle.arraydeque.specs.declared.run.Call.{Call}
+use Rattle.arraydeque.specs.declared.run.Reply.{Reply}
+
+module _ {X B : Type 0} {n : ℕ} (p : Policy) (c : Call X) (r : Reply X n B) where
+  -- the run with one call more, and what it costs
+  Run-push : (l : List X) (cs : List (Call X)) (rs : List (Reply X n B)) (k last : List X)
+      → (so_far : Run p l cs rs k) → Answers p n k c (answer_of r) last
+      → (run : Run p l (cs ++ c ∷ []) (rs ++ r ∷ []) last)
+      × (price_of_run p l (cs ++ c ∷ []) (rs ++ r ∷ []) last run
+      ≡ price_of_run p l cs rs k so_far + price_of c (answer_of r) k)
+  Run-push l [] [] k last so_far answered = (
+    (last, subst (λ m. Answers p n m c (answer_of r) last) so_far answered, refl),
+    omega (arith, ap (price_of c (answer_of r)) so_far),
+  )
+  Run-push l [] (r' ∷ rs) k last so_far answered = absurd so_far
+  Run-push l (c' ∷ cs) [] k last so_far answered = absurd so_far
+  Run-push l (c' ∷ cs) (r' ∷ rs) k last so_far answered =
+      let rest = Run-push so_far.0 cs rs k last so_far.2 answered in
+      ((so_far.0, so_far.1, rest.0), omega (arith, rest.1))
+
+  -- the same, with the work of the deque
+  pub RunCosts-push : (old mid new : DequeState X) (cs : List (Call X)) (rs : List (Reply X n B))
+      → RunCosts p old cs rs mid → Answers p n mid.items c (answer_of r) new.items
+      → CallCosts c (answer_of r) mid new → RunCosts p old (cs ++ c ∷ []) (rs ++ r ∷ []) new
+  RunCosts-push old mid new cs rs so_far answered costs =
+      let longer = Run-push old.items cs rs mid.items new.items so_far.run answered in
+      record { run = longer.0; work = omega (arith, so_far.work, costs, longer.1) }

@@ -1,0 +1,72 @@
+//! What may cross threads: a deque, what was drained from one, and the errors, where their items may.
+use crate::build::holds;
+use arraydeque::behavior::Behavior;
+use arraydeque::{ArrayDeque, CapacityError, Drain, MakeError, Saturating, Wrapping};
+use std::marker::{Send, Sync};
+use std::test::Fail;
+
+/// Takes what may go to another thread.
+fn sent<T: Send>(value: T) -> T {
+    value
+}
+
+/// Takes what several threads may read.
+fn shared<T: Sync>(value: &T) -> &T {
+    value
+}
+
+fn deque_sent<T: Send, const CAP: usize, B: Behavior + Send>(
+    deque: ArrayDeque<T, CAP, B>,
+) -> ArrayDeque<T, CAP, B> {
+    sent(deque)
+}
+
+fn deque_shared<T: Sync, const CAP: usize, B: Behavior + Sync>(
+    deque: &ArrayDeque<T, CAP, B>,
+) -> &ArrayDeque<T, CAP, B> {
+    sent(shared(deque))
+}
+
+fn drain_sent<T: Send>(drain: Drain<T>) -> Drain<T> {
+    sent(drain)
+}
+
+fn drain_shared<T: Sync>(drain: &Drain<T>) -> &Drain<T> {
+    sent(shared(drain))
+}
+
+fn errors_sent<T: Send>(
+    full: CapacityError<T>,
+    refused: MakeError<T>,
+) -> (CapacityError<T>, MakeError<T>) {
+    (sent(full), sent(refused))
+}
+
+fn errors_shared<'a, T: Sync>(
+    full: &'a CapacityError<T>,
+    refused: &'a MakeError<T>,
+) -> (&'a CapacityError<T>, &'a MakeError<T>) {
+    (sent(shared(full)), sent(shared(refused)))
+}
+
+#[test]
+fn deques_cross_threads(rt: HostRuntime) -> Result<(), Fail> {
+    let mut deque: ArrayDeque<u64, 2, Saturating> = ArrayDeque::new(rt.alloc())?;
+    deque.push_back(1).map_err(|_| "no room")?;
+    let deque = deque_sent(deque);
+    assert!(rt; holds(deque_shared(&deque), &[1]));
+    let mut deque: ArrayDeque<u64, 2, Wrapping> = deque_sent(deque.into());
+    deque.push_back(2);
+    assert!(rt; holds(deque_shared(&deque), &[1, 2]));
+    let drain = drain_sent(deque.drain(1..)?);
+    assert_eq!(rt; drain_shared(&drain).len(), 1);
+    Ok(())
+}
+
+#[test]
+fn errors_cross_threads(rt: HostRuntime) -> Result<(), Fail> {
+    let (full, refused) = errors_sent(CapacityError { element: 1_u64 }, MakeError { source: 2 });
+    let (full, refused) = errors_shared(&full, &refused);
+    assert_eq!(rt; (full.element, refused.source), (1, 2));
+    Ok(())
+}
