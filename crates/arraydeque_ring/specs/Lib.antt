@@ -6,4 +6,5 @@ pub mod Places
 pub mod Retained
 pub mod Ring
 pub mod RingLends
+pub mod Sides
 pub mod Steps

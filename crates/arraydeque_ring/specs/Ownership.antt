@@ -1,4 +1,5 @@
--- What a `Slots` owns and lends: its places, side by side in one block, and the right to free that block.
+-- What a `Slots` owns and lends: its places, side by side in one block, and the right to free that
+-- block.
 use Rattle.std.specs.Prelude.{ℕ, ◌+◌, ◌*◌, ◌^◌, List, [], ◌∷◌, length, Option, Some, None, Bool, true, false, nat_lt}
 use Rattle.std.specs.Mem.{type_size}
 use Rattle.std.specs.contracts.impls.GlobalAllocator.TheImpl as heap
@@ -43,10 +44,13 @@ module _ (R : RattleType) where
 
   -- the right to free the block of n places at p, which is there unless they take no bytes
   abbrev pub right_to_free : Global → ℕ → Ptr → Fml
-  right_to_free alloc n p = owned_if (nat_lt 0 (n * type_size R)) (heap.ghosts.dealloc_token alloc (raw (ty_array (lone R.mir) n)) p)
+  right_to_free alloc n p = owned_if (nat_lt 0 (n * type_size R))
+      (heap.ghosts.dealloc_token alloc (raw (ty_array (lone R.mir) n)) p)
 
   abbrev pub slots_owned : Global → Ptr → List (Option R.Denot) → Fml
-  slots_owned alloc (block_ptr b o) ps = fsep (within_reach o ps) (fsep (places_owned b o ps) (right_to_free alloc (length ps) (block_ptr b o)))
+  slots_owned alloc (block_ptr b o) ps =
+      fsep (within_reach o ps)
+      (fsep (places_owned b o ps) (right_to_free alloc (length ps) (block_ptr b o)))
   slots_owned alloc null_ptr ps = ffalse
 
   abbrev pub slots_lent : Ptr → List (Option R.Denot) → Lft → Fml

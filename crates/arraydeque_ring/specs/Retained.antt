@@ -13,9 +13,13 @@ count_moved (false ∷ bs) = count_by (λ b. b) bs
 
 -- R answered once at each item in turn, from f on, and the items answered true stay, in order; each
 -- that goes is taken out, and each whose index changes is moved once
-pub record Retains {F X : Type 0} (R : F → X → Bool → F → Type 0) (f : F) (old new : RingState X) : Type 0 where
+pub record Retains {F X : Type 0} (R : F → X → Bool → F → Type 0) (f : F)
+    (old new : RingState X) : Type 0 where
   pub answers : List Bool
   pub last : F
   pub one_each : length answers ≡ length old.items
   pub in_turn : ReturnsInTurn R f answers old.items last
-  pub kept : new ≡ record old { items = items_where_true answers old.items; steps = more_takes (count_by not answers) (more_moves (count_moved answers) old.steps) }
+  pub kept : new ≡ record old {
+    items = items_where_true answers old.items;
+    steps = more_takes (count_by not answers) (more_moves (count_moved answers) old.steps);
+  }

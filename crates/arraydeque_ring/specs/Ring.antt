@@ -2,7 +2,8 @@
 use Rattle.std.specs.Prelude.{◌≡◌, ℕ, ◌+◌, ◌-◌, ◌%◌, List, [], ◌∷◌, ◌++◌, length, map, take, drop, replicate, Option, Some, None, Bool, true, false, is_some}
 use Rattle.arraydeque_ring.specs.Steps.{Steps, no_steps}
 
--- a ring: its items from front to back, how many there may be, the place of the first, and the steps of its region
+-- a ring: its items from front to back, how many there may be, the place of the first, and the
+-- steps of its region
 pub record RingState (X : Type 0) : Type 0 where
   pub items : List X
   pub capacity : ℕ
@@ -31,6 +32,7 @@ module _ {X : Type 0} where
   abbrev pub filled : List (Option X) → List Bool
   filled ps = map is_some ps
 
--- of the places whose fillings are given, the len from `start` on, round the end, are filled, and no others
+-- of the places whose fillings are given, the len from `start` on, round the end, are filled, and
+-- no others
 abbrev pub FilledFrom : ℕ → ℕ → List Bool → Type 0
 FilledFrom start len fs = turned start fs ≡ replicate len true ++ replicate (length fs - len) false

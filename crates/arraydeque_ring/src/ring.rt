@@ -2,7 +2,7 @@
 //!
 //! A contract sees a [`Ring`] as its items from front to back, its capacity, the place of its first
 //! item and the steps of its region. A ring knows no policy: a push asks for room.
-ghost use Rattle.std.specs.Prelude.{◌≡◌, ◌-◌, ◌*◌, ◌+◌, ◌<◌, ◌≤◌, [], ◌∷◌, ◌++◌, length, take, drop, slice_get, option_copied, IfOk, OnErr, OnSome, IfNone};
+ghost use Rattle.std.specs.Prelude.{◌≡◌, ◌-◌, ◌*◌, ◌+◌, ◌^◌, ◌<◌, ◌≤◌, [], ◌∷◌, ◌++◌, length, take, drop, slice_get, option_copied, IfOk, OnErr, OnSome, IfNone};
 ghost use Rattle.std.specs.Borrow.{sem};
 ghost use Rattle.std.specs.Mem.{type_size};
 ghost use Rattle.std.specs.Option.{option_copied_mut};
@@ -40,7 +40,8 @@ impl<T> Model for Ring<T> {
       steps = r.slots.steps;
     } };
 
-    ghost invariant = { λ r. (r.start ≤ length r.slots.places - 1) × FilledFrom r.start r.len (filled r.slots.places) };
+    ghost invariant = { λ r. (r.start ≤ length r.slots.places - 1)
+        × FilledFrom r.start r.len (filled r.slots.places) };
 }
 
 impl<T> Ring<T> {
@@ -94,7 +95,7 @@ impl<T> Ring<T> {
           steps = more_puts 1 self.old.steps;
         } }
     {
-        let behind = wrap_add(self.start, self.len, self.slots.capacity());
+        let behind = self.place(self.len);
         self.slots.put(behind, item);
         self.len += 1;
     }
@@ -109,8 +110,7 @@ impl<T> Ring<T> {
           steps = more_puts 1 self.old.steps;
         } }
     {
-        let capacity = self.slots.capacity();
-        let before = wrap_add(self.start, capacity - 1, capacity);
+        let before = self.place(self.slots.capacity() - 1);
         self.slots.put(before, item);
         self.start = before;
         self.len += 1;
@@ -132,7 +132,7 @@ impl<T> Ring<T> {
             return None;
         }
         let first = self.start;
-        self.start = wrap_add(first, 1, self.slots.capacity());
+        self.start = self.place(1);
         self.len -= 1;
         Some(self.slots.take(first))
     }
@@ -150,8 +150,8 @@ impl<T> Ring<T> {
         if self.len == 0 {
             return None;
         }
+        let last = self.place(self.len - 1);
         self.len -= 1;
-        let last = wrap_add(self.start, self.len, self.slots.capacity());
         Some(self.slots.take(last))
     }
 
@@ -163,8 +163,7 @@ impl<T> Ring<T> {
         if index >= self.len {
             return None;
         }
-        let place = wrap_add(self.start, index, self.slots.capacity());
-        Some(self.slots.get(place))
+        Some(self.slots.get(self.place(index)))
     }
 
     /// The item at an index for writing, if there is one. What is written through it changes that
@@ -177,7 +176,7 @@ impl<T> Ring<T> {
         if index >= self.len {
             return None;
         }
-        let place = wrap_add(self.start, index, self.slots.capacity());
+        let place = self.place(index);
         let slots = &mut self.slots;
         Some(slots.get_mut(place))
     }
@@ -197,6 +196,17 @@ impl<T> Ring<T> {
                 self.slots.slice(0, self.len - to_end),
             )
         }
+    }
+
+    /// The place `index` places after the start, round the region's end.
+    #[inline(always)]
+    fn place(&self, index: usize) -> usize
+        requires some { 0 < self.now.capacity }
+        requires in_reach { index ≤ self.now.capacity }
+        ensures place { result ≡ place_of self.now.start index self.now.capacity }
+        ensures fits { self.now.capacity < 2 ^ 64 }
+    {
+        wrap_add(self.start, index, self.slots.capacity())
     }
 }
 

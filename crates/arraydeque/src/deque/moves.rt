@@ -1,8 +1,8 @@
 //! Calls that open or close a gap in the middle: an insert, which only one policy offers, and a
 //! removal.
-ghost use Rattle.std.specs.Prelude.{◌≡◌, ◌<◌, ◌≤◌, ◌-◌, length, slice_get, min, nat_lt, if◌then◌else◌, IfErr, OnOk, OnErr, OnSome, IfNone, IsOk, ◌↔◌};
+ghost use Rattle.std.specs.Prelude.{◌≡◌, ◌<◌, ◌≤◌, ◌-◌, length, slice_get, IfErr, OnOk, OnErr, OnSome, IfNone, IsOk, ◌↔◌};
 ghost use Rattle.std.specs.List.{insert, remove};
-ghost use Rattle.arraydeque_ring.specs.Ring.{place_of};
+ghost use Rattle.arraydeque_ring.specs.Sides.{moves_to_insert, moves_to_remove, start_opened, start_closed};
 ghost use Rattle.arraydeque_ring.specs.Steps.{more_moves, more_puts, more_takes};
 
 use super::ArrayDeque;
@@ -18,11 +18,9 @@ impl<T, const CAP: usize> ArrayDeque<T, CAP, Saturating> {
         ensures room { IsOk result ↔ (length self.old.items < CAP) }
         ensures items { OnOk result (self.new.items ≡ insert self.old.items index element) }
         ensures start { OnOk result (self.new.start ≡
-            (if nat_lt index (length self.old.items - index)
-            then place_of self.old.start (CAP - 1) CAP
-            else self.old.start)) }
+            start_opened index (length self.old.items - index) CAP self.old.start) }
         ensures steps { OnOk result (self.new.steps ≡
-            more_puts 1 (more_moves (min index (length self.old.items - index)) self.old.steps)) }
+            more_puts 1 (more_moves (moves_to_insert index (length self.old.items)) self.old.steps)) }
         ensures full { IfErr result (λ refusal. refusal.element ≡ element) }
         ensures unchanged { OnErr result (self.new ≡ self.old) }
     {
@@ -41,11 +39,9 @@ impl<T, const CAP: usize, B: Behavior> ArrayDeque<T, CAP, B> {
         ensures value { result ≡ slice_get self.old.items index }
         ensures items { self.new.items ≡ remove self.old.items index }
         ensures start { OnSome result (self.new.start ≡
-            (if nat_lt index (length self.old.items - 1 - index)
-            then place_of self.old.start 1 CAP
-            else self.old.start)) }
+            start_closed index 1 (length self.old.items - 1 - index) CAP self.old.start) }
         ensures steps { OnSome result (self.new.steps ≡
-            more_moves (min index (length self.old.items - 1 - index)) (more_takes 1 self.old.steps)) }
+            more_moves (moves_to_remove index (length self.old.items)) (more_takes 1 self.old.steps)) }
         ensures none { IfNone result (self.new ≡ self.old) }
     {
         if index >= self.len() {

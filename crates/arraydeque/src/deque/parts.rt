@@ -1,7 +1,7 @@
 //! Taking a stretch out of a deque, and cutting one in two.
 ghost use Rattle.std.specs.Prelude.{◌≡◌, ◌-◌, ◌*◌, ◌<◌, ◌≤◌, length, take, drop, min, nat_lt, if◌then◌else◌, IfOk, OnOk, OnErr};
 ghost use Rattle.std.specs.Mem.{type_size};
-ghost use Rattle.arraydeque_ring.specs.Ring.{place_of};
+ghost use Rattle.arraydeque_ring.specs.Sides.{start_closed};
 ghost use Rattle.arraydeque_ring.specs.Steps.{no_steps, more_moves, more_puts, more_takes};
 ghost use Rattle.arraydeque.specs.Range.{first_of, end_of, count_within, count_behind, items_within, items_around};
 
@@ -30,8 +30,7 @@ impl<T, const CAP: usize, B: Behavior> ArrayDeque<T, CAP, B> {
         ensures start { let before = first_of (R.names_start range) in
             let gap = count_within (R.names_start range) (R.names_end range) self.old.items in
             let behind = count_behind (R.names_start range) (R.names_end range) self.old.items in
-            OnOk result (self.new.start ≡
-            (if nat_lt before behind then place_of self.old.start gap CAP else self.old.start)) }
+            OnOk result (self.new.start ≡ start_closed before gap behind CAP self.old.start) }
         ensures steps { let before = first_of (R.names_start range) in
             let gap = count_within (R.names_start range) (R.names_end range) self.old.items in
             let behind = count_behind (R.names_start range) (R.names_end range) self.old.items in

@@ -1,5 +1,5 @@
 -- What the fields of an open ring say of the value that its contracts see.
-use Rattle.std.proofs.Common.{◌≡◌, ℕ, ◌+◌, ◌-◌, ◌%◌, ◌≤◌, length, refl, subst, ap, ◌∙◌}
+use Rattle.std.proofs.Common.{◌≡◌, ℕ, ◌+◌, ◌-◌, ◌%◌, ◌≤◌, length, refl, subst, sym, ap, ◌∙◌}
 use Rattle.arraydeque_ring.specs.declared.ring.Ring.TheInside.{Inside}
 use Rattle.arraydeque_ring.specs.Ring.{RingState, place_of, turned, values, filled, FilledFrom}
 use Rattle.arraydeque_ring.proofs.places.LaidOut.{LaidOut, LaidOut-values, values-LaidOut, FilledFrom-LaidOut}
@@ -34,3 +34,7 @@ module _ {X : Type 0} where
   -- the place that `wrap_add` counts is that of the index
   pub place_at : {r : Inside X} {v : RingState X} {place capacity : ℕ} → Opened r v → (k : ℕ) → capacity ≡ length r.slots.places → place ≡ (r.start + k) % capacity → place ≡ place_of r.start k v.capacity
   place_at {r = r} o k e is = is ∙ ap (place_of r.start k) (e ∙ o.laid.long)
+
+  -- and so is that of `Ring::place`
+  pub placed : {r : Inside X} {v : RingState X} {place : ℕ} → Opened r v → (k : ℕ) → place ≡ place_of v.start k v.capacity → place ≡ place_of r.start k v.capacity
+  placed {v = v} o k is = is ∙ ap (λ t. place_of t k v.capacity) (sym o.start)

@@ -4,6 +4,7 @@ ghost use Rattle.std.specs.Prelude.{◌≡◌, ◌-◌, ◌+◌, ◌<◌, ◌≤
 ghost use Rattle.std.specs.List.{insert, remove};
 ghost use Rattle.arraydeque_ring.specs.Places.{IsFilledRun};
 ghost use Rattle.arraydeque_ring.specs.Ring.{place_of, turned};
+ghost use Rattle.arraydeque_ring.specs.Sides.{moves_to_insert, moves_to_remove, start_opened, start_closed};
 ghost use Rattle.arraydeque_ring.specs.Gaps.{IsEmptyRun, runs_swapped};
 ghost use Rattle.arraydeque_ring.specs.Steps.{more_puts, more_takes, more_moves};
 
@@ -21,11 +22,9 @@ impl<T> Ring<T> {
         ensures items { self.new.items ≡ insert self.old.items index item }
         ensures capacity { self.new.capacity ≡ self.old.capacity }
         ensures start { self.new.start ≡
-            (if nat_lt index (length self.old.items - index)
-            then place_of self.old.start (self.old.capacity - 1) self.old.capacity
-            else self.old.start) }
+            start_opened index (length self.old.items - index) self.old.capacity self.old.start }
         ensures steps { self.new.steps ≡
-            more_puts 1 (more_moves (min index (length self.old.items - index)) self.old.steps) }
+            more_puts 1 (more_moves (moves_to_insert index (length self.old.items)) self.old.steps) }
     {
         let capacity = self.slots.capacity();
         let behind = self.len - index;
@@ -47,11 +46,9 @@ impl<T> Ring<T> {
         ensures items { self.new.items ≡ remove self.old.items index }
         ensures capacity { self.new.capacity ≡ self.old.capacity }
         ensures start { self.new.start ≡
-            (if nat_lt index (length self.old.items - 1 - index)
-            then place_of self.old.start 1 self.old.capacity
-            else self.old.start) }
+            start_closed index 1 (length self.old.items - 1 - index) self.old.capacity self.old.start }
         ensures steps { self.new.steps ≡
-            more_moves (min index (length self.old.items - 1 - index)) (more_takes 1 self.old.steps) }
+            more_moves (moves_to_remove index (length self.old.items)) (more_takes 1 self.old.steps) }
     {
         let item = self
             .slots
@@ -77,8 +74,7 @@ pub(super) fn close_gap<T>(
     requires filled_before { IsFilledRun (turned start slots.old.places) 0 before }
     requires empty { IsEmptyRun (turned start slots.old.places) before gap }
     requires filled_behind { IsFilledRun (turned start slots.old.places) (before + gap) behind }
-    ensures start { result ≡
-        (if nat_lt before behind then place_of start gap (length slots.old.places) else start) }
+    ensures start { result ≡ start_closed before gap behind (length slots.old.places) start }
     ensures places { turned start slots.new.places ≡
         (if nat_lt before behind
         then runs_swapped 0 before gap (turned start slots.old.places)

@@ -4,6 +4,7 @@ ghost use Rattle.std.specs.List.{remove_range};
 ghost use Rattle.std.specs.Mem.{type_size};
 ghost use Rattle.arraydeque_ring.specs.Places.{IsFilledRun};
 ghost use Rattle.arraydeque_ring.specs.Ring.{place_of, turned, values};
+ghost use Rattle.arraydeque_ring.specs.Sides.{moves_to_drain, start_closed};
 ghost use Rattle.arraydeque_ring.specs.Gaps.{run_emptied};
 ghost use Rattle.arraydeque_ring.specs.Steps.{no_steps, more_puts, more_takes, more_moves};
 
@@ -32,14 +33,12 @@ impl<T> Ring<T> {
         }) }
         ensures items { OnOk result (self.new.items ≡ remove_range self.old.items from to) }
         ensures capacity { OnOk result (self.new.capacity ≡ self.old.capacity) }
-        ensures start { OnOk result (self.new.start ≡
-            (if nat_lt from (length self.old.items - to)
-            then place_of self.old.start (to - from) self.old.capacity
-            else self.old.start)) }
-        ensures steps { OnOk result (self.new.steps ≡ more_moves
-            (if nat_lt from to then min from (length self.old.items - to) else 0)
+        ensures start { let after = length self.old.items - to in OnOk result (self.new.start ≡
+            start_closed from (to - from) after self.old.capacity self.old.start) }
+        ensures steps { OnOk result (self.new.steps ≡
+            more_moves (moves_to_drain from to (length self.old.items))
             (more_takes (to - from) self.old.steps)) }
-        ensures err { OnErr result (self.new ≡ self.old) }
+        ensures unchanged { OnErr result (self.new ≡ self.old) }
         ensures refused { OnErr result (0 < (to - from) * type_size T.row) }
     {
         let count = to - from;
@@ -58,7 +57,7 @@ impl<T> Ring<T> {
     /// items of size zero. No kept item moves.
     pub fn split_off(&mut self, at: usize) -> Result<Ring<T>, AllocError>
         requires { at ≤ length self.old.items }
-        ensures split { IfOk result (λ ring. ring ≡ record {
+        ensures tail { IfOk result (λ ring. ring ≡ record {
           items = drop at self.old.items;
           capacity = self.old.capacity;
           start = 0;
@@ -68,7 +67,7 @@ impl<T> Ring<T> {
           items = take at self.old.items;
           steps = more_takes (length self.old.items - at) self.old.steps;
         }) }
-        ensures err { OnErr result (self.new ≡ self.old) }
+        ensures unchanged { OnErr result (self.new ≡ self.old) }
         ensures refused { OnErr result (0 < self.old.capacity * type_size T.row) }
     {
         let mut rest = Ring::new(self.alloc, self.slots.capacity())?;

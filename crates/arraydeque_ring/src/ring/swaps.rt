@@ -4,7 +4,6 @@ ghost use Rattle.arraydeque_ring.specs.Ring.{place_of};
 ghost use Rattle.arraydeque_ring.specs.Steps.{more_takes, more_exchanges};
 
 use super::Ring;
-use crate::wrap::wrap_add;
 
 impl<T> Ring<T> {
     /// Exchanges two items. Nothing happens where the two are one.
@@ -17,9 +16,8 @@ impl<T> Ring<T> {
           steps = more_exchanges (if i == j then 0 else 1) self.old.steps;
         } }
     {
-        let capacity = self.slots.capacity();
-        let a = wrap_add(self.start, i, capacity);
-        let b = wrap_add(self.start, j, capacity);
+        let a = self.place(i);
+        let b = self.place(j);
         self.slots.exchange(a, b);
     }
 
@@ -43,8 +41,8 @@ impl<T> Ring<T> {
         self.pop_back()
     }
 
-    /// Takes the item at an index off, if there is one, and puts the first item in its place, by one
-    /// exchange at most. The start goes on to the next place.
+    /// Takes the item at an index off, if there is one, and puts the first item in its place, by
+    /// one exchange at most. The start goes on to the next place.
     #[inline]
     pub fn swap_remove_front(&mut self, index: usize) -> Option<T>
         ensures value { result ≡ slice_get self.old.items index }

@@ -4,7 +4,7 @@ use Rattle.std.proofs.lemmas.Option.{slice_get_past}
 use Rattle.arraydeque_ring.specs.Ring.{place_of}
 use Rattle.arraydeque_ring.specs.Steps.{more_takes}
 use Rattle.arraydeque_ring.proofs.places.LaidOut.{length_within, held_at-start, IsFilled-start, LaidOut-take_front}
-use Rattle.arraydeque_ring.proofs.places.Opened.{Opened, opened, closed, kept}
+use Rattle.arraydeque_ring.proofs.places.Opened.{Opened, opened, closed, kept, placed}
 use Rattle.arraydeque_ring.proofs.ring.Ring.pop_front.Given.{Over}
 use Rattle.arraydeque_ring.proofs.ring.Ring.pop_front.Goals as goal
 
@@ -16,7 +16,7 @@ returns-then-self-eq0-clause-value g c =
 pub take-requires : goal.take-requires
 take-requires g c = let ring = opened c.self.inside c.self.invariant c.self.view_is in IsFilled-start ring.laid (omega arith)
 
-popped : (g : Over) (c : goal.After-take g) → Opened record { slots = c.take.new.self; start = c.wrap_add-self-inside.result; len = c.self.inside.len - 1; alloc = c.self.inside.alloc }
+popped : (g : Over) (c : goal.After-take g) → Opened record { slots = c.take.new.self; start = c.place-self-inside.result; len = c.self.inside.len - 1; alloc = c.self.inside.alloc }
     record c.args.self.now {
       items = drop 1 c.args.self.now.items;
       start = place_of c.args.self.now.start 1 c.args.self.now.capacity;
@@ -24,11 +24,10 @@ popped : (g : Over) (c : goal.After-take g) → Opened record { slots = c.take.n
     }
 popped g c =
     let ring = opened c.self.inside c.self.invariant c.self.view_is in
-    let all = c.capacity.ensures ∙ ring.laid.long in
     record {
-      laid = rw (c.take.ensures.places, c.wrap_add-self-inside.ensures, all) (LaidOut-take_front ring.laid (omega arith));
+      laid = rw (c.take.ensures.places, placed ring _ c.place-self-inside.ensures.place) (LaidOut-take_front ring.laid (omega arith));
       len = omega (arith, length-drop 1 c.args.self.now.items);
-      start = rw (c.wrap_add-self-inside.ensures, all, ring.start);
+      start = c.place-self-inside.ensures.place;
       steps = c.take.ensures.steps ∙ ap (more_takes 1) ring.steps;
     }
 

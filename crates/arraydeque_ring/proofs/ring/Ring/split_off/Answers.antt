@@ -36,8 +36,8 @@ after g c =
 pub invariant_of-self : goal.invariant_of-self
 invariant_of-self g c = kept (after g c)
 
-pub returns-clause-split : goal.returns-clause-split
-returns-clause-split g c =
+pub returns-clause-tail : goal.returns-clause-tail
+returns-clause-tail g c =
     let ring = opened c.self.inside c.self.invariant c.self.view_is in
     let rest = values-run ring.laid c.args.at (length c.args.self.now.items - c.args.at) (omega arith) ∙ take_rest c.args.self.now.items c.args.at in
     rw (c.take_run.ensures.taken, c.in_ok-rest.ensures.ok, ← ring.len, rest, c.capacity.ensures, ring.laid.long)

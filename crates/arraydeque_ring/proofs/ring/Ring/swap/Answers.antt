@@ -2,37 +2,37 @@ use Rattle.std.proofs.Common.{swap, if◌then◌else◌, ◌==◌, ◌∙◌, ar
 use Rattle.std.proofs.lemmas.List.Edits.{length-swap}
 use Rattle.arraydeque_ring.specs.Steps.{more_exchanges}
 use Rattle.arraydeque_ring.proofs.places.LaidOut.{length_within, IsFilled-place_of, LaidOut-swap}
-use Rattle.arraydeque_ring.proofs.places.Opened.{Opened, opened, closed, kept, place_at}
+use Rattle.arraydeque_ring.proofs.places.Opened.{Opened, opened, closed, kept, placed}
 use Rattle.arraydeque_ring.proofs.places.Turned.{one_place}
 use Rattle.arraydeque_ring.proofs.ring.Ring.swap.Given.{Over}
 use Rattle.arraydeque_ring.proofs.ring.Ring.swap.Goals as goal
 
-pub wrap_add-a-requires-clause-in_reach : goal.wrap_add-a-requires-clause-in_reach
-wrap_add-a-requires-clause-in_reach g c =
+pub place-a-requires-clause-in_reach : goal.place-a-requires-clause-in_reach
+place-a-requires-clause-in_reach g c =
     let ring = opened c.self.inside c.self.invariant c.self.view_is in
     omega (arith, ring.laid.long, length_within ring.laid)
 
-pub wrap_add-b-requires-clause-in_reach : goal.wrap_add-b-requires-clause-in_reach
-wrap_add-b-requires-clause-in_reach g c =
+pub place-b-requires-clause-in_reach : goal.place-b-requires-clause-in_reach
+place-b-requires-clause-in_reach g c =
     let ring = opened c.self.inside c.self.invariant c.self.view_is in
     omega (arith, ring.laid.long, length_within ring.laid)
 
 pub exchange-requires-clause-a_filled : goal.exchange-requires-clause-a_filled
 exchange-requires-clause-a_filled g c =
     let ring = opened c.self.inside c.self.invariant c.self.view_is in
-    rw (place_at ring _ c.capacity-capacity.ensures c.wrap_add-a.ensures) (IsFilled-place_of ring.laid _ c.requires.i_in_bounds)
+    rw (placed ring _ c.place-a.ensures.place) (IsFilled-place_of ring.laid _ c.requires.i_in_bounds)
 
 pub exchange-requires-clause-b_filled : goal.exchange-requires-clause-b_filled
 exchange-requires-clause-b_filled g c =
     let ring = opened c.self.inside c.self.invariant c.self.view_is in
-    rw (place_at ring _ c.capacity-capacity.ensures c.wrap_add-b.ensures) (IsFilled-place_of ring.laid _ c.requires.j_in_bounds)
+    rw (placed ring _ c.place-b.ensures.place) (IsFilled-place_of ring.laid _ c.requires.j_in_bounds)
 
 after : (g : Over) (c : goal.After-exchange g) → Opened record { slots = c.exchange.new.self; start = c.self.inside.start; len = c.self.inside.len; alloc = c.self.inside.alloc }
     record c.args.self.now { items = swap c.args.self.now.items c.args.i c.args.j; steps = more_exchanges (if c.args.i == c.args.j then 0 else 1) c.args.self.now.steps }
 after g c =
     let ring = opened c.self.inside c.self.invariant c.self.view_is in
-    let a = place_at ring _ c.capacity-capacity.ensures c.wrap_add-a.ensures in
-    let b = place_at ring _ c.capacity-capacity.ensures c.wrap_add-b.ensures in
+    let a = placed ring _ c.place-a.ensures.place in
+    let b = placed ring _ c.place-b.ensures.place in
     let within = length_within ring.laid in
     let same = one_place c.self.inside.start c.args.i c.args.j c.args.self.now.capacity (omega (arith, ring.laid.in_region)) (omega arith) (omega arith) in
     record {
