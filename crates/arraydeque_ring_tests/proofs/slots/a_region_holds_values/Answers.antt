@@ -1,6 +1,6 @@
 -- The values that stand in the places, which the calls ask for.
 use Rattle.std.proofs.Common.{rules, [], ◌∷◌}
-use Rattle.arraydeque_tests.proofs.places.a_region_holds_values.Goals as goal
+use Rattle.arraydeque_ring_tests.proofs.slots.a_region_holds_values.Goals as goal
 
 pub get-requires : goal.get-requires
 get-requires g c = (20, search rules)
