@@ -18,7 +18,9 @@ fn comes_to_one_piece<const CAP: usize, B: Behavior>(
     assert!(rt; !deque.as_slices().1.is_empty(), "{list:?}");
     for _ in 0..2 {
         deque.linearize();
-        assert_eq!(rt; deque.as_slices(), (list, [].as_slice()));
+        let (first, second) = deque.as_slices();
+        assert_eq!(rt; first, list);
+        assert_eq!(rt; second.len(), 0);
     }
 }
 
