@@ -10,4 +10,5 @@ pub mod LaidOut
 pub mod Opened
 pub mod Swapped
 pub mod Turned
+pub mod Turning
 pub mod Underway

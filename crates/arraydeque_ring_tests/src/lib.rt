@@ -5,6 +5,8 @@
 #[cfg(test)]
 mod capacities;
 #[cfg(test)]
+mod linearize;
+#[cfg(test)]
 mod ring;
 #[cfg(test)]
 mod slots;

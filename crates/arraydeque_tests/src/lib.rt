@@ -17,6 +17,8 @@ mod drops;
 #[cfg(test)]
 mod extend;
 #[cfg(test)]
+mod linearize;
+#[cfg(test)]
 mod lookahead;
 #[cfg(test)]
 mod makers;
