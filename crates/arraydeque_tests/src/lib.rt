@@ -10,6 +10,8 @@ mod build;
 #[cfg(test)]
 mod capacities;
 #[cfg(test)]
+mod compared;
+#[cfg(test)]
 mod drops;
 #[cfg(test)]
 mod edits;
