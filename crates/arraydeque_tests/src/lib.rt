@@ -10,6 +10,8 @@ mod build;
 #[cfg(test)]
 mod capacities;
 #[cfg(test)]
+mod clones;
+#[cfg(test)]
 mod compared;
 #[cfg(test)]
 mod drops;
