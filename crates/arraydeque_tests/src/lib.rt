@@ -11,6 +11,10 @@ mod build;
 #[cfg(test)]
 mod capacities;
 #[cfg(test)]
+mod clones;
+#[cfg(test)]
+mod compared;
+#[cfg(test)]
 mod deque;
 #[cfg(test)]
 mod drops;
