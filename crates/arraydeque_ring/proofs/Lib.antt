@@ -1,3 +1,4 @@
 pub mod memory
+pub mod moved
 pub mod places
 pub mod retained

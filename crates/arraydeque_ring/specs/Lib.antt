@@ -1,6 +1,7 @@
 pub mod Counted
 pub mod Gaps
 pub mod Lends
+pub mod Moved
 pub mod Ownership
 pub mod Places
 pub mod Retained

@@ -11,6 +11,7 @@ ghost use Rattle.arraydeque_ring.specs.Counted.{counted};
 ghost use Rattle.arraydeque_ring.specs.Steps.{Steps, more_puts, more_takes, more_moves, more_exchanges};
 
 mod raw;
+mod runs;
 
 use raw::size_of_item;
 use std::alloc::{AllocError, Global};

@@ -1,0 +1,5 @@
+pub mod Blocks
+pub mod Filled
+pub mod Flat
+pub mod Parts
+pub mod Round
