@@ -1,4 +1,5 @@
 pub mod Blocks
+pub mod Crossing
 pub mod Filled
 pub mod Flat
 pub mod Parts

@@ -10,7 +10,7 @@ use Rattle.arraydeque_ring.proofs.moved.Filled.{place_of-on}
 use Rattle.arraydeque_ring.proofs.places.Turned.{place_of_cases, place_of-lt, place_of-zero, length-turned, get_or-turned, turned_back}
 
 -- a distance is the same, wherever places are counted from
-distance-turned : (t i x n : ℕ) → t < n → i ≤ n → x < n → distance (place_of t i n) (place_of t x n) n ≡ distance i x n
+pub distance-turned : (t i x n : ℕ) → t < n → i ≤ n → x < n → distance (place_of t i n) (place_of t x n) n ≡ distance i x n
 distance-turned t i x n a b c =
     let p = place_of-lt t i n (omega arith) in
     let q = place_of-lt t x n (omega arith) in
@@ -26,7 +26,7 @@ module _ {X : Type 0} where
       rw (length-turned t ps, long, distance-turned t i x n a b lt, distance-turned t j x n a c lt, there, here) refl
 
   -- a move, of the places read from t on
-  turned-moved : (t i j len n : ℕ) (ps : List (Option X)) → length ps ≡ n → t < n → i ≤ n → j ≤ n → turned t (run_moved (place_of t i n) (place_of t j n) len ps) ≡ run_moved i j len (turned t ps)
+  pub turned-moved : (t i j len n : ℕ) (ps : List (Option X)) → length ps ≡ n → t < n → i ≤ n → j ≤ n → turned t (run_moved (place_of t i n) (place_of t j n) len ps) ≡ run_moved i j len (turned t ps)
   turned-moved t i j len n ps is a b c =
       let moved = run_moved (place_of t i n) (place_of t j n) len ps in
       let long = length-moved (place_of t i n) (place_of t j n) len ps ∙ is in
