@@ -1,6 +1,5 @@
 pub mod AndEmpty
 pub mod Cleared
-pub mod Crossed
 pub mod Emptied
 pub mod Exchanged
 pub mod Filled

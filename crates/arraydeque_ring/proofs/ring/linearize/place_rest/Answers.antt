@@ -23,29 +23,29 @@ room g c wraps =
       | inr fits ↦ room_for_first c.args.next (rest_wraps _ before (omega arith)) (omega arith) (omega arith)
     ]
 
-pub shift_earlier-requires-clause-empty : goal.shift_earlier-requires-clause-empty
-shift_earlier-requires-clause-empty g c = (in_one_piece g (goal.at.shift_earlier-requires-clause-empty g c).After-capacity (omega arith)).empty
+pub move_earlier-requires-clause-empty : goal.move_earlier-requires-clause-empty
+move_earlier-requires-clause-empty g c = (in_one_piece g (goal.at.move_earlier-requires-clause-empty g c).After-capacity (omega arith)).empty
 
-pub shift_earlier-requires-clause-filled : goal.shift_earlier-requires-clause-filled
-shift_earlier-requires-clause-filled g c = (in_one_piece g (goal.at.shift_earlier-requires-clause-filled g c).After-capacity (omega arith)).filled
+pub move_earlier-requires-clause-filled : goal.move_earlier-requires-clause-filled
+move_earlier-requires-clause-filled g c = (in_one_piece g (goal.at.move_earlier-requires-clause-filled g c).After-capacity (omega arith)).filled
 
-pub shift_later-requires-clause-filled : goal.shift_later-requires-clause-filled
-shift_later-requires-clause-filled g c = rw c.capacity.ensures (room g (goal.at.shift_later-requires-clause-filled g c).After-capacity (omega arith)).filled
+pub move_later-requires-clause-filled : goal.move_later-requires-clause-filled
+move_later-requires-clause-filled g c = rw c.capacity.ensures (room g (goal.at.move_later-requires-clause-filled g c).After-capacity (omega arith)).filled
 
-pub shift_later-requires-clause-empty : goal.shift_later-requires-clause-empty
-shift_later-requires-clause-empty g c = rw c.capacity.ensures (room g (goal.at.shift_later-requires-clause-empty g c).After-capacity (omega arith)).empty
+pub move_later-requires-clause-empty : goal.move_later-requires-clause-empty
+move_later-requires-clause-empty g c = rw c.capacity.ensures (room g (goal.at.move_later-requires-clause-empty g c).After-capacity (omega arith)).empty
 
 pub move_run-requires-clause-empty : goal.move_run-requires-clause-empty
 move_run-requires-clause-empty g c =
-    rw c.capacity.ensures ((room g (goal.at.move_run-requires-clause-empty g c).After-capacity (omega arith)).moved _ (rw c.capacity.ensures at c.shift_later.ensures.places)).0
+    rw c.capacity.ensures ((room g (goal.at.move_run-requires-clause-empty g c).After-capacity (omega arith)).moved _ (rw c.capacity.ensures at c.move_later.ensures.places)).0
 
 pub move_run-requires-clause-filled : goal.move_run-requires-clause-filled
 move_run-requires-clause-filled g c =
-    rw c.capacity.ensures ((room g (goal.at.move_run-requires-clause-filled g c).After-capacity (omega arith)).moved _ (rw c.capacity.ensures at c.shift_later.ensures.places)).1
+    rw c.capacity.ensures ((room g (goal.at.move_run-requires-clause-filled g c).After-capacity (omega arith)).moved _ (rw c.capacity.ensures at c.move_later.ensures.places)).1
 
 pub returns-then-left-first-clause-places : goal.returns-then-left-first-clause-places
-returns-then-left-first-clause-places g c = (in_one_piece g (goal.at.returns-then-left-first-clause-places g c).After-capacity (omega arith)).after _ c.shift_earlier.ensures.places
+returns-then-left-first-clause-places g c = (in_one_piece g (goal.at.returns-then-left-first-clause-places g c).After-capacity (omega arith)).after _ c.move_earlier.ensures.places
 
 pub returns-clause-places : goal.returns-clause-places
 returns-clause-places g c =
-    rw (c.move_run.ensures.places, c.capacity.ensures) ((room g (goal.at.returns-clause-places g c).After-capacity (omega arith)).moved _ (rw c.capacity.ensures at c.shift_later.ensures.places)).2
+    rw (c.move_run.ensures.places, c.capacity.ensures) ((room g (goal.at.returns-clause-places g c).After-capacity (omega arith)).moved _ (rw c.capacity.ensures at c.move_later.ensures.places)).2
