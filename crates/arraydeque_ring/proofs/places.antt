@@ -1,6 +1,7 @@
 pub mod AndEmpty
 pub mod Cleared
 pub mod Emptied
+pub mod Fewest
 pub mod Filled
 pub mod GapMoves
 pub mod Gapped

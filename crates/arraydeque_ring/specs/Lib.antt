@@ -1,3 +1,4 @@
+pub mod Changed
 pub mod Counted
 pub mod Gaps
 pub mod Lends

@@ -1,6 +1,7 @@
 //! Taking a stretch out of a deque, and cutting one in two.
-ghost use Rattle.std.specs.Prelude.{◌≡◌, ◌-◌, ◌*◌, ◌<◌, ◌≤◌, length, take, drop, min, nat_lt, if◌then◌else◌, IfOk, OnOk, OnErr};
+ghost use Rattle.std.specs.Prelude.{◌≡◌, ◌-◌, ◌+◌, ◌*◌, ◌<◌, ◌≤◌, length, take, drop, min, nat_lt, if◌then◌else◌, IfOk, OnOk, OnErr};
 ghost use Rattle.std.specs.Mem.{type_size};
+ghost use Rattle.arraydeque_ring.specs.Changed.{changed_drain, IsFewest};
 ghost use Rattle.arraydeque_ring.specs.Sides.{start_closed};
 ghost use Rattle.arraydeque_ring.specs.Steps.{no_steps, more_moves, more_puts, more_takes};
 ghost use Rattle.arraydeque.specs.Range.{first_of, end_of, count_within, count_behind, items_within, items_around};
@@ -36,6 +37,12 @@ impl<T, const CAP: usize, B: Behavior> ArrayDeque<T, CAP, B> {
             let behind = count_behind (R.names_start range) (R.names_end range) self.old.items in
             OnOk result (self.new.steps ≡
             more_moves (if nat_lt 0 gap then min before behind else 0) (more_takes gap self.old.steps)) }
+        ensures fewest { let before = first_of (R.names_start range) in
+            let gap = count_within (R.names_start range) (R.names_end range) self.old.items in
+            let behind = count_behind (R.names_start range) (R.names_end range) self.old.items in
+            let n = length self.old.items in
+            OnOk result (IsFewest (if nat_lt 0 gap then min before behind else 0) CAP
+            (changed_drain before (before + gap) n CAP self.old.start) self.new.start) }
         ensures unchanged { OnErr result (self.new ≡ self.old) }
         ensures refused { OnErr result (0 < count_within (R.names_start range) (R.names_end range) self.old.items * type_size T.row) }
     {
