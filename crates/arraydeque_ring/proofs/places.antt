@@ -2,6 +2,7 @@ pub mod AndEmpty
 pub mod Cleared
 pub mod Emptied
 pub mod Exchanged
+pub mod Fewest
 pub mod Filled
 pub mod GapMoves
 pub mod Gapped

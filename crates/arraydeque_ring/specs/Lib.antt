@@ -1,3 +1,4 @@
+pub mod Changed
 pub mod Counted
 pub mod Exchanged
 pub mod Gaps

@@ -2,6 +2,7 @@
 ghost use Rattle.std.specs.Prelude.{◌≡◌, ◌-◌, ◌*◌, ◌<◌, ◌≤◌, length, take, drop, slice_range, IfOk, OnOk, OnErr};
 ghost use Rattle.std.specs.List.{remove_range};
 ghost use Rattle.std.specs.Mem.{type_size};
+ghost use Rattle.arraydeque_ring.specs.Changed.{changed_drain, IsFewest};
 ghost use Rattle.arraydeque_ring.specs.Sides.{moves_to_drain, start_closed};
 ghost use Rattle.arraydeque_ring.specs.Steps.{no_steps, more_moves, more_puts, more_takes};
 ghost use Rattle.arraydeque.specs.Range.{span_of};
@@ -44,6 +45,11 @@ impl<T, const CAP: usize, B: Behavior> ArrayDeque<T, CAP, B> {
             OnOk result (self.new.steps ≡
             more_moves (moves_to_drain span.from span.to (length self.old.items))
             (more_takes (span.to - span.from) self.old.steps)) }
+        ensures fewest { let span =
+            span_of (R.names_start range) (R.names_end range) self.old.items in
+            let n = length self.old.items in
+            OnOk result (IsFewest (moves_to_drain span.from span.to n) CAP
+            (changed_drain span.from span.to n CAP self.old.start) self.new.start) }
         ensures unchanged { OnErr result (self.new ≡ self.old) }
         ensures refused { let span =
             span_of (R.names_start range) (R.names_end range) self.old.items in

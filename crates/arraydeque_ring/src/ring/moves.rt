@@ -5,6 +5,7 @@ ghost use Rattle.std.specs.List.{insert, remove};
 ghost use Rattle.arraydeque_ring.specs.Places.{IsFilledRun};
 ghost use Rattle.arraydeque_ring.specs.Ring.{place_of, turned};
 ghost use Rattle.arraydeque_ring.specs.Sides.{moves_to_insert, moves_to_remove, start_opened, start_closed};
+ghost use Rattle.arraydeque_ring.specs.Changed.{changed_insert, changed_remove, IsFewest};
 ghost use Rattle.arraydeque_ring.specs.Gaps.{IsEmptyRun, runs_swapped};
 ghost use Rattle.arraydeque_ring.specs.Steps.{more_puts, more_takes, more_moves};
 
@@ -25,6 +26,9 @@ impl<T> Ring<T> {
             start_opened index (length self.old.items - index) self.old.capacity self.old.start }
         ensures steps { self.new.steps ≡
             more_puts 1 (more_moves (moves_to_insert index (length self.old.items)) self.old.steps) }
+        ensures fewest { let old = self.old in let n = length old.items in
+            IsFewest (moves_to_insert index n) old.capacity
+            (changed_insert index n old.capacity old.start) self.new.start }
     {
         let capacity = self.slots.capacity();
         let behind = self.len - index;
@@ -49,6 +53,9 @@ impl<T> Ring<T> {
             start_closed index 1 (length self.old.items - 1 - index) self.old.capacity self.old.start }
         ensures steps { self.new.steps ≡
             more_moves (moves_to_remove index (length self.old.items)) (more_takes 1 self.old.steps) }
+        ensures fewest { let old = self.old in let n = length old.items in
+            IsFewest (moves_to_remove index n) old.capacity
+            (changed_remove index n old.capacity old.start) self.new.start }
     {
         let item = self
             .slots

@@ -5,6 +5,7 @@ ghost use Rattle.std.specs.Mem.{type_size};
 ghost use Rattle.arraydeque_ring.specs.Places.{IsFilledRun};
 ghost use Rattle.arraydeque_ring.specs.Ring.{place_of, turned, values};
 ghost use Rattle.arraydeque_ring.specs.Sides.{moves_to_drain, start_closed};
+ghost use Rattle.arraydeque_ring.specs.Changed.{changed_drain, IsFewest};
 ghost use Rattle.arraydeque_ring.specs.Gaps.{run_emptied};
 ghost use Rattle.arraydeque_ring.specs.Steps.{no_steps, more_puts, more_takes, more_moves};
 
@@ -38,6 +39,9 @@ impl<T> Ring<T> {
         ensures steps { OnOk result (self.new.steps ≡
             more_moves (moves_to_drain from to (length self.old.items))
             (more_takes (to - from) self.old.steps)) }
+        ensures fewest { let old = self.old in let n = length old.items in
+            OnOk result (IsFewest (moves_to_drain from to n) old.capacity
+            (changed_drain from to n old.capacity old.start) self.new.start) }
         ensures unchanged { OnErr result (self.new ≡ self.old) }
         ensures refused { OnErr result (0 < (to - from) * type_size T.row) }
     {

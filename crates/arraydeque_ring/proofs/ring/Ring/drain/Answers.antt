@@ -1,12 +1,14 @@
-use Rattle.std.proofs.Common.{◌≡◌, ◌+◌, ◌-◌, ◌<◌, length, take, drop, min, nat_lt, if◌then◌else◌, inl, inr, refl, ap, ◌∙◌, arith}
+use Rattle.std.proofs.Common.{◌≡◌, ◌+◌, ◌-◌, ◌<◌, length, take, drop, min, nat_lt, if◌then◌else◌, inl, inr, refl, sym, subst, ap, ◌∙◌, arith}
 use Rattle.std.specs.List.{remove_range}
 use Rattle.std.proofs.lemmas.Bool.{cases_lt, cond_below, cond_above, lt-ltb}
 use Rattle.std.proofs.lemmas.List.{length-append, length-take-le, length-drop}
+use Rattle.arraydeque_ring.specs.Changed.{IsFewest}
 use Rattle.arraydeque_ring.specs.Ring.{RingState, place_of}
 use Rattle.arraydeque_ring.specs.Steps.{more_takes, more_moves}
+use Rattle.arraydeque_ring.proofs.places.Fewest.{fewest_drain}
 use Rattle.arraydeque_ring.proofs.places.GapMoves.{Closes, closes}
 use Rattle.arraydeque_ring.proofs.places.Gapped.{Gapped, Gapped-taken, length_places}
-use Rattle.arraydeque_ring.proofs.places.LaidOut.{IsFilledRun-turned, values-run}
+use Rattle.arraydeque_ring.proofs.places.LaidOut.{length_within, IsFilledRun-turned, values-run}
 use Rattle.arraydeque_ring.proofs.places.Opened.{Opened, opened, closed, kept}
 use Rattle.arraydeque_ring.proofs.places.Turned.{place_of-zero}
 use Rattle.arraydeque_ring.proofs.ring.Ring.drain.Given.{Over}
@@ -104,3 +106,15 @@ pub returns-clause-steps : goal.returns-clause-steps
 returns-clause-steps g c =
     let some : c.args.from < c.args.to = omega arith in
     (after g c).steps ∙ ap (λ n. more_moves n (more_takes (c.args.to - c.args.from) c.args.self.now.steps)) (cond_below c.args.from c.args.to _ _ some)
+
+pub returns-then-count-eq0-clause-fewest : goal.returns-then-count-eq0-clause-fewest
+returns-then-count-eq0-clause-fewest g c =
+    let old = c.args.self.now in
+    let ring = opened c.self.inside c.self.invariant c.self.view_is in
+    subst (IsFewest _ old.capacity _) (sym (returns-then-count-eq0-clause-start g c))
+    (fewest_drain c.args.from c.args.to (length old.items) old.capacity old.start (omega (arith, ring.laid.in_region, ring.start)) c.requires.in_order c.requires.in_bounds (length_within ring.laid))
+
+pub returns-clause-fewest : goal.returns-clause-fewest
+returns-clause-fewest g c =
+    let ring = opened c.self.inside c.self.invariant c.self.view_is in
+    rw (after g c).start (fewest_drain _ _ _ _ _ (omega (arith, ring.laid.in_region, ring.start)) c.requires.in_order c.requires.in_bounds (length_within ring.laid))

@@ -5,6 +5,7 @@ use Rattle.std.proofs.lemmas.List.{length-take-le}
 use Rattle.std.proofs.lemmas.List.Edits.{length-insert}
 use Rattle.arraydeque_ring.specs.Ring.{RingState, place_of}
 use Rattle.arraydeque_ring.specs.Steps.{more_puts, more_moves}
+use Rattle.arraydeque_ring.proofs.places.Fewest.{fewest_insert}
 use Rattle.arraydeque_ring.proofs.places.GapMoves.{opens_before, opens_behind}
 use Rattle.arraydeque_ring.proofs.places.Gapped.{Gapped, IsEmpty-gap, LaidOut-put}
 use Rattle.arraydeque_ring.proofs.places.Opened.{Opened, opened, closed, kept}
@@ -112,3 +113,8 @@ returns-clause-start g c = (after g c).start
 
 pub returns-clause-steps : goal.returns-clause-steps
 returns-clause-steps g c = (after g c).steps
+
+pub returns-clause-fewest : goal.returns-clause-fewest
+returns-clause-fewest g c =
+    let ring = opened c.self.inside c.self.invariant c.self.view_is in
+    rw (after g c).start (fewest_insert c.args.index _ _ _ (omega (arith, ring.laid.in_region, ring.start)) c.requires.in_bounds c.requires.room)

@@ -4,6 +4,7 @@ use Rattle.std.proofs.lemmas.List.{length-take-le, length-drop}
 use Rattle.std.proofs.lemmas.List.Edits.{length-remove}
 use Rattle.arraydeque_ring.specs.Ring.{RingState, place_of}
 use Rattle.arraydeque_ring.specs.Steps.{more_takes, more_moves}
+use Rattle.arraydeque_ring.proofs.places.Fewest.{fewest_remove}
 use Rattle.arraydeque_ring.proofs.places.GapMoves.{Closes, closes}
 use Rattle.arraydeque_ring.proofs.places.Gapped.{Gapped, Gapped-taken_one, length_places}
 use Rattle.arraydeque_ring.proofs.places.LaidOut.{length_within, held_at-place_of, IsFilled-place_of}
@@ -85,3 +86,9 @@ returns-clause-start g c = (after g c).start
 
 pub returns-clause-steps : goal.returns-clause-steps
 returns-clause-steps g c = (after g c).steps
+
+pub returns-clause-fewest : goal.returns-clause-fewest
+returns-clause-fewest g c =
+    let ring = opened c.self.inside c.self.invariant c.self.view_is in
+    let within = length_within ring.laid in
+    rw (after g c).start (fewest_remove c.args.index _ _ _ (omega (arith, ring.laid.in_region, ring.start)) c.requires within)
