@@ -72,6 +72,7 @@ impl<'a> Line<'a> {
             "swap" => Ok(Call::Swap(self.number()?, self.number()?)),
             "replace" => Ok(Call::Replace(self.number()?, self.number()?)),
             "clear" => Ok(Call::Clear),
+            "linearize" => Ok(Call::Linearize),
             "extend_back" => Ok(Call::ExtendBack(self.numbers(alloc)?)),
             "extend_front" => Ok(Call::ExtendFront(self.numbers(alloc)?)),
             "extend" => Ok(Call::Extend(self.numbers(alloc)?)),

@@ -1,12 +1,22 @@
 -- A run of the list machine grows by one call at its end, and costs what that call costs more.
-use Rattle.std.proofs.Common.{◌≡◌, ℕ, ◌+◌, List, [], ◌∷◌, ◌++◌, refl, ap, subst, arith}
-use Rattle.arraydeque.specs.Costs.{price_of, price_of_run, CallCosts, RunCosts}
+use Rattle.std.proofs.Common.{◌≡◌, ℕ, Some, ◌≢◌, ◌+◌, ◌≤◌, List, [], ◌∷◌, ◌++◌, refl, ap, subst, arith}
+use Rattle.std.proofs.lemmas.List.Elements.{All-pop}
+use Rattle.arraydeque.specs.Costs.{work_of, price_of, price_of_run, CallCosts, RunCosts}
 use Rattle.arraydeque.specs.Deque.{DequeState}
-use Rattle.arraydeque.specs.Machine.{Answers, answer_of}
+use Rattle.arraydeque.specs.Machine.{Answer, Answers, answer_of}
 use Rattle.arraydeque.specs.Policy.{Policy}
 use Rattle.arraydeque.specs.Run.{Run}
 use Rattle.arraydeque.specs.declared.run.Call.{Call}
+use Rattle.arraydeque.specs.declared.run.Call.TheVariants.{Linearize}
 use Rattle.arraydeque.specs.declared.run.Reply.{Reply}
+
+-- the work of one call, in the words of a run
+work_of_call : {X : Type 0} (c : Call X) (answer : Answer X) (old new : DequeState X)
+    → CallCosts c answer old new
+    → (work_of new.steps ≤ work_of old.steps + price_of c answer old.items)
+    × (c ≢ Linearize → work_of new.steps ≡ work_of old.steps + price_of c answer old.items)
+work_of_call Linearize answer old new costs = (costs, λ other. absurd (other refl))
+work_of_call _ answer old new costs = (omega (arith, costs), λ other. costs)
 
 module _ {X B : Type 0} {n : ℕ} (p : Policy) (c : Call X) (r : Reply X n B) where
   -- the run with one call more, and what it costs
@@ -31,4 +41,13 @@ module _ {X B : Type 0} {n : ℕ} (p : Policy) (c : Call X) (r : Reply X n B) wh
       → CallCosts c (answer_of r) mid new → RunCosts p old (cs ++ c ∷ []) (rs ++ r ∷ []) new
   RunCosts-push old mid new cs rs so_far answered costs =
       let longer = Run-push old.items cs rs mid.items new.items so_far.run answered in
-      record { run = longer.0; work = omega (arith, so_far.work, costs, longer.1) }
+      let call = work_of_call c (answer_of r) mid new costs in
+      record {
+        run = longer.0;
+        price = so_far.price + price_of c (answer_of r) mid.items;
+        sum = omega (arith, so_far.sum, longer.1);
+        at_most = omega (arith, so_far.at_most, call.0);
+        exactly = λ none.
+            let parts = All-pop (λ call. call ≢ Linearize) (cs ++ c ∷ []) cs (Some c) refl none in
+            omega (arith, so_far.exactly parts.0, call.1 parts.1);
+      }

@@ -1,5 +1,5 @@
 -- What a run costs: the items that its calls move, and the pairs that they exchange.
-use Rattle.std.specs.Prelude.{◌≡◌, ℕ, ◌+◌, List, ◌∷◌, length, Some, not, ◌&&◌, ◌==◌, nat_lt, if◌then◌else◌}
+use Rattle.std.specs.Prelude.{◌≡◌, ℕ, ◌≢◌, ◌+◌, ◌≤◌, List, ◌∷◌, length, All, Some, not, ◌&&◌, ◌==◌, nat_lt, if◌then◌else◌}
 use Rattle.arraydeque_ring.specs.Sides.{moves_to_insert, moves_to_remove, moves_to_drain}
 use Rattle.arraydeque_ring.specs.Steps.{Steps}
 use Rattle.arraydeque.specs.Deque.{DequeState}
@@ -7,7 +7,7 @@ use Rattle.arraydeque.specs.Machine.{Answer, done, item, drained, answer_of}
 use Rattle.arraydeque.specs.Policy.{Policy}
 use Rattle.arraydeque.specs.Run.{Run}
 use Rattle.arraydeque.specs.declared.run.Call.{Call}
-use Rattle.arraydeque.specs.declared.run.Call.TheVariants.{Insert, Remove, SwapRemoveBack, SwapRemoveFront, Swap, Drain}
+use Rattle.arraydeque.specs.declared.run.Call.TheVariants.{Insert, Remove, SwapRemoveBack, SwapRemoveFront, Swap, Linearize, Drain}
 use Rattle.arraydeque.specs.declared.run.Reply.{Reply}
 
 -- the moves and exchanges of the steps, together
@@ -16,11 +16,12 @@ work_of steps = steps.moves + steps.exchanges
 
 module _ {X : Type 0} where
   -- how many items of the list l a call so answered moves: those on the side with fewer of them of
-  -- what comes in or goes out
+  -- what comes in or goes out, or all where it lays them in one piece, though some by exchanges
   abbrev pub cost_of : Call X → Answer X → List X → ℕ
   cost_of (Insert i x) done l = moves_to_insert i (length l)
   cost_of (Remove i) (item (Some x)) l = moves_to_remove i (length l)
   cost_of (Drain from to) (drained xs) l = moves_to_drain from to (length l)
+  cost_of Linearize done l = length l
   cost_of _ _ l = 0
 
   -- how many pairs of the list l a call exchanges: one, where two of its items change places
@@ -35,8 +36,11 @@ module _ {X : Type 0} where
   abbrev pub price_of : Call X → Answer X → List X → ℕ
   price_of call answer l = cost_of call answer l + own_of call l
 
-  -- the call, so answered, made as many moves and exchanges as it costs
+  -- the call, so answered, made as many moves and exchanges as it costs, or fewer if it is a
+  -- Linearize
   abbrev pub CallCosts : Call X → Answer X → DequeState X → DequeState X → Type 0
+  CallCosts Linearize answer old new =
+      work_of new.steps ≤ work_of old.steps + price_of Linearize answer old.items
   CallCosts call answer old new =
       work_of new.steps ≡ work_of old.steps + price_of call answer old.items
 
@@ -47,10 +51,12 @@ module _ {X : Type 0} where
       price_of c (answer_of r) l + price_of_run p run.0 cs rs last run.2
   price_of_run p l _ _ last run = 0
 
--- the calls are a run from the old deque's list to the new one's, and the moves and exchanges that
--- were made are those that it costs
+-- the calls are a run from the old deque's list to the new one's, and no more moves and exchanges
+-- were made than it costs; just as many where none of the calls is a Linearize
 pub record RunCosts {X B : Type 0} {n : ℕ} (p : Policy) (old : DequeState X)
     (calls : List (Call X)) (replies : List (Reply X n B)) (new : DequeState X) : Type 0 where
   pub run : Run p old.items calls replies new.items
-  pub work : work_of new.steps ≡
-      work_of old.steps + price_of_run p old.items calls replies new.items run
+  pub price : ℕ
+  pub sum : price ≡ price_of_run p old.items calls replies new.items run
+  pub at_most : work_of new.steps ≤ work_of old.steps + price
+  pub exactly : All (λ call. call ≢ Linearize) calls → work_of new.steps ≡ work_of old.steps + price

@@ -36,6 +36,8 @@ pub enum Call<T> {
     Replace(usize, T),
     /// Drops every item.
     Clear,
+    /// Lays the items in one piece.
+    Linearize,
     /// Adds items at the back, in order.
     ExtendBack(Vec<T>),
     /// Adds items at the front, one by one.
@@ -220,6 +222,10 @@ impl<T: Drop, const CAP: usize, B: Behavior> ArrayDeque<T, CAP, B> {
             },
             Call::Clear => {
                 self.clear();
+                Reply::Done
+            }
+            Call::Linearize => {
+                self.linearize();
                 Reply::Done
             }
             Call::Extend(elements) => {

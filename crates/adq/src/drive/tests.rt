@@ -132,8 +132,8 @@ fn good_runs(rt: HostRuntime) -> Result<(), Fail> {
         ),
         (
             "sat 3",
-            b"insert 0 3\ninsert 0 1\ninsert 1 2\ninsert 1 4\ninsert 4 9\nremove 1\nis_full\nsplit_off 1\n",
-            b"ok\nok\nok\nfull 4\nrange\n2\nfalse\n[3]\nlist: [1]\n",
+            b"insert 0 3\ninsert 0 1\ninsert 1 2\ninsert 1 4\ninsert 4 9\nremove 1\nlinearize\nis_full\nsplit_off 1\n",
+            b"ok\nok\nok\nfull 4\nrange\n2\nok\nfalse\n[3]\nlist: [1]\n",
         ),
         (
             "sat 7",
@@ -142,8 +142,8 @@ fn good_runs(rt: HostRuntime) -> Result<(), Fail> {
         ),
         (
             "sat 0",
-            b"insert 0 5\ninsert 1 5\nremove 0\nswap 0 0\nreplace 0 5\nextend_front 1 2\ndrain 0 0\ndrain 0 1\nsplit_off 0\nclear\nis_empty\nis_full\n",
-            b"full 5\nrange\nnone\nrange\nrange\nok\n[]\nrange\n[]\nok\ntrue\ntrue\nlist: []\n",
+            b"insert 0 5\ninsert 1 5\nremove 0\nswap 0 0\nreplace 0 5\nextend_front 1 2\ndrain 0 0\ndrain 0 1\nsplit_off 0\nlinearize\nclear\nis_empty\nis_full\n",
+            b"full 5\nrange\nnone\nrange\nrange\nok\n[]\nrange\n[]\nok\nok\ntrue\ntrue\nlist: []\n",
         ),
         (
             "wrap 1",
@@ -252,7 +252,7 @@ fn bad_lines(rt: HostRuntime) -> Result<(), Fail> {
         b"\xc3",
         b"\xef\xbb\xbflen",
         b"\xc2\xa0len",
-        b"linearize",
+        b"linearize 1",
         b"pop_front 1",
         b"len len",
         b"\t",

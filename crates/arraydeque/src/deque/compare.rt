@@ -59,7 +59,13 @@ impl<T: PartialEq, const CAP: usize, B: Behavior> PartialEq for ArrayDeque<T, CA
             return false;
         }
         let cut = self.beside(other);
-        cut.front.0 == cut.front.1 && cut.middle.0 == cut.middle.1 && cut.rest.0 == cut.rest.1
+        if cut.front.0 != cut.front.1 {
+            return false;
+        }
+        if cut.middle.0 != cut.middle.1 {
+            return false;
+        }
+        cut.rest.0 == cut.rest.1
     }
 }
 
