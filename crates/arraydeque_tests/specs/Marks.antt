@@ -1,4 +1,4 @@
--- How marks compare: a number that is known, or `None`, which is equal to nothing and in no order with anything.
+-- How marks compare. A mark is a number, or `None`, which is equal to nothing and in no order with anything.
 use Rattle.std.specs.Prelude.{◌≡◌, ℤ, Bool, true, false, Option, Some, None, refl}
 use Rattle.std.specs.Bool.{Decides}
 use Rattle.std.specs.Cmp.{IsPartialEquivalence, IsPartialOrder, partial_equiv_from_equiv, int_eq_equiv, signed_po}
@@ -7,16 +7,19 @@ use Rattle.std.specs.Ordering.{int_cmp, int_eq, ordering_reverse}
 use Rattle.std.specs.declared.cmp.Ordering.{Ordering}
 use Rattle.std.specs.declared.cmp.Ordering.TheVariants.{Less, Equal}
 
+-- equal are two numbers that are the same
 abbrev pub marks_eq : Option ℤ → Option ℤ → Bool
 marks_eq (Some m) (Some n) = int_eq m n
 marks_eq (Some m) None = false
 marks_eq None y = false
 
+-- two numbers are in the order of numbers
 abbrev pub marks_partial_cmp : Option ℤ → Option ℤ → Option Ordering
 marks_partial_cmp (Some m) (Some n) = Some (int_cmp m n)
 marks_partial_cmp (Some m) None = None
 marks_partial_cmp None y = None
 
+-- the laws of both, case by case, are those of numbers
 numbers : IsPartialEquivalence int_eq
 numbers = partial_equiv_from_equiv int_eq_equiv
 
@@ -35,13 +38,17 @@ trans None y z p q = p
 pub marks_per : IsPartialEquivalence marks_eq
 marks_per = record { symm = symm; trans = trans }
 
-antisymm : (x y : Option ℤ) → marks_partial_cmp x y ≡ option_map ordering_reverse (marks_partial_cmp y x)
+antisymm : (x y : Option ℤ)
+    → marks_partial_cmp x y ≡ option_map ordering_reverse (marks_partial_cmp y x)
 antisymm (Some m) (Some n) = signed_po.antisymm m n
 antisymm (Some m) None = refl
 antisymm None (Some n) = refl
 antisymm None None = refl
 
-less_trans : (x y z : Option ℤ) → marks_partial_cmp x y ≡ Some Less → marks_partial_cmp y z ≡ Some Less → marks_partial_cmp x z ≡ Some Less
+less_trans : (x y z : Option ℤ)
+    → marks_partial_cmp x y ≡ Some Less
+    → marks_partial_cmp y z ≡ Some Less
+    → marks_partial_cmp x z ≡ Some Less
 less_trans (Some m) (Some n) (Some o) p q = signed_po.trans m n o p q
 less_trans (Some m) (Some n) None p q = q
 less_trans (Some m) None z p q = cc
@@ -59,4 +66,9 @@ congr (Some m) None z e = cc
 congr None y z e = cc
 
 pub marks_po : IsPartialOrder marks_eq marks_partial_cmp
-marks_po = record { antisymm = antisymm; trans = less_trans; matches_eq = matches_eq; congr = congr }
+marks_po = record {
+  antisymm = antisymm;
+  trans = less_trans;
+  matches_eq = matches_eq;
+  congr = congr;
+}

@@ -3,7 +3,7 @@ ghost use Rattle.std.specs.Prelude.{◌≡◌, fold};
 ghost use Rattle.std.specs.Cmp.{on_equiv, on_per, on_po, on_total};
 ghost use Rattle.std.specs.Cmp.Lexicographic.{pointwise, slice_cmp, slice_partial_cmp, lists_agrees, lists_equiv, lists_per, lists_po, lists_ties, lists_total};
 ghost use Rattle.std.specs.Hash as fed;
-ghost use Rattle.std.specs.Hash.{on_Alike, items_Alike};
+ghost use Rattle.std.specs.Hash.{items_Alike as alike};
 ghost use Rattle.std.specs.List.{flat_map};
 ghost use Rattle.arraydeque.specs.Compared.{Beside};
 
@@ -122,7 +122,7 @@ impl<T: Ord, const CAP: usize, B: Behavior> Ord for ArrayDeque<T, CAP, B> {
 impl<T: Hash, const CAP: usize, B: Behavior> Hash for ArrayDeque<T, CAP, B> {
     ghost hash_input = { λ v. fed.slice T.hash_input v.items };
 
-    ghost respects_eq = { (on_Alike (λ v. v.items) (items_Alike (record { fed = T.respects_eq }))).fed };
+    ghost respects_eq = { λ v w. (alike (record { fed = T.respects_eq })).fed v.items w.items };
 
     /// Feeds the length as a `usize`, and then each item by itself, front to back.
     fn hash<H: Hasher>(&self, state: &mut H) {
