@@ -1,31 +1,39 @@
 -- A list and its last item.
-use Rattle.std.proofs.Common.{◌≡◌, ℕ, zero, suc, ◌-◌, List, [], ◌∷◌, ◌++◌, length, take, slice_get, Option, Some, None, ap, ◌∙◌, arith, sym}
+use Rattle.std.proofs.Common.{◌≡◌, ◌-◌, ◌+◌, List, [], ◌∷◌, ◌++◌, length, take, slice_get, option_to_list, Option, Some, None, ap, ◌∙◌, refl, arith, sym}
+use Rattle.std.proofs.lemmas.List.{append-nil, take_more, take_all}
+use Rattle.std.proofs.lemmas.Option.{slice_get_within, slice_get-get_or, get_or_from_slice_get}
 use Rattle.std.specs.Option.{OnSome, IfNone}
 use Rattle.std.specs.Iterator.{YieldsLast}
 use Rattle.arraydeque_ring.specs.Ring.{RingState}
 use Rattle.arraydeque_ring.specs.Steps.{Steps}
+use Rattle.arraydeque.specs.Deque.{last_item}
 
 module _ {X : Type 0} where
-  last_off : (xs : List X) (k : ℕ) (x : X) → length xs ≡ suc k → slice_get xs k ≡ Some x → xs ≡ take k xs ++ x ∷ []
-  last_off [] k x long at = absurd (omega arith)
-  last_off (y ∷ []) zero x long at = cc
-  last_off (y ∷ []) (suc k) x long at = absurd (omega arith)
-  last_off (y ∷ z ∷ zs) zero x long at = absurd (omega arith)
-  last_off (y ∷ z ∷ zs) (suc k) x long at = ap (λ l. y ∷ l) (last_off (z ∷ zs) k x (omega arith) at)
+  -- only an empty list has no last item
+  nothing_last : (xs : List X) → None ≡ slice_get xs (length xs - 1) → xs ≡ []
+  nothing_last [] none = refl
+  nothing_last (x ∷ xs) none = let some = slice_get-get_or (x ∷ xs) (length (x ∷ xs) - 1) x (omega arith) in cc
 
-  nothing_at : (xs : List X) (k : ℕ) → length xs ≡ suc k → slice_get xs k ≡ None → ⊥
-  nothing_at [] k long at = omega arith
-  nothing_at (y ∷ ys) zero long at = cc
-  nothing_at (y ∷ ys) (suc k) long at = nothing_at ys k (omega arith) at
+  -- a list is what stands before its last item, and that item
+  last_and_rest : (xs : List X) (x : X) → Some x ≡ slice_get xs (length xs - 1) → take (length xs - 1) xs ++ x ∷ [] ≡ xs
+  last_and_rest xs x last =
+      let k = length xs - 1 in
+      let within = slice_get_within xs k x (sym last) in
+      ap (λ y. take k xs ++ y ∷ []) (sym (get_or_from_slice_get xs k x x (sym last))) ∙ sym (take_more xs k x within) ∙ take_all (k + 1) xs (omega arith)
 
-  -- what a ring's pop of its last item says in an iterator's words
-  pub YieldsLast-pop : (old new : RingState X) (st : Steps) (popped : Option X) → popped ≡ slice_get old.items (length old.items - 1)
-      → OnSome popped (new ≡ record old { items = take (length old.items - 1) old.items; steps = st }) → IfNone popped (new ≡ old) → YieldsLast (λ (l : List X). l) old.items popped new.items
-  YieldsLast-pop old new st None at taken kept = elim old.items as (λ l. None ≡ slice_get l (length l - 1) → new.items ≡ l → (l ≡ []) × (new.items ≡ [])) [
-    | [] ↦ λ at same. (λ _. [], same)
-    | (y ∷ ys) ↦ λ at same. absurd (nothing_at (y ∷ ys) (length (y ∷ ys) - 1) (omega arith) (sym at))
-  ] at (ap (λ (r : RingState X). r.items) kept)
-  YieldsLast-pop old new st (Some x) at taken kept = elim old.items as (λ l. Some x ≡ slice_get l (length l - 1) → new.items ≡ take (length l - 1) l → l ≡ new.items ++ x ∷ []) [
-    | [] ↦ λ at same. cc
-    | (y ∷ ys) ↦ λ at same. last_off (y ∷ ys) (length (y ∷ ys) - 1) x (omega arith) (sym at) ∙ ap (λ l. l ++ x ∷ []) (sym same)
-  ] at (ap (λ (r : RingState X). r.items) taken)
+  -- what a ring's pop of its last item says: that nothing is lost, and the same in an iterator's words
+  module _ (old new : RingState X) (st : Steps) where
+    pub conserved-pop_back : (popped : Option X) → popped ≡ slice_get old.items (length old.items - 1)
+        → OnSome popped (new ≡ record old { items = take (length old.items - 1) old.items; steps = st }) → IfNone popped (new ≡ old) → new.items ++ option_to_list popped ≡ old.items
+    conserved-pop_back None last taken kept = append-nil new.items ∙ ap (λ (r : RingState X). r.items) kept
+    conserved-pop_back (Some x) last taken kept = ap (λ (r : RingState X). r.items ++ x ∷ []) taken ∙ last_and_rest old.items x last
+
+    pub YieldsLast-pop : (popped : Option X) → popped ≡ slice_get old.items (length old.items - 1)
+        → OnSome popped (new ≡ record old { items = take (length old.items - 1) old.items; steps = st }) → IfNone popped (new ≡ old) → YieldsLast (λ (l : List X). l) old.items popped new.items
+    YieldsLast-pop None last taken kept = (nothing_last old.items last, ap (λ (r : RingState X). r.items) kept ∙ nothing_last old.items last)
+    YieldsLast-pop (Some x) last taken kept = sym (conserved-pop_back (Some x) last taken kept)
+
+  -- what a pop of the last item says in an iterator's words
+  pub YieldsLast-take : (old new : List X) (popped : Option X) → popped ≡ last_item old → new ≡ take (length old - 1) old → YieldsLast (λ (l : List X). l) old popped new
+  YieldsLast-take old new None last rest = let none = nothing_last old last in (none, rest ∙ ap (λ l. take (length l - 1) l) none)
+  YieldsLast-take old new (Some x) last rest = sym (last_and_rest old x last) ∙ ap (λ l. l ++ x ∷ []) (sym rest)

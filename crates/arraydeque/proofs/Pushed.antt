@@ -1,25 +1,12 @@
 -- What pushes leave, one and many.
-use Rattle.std.proofs.Common.{◌≡◌, ℕ, zero, suc, ◌+◌, ◌-◌, ◌*◌, ◌%◌, List, [], ◌∷◌, ◌++◌, length, take, reverse, nat_lt, slice_get, Option, Bool, if◌then◌else◌, subst, sym, ap, ap₂, ◌∙◌, arith, inl, inr}
+use Rattle.std.proofs.Common.{◌≡◌, ℕ, zero, suc, ◌+◌, ◌-◌, ◌*◌, ◌%◌, List, [], ◌∷◌, ◌++◌, length, take, reverse, nat_lt, if◌then◌else◌, sym, ap, ap₂, ◌∙◌, arith, inl, inr}
 use Rattle.std.proofs.Math.Nat.{mod-add-mod, add_assoc}
 use native.Mathlib.Nat.{suc-mul}
 use Rattle.std.proofs.lemmas.Bool.{cases_lt, lt-ltb, le-ltb}
-use Rattle.std.proofs.lemmas.List.{take_all, length-append, length-drop, length-take, length-reverse}
-use Rattle.std.proofs.lemmas.Option.{slice_get_past}
+use Rattle.std.proofs.lemmas.List.{length-append, length-drop, length-take, length-reverse}
 use Rattle.arraydeque_ring.specs.Ring.{place_of}
 use Rattle.arraydeque_ring.specs.Steps.{more_puts, more_takes}
 use Rattle.arraydeque.specs.Deque.{DequeState, keep_last, back_by, wrapped_back, wrapped_front}
-use Rattle.arraydeque.specs.Machine.{displaced, Pushes}
-use Rattle.arraydeque.specs.Policy.{wrapping}
-
--- a push at the front that keeps the first n items keeps them all where there is room
-pub Pushes-front : {X : Type 0} (n : ℕ) (l : List X) (x : X) (given_up : Option X) (left : List X) → given_up ≡ slice_get (x ∷ l) n → left ≡ take n (x ∷ l)
-    → Pushes wrapping (nat_lt (length l) n) l x (x ∷ l) (slice_get (x ∷ l) n) (take n (x ∷ l)) (displaced given_up) left
-Pushes-front {X = X} n l x given_up left value items =
-    let P : Bool → Type 0 = λ room. Pushes wrapping room l x (x ∷ l) (slice_get (x ∷ l) n) (take n (x ∷ l)) (displaced given_up) left in
-    elim (cases_lt (length l) n) [
-      | inl room ↦ subst P (sym (lt-ltb (length l) n room)) (ap displaced (value ∙ slice_get_past (x ∷ l) n (omega arith)), items ∙ take_all n (x ∷ l) (omega arith))
-      | inr none ↦ subst P (sym (le-ltb (length l) n none)) (ap displaced value, items)
-    ]
 
 -- to go on by j and then by k is to go on by both
 place_of-on : (s j k n : ℕ) → place_of (place_of s j n) k n ≡ place_of s (j + k) n

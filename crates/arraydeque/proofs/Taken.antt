@@ -1,56 +1,66 @@
--- What is taken of an iterator.
-use Rattle.std.proofs.Common.{◌≡◌, ℕ, ◌<◌, zero, suc, List, [], ◌∷◌, length, take, Option, None, Result, IfOk, refl, sym, subst, arith}
-use Rattle.std.specs.Iterator.{AlwaysYields, Drains}
-use Rattle.std.specs.Iterator.Adapters.{take_steps, take_source, take_count}
-use Rattle.std.specs.Vec.Iter.{into_iter_items, into_iter_len, into_iter_steps}
+-- What is taken of a source of items.
+use Rattle.std.proofs.Common.{◌≡◌, ℕ, ◌<◌, ◌≤◌, List, length, take, min, Option, None, IsTrue, true, sym, subst, ap, ◌∙◌, arith, inl, inr}
+use Rattle.std.proofs.iter.runs.Made.{run_of_exit}
+use Rattle.std.proofs.lemmas.Bool.{cases_lt}
+use Rattle.std.proofs.lemmas.List.{same_lists, length-take, get_or-take}
+use Rattle.std.specs.Option.{unwrap_or}
+use Rattle.std.specs.Iterator.{Yields}
+use Rattle.std.specs.Iterator.Adapters.{take_steps}
+use Rattle.std.specs.Iterator.Runs.{Run, SomeRun, EachRunFrom, HasSameItems, ItemsAre, YieldsInOrder}
 use Rattle.std.specs.declared.iter.Take.{Take}
-use Rattle.std.proofs.lemmas.Iterator.Adapters.{YieldsList-from_vec}
-use Rattle.std.proofs.lemmas.Result.{IfOk-weaker}
-use Rattle.arraydeque.specs.Sources.{Takes}
+use Rattle.arraydeque.specs.Sources.{TakesFrom, TakesAll}
 
-module _ {S A : Type 0} (steps : S → Option A → S → Type 0) where
-  -- a run of `take(n)` to its end takes at most n items of its source
-  pub Takes-from_take : (n : ℕ) (s : Take S) (xs : List A) → take_count s ≡ n → Drains (take_steps steps) s xs → Takes steps n (take_source s) xs
-  Takes-from_take n s [] count run =
-      let ended : 0 < n → (u : S) × steps (take_source s) None u = λ more.
-      (take_source run.0, subst (λ t. steps (take_source t) None (take_source run.0)) (sym run.1.1) (run.1.2 (subst (λ t. 0 < take_count t) run.1.1 (omega (arith, count, more))))) in
-      (take_source s, refl, omega arith, ended)
-  Takes-from_take n s (x ∷ xs) count run =
-      let next = run.1.1.0 in let first = run.1.1.1.0 in let fewer = run.1.1.1.1 in
-      let rest = Takes-from_take (take_count next) next xs refl (run.0, (run.1.0, run.1.1.2, run.1.2)) in
-      (rest.0, (take_source next, first, rest.1), omega (arith, rest.2, fewer, count), λ more. rest.3 (omega (arith, more, fewer, count)))
+-- a run over a list gives the first n of it, where it gives at most n items, and fewer only at its end
+pub items-first : {S A : Type 0} {gives : S → Option A → S → Type 0} (run : Run gives) (n : ℕ) (xs : List A)
+    → ItemsAre run xs → run.len ≤ n → (run.len < n → run.whole ≡ true) → run.items ≡ take n xs
+items-first run n xs are at_most fewer =
+    let full : run.len ≡ min n (length xs) = elim (cases_lt run.len n) [
+      | inl less ↦ let all = are.1 (fewer less) in omega arith
+      | inr none ↦ let within = are.0 in omega arith
+    ] in
+    same_lists run.items (take n xs) (omega (arith, run.long, length-take n xs)) (λ k d below.
+    let here : k < run.len = omega (arith, run.long) in
+    ap (λ o. unwrap_or o d) (sym (run.reads k d here) ∙ are.2 k d here) ∙ sym (get_or-take n xs k d (omega arith)))
 
-  -- of an iterator that always gives the list `all`, the first n items are taken
-  pub Takes-list : (n : ℕ) (s : S) (xs all : List A) → AlwaysYields steps (λ x. x) s all → Takes steps n s xs → xs ≡ take n all
-  Takes-list zero s [] all gives taken = refl
-  Takes-list (suc n) s [] [] gives taken = refl
-  Takes-list (suc n) s [] (y ∷ ys) gives taken =
-      let ended = taken.3 (omega arith) in absurd (gives.0 ended.0 (subst (λ t. steps t None ended.0) (sym taken.1) ended.1))
-  Takes-list n s (x ∷ xs) [] gives taken = absurd (gives x taken.1.0 taken.1.1)
-  Takes-list zero s (x ∷ xs) (y ∷ ys) gives taken = absurd (omega (arith, taken.2))
-  Takes-list (suc n) s (x ∷ xs) (y ∷ ys) gives taken =
-      let next = taken.1.0 in let this = gives.1 x next taken.1.1 in
-      let rest = Takes-list n next xs ys this.1 (taken.0, taken.1.2, omega (arith, taken.2), λ more. taken.3 (omega (arith, more))) in
-      (λ i. this.0 i ∷ rest i)
+module _ {Source S A : Type 0} (becomes : Source → S → Type 0) (gives : S → Option A → S → Type 0) (source : Source) (P : List A → Type 0) where
+  -- of a source whose iterator shows the list xs
+  module _ (xs : List A) (shown : S → List A) where
+    abbrev Shows : Type 0
+    Shows = (it : S) → becomes source it → (shown it ≡ xs) × YieldsInOrder gives shown
 
-  -- and where it is run to its end, all of them
-  pub Drains-list : (s : S) (xs all : List A) → AlwaysYields steps (λ x. x) s all → Drains steps s xs → xs ≡ all
-  Drains-list s [] [] gives run = refl
-  Drains-list s [] (y ∷ ys) gives run = absurd (gives.0 run.0 (subst (λ t. steps t None run.0) (sym run.1.1) run.1.2))
-  Drains-list s (x ∷ xs) [] gives run = absurd (gives x run.1.1.0 run.1.1.1)
-  Drains-list s (x ∷ xs) (y ∷ ys) gives run =
-      let next = run.1.1.0 in let this = gives.1 x next run.1.1.1 in
-      let rest = Drains-list next xs ys this.1 (run.0, (run.1.0, run.1.1.2, run.1.2)) in
-      (λ i. this.0 i ∷ rest i)
+    reads : Shows → (it : S) (run : Run gives) → becomes source it → run.from ≡ it → ItemsAre run xs
+    reads shows it run became from = let here = shows it became in subst (ItemsAre run) (ap shown from ∙ here.0) (here.1 run run.seen)
 
--- the same of a vector's iterator
-module _ {A Z : Type 0} (s : _) (xs items : List A) (holds : into_iter_items {X = A} {Z = Z} s ≡ items) (long : into_iter_len {X = A} {Z = Z} s ≡ length items) where
-  pub Takes-vec : (n : ℕ) → Takes (into_iter_steps {X = A} {Z = Z}) n s xs → xs ≡ take n items
-  Takes-vec n taken = Takes-list (into_iter_steps {X = A} {Z = Z}) n s xs items (YieldsList-from_vec items holds long).runs taken
+    -- its first n items
+    pub TakesFrom-list : (n : ℕ) → TakesFrom becomes gives source n P → Shows → P (take n xs)
+    TakesFrom-list n took shows = subst P (items-first took.run n xs (reads shows took.iterator took.run took.became took.from_it) took.at_most took.or_all) took.holds
 
-  pub Drains-vec : Drains (into_iter_steps {X = A} {Z = Z}) s xs → xs ≡ items
-  Drains-vec run = Drains-list (into_iter_steps {X = A} {Z = Z}) s xs items (YieldsList-from_vec items holds long).runs run
+    -- and all of them
+    pub TakesAll-list : TakesAll becomes gives source P → Shows → P xs
+    TakesAll-list took shows = subst P ((reads shows took.iterator took.run took.became took.from_it).4 took.to_end) took.holds
 
--- what follows from a fact of each Ok follows of an Ok
-pub IfOk-follows : {X Y : Type 0} (r : Result X Y) (P Q : X → Type 0) → IfOk r P → ((x : X) → P x → Q x) → IfOk r Q
-IfOk-follows r P Q fact follows = IfOk-weaker r P Q follows fact
+  -- by a loop over the iterator s, at whose exit P holds of the items that came
+  module _ (s : S) (became : becomes source s) (xs : List A) (holds : P xs) where
+    -- over `take(n)`
+    pub TakesFrom-loop : (n : ℕ) (taker last end : Take S)
+        → EachRunFrom (take_steps gives) taker (λ p. (p.len ≤ n) × SomeRun gives s (λ q. HasSameItems p q × (IsTrue p.whole → p.len < n → IsTrue q.whole)))
+        → Yields (take_steps gives) taker xs last → take_steps gives last None end → TakesFrom becomes gives source n P
+    TakesFrom-loop n taker last end runs yielded ended =
+        let ran = run_of_exit (take_steps gives) taker xs last yielded end ended in
+        let took = runs ran.0 ran.0.seen ran.1 in
+        let same = took.1.2.0 in
+        record {
+          iterator = s;
+          became = became;
+          run = took.1.0;
+          from_it = took.1.1;
+          at_most = omega (arith, same.0, took.0);
+          or_all = λ less. took.1.2.1 ran.2 (omega (arith, same.0, less));
+          holds = subst P (sym (same.1 ∙ ran.3.0)) holds;
+        }
+
+    -- over all of it
+    pub TakesAll-loop : (last end : S) → Yields gives s xs last → gives last None end → TakesAll becomes gives source P
+    TakesAll-loop last end yielded ended =
+        let ran = run_of_exit gives s xs last yielded end ended in
+        record { iterator = s; became = became; run = ran.0; from_it = ran.1; to_end = ran.2; holds = subst P (sym ran.3.0) holds }

@@ -3,7 +3,8 @@ use Rattle.std.specs.Prelude.{ℕ, ◌+◌, ◌-◌, ◌*◌, List, [], ◌++◌
 use Rattle.arraydeque_ring.specs.Ring.{RingState, place_of}
 use Rattle.arraydeque_ring.specs.Steps.{Steps, no_steps, more_puts, more_takes}
 
--- a deque: its items from front to back, the place of the first in its region, and the steps of that region
+-- a deque: its items from front to back, the place of the first in its region, and the steps of
+-- that region
 pub record DequeState (X : Type 0) : Type 0 where
   pub items : List X
   pub start : ℕ
@@ -19,7 +20,8 @@ module _ {X : Type 0} where
 
   -- the deque of capacity n as the ring that it is
   abbrev pub as_ring : ℕ → DequeState X → RingState X
-  as_ring n deque = record { items = deque.items; capacity = n; start = deque.start; steps = deque.steps }
+  as_ring n deque =
+      record { items = deque.items; capacity = n; start = deque.start; steps = deque.steps }
 
   -- the last item, if there is one
   abbrev pub last_item : List X → Option X
@@ -31,13 +33,20 @@ module _ {X : Type 0} where
 
   -- the deque with xs put behind its last item, where no other item moves
   abbrev pub with_back : List X → DequeState X → DequeState X
-  with_back xs deque = record deque { items = deque.items ++ xs; steps = more_puts (length xs) deque.steps }
+  with_back xs deque =
+      record deque { items = deque.items ++ xs; steps = more_puts (length xs) deque.steps }
 
   -- the deque of capacity n with xs put one by one before its first item, where no other item moves
   abbrev pub with_front : ℕ → List X → DequeState X → DequeState X
-  with_front n xs deque = record { items = reverse xs ++ deque.items; start = back_by (length xs) deque.start n; steps = more_puts (length xs) deque.steps }
+  with_front n xs deque =
+      record {
+        items = reverse xs ++ deque.items;
+        start = back_by (length xs) deque.start n;
+        steps = more_puts (length xs) deque.steps;
+      }
 
-  -- the deque of capacity n with xs pushed one by one behind its last item, where each push into a full one takes its first item out
+  -- the deque of capacity n with xs pushed one by one behind its last item, where each push into a
+  -- full one takes its first item out
   abbrev pub wrapped_back : ℕ → List X → DequeState X → DequeState X
   wrapped_back n xs deque =
       let total = length deque.items + length xs in
@@ -47,7 +56,8 @@ module _ {X : Type 0} where
         steps = more_puts (length xs) (more_takes (total - n) deque.steps);
       }
 
-  -- the deque of capacity n with xs pushed one by one before its first item, where each push into a full one takes its last item out
+  -- the deque of capacity n with xs pushed one by one before its first item, where each push into a
+  -- full one takes its last item out
   abbrev pub wrapped_front : ℕ → List X → DequeState X → DequeState X
   wrapped_front n xs deque =
       record {

@@ -23,6 +23,10 @@ pub data Answer (X : Type 0) : Type 0 where
   no_memory : Answer X
   not_offered : X → Answer X
 
+-- what a call may answer, with the list that it leaves
+abbrev pub Outcome : Type 0 → Type 1
+Outcome X = Answer X → List X → Type 0
+
 module _ {X : Type 0} where
   abbrev pub answer_of : {n : ℕ} {B : Type 0} → Reply X n B → Answer X
   answer_of Done = done
@@ -38,33 +42,52 @@ module _ {X : Type 0} where
   answer_of (NotOffered element) = not_offered element
 
   -- the call answers a and leaves the list l
-  abbrev pub Gives : Answer X → List X → Answer X → List X → Type 0
+  abbrev pub Gives : Answer X → List X → Outcome X
   Gives a l answer left = (answer ≡ a) × (left ≡ l)
 
-  -- a push of x to l, which is `pushed` where there is room. Where there is none, saturating hands x back and leaves l, and wrapping gives up the item at the other end of `pushed` and leaves its rest
-  abbrev pub Pushes : Policy → Bool → List X → X → List X → Option X → List X → Answer X → List X → Type 0
-  Pushes saturating room l x pushed other_end rest answer left = MatchBool room (Gives done pushed answer left) (Gives (full x) l answer left)
-  Pushes wrapping room l x pushed other_end rest answer left = MatchBool room (Gives (displaced None) pushed answer left) (Gives (displaced other_end) rest answer left)
+  -- P where there is room for one more item than l, and else a refusal that hands x back and leaves
+  -- l as it is
+  abbrev pub IfRoom : ℕ → List X → X → Outcome X → Outcome X
+  IfRoom n l x P answer left =
+      MatchBool (nat_lt (length l) n) (P answer left) (Gives (full x) l answer left)
 
   -- P where the indexes are in range, and else a refusal that hands the element back and leaves l
-  abbrev pub InRange : Bool → Option X → List X → (Answer X → List X → Type 0) → Answer X → List X → Type 0
-  InRange in_range element l P answer left = MatchBool in_range (P answer left) (Gives (out_of_range element) l answer left)
+  abbrev pub InRange : Bool → Option X → List X → Outcome X → Outcome X
+  InRange in_range element l P answer left =
+      MatchBool in_range (P answer left) (Gives (out_of_range element) l answer left)
 
   -- P, or a refusal for memory that leaves l, which can come only where the call asks for memory
-  abbrev pub OrNoMemory : Bool → List X → (Answer X → List X → Type 0) → Answer X → List X → Type 0
+  abbrev pub OrNoMemory : Bool → List X → Outcome X → Outcome X
   OrNoMemory asks l P answer left = P answer left ⊎ ((asks ≡ true) × Gives no_memory l answer left)
 
-  -- an insert of x at i, which saturating alone offers
-  abbrev pub Inserts : Policy → Bool → List X → ℕ → X → Answer X → List X → Type 0
-  Inserts saturating room l i x answer left = InRange (nat_le i (length l)) (Some x) l (Pushes saturating room l x (insert l i x) None []) answer left
-  Inserts wrapping room l i x answer left = Gives (not_offered x) l answer left
+  -- a push of x before l: saturating refuses it where there is no room, and wrapping keeps the
+  -- first n items and gives up the one behind them
+  abbrev pub PushesFront : Policy → ℕ → List X → X → Outcome X
+  PushesFront saturating n l x = IfRoom n l x (Gives done (x ∷ l))
+  PushesFront wrapping n l x = Gives (displaced (slice_get (x ∷ l) n)) (take n (x ∷ l))
 
-  -- the list after items xs were added behind l: saturating adds while there is room, and wrapping keeps the last n
+  -- a push of x behind l: saturating refuses it where there is no room, and wrapping keeps the last
+  -- n items and gives up the one before them
+  abbrev pub PushesBack : Policy → ℕ → List X → X → Outcome X
+  PushesBack saturating n l x = IfRoom n l x (Gives done (l ++ x ∷ []))
+  PushesBack wrapping n l x =
+      let given_up = if nat_lt (length l) n then None else slice_get (l ++ x ∷ []) 0 in
+      Gives (displaced given_up) (keep_last n (l ++ x ∷ []))
+
+  -- an insert of x before the item at i, which saturating alone offers
+  abbrev pub Inserts : Policy → ℕ → List X → ℕ → X → Outcome X
+  Inserts saturating n l i x =
+      InRange (nat_le i (length l)) (Some x) l (IfRoom n l x (Gives done (insert l i x)))
+  Inserts wrapping n l i x = Gives (not_offered x) l
+
+  -- the list after items xs were added behind l: saturating adds while there is room, and wrapping
+  -- keeps the last n
   abbrev pub extended_back : Policy → ℕ → List X → List X → List X
   extended_back saturating n l xs = l ++ take (n - length l) xs
   extended_back wrapping n l xs = keep_last n (l ++ xs)
 
-  -- the list after they were added one by one before l: saturating adds while there is room, and wrapping keeps the first n
+  -- the list after they were added one by one before l: saturating adds while there is room, and
+  -- wrapping keeps the first n
   abbrev pub extended_front : Policy → ℕ → List X → List X → List X
   extended_front saturating n l xs = reverse (take (n - length l) xs) ++ l
   extended_front wrapping n l xs = take n (reverse xs ++ l)
@@ -79,25 +102,32 @@ module _ {X : Type 0} where
   IsAlike _ = Unit {0}
 
   -- under the policy and the capacity n the call is answered so, and takes the list l to `left`
-  abbrev pub Answers : Policy → ℕ → List X → Call X → Answer X → List X → Type 0
-  Answers p n l (PushFront x) answer left = Pushes p (nat_lt (length l) n) l x (x ∷ l) (slice_get (x ∷ l) n) (take n (x ∷ l)) answer left
-  Answers p n l (PushBack x) answer left = Pushes p (nat_lt (length l) n) l x (l ++ x ∷ []) (slice_get (l ++ x ∷ []) 0) (keep_last n (l ++ x ∷ [])) answer left
-  Answers p n l PopFront answer left = Gives (item (slice_get l 0)) (drop 1 l) answer left
-  Answers p n l PopBack answer left = Gives (item (last_item l)) (take (length l - 1) l) answer left
-  Answers p n l (Insert i x) answer left = Inserts p (nat_lt (length l) n) l i x answer left
-  Answers p n l (Remove i) answer left = Gives (item (slice_get l i)) (remove l i) answer left
-  Answers p n l (SwapRemoveBack i) answer left = Gives (item (slice_get l i)) (if nat_lt i (length l) then take (length l - 1) (swap l i (length l - 1)) else l) answer left
-  Answers p n l (SwapRemoveFront i) answer left = Gives (item (slice_get l i)) (if nat_lt i (length l) then drop 1 (swap l i 0) else l) answer left
-  Answers p n l (Swap i j) answer left = InRange (nat_lt i (length l) && nat_lt j (length l)) None l (Gives done (swap l i j)) answer left
-  Answers p n l (Replace i x) answer left = InRange (nat_lt i (length l)) (Some x) l (Gives (item (slice_get l i)) (slice_set l i x)) answer left
-  Answers p n l Clear answer left = Gives done [] answer left
-  Answers p n l Linearize answer left = Gives done l answer left
-  Answers p n l (ExtendBack v) answer left = Gives done (extended_back p n l v.items) answer left
-  Answers p n l (ExtendFront v) answer left = Gives done (extended_front p n l v.items) answer left
-  Answers p n l (Extend v) answer left = Gives done (extended_back saturating n l v.items) answer left
-  Answers p n l (Drain from to) answer left = InRange (nat_le from to && nat_le to (length l)) None l (OrNoMemory (nat_lt from to) l (Gives (drained (slice_range l from to)) (remove_range l from to))) answer left
-  Answers p n l (SplitOff at) answer left = InRange (nat_le at (length l)) None l (OrNoMemory (nat_lt 0 n) l (Gives (split (drop at l)) (take at l))) answer left
-  Answers p n l Len answer left = Gives (number (length l)) l answer left
-  Answers p n l Capacity answer left = Gives (number n) l answer left
-  Answers p n l IsEmpty answer left = Gives (truth (eqb (length l) 0)) l answer left
-  Answers p n l IsFull answer left = Gives (truth (eqb (length l) n)) l answer left
+  abbrev pub Answers : Policy → ℕ → List X → Call X → Outcome X
+  Answers p n l (PushFront x) = PushesFront p n l x
+  Answers p n l (PushBack x) = PushesBack p n l x
+  Answers p n l PopFront = Gives (item (slice_get l 0)) (drop 1 l)
+  Answers p n l PopBack = Gives (item (last_item l)) (take (length l - 1) l)
+  Answers p n l (Insert i x) = Inserts p n l i x
+  Answers p n l (Remove i) = Gives (item (slice_get l i)) (remove l i)
+  Answers p n l (SwapRemoveBack i) = Gives (item (slice_get l i))
+      (if nat_lt i (length l) then take (length l - 1) (swap l i (length l - 1)) else l)
+  Answers p n l (SwapRemoveFront i) = Gives (item (slice_get l i))
+      (if nat_lt i (length l) then drop 1 (swap l i 0) else l)
+  Answers p n l (Swap i j) =
+      InRange (nat_lt i (length l) && nat_lt j (length l)) None l (Gives done (swap l i j))
+  Answers p n l (Replace i x) =
+      InRange (nat_lt i (length l)) (Some x) l (Gives (item (slice_get l i)) (slice_set l i x))
+  Answers p n l Clear = Gives done []
+  Answers p n l Linearize = Gives done l
+  Answers p n l (ExtendBack v) = Gives done (extended_back p n l v.items)
+  Answers p n l (ExtendFront v) = Gives done (extended_front p n l v.items)
+  Answers p n l (Extend v) = Gives done (extended_back saturating n l v.items)
+  Answers p n l (Drain from to) = InRange (nat_le from to && nat_le to (length l)) None l
+      (OrNoMemory (nat_lt from to) l
+      (Gives (drained (slice_range l from to)) (remove_range l from to)))
+  Answers p n l (SplitOff at) = InRange (nat_le at (length l)) None l
+      (OrNoMemory (nat_lt 0 n) l (Gives (split (drop at l)) (take at l)))
+  Answers p n l Len = Gives (number (length l)) l
+  Answers p n l Capacity = Gives (number n) l
+  Answers p n l IsEmpty = Gives (truth (eqb (length l) 0)) l
+  Answers p n l IsFull = Gives (truth (eqb (length l) n)) l

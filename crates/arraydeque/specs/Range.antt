@@ -1,28 +1,11 @@
 -- The stretch of a list that a range names.
-use Rattle.std.specs.Prelude.{ℕ, ◌-◌, List, length, slice_range, Option, unwrap_or}
-use Rattle.std.specs.List.{remove_range}
+use Rattle.std.specs.Prelude.{ℕ, List, length, Option, unwrap_or}
 
--- its first index: a start that is left open is the front
-abbrev pub first_of : Option ℕ → ℕ
-first_of named = unwrap_or named 0
+-- the items from the index `from` up to the index `to`, which is not among them
+pub record Span : Type 0 where
+  pub from : ℕ
+  pub to : ℕ
 
--- its end: one that is left open is the list's length
-abbrev pub end_of : Option ℕ → ℕ → ℕ
-end_of named len = unwrap_or named len
-
-module _ {X : Type 0} (start end : Option ℕ) (l : List X) where
-  -- how many items it has
-  abbrev pub count_within : ℕ
-  count_within = end_of end (length l) - first_of start
-
-  -- how many items come after it
-  abbrev pub count_behind : ℕ
-  count_behind = length l - end_of end (length l)
-
-  -- its items
-  abbrev pub items_within : List X
-  items_within = slice_range l (first_of start) (end_of end (length l))
-
-  -- the items before it, followed by those after it
-  abbrev pub items_around : List X
-  items_around = remove_range l (first_of start) (end_of end (length l))
+-- the stretch of the list l between two bounds: one that is left open is the front of l, or its end
+abbrev pub span_of : {X : Type 0} → Option ℕ → Option ℕ → List X → Span
+span_of start end l = record { from = unwrap_or start 0; to = unwrap_or end (length l) }

@@ -1,5 +1,5 @@
 //! The deque: a ring of at most `CAP` items under a policy.
-ghost use Rattle.std.specs.Prelude.{◌≡◌, ◌-◌, ◌*◌, ◌+◌, ◌<◌, ◌≤◌, ◌==◌, ◌++◌, [], length, take, drop, slice_get, IfOk, OnErr, OnSome, IfNone};
+ghost use Rattle.std.specs.Prelude.{◌≡◌, ◌-◌, ◌*◌, ◌+◌, ◌<◌, ◌≤◌, ◌==◌, ◌++◌, [], length, take, drop, slice_get, option_to_list, IfOk, OnErr, OnSome, IfNone};
 ghost use Rattle.std.specs.Mem.{type_size};
 ghost use Rattle.arraydeque_ring.specs.Ring.{place_of, IsInOnePiece};
 ghost use Rattle.arraydeque_ring.specs.Steps.{more_takes};
@@ -8,9 +8,12 @@ ghost use Rattle.arraydeque.specs.Deque.{empty_deque, as_ring, last_item};
 use crate::behavior::Behavior;
 use arraydeque_ring::ring::Ring;
 use std::alloc::{AllocError, Global};
+use std::fmt;
 use std::marker::{Model, PhantomData};
 
 mod access;
+mod clone;
+mod compare;
 mod extend;
 mod linearize;
 mod makers;
@@ -36,7 +39,11 @@ impl<T, const CAP: usize, B: Behavior> Model for ArrayDeque<T, CAP, B> {
 
     ghost Value = { DequeState T };
 
-    ghost view = { λ d. record { items = d.ring.items; start = d.ring.start; steps = d.ring.steps } };
+    ghost view = { λ d. record {
+      items = d.ring.items;
+      start = d.ring.start;
+      steps = d.ring.steps;
+    } };
 
     ghost invariant = { λ d. (d.ring.capacity ≡ CAP) × (length d.ring.items ≤ CAP) };
 }
@@ -100,6 +107,8 @@ impl<T, const CAP: usize, B: Behavior> ArrayDeque<T, CAP, B> {
     pub fn pop_front(&mut self) -> Option<T>
         ensures value { result ≡ slice_get self.old.items 0 }
         ensures items { self.new.items ≡ drop 1 self.old.items }
+        ensures conserved { option_to_list result ++ self.new.items ≡ self.old.items }
+        ensures within { length self.new.items ≤ CAP }
         ensures start { OnSome result (self.new.start ≡ place_of self.old.start 1 CAP) }
         ensures steps { OnSome result (self.new.steps ≡ more_takes 1 self.old.steps) }
         ensures none { IfNone result (self.new ≡ self.old) }
@@ -112,6 +121,8 @@ impl<T, const CAP: usize, B: Behavior> ArrayDeque<T, CAP, B> {
     pub fn pop_back(&mut self) -> Option<T>
         ensures value { result ≡ last_item self.old.items }
         ensures items { self.new.items ≡ take (length self.old.items - 1) self.old.items }
+        ensures conserved { self.new.items ++ option_to_list result ≡ self.old.items }
+        ensures within { length self.new.items ≤ CAP }
         ensures start { self.new.start ≡ self.old.start }
         ensures steps { OnSome result (self.new.steps ≡ more_takes 1 self.old.steps) }
         ensures none { IfNone result (self.new ≡ self.old) }
@@ -131,5 +142,13 @@ impl<T, const CAP: usize, B: Behavior> ArrayDeque<T, CAP, B> {
 
     pub(crate) fn alloc(&self) -> Global {
         self.ring.alloc()
+    }
+}
+
+impl<T: fmt::Debug, const CAP: usize, B: Behavior> fmt::Debug for ArrayDeque<T, CAP, B> {
+    /// The items as a list, like `[0, 1, 2, 3]`.
+    fn fmt<W: fmt::Write>(&self, f: &mut fmt::Formatter<W>) -> fmt::Result {
+        let (front, back) = self.as_slices();
+        f.debug_list().slice(front).slice(back).finish()
     }
 }

@@ -6,11 +6,12 @@ pub mod behavior;
 mod deque;
 mod error;
 mod iter;
+pub mod lookahead;
 mod range;
 pub mod run;
 
 pub use behavior::{Saturating, Wrapping};
 pub use deque::ArrayDeque;
 pub use error::{CapacityError, MakeError};
-pub use iter::Drain;
+pub use iter::{Drain, IntoIter, Iter};
 pub use range::RangeArgument;

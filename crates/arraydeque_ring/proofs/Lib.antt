@@ -1,3 +1,4 @@
+pub mod loans
 pub mod memory
 pub mod places
 pub mod retained

@@ -2,6 +2,7 @@ pub mod Counted
 pub mod Exchanged
 pub mod Gaps
 pub mod Lends
+pub mod Loans
 pub mod Ownership
 pub mod Places
 pub mod Retained

@@ -5,6 +5,7 @@
 //! [`ring`] is a list of items that wraps round the region's end.
 #![tactic(auto)]
 
+pub mod iter_mut;
 pub mod ring;
 pub mod slots;
 mod wrap;

@@ -199,6 +199,18 @@ impl<T> Ring<T> {
         }
     }
 
+    /// Gives the region of a ring that holds no item back.
+    pub fn give_back(self)
+        requires { self.items ≡ [] }
+    {
+        let Ring {
+            slots: _,
+            start: _,
+            len: _,
+            alloc: _,
+        } = self;
+    }
+
     /// The place `index` places after the start, round the region's end.
     #[inline(always)]
     fn place(&self, index: usize) -> usize
@@ -215,11 +227,6 @@ impl<T: Drop> Drop for Ring<T> {
     /// Drops each item, front to back, and gives the region back.
     fn drop(mut self) {
         self.clear();
-        let Ring {
-            slots: _,
-            start: _,
-            len: _,
-            alloc: _,
-        } = self;
+        self.give_back();
     }
 }

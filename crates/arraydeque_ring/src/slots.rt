@@ -11,6 +11,7 @@ ghost use Rattle.arraydeque_ring.specs.Counted.{counted};
 ghost use Rattle.arraydeque_ring.specs.Exchanged.{runs_exchanged};
 ghost use Rattle.arraydeque_ring.specs.Steps.{Steps, more_puts, more_takes, more_moves, more_exchanges};
 
+mod lends;
 mod raw;
 
 use raw::size_of_item;
@@ -149,21 +150,9 @@ impl<T> Slots<T> {
 
     /// Exchanges the values in the `len` places from `a` on with those in the `len` places from `b`
     /// on, which come later: the first with the first, and so on.
-    pub(crate) fn exchange_runs(&mut self, a: usize, b: usize, len: usize)
-        requires apart { a + len ≤ b }
-        requires a_filled { IsFilledRun self.old.places a len }
-        requires b_filled { IsFilledRun self.old.places b len }
-        ensures places { self.new.places ≡ runs_exchanged a b len self.old.places }
-        ensures steps { self.new.steps ≡ more_exchanges len self.old.steps }
-    {
-        let alloc = self.alloc;
-        let region = replace(self, Slots::without_memory(alloc, 0));
-        let _nothing = replace(self, region.with_runs_exchanged(a, b, len));
-    }
-
-    /// The same. It takes the region by value, so that the loop need not look up its memory anew
-    /// for each pair.
-    fn with_runs_exchanged(self, a: usize, b: usize, len: usize) -> Slots<T>
+    ///
+    /// It takes the region by value, so that its memory need not be looked up anew for each pair.
+    pub(crate) fn exchange_runs(self, a: usize, b: usize, len: usize) -> Slots<T>
         requires apart { a + len ≤ b }
         requires a_filled { IsFilledRun self.places a len }
         requires b_filled { IsFilledRun self.places b len }
@@ -175,6 +164,15 @@ impl<T> Slots<T> {
             slots.exchange(a + k, b + k);
         }
         slots
+    }
+
+    /// The region itself, in whose place one of no places is left.
+    pub(crate) fn moved_out(&mut self) -> Slots<T>
+        ensures region { result ≡ self.old }
+        ensures left { self.new ≡ empty_region 0 }
+    {
+        let alloc = self.alloc;
+        replace(self, Slots::without_memory(alloc, 0))
     }
 
     /// The value in a place.

@@ -18,6 +18,8 @@ mod ends;
 #[cfg(test)]
 mod extends;
 #[cfg(test)]
+mod lookahead;
+#[cfg(test)]
 mod makers;
 #[cfg(test)]
 mod parts;

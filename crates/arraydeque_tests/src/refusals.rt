@@ -1,8 +1,11 @@
 //! What comes back where memory is refused. Each test holds where none is, and whichever request of the calls that it is of
 //! is refused; where one is refused that its set-up makes, it ends there.
+use crate::asked::Script;
 use crate::build::{deque_at, holds};
+use arraydeque::lookahead::Scanner;
 use arraydeque::run::{Call, Reply};
 use arraydeque::{ArrayDeque, Saturating, Wrapping};
+use std::alloc::AllocError;
 use std::test::Fail;
 
 #[test]
@@ -185,5 +188,37 @@ fn capacity_zero_asks_for_no_memory(rt: HostRuntime) -> Result<(), Fail> {
     assert!(rt; saturating.is_ok());
     let list = deque.into_vec().map_err(|_| "refused")?;
     assert!(rt; list.is_empty());
+    Ok(())
+}
+
+#[test]
+fn a_refused_scanner_gives_its_iterator_back(rt: HostRuntime) -> Result<(), Fail> {
+    match Scanner::<Script<'_>, 2>::new(rt.alloc(), Script::of(&[Some(1)])) {
+        Ok(mut scanner) => assert_eq!(rt; (scanner.next(), scanner.next()), (Some(1), None)),
+        Err(mut refusal) => {
+            assert_eq!(rt; refusal.source.asked, 0);
+            assert_eq!(rt;
+                (refusal.source.next(), refusal.source.next()),
+                (Some(1), None)
+            );
+        }
+    }
+    Ok(())
+}
+
+/// After the first request, for the buffer of the first scanner, this test makes none: the second, of capacity 0, has no region.
+#[test]
+fn a_scanner_reads_on_without_memory(rt: HostRuntime) -> Result<(), Fail> {
+    let input = [Some(1), Some(2), Some(3)];
+    let mut scanner = Scanner::<_, 2>::new(rt.alloc(), Script::of(&input)).map_err(|_| AllocError)?;
+    assert_eq!(rt; scanner.peek(1), Some(&2));
+    assert_eq!(rt; scanner.next(), Some(1));
+    assert!(rt; scanner.unread(9).is_ok());
+    assert!(rt; scanner.unread(8).is_err());
+    assert_eq!(rt; (scanner.next(), scanner.next()), (Some(9), Some(2)));
+    assert_eq!(rt; (scanner.next(), scanner.next()), (Some(3), None));
+    let mut scanner = Scanner::<_, 0>::new(rt.alloc(), Script::of(&input)).map_err(|_| "refused")?;
+    assert_eq!(rt; scanner.next(), Some(1));
+    assert!(rt; scanner.unread(9).is_err());
     Ok(())
 }

@@ -57,7 +57,8 @@ impl<T, const CAP: usize, B: Behavior> ArrayDeque<T, CAP, B> {
     /// The last item for writing, if there is one.
     #[inline]
     pub fn back_mut(&mut self) -> Option<&mut T>
-        ensures* writes_back { sem 𝓛 (lends_item T.row CAP.row B.row self.entry (length self.old.items - 1) result) }
+        ensures* writes_back { let last = length self.old.items - 1 in
+            sem 𝓛 (lends_item T.row CAP.row B.row self.entry last result) }
         ensures value { option_copied_mut result ≡ last_item self.old.items }
     {
         let last = self.len().saturating_sub(1);

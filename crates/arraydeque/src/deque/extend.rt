@@ -1,8 +1,8 @@
 //! Adding the items of an iterator.
 ghost use Rattle.std.specs.Prelude.{◌≡◌, ◌<◌, ◌-◌, ◌++◌, length, reverse, take, IsOk};
-ghost use Rattle.std.specs.Iterator.{IsFinite, ExtendsWithItems};
+ghost use Rattle.std.specs.Iterator.{IsFiniteIterable, ExtendsWithItems};
 ghost use Rattle.arraydeque.specs.Deque.{keep_last, with_back, with_front, wrapped_back, wrapped_front};
-ghost use Rattle.arraydeque.specs.Sources.{EachIterator, TakesFrom, TakesAll};
+ghost use Rattle.arraydeque.specs.Sources.{IsIterable, TakesFrom, TakesAll};
 
 use super::ArrayDeque;
 use crate::behavior::{Behavior, Saturating, Wrapping};
@@ -12,9 +12,9 @@ impl<T, const CAP: usize> ArrayDeque<T, CAP, Saturating> {
     /// Adds items behind the last one while there is room. The iterator is asked for no more items
     /// than there is room for, and never after its first `None`.
     pub fn extend_back<I: IntoIterator<Item = T>>(&mut self, iter: I)
-        requires { EachIterator I.into_iter_gives iter (λ it. I.IntoIter.can_next it) }
-        ensures { TakesFrom I.into_iter_gives I.IntoIter.next_gives iter (CAP - length self.old.items)
-            (λ xs. self.new ≡ with_back xs self.old) }
+        requires { IsIterable I.into_iter_gives I.IntoIter.can_next iter }
+        ensures { TakesFrom I.into_iter_gives I.IntoIter.next_gives iter
+            (CAP - length self.old.items) (λ xs. self.new ≡ with_back xs self.old) }
     {
         self.fill_back(iter);
     }
@@ -23,9 +23,9 @@ impl<T, const CAP: usize> ArrayDeque<T, CAP, Saturating> {
     /// stand first. The iterator is asked for no more items than there is room for, and never after
     /// its first `None`.
     pub fn extend_front<I: IntoIterator<Item = T>>(&mut self, iter: I)
-        requires { EachIterator I.into_iter_gives iter (λ it. I.IntoIter.can_next it) }
-        ensures { TakesFrom I.into_iter_gives I.IntoIter.next_gives iter (CAP - length self.old.items)
-            (λ xs. self.new ≡ with_front CAP xs self.old) }
+        requires { IsIterable I.into_iter_gives I.IntoIter.can_next iter }
+        ensures { TakesFrom I.into_iter_gives I.IntoIter.next_gives iter
+            (CAP - length self.old.items) (λ xs. self.new ≡ with_front CAP xs self.old) }
     {
         let room = self.room();
         for element in iter.into_iter().take(room) {
@@ -38,7 +38,8 @@ impl<T: Drop, const CAP: usize> ArrayDeque<T, CAP, Wrapping> {
     /// Pushes each item of an iterator that ends behind the last one. A full deque drops its first
     /// item for each, and one of capacity 0 the item itself.
     pub fn extend_back<I: IntoIterator<Item = T>>(&mut self, iter: I)
-        requires { EachIterator I.into_iter_gives iter (λ it. I.IntoIter.can_next it × IsFinite (I.IntoIter.remaining it)) }
+        requires { IsFiniteIterable
+            I.into_iter_gives I.IntoIter.can_next I.IntoIter.remaining iter }
         ensures { TakesAll I.into_iter_gives I.IntoIter.next_gives iter
             (λ xs. (self.new.items ≡ keep_last CAP (self.old.items ++ xs))
             × (0 < CAP → self.new ≡ wrapped_back CAP xs self.old)
@@ -51,10 +52,12 @@ impl<T: Drop, const CAP: usize> ArrayDeque<T, CAP, Wrapping> {
         }
     }
 
-    /// Pushes each item of an iterator that ends before the first one, so that the last one comes to
-    /// stand first. A full deque drops its last item for each, and one of capacity 0 the item itself.
+    /// Pushes each item of an iterator that ends before the first one, so that the last one comes
+    /// to stand first. A full deque drops its last item for each, and one of capacity 0 the item
+    /// itself.
     pub fn extend_front<I: IntoIterator<Item = T>>(&mut self, iter: I)
-        requires { EachIterator I.into_iter_gives iter (λ it. I.IntoIter.can_next it × IsFinite (I.IntoIter.remaining it)) }
+        requires { IsFiniteIterable
+            I.into_iter_gives I.IntoIter.can_next I.IntoIter.remaining iter }
         ensures { TakesAll I.into_iter_gives I.IntoIter.next_gives iter
             (λ xs. (self.new.items ≡ take CAP (reverse xs ++ self.old.items))
             × (0 < CAP → self.new ≡ wrapped_front CAP xs self.old)
@@ -74,9 +77,13 @@ impl<T: Drop, const CAP: usize, B: Behavior> Extend<T> for ArrayDeque<T, CAP, B>
     /// Adds items of an iterator that ends behind the last one while there is room, displaces none,
     /// and drops the rest of the iterator's items. The answer is always `Ok`.
     fn extend<I: IntoIterator<Item = T>>(&mut self, iter: I) -> Result<(), AllocError>
-        requires { EachIterator I.into_iter_gives iter (λ it. I.IntoIter.can_next it × IsFinite (I.IntoIter.remaining it)) }
+        requires { IsFiniteIterable
+            I.into_iter_gives I.IntoIter.can_next I.IntoIter.remaining iter }
         ensures ran { ExtendsWithItems I.into_iter_gives I.IntoIter.next_gives
-            (λ old xs new. new ≡ with_back (take (CAP - length old.items) xs) old) iter self.old self.new result }
+            (λ old xs new. new ≡ with_back (take (CAP - length old.items) xs) old)
+            iter self.old self.new result }
+        ensures taken { TakesAll I.into_iter_gives I.IntoIter.next_gives iter
+            (λ xs. self.new ≡ with_back (take (CAP - length self.old.items) xs) self.old) }
         ensures ok { IsOk result }
     {
         for element in iter {
@@ -91,9 +98,9 @@ impl<T: Drop, const CAP: usize, B: Behavior> Extend<T> for ArrayDeque<T, CAP, B>
 impl<T, const CAP: usize, B: Behavior> ArrayDeque<T, CAP, B> {
     /// Adds items behind the last one while there is room, and asks for no more.
     pub(crate) fn fill_back<I: IntoIterator<Item = T>>(&mut self, iter: I)
-        requires { EachIterator I.into_iter_gives iter (λ it. I.IntoIter.can_next it) }
-        ensures { TakesFrom I.into_iter_gives I.IntoIter.next_gives iter (CAP - length self.old.items)
-            (λ xs. self.new ≡ with_back xs self.old) }
+        requires { IsIterable I.into_iter_gives I.IntoIter.can_next iter }
+        ensures { TakesFrom I.into_iter_gives I.IntoIter.next_gives iter
+            (CAP - length self.old.items) (λ xs. self.new ≡ with_back xs self.old) }
     {
         let room = self.room();
         for element in iter.into_iter().take(room) {

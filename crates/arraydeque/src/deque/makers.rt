@@ -1,9 +1,9 @@
 //! Deques made of other collections, and collections made of a deque.
 ghost use Rattle.std.specs.Prelude.{◌≡◌, ◌<◌, ◌*◌, ◌+◌, ◌≤◌, length, take, IfOk, IfErr, OnErr};
-ghost use Rattle.std.specs.Iterator.{IsFinite};
+ghost use Rattle.std.specs.Iterator.{IsFiniteIterable};
 ghost use Rattle.std.specs.Mem.{type_size};
 ghost use Rattle.arraydeque.specs.Deque.{empty_deque, keep_last, with_back, wrapped_back};
-ghost use Rattle.arraydeque.specs.Sources.{EachIterator, TakesFrom, TakesAll};
+ghost use Rattle.arraydeque.specs.Sources.{IsIterable, TakesFrom, TakesAll};
 
 use super::ArrayDeque;
 use crate::behavior::{Behavior, Saturating, Wrapping};
@@ -18,8 +18,9 @@ impl<T, const CAP: usize> ArrayDeque<T, CAP, Saturating> {
         alloc: Global,
         iter: I,
     ) -> Result<Self, MakeError<I>>
-        requires { EachIterator I.into_iter_gives iter (λ it. I.IntoIter.can_next it) }
-        ensures items { IfOk result (λ deque. TakesFrom I.into_iter_gives I.IntoIter.next_gives iter CAP
+        requires { IsIterable I.into_iter_gives I.IntoIter.can_next iter }
+        ensures items { IfOk result (λ deque.
+            TakesFrom I.into_iter_gives I.IntoIter.next_gives iter CAP
             (λ xs. deque ≡ with_back xs empty_deque)) }
         ensures source { IfErr result (λ refusal. refusal.source ≡ iter) }
         ensures refused { OnErr result (0 < CAP * type_size T.row) }
@@ -72,8 +73,10 @@ impl<T: Drop, const CAP: usize> ArrayDeque<T, CAP, Wrapping> {
         alloc: Global,
         iter: I,
     ) -> Result<Self, MakeError<I>>
-        requires { EachIterator I.into_iter_gives iter (λ it. I.IntoIter.can_next it × IsFinite (I.IntoIter.remaining it)) }
-        ensures items { IfOk result (λ deque. TakesAll I.into_iter_gives I.IntoIter.next_gives iter
+        requires { IsFiniteIterable
+            I.into_iter_gives I.IntoIter.can_next I.IntoIter.remaining iter }
+        ensures items { IfOk result (λ deque.
+            TakesAll I.into_iter_gives I.IntoIter.next_gives iter
             (λ xs. (deque.items ≡ keep_last CAP xs)
             × (0 < CAP → deque ≡ wrapped_back CAP xs empty_deque)
             × (CAP ≡ 0 → deque ≡ empty_deque))) }
@@ -93,7 +96,8 @@ impl<T: Drop, const CAP: usize> ArrayDeque<T, CAP, Wrapping> {
     /// refused the vector comes back as it was.
     pub fn from_vec(alloc: Global, v: Vec<T>) -> Result<Self, MakeError<Vec<T>>>
         ensures items { IfOk result (λ deque. deque.items ≡ keep_last CAP v.items) }
-        ensures pushed { IfOk result (λ deque. 0 < CAP → deque ≡ wrapped_back CAP v.items empty_deque) }
+        ensures pushed { IfOk result (λ deque.
+            0 < CAP → deque ≡ wrapped_back CAP v.items empty_deque) }
         ensures no_places { IfOk result (λ deque. CAP ≡ 0 → deque ≡ empty_deque) }
         ensures source { IfErr result (λ refusal. refusal.source ≡ v) }
         ensures refused { OnErr result (0 < CAP * type_size T.row) }
@@ -135,10 +139,10 @@ impl<T, const CAP: usize, B: Behavior> ArrayDeque<T, CAP, B> {
     }
 }
 
-impl<T: Drop, const CAP: usize, B: Behavior> ArrayDeque<T, CAP, B> {
+impl<T, const CAP: usize, B: Behavior> ArrayDeque<T, CAP, B> {
     /// A vector of the items, front to back. Where its memory is refused the deque comes back as it
     /// was; an empty deque asks for none.
-    pub fn into_vec(mut self) -> Result<Vec<T>, MakeError<Self>>
+    pub fn into_vec(self) -> Result<Vec<T>, MakeError<Self>>
         ensures items { IfOk result (λ v. v.items ≡ self.items) }
         ensures source { IfErr result (λ refusal. refusal.source ≡ self) }
         ensures refused { OnErr result (0 < length self.items) }
@@ -147,9 +151,14 @@ impl<T: Drop, const CAP: usize, B: Behavior> ArrayDeque<T, CAP, B> {
             Ok(v) => v,
             Err(_) => return Err(MakeError { source: self }),
         };
-        while let Some(item) = self.pop_front() {
+        let ArrayDeque {
+            mut ring,
+            behavior: _,
+        } = self;
+        while let Some(item) = ring.pop_front() {
             v.push_reserved(item);
         }
+        ring.give_back();
         Ok(v)
     }
 }

@@ -19,8 +19,8 @@ impl<T, const CAP: usize> ArrayDeque<T, CAP, Saturating> {
         ensures items { OnOk result (self.new.items ≡ insert self.old.items index element) }
         ensures start { OnOk result (self.new.start ≡
             start_opened index (length self.old.items - index) CAP self.old.start) }
-        ensures steps { OnOk result (self.new.steps ≡
-            more_puts 1 (more_moves (moves_to_insert index (length self.old.items)) self.old.steps)) }
+        ensures steps { OnOk result (self.new.steps ≡ more_puts 1
+            (more_moves (moves_to_insert index (length self.old.items)) self.old.steps)) }
         ensures full { IfErr result (λ refusal. refusal.element ≡ element) }
         ensures unchanged { OnErr result (self.new ≡ self.old) }
     {
@@ -41,7 +41,8 @@ impl<T, const CAP: usize, B: Behavior> ArrayDeque<T, CAP, B> {
         ensures start { OnSome result (self.new.start ≡
             start_closed index 1 (length self.old.items - 1 - index) CAP self.old.start) }
         ensures steps { OnSome result (self.new.steps ≡
-            more_moves (moves_to_remove index (length self.old.items)) (more_takes 1 self.old.steps)) }
+            more_moves (moves_to_remove index (length self.old.items))
+            (more_takes 1 self.old.steps)) }
         ensures none { IfNone result (self.new ≡ self.old) }
     {
         if index >= self.len() {

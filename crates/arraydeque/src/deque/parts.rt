@@ -1,9 +1,10 @@
 //! Taking a stretch out of a deque, and cutting one in two.
-ghost use Rattle.std.specs.Prelude.{◌≡◌, ◌-◌, ◌*◌, ◌<◌, ◌≤◌, length, take, drop, min, nat_lt, if◌then◌else◌, IfOk, OnOk, OnErr};
+ghost use Rattle.std.specs.Prelude.{◌≡◌, ◌-◌, ◌*◌, ◌<◌, ◌≤◌, length, take, drop, slice_range, IfOk, OnOk, OnErr};
+ghost use Rattle.std.specs.List.{remove_range};
 ghost use Rattle.std.specs.Mem.{type_size};
-ghost use Rattle.arraydeque_ring.specs.Sides.{start_closed};
+ghost use Rattle.arraydeque_ring.specs.Sides.{moves_to_drain, start_closed};
 ghost use Rattle.arraydeque_ring.specs.Steps.{no_steps, more_moves, more_puts, more_takes};
-ghost use Rattle.arraydeque.specs.Range.{first_of, end_of, count_within, count_behind, items_within, items_around};
+ghost use Rattle.arraydeque.specs.Range.{span_of};
 
 use super::ArrayDeque;
 use crate::behavior::Behavior;
@@ -21,23 +22,32 @@ impl<T, const CAP: usize, B: Behavior> ArrayDeque<T, CAP, B> {
     pub fn drain<R: RangeArgument<usize>>(&mut self, range: R) -> Result<Drain<T>, AllocError>
     where
         R: Drop,
-        requires ordered { first_of (R.names_start range) ≤ end_of (R.names_end range) (length self.old.items) }
-        requires in_bounds { end_of (R.names_end range) (length self.old.items) ≤ length self.old.items }
-        ensures drained { IfOk result (λ drained. drained ≡
-            items_within (R.names_start range) (R.names_end range) self.old.items) }
-        ensures items { OnOk result (self.new.items ≡
-            items_around (R.names_start range) (R.names_end range) self.old.items) }
-        ensures start { let before = first_of (R.names_start range) in
-            let gap = count_within (R.names_start range) (R.names_end range) self.old.items in
-            let behind = count_behind (R.names_start range) (R.names_end range) self.old.items in
-            OnOk result (self.new.start ≡ start_closed before gap behind CAP self.old.start) }
-        ensures steps { let before = first_of (R.names_start range) in
-            let gap = count_within (R.names_start range) (R.names_end range) self.old.items in
-            let behind = count_behind (R.names_start range) (R.names_end range) self.old.items in
+        requires ordered { let span =
+            span_of (R.names_start range) (R.names_end range) self.old.items in
+            span.from ≤ span.to }
+        requires in_bounds { let span =
+            span_of (R.names_start range) (R.names_end range) self.old.items in
+            span.to ≤ length self.old.items }
+        ensures drained { let span =
+            span_of (R.names_start range) (R.names_end range) self.old.items in
+            IfOk result (λ drained. drained ≡ slice_range self.old.items span.from span.to) }
+        ensures items { let span =
+            span_of (R.names_start range) (R.names_end range) self.old.items in
+            OnOk result (self.new.items ≡ remove_range self.old.items span.from span.to) }
+        ensures start { let span =
+            span_of (R.names_start range) (R.names_end range) self.old.items in
+            let after = length self.old.items - span.to in
+            OnOk result (self.new.start ≡
+            start_closed span.from (span.to - span.from) after CAP self.old.start) }
+        ensures steps { let span =
+            span_of (R.names_start range) (R.names_end range) self.old.items in
             OnOk result (self.new.steps ≡
-            more_moves (if nat_lt 0 gap then min before behind else 0) (more_takes gap self.old.steps)) }
+            more_moves (moves_to_drain span.from span.to (length self.old.items))
+            (more_takes (span.to - span.from) self.old.steps)) }
         ensures unchanged { OnErr result (self.new ≡ self.old) }
-        ensures refused { OnErr result (0 < count_within (R.names_start range) (R.names_end range) self.old.items * type_size T.row) }
+        ensures refused { let span =
+            span_of (R.names_start range) (R.names_end range) self.old.items in
+            OnErr result (0 < (span.to - span.from) * type_size T.row) }
     {
         let from = match range.start() {
             Some(from) => from,

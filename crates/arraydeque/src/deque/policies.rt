@@ -1,5 +1,5 @@
 //! Pushes, which differ by the policy.
-ghost use Rattle.std.specs.Prelude.{◌≡◌, ◌<◌, ◌-◌, ◌++◌, ◌∷◌, [], length, take, slice_get, None, nat_lt, if◌then◌else◌, IfErr, OnOk, OnErr, IsOk, ◌↔◌};
+ghost use Rattle.std.specs.Prelude.{◌≡◌, ◌<◌, ◌≤◌, ◌-◌, ◌++◌, ◌∷◌, [], length, take, slice_get, None, nat_lt, option_to_list, if◌then◌else◌, IfErr, OnOk, OnErr, IsOk, ◌↔◌};
 ghost use Rattle.arraydeque_ring.specs.Ring.{place_of};
 ghost use Rattle.arraydeque_ring.specs.Steps.{more_puts, more_takes};
 ghost use Rattle.arraydeque.specs.Deque.{keep_last};
@@ -27,8 +27,8 @@ impl<T, const CAP: usize> ArrayDeque<T, CAP, Saturating> {
         Ok(())
     }
 
-    /// Adds an item behind the last one. No kept item moves. A full deque hands the element back and
-    /// stays as it was.
+    /// Adds an item behind the last one. No kept item moves. A full deque hands the element back
+    /// and stays as it was.
     #[inline]
     pub fn push_back(&mut self, element: T) -> Result<(), CapacityError<T>>
         ensures room { IsOk result ↔ (length self.old.items < CAP) }
@@ -53,6 +53,8 @@ impl<T, const CAP: usize> ArrayDeque<T, CAP, Wrapping> {
     pub fn push_front(&mut self, element: T) -> Option<T>
         ensures items { self.new.items ≡ take CAP (element ∷ self.old.items) }
         ensures value { result ≡ slice_get (element ∷ self.old.items) CAP }
+        ensures conserved { self.new.items ++ option_to_list result ≡ element ∷ self.old.items }
+        ensures within { length self.new.items ≤ CAP }
         ensures start { 0 < CAP → self.new.start ≡ place_of self.old.start (CAP - 1) CAP }
         ensures steps { 0 < CAP → self.new.steps ≡ more_puts 1
             (more_takes (if nat_lt (length self.old.items) CAP then 0 else 1) self.old.steps) }
@@ -65,7 +67,7 @@ impl<T, const CAP: usize> ArrayDeque<T, CAP, Wrapping> {
         if CAP == 0 {
             return Some(element);
         }
-        let displaced = self.ring.pop_back();
+        let displaced = self.pop_back();
         self.ring.push_front(element);
         displaced
     }
@@ -79,6 +81,9 @@ impl<T, const CAP: usize> ArrayDeque<T, CAP, Wrapping> {
             (if nat_lt (length self.old.items) CAP
             then None
             else slice_get (self.old.items ++ element ∷ []) 0) }
+        ensures conserved { option_to_list result ++ self.new.items ≡
+            self.old.items ++ element ∷ [] }
+        ensures within { length self.new.items ≤ CAP }
         ensures start { 0 < CAP → self.new.start ≡
             (if nat_lt (length self.old.items) CAP
             then self.old.start
@@ -94,7 +99,7 @@ impl<T, const CAP: usize> ArrayDeque<T, CAP, Wrapping> {
         if CAP == 0 {
             return Some(element);
         }
-        let displaced = self.ring.pop_front();
+        let displaced = self.pop_front();
         self.ring.push_back(element);
         displaced
     }

@@ -1,6 +1,7 @@
 //! One pass over all items: dropping each, and keeping some.
 ghost use Rattle.std.specs.Prelude.{◌≡◌, ◌≤◌, [], length};
 ghost use Rattle.std.specs.Fn.{CalledAt};
+ghost use Rattle.std.specs.List.Retain.{IsFiltered};
 ghost use Rattle.arraydeque_ring.specs.Retained.{Retains};
 ghost use Rattle.arraydeque_ring.specs.Steps.{more_takes};
 ghost use Rattle.arraydeque.specs.Deque.{as_ring};
@@ -32,7 +33,9 @@ impl<T, const CAP: usize, B: Behavior> ArrayDeque<T, CAP, B> {
         T: Drop,
         F: Drop,
         requires { F.IsAlwaysCallable f }
-        ensures retains { Retains (CalledAt F.FnMut) f (as_ring CAP self.old) (as_ring CAP self.new) }
+        ensures retains { Retains (CalledAt F.FnMut) f
+            (as_ring CAP self.old) (as_ring CAP self.new) }
+        ensures filtered { IsFiltered (CalledAt F.FnMut) f self.old.items self.new.items }
         ensures no_longer { length self.new.items ≤ length self.old.items }
     {
         self.ring.retain(f);

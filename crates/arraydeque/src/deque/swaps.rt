@@ -14,7 +14,8 @@ impl<T, const CAP: usize, B: Behavior> ArrayDeque<T, CAP, B> {
         ensures value { result ≡ slice_get self.old.items index }
         ensures items { self.new.items ≡
             (if nat_lt index (length self.old.items)
-            then take (length self.old.items - 1) (swap self.old.items index (length self.old.items - 1))
+            then take (length self.old.items - 1)
+            (swap self.old.items index (length self.old.items - 1))
             else self.old.items) }
         ensures start { self.new.start ≡ self.old.start }
         ensures steps { OnSome result (self.new.steps ≡ more_takes 1

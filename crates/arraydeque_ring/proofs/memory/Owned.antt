@@ -38,14 +38,14 @@ module _ (E : El) {M : Type 1} {𝓤 : Ura M} (𝓛 : Logic 𝓤) (b : ℕ) wher
   Row = places_owned (R E) b
 
   -- the places are cut in two, and joined
-  cut : (ps qs : List (Place E)) (o at : ℕ) → at ≡ length ps * s + o → ent 𝓤 (sem 𝓛 (Row o (ps ++ qs))) (sep 𝓤 (sem 𝓛 (Row o ps)) (sem 𝓛 (Row at qs)))
+  pub cut : (ps qs : List (Place E)) (o at : ℕ) → at ≡ length ps * s + o → ent 𝓤 (sem 𝓛 (Row o (ps ++ qs))) (sep 𝓤 (sem 𝓛 (Row o ps)) (sem 𝓛 (Row at qs)))
   cut [] qs o at e = qed 𝓛 (‵ (Row o qs) ∷ []) ∵ rewrite ! 0 (λ (k : ℕ). ‵ (Row k qs)) {x = at} (omega (arith, zero-mul s)) refl $ nothing ! $ done !
   cut (p ∷ ps) qs o at e =
       let on : at ≡ length ps * s + (o + s) = let all : at ≡ suc (length ps) * s + o = e in omega (arith, suc-mul (length ps) s) in
       qed 𝓛 (‵ (Row o (p ∷ ps ++ qs)) ∷ []) ∵ fsplit ! $ move ! (1 ∷ []) $
       use1 𝓛 (‵ (Row (o + s) ps) ⊛ ‵ (Row at qs)) (cut ps qs (o + s) at on) $ split ! $ move ! (2 ∷ 0 ∷ []) $ fjoin ! $ done !
 
-  glue : (ps qs : List (Place E)) (o at : ℕ) → at ≡ length ps * s + o → ent 𝓤 (sep 𝓤 (sem 𝓛 (Row o ps)) (sem 𝓛 (Row at qs))) (sem 𝓛 (Row o (ps ++ qs)))
+  pub glue : (ps qs : List (Place E)) (o at : ℕ) → at ≡ length ps * s + o → ent 𝓤 (sep 𝓤 (sem 𝓛 (Row o ps)) (sem 𝓛 (Row at qs))) (sem 𝓛 (Row o (ps ++ qs)))
   glue [] qs o at e = qed 𝓛 (‵ (Row o []) ∷ ‵ (Row at qs) ∷ []) ∵ drop ! $ rewrite ! 0 (λ (k : ℕ). ‵ (Row k qs)) {x = o} (omega (arith, zero-mul s)) refl $ done !
   glue (p ∷ ps) qs o at e =
       let on : at ≡ length ps * s + (o + s) = let all : at ≡ suc (length ps) * s + o = e in omega (arith, suc-mul (length ps) s) in

@@ -9,6 +9,7 @@ ghost use Rattle.arraydeque_ring.specs.Steps.{more_moves, Rearranges};
 use super::Ring;
 use super::moves::{shift_earlier, shift_later};
 use crate::slots::Slots;
+use std::mem::replace;
 
 impl<T> Ring<T> {
     /// Lays the list in one piece that starts at the first place, by no more moves and exchanges
@@ -24,20 +25,22 @@ impl<T> Ring<T> {
         if self.len <= self.slots.capacity() - self.start {
             return;
         }
-        turn(&mut self.slots, self.start, self.len);
+        let slots = turn(self.slots.moved_out(), self.start, self.len);
+        let _nothing = replace(&mut self.slots, slots);
         self.start = 0;
     }
 }
 
 /// Turns the region, in which `len` values stand from the place `start` on, round the end, so that
 /// they stand from the first place on.
-fn turn<T>(slots: &mut Slots<T>, start: usize, len: usize)
-    requires in_region { start < length slots.old.places }
-    requires filled { FilledFrom start len (filled slots.old.places) }
-    ensures places { slots.new.places ≡ turned start slots.old.places }
-    ensures steps { Rearranges len slots.old.steps slots.new.steps }
+fn turn<T>(slots: Slots<T>, start: usize, len: usize) -> Slots<T>
+    requires in_region { start < length slots.places }
+    requires filled { FilledFrom start len (filled slots.places) }
+    ensures places { result.places ≡ turned start slots.places }
+    ensures steps { Rearranges len slots.steps result.steps }
 {
     let capacity = slots.capacity();
+    let mut slots = slots;
     // The values before `dst` are in their places. Of the others the first stand from `next` to the
     // end, and the rest, wrapped, from `dst` on.
     let mut dst = 0;
@@ -46,54 +49,58 @@ fn turn<T>(slots: &mut Slots<T>, start: usize, len: usize)
         let first = capacity - next;
         let run = first.min(next - dst);
         let wrapped = (len - dst - first).min(run);
-        slots.exchange_runs(dst, next, wrapped);
-        move_run(slots, dst + wrapped, next + wrapped, run - wrapped);
+        slots = slots.exchange_runs(dst, next, wrapped);
+        slots = move_run(slots, dst + wrapped, next + wrapped, run - wrapped);
         dst += run;
         if run < first {
             next += run;
         }
     }
-    place_rest(slots, dst, next, len);
+    place_rest(slots, dst, next, len)
 }
 
 /// Brings the values that aren't in their places yet to these by moves alone: they stand in one
 /// piece from `next` on, or there is room before `next` for those that stand before it.
-fn place_rest<T>(slots: &mut Slots<T>, dst: usize, next: usize, len: usize)
+fn place_rest<T>(slots: Slots<T>, dst: usize, next: usize, len: usize) -> Slots<T>
     requires in_order { dst ≤ next }
-    requires in_region { next < length slots.old.places }
+    requires in_region { next < length slots.places }
     requires some_left { dst ≤ len }
-    requires room { (len - dst ≤ length slots.old.places - next) ⊎ (len ≤ next) }
-    requires filled { let gap = next - dst in let behind = length slots.old.places - next in
-        FilledFrom 0 len (filled (runs_swapped dst gap behind slots.old.places)) }
-    ensures places { let gap = next - dst in let behind = length slots.old.places - next in
-        slots.new.places ≡ runs_swapped dst gap behind slots.old.places }
-    ensures steps { slots.new.steps ≡ more_moves (if dst == next then 0 else len - dst) slots.old.steps }
+    requires room { (len - dst ≤ length slots.places - next) ⊎ (len ≤ next) }
+    requires filled { let gap = next - dst in let behind = length slots.places - next in
+        FilledFrom 0 len (filled (runs_swapped dst gap behind slots.places)) }
+    ensures places { let gap = next - dst in let behind = length slots.places - next in
+        result.places ≡ runs_swapped dst gap behind slots.places }
+    ensures steps { result.steps ≡
+        more_moves (if dst == next then 0 else len - dst) slots.steps }
 {
     if dst == next {
-        return;
+        return slots;
     }
+    let mut slots = slots;
     let first = slots.capacity() - next;
     let left = len - dst;
     if left <= first {
-        shift_earlier(slots, 0, dst, left, next - dst);
-    } else {
-        shift_later(slots, 0, dst, left - first, first);
-        move_run(slots, dst, next, first);
+        shift_earlier(&mut slots, 0, dst, left, next - dst);
+        return slots;
     }
+    shift_later(&mut slots, 0, dst, left - first, first);
+    move_run(slots, dst, next, first)
 }
 
 /// Moves the values in the `len` places from `src` on to the empty places from `dst` on, which come
 /// before: the first to the first, and so on.
-fn move_run<T>(slots: &mut Slots<T>, dst: usize, src: usize, len: usize)
+fn move_run<T>(slots: Slots<T>, dst: usize, src: usize, len: usize) -> Slots<T>
     requires apart { dst + len ≤ src }
-    requires empty { IsEmptyRun slots.old.places dst len }
-    requires filled { IsFilledRun slots.old.places src len }
-    ensures places { slots.new.places ≡ runs_exchanged dst src len slots.old.places }
-    ensures steps { slots.new.steps ≡ more_moves len slots.old.steps }
+    requires empty { IsEmptyRun slots.places dst len }
+    requires filled { IsFilledRun slots.places src len }
+    ensures places { result.places ≡ runs_exchanged dst src len slots.places }
+    ensures steps { result.steps ≡ more_moves len slots.steps }
 {
     // That a sum of places fits a word is what `capacity` promises.
     let _capacity = slots.capacity();
+    let mut slots = slots;
     for k in 0..len {
         slots.shift(dst + k, src + k);
     }
+    slots
 }

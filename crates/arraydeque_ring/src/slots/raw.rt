@@ -5,11 +5,14 @@ ghost use Rattle.std.specs.Prelude.{◌≡◌, ◌*◌, ◌^◌, ◌<◌, slice_
 ghost use Rattle.std.specs.Borrow.{sem};
 ghost use Rattle.std.specs.Mem.{type_size};
 ghost use prog.Memory.{capped};
-ghost use Rattle.arraydeque_ring.specs.Lends.{lends_value};
+ghost use Rattle.arraydeque_ring.specs.Lends.{lends_value, lends_values, lends_loan};
+ghost use Rattle.arraydeque_ring.specs.Loans.{AreApart};
 ghost use Rattle.arraydeque_ring.specs.Places.{empty_region, held_at, IsFilled, IsEmpty, HoldsRun, IsFilledRun, AreAllEmpty};
 
 use super::Slots;
+use crate::iter_mut::{IterMut, Tie};
 use std::alloc::{AllocError, Allocator, Global};
+use std::marker::PhantomData;
 use std::mem::{align_of, size_of};
 use std::slice;
 
@@ -51,6 +54,39 @@ impl<T> Slots<T> {
         ensures { HoldsRun self.now.places from len result.now }
     {
         unsafe { slice::from_raw_parts(self.ptr.add(from), len) }
+    }
+
+    /// Lends a run of places for writing.
+    pub(super) fn lend_run(&mut self, from: usize, len: usize) -> &mut [T]
+        requires { IsFilledRun self.old.places from len }
+        ensures* writes_back { sem 𝓛 (lends_values T.row self.entry from result) }
+        ensures values { HoldsRun self.old.places from len result.now }
+    {
+        unsafe { slice::from_raw_parts_mut(self.ptr.add(from), len) }
+    }
+
+    /// Lends two runs of places for writing, which have no place in common, and counts two lends.
+    pub(crate) fn lend_two(
+        &mut self,
+        a: usize,
+        a_len: usize,
+        b: usize,
+        b_len: usize,
+    ) -> IterMut<'_, T>
+        requires a_filled { IsFilledRun self.old.places a a_len }
+        requires b_filled { IsFilledRun self.old.places b b_len }
+        requires apart { AreApart a a_len b b_len }
+        ensures* writes_back { sem 𝓛 (lends_loan T.row self.entry a b result) }
+        ensures first { HoldsRun self.old.places a a_len result.first.now }
+        ensures second { HoldsRun self.old.places b b_len result.second.now }
+    {
+        unsafe {
+            IterMut {
+                first: slice::from_raw_parts_mut(self.ptr.add(a), a_len),
+                second: slice::from_raw_parts_mut(self.ptr.add(b), b_len),
+                tie: Tie { mark: PhantomData },
+            }
+        }
     }
 
     /// A region of no bytes, over no memory.

@@ -1,7 +1,8 @@
-use Rattle.std.proofs.Common.{refl, ap, ◌∙◌, ◌++◌, reverse}
+use Rattle.std.proofs.Common.{refl, ap}
+use Rattle.std.specs.Vec.Iter.{into_iter_items}
 use Rattle.arraydeque.specs.Deque.{DequeState}
 use Rattle.arraydeque.proofs.Alike.{IsAlike-rest}
-use Rattle.arraydeque.proofs.Taken.{Takes-vec}
+use Rattle.arraydeque.proofs.Taken.{TakesFrom-list}
 use Rattle.arraydeque.proofs.run.SaturatingAnswering.answer.Goals as goal
 
 pub answer_alike-requires : goal.answer_alike-requires
@@ -12,12 +13,10 @@ answer_alike-requires g c =
 
 pub returns-in-ExtendBack-clause-answers : goal.returns-in-ExtendBack-clause-answers
 returns-in-ExtendBack-clause-answers g c =
-    let took = c.extend_back.ensures in
-    let items = Takes-vec took.0 took.2.0 _ took.1.0 (took.1.1 ∙ c.in-ExtendBack.elements.ok.0) _ took.2.1 in
-    rw c.in-ExtendBack.is (refl, ap (λ (d : DequeState g.row.T.Denot). d.items) took.2.2 ∙ ap (λ xs. c.args.deque.now.items ++ xs) items)
+    let added = TakesFrom-list _ _ _ _ c.in-ExtendBack.elements.items into_iter_items _ c.extend_back.ensures (λ it became. (became.0, became.3)) in
+    rw c.in-ExtendBack.is (refl, ap (λ (d : DequeState g.row.T.Denot). d.items) added)
 
 pub returns-in-ExtendFront-clause-answers : goal.returns-in-ExtendFront-clause-answers
 returns-in-ExtendFront-clause-answers g c =
-    let took = c.extend_front.ensures in
-    let items = Takes-vec took.0 took.2.0 _ took.1.0 (took.1.1 ∙ c.in-ExtendFront.elements.ok.0) _ took.2.1 in
-    rw c.in-ExtendFront.is (refl, ap (λ (d : DequeState g.row.T.Denot). d.items) took.2.2 ∙ ap (λ xs. reverse xs ++ c.args.deque.now.items) items)
+    let added = TakesFrom-list _ _ _ _ c.in-ExtendFront.elements.items into_iter_items _ c.extend_front.ensures (λ it became. (became.0, became.3)) in
+    rw c.in-ExtendFront.is (refl, ap (λ (d : DequeState g.row.T.Denot). d.items) added)

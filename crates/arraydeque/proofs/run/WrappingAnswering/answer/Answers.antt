@@ -1,8 +1,7 @@
-use Rattle.std.proofs.Common.{refl, ap, ◌∙◌, ◌++◌, take, reverse}
-use Rattle.arraydeque.specs.Deque.{keep_last}
+use Rattle.std.proofs.Common.{refl}
+use Rattle.std.specs.Vec.Iter.{into_iter_items}
 use Rattle.arraydeque.proofs.Alike.{IsAlike-rest}
-use Rattle.arraydeque.proofs.Pushed.{Pushes-front}
-use Rattle.arraydeque.proofs.Taken.{Drains-vec}
+use Rattle.arraydeque.proofs.Taken.{TakesAll-list}
 use Rattle.arraydeque.proofs.run.WrappingAnswering.answer.Goals as goal
 
 pub answer_alike-requires : goal.answer_alike-requires
@@ -13,15 +12,10 @@ answer_alike-requires g c =
 
 pub returns-in-ExtendBack-clause-answers : goal.returns-in-ExtendBack-clause-answers
 returns-in-ExtendBack-clause-answers g c =
-    let took = c.extend_back.ensures in
-    let items = Drains-vec took.0 took.2.0 _ took.1.0 (took.1.1 ∙ c.in-ExtendBack.elements.ok.0) took.2.1 in
-    rw c.in-ExtendBack.is (refl, took.2.2.0 ∙ ap (λ xs. keep_last g.row.CAP (c.args.deque.now.items ++ xs)) items)
+    let added = TakesAll-list _ _ _ _ c.in-ExtendBack.elements.items into_iter_items c.extend_back.ensures (λ it became. (became.0, became.3)) in
+    rw c.in-ExtendBack.is (refl, added.0)
 
 pub returns-in-ExtendFront-clause-answers : goal.returns-in-ExtendFront-clause-answers
 returns-in-ExtendFront-clause-answers g c =
-    let took = c.extend_front.ensures in
-    let items = Drains-vec took.0 took.2.0 _ took.1.0 (took.1.1 ∙ c.in-ExtendFront.elements.ok.0) took.2.1 in
-    rw c.in-ExtendFront.is (refl, took.2.2.0 ∙ ap (λ xs. take g.row.CAP (reverse xs ++ c.args.deque.now.items)) items)
-
-pub returns-in-PushFront-clause-answers : goal.returns-in-PushFront-clause-answers
-returns-in-PushFront-clause-answers g c = rw c.in-PushFront.is (Pushes-front g.row.CAP _ _ _ _ c.push_front.ensures.value c.push_front.ensures.items)
+    let added = TakesAll-list _ _ _ _ c.in-ExtendFront.elements.items into_iter_items c.extend_front.ensures (λ it became. (became.0, became.3)) in
+    rw c.in-ExtendFront.is (refl, added.0)

@@ -1,21 +1,26 @@
 use Rattle.std.proofs.Common.{length, refl, sym, ap, subst, ◌∙◌, arith}
 use Rattle.std.proofs.lemmas.List.{append-nil}
+use Rattle.arraydeque_ring.specs.Places.{Region}
 use Rattle.arraydeque_ring.specs.Ring.{IsInOnePiece}
 use Rattle.arraydeque_ring.proofs.places.LaidOut.{length_within, values-LaidOut}
 use Rattle.arraydeque_ring.proofs.places.Opened.{Opened, opened, closed, kept}
 use Rattle.arraydeque_ring.proofs.places.Turned.{length-turned}
 use Rattle.arraydeque_ring.proofs.ring.Ring.linearize.Given.{Over}
-use Rattle.arraydeque_ring.proofs.ring.Ring.linearize.Goals.{After-turn}
+use Rattle.arraydeque_ring.proofs.ring.Ring.linearize.Goals.{After-replace-nothing}
 use Rattle.arraydeque_ring.proofs.ring.Ring.linearize.Goals as goal
 
-after : (g : Over) (c : After-turn g) → Opened record { slots = c.turn.new.slots; start = 0; len = c.self.inside.len; alloc = c.self.inside.alloc } record c.args.self.now { start = 0; steps = c.turn.new.slots.steps }
+-- once the turned region is put back
+after : (g : Over) (c : After-replace-nothing g) → Opened record { slots = c.replace-nothing.new.dest; start = 0; len = c.self.inside.len; alloc = c.self.inside.alloc }
+    record c.args.self.now { start = 0; steps = c.replace-nothing.new.dest.steps }
 after g c =
     let ring = opened c.self.inside c.self.invariant c.self.view_is in
+    let turns = rw c.moved_out.ensures.region at c.turn-slots.ensures.places in
+    let places = ap (λ (region : Region g.row.T.Denot). region.places) c.replace-nothing.ensures.after ∙ turns in
     record {
       laid = record {
-        long = ap length c.turn.ensures.places ∙ length-turned c.self.inside.start c.self.inside.slots.places ∙ ring.laid.long;
+        long = ap length places ∙ length-turned c.self.inside.start c.self.inside.slots.places ∙ ring.laid.long;
         in_region = omega arith;
-        is = append-nil c.turn.new.slots.places ∙ c.turn.ensures.places ∙ ring.laid.is;
+        is = append-nil c.replace-nothing.new.dest.places ∙ places ∙ ring.laid.is;
       };
       len = ring.len;
       start = refl;
@@ -33,17 +38,17 @@ returns-then-self-capacity-clause-start g c =
     λ wraps. absurd (wraps (omega (arith, ring.laid.long, ring.laid.in_region, length_within ring.laid, ring.len, ring.start)))
 
 pub invariant_of-self : goal.invariant_of-self
-invariant_of-self g c = kept (after g (goal.at.invariant_of-self g c).After-turn)
+invariant_of-self g c = kept (after g (goal.at.invariant_of-self g c).After-replace-nothing)
 
 pub returns-clause-one_piece : goal.returns-clause-one_piece
 returns-clause-one_piece g c =
     let ring = opened c.self.inside c.self.invariant c.self.view_is in
-    subst IsInOnePiece (sym (closed (after g (goal.at.returns-clause-one_piece g c).After-turn))) (omega (arith, length_within ring.laid))
+    subst IsInOnePiece (sym (closed (after g (goal.at.returns-clause-one_piece g c).After-replace-nothing))) (omega (arith, length_within ring.laid))
 
 pub returns-clause-steps : goal.returns-clause-steps
 returns-clause-steps g c =
     let ring = opened c.self.inside c.self.invariant c.self.view_is in
-    rw (ring.len, ← ring.steps) c.turn.ensures.steps
+    rw (ring.len, ← ring.steps, c.replace-nothing.ensures.after) (rw c.moved_out.ensures.region at c.turn-slots.ensures.steps)
 
 pub returns-clause-unchanged : goal.returns-clause-unchanged
 returns-clause-unchanged g c =

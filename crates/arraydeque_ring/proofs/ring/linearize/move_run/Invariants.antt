@@ -5,6 +5,6 @@ use Rattle.arraydeque_ring.proofs.ring.linearize.move_run.Given as goal
 
 abbrev pub invariant-loop-k : goal.invariant-loop-k
 invariant-loop-k g l = record {
-  places : l.slots.places ≡ runs_exchanged l.dst l.src l.k l.initial.slots.places;
-  steps : l.slots.steps ≡ more_moves l.k l.initial.slots.steps;
+  places : l.slots.places ≡ runs_exchanged l.dst l.src l.k l.fn.slots.places;
+  steps : l.slots.steps ≡ more_moves l.k l.fn.slots.steps;
 }

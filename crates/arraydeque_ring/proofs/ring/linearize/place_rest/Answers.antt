@@ -7,19 +7,19 @@ use Rattle.arraydeque_ring.proofs.ring.linearize.place_rest.Goals.{After-capacit
 use Rattle.arraydeque_ring.proofs.ring.linearize.place_rest.Goals as goal
 
 pub returns-then-dst-next-clause-places : goal.returns-then-dst-next-clause-places
-returns-then-dst-next-clause-places g c = none_left (underway c.args.dst _ _ c.args.len c.args.slots.now.places (omega arith) c.requires.some_left c.requires.filled) (omega arith)
+returns-then-dst-next-clause-places g c = none_left (underway c.args.dst _ _ c.args.len c.args.slots.places (omega arith) c.requires.some_left c.requires.filled) (omega arith)
 
 -- the others stand in one piece
-in_one_piece : (g : Over) (c : After-capacity g) → c.args.len - c.args.dst ≤ length c.args.slots.now.places - c.args.next
-    → Closing c.args.dst (c.args.next - c.args.dst) (length c.args.slots.now.places - c.args.next) (c.args.len - c.args.dst) c.args.slots.now.places
+in_one_piece : (g : Over) (c : After-capacity g) → c.args.len - c.args.dst ≤ length c.args.slots.places - c.args.next
+    → Closing c.args.dst (c.args.next - c.args.dst) (length c.args.slots.places - c.args.next) (c.args.len - c.args.dst) c.args.slots.places
 in_one_piece g c fits =
-    closing (c.args.len - c.args.dst) (underway c.args.dst _ _ c.args.len c.args.slots.now.places (omega arith) c.requires.some_left c.requires.filled) (omega arith) fits
+    closing (c.args.len - c.args.dst) (underway c.args.dst _ _ c.args.len c.args.slots.places (omega arith) c.requires.some_left c.requires.filled) (omega arith) fits
 
 -- or there is room before them
-room : (g : Over) (c : After-capacity g) → length c.args.slots.now.places - c.args.next < c.args.len - c.args.dst → let behind = length c.args.slots.now.places - c.args.next in
-    Yielding c.args.dst (c.args.next - c.args.dst) c.args.next behind (c.args.len - c.args.dst - behind) c.args.slots.now.places
+room : (g : Over) (c : After-capacity g) → length c.args.slots.places - c.args.next < c.args.len - c.args.dst → let behind = length c.args.slots.places - c.args.next in
+    Yielding c.args.dst (c.args.next - c.args.dst) c.args.next behind (c.args.len - c.args.dst - behind) c.args.slots.places
 room g c wraps =
-    let before = underway c.args.dst (c.args.next - c.args.dst) (length c.args.slots.now.places - c.args.next) c.args.len c.args.slots.now.places (omega arith) c.requires.some_left c.requires.filled in
+    let before = underway c.args.dst (c.args.next - c.args.dst) (length c.args.slots.places - c.args.next) c.args.len c.args.slots.places (omega arith) c.requires.some_left c.requires.filled in
     elim c.requires.room [
       | inl fits ↦ absurd (omega arith)
       | inr fits ↦ yielding c.args.next (wrapping _ before (omega arith)) (omega arith) (omega arith)
@@ -48,6 +48,6 @@ move_run-requires-clause-filled g c =
 pub returns-then-left-first-clause-places : goal.returns-then-left-first-clause-places
 returns-then-left-first-clause-places g c = (in_one_piece g (goal.at.returns-then-left-first-clause-places g c).After-capacity (omega arith)).after _ c.shift_earlier.ensures.places
 
-pub returns-else-left-first-clause-places : goal.returns-else-left-first-clause-places
-returns-else-left-first-clause-places g c =
-    rw (c.move_run.ensures.places, c.capacity.ensures) ((room g (goal.at.returns-else-left-first-clause-places g c).After-capacity (omega arith)).moved _ (rw c.capacity.ensures at c.shift_later.ensures.places)).2
+pub returns-clause-places : goal.returns-clause-places
+returns-clause-places g c =
+    rw (c.move_run.ensures.places, c.capacity.ensures) ((room g (goal.at.returns-clause-places g c).After-capacity (omega arith)).moved _ (rw c.capacity.ensures at c.shift_later.ensures.places)).2

@@ -4,39 +4,39 @@ use Rattle.arraydeque_ring.specs.Exchanged.{runs_exchanged}
 use Rattle.arraydeque_ring.specs.Steps.{Rearranges}
 use Rattle.arraydeque_ring.proofs.places.Underway.{Passing, Turning-start, Turning-pass, Turning-behind, Turning-gap, Turning-fits, still_fills}
 use Rattle.arraydeque_ring.proofs.ring.linearize.turn.Given.{Over}
-use Rattle.arraydeque_ring.proofs.ring.linearize.turn.Goals.{After-min-wrapped, After-move_run}
+use Rattle.arraydeque_ring.proofs.ring.linearize.turn.Goals.{After-min-wrapped, After-move_run-slots}
 use Rattle.arraydeque_ring.proofs.ring.linearize.turn.Goals as goal
 
 pass : (g : Over) (c : After-min-wrapped g) → Passing c.loop-next.dst c.loop-next.next c.min-run.result c.min-wrapped.result c.loop-next.slots.places
 pass g c = Turning-pass c.requires.filled c.loop-next.invariant.walk c.min-run.result c.min-wrapped.result c.if-capacity-next.true c.min-run.ensures c.min-wrapped.ensures
 
-pub exchange_runs-requires-clause-a_filled : goal.exchange_runs-requires-clause-a_filled
-exchange_runs-requires-clause-a_filled g c = (pass g (goal.at.exchange_runs-requires-clause-a_filled g c).After-min-wrapped).a_filled
+pub exchange_runs-slots-requires-clause-a_filled : goal.exchange_runs-slots-requires-clause-a_filled
+exchange_runs-slots-requires-clause-a_filled g c = (pass g (goal.at.exchange_runs-slots-requires-clause-a_filled g c).After-min-wrapped).a_filled
 
-pub exchange_runs-requires-clause-b_filled : goal.exchange_runs-requires-clause-b_filled
-exchange_runs-requires-clause-b_filled g c = (pass g (goal.at.exchange_runs-requires-clause-b_filled g c).After-min-wrapped).b_filled
+pub exchange_runs-slots-requires-clause-b_filled : goal.exchange_runs-slots-requires-clause-b_filled
+exchange_runs-slots-requires-clause-b_filled g c = (pass g (goal.at.exchange_runs-slots-requires-clause-b_filled g c).After-min-wrapped).b_filled
 
-pub move_run-requires-clause-empty : goal.move_run-requires-clause-empty
-move_run-requires-clause-empty g c = rw c.exchange_runs.ensures.places (pass g (goal.at.move_run-requires-clause-empty g c).After-min-wrapped).empty
+pub move_run-slots-requires-clause-empty : goal.move_run-slots-requires-clause-empty
+move_run-slots-requires-clause-empty g c = rw c.exchange_runs-slots.ensures.places (pass g (goal.at.move_run-slots-requires-clause-empty g c).After-min-wrapped).empty
 
-pub move_run-requires-clause-filled : goal.move_run-requires-clause-filled
-move_run-requires-clause-filled g c = rw c.exchange_runs.ensures.places (pass g (goal.at.move_run-requires-clause-filled g c).After-min-wrapped).filled
+pub move_run-slots-requires-clause-filled : goal.move_run-slots-requires-clause-filled
+move_run-slots-requires-clause-filled g c = rw c.exchange_runs-slots.ensures.places (pass g (goal.at.move_run-slots-requires-clause-filled g c).After-min-wrapped).filled
 
 pub loop-next-smaller-then-run-first : goal.loop-next-smaller-then-run-first
 loop-next-smaller-then-run-first g c = let fits = Turning-fits c.requires.filled c.loop-next.invariant.walk in omega arith
 
 -- a pass makes as many steps as values come to their places
-steps : (g : Over) (c : After-move_run g) → Rearranges (c.loop-next.dst + c.min-run.result) c.args.slots.now.steps c.move_run.new.slots.steps
+steps : (g : Over) (c : After-move_run-slots g) → Rearranges (c.loop-next.dst + c.min-run.result) c.args.slots.steps c.move_run-slots.result.steps
 steps g c =
     let so_far = c.loop-next.invariant.steps in
-    (so_far.0 + (c.min-run.result - c.min-wrapped.result), so_far.1 + c.min-wrapped.result, omega arith, rw (c.move_run.ensures.steps, c.exchange_runs.ensures.steps, so_far.3) (grind arith))
+    (so_far.0 + (c.min-run.result - c.min-wrapped.result), so_far.1 + c.min-wrapped.result, omega arith, rw (c.move_run-slots.ensures.steps, c.exchange_runs-slots.ensures.steps, so_far.3) (grind arith))
 
-after : (g : Over) (c : After-move_run g) → c.move_run.new.slots.places ≡ runs_exchanged c.loop-next.dst c.loop-next.next c.min-run.result c.loop-next.slots.places
-after g c = rw (c.move_run.ensures.places, c.exchange_runs.ensures.places) (Turning-pass c.requires.filled c.loop-next.invariant.walk c.min-run.result c.min-wrapped.result c.if-capacity-next.true c.min-run.ensures c.min-wrapped.ensures).all
+after : (g : Over) (c : After-move_run-slots g) → c.move_run-slots.result.places ≡ runs_exchanged c.loop-next.dst c.loop-next.next c.min-run.result c.loop-next.slots.places
+after g c = rw (c.move_run-slots.ensures.places, c.exchange_runs-slots.ensures.places) (Turning-pass c.requires.filled c.loop-next.invariant.walk c.min-run.result c.min-wrapped.result c.if-capacity-next.true c.min-run.ensures c.min-wrapped.ensures).all
 
 pub loop-next-preserved-then-run-first : goal.loop-next-preserved-then-run-first
 loop-next-preserved-then-run-first g c =
-    let moved = (goal.at.loop-next-preserved-then-run-first g c).After-move_run in
+    let moved = (goal.at.loop-next-preserved-then-run-first g c).After-move_run-slots in
     record {
       walk = rw (after g moved) (Turning-gap c.requires.filled c.loop-next.invariant.walk c.min-run.result c.min-wrapped.result c.if-capacity-next.true c.min-run.ensures c.if-run-first.true);
       steps = steps g moved;
@@ -44,7 +44,7 @@ loop-next-preserved-then-run-first g c =
 
 pub loop-next-preserved : goal.loop-next-preserved
 loop-next-preserved g c =
-    let moved = (goal.at.loop-next-preserved g c).After-move_run in
+    let moved = (goal.at.loop-next-preserved g c).After-move_run-slots in
     record {
       walk = rw (after g moved) (Turning-behind c.requires.filled c.loop-next.invariant.walk c.min-run.result c.min-wrapped.result c.if-capacity-next.true c.min-run.ensures c.if-run-first.false);
       steps = steps g moved;

@@ -5,8 +5,8 @@ use Rattle.arraydeque_ring.proofs.ring.linearize.turn.Given as goal
 
 abbrev pub invariant-loop-next : goal.invariant-loop-next
 invariant-loop-next g l = record {
-  walk : Turning l.capacity l.start l.len l.dst l.next l.initial.slots.places l.slots.places;
-  steps : Rearranges l.dst l.initial.slots.steps l.slots.steps;
+  walk : Turning l.capacity l.start l.len l.dst l.next l.fn.slots.places l.slots.places;
+  steps : Rearranges l.dst l.fn.slots.steps l.slots.steps;
 }
 
 abbrev pub decreases-loop-next : goal.decreases-loop-next

@@ -1,5 +1,6 @@
 use Rattle.std.proofs.Common.{rules, arith}
 use Rattle.std.proofs.lemmas.Grind.{common_steps}
+use Rattle.arraydeque.proofs.Taken.{TakesAll-loop}
 use Rattle.arraydeque.proofs.Pushed.{wrapped_front-push}
 use Rattle.arraydeque.proofs.deque.extend.ArrayDeque+T+CAP+Wrapping.extend_front.Goals as goal
 
@@ -14,3 +15,9 @@ loop-element-preserved g c =
           (c.loop-element.invariant.pushed some) (grind (arith, common_steps)) (push.start some) (push.steps some);
       no_places = search rules;
     }
+
+pub returns : goal.returns
+returns g c =
+    let left = c.loop-element.invariant in
+    TakesAll-loop g.I.IntoIterator.into_iter_gives g.I.IntoIter.Iterator.next_gives c.args.iter _ c.into_iter-element-iterator.result c.into_iter-element-iterator.ensures.into_iter_gives
+    c.loop-element.yielded (left.items, left.pushed, left.no_places) c.loop-element.element-iterator c.next.new.self c.loop-element.yielded_by c.in-None.ensures.steps

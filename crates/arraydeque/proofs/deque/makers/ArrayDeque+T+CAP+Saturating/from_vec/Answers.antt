@@ -1,7 +1,7 @@
-use Rattle.std.proofs.Common.{ap, ◌∙◌}
-use Rattle.arraydeque.specs.Deque.{empty_deque, with_back}
-use Rattle.arraydeque.proofs.Taken.{IfOk-follows, Takes-vec}
+use Rattle.std.proofs.lemmas.Result.{IfOk-weaker}
+use Rattle.std.specs.Vec.Iter.{into_iter_items}
+use Rattle.arraydeque.proofs.Taken.{TakesFrom-list}
 use Rattle.arraydeque.proofs.deque.makers.ArrayDeque+T+CAP+Saturating.from_vec.Goals as goal
 
 pub returns-clause-items : goal.returns-clause-items
-returns-clause-items g c = IfOk-follows c.from_iter.result _ _ c.from_iter.ensures.items (λ deque made. made.2.2 ∙ ap (λ xs. with_back xs empty_deque) (Takes-vec made.0 made.2.0 _ made.1.0 (made.1.1 ∙ c.args.v.ok.0) _ made.2.1))
+returns-clause-items g c = IfOk-weaker c.from_iter.result _ _ (λ deque made. TakesFrom-list _ _ _ _ c.args.v.items into_iter_items g.row.CAP made (λ it became. (became.0, became.3))) c.from_iter.ensures.items

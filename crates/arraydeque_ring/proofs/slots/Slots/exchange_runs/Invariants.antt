@@ -1,7 +1,7 @@
 use Rattle.std.proofs.Common.{◌≡◌}
 use Rattle.arraydeque_ring.specs.Exchanged.{runs_exchanged}
 use Rattle.arraydeque_ring.specs.Steps.{more_exchanges}
-use Rattle.arraydeque_ring.proofs.slots.Slots.with_runs_exchanged.Given as goal
+use Rattle.arraydeque_ring.proofs.slots.Slots.exchange_runs.Given as goal
 
 abbrev pub invariant-loop-k : goal.invariant-loop-k
 invariant-loop-k g l = record {

@@ -1,5 +1,5 @@
 use Rattle.arraydeque.proofs.Ends.{YieldsLast-pop}
-use Rattle.arraydeque.proofs.iter.DrainDoubleEndedIterator.next_back.Goals as goal
+use Rattle.arraydeque.proofs.iter.drain.DrainDoubleEndedIterator.next_back.Goals as goal
 
 pub returns-clause-steps : goal.returns-clause-steps
 returns-clause-steps g c =

@@ -1,10 +1,9 @@
 use Rattle.std.proofs.Common.{ap, length}
-use Rattle.arraydeque_ring.specs.Ring.{RingState}
 use Rattle.arraydeque_ring.proofs.places.LaidOut.{AreAllEmpty-LaidOut}
 use Rattle.arraydeque_ring.proofs.places.Opened.{opened}
-use Rattle.arraydeque_ring.proofs.ring.Ring.drop.Goals as goal
+use Rattle.arraydeque_ring.proofs.ring.Ring.give_back.Goals as goal
 
 pub drop-self-inside-requires : goal.drop-self-inside-requires
 drop-self-inside-requires g c =
     let ring = opened c.self.inside c.self.invariant c.self.view_is in
-    AreAllEmpty-LaidOut ring.laid (ap (λ (ring : RingState g.row.T.Denot). length ring.items) c.clear.ensures)
+    AreAllEmpty-LaidOut ring.laid (ap length c.requires)

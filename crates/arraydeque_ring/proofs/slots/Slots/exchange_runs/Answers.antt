@@ -2,7 +2,7 @@ use Rattle.std.proofs.Common.{◌+◌, sym, ◌∙◌, arith}
 use Rattle.std.proofs.lemmas.Bool.{ne_eqb}
 use Rattle.arraydeque_ring.proofs.places.Exchanged.{exchanged_none, exchanged_more, next_first, next_second}
 use Rattle.arraydeque_ring.proofs.places.Filled.{filled_in_run}
-use Rattle.arraydeque_ring.proofs.slots.Slots.with_runs_exchanged.Goals as goal
+use Rattle.arraydeque_ring.proofs.slots.Slots.exchange_runs.Goals as goal
 
 pub loop-k-init : goal.loop-k-init
 loop-k-init g c = record { places = sym (exchanged_none c.args.a c.args.b c.args.self.places (omega arith) (omega arith)); steps = grind arith }

@@ -1,0 +1,43 @@
+-- One stretch of a scanner's calls after another.
+use Rattle.std.proofs.Common.{◌≡◌, Bool, true, false, true≢false, List, [], ◌∷◌, ◌++◌, Option, Some, None, IfNone, sym, ◌∙◌, ap, subst, append-nil, append_assoc}
+use Rattle.std.specs.Iterator.{Yields}
+use Rattle.std.specs.Option.{option_to_list}
+use Rattle.arraydeque.specs.Lookahead.{ScannerState, Reads, HandsOut, HasRest, TakesOff}
+
+module _ {S A : Type 0} (steps : S → Option A → S → Type 0) where
+  Yields-append : (s t u : S) (xs ys : List A) → Yields steps s xs t → Yields steps t ys u → Yields steps s (xs ++ ys) u
+  Yields-append s t u [] ys first second = subst (λ v. Yields steps v ys u) (sym first) second
+  Yields-append s t u (x ∷ xs) ys first second = (first.0, first.1, Yields-append first.0 t u xs ys first.2 second)
+
+  -- what is read in two stretches is read in one
+  Reads-append : (a b c : Bool) (s t u : S) (xs ys : List A) → Reads steps a s xs b t → Reads steps b t ys c u → Reads steps a s (xs ++ ys) c u
+  Reads-append true true c s t u xs ys first second = ((λ i. first.0 i ++ second.0 i), second.1 ∙ first.1, second.2)
+  Reads-append true false c s t u xs ys first second = absurd (true≢false (sym first.2))
+  Reads-append false true true s t u xs ys first second = rw (second.0, append-nil, second.1) first
+  Reads-append false true false s t u xs ys first second = absurd (true≢false (sym second.2))
+  Reads-append false false true s t u xs ys first second = (second.0, Yields-append s t second.0 xs ys first second.1, second.2)
+  Reads-append false false false s t u xs ys first second = Yields-append s t u xs ys first second
+
+  module _ (old mid new : ScannerState S A) (xs ys : List A) where
+    -- what is handed out in two stretches is handed out in one
+    pub HandsOut-append : HandsOut steps old xs mid → HandsOut steps mid ys new → HandsOut steps old (xs ++ ys) new
+    HandsOut-append first second = (
+      first.0 ++ second.0,
+      Reads-append old.ended mid.ended new.ended old.iter mid.iter new.iter first.0 second.0 first.1 second.1,
+      sym (append_assoc old.buffer first.0 second.0) ∙ ap (λ l. l ++ second.0) first.2 ∙ append_assoc xs mid.buffer second.0 ∙ ap (λ l. xs ++ l) second.2 ∙ sym (append_assoc xs ys new.buffer),
+    )
+
+  -- what is handed out goes off the rest
+  pub TakesOff-from_out : (old new : ScannerState S A) (ys : List A) → HandsOut steps old ys new → TakesOff steps old ys new
+  unfolding HasRest
+  TakesOff-from_out old new ys given rest after = (
+    given.0 ++ after.0,
+    (after.1.0, Reads-append old.ended new.ended true old.iter new.iter after.1.0 given.0 after.0 given.1 after.1.1),
+    ap (λ l. ys ++ l) after.2 ∙ sym (append_assoc ys new.buffer after.0) ∙ ap (λ l. l ++ after.0) (sym given.2) ∙ append_assoc old.buffer given.0 after.0,
+  )
+
+  -- where no item is handed out and the scanner is spent, it had nothing left
+  pub HasRest-none : (old new : ScannerState S A) (item : Option A) → HandsOut steps old (option_to_list item) new → new.buffer ≡ [] → IfNone item (new.ended ≡ true) → IfNone item (HasRest steps old [])
+  unfolding HasRest
+  HasRest-none old new None given empty ended = (given.0, (new.iter, subst (λ e. Reads steps old.ended old.iter given.0 e new.iter) ended given.1), sym (given.2 ∙ empty))
+  HasRest-none old new (Some item) given empty ended = tt

@@ -1,0 +1,63 @@
+-- Comparisons of lists that are cut into stretches.
+use Rattle.std.proofs.Common.{◌≡◌, ◌&&◌, Bool, true, false, List, [], ◌∷◌, ◌++◌, length, Option, Some, None, refl, arith}
+use Rattle.std.specs.Cmp.Lexicographic.{pointwise, slice_cmp, slice_partial_cmp}
+use Rattle.std.specs.declared.cmp.Ordering.{Ordering}
+use Rattle.std.specs.declared.cmp.Ordering.TheVariants.{Less, Equal, Greater}
+use Rattle.std.specs.Ordering.{ordering_then, partial_ordering_then}
+use Rattle.arraydeque.specs.Compared.{CutAlike, Beside}
+use Rattle.arraydeque.specs.declared.deque.compare.Stretches.{Stretches}
+
+and_assoc : (p q r : Bool) → (p && (q && r)) ≡ ((p && q) && r)
+and_assoc true q r = refl
+and_assoc false q r = refl
+
+then_assoc : (p q r : Ordering) → ordering_then p (ordering_then q r) ≡ ordering_then (ordering_then p q) r
+then_assoc Less q r = refl
+then_assoc Equal q r = refl
+then_assoc Greater q r = refl
+
+partial_then_assoc : (p q r : Option Ordering) → partial_ordering_then p (partial_ordering_then q r) ≡ partial_ordering_then (partial_ordering_then p q) r
+partial_then_assoc None q r = refl
+partial_then_assoc (Some Less) q r = refl
+partial_then_assoc (Some Equal) q r = refl
+partial_then_assoc (Some Greater) q r = refl
+
+module _ {X : Type 0} where
+  -- cut at one index
+  even : (xs xs' ys ys' : List X) → length xs ≡ length ys → CutAlike xs xs' ys ys'
+  even xs xs' ys ys' long = record { first_ends = λ less. absurd (omega arith); second_ends = λ less. absurd (omega arith) }
+
+  -- the same cuts behind the first elements
+  after_first : (x y : X) (xs xs' ys ys' : List X) → CutAlike (x ∷ xs) xs' (y ∷ ys) ys' → CutAlike xs xs' ys ys'
+  after_first x y xs xs' ys ys' cut = record { first_ends = λ less. cut.first_ends (omega arith); second_ends = λ less. cut.second_ends (omega arith) }
+
+  pointwise-cut : (E : X → X → Bool) (xs xs' ys ys' : List X) → CutAlike xs xs' ys ys' → pointwise E (xs ++ xs') (ys ++ ys') ≡ (pointwise E xs ys && pointwise E xs' ys')
+  pointwise-cut E [] xs' [] ys' cut = refl
+  pointwise-cut E [] xs' (y ∷ ys) ys' cut = rw (cut.first_ends (omega arith))
+  pointwise-cut E (x ∷ xs) xs' [] ys' cut = rw (cut.second_ends (omega arith))
+  pointwise-cut E (x ∷ xs) xs' (y ∷ ys) ys' cut = rw (pointwise-cut E xs xs' ys ys' (after_first x y xs xs' ys ys' cut)) (and_assoc (E x y) (pointwise E xs ys) (pointwise E xs' ys'))
+
+  slice_cmp-cut : (R : X → X → Ordering) (xs xs' ys ys' : List X) → CutAlike xs xs' ys ys' → slice_cmp R (xs ++ xs') (ys ++ ys') ≡ ordering_then (slice_cmp R xs ys) (slice_cmp R xs' ys')
+  slice_cmp-cut R [] xs' [] ys' cut = refl
+  slice_cmp-cut R [] xs' (y ∷ ys) ys' cut = rw (cut.first_ends (omega arith))
+  slice_cmp-cut R (x ∷ xs) xs' [] ys' cut = rw (cut.second_ends (omega arith))
+  slice_cmp-cut R (x ∷ xs) xs' (y ∷ ys) ys' cut = rw (slice_cmp-cut R xs xs' ys ys' (after_first x y xs xs' ys ys' cut)) (then_assoc (R x y) (slice_cmp R xs ys) (slice_cmp R xs' ys'))
+
+  slice_partial_cmp-cut : (C : X → X → Option Ordering) (xs xs' ys ys' : List X) → CutAlike xs xs' ys ys' → slice_partial_cmp C (xs ++ xs') (ys ++ ys') ≡ partial_ordering_then (slice_partial_cmp C xs ys) (slice_partial_cmp C xs' ys')
+  slice_partial_cmp-cut C [] xs' [] ys' cut = refl
+  slice_partial_cmp-cut C [] xs' (y ∷ ys) ys' cut = rw (cut.first_ends (omega arith))
+  slice_partial_cmp-cut C (x ∷ xs) xs' [] ys' cut = rw (cut.second_ends (omega arith))
+  slice_partial_cmp-cut C (x ∷ xs) xs' (y ∷ ys) ys' cut = rw (slice_partial_cmp-cut C xs xs' ys ys' (after_first x y xs xs' ys ys' cut)) (partial_then_assoc (C x y) (slice_partial_cmp C xs ys) (slice_partial_cmp C xs' ys'))
+
+  module _ {xs ys : List X} {cut : Stretches X} (beside : Beside xs ys cut) where
+    pub pointwise_beside : (E : X → X → Bool)
+        → pointwise E xs ys ≡ (pointwise E cut.front.0.now cut.front.1.now && (pointwise E cut.middle.0.now cut.middle.1.now && pointwise E cut.rest.0.now cut.rest.1.now))
+    pointwise_beside E = rw (beside.first, beside.second, pointwise-cut E _ _ _ _ (even _ _ _ _ beside.front), pointwise-cut E _ _ _ _ beside.middle)
+
+    pub slice_cmp_beside : (R : X → X → Ordering)
+        → slice_cmp R xs ys ≡ ordering_then (slice_cmp R cut.front.0.now cut.front.1.now) (ordering_then (slice_cmp R cut.middle.0.now cut.middle.1.now) (slice_cmp R cut.rest.0.now cut.rest.1.now))
+    slice_cmp_beside R = rw (beside.first, beside.second, slice_cmp-cut R _ _ _ _ (even _ _ _ _ beside.front), slice_cmp-cut R _ _ _ _ beside.middle)
+
+    pub slice_partial_cmp_beside : (C : X → X → Option Ordering)
+        → slice_partial_cmp C xs ys ≡ partial_ordering_then (slice_partial_cmp C cut.front.0.now cut.front.1.now) (partial_ordering_then (slice_partial_cmp C cut.middle.0.now cut.middle.1.now) (slice_partial_cmp C cut.rest.0.now cut.rest.1.now))
+    slice_partial_cmp_beside C = rw (beside.first, beside.second, slice_partial_cmp-cut C _ _ _ _ (even _ _ _ _ beside.front), slice_partial_cmp-cut C _ _ _ _ beside.middle)

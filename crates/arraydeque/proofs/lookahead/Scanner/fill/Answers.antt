@@ -1,0 +1,50 @@
+use Rattle.std.proofs.Common.{arith, refl, [], ◌∷◌, ◌<◌, length, inl, inr}
+use Rattle.std.proofs.lemmas.Grind.{common_steps}
+use Rattle.std.proofs.lemmas.Option.{slice_get_cases, slice_get_past}
+use Rattle.arraydeque.proofs.Scanned.{HandsOut-append, TakesOff-from_out}
+use Rattle.arraydeque.proofs.lookahead.Scanner.fill.Goals as goal
+
+pub loop-self-preserved : goal.loop-self-preserved
+loop-self-preserved g c =
+    let read = rw (← c.self-in-loop-self.view_is) at c.in-Some.ensures.reads in
+    record {
+      hands_out = HandsOut-append g.I.Iterator.next_gives c.args.self.now c.loop-self.self _ [] [] c.loop-self.invariant.hands_out (c.in-Some.item ∷ [], read, grind (arith, common_steps));
+      ended = grind (arith, common_steps);
+      within = grind (arith, common_steps);
+      unchanged = λ there. absurd (grind (arith, common_steps));
+      goes = grind (arith, common_steps);
+    }
+
+pub returns-in_default : goal.returns-in_default
+returns-in_default g c =
+    let was = c.loop-self.invariant in
+    let whole = HandsOut-append g.I.Iterator.next_gives c.args.self.now c.loop-self.self c.read.new.self [] [] was.hands_out ([], c.in_default.ensures.reads, grind (arith, common_steps)) in
+    let past = slice_get_past c.read.new.self.buffer c.args.k (grind (arith, common_steps)) in
+    record {
+      hands_out = whole;
+      rest = TakesOff-from_out g.I.Iterator.next_gives _ _ [] whole;
+      sees = refl;
+      none = grind (arith, past);
+      some = grind (arith, past);
+      within = grind (arith, common_steps);
+      unchanged = λ there. absurd (grind (arith, common_steps));
+      goes = grind (arith, common_steps);
+    }
+
+pub returns : goal.returns
+returns g c =
+    let was = c.loop-self.invariant in
+    let there : c.args.k < length c.loop-self.self.buffer = grind (arith, common_steps) in
+    elim (slice_get_cases c.loop-self.self.buffer c.args.k).1 [
+      | inl here ↦ record {
+        hands_out = was.hands_out;
+        rest = TakesOff-from_out g.I.Iterator.next_gives _ _ [] was.hands_out;
+        sees = refl;
+        none = grind (arith, here.2);
+        some = grind (arith, was.ended);
+        within = was.within;
+        unchanged = was.unchanged;
+        goes = was.goes;
+      }
+      | inr past ↦ absurd (omega arith)
+    ]

@@ -1,0 +1,16 @@
+use Rattle.std.proofs.Common.{◌≡◌, ◌+◌, ◌-◌, ◌<◌, ◌≤◌, [], length, max}
+use Rattle.std.specs.Iterator.{IsFinite, UpTo, size}
+use Rattle.arraydeque.specs.Lookahead.{HandsOut, left_of}
+use Rattle.arraydeque.proofs.lookahead.Scanner.fill.Given as goal
+
+abbrev pub invariant-loop-self : goal.invariant-loop-self
+invariant-loop-self g l = record {
+  hands_out : HandsOut g.I.Iterator.next_gives l.fn.self [] l.self;
+  ended : l.self.ended ≡ l.fn.self.ended;
+  within : length l.self.buffer ≤ max (length l.fn.self.buffer) (l.k + 1);
+  unchanged : l.k < length l.fn.self.buffer → l.self ≡ l.fn.self;
+  goes : IsFinite (left_of g.I.Iterator.remaining l.fn.self) → UpTo (left_of g.I.Iterator.remaining l.self) (size (left_of g.I.Iterator.remaining l.fn.self));
+}
+
+abbrev pub decreases-loop-self : goal.decreases-loop-self
+decreases-loop-self g l = l.k + 1 - length l.self.buffer

@@ -1,0 +1,14 @@
+use Rattle.std.proofs.Common.{arith}
+use Rattle.std.proofs.lemmas.Grind.{common_steps}
+use Rattle.std.specs.Option.{option_to_list}
+use Rattle.arraydeque.proofs.Scanned.{TakesOff-from_out, HasRest-none}
+use Rattle.arraydeque.proofs.lookahead.Scanner.next.Goals as goal
+
+pub returns-in-None-clause-hands_out : goal.returns-in-None-clause-hands_out
+returns-in-None-clause-hands_out g c = rw (← c.self.view_is) (option_to_list c.read.result, c.read.ensures.reads, grind (arith, common_steps))
+
+pub returns-in-None-clause-rest : goal.returns-in-None-clause-rest
+returns-in-None-clause-rest g c = TakesOff-from_out g.I.Iterator.next_gives _ _ _ (returns-in-None-clause-hands_out g c)
+
+pub returns-in-None-clause-over : goal.returns-in-None-clause-over
+returns-in-None-clause-over g c = HasRest-none g.I.Iterator.next_gives _ c.read.new.self c.read.result (returns-in-None-clause-hands_out g c) (grind (arith, common_steps)) c.read.ensures.none

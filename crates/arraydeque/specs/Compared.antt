@@ -1,0 +1,16 @@
+-- Two lists in three stretches each, which stand beside each other in pairs.
+use Rattle.std.specs.Prelude.{◌≡◌, ◌<◌, List, [], ◌++◌, length}
+use Rattle.arraydeque.specs.declared.deque.compare.Stretches.{Stretches}
+
+module _ {X : Type 0} where
+  -- two lists, one cut behind xs and the other behind ys: both at one index, or the one with the earlier cut ends there
+  pub record CutAlike (xs xs-left ys ys-left : List X) : Type 0 where
+    pub first_ends : length xs < length ys → xs-left ≡ []
+    pub second_ends : length ys < length xs → ys-left ≡ []
+
+  -- the stretches are those of xs and of ys, cut at the same two indexes as far as both lists go
+  pub record Beside (xs ys : List X) (cut : Stretches X) : Type 0 where
+    pub first : xs ≡ cut.front.0.now ++ (cut.middle.0.now ++ cut.rest.0.now)
+    pub second : ys ≡ cut.front.1.now ++ (cut.middle.1.now ++ cut.rest.1.now)
+    pub front : length cut.front.0.now ≡ length cut.front.1.now
+    pub middle : CutAlike cut.middle.0.now cut.rest.0.now cut.middle.1.now cut.rest.1.now

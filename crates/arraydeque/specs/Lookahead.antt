@@ -1,0 +1,59 @@
+-- What a contract sees of a scanner, what its calls read and hand out, and what it has left.
+use Rattle.std.specs.Prelude.{◌≡◌, ℕ, ◌+◌, ◌<◌, ◌≤◌, max, List, [], ◌∷◌, ◌++◌, length, drop, slice_get, Option, None, IfNone, OnSome, Bool, true, false}
+use Rattle.std.specs.Iterator.{Count, IsFinite, UpTo, size, count_map, count_unless, Yields, YieldsThen}
+
+-- a scanner: its iterator, the items read ahead, and whether the iterator has given its first None
+pub record ScannerState (S A : Type 0) : Type 0 where
+  pub iter : S
+  pub buffer : List A
+  pub ended : Bool
+
+module _ {S A : Type 0} where
+  -- a scanner that has not asked its iterator yet
+  abbrev pub fresh_scanner : S → ScannerState S A
+  fresh_scanner iter = record { iter = iter; buffer = []; ended = false }
+
+  -- how many items it has left at most, where `remaining` says so of its iterator
+  abbrev pub left_of : (S → Count) → ScannerState S A → Count
+  left_of remaining s =
+      count_map (λ n. n + length s.buffer) (count_unless s.ended (remaining s.iter))
+
+module _ {S A : Type 0} (steps : S → Option A → S → Type 0) where
+  -- the iterator gave xs, and then None exactly where it ended; one that had ended wasn't asked
+  abbrev pub Reads : Bool → S → List A → Bool → S → Type 0
+  Reads true s xs ended t = (xs ≡ []) × (t ≡ s) × (ended ≡ true)
+  Reads false s xs true t = YieldsThen steps s xs None t
+  Reads false s xs false t = Yields steps s xs t
+
+  -- the old buffer, followed by what was read, is ys followed by the new buffer
+  abbrev pub HandsOut : ScannerState S A → List A → ScannerState S A → Type 0
+  HandsOut old ys new =
+      (xs : List A) × Reads old.ended old.iter xs new.ended new.iter
+      × (old.buffer ++ xs ≡ ys ++ new.buffer)
+
+  -- rest is the buffer, followed by what the iterator gives before its first None
+  unfoldable pub HasRest : ScannerState S A → List A → Type 0
+  HasRest s rest =
+      (xs : List A) × ((t : S) × Reads s.ended s.iter xs true t) × (rest ≡ s.buffer ++ xs)
+
+  -- the old rest is ys followed by the new one
+  abbrev pub TakesOff : ScannerState S A → List A → ScannerState S A → Type 0
+  TakesOff old ys new = (rest : List A) → HasRest new rest → HasRest old (ys ++ rest)
+
+  -- the new rest is x followed by the old one
+  abbrev pub PutsOn : ScannerState S A → A → ScannerState S A → Type 0
+  PutsOn old x new =
+      (rest : List A) → HasRest new rest → (rest ≡ x ∷ drop 1 rest) × HasRest old (drop 1 rest)
+
+  -- a look at the item k places ahead saw `seen`, and left new
+  pub record Peeks (remaining : S → Count) (old : ScannerState S A) (k : ℕ) (seen : Option A)
+      (new : ScannerState S A) : Type 0 where
+    pub hands_out : HandsOut old [] new
+    pub rest : TakesOff old [] new
+    pub sees : seen ≡ slice_get new.buffer k
+    pub none : IfNone seen (new.ended ≡ true)
+    pub some : OnSome seen (new.ended ≡ old.ended)
+    pub within : length new.buffer ≤ max (length old.buffer) (k + 1)
+    pub unchanged : k < length old.buffer → new ≡ old
+    pub goes : IsFinite (left_of remaining old)
+        → UpTo (left_of remaining new) (size (left_of remaining old))

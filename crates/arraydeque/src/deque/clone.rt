@@ -1,0 +1,44 @@
+//! A second deque of clones of the items.
+ghost use Rattle.std.specs.Prelude.{◌≡◌, ◌⊎◌, ◌<◌, ◌≤◌, ◌+◌, ◌*◌, length, Any, IfOk, OnOk, OnErr};
+ghost use Rattle.std.specs.Mem.{type_size};
+ghost use Rattle.arraydeque.specs.Cloned.{ClonesAreSame};
+ghost use Rattle.arraydeque.specs.Deque.{empty_deque, with_back};
+
+use super::ArrayDeque;
+use crate::behavior::Behavior;
+use std::alloc::AllocError;
+
+impl<T: Clone, const CAP: usize, B: Behavior> ArrayDeque<T, CAP, B> {
+    /// A deque of a clone of each item, over a new region from the same allocator. The region is
+    /// taken first, and then the items are cloned front to back.
+    ///
+    /// It is refused where the region is, or where the clone of an item is; then the clones that
+    /// were made are dropped.
+    pub fn clone(&self) -> Result<Self, AllocError>
+        requires { ClonesAreSame T.is_clone self.now.items }
+        ensures items { IfOk result (λ deque. deque ≡ with_back self.now.items empty_deque) }
+        ensures refused { OnErr result
+            ((0 < CAP * type_size T.row) ⊎ Any (λ x. ¬ T.is_infallible x) self.now.items) }
+    {
+        let mut clones = Self::new(self.alloc())?;
+        // That the list is within the capacity is what `len` promises.
+        let _len = self.len();
+        let (front, back) = self.as_slices();
+        clones.clone_back(front)?;
+        clones.clone_back(back)?;
+        Ok(clones)
+    }
+
+    /// Puts a clone of each item behind the last one, for which there must be room.
+    fn clone_back(&mut self, items: &[T]) -> Result<(), AllocError>
+        requires room { length self.old.items + length items.now ≤ CAP }
+        requires same { ClonesAreSame T.is_clone items.now }
+        ensures ok { OnOk result (self.new ≡ with_back items.now self.old) }
+        ensures refused { OnErr result (Any (λ x. ¬ T.is_infallible x) items.now) }
+    {
+        for item in items {
+            self.ring.push_back(item.clone()?);
+        }
+        Ok(())
+    }
+}

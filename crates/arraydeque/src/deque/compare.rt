@@ -1,0 +1,143 @@
+//! Equality, order and hashes: those of the lists, wherever the rings start.
+ghost use Rattle.std.specs.Prelude.{◌≡◌, fold};
+ghost use Rattle.std.specs.Cmp.{on_equiv, on_per, on_po, on_total};
+ghost use Rattle.std.specs.Cmp.Lexicographic.{pointwise, slice_cmp, slice_partial_cmp, lists_agrees, lists_equiv, lists_per, lists_po, lists_ties, lists_total};
+ghost use Rattle.std.specs.Hash as fed;
+ghost use Rattle.std.specs.Hash.{on_Alike, items_Alike};
+ghost use Rattle.std.specs.List.{flat_map};
+ghost use Rattle.arraydeque.specs.Compared.{Beside};
+
+use super::ArrayDeque;
+use crate::behavior::Behavior;
+use std::cmp::Ordering;
+use std::hash::{Hash, Hasher};
+
+/// Two lists in three stretches each, which stand beside each other in pairs.
+#[derive(Drop)]
+struct Stretches<'a, T> {
+    front: (&'a [T], &'a [T]),
+    middle: (&'a [T], &'a [T]),
+    rest: (&'a [T], &'a [T]),
+}
+
+impl<T, const CAP: usize, B: Behavior> ArrayDeque<T, CAP, B> {
+    /// Both lists, each cut wherever one of them is cut into its two slices.
+    fn beside<'a>(&'a self, other: &'a Self) -> Stretches<'a, T>
+        ensures { Beside self.now.items other.now.items result }
+    {
+        let (left, left_rest) = self.as_slices();
+        let (right, right_rest) = other.as_slices();
+        let both = left.len().min(right.len());
+        let (left, left_over) = left.split_at(both);
+        let (right, right_over) = right.split_at(both);
+        if left_over.is_empty() {
+            let (beside, left_rest) = left_rest.split_at(right_over.len().min(left_rest.len()));
+            Stretches {
+                front: (left, right),
+                middle: (beside, right_over),
+                rest: (left_rest, right_rest),
+            }
+        } else {
+            let (beside, right_rest) = right_rest.split_at(left_over.len().min(right_rest.len()));
+            Stretches {
+                front: (left, right),
+                middle: (left_over, beside),
+                rest: (left_rest, right_rest),
+            }
+        }
+    }
+}
+
+impl<T: PartialEq, const CAP: usize, B: Behavior> PartialEq for ArrayDeque<T, CAP, B> {
+    ghost eq = { λ v w. pointwise T.eq v.items w.items };
+
+    ghost laws = { on_per (λ v. v.items) (lists_per T.laws) };
+
+    /// Whether there are as many items, each equal to the one at its index.
+    fn eq(&self, other: &Self) -> bool {
+        if self.len() != other.len() {
+            return false;
+        }
+        let cut = self.beside(other);
+        if cut.front.0 != cut.front.1 {
+            return false;
+        }
+        if cut.middle.0 != cut.middle.1 {
+            return false;
+        }
+        cut.rest.0 == cut.rest.1
+    }
+}
+
+impl<T: Eq, const CAP: usize, B: Behavior> Eq for ArrayDeque<T, CAP, B> {
+    ghost laws = { on_equiv (λ v. v.items) (lists_equiv T.Eq.laws) };
+}
+
+impl<T: PartialOrd, const CAP: usize, B: Behavior> PartialOrd for ArrayDeque<T, CAP, B> {
+    ghost partial_cmp = { λ v w. slice_partial_cmp T.partial_cmp v.items w.items };
+
+    ghost laws = { on_po (λ v. v.items) (lists_po T.PartialOrd.laws) };
+
+    /// The answer of the first pair of items that is not equal. Where there is none, the shorter
+    /// list is less.
+    fn partial_cmp(&self, other: &Self) -> Option<Ordering> {
+        let cut = self.beside(other);
+        let found = cut.front.0.partial_cmp(&cut.front.1);
+        if found != Some(Ordering::Equal) {
+            return found;
+        }
+        let found = cut.middle.0.partial_cmp(&cut.middle.1);
+        if found != Some(Ordering::Equal) {
+            return found;
+        }
+        cut.rest.0.partial_cmp(&cut.rest.1)
+    }
+}
+
+impl<T: Ord, const CAP: usize, B: Behavior> Ord for ArrayDeque<T, CAP, B> {
+    ghost cmp = { λ v w. slice_cmp T.cmp v.items w.items };
+
+    ghost total = { on_total (λ v. v.items) (lists_total T.total) };
+
+    ghost matches_partial_cmp = { λ v w. lists_agrees T.matches_partial_cmp v.items w.items };
+
+    ghost matches_eq = { λ v w. lists_ties T.cmp T.matches_eq v.items w.items };
+
+    /// The answer of the first pair of items that is not equal. Where there is none, the shorter
+    /// list is less.
+    fn cmp(&self, other: &Self) -> Ordering {
+        let cut = self.beside(other);
+        let found = cut.front.0.cmp(&cut.front.1);
+        if found.is_ne() {
+            return found;
+        }
+        let found = cut.middle.0.cmp(&cut.middle.1);
+        if found.is_ne() {
+            return found;
+        }
+        cut.rest.0.cmp(&cut.rest.1)
+    }
+}
+
+impl<T: Hash, const CAP: usize, B: Behavior> Hash for ArrayDeque<T, CAP, B> {
+    ghost hash_input = { λ v. fed.slice T.hash_input v.items };
+
+    ghost respects_eq = { (on_Alike (λ v. v.items) (items_Alike (record { fed = T.respects_eq }))).fed };
+
+    /// Feeds the length as a `usize`, and then each item by itself, front to back.
+    fn hash<H: Hasher>(&self, state: &mut H) {
+        let (front, back) = self.as_slices();
+        state.write_usize(self.len());
+        feed(front, state);
+        feed(back, state);
+    }
+}
+
+/// Feeds each item by itself, in order.
+fn feed<T: Hash, H: Hasher>(items: &[T], state: &mut H)
+    ensures { state.new ≡ fold H.write state.old (flat_map T.hash_input items.now) }
+{
+    for item in items {
+        item.hash(state);
+    }
+}

@@ -1,0 +1,69 @@
+//! The iterator of the items that a drain took out. A contract sees the list of those that remain.
+ghost use Rattle.std.specs.Prelude.{◌≡◌, length, Some};
+ghost use Rattle.std.specs.Iterator.{YieldsFirst, YieldsLast, item_count};
+
+use arraydeque_ring::ring::Ring;
+use std::iter::FusedIterator;
+use std::marker::Model;
+
+/// The items that a drain took out, front to back or back to front. It owns them, and drops those
+/// that are not taken.
+#[derive(Drop)]
+pub struct Drain<T> {
+    ring: Ring<T>,
+}
+
+impl<T> Model for Drain<T> {
+    ghost use Rattle.std.specs.Prelude.{List};
+
+    ghost Value = { List T };
+
+    ghost view = { λ drain. drain.ring.items };
+}
+
+impl<T> Drain<T> {
+    /// The drain of the items of a ring that has no place to spare.
+    pub(crate) fn of(ring: Ring<T>) -> Drain<T>
+        requires { length ring.items ≡ ring.capacity }
+        ensures { result ≡ ring.items }
+    {
+        Drain { ring }
+    }
+}
+
+impl<T: Drop> Iterator for Drain<T> {
+    type Item = T;
+
+    ghost next_gives = { YieldsFirst (λ remaining. remaining) };
+
+    ghost remaining = { item_count (λ remaining. remaining) };
+
+    #[inline]
+    fn next(&mut self) -> Option<T> {
+        self.ring.pop_front()
+    }
+
+    fn size_hint(&self) -> (usize, Option<usize>)
+        ensures exact { result ≡ (length self.now, Some (length self.now)) }
+    {
+        let len = self.len();
+        (len, Some(len))
+    }
+}
+
+impl<T: Drop> DoubleEndedIterator for Drain<T> {
+    ghost next_back_gives = { YieldsLast (λ remaining. remaining) };
+
+    #[inline]
+    fn next_back(&mut self) -> Option<T> {
+        self.ring.pop_back()
+    }
+}
+
+impl<T: Drop> ExactSizeIterator for Drain<T> {
+    fn len(&self) -> usize {
+        self.ring.len()
+    }
+}
+
+impl<T: Drop> FusedIterator for Drain<T> {}

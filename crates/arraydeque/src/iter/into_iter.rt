@@ -1,0 +1,78 @@
+//! The iterator that owns the items of a deque.
+ghost use Rattle.std.specs.Prelude.{◌≡◌, length, Some, IfSome};
+ghost use Rattle.std.specs.Iterator.{YieldsFirst, YieldsLast, UpTo, item_count};
+ghost use Rattle.std.specs.Iterator.SizeHint.{IsWithinCount};
+
+use crate::behavior::Behavior;
+use crate::deque::ArrayDeque;
+use std::iter::FusedIterator;
+use std::marker::Model;
+
+/// The items of a deque, front to back or back to front. It owns them, and drops those that are
+/// not taken, front to back.
+#[derive(Drop)]
+pub struct IntoIter<T, const CAP: usize, B: Behavior> {
+    deque: ArrayDeque<T, CAP, B>,
+}
+
+impl<T, const CAP: usize, B: Behavior> Model for IntoIter<T, CAP, B> {
+    ghost use Rattle.std.specs.Prelude.{List};
+
+    ghost Value = { List T };
+
+    ghost view = { λ it. it.deque.items };
+}
+
+impl<T: Drop, const CAP: usize, B: Behavior> Iterator for IntoIter<T, CAP, B> {
+    type Item = T;
+
+    ghost next_gives = { YieldsFirst (λ remaining. remaining) };
+
+    ghost remaining = { item_count (λ remaining. remaining) };
+
+    #[inline]
+    fn next(&mut self) -> Option<T> {
+        self.deque.pop_front()
+    }
+
+    #[inline]
+    fn size_hint(&self) -> (usize, Option<usize>)
+        ensures exact { result ≡ (length self.now, Some (length self.now)) }
+        ensures lower { IsWithinCount result.0 (item_count (λ remaining. remaining) self.now) }
+        ensures upper { IfSome result.1 (UpTo (item_count (λ remaining. remaining) self.now)) }
+    {
+        let len = self.len();
+        (len, Some(len))
+    }
+}
+
+impl<T: Drop, const CAP: usize, B: Behavior> DoubleEndedIterator for IntoIter<T, CAP, B> {
+    ghost next_back_gives = { YieldsLast (λ remaining. remaining) };
+
+    #[inline]
+    fn next_back(&mut self) -> Option<T> {
+        self.deque.pop_back()
+    }
+}
+
+impl<T: Drop, const CAP: usize, B: Behavior> ExactSizeIterator for IntoIter<T, CAP, B> {
+    #[inline]
+    fn len(&self) -> usize {
+        self.deque.len()
+    }
+}
+
+impl<T: Drop, const CAP: usize, B: Behavior> FusedIterator for IntoIter<T, CAP, B> {}
+
+impl<T: Drop, const CAP: usize, B: Behavior> IntoIterator for ArrayDeque<T, CAP, B> {
+    type Item = T;
+
+    type IntoIter = IntoIter<T, CAP, B>;
+
+    ghost into_iter_gives = { λ deque it. it ≡ deque.items };
+
+    #[inline]
+    fn into_iter(self) -> IntoIter<T, CAP, B> {
+        IntoIter { deque: self }
+    }
+}

@@ -1,0 +1,147 @@
+//! Looking ahead in an iterator.
+ghost use Rattle.std.specs.Prelude.{◌≡◌, ◌<◌, ◌-◌, ◌*◌, ◌∷◌, [], List, length, drop, slice_get, option_copied, ⊤, true, IfOk, IfErr, OnOk, OnErr, IsOk, OnSome, IfNone, ◌↔◌};
+ghost use Rattle.std.specs.Borrow.{sem};
+ghost use Rattle.std.specs.Iterator.{Drains, MakesProgress};
+ghost use Rattle.std.specs.Mem.{type_size};
+ghost use Rattle.std.specs.Option.{option_to_list};
+ghost use Rattle.arraydeque.specs.Lookahead.{fresh_scanner, left_of, Reads, HandsOut, HasRest, TakesOff, PutsOn, Peeks};
+
+use crate::behavior::Saturating;
+use crate::deque::ArrayDeque;
+use crate::error::{CapacityError, MakeError};
+use std::alloc::Global;
+use std::marker::Model;
+
+/// An iterator in which one can look up to `CAP` items ahead, and that takes items back.
+///
+/// It asks its iterator for no more than a call wants, and never again after the first `None`.
+#[derive(Drop)]
+pub struct Scanner<I: Iterator, const CAP: usize> {
+    iter: I,
+    buffer: ArrayDeque<I::Item, CAP, Saturating>,
+    ended: bool,
+}
+
+impl<I: Iterator, const CAP: usize> Model for Scanner<I, CAP> {
+    ghost use Rattle.std.specs.Prelude.{◌≡◌, false};
+    ghost use Rattle.arraydeque.specs.Lookahead.{ScannerState};
+
+    ghost Value = { ScannerState I I.Item };
+
+    ghost view = { λ s. record { iter = s.iter; buffer = s.buffer.items; ended = s.ended } };
+
+    ghost invariant = { λ s. s.ended ≡ false → I.can_next s.iter };
+}
+
+impl<I: Iterator, const CAP: usize> Scanner<I, CAP> {
+    ghost use Rattle.arraydeque.specs.contracts.lookahead.Scanner.{the_row};
+    ghost use mathlib.Core.Option.{none};
+    ghost use denote.Follow.{follows_so};
+
+    /// A scanner over an iterator, which is asked for nothing yet.
+    ///
+    /// It is refused where the region of its buffer is refused; never at capacity 0 or for items of
+    /// size zero.
+    #[tactic(auto, unfolding(crate::specs::Lookahead::HasRest))]
+    pub fn new(alloc: Global, iter: I) -> Result<Self, MakeError<I>>
+        requires { I.can_next iter }
+        ensures ok { IfOk result (λ scanner. scanner ≡ fresh_scanner iter) }
+        ensures rest { IfOk result (λ scanner. (rest : List I.Item)
+            → HasRest I.next_gives scanner rest → Drains I.next_gives iter rest) }
+        ensures source { IfErr result (λ refusal. refusal.source ≡ iter) }
+        ensures refused { OnErr result (0 < CAP * type_size I.Item.row) }
+    {
+        match ArrayDeque::new(alloc) {
+            Ok(buffer) => Ok(Scanner {
+                iter,
+                buffer,
+                ended: false,
+            }),
+            Err(_) => Err(MakeError { source: iter }),
+        }
+    }
+
+    /// The item `k` places ahead, or `None` where the input ends before it. What is read for it stays
+    /// in the buffer.
+    pub fn peek(&mut self, k: usize) -> Option<&I::Item>
+        requires { k < CAP }
+        ensures* peeks { sem 𝓛 (follows_so (the_row I.row CAP.row I.Item.row I.Iterator)
+            (the_row I.row CAP.row I.Item.row I.Iterator) self.entry.ghost_name none (λ _ _. ⊤)
+            (λ new. Peeks I.next_gives I.remaining self.old k (option_copied result) new)) }
+    {
+        self.fill(k);
+        self.buffer.get(k)
+    }
+
+    /// Takes the next item: the first of the buffer, or the iterator's next where that is empty.
+    #[tactic(auto, unfolding(crate::specs::Lookahead::HasRest))]
+    pub fn next(&mut self) -> Option<I::Item>
+        ensures hands_out { HandsOut I.next_gives self.old (option_to_list result) self.new }
+        ensures rest { TakesOff I.next_gives self.old (option_to_list result) self.new }
+        ensures buffer { self.new.buffer ≡ drop 1 self.old.buffer }
+        ensures buffered { 0 < length self.old.buffer
+            → (result ≡ slice_get self.old.buffer 0) × (self.new.iter ≡ self.old.iter) }
+        ensures room { 0 < CAP → length self.new.buffer < CAP }
+        ensures none { IfNone result (self.new.ended ≡ true) }
+        ensures over { IfNone result (HasRest I.next_gives self.old []) }
+        ensures some { OnSome result (self.new.ended ≡ self.old.ended) }
+        ensures goes { MakesProgress (λ _. ⊤) (left_of I.remaining) self.old result self.new }
+    {
+        // That the buffer is within the capacity is what `len` promises.
+        let _len = self.buffer.len();
+        match self.buffer.pop_front() {
+            Some(item) => Some(item),
+            None => self.read(),
+        }
+    }
+
+    /// Puts an item back, so that it comes next. A full buffer hands it back and stays as it was.
+    #[tactic(auto, unfolding(crate::specs::Lookahead::HasRest))]
+    pub fn unread(&mut self, item: I::Item) -> Result<(), CapacityError<I::Item>>
+        ensures room { IsOk result ↔ (length self.old.buffer < CAP) }
+        ensures buffer { OnOk result (self.new ≡
+            record self.old { buffer = item ∷ self.old.buffer }) }
+        ensures rest { OnOk result (PutsOn I.next_gives self.old item self.new) }
+        ensures full { IfErr result (λ refusal. refusal.element ≡ item) }
+        ensures unchanged { OnErr result (self.new ≡ self.old) }
+    {
+        self.buffer.push_front(item)
+    }
+
+    /// Reads on until the buffer has an item at `k`, or the iterator ends.
+    fn fill(&mut self, k: usize)
+        requires { k < CAP }
+        ensures { Peeks I.next_gives I.remaining self.old k (slice_get self.new.buffer k) self.new }
+    {
+        while self.buffer.len() <= k {
+            let Some(item) = self.read() else {
+                return;
+            };
+            match self.buffer.push_back(item) {
+                Ok(()) => {}
+                Err(_) => unreachable!(),
+            }
+        }
+    }
+
+    /// Asks the iterator once, unless it has given its first `None`. The buffer is left alone.
+    fn read(&mut self) -> Option<I::Item>
+        ensures reads { Reads I.next_gives self.old.ended self.old.iter (option_to_list result)
+            self.new.ended self.new.iter }
+        ensures buffer { self.new.buffer ≡ self.old.buffer }
+        ensures none { IfNone result (self.new.ended ≡ true) }
+        ensures some { OnSome result (self.new.ended ≡ self.old.ended) }
+        ensures goes { MakesProgress (λ _. ⊤) (left_of I.remaining) self.old result self.new }
+    {
+        if self.ended {
+            return None;
+        }
+        match self.iter.next() {
+            Some(item) => Some(item),
+            None => {
+                self.ended = true;
+                None
+            }
+        }
+    }
+}

@@ -1,0 +1,5 @@
+pub mod Made
+pub mod Names
+pub mod Placed
+pub mod Runs
+pub mod Slices

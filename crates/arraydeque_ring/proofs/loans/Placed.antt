@@ -1,0 +1,127 @@
+-- Values that are written into runs of places: as many places are filled as before, and the same.
+use Rattle.std.proofs.Common.{◌≡◌, ℕ, zero, suc, ◌+◌, ◌-◌, ◌≤◌, ◌⊎◌, inl, inr, List, [], ◌∷◌, ◌++◌, map, length, take, drop, replicate, Option, Some, None, is_some, true, false, refl, sym, ap, ap₂, ◌∙◌, arith}
+use Rattle.std.specs.List.{length_refill, take-map, drop-map}
+use Rattle.std.proofs.lemmas.Bool.{cases_lt}
+use Rattle.std.proofs.lemmas.List.{length-map, nil_from_length, length-append, length-take, length-drop, map-append, append_assoc, take_at, drop_at, drop-take, take-take, take-append-drop, take-append-le, drop-append-le, drop-drop}
+use Rattle.arraydeque_ring.specs.Loans.{as_many, with_run, written_over, AreApart}
+use Rattle.arraydeque_ring.specs.Places.{HoldsRun}
+use Rattle.arraydeque_ring.specs.Ring.{filled}
+
+module _ {Y : Type 0} where
+  -- the list, with ws in the stead of the n elements from the index i on
+  abbrev pub placed : ℕ → ℕ → List Y → List Y → List Y
+  placed i n ws ps = take i ps ++ (ws ++ drop (i + n) ps)
+
+  -- the elements that are there already
+  pub placed_same : (i n : ℕ) (ps : List Y) → placed i n (take n (drop i ps)) ps ≡ ps
+  placed_same i n ps = ap (λ l. take i ps ++ (take n (drop i ps) ++ l)) (sym (drop-drop n i ps)) ∙ ap (λ l. take i ps ++ l) (take-append-drop n (drop i ps)) ∙ take-append-drop i ps
+
+  -- no element changes nothing
+  pub placed_nothing : (i : ℕ) (ws ps : List Y) → length ws ≡ 0 → placed i 0 ws ps ≡ ps
+  placed_nothing i ws ps e = ap (λ l. placed i 0 l ps) (nil_from_length ws e) ∙ placed_same i 0 ps
+
+  pub length-placed : (i n : ℕ) (ws ps : List Y) → i + n ≤ length ps → length ws ≡ n → length (placed i n ws ps) ≡ length ps
+  length-placed i n ws ps le e = omega (arith, e, le, length-append (take i ps) (ws ++ drop (i + n) ps), length-append ws (drop (i + n) ps), length-take i ps, length-drop (i + n) ps)
+
+  -- what is placed in the first part of a list leaves the second
+  pub placed-append : (i n : ℕ) (ws xs ys : List Y) → i + n ≤ length xs → placed i n ws (xs ++ ys) ≡ placed i n ws xs ++ ys
+  placed-append i n ws xs ys le =
+      ap₂ (λ a b. a ++ (ws ++ b)) (take-append-le i xs ys (omega arith)) (drop-append-le (i + n) xs ys le)
+      ∙ ap (λ l. take i xs ++ l) (sym (append_assoc ws (drop (i + n) xs) ys)) ∙ sym (append_assoc (take i xs) (ws ++ drop (i + n) xs) ys)
+
+  -- what is placed behind a run can be placed after it
+  pub placed_behind : (a m b n : ℕ) (us vs ps : List Y) → a + m ≤ b → b + n ≤ length ps → length us ≡ m → placed b n vs (placed a m us ps) ≡ placed a m us (take b ps) ++ (vs ++ drop (b + n) ps)
+  placed_behind a m b n us vs ps apart within e =
+      let front = placed a m us (take b ps) in
+      let below : a + m ≤ length (take b ps) = omega (arith, length-take b ps) in
+      let long : length front ≡ b = length-placed a m us (take b ps) below e ∙ omega (arith, length-take b ps) in
+      ap (placed b n vs) (ap (placed a m us) (sym (take-append-drop b ps)) ∙ placed-append a m us (take b ps) (drop b ps) below)
+      ∙ ap₂ (λ l r. l ++ (vs ++ r)) (take_at front (drop b ps) b long) (sym (drop-drop n b (front ++ drop b ps)) ∙ ap (drop n) (drop_at front (drop b ps) b long) ∙ drop-drop n b ps)
+
+-- two runs apart: one lies before the other, or one is empty
+pub apart_cases : (a m b n : ℕ) → AreApart a m b n → ((a + m ≤ b) ⊎ (b + n ≤ a)) ⊎ ((m ≡ 0) ⊎ (n ≡ 0))
+apart_cases a zero b n apart = inr (inl refl)
+apart_cases a (suc m) b zero apart = inr (inr refl)
+apart_cases a (suc m) b (suc n) apart = elim (cases_lt b (a + suc m)) [
+  | inr before ↦ inl (inl before)
+  | inl over ↦ elim (cases_lt a (b + suc n)) [
+    | inr behind ↦ inl (inr behind)
+    | inl meets ↦ elim (cases_lt a b) [
+      | inl below ↦ absurd (apart b (omega arith) over (omega arith) (omega arith))
+      | inr above ↦ absurd (apart a (omega arith) (omega arith) above meets)
+    ]
+  ]
+]
+
+-- so they have no more elements together than there are
+pub apart_within : (a m b n k : ℕ) → AreApart a m b n → a + m ≤ k → b + n ≤ k → m + n ≤ k
+apart_within a m b n k apart in_a in_b = elim (apart_cases a m b n apart) [
+  | inl ordered ↦ elim ordered [ inl low ↦ omega arith | inr low ↦ omega arith ]
+  | inr one ↦ elim one [ inl none ↦ omega arith | inr none ↦ omega arith ]
+]
+
+module _ {X : Type 0} where
+  pub length-as_many : (xs ws : List X) → length (as_many xs ws) ≡ length xs
+  length-as_many xs ws = sym (length_refill (length xs) xs ws refl)
+
+  -- as many values as there are stay as they are
+  pub as_many-same : (xs ws : List X) → length ws ≡ length xs → as_many xs ws ≡ ws
+  as_many-same xs ws e = take_at ws (drop (length ws) xs) (length xs) e
+
+  filled-map_Some : (ws : List X) → filled (map Some ws) ≡ replicate (length ws) true
+  filled-map_Some [] = refl
+  filled-map_Some (w ∷ ws) = ap (λ l. true ∷ l) (filled-map_Some ws)
+
+  filled-with_run : (from : ℕ) (ws : List X) (ps : List (Option X)) → filled (with_run from ws ps) ≡ placed from (length ws) (replicate (length ws) true) (filled ps)
+  filled-with_run from ws ps =
+      map-append is_some (take from ps) (map Some ws ++ drop (from + length ws) ps)
+      ∙ ap₂ (λ l r. l ++ r) (sym (take-map is_some from ps)) (map-append is_some (map Some ws) (drop (from + length ws) ps) ∙ ap₂ (λ l r. l ++ r) (filled-map_Some ws) (sym (drop-map is_some (from + length ws) ps)))
+
+  -- as many values in the stead of a run of values fill no place and empty none
+  pub run_filled : (from : ℕ) (xs ws : List X) (ps qs : List (Option X)) → HoldsRun ps from (length xs) xs → length ws ≡ length xs → filled qs ≡ filled ps → filled (with_run from ws qs) ≡ filled ps
+  run_filled from xs ws ps qs run e same =
+      let n = length xs in
+      let held : replicate n true ≡ take n (drop from (filled ps)) = sym (ap (take n) (drop-map is_some from ps) ∙ take-map is_some n (drop from ps) ∙ ap filled run ∙ filled-map_Some xs) in
+      filled-with_run from ws qs ∙ ap (λ k. placed from k (replicate k true) (filled qs)) e ∙ ap₂ (placed from n) held same ∙ placed_same from n (filled ps)
+
+  pub two_filled : (a b : ℕ) (xs us ys vs : List X) (ps : List (Option X)) → HoldsRun ps a (length xs) xs → length us ≡ length xs → HoldsRun ps b (length ys) ys → length vs ≡ length ys → filled (with_run b vs (with_run a us ps)) ≡ filled ps
+  two_filled a b xs us ys vs ps run e run' e' = run_filled b ys vs ps (with_run a us ps) run' e' (run_filled a xs us ps ps run e refl)
+
+  pub filled-written_over : (ps ws : List (Option X)) → filled (written_over ps ws) ≡ filled ps
+  filled-written_over [] ws = refl
+  filled-written_over (p ∷ ps) [] = refl
+  filled-written_over (None ∷ ps) (w ∷ ws) = ap (λ l. false ∷ l) (filled-written_over ps ws)
+  filled-written_over (Some x ∷ ps) (None ∷ ws) = ap (λ l. true ∷ l) (filled-written_over ps ws)
+  filled-written_over (Some x ∷ ps) (Some y ∷ ws) = ap (λ l. true ∷ l) (filled-written_over ps ws)
+
+  pub length-written_over : (ps ws : List (Option X)) → length (written_over ps ws) ≡ length ps
+  length-written_over ps ws = sym (length-map (written_over ps ws) is_some) ∙ ap length (filled-written_over ps ws) ∙ length-map ps is_some
+
+  -- where the same places are filled, all is as written
+  pub written_over-same : (ps ws : List (Option X)) → filled ws ≡ filled ps → written_over ps ws ≡ ws
+  written_over-same [] [] e = refl
+  written_over-same [] (w ∷ ws) e = absurd (let l = ap length e in omega arith)
+  written_over-same (p ∷ ps) [] e = absurd (let l = ap length e in omega arith)
+  written_over-same (None ∷ ps) (None ∷ ws) e = ap (λ l. None ∷ l) (written_over-same ps ws (ap (drop 1) e))
+  written_over-same (None ∷ ps) (Some y ∷ ws) e = cc
+  written_over-same (Some x ∷ ps) (None ∷ ws) e = cc
+  written_over-same (Some x ∷ ps) (Some y ∷ ws) e = ap (λ l. Some y ∷ l) (written_over-same ps ws (ap (drop 1) e))
+
+-- a run that ends before the j-th element
+pub run_before : {Y : Type 0} (ps : List Y) (i m j : ℕ) → i + m ≤ j → take m (drop i (take j ps)) ≡ take m (drop i ps)
+run_before ps i m j le =
+    let e : j ≡ i + (j - i) = omega arith in
+    ap (λ k. take m (drop i (take k ps))) e ∙ ap (take m) (drop-take i (j - i) ps) ∙ take-take m (j - i) (drop i ps) (omega arith)
+
+module _ {X : Type 0} (ps : List (Option X)) where
+  -- a run has as many values as places
+  pub run_length : (from len : ℕ) (xs : List X) → from + len ≤ length ps → HoldsRun ps from len xs → length xs ≡ len
+  run_length from len xs within run = omega (arith, ap length run, length-map xs Some, length-take len (drop from ps), length-drop from ps)
+
+  -- of two runs of values all is as written
+  pub two_alike : (a la : ℕ) (xs : List X) → a + la ≤ length ps → HoldsRun ps a la xs → (b lb : ℕ) (ys : List X) → b + lb ≤ length ps → HoldsRun ps b lb ys
+      → (us vs : List X) → written_over ps (with_run b (as_many ys vs) (with_run a (as_many xs us) ps)) ≡ with_run b (as_many ys vs) (with_run a (as_many xs us) ps)
+  two_alike a la xs in_a run b lb ys in_b run' us vs =
+      let held : HoldsRun ps a (length xs) xs = ap (λ k. take k (drop a ps)) (run_length a la xs in_a run) ∙ run in
+      let held' : HoldsRun ps b (length ys) ys = ap (λ k. take k (drop b ps)) (run_length b lb ys in_b run') ∙ run' in
+      written_over-same ps _ (two_filled a b xs (as_many xs us) ys (as_many ys vs) ps held (length-as_many xs us) held' (length-as_many ys vs))

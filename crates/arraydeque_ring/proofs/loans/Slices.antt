@@ -1,0 +1,21 @@
+-- A pair of two slices for writing. Assumes `Logic`.
+use Rattle.arraydeque_ring.proofs.memory.Kit.{List, [], ◌∷◌, Ura, Logic, RattleType}
+use denote.Laws.{Lawful}
+use denote.Ref.{NamedLft}
+use denote.Slice.{MutSlice, mut_slice_Lawful}
+use denote.Struct.Declared.{Declared, shape}
+use denote.Struct.Recorded.{recorded_lawful}
+use denote.Struct.Struct.{Struct, Struct-Lawful}
+use denote.Struct.Tuple.{Tuple, tuple_type}
+
+module _ (α : NamedLft) (T : RattleType) where
+  abbrev Both : List RattleType
+  Both = MutSlice α.mir α.lft T ∷ MutSlice α.mir α.lft T ∷ []
+
+  abbrev pub Slices : RattleType
+  Slices = Tuple Both
+
+  pub slices_lawful : {M : Type 1} {𝓤 : Ura M} (𝓛 : Logic 𝓤) → Lawful 𝓛 Slices
+  slices_lawful 𝓛 =
+      let pair : Declared = tuple_type Both in let one = mut_slice_Lawful 𝓛 α.mir α.lft T in
+      recorded_lawful (Struct (shape pair)) pair.D pair.to pair.to_one 𝓛 (Struct-Lawful 𝓛 (shape pair) (one, (one, tt)))
