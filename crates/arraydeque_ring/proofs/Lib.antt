@@ -1,4 +1,5 @@
 pub mod loans
 pub mod memory
+pub mod moved
 pub mod places
 pub mod retained

@@ -5,4 +5,5 @@ pub mod Kit
 pub mod Lent
 pub mod Owned
 pub mod Regions
+pub mod Rows
 pub mod Sharing

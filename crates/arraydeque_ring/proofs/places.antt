@@ -1,6 +1,5 @@
 pub mod AndEmpty
 pub mod Cleared
-pub mod Crossed
 pub mod Emptied
 pub mod Exchanged
 pub mod Filled
@@ -10,4 +9,5 @@ pub mod LaidOut
 pub mod Opened
 pub mod Swapped
 pub mod Turned
+pub mod Turning
 pub mod Underway

@@ -3,6 +3,7 @@ pub mod Exchanged
 pub mod Gaps
 pub mod Lends
 pub mod Loans
+pub mod Moved
 pub mod Ownership
 pub mod Places
 pub mod Retained

@@ -13,6 +13,7 @@ ghost use Rattle.arraydeque_ring.specs.Steps.{Steps, more_puts, more_takes, more
 
 mod lends;
 mod raw;
+mod runs;
 
 use raw::size_of_item;
 use std::alloc::{AllocError, Global};

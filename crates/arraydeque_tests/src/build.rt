@@ -1,6 +1,6 @@
 //! What the tests build and compare: deques at every start, and their lists.
 use arraydeque::behavior::Behavior;
-use arraydeque::{ArrayDeque, Saturating, Wrapping};
+use arraydeque::{ArrayDeque, MakeError, Saturating, Wrapping};
 use std::alloc::{AllocError, Global};
 use std::test::Fail;
 
@@ -47,13 +47,17 @@ pub(crate) fn holds<T: PartialEq, const CAP: usize, B: Behavior>(
     }
 }
 
-/// The two slices, joined.
-pub(crate) fn list_of<T: Copy, const CAP: usize, B: Behavior>(
-    alloc: Global,
-    deque: &ArrayDeque<T, CAP, B>,
-) -> Result<Vec<T>, AllocError> {
-    let (first, second) = deque.as_slices();
-    let mut list = Vec::from_slice(alloc, first)?;
-    list.extend_from_slice(second)?;
-    Ok(list)
+/// Whether the two slices are these.
+pub(crate) fn is_cut<const CAP: usize, B: Behavior>(
+    deque: &ArrayDeque<i64, CAP, B>,
+    first: &[i64],
+    second: &[i64],
+) -> bool {
+    let (front, rest) = deque.as_slices();
+    front == first && rest == second
+}
+
+/// What was made, or a failure where memory was refused.
+pub(crate) fn made<T, S: Drop>(made: Result<T, MakeError<S>>) -> Result<T, Fail> {
+    Ok(made.map_err(|_| "refused")?)
 }

@@ -1,45 +1,77 @@
 //! The smallest and the largest capacities, and items of size zero.
-use crate::build::holds;
+use crate::build::{deque_at, holds, is_cut, made, wrapping_at};
+use crate::extend::{Way, extend_in_turn, extend_wrapping_in_turn};
 use arraydeque::behavior::Behavior;
 use arraydeque::{ArrayDeque, Saturating, Wrapping};
-use arraydeque_ring::ring::Ring;
-use arraydeque_ring::slots::Slots;
-use std::alloc::{AllocError, Global};
+use std::alloc::Global;
+use std::fmt::Debug;
 use std::process::Abort;
 use std::test::Fail;
 
-/// The capacity of a region that is made and given back empty.
-fn capacity_of_region<T>(alloc: Global, capacity: usize) -> Result<usize, AllocError> {
-    let slots = Slots::<T>::new(alloc, capacity)?;
-    Ok(slots.capacity())
+#[test]
+fn capacity_zero_refuses(rt: HostRuntime) -> Result<(), Fail> {
+    let mut deque = ArrayDeque::<i64, 0, Saturating>::new(rt.alloc())?;
+    let (back, front) = (deque.push_back(5).err(), deque.push_front(6).err());
+    assert_eq!(rt; back.map(|refusal| refusal.element), Some(5));
+    assert_eq!(rt; front.map(|refusal| refusal.element), Some(6));
+    assert_eq!(rt;
+        deque.insert(0, 7).err().map(|refusal| refusal.element),
+        Some(7)
+    );
+    assert_eq!(rt; (deque.len(), deque.capacity()), (0, 0));
+    Ok(())
 }
 
 #[test]
-fn capacity_zero_is_empty_and_full(rt: HostRuntime) -> Result<(), Fail> {
-    let mut deque = ArrayDeque::<i64, 0, Saturating>::new(rt.alloc())?;
-    assert_eq!(rt;
-        deque.push_back(5).err().map(|refusal| refusal.element),
-        Some(5)
-    );
-    assert_eq!(rt;
-        deque.push_front(6).err().map(|refusal| refusal.element),
-        Some(6)
-    );
-    assert_eq!(rt; deque.as_slices(), ([].as_slice(), [].as_slice()));
-    assert_eq!(rt; (deque.pop_front(), deque.pop_back()), (None, None));
-    assert_eq!(rt; (deque.len(), deque.capacity()), (0, 0));
-    assert!(rt; deque.is_empty());
-    drop(deque);
+fn capacity_zero_displaces(rt: HostRuntime) -> Result<(), Fail> {
     let mut deque = ArrayDeque::<i64, 0, Wrapping>::new(rt.alloc())?;
     assert_eq!(rt;
         (deque.push_back(5), deque.push_front(6)),
         (Some(5), Some(6))
     );
-    assert_eq!(rt; deque.as_slices(), ([].as_slice(), [].as_slice()));
-    drop(deque);
-    let ring = Ring::<i64>::new(rt.alloc(), 0)?;
-    assert_eq!(rt; (ring.len(), ring.capacity(), ring.get(0)), (0, 0, None));
-    assert_eq!(rt; capacity_of_region::<i64>(rt.alloc(), 0)?, 0);
+    assert_eq!(rt; (deque.len(), deque.capacity()), (0, 0));
+    Ok(())
+}
+
+fn reads_nothing<const CAP: usize, B: Behavior>(
+    rt: &impl Abort,
+    deque: &mut ArrayDeque<i64, CAP, B>,
+) {
+    assert_eq!(rt; (deque.len(), deque.capacity()), (0, CAP));
+    assert_eq!(rt; (deque.is_empty(), deque.is_full()), (true, CAP == 0));
+    assert_eq!(rt;
+        (deque.front().copied(), deque.back().copied()),
+        (None, None)
+    );
+    assert_eq!(rt; deque.get(0).copied(), None);
+    assert_eq!(rt; deque.front_mut(), None);
+    assert_eq!(rt; deque.back_mut(), None);
+    assert_eq!(rt; deque.get_mut(0), None);
+    assert!(rt; !deque.contains(&1));
+    assert!(rt; is_cut(deque, &[], &[]));
+}
+
+fn takes_nothing<const CAP: usize, B: Behavior>(
+    rt: &impl Abort,
+    deque: &mut ArrayDeque<i64, CAP, B>,
+) {
+    assert_eq!(rt; (deque.pop_front(), deque.pop_back()), (None, None));
+    assert_eq!(rt; (deque.remove(0), deque.swap_remove_back(0)), (None, None));
+    assert_eq!(rt; deque.swap_remove_front(0), None);
+    deque.retain(|_| true);
+    deque.clear();
+    assert_eq!(rt; deque.len(), 0);
+}
+
+fn parts_of_nothing<const CAP: usize, B: Behavior>(
+    rt: &impl Abort,
+    mut deque: ArrayDeque<i64, CAP, B>,
+) -> Result<(), Fail> {
+    assert_eq!(rt; deque.len(), 0);
+    assert_eq!(rt; deque.drain(..)?.next(), None);
+    assert_eq!(rt; deque.len(), 0);
+    assert!(rt; deque.split_off(0)?.is_empty());
+    assert!(rt; made(deque.into_vec())?.is_empty());
     Ok(())
 }
 
@@ -48,32 +80,9 @@ fn calls_on_no_items<const CAP: usize, B: Behavior>(
     rt: &impl Abort,
     mut deque: ArrayDeque<i64, CAP, B>,
 ) -> Result<(), Fail> {
-    assert_eq!(rt;
-        (deque.len(), deque.is_empty(), deque.capacity()),
-        (0, true, CAP)
-    );
-    assert_eq!(rt; deque.is_full(), CAP == 0);
-    assert_eq!(rt; (deque.pop_front(), deque.pop_back()), (None, None));
-    assert_eq!(rt;
-        (deque.front(), deque.back(), deque.get(0)),
-        (None, None, None)
-    );
-    assert_eq!(rt; deque.front_mut(), None);
-    assert_eq!(rt; deque.back_mut(), None);
-    assert_eq!(rt; deque.get_mut(0), None);
-    assert!(rt; !deque.contains(&1));
-    assert_eq!(rt; (deque.remove(0), deque.swap_remove_back(0)), (None, None));
-    assert_eq!(rt; deque.swap_remove_front(0), None);
-    deque.retain(|_| true);
-    deque.clear();
-    assert_eq!(rt; deque.len(), 0);
-    assert_eq!(rt; deque.drain(..)?.next(), None);
-    assert_eq!(rt; deque.len(), 0);
-    let rest = deque.split_off(0)?;
-    assert!(rt; rest.is_empty());
-    assert_eq!(rt; deque.as_slices(), ([].as_slice(), [].as_slice()));
-    assert!(rt; deque.into_vec().map_err(|_| "refused")?.is_empty());
-    Ok(())
+    reads_nothing(rt, &mut deque);
+    takes_nothing(rt, &mut deque);
+    parts_of_nothing(rt, deque)
 }
 
 #[test]
@@ -86,66 +95,95 @@ fn empty_deques_of_capacity_zero_and_one(rt: HostRuntime) -> Result<(), Fail> {
 }
 
 #[test]
-fn makers_and_extends_of_capacity_zero_and_one(rt: HostRuntime) -> Result<(), Fail> {
-    let mut none = ArrayDeque::<i64, 0, Saturating>::from_array(rt.alloc(), [1, 2]).map_err(
-        |_| "refused",
-    )?;
-    none.extend_back([3]);
-    none.extend_front([4]);
-    none.extend([5])?;
+fn makers_of_capacity_zero_and_one(rt: HostRuntime) -> Result<(), Fail> {
+    let none = made(ArrayDeque::<i64, 0, Saturating>::from_array(rt.alloc(), [1, 2]))?;
     assert!(rt; none.is_empty());
-    let mut none: ArrayDeque<i64, 0, Wrapping> = none.into();
-    none.extend_back([3]);
-    none.extend_front([4]);
-    none.extend([5])?;
+    let none = made(ArrayDeque::<i64, 0, Wrapping>::from_iter(rt.alloc(), 1..3))?;
     assert!(rt; none.is_empty());
-    let mut one = ArrayDeque::<i64, 1, Saturating>::from_iter(rt.alloc(), 1..3).map_err(
-        |_| "refused",
-    )?;
-    one.extend_back([3]);
-    one.extend_front([4]);
+    let one = made(ArrayDeque::<i64, 1, Saturating>::from_iter(rt.alloc(), 1..3))?;
     assert!(rt; holds(&one, &[1]));
-    let mut one = ArrayDeque::<i64, 1, Wrapping>::from_iter(rt.alloc(), 1..3).map_err(
-        |_| "refused",
-    )?;
+    let one = made(ArrayDeque::<i64, 1, Wrapping>::from_iter(rt.alloc(), 1..3))?;
     assert!(rt; holds(&one, &[2]));
-    one.extend_back([3, 4]);
-    assert!(rt; holds(&one, &[4]));
-    one.extend_front([5, 6]);
-    assert!(rt; holds(&one, &[6]));
+    Ok(())
+}
+
+#[test]
+fn extends_of_capacity_zero(rt: HostRuntime) -> Result<(), Fail> {
+    let lists: [(&[i64], &[i64]); 1] = [(&[3, 4], &[])];
+    for way in [Way::Back, Way::Front, Way::Trait] {
+        extend_in_turn::<0>(&rt, deque_at(rt.alloc(), 0, &[])?, way, &lists)?;
+        extend_wrapping_in_turn::<0>(&rt, wrapping_at(rt.alloc(), 0, &[])?, way, &lists)?;
+    }
+    Ok(())
+}
+
+#[test]
+fn extends_of_capacity_one(rt: HostRuntime) -> Result<(), Fail> {
+    for (way, last) in [(Way::Back, [4]), (Way::Front, [4]), (Way::Trait, [1])] {
+        let kept: [(&[i64], &[i64]); 1] = [(&[3, 4], &[1])];
+        extend_in_turn::<1>(&rt, deque_at(rt.alloc(), 0, &[1])?, way, &kept)?;
+        let displaced: [(&[i64], &[i64]); 1] = [(&[3, 4], &last)];
+        extend_wrapping_in_turn::<1>(&rt, wrapping_at(rt.alloc(), 0, &[1])?, way, &displaced)?;
+    }
+    Ok(())
+}
+
+#[test]
+fn the_one_item_of_capacity_one(rt: HostRuntime) -> Result<(), Fail> {
+    let mut one = wrapping_at::<1>(rt.alloc(), 0, &[6])?;
     assert_eq!(rt; one.len(), 1);
     one.swap(0, 0);
+    assert!(rt; holds(&one, &[6]));
+    assert_eq!(rt; one.len(), 1);
     one[0] = 7;
     assert!(rt; holds(&one, &[7]));
     Ok(())
 }
 
-#[test]
-fn items_of_size_zero_fill_no_memory(rt: HostRuntime) -> Result<(), Fail> {
-    let mut deque = ArrayDeque::<(), { usize::MAX }, Saturating>::new(rt.alloc())?;
-    assert!(rt; deque.push_front(()).is_ok());
-    assert!(rt; deque.push_back(()).is_ok());
-    assert!(rt; deque.push_front(()).is_ok());
+/// A deque of the largest capacity, which holds three copies of an item of size zero.
+fn hold_three<T: Copy + PartialEq + Debug>(
+    rt: &impl Abort,
+    alloc: Global,
+    item: T,
+) -> Result<(), Fail> {
+    let mut deque = ArrayDeque::<T, { usize::MAX }, Saturating>::new(alloc)?;
+    assert!(rt; deque.push_front(item).is_ok());
+    assert!(rt; deque.push_back(item).is_ok());
+    assert!(rt; deque.push_front(item).is_ok());
     assert_eq!(rt; (deque.len(), deque.capacity()), (3, usize::MAX));
-    assert!(rt; holds(&deque, &[(), (), ()]));
-    assert_eq!(rt; (deque.get(2), deque.get(3)), (Some(&()), None));
+    assert!(rt; holds(&deque, &[item, item, item]));
     assert_eq!(rt;
-        (deque.pop_back(), deque.pop_front(), deque.pop_back()),
-        (Some(()), Some(()), Some(()))
+        (deque.get(2).copied(), deque.get(3).copied()),
+        (Some(item), None)
     );
-    assert_eq!(rt; (deque.pop_front(), deque.pop_back()), (None, None));
+    assert_eq!(rt;
+        (deque.pop_back(), deque.pop_front()),
+        (Some(item), Some(item))
+    );
+    assert_eq!(rt; (deque.pop_back(), deque.pop_front()), (Some(item), None));
     Ok(())
 }
 
 #[test]
-fn edits_of_items_of_size_zero(rt: HostRuntime) -> Result<(), Fail> {
-    let mut deque = ArrayDeque::<(), { usize::MAX }, Saturating>::new(rt.alloc())?;
-    assert!(rt; deque.push_front(()).is_ok());
-    assert!(rt; deque.push_back(()).is_ok());
+fn items_of_size_zero_fill_no_memory(rt: HostRuntime) -> Result<(), Fail> {
+    hold_three(&rt, rt.alloc(), ())?;
+    hold_three::<[u64; 0]>(&rt, rt.alloc(), [])?;
+    hold_three::<[u128; 0]>(&rt, rt.alloc(), [])
+}
+
+/// Inserts, removals and parts of a deque of two copies of an item of size zero.
+fn edit_two<T: Copy + PartialEq + Debug>(
+    rt: &impl Abort,
+    alloc: Global,
+    item: T,
+) -> Result<(), Fail> {
+    let mut deque = ArrayDeque::<T, { usize::MAX }, Saturating>::new(alloc)?;
+    assert!(rt; deque.push_front(item).is_ok());
+    assert!(rt; deque.push_back(item).is_ok());
     assert_eq!(rt; deque.len(), 2);
-    assert!(rt; deque.insert(1, ()).is_ok());
+    assert!(rt; deque.insert(1, item).is_ok());
     assert_eq!(rt; deque.len(), 3);
-    assert_eq!(rt; (deque.remove(1), deque.len()), (Some(()), 2));
+    assert_eq!(rt; (deque.remove(1), deque.len()), (Some(item), 2));
     let rest = deque.split_off(1)?;
     assert_eq!(rt; (deque.len(), rest.len()), (1, 1));
     let drain = deque.drain(0..1)?;
@@ -154,24 +192,20 @@ fn edits_of_items_of_size_zero(rt: HostRuntime) -> Result<(), Fail> {
 }
 
 #[test]
-fn a_ring_of_items_of_size_zero(rt: HostRuntime) -> Result<(), Fail> {
-    let mut ring = Ring::<()>::new(rt.alloc(), usize::MAX)?;
-    ring.push_front(());
-    ring.push_back(());
-    assert_eq!(rt; (ring.len(), ring.capacity()), (2, usize::MAX));
-    assert_eq!(rt; (ring.get(1), ring.get(2)), (Some(&()), None));
-    assert_eq!(rt;
-        (ring.pop_front(), ring.pop_back(), ring.pop_back()),
-        (Some(()), Some(()), None)
-    );
-    let capacity = capacity_of_region::<()>(rt.alloc(), usize::MAX)?;
-    assert_eq!(rt; capacity, usize::MAX);
+fn edits_of_items_of_size_zero(rt: HostRuntime) -> Result<(), Fail> {
+    edit_two(&rt, rt.alloc(), ())?;
+    edit_two::<[u64; 0]>(&rt, rt.alloc(), [])?;
+    edit_two::<[u128; 0]>(&rt, rt.alloc(), [])
+}
+
+#[test]
+fn items_of_the_largest_alignment(rt: HostRuntime) -> Result<(), Fail> {
+    let deque = made(ArrayDeque::<u128, 3, Wrapping>::from_array(rt.alloc(), [1, 2, 3, 4]))?;
+    assert!(rt; holds(&deque, &[2, 3, 4]));
     Ok(())
 }
 
 #[test]
 fn a_region_too_large_to_name_is_refused(rt: HostRuntime) {
     assert!(rt; ArrayDeque::<u64, { usize::MAX }, Saturating>::new(rt.alloc()).is_err());
-    assert!(rt; Ring::<u64>::new(rt.alloc(), usize::MAX).is_err());
-    assert!(rt; capacity_of_region::<u64>(rt.alloc(), usize::MAX).is_err());
 }

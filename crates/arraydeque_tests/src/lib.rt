@@ -1,4 +1,5 @@
-//! Tests of the deque and of what it stands on. They cross the crates, so they stand apart from them; there is nothing here to call.
+//! Tests of the deque's calls. They stand apart, so that the library is proved without them; there
+//! is nothing here to call.
 #![tactic(auto)]
 
 #[cfg(test)]
@@ -10,26 +11,36 @@ mod build;
 #[cfg(test)]
 mod capacities;
 #[cfg(test)]
+mod clones;
+#[cfg(test)]
+mod compared;
+#[cfg(test)]
+mod deque;
+#[cfg(test)]
 mod drops;
 #[cfg(test)]
-mod edits;
+mod extend;
 #[cfg(test)]
-mod ends;
-#[cfg(test)]
-mod extends;
+mod linearize;
 #[cfg(test)]
 mod lookahead;
 #[cfg(test)]
 mod makers;
 #[cfg(test)]
+mod moves;
+#[cfg(test)]
 mod parts;
 #[cfg(test)]
-mod places;
+mod policies;
 #[cfg(test)]
 mod refusals;
 #[cfg(test)]
-mod runs;
+mod requests;
+#[cfg(test)]
+mod retain;
 #[cfg(test)]
 mod sent;
+#[cfg(test)]
+mod steps;
 #[cfg(test)]
 mod swaps;

@@ -25,40 +25,96 @@ impl RangeArgument<usize> for TwoFrom {
     }
 }
 
-#[test]
-fn each_kind_of_range(rt: HostRuntime) -> Result<(), Fail> {
-    let mut deque = deque_at::<3>(rt.alloc(), 0, &[0, 1, 2])?;
-    assert_eq!(rt; deque.len(), 3);
-    let drained: Vec<i64> = deque.drain(..)?.collect(rt.alloc())?;
-    assert_eq!(rt; drained.as_slice(), [0, 1, 2].as_slice());
-    assert!(rt; deque.is_empty());
-    let mut deque = deque_at::<3>(rt.alloc(), 0, &[0, 1, 2])?;
-    assert_eq!(rt; deque.len(), 3);
-    let drained: Vec<i64> = deque.drain(2..)?.collect(rt.alloc())?;
-    assert_eq!(rt; drained.as_slice(), [2].as_slice());
-    assert!(rt; holds(&deque, &[0, 1]));
-    drop(deque.drain(..)?);
-    assert!(rt; deque.is_empty());
-    let mut deque = deque_at::<3>(rt.alloc(), 0, &[0, 1, 2])?;
-    assert_eq!(rt; deque.len(), 3);
-    let drained: Vec<i64> = deque.drain(..2)?.collect(rt.alloc())?;
-    assert_eq!(rt; drained.as_slice(), [0, 1].as_slice());
-    assert!(rt; holds(&deque, &[2]));
-    let mut deque = deque_at::<3>(rt.alloc(), 0, &[0, 1, 2])?;
-    assert_eq!(rt; deque.len(), 3);
-    let drained: Vec<i64> = deque.drain(1..2)?.collect(rt.alloc())?;
-    assert_eq!(rt; drained.as_slice(), [1].as_slice());
-    assert!(rt; holds(&deque, &[0, 2]));
-    let mut deque = deque_at::<4>(rt.alloc(), 3, &[0, 1, 2, 3])?;
-    assert_eq!(rt; deque.len(), 4);
-    let drained: Vec<i64> = deque.drain(TwoFrom(1))?.collect(rt.alloc())?;
-    assert_eq!(rt; drained.as_slice(), [1, 2].as_slice());
-    assert!(rt; holds(&deque, &[0, 3]));
+/// Drains a range, and compares what goes and what is left.
+fn compare_drain<const CAP: usize, R: RangeArgument<usize> + Drop>(
+    rt: &impl Abort,
+    alloc: Global,
+    mut deque: ArrayDeque<i64, CAP, Saturating>,
+    range: R,
+    gone: &[i64],
+    left: &[i64],
+) -> Result<(), Fail> {
+    let start = match range.start() {
+        Some(start) => start,
+        None => 0,
+    };
+    let end = match range.end() {
+        Some(end) => end,
+        None => deque.len(),
+    };
+    assert!(rt; start <= end && end <= deque.len());
+    let drained: Vec<i64> = deque.drain(range)?.collect(alloc)?;
+    assert_eq!(rt; drained.as_slice(), gone);
+    assert!(rt; holds(&deque, left));
     Ok(())
 }
 
 #[test]
+fn each_kind_of_range(rt: HostRuntime) -> Result<(), Fail> {
+    let three = [0, 1, 2];
+    compare_drain::<3, _>(
+        &rt,
+        rt.alloc(),
+        deque_at(rt.alloc(), 0, &three)?,
+        ..,
+        &three,
+        &[],
+    )?;
+    compare_drain::<3, _>(
+        &rt,
+        rt.alloc(),
+        deque_at(rt.alloc(), 0, &three)?,
+        2..,
+        &[2],
+        &[0, 1],
+    )?;
+    compare_drain::<3, _>(
+        &rt,
+        rt.alloc(),
+        deque_at(rt.alloc(), 0, &[0, 1])?,
+        ..,
+        &[0, 1],
+        &[],
+    )?;
+    compare_drain::<3, _>(
+        &rt,
+        rt.alloc(),
+        deque_at(rt.alloc(), 0, &three)?,
+        ..2,
+        &[0, 1],
+        &[2],
+    )?;
+    compare_drain::<3, _>(
+        &rt,
+        rt.alloc(),
+        deque_at(rt.alloc(), 0, &three)?,
+        1..2,
+        &[1],
+        &[0, 2],
+    )?;
+    Ok(())
+}
+
+#[test]
+fn a_range_of_the_callers_own(rt: HostRuntime) -> Result<(), Fail> {
+    let deque = deque_at::<4>(rt.alloc(), 3, &[0, 1, 2, 3])?;
+    compare_drain(&rt, rt.alloc(), deque, TwoFrom(1), &[1, 2], &[0, 3])
+}
+
+#[test]
 fn three_of_eight(rt: HostRuntime) -> Result<(), Fail> {
+    let eight = [0, 1, 2, 3, 4, 5, 6, 7];
+    for start in 0..8 {
+        let deque = deque_at::<8>(rt.alloc(), start, &eight)?;
+        compare_drain(&rt, rt.alloc(), deque, 2..5, &[2, 3, 4], &[0, 1, 5, 6, 7])?;
+        let deque = deque_at::<8>(rt.alloc(), start, &eight)?;
+        compare_drain(&rt, rt.alloc(), deque, 3..3, &[], &eight)?;
+    }
+    Ok(())
+}
+
+#[test]
+fn a_drain_may_be_dropped_early(rt: HostRuntime) -> Result<(), Fail> {
     for start in 0..8 {
         let mut deque = deque_at::<8>(rt.alloc(), start, &[0, 1, 2, 3, 4, 5, 6, 7])?;
         assert_eq!(rt; deque.len(), 8);
@@ -66,10 +122,6 @@ fn three_of_eight(rt: HostRuntime) -> Result<(), Fail> {
         assert_eq!(rt; drain.next_back(), Some(4), "start {start}");
         drop(drain);
         assert!(rt; holds(&deque, &[0, 1, 5, 6, 7]), "start {start}");
-        let mut deque = deque_at::<8>(rt.alloc(), start, &[0, 1, 2, 3, 4, 5, 6, 7])?;
-        assert_eq!(rt; deque.len(), 8);
-        assert_eq!(rt; deque.drain(3..3)?.next(), None, "start {start}");
-        assert!(rt; holds(&deque, &[0, 1, 2, 3, 4, 5, 6, 7]), "start {start}");
     }
     Ok(())
 }
@@ -78,90 +130,84 @@ fn three_of_eight(rt: HostRuntime) -> Result<(), Fail> {
 fn a_drain_gives_from_both_ends(rt: HostRuntime) -> Result<(), Fail> {
     let mut deque = deque_at::<5>(rt.alloc(), 3, &[1, 2, 3, 4, 5])?;
     let mut drain = deque.drain(..)?;
-    assert_eq!(rt; (drain.len(), drain.size_hint()), (5, (5, Some(5))));
-    assert_eq!(rt; (drain.next(), drain.next_back()), (Some(1), Some(5)));
-    assert_eq!(rt; drain.next(), Some(2));
-    assert_eq!(rt; (drain.len(), drain.size_hint()), (2, (2, Some(2))));
-    assert_eq!(rt; (drain.next_back(), drain.next()), (Some(4), Some(3)));
-    assert_eq!(rt; (drain.len(), drain.size_hint()), (0, (0, Some(0))));
-    for _ in 0..2 {
-        assert_eq!(rt; (drain.next(), drain.next_back()), (None, None));
+    let rows = [
+        (5, Some(1), Some(5)),
+        (3, Some(2), Some(4)),
+        (1, Some(3), None),
+        (0, None, None),
+        (0, None, None),
+    ];
+    for (len, first, last) in rows {
+        assert_eq!(rt; (drain.len(), drain.size_hint()), (len, (len, Some(len))));
+        assert_eq!(rt; (drain.next(), drain.next_back()), (first, last));
     }
     Ok(())
 }
 
 #[test]
 fn a_split_cuts_in_two(rt: HostRuntime) -> Result<(), Fail> {
-    let mut deque = deque_at::<3>(rt.alloc(), 0, &[0, 1, 2])?;
-    assert_eq!(rt; deque.len(), 3);
-    let rest = deque.split_off(1)?;
-    assert!(rt; holds(&deque, &[0]));
-    assert!(rt; holds(&rest, &[1, 2]));
-    let mut deque = deque_at::<3>(rt.alloc(), 0, &[0, 1, 2])?;
-    assert_eq!(rt; deque.len(), 3);
-    let rest = deque.split_off(3)?;
-    assert!(rt; holds(&deque, &[0, 1, 2]));
-    assert!(rt; rest.is_empty());
-    Ok(())
-}
-
-/// Drains each stretch that ends at an index, beside a plain list.
-fn compare_drains<const CAP: usize>(
-    rt: &impl Abort,
-    alloc: Global,
-    start: usize,
-    len: usize,
-    to: usize,
-) -> Result<(), Fail> {
-    for from in 0..=to {
-        let mut list = numbers(alloc, len)?;
-        let mut deque = deque_at::<CAP>(alloc, start, &list)?;
-        assert_eq!(rt; (deque.len(), list.len()), (len, len));
-        assert!(rt; from <= to && to <= len);
-        let drained: Vec<i64> = deque.drain(from..to)?.collect(alloc)?;
-        let expected: Vec<i64> = list.drain(from..to).collect(alloc)?;
-        assert_eq!(rt;
-            drained,
-            expected,
-            "{from} to {to} of {CAP}, start {start}, length {len}"
-        );
-        assert!(rt;
-            holds(&deque, &list),
-            "{from} to {to} of {CAP}, start {start}, length {len}"
-        );
+    let rows: [(usize, &[i64], &[i64]); 3] = [
+        (0, &[], &[0, 1, 2]),
+        (1, &[0], &[1, 2]),
+        (3, &[0, 1, 2], &[]),
+    ];
+    for (at, left, rest) in rows {
+        let mut deque = deque_at::<3>(rt.alloc(), 0, &[0, 1, 2])?;
+        assert!(rt; at <= deque.len());
+        let split = deque.split_off(at)?;
+        assert!(rt; holds(&deque, left) && holds(&split, rest), "at {at}");
     }
     Ok(())
 }
 
-/// Splits at an index, beside a plain list.
-fn compare_split<const CAP: usize>(
-    rt: &impl Abort,
+/// Whether a drain does what it does to a plain list.
+fn drains_alike<const CAP: usize>(
+    alloc: Global,
+    start: usize,
+    len: usize,
+    from: usize,
+    to: usize,
+) -> Result<bool, Fail> {
+    let mut list = numbers(alloc, len)?;
+    let mut deque = deque_at::<CAP>(alloc, start, &list)?;
+    if from > to || to > deque.len() || to > list.len() {
+        return Ok(false);
+    }
+    let drained: Vec<i64> = deque.drain(from..to)?.collect(alloc)?;
+    let expected: Vec<i64> = list.drain(from..to).collect(alloc)?;
+    Ok(drained == expected && holds(&deque, &list))
+}
+
+/// Whether a split does what it does to a plain list.
+fn splits_alike<const CAP: usize>(
     alloc: Global,
     start: usize,
     len: usize,
     at: usize,
-) -> Result<(), Fail> {
+) -> Result<bool, Fail> {
     let list = numbers(alloc, len)?;
     let mut deque = deque_at::<CAP>(alloc, start, &list)?;
-    assert!(rt; at <= deque.len() && at <= list.len());
+    if at > deque.len() || at > list.len() {
+        return Ok(false);
+    }
     let rest = deque.split_off(at)?;
-    assert!(rt;
-        holds(&deque, &list[..at]),
-        "at {at} of {CAP}, start {start}, length {len}"
-    );
-    assert!(rt;
-        holds(&rest, &list[at..]),
-        "at {at} of {CAP}, start {start}, length {len}"
-    );
-    Ok(())
+    Ok(holds(&deque, &list[..at]) && holds(&rest, &list[at..]))
 }
 
+/// Drains and splits beside a plain list, at each start, length and stretch.
 fn compare_all<const CAP: usize>(rt: &impl Abort, alloc: Global) -> Result<(), Fail> {
     for start in 0..CAP {
         for len in 0..=CAP {
             for at in 0..=len {
-                compare_drains::<CAP>(rt, alloc, start, len, at)?;
-                compare_split::<CAP>(rt, alloc, start, len, at)?;
+                let splits = splits_alike::<CAP>(alloc, start, len, at)?;
+                assert!(rt; splits, "at {at} of {CAP}, start {start}, length {len}");
+                for from in 0..=at {
+                    let drains = drains_alike::<CAP>(alloc, start, len, from, at)?;
+                    assert!(rt;
+                        drains,
+                        "{from} to {at} of {CAP}, start {start}, length {len}"
+                    );
+                }
             }
         }
     }

@@ -34,7 +34,7 @@ module _ (E : El) {M : Type 1} {𝓤 : Ura M} (𝓛 : Logic 𝓤) (b : ℕ) wher
   abbrev s : ℕ
   s = item_size E
 
-  abbrev Row : ℕ → List (Place E) → Fml
+  abbrev pub Row : ℕ → List (Place E) → Fml
   Row = places_owned (R E) b
 
   -- the places are cut in two, and joined

@@ -1,7 +1,7 @@
 -- Two runs of a list that change places, step by step.
-use Rattle.std.proofs.Common.{◌≡◌, ℕ, ◌+◌, ◌-◌, ◌<◌, ◌≤◌, List, [], ◌∷◌, ◌++◌, length, take, drop, set, get_or, Option, Some, None, refl, sym, ap, ap₂, ◌∙◌, arith}
+use Rattle.std.proofs.Common.{◌≡◌, ℕ, ◌+◌, ◌-◌, ◌<◌, ◌≤◌, List, [], ◌∷◌, ◌++◌, length, take, drop, set, get_or, Option, None, refl, sym, ap, ap₂, ◌∙◌, arith}
 use Rattle.std.specs.Prelude.{swap}
-use Rattle.std.proofs.lemmas.List.{append_assoc, length-append, length-take-le, length-drop, take_at, drop_at, take-append-drop, take-append-le, drop-drop, set_at, set_comm, get_or_at, get_or-take, get_or-drop, drop_more}
+use Rattle.std.proofs.lemmas.List.{append_assoc, length-append, length-take-le, length-drop, take_at, take-append-drop, take-append-le, drop-drop, set_at, set_comm, get_or_at, get_or-take, get_or-drop, drop_more}
 use Rattle.std.proofs.lemmas.List.Edits.{swap_is}
 use Rattle.arraydeque_ring.specs.Places.{held_at, IsFilled, IsEmpty}
 use Rattle.arraydeque_ring.specs.Exchanged.{runs_exchanged}

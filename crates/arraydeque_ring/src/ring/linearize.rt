@@ -7,7 +7,7 @@ ghost use Rattle.arraydeque_ring.specs.Ring.{IsInOnePiece, turned, filled, Fille
 ghost use Rattle.arraydeque_ring.specs.Steps.{more_moves, Rearranges};
 
 use super::Ring;
-use super::moves::{shift_earlier, shift_later};
+use super::moves::{move_earlier, move_later};
 use crate::slots::Slots;
 use std::mem::replace;
 
@@ -80,10 +80,10 @@ fn place_rest<T>(slots: Slots<T>, dst: usize, next: usize, len: usize) -> Slots<
     let first = slots.capacity() - next;
     let left = len - dst;
     if left <= first {
-        shift_earlier(&mut slots, 0, dst, left, next - dst);
+        move_earlier(&mut slots, 0, dst, left, next - dst);
         return slots;
     }
-    shift_later(&mut slots, 0, dst, left - first, first);
+    move_later(&mut slots, 0, dst, left - first, first);
     move_run(slots, dst, next, first)
 }
 

@@ -30,9 +30,9 @@ impl<T> Ring<T> {
         let behind = self.len - index;
         if index < behind {
             self.start = wrap_add(self.start, capacity - 1, capacity);
-            shift_earlier(&mut self.slots, self.start, 0, index, 1);
+            move_earlier(&mut self.slots, self.start, 0, index, 1);
         } else {
-            shift_later(&mut self.slots, self.start, index, behind, 1);
+            move_later(&mut self.slots, self.start, index, behind, 1);
         }
         self.slots.put(wrap_add(self.start, index, capacity), item);
         self.len += 1;
@@ -83,23 +83,17 @@ pub(super) fn close_gap<T>(
 {
     let capacity = slots.capacity();
     if before < behind {
-        shift_later(slots, start, 0, before, gap);
+        move_later(slots, start, 0, before, gap);
         wrap_add(start, gap, capacity)
     } else {
-        shift_earlier(slots, start, before, behind, gap);
+        move_earlier(slots, start, before, behind, gap);
         start
     }
 }
 
 /// Moves the `len` values behind the `gap` empty places from the index `at` on to the front of
-/// these, the first value first. Indexes count from the place `start`, round the end.
-pub(super) fn shift_earlier<T>(
-    slots: &mut Slots<T>,
-    start: usize,
-    at: usize,
-    len: usize,
-    gap: usize,
-)
+/// these, as one block. Indexes count from the place `start`, round the end.
+pub(super) fn move_earlier<T>(slots: &mut Slots<T>, start: usize, at: usize, len: usize, gap: usize)
     requires in_region { start < length slots.old.places }
     requires some { 0 < gap }
     requires empty { IsEmptyRun (turned start slots.old.places) at gap }
@@ -109,16 +103,14 @@ pub(super) fn shift_earlier<T>(
     ensures steps { slots.new.steps ≡ more_moves len slots.old.steps }
 {
     let capacity = slots.capacity();
-    for k in 0..len {
-        let dst = wrap_add(start, at + k, capacity);
-        let src = wrap_add(start, at + gap + k, capacity);
-        slots.shift(dst, src);
-    }
+    let dst = wrap_add(start, at, capacity);
+    let src = wrap_add(start, at + gap, capacity);
+    slots.wrap_move(dst, src, len);
 }
 
 /// Moves the `len` values from the index `at` on behind the `gap` empty places that follow them,
-/// the last value first. Indexes count from the place `start`, round the end.
-pub(super) fn shift_later<T>(slots: &mut Slots<T>, start: usize, at: usize, len: usize, gap: usize)
+/// as one block. Indexes count from the place `start`, round the end.
+pub(super) fn move_later<T>(slots: &mut Slots<T>, start: usize, at: usize, len: usize, gap: usize)
     requires in_region { start < length slots.old.places }
     requires some { 0 < gap }
     requires filled { IsFilledRun (turned start slots.old.places) at len }
@@ -128,10 +120,7 @@ pub(super) fn shift_later<T>(slots: &mut Slots<T>, start: usize, at: usize, len:
     ensures steps { slots.new.steps ≡ more_moves len slots.old.steps }
 {
     let capacity = slots.capacity();
-    for k in 0..len {
-        let index = at + (len - 1 - k);
-        let src = wrap_add(start, index, capacity);
-        let dst = wrap_add(start, index + gap, capacity);
-        slots.shift(dst, src);
-    }
+    let dst = wrap_add(start, at + gap, capacity);
+    let src = wrap_add(start, at, capacity);
+    slots.wrap_move(dst, src, len);
 }

@@ -1,12 +1,13 @@
 //! The raw memory of a region: the one file with pointers.
 //!
 //! Each leaf changes what the places hold, or the memory that they lie in, and counts no step.
-ghost use Rattle.std.specs.Prelude.{◌≡◌, ◌*◌, ◌^◌, ◌<◌, slice_set, Some, None, IfOk};
+ghost use Rattle.std.specs.Prelude.{◌≡◌, ◌+◌, ◌*◌, ◌^◌, ◌<◌, ◌≤◌, length, slice_set, Some, None, IfOk};
 ghost use Rattle.std.specs.Borrow.{sem};
 ghost use Rattle.std.specs.Mem.{type_size};
 ghost use prog.Memory.{capped};
 ghost use Rattle.arraydeque_ring.specs.Lends.{lends_value, lends_values, lends_loan};
 ghost use Rattle.arraydeque_ring.specs.Loans.{AreApart};
+ghost use Rattle.arraydeque_ring.specs.Moved.{run_moved};
 ghost use Rattle.arraydeque_ring.specs.Places.{empty_region, held_at, IsFilled, IsEmpty, HoldsRun, IsFilledRun, AreAllEmpty};
 
 use super::Slots;
@@ -36,6 +37,23 @@ impl<T> Slots<T> {
         } }
     {
         unsafe { self.ptr.add(place).read() }
+    }
+
+    /// Moves `N` values at once, those from the index `at` on of the places from `src` on, to those
+    /// of the places from `dst` on. It reads its sources whole, and then writes its targets.
+    #[inline(always)]
+    pub(super) fn move_block<const N: usize>(&mut self, dst: usize, src: usize, at: usize)
+        requires filled { IsFilledRun self.old.places (src + at) N }
+        requires target { dst + at + N ≤ length self.old.places }
+        ensures { self.new ≡ record self.old {
+          places = run_moved (dst + at) (src + at) N self.old.places;
+        } }
+    {
+        unsafe {
+            (self.ptr.add(dst).add(at) as *mut [T; N]).write(
+                (self.ptr.add(src).add(at) as *mut [T; N]).read(),
+            )
+        }
     }
 
     /// Lends a place for writing.

@@ -15,23 +15,23 @@ use Rattle.arraydeque_ring.proofs.ring.Ring.insert.Goals as goal
 pub overflow_sub-behind : goal.overflow_sub-behind
 overflow_sub-behind g c = omega (arith, (opened c.self.inside c.self.invariant c.self.view_is).len)
 
-pub shift_earlier-requires-clause-empty : goal.shift_earlier-requires-clause-empty
-shift_earlier-requires-clause-empty g c =
+pub move_earlier-requires-clause-empty : goal.move_earlier-requires-clause-empty
+move_earlier-requires-clause-empty g c =
     let ring = opened c.self.inside c.self.invariant c.self.view_is in
     rw (c.wrap_add-self-inside.ensures, c.capacity-capacity.ensures, ring.laid.long) (opens_before ring.laid c.requires.room c.args.index c.requires.in_bounds).empty
 
-pub shift_earlier-requires-clause-filled : goal.shift_earlier-requires-clause-filled
-shift_earlier-requires-clause-filled g c =
+pub move_earlier-requires-clause-filled : goal.move_earlier-requires-clause-filled
+move_earlier-requires-clause-filled g c =
     let ring = opened c.self.inside c.self.invariant c.self.view_is in
     rw (c.wrap_add-self-inside.ensures, c.capacity-capacity.ensures, ring.laid.long) (opens_before ring.laid c.requires.room c.args.index c.requires.in_bounds).filled
 
-pub shift_later-requires-clause-filled : goal.shift_later-requires-clause-filled
-shift_later-requires-clause-filled g c =
+pub move_later-requires-clause-filled : goal.move_later-requires-clause-filled
+move_later-requires-clause-filled g c =
     let ring = opened c.self.inside c.self.invariant c.self.view_is in
     (opens_behind ring.laid c.requires.room c.args.index c.requires.in_bounds _ (omega arith)).filled
 
-pub shift_later-requires-clause-empty : goal.shift_later-requires-clause-empty
-shift_later-requires-clause-empty g c =
+pub move_later-requires-clause-empty : goal.move_later-requires-clause-empty
+move_later-requires-clause-empty g c =
     let ring = opened c.self.inside c.self.invariant c.self.view_is in
     (opens_behind ring.laid c.requires.room c.args.index c.requires.in_bounds _ (omega arith)).empty
 
@@ -51,18 +51,18 @@ gap g c =
           let start = rw all at w.wrap_add-self-inside.ensures in
           let fewer : min c.args.index behind ≡ c.args.index = omega arith in
           rw w.self-inside-is (
-            rw start ((opens_before ring.laid c.requires.room c.args.index c.requires.in_bounds).after _ (rw start at w.shift_earlier.ensures.places)),
+            rw start ((opens_before ring.laid c.requires.room c.args.index c.requires.in_bounds).after _ (rw start at w.move_earlier.ensures.places)),
             start ∙ ap (λ s. place_of s (old.capacity - 1) old.capacity) ring.start ∙ cond_below c.args.index behind _ _ (omega arith),
-            w.shift_earlier.ensures.steps ∙ ap (more_moves c.args.index) ring.steps ∙ ap (λ n. more_moves n old.steps) (sym fewer),
+            w.move_earlier.ensures.steps ∙ ap (more_moves c.args.index) ring.steps ∙ ap (λ n. more_moves n old.steps) (sym fewer),
             sym ring.len,
           )
       | else-index-behind w ↦
           let many = c.self.inside.len - c.args.index in
           let fewer : min c.args.index behind ≡ many = omega arith in
           rw w.self-inside-is (
-            (opens_behind ring.laid c.requires.room c.args.index c.requires.in_bounds many (omega arith)).after _ w.shift_later.ensures.places,
+            (opens_behind ring.laid c.requires.room c.args.index c.requires.in_bounds many (omega arith)).after _ w.move_later.ensures.places,
             ring.start ∙ cond_above c.args.index behind _ _ _ (omega arith) refl,
-            w.shift_later.ensures.steps ∙ ap (more_moves many) ring.steps ∙ ap (λ n. more_moves n old.steps) (sym fewer),
+            w.move_later.ensures.steps ∙ ap (more_moves many) ring.steps ∙ ap (λ n. more_moves n old.steps) (sym fewer),
             sym ring.len,
           )
     ]

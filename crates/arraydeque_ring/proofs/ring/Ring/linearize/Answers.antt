@@ -2,7 +2,7 @@ use Rattle.std.proofs.Common.{length, refl, sym, ap, subst, ◌∙◌, arith}
 use Rattle.std.proofs.lemmas.List.{append-nil}
 use Rattle.arraydeque_ring.specs.Places.{Region}
 use Rattle.arraydeque_ring.specs.Ring.{IsInOnePiece}
-use Rattle.arraydeque_ring.proofs.places.LaidOut.{length_within, values-LaidOut}
+use Rattle.arraydeque_ring.proofs.places.LaidOut.{length_within}
 use Rattle.arraydeque_ring.proofs.places.Opened.{Opened, opened, closed, kept}
 use Rattle.arraydeque_ring.proofs.places.Turned.{length-turned}
 use Rattle.arraydeque_ring.proofs.ring.Ring.linearize.Given.{Over}

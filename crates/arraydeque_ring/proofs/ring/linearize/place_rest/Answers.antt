@@ -1,7 +1,5 @@
-use Rattle.std.proofs.Common.{◌≡◌, ◌+◌, ◌-◌, ◌<◌, ◌≤◌, length, inl, inr, sym, subst, arith}
-use Rattle.arraydeque_ring.specs.Gaps.{IsEmptyRun}
-use Rattle.arraydeque_ring.specs.Places.{IsFilledRun}
-use Rattle.arraydeque_ring.proofs.places.Underway.{Underway, underway, none_left, Closing, closing, Yielding, yielding, wrapping}
+use Rattle.std.proofs.Common.{◌-◌, ◌<◌, ◌≤◌, length, inl, inr, arith}
+use Rattle.arraydeque_ring.proofs.places.Underway.{underway, none_left, RestInOnePiece, rest_in_one_piece, RoomForFirst, room_for_first, rest_wraps}
 use Rattle.arraydeque_ring.proofs.ring.linearize.place_rest.Given.{Over}
 use Rattle.arraydeque_ring.proofs.ring.linearize.place_rest.Goals.{After-capacity}
 use Rattle.arraydeque_ring.proofs.ring.linearize.place_rest.Goals as goal
@@ -11,43 +9,43 @@ returns-then-dst-next-clause-places g c = none_left (underway c.args.dst _ _ c.a
 
 -- the others stand in one piece
 in_one_piece : (g : Over) (c : After-capacity g) → c.args.len - c.args.dst ≤ length c.args.slots.places - c.args.next
-    → Closing c.args.dst (c.args.next - c.args.dst) (length c.args.slots.places - c.args.next) (c.args.len - c.args.dst) c.args.slots.places
+    → RestInOnePiece c.args.dst (c.args.next - c.args.dst) (length c.args.slots.places - c.args.next) (c.args.len - c.args.dst) c.args.slots.places
 in_one_piece g c fits =
-    closing (c.args.len - c.args.dst) (underway c.args.dst _ _ c.args.len c.args.slots.places (omega arith) c.requires.some_left c.requires.filled) (omega arith) fits
+    rest_in_one_piece (c.args.len - c.args.dst) (underway c.args.dst _ _ c.args.len c.args.slots.places (omega arith) c.requires.some_left c.requires.filled) (omega arith) fits
 
 -- or there is room before them
 room : (g : Over) (c : After-capacity g) → length c.args.slots.places - c.args.next < c.args.len - c.args.dst → let behind = length c.args.slots.places - c.args.next in
-    Yielding c.args.dst (c.args.next - c.args.dst) c.args.next behind (c.args.len - c.args.dst - behind) c.args.slots.places
+    RoomForFirst c.args.dst (c.args.next - c.args.dst) c.args.next behind (c.args.len - c.args.dst - behind) c.args.slots.places
 room g c wraps =
     let before = underway c.args.dst (c.args.next - c.args.dst) (length c.args.slots.places - c.args.next) c.args.len c.args.slots.places (omega arith) c.requires.some_left c.requires.filled in
     elim c.requires.room [
       | inl fits ↦ absurd (omega arith)
-      | inr fits ↦ yielding c.args.next (wrapping _ before (omega arith)) (omega arith) (omega arith)
+      | inr fits ↦ room_for_first c.args.next (rest_wraps _ before (omega arith)) (omega arith) (omega arith)
     ]
 
-pub shift_earlier-requires-clause-empty : goal.shift_earlier-requires-clause-empty
-shift_earlier-requires-clause-empty g c = (in_one_piece g (goal.at.shift_earlier-requires-clause-empty g c).After-capacity (omega arith)).empty
+pub move_earlier-requires-clause-empty : goal.move_earlier-requires-clause-empty
+move_earlier-requires-clause-empty g c = (in_one_piece g (goal.at.move_earlier-requires-clause-empty g c).After-capacity (omega arith)).empty
 
-pub shift_earlier-requires-clause-filled : goal.shift_earlier-requires-clause-filled
-shift_earlier-requires-clause-filled g c = (in_one_piece g (goal.at.shift_earlier-requires-clause-filled g c).After-capacity (omega arith)).filled
+pub move_earlier-requires-clause-filled : goal.move_earlier-requires-clause-filled
+move_earlier-requires-clause-filled g c = (in_one_piece g (goal.at.move_earlier-requires-clause-filled g c).After-capacity (omega arith)).filled
 
-pub shift_later-requires-clause-filled : goal.shift_later-requires-clause-filled
-shift_later-requires-clause-filled g c = rw c.capacity.ensures (room g (goal.at.shift_later-requires-clause-filled g c).After-capacity (omega arith)).filled
+pub move_later-requires-clause-filled : goal.move_later-requires-clause-filled
+move_later-requires-clause-filled g c = rw c.capacity.ensures (room g (goal.at.move_later-requires-clause-filled g c).After-capacity (omega arith)).filled
 
-pub shift_later-requires-clause-empty : goal.shift_later-requires-clause-empty
-shift_later-requires-clause-empty g c = rw c.capacity.ensures (room g (goal.at.shift_later-requires-clause-empty g c).After-capacity (omega arith)).empty
+pub move_later-requires-clause-empty : goal.move_later-requires-clause-empty
+move_later-requires-clause-empty g c = rw c.capacity.ensures (room g (goal.at.move_later-requires-clause-empty g c).After-capacity (omega arith)).empty
 
 pub move_run-requires-clause-empty : goal.move_run-requires-clause-empty
 move_run-requires-clause-empty g c =
-    rw c.capacity.ensures ((room g (goal.at.move_run-requires-clause-empty g c).After-capacity (omega arith)).moved _ (rw c.capacity.ensures at c.shift_later.ensures.places)).0
+    rw c.capacity.ensures ((room g (goal.at.move_run-requires-clause-empty g c).After-capacity (omega arith)).moved _ (rw c.capacity.ensures at c.move_later.ensures.places)).0
 
 pub move_run-requires-clause-filled : goal.move_run-requires-clause-filled
 move_run-requires-clause-filled g c =
-    rw c.capacity.ensures ((room g (goal.at.move_run-requires-clause-filled g c).After-capacity (omega arith)).moved _ (rw c.capacity.ensures at c.shift_later.ensures.places)).1
+    rw c.capacity.ensures ((room g (goal.at.move_run-requires-clause-filled g c).After-capacity (omega arith)).moved _ (rw c.capacity.ensures at c.move_later.ensures.places)).1
 
 pub returns-then-left-first-clause-places : goal.returns-then-left-first-clause-places
-returns-then-left-first-clause-places g c = (in_one_piece g (goal.at.returns-then-left-first-clause-places g c).After-capacity (omega arith)).after _ c.shift_earlier.ensures.places
+returns-then-left-first-clause-places g c = (in_one_piece g (goal.at.returns-then-left-first-clause-places g c).After-capacity (omega arith)).after _ c.move_earlier.ensures.places
 
 pub returns-clause-places : goal.returns-clause-places
 returns-clause-places g c =
-    rw (c.move_run.ensures.places, c.capacity.ensures) ((room g (goal.at.returns-clause-places g c).After-capacity (omega arith)).moved _ (rw c.capacity.ensures at c.shift_later.ensures.places)).2
+    rw (c.move_run.ensures.places, c.capacity.ensures) ((room g (goal.at.returns-clause-places g c).After-capacity (omega arith)).moved _ (rw c.capacity.ensures at c.move_later.ensures.places)).2

@@ -1,13 +1,13 @@
-use Rattle.std.proofs.Common.{◌≡◌, ◌+◌, ◌-◌, ◌==◌, if◌then◌else◌, sym, ap, ◌∙◌, subst, refl, arith}
+use Rattle.std.proofs.Common.{◌≡◌, ◌+◌, ◌-◌, ◌==◌, if◌then◌else◌, arith}
 use Rattle.std.proofs.lemmas.Bool.Decides.{nat_tests}
 use Rattle.arraydeque_ring.specs.Exchanged.{runs_exchanged}
 use Rattle.arraydeque_ring.specs.Steps.{Rearranges}
-use Rattle.arraydeque_ring.proofs.places.Underway.{Passing, Turning-start, Turning-pass, Turning-behind, Turning-gap, Turning-fits, still_fills}
+use Rattle.arraydeque_ring.proofs.places.Turning.{Pass, Turning-pass, Turning-behind, Turning-gap, Turning-fits, still_fills}
 use Rattle.arraydeque_ring.proofs.ring.linearize.turn.Given.{Over}
 use Rattle.arraydeque_ring.proofs.ring.linearize.turn.Goals.{After-min-wrapped, After-move_run-slots}
 use Rattle.arraydeque_ring.proofs.ring.linearize.turn.Goals as goal
 
-pass : (g : Over) (c : After-min-wrapped g) → Passing c.loop-next.dst c.loop-next.next c.min-run.result c.min-wrapped.result c.loop-next.slots.places
+pass : (g : Over) (c : After-min-wrapped g) → Pass c.loop-next.dst c.loop-next.next c.min-run.result c.min-wrapped.result c.loop-next.slots.places
 pass g c = Turning-pass c.requires.filled c.loop-next.invariant.walk c.min-run.result c.min-wrapped.result c.if-capacity-next.true c.min-run.ensures c.min-wrapped.ensures
 
 pub exchange_runs-slots-requires-clause-a_filled : goal.exchange_runs-slots-requires-clause-a_filled

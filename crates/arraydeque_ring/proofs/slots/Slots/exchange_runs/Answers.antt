@@ -1,4 +1,4 @@
-use Rattle.std.proofs.Common.{◌+◌, sym, ◌∙◌, arith}
+use Rattle.std.proofs.Common.{◌+◌, sym, arith}
 use Rattle.std.proofs.lemmas.Bool.{ne_eqb}
 use Rattle.arraydeque_ring.proofs.places.Exchanged.{exchanged_none, exchanged_more, next_first, next_second}
 use Rattle.arraydeque_ring.proofs.places.Filled.{filled_in_run}

@@ -1,0 +1,90 @@
+-- Runs that move where neither side passes the region's end.
+use Rattle.std.proofs.Common.{◌≡◌, ℕ, ◌+◌, ◌-◌, ◌<◌, ◌≤◌, List, ◌++◌, length, take, drop, get_or, replicate, nat_lt, if◌then◌else◌, Option, None, refl, sym, ap, ap₂, ◌∙◌, arith}
+use Rattle.std.proofs.Math.Nat.{mod-eq_of_lt}
+use Rattle.std.proofs.lemmas.Bool.Decides.{nat_tests}
+use Rattle.std.proofs.lemmas.Grind.{common_steps}
+use Rattle.std.proofs.lemmas.List.FromFn.{fill_by_all, length-map-range_with_len, get_or-map-range_with_len}
+use Rattle.arraydeque_ring.specs.Places.{Region}
+use Rattle.arraydeque_ring.specs.Steps.{Steps}
+use Rattle.arraydeque_ring.specs.Gaps.{run_emptied}
+use Rattle.arraydeque_ring.specs.Moved.{distance, held_after, run_moved}
+use Rattle.arraydeque_ring.proofs.places.Turned.{place_of_cases}
+
+-- the distance between two places, of which the first may be the end
+pub distance_is : (from to n : ℕ) → from ≤ n → to < n → distance from to n ≡ (if nat_lt to from then to + n - from else to - from)
+distance_is from to n a b = grind (arith, nat_tests, place_of_cases to (n - from) n (omega arith))
+
+module _ {X : Type 0} where
+  pub length-moved : (dst src len : ℕ) (ps : List (Option X)) → length (run_moved dst src len ps) ≡ length ps
+  length-moved dst src len ps = length-map-range_with_len (held_after dst src len ps) 0 (length ps)
+
+  -- what a place holds after a move
+  pub moved_at : (dst src len : ℕ) (ps : List (Option X)) (x : ℕ) → x < length ps → get_or (run_moved dst src len ps) x None ≡ held_after dst src len ps x
+  moved_at dst src len ps x lt = get_or-map-range_with_len (held_after dst src len ps) 0 (length ps) x x None lt (omega arith)
+
+  -- two lists of places are one where each place holds the same
+  pub same_places : (ps qs : List (Option X)) → length ps ≡ length qs → ((x : ℕ) → x < length qs → get_or ps x None ≡ get_or qs x None) → ps ≡ qs
+  same_places ps qs long same =
+      fill_by_all (λ x. get_or qs x None) ps (length qs) None long same ∙ sym (fill_by_all (λ x. get_or qs x None) qs (length qs) None refl (λ x lt. refl))
+
+  abbrev pub other : (ℕ → Option X) → ℕ → ℕ → ℕ → Option X
+  other f j len x = if nat_lt x j then f x else (if nat_lt x (j + len) then None else f x)
+
+  -- what stands at the index x once the len values from j on have moved to those from i on, where f says what stood there
+  abbrev pub look : (ℕ → Option X) → ℕ → ℕ → ℕ → ℕ → Option X
+  look f i j len x = if nat_lt x i then other f j len x else (if nat_lt x (i + len) then f (j + (x - i)) else other f j len x)
+
+  pub flat_at : (i j len : ℕ) (ps : List (Option X)) (x : ℕ) → i + len ≤ length ps → j + len ≤ length ps → x < length ps → get_or (run_moved i j len ps) x None ≡ look (λ y. get_or ps y None) i j len x
+  flat_at i j len ps x a b lt =
+      let n = length ps in
+      let d = distance_is i x n (omega arith) lt in
+      let e = distance_is j x n (omega arith) lt in
+      moved_at i j len ps x lt ∙ rw (d, e) (grind (arith, nat_tests, mod-eq_of_lt {n = j + (x - i)} {m = n}))
+
+  -- the first k values that move back, and then the m that follow them
+  pub flat_back : (i j k m : ℕ) (ps : List (Option X)) → i ≤ j → j + (k + m) ≤ length ps → run_moved (i + k) (j + k) m (run_moved i j k ps) ≡ run_moved i j (k + m) ps
+  flat_back i j k m ps le within =
+      let qs = run_moved i j k ps in
+      let long = length-moved i j k ps in
+      same_places _ _ (length-moved (i + k) (j + k) m qs ∙ long ∙ sym (length-moved i j (k + m) ps)) (λ x lt.
+      let in_it : x < length ps = omega (arith, length-moved i j (k + m) ps) in
+      flat_at (i + k) (j + k) m qs x (omega arith) (omega arith) (omega arith)
+      ∙ grind (arith, nat_tests, flat_at i j k ps x (omega arith) (omega arith) in_it, flat_at i j k ps (j + k + (x - (i + k))))
+      ∙ sym (flat_at i j (k + m) ps x (omega arith) (omega arith) in_it))
+
+  -- the last m values that move on, and then the k before them
+  pub flat_on : (i j k m : ℕ) (ps : List (Option X)) → j ≤ i → i + (k + m) ≤ length ps → run_moved i j k (run_moved (i + k) (j + k) m ps) ≡ run_moved i j (k + m) ps
+  flat_on i j k m ps le within =
+      let qs = run_moved (i + k) (j + k) m ps in
+      let long = length-moved (i + k) (j + k) m ps in
+      same_places _ _ (length-moved i j k qs ∙ long ∙ sym (length-moved i j (k + m) ps)) (λ x lt.
+      let in_it : x < length ps = omega (arith, length-moved i j (k + m) ps) in
+      flat_at i j k qs x (omega arith) (omega arith) (omega arith)
+      ∙ grind (arith, nat_tests, flat_at (i + k) (j + k) m ps x (omega arith) (omega arith) in_it, flat_at (i + k) (j + k) m ps (j + (x - i)))
+      ∙ sym (flat_at i j (k + m) ps x (omega arith) (omega arith) in_it))
+
+  -- what a list holds with other places in the stead of m of its own
+  spliced : (ps qs : List (Option X)) (i m x : ℕ) → length qs ≡ m → i + m ≤ length ps
+      → get_or (take i ps ++ (qs ++ drop (i + m) ps)) x None ≡ (if nat_lt x i then get_or ps x None else (if nat_lt x (i + m) then get_or qs (x - i) None else get_or ps x None))
+  spliced ps qs i m x many within = grind (arith, nat_tests, common_steps)
+
+  -- the source emptied, and its values written over the target
+  pub moved_parts : (ps : List (Option X)) (dst src len : ℕ) → src + len ≤ length ps → dst + len ≤ length ps
+      → (let es = run_emptied src len ps in take dst es ++ (take len (drop src ps) ++ drop (dst + len) es)) ≡ run_moved dst src len ps
+  moved_parts ps dst src len a b =
+      let none : List (Option X) = replicate len None in
+      let es = run_emptied src len ps in
+      let run = take len (drop src ps) in
+      let long : length es ≡ length ps = grind (arith, common_steps) in
+      let run_long : length run ≡ len = grind (arith, common_steps) in
+      same_places _ _ (grind (arith, common_steps, length-moved dst src len ps)) (λ x lt.
+      spliced es run dst len x run_long (omega arith)
+      ∙ grind (arith, nat_tests, common_steps, spliced ps none src len x)
+      ∙ sym (flat_at dst src len ps x b a (omega (arith, length-moved dst src len ps))))
+
+  -- where no value moves, or all of a run have, nothing is left to move
+  pub moved_none : (dst src : ℕ) (ps : List (Option X)) → run_moved dst src 0 ps ≡ ps
+  moved_none dst src ps = same_places _ _ (length-moved dst src 0 ps) (λ x lt. moved_at dst src 0 ps x lt ∙ grind (arith, nat_tests))
+
+  pub all_moved : (dst src len : ℕ) (now : Region X) {whole : List (Option X)} {steps : Steps} → len ≡ 0 → run_moved dst src len now.places ≡ whole → now.steps ≡ steps → now ≡ record { places = whole; steps = steps }
+  all_moved dst src len now none is same = ap₂ (λ ps s. record { places = ps; steps = s }) (sym (ap (λ l. run_moved dst src l now.places) none ∙ moved_none dst src now.places) ∙ is) same

@@ -1,0 +1,174 @@
+-- A run that moves round the end in three parts: from its first on where it moves back, else from its last.
+use Rattle.std.proofs.Common.{◌≡◌, ℕ, zero, suc, ◌+◌, ◌-◌, ◌<◌, ◌≤◌, ◌⊎◌, inl, inr, List, length, Option, refl, sym, ap, ap₂, ◌∙◌, arith}
+use Rattle.std.proofs.lemmas.Bool.Decides.{nat_tests}
+use Rattle.arraydeque_ring.specs.Ring.{place_of}
+use Rattle.arraydeque_ring.specs.Moved.{distance, IsFilledRound, CanCopy, run_moved}
+use Rattle.arraydeque_ring.proofs.moved.Flat.{distance_is, length-moved, moved_at, moved_none, same_places}
+use Rattle.arraydeque_ring.proofs.moved.Filled.{place_of-on, rest_filled}
+use Rattle.arraydeque_ring.proofs.moved.Round.{back_by, on_by}
+use Rattle.arraydeque_ring.proofs.places.Turned.{place_of_cases, place_of-lt, place_of-zero}
+
+-- from dst back by the distance to it is src, and from src on by it is dst
+back_from : (dst src n : ℕ) → dst < n → src < n → place_of dst (n - distance src dst n) n ≡ src
+back_from dst src n a b =
+    let d = place_of-lt dst (n - src) n (omega arith) in
+    grind (arith, place_of_cases dst (n - src) n (omega arith), place_of_cases dst (n - distance src dst n) n (omega arith))
+
+on_from : (dst src n : ℕ) → dst < n → src < n → place_of src (distance src dst n) n ≡ dst
+on_from dst src n a b =
+    let d = place_of-lt dst (n - src) n (omega arith) in
+    grind (arith, place_of_cases dst (n - src) n (omega arith), place_of_cases src (distance src dst n) n (omega arith))
+
+module _ {X : Type 0} where
+  -- a run that moves to where it is
+  pub moved_nowhere : (at len : ℕ) (ps : List (Option X)) → at < length ps → run_moved at at len ps ≡ ps
+  moved_nowhere at len ps lt = same_places _ _ (length-moved at at len ps) (λ x x_in. moved_at at at len ps x x_in ∙ grind (arith, nat_tests, on_from x at (length ps) x_in lt))
+
+  -- the l values from s on can be copied to d, and then the places are `after`
+  pub record Part (d s l : ℕ) (now after : List (Option X)) : Type 0 where
+    pub can : CanCopy d s l now
+    pub is : run_moved d s l now ≡ after
+
+  -- three copies can be made one after the other
+  pub record Three (d₁ s₁ l₁ d₂ s₂ l₂ d₃ s₃ l₃ : ℕ) (before after : List (Option X)) : Type 0 where
+    pub second : List (Option X)
+    pub third : List (Option X)
+    pub longs : (length second ≡ length before) × (length third ≡ length before)
+    pub one : Part d₁ s₁ l₁ before second
+    pub two : Part d₂ s₂ l₂ second third
+    pub three : Part d₃ s₃ l₃ third after
+
+  -- the same part by other names; where no value moves, any two places will do
+  pub renamed : {d s l : ℕ} {now after : List (Option X)} (d' s' l' : ℕ) → l ≡ l' → d' + l' ≤ length now → s' + l' ≤ length now → (0 < l' → d ≡ d') → (0 < l' → s ≡ s') → Part d s l now after → Part d' s' l' now after
+  renamed {now = now} d' s' zero e target source at_d at_s p = record {
+    can = record { target = target; source = source; filled = λ k lt. absurd (omega arith) };
+    is = moved_none d' s' now ∙ (rw (e, moved_none) at p.is);
+  }
+  renamed d' s' (suc l) e target source at_d at_s p = rw (e, at_d (omega arith), at_s (omega arith)) at p
+
+-- a side that passes the end nowhere among the values from the index `from` up to `to`
+fits : (d from to n : ℕ) → d < n → from ≤ to → to ≤ n → (from < n - d → to ≤ n - d) → place_of d from n + (to - from) ≤ n
+fits d from to n a b c uncut = grind (arith, place_of_cases d from n (omega arith))
+
+module _ {X : Type 0} (dst src len n : ℕ) (ps : List (Option X)) (long : length ps ≡ n) (dst_in : dst < n) (src_in : src < n) (filled : IsFilledRound src len ps) where
+  -- neither side passes the end among these values
+  abbrev Uncut : ℕ → ℕ → Type 0
+  Uncut from to = (from ≤ to) × ((to ≤ len) × ((from < n - dst → to ≤ n - dst) × (from < n - src → to ≤ n - src)))
+
+  -- once the first k values have moved, and once all but those have
+  abbrev gone : ℕ → List (Option X)
+  gone k = run_moved dst src k ps
+
+  abbrev kept : ℕ → List (Option X)
+  kept k = run_moved (place_of dst k n) (place_of src k n) (len - k) ps
+
+  abbrev Goes : ℕ → ℕ → List (Option X) → List (Option X) → Type 0
+  Goes from to now after = Part (place_of dst from n) (place_of src from n) (to - from) now after
+
+  module _ (from to : ℕ) (cut : Uncut from to) where
+    abbrev d : ℕ
+    d = place_of dst from n
+
+    abbrev s : ℕ
+    s = place_of src from n
+
+    part : (now after : List (Option X)) → to ≤ n → length now ≡ n → IsFilledRound s (to - from) now → run_moved d s (to - from) now ≡ after → Goes from to now after
+    part now after within same held is = record {
+      can = record {
+        target = omega (arith, fits dst from to n dst_in cut.0 within cut.1.1.0);
+        source = omega (arith, fits src from to n src_in cut.0 within cut.1.1.1);
+        filled = held;
+      };
+      is = is;
+    }
+
+    part_back : len ≤ distance src dst n → Goes from to (gone from) (gone to)
+    part_back far =
+        let g = n - distance src dst n in
+        let near = place_of-lt dst (n - src) n (omega arith) in
+        let at = place_of-lt dst from n (omega arith) in
+        let same = length-moved dst src from ps in
+        let is : run_moved d s (to - from) (gone from) ≡ gone to = back_by dst src g from (to - from) n ps (back_from dst src n dst_in src_in) long dst_in (omega arith) ∙ ap gone (omega arith) in
+        part (gone from) (gone to) (omega arith) (same ∙ long)
+        (rest_filled d s (to - from) dst src to from ps (gone from) same is (λ x. rw long (place_of-on dst from x n)) (omega arith) (omega arith) (omega arith) (omega arith) (λ k lt. filled k (omega arith))) is
+
+    part_on : distance src dst n + len ≤ n → Goes from to (kept to) (kept from)
+    part_on near =
+        let g = distance src dst n in
+        let at_d = place_of-lt dst from n (omega arith) in
+        let at_s = place_of-lt src from n (omega arith) in
+        let same = length-moved (place_of dst to n) (place_of src to n) (len - to) ps in
+        let apart : place_of s g n ≡ d = place_of-on src from g n ∙ ap (λ k. place_of src k n) (omega arith) ∙ sym (place_of-on src g from n) ∙ ap (λ t. place_of t from n) (on_from dst src n dst_in src_in) in
+        let further : (t : ℕ) → place_of t to n ≡ place_of (place_of t from n) (to - from) n = λ t. ap (λ k. place_of t k n) (omega arith) ∙ sym (place_of-on t from (to - from) n) in
+        let is : run_moved d s (to - from) (kept to) ≡ kept from =
+        ap₂ (λ a b. run_moved d s (to - from) (run_moved a b (len - to) ps)) (further dst) (further src) ∙ on_by d s g (to - from) (len - to) n ps apart long at_s (omega arith) ∙ ap (λ l. run_moved d s l ps) (omega arith) in
+        part (kept to) (kept from) (omega arith) (same ∙ long)
+        (rest_filled d s (to - from) d s (len - from) 0 ps (kept to) same is (λ x. ap (λ k. place_of d k (length ps)) (omega arith)) (omega arith) (omega arith) (omega arith) (omega arith)
+        (λ k lt. rw (long, place_of-on src from k n, ← long) (filled (from + k) (omega arith)))) is
+
+  module _ (a b : ℕ) (before : Uncut 0 a) (between : Uncut a b) (behind : Uncut b len) where
+    at_dst : place_of dst 0 n ≡ dst
+    at_dst = place_of-zero dst n (omega arith)
+
+    at_src : place_of src 0 n ≡ src
+    at_src = place_of-zero src n (omega arith)
+
+    pub three_back : len ≤ distance src dst n → Three dst src a (place_of dst a n) (place_of src a n) (b - a) (place_of dst b n) (place_of src b n) (len - b) ps (run_moved dst src len ps)
+    three_back far = record {
+      second = gone a;
+      third = gone b;
+      longs = (length-moved dst src a ps, length-moved dst src b ps);
+      one = renamed dst src a (omega arith) (omega arith) (omega arith) (λ lt. at_dst) (λ lt. at_src) (rw (moved_none dst src ps) at (part_back 0 a before far));
+      two = part_back a b between far;
+      three = part_back b len behind far;
+    }
+
+    pub three_on : distance src dst n + len ≤ n → Three (place_of dst b n) (place_of src b n) (len - b) (place_of dst a n) (place_of src a n) (b - a) dst src a ps (run_moved dst src len ps)
+    three_on near =
+        let none : len - len ≡ 0 = omega arith in
+        let all : len - 0 ≡ len = omega arith in
+        let same = length-moved (place_of dst a n) (place_of src a n) (len - a) ps in
+        record {
+          second = kept b;
+          third = kept a;
+          longs = (length-moved (place_of dst b n) (place_of src b n) (len - b) ps, same);
+          one = rw (none, moved_none (place_of dst len n) (place_of src len n) ps) at (part_on b len behind near);
+          two = part_on a b between near;
+          three = renamed dst src a (omega arith) (omega arith) (omega arith) (λ lt. refl) (λ lt. refl) (rw (at_dst, at_src, all) at (part_on 0 a before near));
+        }
+
+-- a run that passes the end and moves by one place: what lies past the end, the value that crosses it, and what lies before
+module _ {X : Type 0} (t len n : ℕ) (ps : List (Option X)) (long : length ps ≡ n) (t_in : t < n) (wraps : n ≤ t + len) (room : len < n) where
+  abbrev next : ℕ
+  next = place_of t 1 n
+
+  next_is : ((t + 1 < n) × (next ≡ t + 1)) ⊎ ((t + 1 ≡ n) × (next ≡ 0))
+  next_is = elim (place_of_cases t 1 n (omega arith)) [ inl below ↦ inl (omega arith) | inr end ↦ inr (omega arith) ]
+
+  pub slides_on : IsFilledRound t len ps → Three 1 0 (len - (n - t)) 0 (n - 1) 1 (t + 1) t (n - t - 1) ps (run_moved next t len ps)
+  slides_on filled =
+      let upper = n - t in
+      let next_in = place_of-lt t 1 n (omega arith) in
+      let go = three_on next t len n ps long next_in t_in filled (upper - 1) upper (grind (arith, next_is)) (grind (arith, next_is)) (grind (arith, next_is)) (grind (arith, next_is, distance_is t next n (omega arith) next_in)) in
+      record {
+        second = go.second;
+        third = go.third;
+        longs = go.longs;
+        one = renamed 1 0 (len - upper) (omega arith) (omega arith) (omega arith) (λ lt. grind (arith, next_is, place_of_cases next upper n (omega arith))) (λ lt. grind (arith, place_of_cases t upper n (omega arith))) go.one;
+        two = renamed 0 (n - 1) 1 (omega arith) (omega (arith, go.longs)) (omega (arith, go.longs)) (λ lt. grind (arith, next_is, place_of_cases next (upper - 1) n (omega arith))) (λ lt. grind (arith, place_of_cases t (upper - 1) n (omega arith))) go.two;
+        three = renamed (t + 1) t (upper - 1) (omega arith) (omega (arith, go.longs)) (omega (arith, go.longs)) (λ lt. grind (arith, next_is)) (λ lt. refl) go.three;
+      }
+
+  pub slides_back : IsFilledRound next len ps → Three t (t + 1) (n - 1 - t) (n - 1) 0 1 0 1 (len - (n - 1 - t) - 1) ps (run_moved t next len ps)
+  slides_back filled =
+      let upper = n - 1 - t in
+      let next_in = place_of-lt t 1 n (omega arith) in
+      let go = three_back t next len n ps long t_in next_in filled upper (upper + 1) (grind (arith, next_is)) (grind (arith, next_is)) (grind (arith, next_is)) (grind (arith, nat_tests, next_is, distance_is next t n (omega arith) t_in)) in
+      record {
+        second = go.second;
+        third = go.third;
+        longs = go.longs;
+        one = renamed t (t + 1) upper (omega arith) (omega arith) (omega arith) (λ lt. refl) (λ lt. grind (arith, next_is)) go.one;
+        two = renamed (n - 1) 0 1 (omega arith) (omega (arith, go.longs)) (omega (arith, go.longs)) (λ lt. grind (arith, place_of_cases t upper n (omega arith))) (λ lt. grind (arith, next_is, place_of_cases next upper n (omega arith))) go.two;
+        three = renamed 0 1 (len - upper - 1) (omega arith) (omega (arith, go.longs)) (omega (arith, go.longs)) (λ lt. grind (arith, place_of_cases t (upper + 1) n (omega arith))) (λ lt. grind (arith, next_is, place_of_cases next (upper + 1) n (omega arith))) go.three;
+      }

@@ -1,0 +1,20 @@
+use Rattle.std.proofs.Common.{◌+◌, ◌-◌, ◌∙◌, arith}
+use Rattle.std.proofs.Math.Nat.{add_assoc}
+use Rattle.arraydeque_ring.proofs.moved.Blocks.{first_goes}
+use Rattle.arraydeque_ring.proofs.moved.Filled.{round_run}
+use Rattle.arraydeque_ring.proofs.slots.Slots.move_first.Goals as goal
+
+pub move_block-requires-clause-filled : goal.move_block-requires-clause-filled
+move_block-requires-clause-filled g c =
+    let goes = (first_goes _ _ g.row.N (c.args.len - (c.loop-moved.moved + g.row.N)) _ _ (omega arith) c.loop-moved.invariant.can (omega arith)).can in
+    round_run _ _ _ goes.source goes.filled
+
+pub loop-moved-preserved : goal.loop-moved-preserved
+loop-moved-preserved g c =
+    let goes = first_goes _ _ g.row.N (c.args.len - (c.loop-moved.moved + g.row.N)) _ _ (omega arith) c.loop-moved.invariant.can (omega arith) in
+    rw (c.move_block.ensures, ← add_assoc c.args.dst c.loop-moved.moved g.row.N, ← add_assoc c.args.src c.loop-moved.moved g.row.N) (record {
+      within = omega arith;
+      can = goes.then;
+      moved = goes.is ∙ c.loop-moved.invariant.moved;
+      steps = c.loop-moved.invariant.steps;
+    })

@@ -1,0 +1,256 @@
+//! Runs of values that move to other places at once.
+//!
+//! A run goes by plain copies, each of which passes the region's end on neither side and is made
+//! of blocks, the ones that lie ahead first. No call here touches memory but by `move_block`.
+ghost use Rattle.std.specs.Prelude.{◌≡◌, ◌+◌, ◌-◌, ◌<◌, ◌≤◌, length, if◌then◌else◌, ◌==◌};
+ghost use Rattle.arraydeque_ring.specs.Moved.{AreApart, IsFilledRound, IsFreeRound, CanCopy, CanMove, run_moved};
+ghost use Rattle.arraydeque_ring.specs.Ring.{place_of};
+ghost use Rattle.arraydeque_ring.specs.Steps.{more_moves};
+
+use super::raw::size_of_item;
+use super::{Slots, StepKind};
+use crate::wrap::wrap_add;
+use std::mem::replace;
+
+impl<T> Slots<T> {
+    /// Moves the values in the `len` places from `src` on to those from `dst` on, all at once.
+    /// Either run goes on at the first place after the last. The two may share places, as long as
+    /// one doesn't meet the other at both its ends.
+    pub fn wrap_move(&mut self, dst: usize, src: usize, len: usize)
+        requires dst_in_region { dst < length self.old.places }
+        requires src_in_region { src < length self.old.places }
+        requires apart { AreApart dst src len (length self.old.places) }
+        requires filled { IsFilledRound src len self.old.places }
+        requires free { IsFreeRound dst src len self.old.places }
+        ensures places { self.new.places ≡ run_moved dst src len self.old.places }
+        ensures steps { self.new.steps ≡ more_moves (if dst == src then 0 else len) self.old.steps }
+    {
+        if dst == src {
+            return;
+        }
+        let alloc = self.alloc;
+        let slots = replace(self, Slots::without_memory(alloc, 0));
+        *self = slots.moved(dst, src, len);
+        self.count(StepKind::Move, len);
+    }
+
+    /// Moves a run. The region is a local here, so that its pointer is known not to change.
+    fn moved(self, dst: usize, src: usize, len: usize) -> Slots<T>
+        requires { CanMove dst src len self.places }
+        ensures { result ≡ record self { places = run_moved dst src len self.places } }
+    {
+        let capacity = self.capacity();
+        if len <= (capacity - dst).min(capacity - src) {
+            let mut slots = self;
+            slots.copy(dst, src, len);
+            return slots;
+        }
+        if size_of_item::<T>() <= 8 {
+            if dst == wrap_add(src, 1, capacity) {
+                return self.wrapped_on(src, len);
+            }
+            if src == wrap_add(dst, 1, capacity) {
+                return self.wrapped_back(dst, len);
+            }
+        }
+        self.moved_in_parts(dst, src, len)
+    }
+
+    /// Moves a run that passes the end by one place on: what lies past the end, the value that
+    /// crosses it, and what lies before.
+    fn wrapped_on(self, src: usize, len: usize) -> Slots<T>
+        requires in_region { src < length self.places }
+        requires wraps { length self.places ≤ src + len }
+        requires room { len < length self.places }
+        requires filled { IsFilledRound src len self.places }
+        ensures { result ≡ record self {
+          places = run_moved (place_of src 1 (length self.places)) src len self.places;
+        } }
+    {
+        let capacity = self.capacity();
+        let upper = capacity - src;
+        let mut slots = self;
+        slots.slide_on(1, 0, len - upper);
+        slots.slide_back(0, capacity - 1, 1);
+        slots.slide_on(src + 1, src, upper - 1);
+        slots
+    }
+
+    /// Moves a run that passes the end by one place back: what lies before the end, the value that
+    /// crosses it, and what lies past it.
+    fn wrapped_back(self, dst: usize, len: usize) -> Slots<T>
+        requires in_region { dst < length self.places }
+        requires wraps { length self.places ≤ dst + len }
+        requires room { len < length self.places }
+        requires filled { IsFilledRound (place_of dst 1 (length self.places)) len self.places }
+        ensures { result ≡ record self {
+          places = run_moved dst (place_of dst 1 (length self.places)) len self.places;
+        } }
+    {
+        let last = self.capacity() - 1;
+        let upper = last - dst;
+        let mut slots = self;
+        slots.slide_back(dst, dst + 1, upper);
+        slots.slide_on(last, 0, 1);
+        slots.slide_back(0, 1, len - upper - 1);
+        slots
+    }
+
+    /// Moves a run in three parts, cut where either side passes the region's end, by a plain copy
+    /// each: from the first on where the run moves back, by no more places than are free, else
+    /// from the last on. In a region of 8 places, six values from place 4 on to place 6:
+    ///
+    ///     place              0 1 2 3 4 5 6 7
+    ///     before             e f . . a b c d
+    ///     e f from 0 to 2    . . e f a b c d
+    ///     c d from 6 to 0    c d e f a b . .
+    ///     a b from 4 to 6    c d e f . . a b
+    #[inline(never)]
+    fn moved_in_parts(self, dst: usize, src: usize, len: usize) -> Slots<T>
+        requires { CanMove dst src len self.places }
+        ensures { result ≡ record self { places = run_moved dst src len self.places } }
+    {
+        let capacity = self.capacity();
+        let (dst_end, src_end) = (capacity - dst, capacity - src);
+        let near = len.min(dst_end.min(src_end));
+        let far = len.min(dst_end.max(src_end));
+        let (dst_near, src_near) = (wrap_add(dst, near, capacity), wrap_add(src, near, capacity));
+        let (dst_far, src_far) = (wrap_add(dst, far, capacity), wrap_add(src, far, capacity));
+        let mut slots = self;
+        if len <= wrap_add(dst, src_end, capacity) {
+            slots.copy(dst, src, near);
+            slots.copy(dst_near, src_near, far - near);
+            slots.copy(dst_far, src_far, len - far);
+        } else {
+            slots.copy(dst_far, src_far, len - far);
+            slots.copy(dst_near, src_near, far - near);
+            slots.copy(dst, src, near);
+        }
+        slots
+    }
+
+    /// Copies a run to where neither side passes the end. Small items that move by one place go one
+    /// by one, which becomes one `memmove`, and others go in blocks.
+    fn copy(&mut self, dst: usize, src: usize, len: usize)
+        requires { CanCopy dst src len self.old.places }
+        ensures { self.new ≡ record self.old { places = run_moved dst src len self.old.places } }
+    {
+        let small = size_of_item::<T>() <= 8;
+        if dst < src {
+            if small && src - dst == 1 {
+                self.slide_back(dst, dst + 1, len);
+            } else {
+                self.copy_back(dst, src, len);
+            }
+        } else if small && dst - src == 1 {
+            self.slide_on(src + 1, src, len);
+        } else {
+            self.copy_on(dst, src, len);
+        }
+    }
+
+    /// Copies a run on value by value, the last first. Where `dst` is `src + 1`, and is so written,
+    /// this becomes `memmove`.
+    #[inline(always)]
+    fn slide_on(&mut self, dst: usize, src: usize, len: usize)
+        requires on { src ≤ dst }
+        requires can { CanCopy dst src len self.old.places }
+        ensures { self.new ≡ record self.old { places = run_moved dst src len self.old.places } }
+    {
+        self.move_last::<1>(dst, src, len);
+    }
+
+    /// Copies a run back value by value, the first first.
+    #[inline(always)]
+    fn slide_back(&mut self, dst: usize, src: usize, len: usize)
+        requires back { dst ≤ src }
+        requires can { CanCopy dst src len self.old.places }
+        ensures { self.new ≡ record self.old { places = run_moved dst src len self.old.places } }
+    {
+        self.move_first::<1>(dst, src, len, 0);
+    }
+
+    /// Copies a run on in blocks of at most 4096 bytes, the largest first.
+    #[inline(never)]
+    fn copy_on(&mut self, dst: usize, src: usize, len: usize)
+        requires on { src ≤ dst }
+        requires can { CanCopy dst src len self.old.places }
+        ensures { self.new ≡ record self.old { places = run_moved dst src len self.old.places } }
+    {
+        let left = self.move_last::<512>(dst, src, len);
+        let left = self.move_last::<128>(dst, src, left);
+        let left = self.move_last::<32>(dst, src, left);
+        let left = self.move_last::<8>(dst, src, left);
+        let left = self.move_last::<2>(dst, src, left);
+        self.move_last::<1>(dst, src, left);
+    }
+
+    /// Copies a run back in blocks of at most 4096 bytes, the largest first.
+    #[inline(never)]
+    fn copy_back(&mut self, dst: usize, src: usize, len: usize)
+        requires back { dst ≤ src }
+        requires can { CanCopy dst src len self.old.places }
+        ensures { self.new ≡ record self.old { places = run_moved dst src len self.old.places } }
+    {
+        let moved = self.move_first::<512>(dst, src, len, 0);
+        let moved = self.move_first::<128>(dst, src, len, moved);
+        let moved = self.move_first::<32>(dst, src, len, moved);
+        let moved = self.move_first::<8>(dst, src, len, moved);
+        let moved = self.move_first::<2>(dst, src, len, moved);
+        self.move_first::<1>(dst, src, len, moved);
+    }
+
+    /// Moves the last values of a run in blocks of `N`, as long as there are so many. The answer is
+    /// how many are left. Blocks of more than 4096 bytes are not tried, unless `N` is 1.
+    #[inline(always)]
+    fn move_last<const N: usize>(&mut self, dst: usize, src: usize, len: usize) -> usize
+        requires some { 0 < N }
+        requires on { src ≤ dst }
+        requires can { CanCopy dst src len self.old.places }
+        ensures can { CanCopy dst src result self.new.places }
+        ensures all { N ≡ 1 → result ≡ 0 }
+        ensures moved { run_moved dst src result self.new.places ≡
+            run_moved dst src len self.old.places }
+        ensures steps { self.new.steps ≡ self.old.steps }
+    {
+        let mut moved = 0;
+        if N == 1 || size_of_item::<T>() <= 4096 / N {
+            while N <= len - moved {
+                moved += N;
+                self.move_block::<N>(dst, src, len - moved);
+            }
+        }
+        len - moved
+    }
+
+    /// Moves the values of a run from the index `from` on in blocks of `N`, as long as there are so
+    /// many. The answer is the index of the first that is left.
+    #[inline(always)]
+    fn move_first<const N: usize>(
+        &mut self,
+        dst: usize,
+        src: usize,
+        len: usize,
+        from: usize,
+    ) -> usize
+        requires some { 0 < N }
+        requires back { dst ≤ src }
+        requires within { from ≤ len }
+        requires can { CanCopy (dst + from) (src + from) (len - from) self.old.places }
+        ensures within { result ≤ len }
+        ensures can { CanCopy (dst + result) (src + result) (len - result) self.new.places }
+        ensures all { N ≡ 1 → result ≡ len }
+        ensures moved { run_moved (dst + result) (src + result) (len - result) self.new.places ≡
+            run_moved (dst + from) (src + from) (len - from) self.old.places }
+        ensures steps { self.new.steps ≡ self.old.steps }
+    {
+        let mut moved = from;
+        if N == 1 || size_of_item::<T>() <= 4096 / N {
+            while N <= len - moved {
+                self.move_block::<N>(dst, src, moved);
+                moved += N;
+            }
+        }
+        moved
+    }
+}

@@ -1,0 +1,97 @@
+//! Rings that come to lie in one piece.
+use arraydeque_ring::ring::Ring;
+use std::alloc::Global;
+use std::process::Abort;
+use std::test::Fail;
+
+/// Items that are told apart by a number.
+trait Numbered: Drop {
+    fn of(number: u8) -> Self;
+
+    fn number(&self) -> u8;
+}
+
+impl Numbered for u8 {
+    fn of(number: u8) -> u8 {
+        number
+    }
+
+    fn number(&self) -> u8 {
+        *self
+    }
+}
+
+/// An item of 200 bytes.
+#[derive(Drop)]
+struct Wide {
+    bytes: [u8; 200],
+}
+
+impl Numbered for Wide {
+    fn of(number: u8) -> Wide {
+        Wide {
+            bytes: [number; 200],
+        }
+    }
+
+    fn number(&self) -> u8 {
+        let [first, .., last] = self.bytes;
+        if first == last { first } else { u8::MAX }
+    }
+}
+
+/// A ring of `len` items that starts at the place `start` lies in one piece once it is linearized,
+/// with the items in the same order.
+fn ring_comes_to_one_piece<T: Numbered>(
+    rt: &impl Abort,
+    alloc: Global,
+    capacity: u8,
+    start: u8,
+    len: u8,
+) -> Result<(), Fail> {
+    let mut ring = Ring::<T>::new(alloc, usize::from(capacity))?;
+    for number in 0..start {
+        assert!(rt; ring.len() < ring.capacity());
+        ring.push_back(T::of(number));
+        ring.pop_front();
+    }
+    for number in 0..len {
+        assert!(rt; ring.len() < ring.capacity());
+        ring.push_back(T::of(number));
+    }
+    ring.linearize();
+    let (first, second) = ring.as_slices();
+    assert_eq!(rt; second.len(), 0, "start {start}, {len} of {capacity}");
+    assert!(rt;
+        first.iter().map(T::number).eq(0..len),
+        "start {start}, {len} of {capacity}"
+    );
+    Ok(())
+}
+
+#[test]
+fn every_list_of_few_items(rt: HostRuntime) -> Result<(), Fail> {
+    for capacity in 1..=8 {
+        for start in 0..capacity {
+            for len in 0..=capacity {
+                ring_comes_to_one_piece::<u8>(&rt, rt.alloc(), capacity, start, len)?;
+            }
+        }
+    }
+    Ok(())
+}
+
+#[test]
+fn long_lists_of_small_and_large_items(rt: HostRuntime) -> Result<(), Fail> {
+    for capacity in 60..=70 {
+        for start in [1, 2, 9, 30, 33, 45, 59] {
+            for len in [31, 48, 59, 60] {
+                ring_comes_to_one_piece::<u8>(&rt, rt.alloc(), capacity, start, len)?;
+                ring_comes_to_one_piece::<Wide>(&rt, rt.alloc(), capacity, start, len)?;
+            }
+            ring_comes_to_one_piece::<u8>(&rt, rt.alloc(), capacity, start, capacity)?;
+            ring_comes_to_one_piece::<Wide>(&rt, rt.alloc(), capacity, start, capacity)?;
+        }
+    }
+    Ok(())
+}

@@ -1,0 +1,57 @@
+//! What comes back where memory is refused to a run, or to a call of it. The test holds where none
+//! is, and whichever request of the run is refused; where one is refused that its set-up makes, it
+//! ends there.
+use crate::replies::compare_list;
+use arraydeque::run::{Call, Reply};
+use arraydeque::{ArrayDeque, Saturating};
+use std::process::Abort;
+use std::test::Fail;
+
+/// The replies, of which the one to the drain may be that memory was refused. Answers what is left then.
+fn compare_replies(rt: &impl Abort, replies: Vec<Reply<i64, 5, Saturating>>) -> &'static [i64] {
+    let mut replies = replies.into_iter();
+    assert!(rt; matches!(&replies.next(), Some(Reply::Done)));
+    let left: &'static [i64] = match replies.next() {
+        Some(Reply::Drained(mut drained)) => {
+            assert_eq!(rt; (drained.next(), drained.next()), (Some(1), Some(2)));
+            &[3, 4]
+        }
+        reply => {
+            assert!(rt; matches!(&reply, Some(Reply::NoMemory)));
+            &[1, 2, 3, 4]
+        }
+    };
+    assert!(rt; matches!(&replies.next(), Some(Reply::Item(Some(0)))));
+    assert!(rt; replies.next().is_none());
+    left
+}
+
+/// The calls that come back.
+fn compare_calls(rt: &impl Abort, calls: Vec<Call<i64>>) {
+    assert!(rt;
+        matches!(
+            calls.as_slice(),
+            [Call::PushBack(4), Call::Drain(1, 3), Call::PopFront]
+        )
+    );
+}
+
+#[test]
+fn a_run_goes_on_after_a_refused_drain(rt: HostRuntime) -> Result<(), Fail> {
+    let mut deque = ArrayDeque::<i64, 5, Saturating>::new(rt.alloc())?;
+    for _ in 0..4 {
+        deque.extend_back([9]);
+        deque.pop_front();
+    }
+    deque.extend_back([0, 1, 2, 3]);
+    let calls = vec![in rt.alloc(); Call::PushBack(4), Call::Drain(1, 3), Call::PopFront]?;
+    let left: &[i64] = match deque.run(calls) {
+        Ok(replies) => compare_replies(&rt, replies),
+        Err(refusal) => {
+            compare_calls(&rt, refusal.source);
+            &[0, 1, 2, 3]
+        }
+    };
+    compare_list(&rt, deque, left);
+    Ok(())
+}

@@ -1,0 +1,163 @@
+//! Inserting and removing at an index.
+use crate::build::{deque_at, holds, numbers};
+use arraydeque::{ArrayDeque, Saturating};
+use std::alloc::Global;
+use std::process::Abort;
+use std::test::Fail;
+
+#[derive(Clone, Copy, Debug)]
+enum Edit {
+    Insert(usize, i64),
+    Remove(usize),
+}
+
+/// Makes edits in turn. Beside each stands its answer, the element that an insert hands back or the
+/// item that a removal gives, and the list that it leaves.
+fn edit_in_turn<const CAP: usize>(
+    rt: &impl Abort,
+    mut deque: ArrayDeque<i64, CAP, Saturating>,
+    edits: &[(Edit, Option<i64>, &[i64])],
+) {
+    for &(edit, answer, left) in edits {
+        let given = match edit {
+            Edit::Insert(index, item) => {
+                assert!(rt; index <= deque.len());
+                deque
+                    .insert(index, item)
+                    .err()
+                    .map(|refusal| refusal.element)
+            }
+            Edit::Remove(index) => deque.remove(index),
+        };
+        assert_eq!(rt; given, answer, "{edit:?}");
+        assert!(rt; holds(&deque, left), "{edit:?}");
+    }
+}
+
+#[test]
+fn the_documented_inserts_and_removes(rt: HostRuntime) -> Result<(), Fail> {
+    let inserts: [(Edit, Option<i64>, &[i64]); 4] = [
+        (Edit::Insert(0, 3), None, &[3]),
+        (Edit::Insert(0, 1), None, &[1, 3]),
+        (Edit::Insert(1, 2), None, &[1, 2, 3]),
+        (Edit::Insert(1, 4), Some(4), &[1, 2, 3]),
+    ];
+    edit_in_turn::<3>(&rt, deque_at(rt.alloc(), 0, &[])?, &inserts);
+    let removals: [(Edit, Option<i64>, &[i64]); 2] = [
+        (Edit::Remove(1), Some(1), &[0, 2]),
+        (Edit::Remove(2), None, &[0, 2]),
+    ];
+    edit_in_turn::<3>(&rt, deque_at(rt.alloc(), 0, &[0, 1, 2])?, &removals);
+    Ok(())
+}
+
+#[test]
+fn a_full_deque_refuses_an_insert(rt: HostRuntime) -> Result<(), Fail> {
+    let inserts: [(Edit, Option<i64>, &[i64]); 3] = [
+        (Edit::Insert(0, 1), None, &[1]),
+        (Edit::Insert(1, 2), None, &[1, 2]),
+        (Edit::Insert(2, 3), Some(3), &[1, 2]),
+    ];
+    edit_in_turn::<2>(&rt, deque_at(rt.alloc(), 0, &[])?, &inserts);
+    Ok(())
+}
+
+#[test]
+fn an_insert_and_three_removes(rt: HostRuntime) -> Result<(), Fail> {
+    let mut deque = deque_at::<5>(rt.alloc(), 0, &[1, 2, 3])?;
+    assert!(rt; deque.push_front(0).is_ok());
+    let edits: [(Edit, Option<i64>, &[i64]); 4] = [
+        (Edit::Insert(1, 8), None, &[0, 8, 1, 2, 3]),
+        (Edit::Remove(3), Some(2), &[0, 8, 1, 3]),
+        (Edit::Remove(0), Some(0), &[8, 1, 3]),
+        (Edit::Remove(3), None, &[8, 1, 3]),
+    ];
+    edit_in_turn(&rt, deque, &edits);
+    Ok(())
+}
+
+#[test]
+fn edits_of_six_in_eight_places(rt: HostRuntime) -> Result<(), Fail> {
+    let inserts: [(usize, &[i64]); 3] = [
+        (2, &[0, 1, 9, 2, 3, 4, 5]),
+        (3, &[0, 1, 2, 9, 3, 4, 5]),
+        (4, &[0, 1, 2, 3, 9, 4, 5]),
+    ];
+    for (index, left) in inserts {
+        let deque = deque_at::<8>(rt.alloc(), 0, &[0, 1, 2, 3, 4, 5])?;
+        edit_in_turn(&rt, deque, &[(Edit::Insert(index, 9), None, left)]);
+    }
+    let deque = deque_at::<2>(rt.alloc(), 0, &[1, 2])?;
+    edit_in_turn(&rt, deque, &[(Edit::Remove(1), Some(2), &[1])]);
+    Ok(())
+}
+
+/// Whether an insert does what it does to a plain list.
+fn inserts_alike<const CAP: usize>(
+    alloc: Global,
+    start: usize,
+    len: usize,
+    index: usize,
+) -> Result<bool, Fail> {
+    let mut list = numbers(alloc, len)?;
+    let mut deque = deque_at::<CAP>(alloc, start, &list)?;
+    if index > deque.len() || index > list.len() {
+        return Ok(false);
+    }
+    let refused = deque.insert(index, 99).err().map(|refusal| refusal.element);
+    if list.len() == CAP {
+        return Ok(refused == Some(99) && holds(&deque, &list));
+    }
+    list.insert(index, 99)?;
+    Ok(refused.is_none() && holds(&deque, &list))
+}
+
+/// Whether a removal, also past the last item, does what it does to a plain list.
+fn removes_alike<const CAP: usize>(
+    alloc: Global,
+    start: usize,
+    len: usize,
+    index: usize,
+) -> Result<bool, Fail> {
+    let mut list = numbers(alloc, len)?;
+    let mut deque = deque_at::<CAP>(alloc, start, &list)?;
+    let removed = deque.remove(index);
+    let expected = if index < list.len() {
+        Some(list.remove(index))
+    } else {
+        None
+    };
+    Ok(removed == expected && holds(&deque, &list))
+}
+
+/// Inserts and removes beside a plain list, at each start, length and index.
+fn compare_all<const CAP: usize>(rt: &impl Abort, alloc: Global) -> Result<(), Fail> {
+    for start in 0..CAP {
+        for len in 0..=CAP {
+            for index in 0..=len {
+                let inserts = inserts_alike::<CAP>(alloc, start, len, index)?;
+                let removes = removes_alike::<CAP>(alloc, start, len, index)?;
+                assert_eq!(rt;
+                    (inserts, removes),
+                    (true, true),
+                    "index {index} of {CAP}, start {start}, length {len}"
+                );
+            }
+        }
+    }
+    Ok(())
+}
+
+#[test]
+fn every_start_length_and_index(rt: HostRuntime) -> Result<(), Fail> {
+    compare_all::<1>(&rt, rt.alloc())?;
+    compare_all::<2>(&rt, rt.alloc())?;
+    compare_all::<3>(&rt, rt.alloc())?;
+    compare_all::<4>(&rt, rt.alloc())?;
+    compare_all::<5>(&rt, rt.alloc())?;
+    compare_all::<6>(&rt, rt.alloc())?;
+    compare_all::<7>(&rt, rt.alloc())?;
+    compare_all::<8>(&rt, rt.alloc())?;
+    compare_all::<16>(&rt, rt.alloc())?;
+    Ok(())
+}
