@@ -44,10 +44,8 @@ module _ {X B : Type 0} {n : ℕ} (p : Policy) (c : Call X) (r : Reply X n B) wh
       let call = work_of_call c (answer_of r) mid new costs in
       record {
         run = longer.0;
-        price = so_far.price + price_of c (answer_of r) mid.items;
-        sum = omega (arith, so_far.sum, longer.1);
-        at_most = omega (arith, so_far.at_most, call.0);
+        at_most = omega (arith, so_far.at_most, call.0, longer.1);
         exactly = λ none.
             let parts = All-pop (λ call. call ≢ Linearize) (cs ++ c ∷ []) cs (Some c) refl none in
-            omega (arith, so_far.exactly parts.0, call.1 parts.1);
+            omega (arith, so_far.exactly parts.0, call.1 parts.1, longer.1);
       }

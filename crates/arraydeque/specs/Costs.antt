@@ -56,7 +56,7 @@ module _ {X : Type 0} where
 pub record RunCosts {X B : Type 0} {n : ℕ} (p : Policy) (old : DequeState X)
     (calls : List (Call X)) (replies : List (Reply X n B)) (new : DequeState X) : Type 0 where
   pub run : Run p old.items calls replies new.items
-  pub price : ℕ
-  pub sum : price ≡ price_of_run p old.items calls replies new.items run
-  pub at_most : work_of new.steps ≤ work_of old.steps + price
-  pub exactly : All (λ call. call ≢ Linearize) calls → work_of new.steps ≡ work_of old.steps + price
+  pub at_most : work_of new.steps ≤
+      work_of old.steps + price_of_run p old.items calls replies new.items run
+  pub exactly : All (λ call. call ≢ Linearize) calls → work_of new.steps ≡
+      work_of old.steps + price_of_run p old.items calls replies new.items run

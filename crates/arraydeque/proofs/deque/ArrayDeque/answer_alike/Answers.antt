@@ -1,11 +1,8 @@
-use Rattle.std.proofs.Common.{length, refl, ap, inl, inr, arith}
-use Rattle.std.proofs.lemmas.Bool.{and_from, lt-ltb, le-leb}
-use Rattle.std.proofs.lemmas.Bool.Decides.{nat_tests}
+use Rattle.std.proofs.Common.{refl, ap, arith}
+use Rattle.std.proofs.lemmas.Grind.{common_steps}
 use Rattle.std.specs.Vec.Iter.{into_iter_items}
-use Rattle.arraydeque.specs.Costs.{work_of}
 use Rattle.arraydeque.specs.Deque.{DequeState}
-use Rattle.arraydeque.specs.Machine.{drained}
-use Rattle.arraydeque.proofs.Outcomes.{when_met, some_factor}
+use Rattle.arraydeque.proofs.Exchanges.{back_costs, front_costs}
 use Rattle.arraydeque.proofs.Taken.{TakesFrom-list}
 use Rattle.arraydeque.proofs.deque.ArrayDeque.answer_alike.Goals as goal
 
@@ -15,15 +12,14 @@ returns-in-Extend-clause-answers g c p =
     rw c.in-Extend.is (refl, ap (λ (d : DequeState g.row.T.Denot). d.items) added)
 
 pub returns-in-Err-clause-answers : goal.returns-in-Err-clause-answers
-returns-in-Err-clause-answers g c p =
-    let in_range = and_from _ _ (le-leb c.in-Drain.from c.in-Drain.to c.if-from-to.false) (le-leb c.in-Drain.to (length c.args.self.now.items) (omega (arith, c.if-to-len.false, c.len.ensures.len))) in
-    let some = some_factor _ _ c.in-Err.ensures.refused in
-    rw c.in-Drain.is (when_met _ _ _ in_range (inr (lt-ltb c.in-Drain.from c.in-Drain.to (omega (arith, some)), (refl, ap (λ (d : DequeState g.row.T.Denot). d.items) c.in-Err.ensures.unchanged))))
+returns-in-Err-clause-answers g c p = rw c.in-Drain.is (grind (arith, common_steps))
 
-pub returns-in-Ok-clause-answers : goal.returns-in-Ok-clause-answers
-returns-in-Ok-clause-answers g c p =
-    let in_range = and_from _ _ (le-leb c.in-Drain.from c.in-Drain.to c.if-from-to.false) (le-leb c.in-Drain.to (length c.args.self.now.items) (omega (arith, c.if-to-len.false, c.len.ensures.len))) in
-    rw c.in-Drain.is (when_met _ _ _ in_range (inl (ap drained c.in-Ok.ensures.drained, c.in-Ok.ensures.items)))
+pub returns-in-SwapRemoveBack-clause-costs : goal.returns-in-SwapRemoveBack-clause-costs
+returns-in-SwapRemoveBack-clause-costs g c =
+    let removed = c.swap_remove_back.ensures in
+    rw c.in-SwapRemoveBack.is (back_costs c.in-SwapRemoveBack.index _ _ _ removed.value removed.steps removed.none)
 
-pub returns-in-Ok-clause-costs : goal.returns-in-Ok-clause-costs
-returns-in-Ok-clause-costs g c = rw c.in-Drain.is (grind (arith, nat_tests, ap work_of c.in-Ok.ensures.steps))
+pub returns-in-SwapRemoveFront-clause-costs : goal.returns-in-SwapRemoveFront-clause-costs
+returns-in-SwapRemoveFront-clause-costs g c =
+    let removed = c.swap_remove_front.ensures in
+    rw c.in-SwapRemoveFront.is (front_costs c.in-SwapRemoveFront.index _ _ _ removed.value removed.steps removed.none)
