@@ -1,5 +1,7 @@
+pub mod Lending
 pub mod Made
 pub mod Names
 pub mod Placed
+pub mod Rings
 pub mod Runs
 pub mod Slices

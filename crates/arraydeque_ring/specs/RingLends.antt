@@ -1,6 +1,7 @@
 -- What a `Ring` ends as, once a `&mut` to one of its items has ended.
-use Rattle.std.specs.Prelude.{ℕ, slice_set, Option}
-use Rattle.std.specs.Borrow.{Fml, RattleType, MutBor, LendsIf}
+use Rattle.std.specs.Prelude.{ℕ, List, ◌++◌, slice_set, Option}
+use Rattle.std.specs.Borrow.{Fml, GName, RattleType, MutBor, Array, LendsIf, LendsBoth, fsep, follows, follows_both}
+use Rattle.arraydeque_ring.specs.Loans.{Loan, as_many}
 use Rattle.arraydeque_ring.specs.Ring.{RingState}
 use Rattle.arraydeque_ring.specs.Steps.{more_lends}
 use Rattle.arraydeque_ring.specs.contracts.ring.Ring.{the_row}
@@ -13,3 +14,30 @@ module _ (R : RattleType) (ring : MutBor (RingState R.Denot)) (index : ℕ) wher
     items = slice_set ring.now.items index w;
     steps = more_lends 1 ring.now.steps;
   }) ring.now
+
+-- a ring with the items xs, as many of them as it had, and two lends counted
+abbrev pub rewritten : {X : Type 0} → RingState X → List X → RingState X
+rewritten ring xs = record ring {
+  items = as_many ring.items xs;
+  steps = more_lends 2 ring.steps;
+}
+
+module _ (R : RattleType) (ring : MutBor (RingState R.Denot)) where
+  -- there are as many items as before and two lends are counted, and nothing else changes
+  abbrev pub lends_items : GName → Fml
+  lends_items name = follows (the_row R) (the_row R) ring.ghost_name name
+      (λ w. rewritten ring.now w.items)
+
+  -- the items end as what was last written through r, and two lends are counted, and nothing else
+  -- changes
+  abbrev pub lends_slices : MutBor (List R.Denot) × MutBor (List R.Denot) → Fml
+  lends_slices r = LendsBoth (the_row R) (Array R 0) (Array R 0) ring r
+      (λ ws vs. rewritten ring.now (as_many r.0.now ws ++ as_many r.1.now vs))
+
+  -- the ring follows the name of a loan of its items, and that name follows the two slices
+  abbrev pub lends_loan : Loan R.Denot → Fml
+  lends_loan loan = fsep
+      (lends_items loan.name)
+      (follows_both (the_row R) (Array R 0) (Array R 0)
+      loan.name loan.first.ghost_name loan.second.ghost_name
+      (λ ws vs. rewritten ring.now (as_many loan.first.now ws ++ as_many loan.second.now vs)))

@@ -9,6 +9,7 @@ ghost use Rattle.std.specs.Option.{option_copied_mut};
 ghost use Rattle.arraydeque_ring.specs.Ring.{empty_ring, place_of, IsInOnePiece};
 ghost use Rattle.arraydeque_ring.specs.Steps.{more_puts, more_takes};
 
+mod lends;
 mod linearize;
 mod moves;
 mod parts;

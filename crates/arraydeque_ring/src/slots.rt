@@ -36,7 +36,7 @@ enum StepKind {
 /// place is empty, so that no value is ever lost with it.
 pub struct Slots<T> {
     ptr: *mut T,
-    capacity: usize,
+    pub(crate) capacity: usize,
     alloc: Global,
     ghost places: { List (Option T) },
     ghost steps: { Steps },

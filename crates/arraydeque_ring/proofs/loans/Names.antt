@@ -1,17 +1,19 @@
 -- A loan under a name of its lender's own type: how it is made, and handed on by what holds the lender. For any types in memory. Assumes `Logic`.
-use mathlib.Core.Path.{◌≡◌, ap₂}
-use base.Logic.{SProp, ent, sep, wand, ex, all, id⊢, apply∗, all_e, upd_i, emp, guard}
-use base.Fml.{fres, Lft, GName, Share, Fml, ftrue, fsep, fwand, fupd, fdead, fobs, fauth, fbor, fobor, fseps}
-use types.Kit.{‵, raw, ◌⊛◌, later, ◌$◌, ◌∵◌, !, qed, by, each, move, keep, use0, use1, use2, drop, split, split3, join, fsplit, fsplit3, fjoin, fjoin3, fpick, fpack, suffices, updating, await, now, assume, show, done}
+use mathlib.Core.Path.{◌≡◌, ap₂, refl}
+use base.Logic.{SProp, ent, sep, wand, wand_i, ex, all, id⊢, apply∗, all_e, upd_i, emp, guard, snd∗}
+use base.Fml.{fex, fres, flft, Lft, GName, Share, Fml, ftrue, fsep, fwand, fupd, fdead, fobs, fauth, fobor, flent, fseps, fbor}
+use types.Kit.{‵, raw, ◌⊛◌, later, ◌$◌, ◌∵◌, !, qed, by, each, move, keep, use0, use1, use2, drop, split, split3, join, fsplit, fsplit3, fjoin, fjoin3, fpick, fpack, feq_l, rewrite, suffices, updating, await, now, assume, show, done, group}
 use Prim.Native.Nat.{ℕ}
 use mathlib.Core.List.{List, [], ◌∷◌}
 use seplogic.Ra.Ura.{Ura}
 use seplogic.Bi.Basic.{and}
+use ghost.Rules.{aged}
 use base.Stored.{Gv}
 use types.Logic.{Logic, sem}
+use types.Late.{deep, close_deep}
 use types.Tokens.{name_new, obor_alter}
 use types.SemTy.{SemTy, Body}
-use types.Follow.{after, after₂, follows_anew, followed}
+use types.Follow.{after, after₂, follows_anew, came, Came, followed}
 
 -- what follows a value that follows two follows the two
 module _ {M : Type 1} {𝓤 : Ura M} (𝓛 : Logic 𝓤) (R S T U : SemTy) (F : S.rep → R.rep) (P : T.rep → U.rep → S.rep) (γ ν γ₁ γ₂ : GName) where
@@ -79,3 +81,46 @@ module _ {M : Type 1} {𝓤 : Ura M} (𝓛 : Logic 𝓤) (R T U : SemTy) (F : R.
       move ! (6 ∷ 0 ∷ 1 ∷ []) $ obor_alter ! tt (Parts γ₁ γ₂) $ use1 𝓛 (‵ (fbor κ (Body T b₁ o₁ γ₁)) ⊛ ‵ (fbor κ (Body U b₂ o₂ γ₂)) ⊛ ‵ ftrue) (id⊢ 𝓤 _) $ split3 ! $
       -- [the first borrow; the second; nothing; the token; after₂; obs γ₁; obs γ₂; after]
       move ! (5 ∷ 0 ∷ []) $ join ! $ move ! (5 ∷ 1 ∷ []) $ join ! $ now ! $ show ! (Took y z) (ν, (γ₁, γ₂)) $ keep ! (1 ∷ 0 ∷ 3 ∷ 5 ∷ 4 ∷ []) $ done !)))
+
+-- The whole stays open while its part, under the name δ, is lent to a call, which says that δ follows m by G. The whole is then closed, and follows a new name of its own type, which follows m.
+module _ {M : Type 1} {𝓤 : Ura M} (𝓛 : Logic 𝓤) (R T : SemTy) (F : R.rep → R.rep) (V : T.rep → R.rep) (G : T.rep → T.rep) (κ : Lft) (q : Share) (b o b' o' : ℕ) (γ δ m : GName) (Rest : SProp 𝓤)
+    (back : (w : T.rep) → ent 𝓤 (sep 𝓤 (sem 𝓛 (T.own_at (G w) b' o')) Rest) (sem 𝓛 (R.own_at (F (V w)) b o))) where
+  open 𝓛 use {H, A}
+
+  abbrev Whole : Fml
+  Whole = Body R b o γ
+
+  abbrev Turned : GName → SProp 𝓤
+  Turned ν = all 𝓤 (λ (w : R.rep). wand 𝓤 (A.auth ν (R.coded.code w)) (A.auth γ (R.coded.code (F w))))
+
+  abbrev Comes : GName → SProp 𝓤
+  Comes ν = all 𝓤 (λ (w : T.rep). wand 𝓤 (A.auth m (T.coded.code w)) (A.auth ν (R.coded.code (V w))))
+
+  late : (ν : GName) → ent 𝓤 (sep 𝓤 Rest (sep 𝓤 (Turned ν) (sep 𝓤 (Comes ν) (sem 𝓛 (after T T δ m G))))) (sem 𝓛 (fwand (fsep (fdead κ) (fseps (Body T b' o' δ ∷ []))) (fupd Whole)))
+  unfolding fseps
+  late ν =
+      qed 𝓛 (raw Rest ∷ raw (Turned ν) ∷ raw (Comes ν) ∷ ‵ (after T T δ m G) ∷ []) ∵ assume ! (‵ (fsep (fdead κ) (fseps (Body T b' o' δ ∷ [])))) $ suffices ! (sem 𝓛 Whole) (upd_i 𝓤 (sem 𝓛 Whole)) $
+      fsplit ! $ drop ! $ fsplit ! $ fpick ! (λ z. fsplit ! $ move ! (1 ∷ 6 ∷ []) $ use2 𝓛 (‵ (fex T.rep (Came 𝓛 T T G m z))) (came 𝓛 T T G δ m z) $ fpick ! (λ w. fsplit ! $ feq_l ! (λ e.
+      -- [auth m; the part; nothing; the rest; the way of ν; that of m]
+      rewrite ! 1 (λ (t : T.rep). ‵ (T.own_at t b' o')) e refl $ move ! (1 ∷ 3 ∷ []) $ use2 𝓛 (‵ (R.own_at (F (V w)) b o)) (back w) $ move ! (4 ∷ []) $
+      use1 𝓛 (raw (wand 𝓤 (A.auth m (T.coded.code w)) (A.auth ν (R.coded.code (V w))))) (all_e 𝓤 (λ (t : T.rep). wand 𝓤 (A.auth m (T.coded.code t)) (A.auth ν (R.coded.code (V t)))) w) $
+      -- [the way of m; the whole; auth m; nothing; the way of ν]
+      move ! (2 ∷ 0 ∷ []) $ use2 𝓛 (‵ (fauth ν (R.coded.code (V w)))) (apply∗ 𝓤 (A.auth m (T.coded.code w)) (A.auth ν (R.coded.code (V w)))) $ move ! (3 ∷ []) $
+      use1 𝓛 (raw (wand 𝓤 (A.auth ν (R.coded.code (V w))) (A.auth γ (R.coded.code (F (V w)))))) (all_e 𝓤 (λ (t : R.rep). wand 𝓤 (A.auth ν (R.coded.code t)) (A.auth γ (R.coded.code (F t)))) (V w)) $
+      move ! (1 ∷ 0 ∷ []) $ use2 𝓛 (‵ (fauth γ (R.coded.code (F (V w))))) (apply∗ 𝓤 (A.auth ν (R.coded.code (V w))) (A.auth γ (R.coded.code (F (V w))))) $
+      move ! (1 ∷ 0 ∷ []) $ fjoin ! $ fpack ! R.rep (λ t. fsep (R.own_at t b o) (fauth γ (R.coded.code t))) (F (V w)) $ keep ! (0 ∷ []) $ done !)))
+
+  abbrev pub Handed : GName → SProp 𝓤
+  Handed ν = sep 𝓤 (A.lft κ q) (sep 𝓤 (sem 𝓛 (after R R γ ν F)) (sem 𝓛 (after R T ν m V)))
+
+  pub hands_on : (n : ℕ) (u v : Gv) (x : R.rep)
+      → ent 𝓤 (sep 𝓤 (aged 𝓤 H A n κ q Whole) (sep 𝓤 (A.obs γ u) (sep 𝓤 (A.auth γ v) (sep 𝓤 (A.lent (deep n κ) (Body T b' o' δ)) (sep 𝓤 (sem 𝓛 (after T T δ m G)) Rest))))) (H.⇛ (ex 𝓤 Handed))
+  hands_on n u v x =
+      qed 𝓛 (raw (aged 𝓤 H A n κ q Whole) ∷ ‵ (fobs γ u) ∷ ‵ (fauth γ v) ∷ ‵ (flent (deep n κ) (Body T b' o' δ)) ∷ ‵ (after T T δ m G) ∷ raw Rest ∷ []) ∵ updating ! $
+      name_new ! tt (R.coded.code x) (λ ν. move ! (3 ∷ 4 ∷ []) $ use2 𝓛 (later (‵ (after R R γ ν F) ⊛ raw (Turned ν))) (follows_anew 𝓛 R R F γ ν u v) $ await ! tt $ split ! $ move ! (2 ∷ 3 ∷ []) $
+      use2 𝓛 (later (‵ (after R T ν m V) ⊛ raw (Comes ν))) (follows_anew 𝓛 R T V ν m (R.coded.code x) (R.coded.code x)) $ await ! tt $ split ! $
+      -- [what ν follows; the way of m; what γ follows; the way of ν; the open borrow; the right to the part's end; what δ follows; the rest]
+      move ! (7 ∷ 3 ∷ 1 ∷ 6 ∷ []) $ group ! 4 $ use1 𝓛 (‵ (fwand (fsep (fdead κ) (fseps (Body T b' o' δ ∷ []))) (fupd Whole))) (late ν) $
+      -- [the way back; what ν follows; what γ follows; the open borrow; the right]
+      use0 𝓛 (raw (wand 𝓤 (A.dead κ) (A.dead κ))) (wand_i 𝓤 (emp 𝓤) (A.dead κ) (A.dead κ) (snd∗ 𝓤 (emp 𝓤) (A.dead κ))) $ move ! (4 ∷ 5 ∷ 1 ∷ 0 ∷ []) $ group ! 4 $
+      use1 𝓛 (later (‵ (flft κ q) ⊛ raw (wand 𝓤 (A.dead κ) (A.bor κ Whole)))) (close_deep 𝓛 n κ κ q Whole (Body T b' o' δ)) $ await ! tt $ split ! $ now ! $ show ! Handed ν $ keep ! (0 ∷ 3 ∷ 2 ∷ []) $ done !)

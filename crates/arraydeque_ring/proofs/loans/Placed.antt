@@ -68,6 +68,12 @@ module _ {X : Type 0} where
   pub as_many-same : (xs ws : List X) → length ws ≡ length xs → as_many xs ws ≡ ws
   as_many-same xs ws e = take_at ws (drop (length ws) xs) (length xs) e
 
+  pub as_many-twice : (xs ws : List X) → as_many xs (as_many xs ws) ≡ as_many xs ws
+  as_many-twice xs ws = as_many-same xs (as_many xs ws) (length-as_many xs ws)
+
+  pub length-with_run : (from : ℕ) (ws : List X) (ps : List (Option X)) → from + length ws ≤ length ps → length (with_run from ws ps) ≡ length ps
+  length-with_run from ws ps within = length-placed from (length ws) (map Some ws) ps within (length-map ws Some)
+
   filled-map_Some : (ws : List X) → filled (map Some ws) ≡ replicate (length ws) true
   filled-map_Some [] = refl
   filled-map_Some (w ∷ ws) = ap (λ l. true ∷ l) (filled-map_Some ws)

@@ -12,10 +12,10 @@ module _ {X : Type 0} where
     pub start : r.start ≡ v.start
     pub steps : r.slots.steps ≡ v.steps
 
-  abbrev view : Inside X → RingState X
+  abbrev pub view : Inside X → RingState X
   view r = record { items = values (turned r.start r.slots.places); capacity = length r.slots.places; start = r.start; steps = r.slots.steps }
 
-  abbrev Kept : Inside X → Type 0
+  abbrev pub Kept : Inside X → Type 0
   Kept r = (r.start ≤ length r.slots.places - 1) × FilledFrom r.start r.len (filled r.slots.places)
 
   -- from the model's invariant and view

@@ -1,0 +1,59 @@
+//! All items of a ring, lent for writing.
+ghost use Rattle.std.specs.Prelude.{◌≡◌, ◌+◌, ◌-◌, ◌≤◌, [], ◌++◌, length, min};
+ghost use Rattle.std.specs.Borrow.{sem};
+ghost use Rattle.arraydeque_ring.specs.Loans.{remaining};
+ghost use Rattle.arraydeque_ring.specs.RingLends.{lends_items, lends_slices, lends_loan};
+
+use super::Ring;
+use crate::iter_mut::IterMut;
+
+impl<T> Ring<T> {
+    /// The items for writing, front to back or back to front.
+    ///
+    /// Whatever is written, there are as many items as before, and they start where they did.
+    #[inline]
+    pub fn iter_mut(&mut self) -> IterMut<'_, T>
+        ensures* writes_back { sem 𝓛 (lends_items T.row self.entry result.name) }
+        ensures value { remaining result ≡ self.old.items }
+    {
+        self.lend()
+    }
+
+    /// The items for writing in two slices: those from the start to the region's end, then the
+    /// wrapped rest.
+    ///
+    /// Whatever is written, there are as many items as before, and they start where they did.
+    #[inline]
+    pub fn as_mut_slices(&mut self) -> (&mut [T], &mut [T])
+        ensures* writes_back { sem 𝓛 (lends_slices T.row self.entry result) }
+        ensures joined { result.0.now ++ result.1.now ≡ self.old.items }
+        ensures one_piece { self.old.start + length self.old.items ≤ self.old.capacity → result.1.now ≡ [] }
+    {
+        self.lend().into_slices()
+    }
+
+    /// The items for writing, as one loan of two slices.
+    ///
+    /// It is for layers above, whose proofs are written by hand: its clause says what
+    /// [`Ring::iter_mut`] says and what [`Ring::as_mut_slices`] says.
+    pub fn lend(&mut self) -> IterMut<'_, T>
+        ensures* writes_back { sem 𝓛 (lends_loan T.row self.entry result) }
+        ensures value { remaining result ≡ self.old.items }
+        ensures one_piece { self.old.start + length self.old.items ≤ self.old.capacity → result.second.now ≡ [] }
+    {
+        let start = self.start;
+        let len = self.len;
+        let first = places_before_end(start, len, self.slots.capacity);
+        let slots = &mut self.slots;
+        slots.lend_two(start, first, 0, len - first)
+    }
+}
+
+/// How many of the `len` places from `start` on come before the end of a region.
+#[inline(always)]
+fn places_before_end(start: usize, len: usize, capacity: usize) -> usize
+    requires { start ≤ capacity }
+    ensures { result ≡ min len (capacity - start) }
+{
+    len.min(capacity - start)
+}
