@@ -1,8 +1,10 @@
 -- One stretch of a scanner's calls after another.
-use Rattle.std.proofs.Common.{◌≡◌, Bool, true, false, true≢false, List, [], ◌∷◌, ◌++◌, Option, Some, None, IfNone, sym, ◌∙◌, ap, subst, append-nil, append_assoc}
+use Rattle.std.proofs.Common.{◌≡◌, Bool, true, false, true≢false, List, [], ◌∷◌, ◌++◌, Option, Some, None, IfNone, refl, sym, ◌∙◌, ap, subst, append-nil, append_assoc}
 use Rattle.std.specs.Iterator.{Yields}
+use Rattle.std.specs.Iterator.Runs.{WholeRun}
+use Rattle.std.proofs.iter.runs.Made.{run, to_end}
 use Rattle.std.specs.Option.{option_to_list}
-use Rattle.arraydeque.specs.Lookahead.{ScannerState, Reads, HandsOut, HasRest, TakesOff}
+use Rattle.arraydeque.specs.Lookahead.{ScannerState, fresh_scanner, Reads, HandsOut, HasRest, TakesOff}
 
 module _ {S A : Type 0} (steps : S → Option A → S → Type 0) where
   Yields-append : (s t u : S) (xs ys : List A) → Yields steps s xs t → Yields steps t ys u → Yields steps s (xs ++ ys) u
@@ -35,6 +37,13 @@ module _ {S A : Type 0} (steps : S → Option A → S → Type 0) where
     (after.1.0, Reads-append old.ended new.ended true old.iter new.iter after.1.0 given.0 after.0 given.1 after.1.1),
     ap (λ l. ys ++ l) after.2 ∙ sym (append_assoc ys new.buffer after.0) ∙ ap (λ l. l ++ after.0) (sym given.2) ∙ append_assoc old.buffer given.0 after.0,
   )
+
+  -- the rest of a fresh scanner is what a whole run of its iterator gives
+  pub WholeRun-fresh : (s : ScannerState S A) (iter : S) → s ≡ fresh_scanner iter → (rest : List A) → HasRest steps s rest → WholeRun steps iter (λ p. p.items ≡ rest)
+  unfolding HasRest
+  WholeRun-fresh s iter fresh rest has =
+      let read = subst (λ t. HasRest steps t rest) fresh has in
+      (run steps iter read.0 true (to_end steps iter read.0 read.1), refl, refl, sym read.2)
 
   -- where no item is handed out and the scanner is spent, it had nothing left
   pub HasRest-none : (old new : ScannerState S A) (item : Option A) → HandsOut steps old (option_to_list item) new → new.buffer ≡ [] → IfNone item (new.ended ≡ true) → IfNone item (HasRest steps old [])

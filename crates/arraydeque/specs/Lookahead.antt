@@ -14,7 +14,7 @@ module _ {S A : Type 0} where
   fresh_scanner iter = record { iter = iter; buffer = []; ended = false }
 
   -- how many items it has left at most, where `remaining` says so of its iterator
-  abbrev pub left_of : (S → Count) → ScannerState S A → Count
+  unfoldable pub left_of : (S → Count) → ScannerState S A → Count
   left_of remaining s =
       count_map (λ n. n + length s.buffer) (count_unless s.ended (remaining s.iter))
 

@@ -1,7 +1,8 @@
 //! Looking ahead in an iterator.
-ghost use Rattle.std.specs.Prelude.{◌≡◌, ◌<◌, ◌-◌, ◌*◌, ◌∷◌, [], List, length, drop, slice_get, option_copied, ⊤, true, IfOk, IfErr, OnOk, OnErr, IsOk, OnSome, IfNone, ◌↔◌};
+ghost use Rattle.std.specs.Prelude.{◌≡◌, ◌<◌, ◌+◌, ◌-◌, ◌*◌, ◌∷◌, [], List, length, drop, slice_get, option_copied, ⊤, true, IfOk, IfErr, OnOk, OnErr, IsOk, OnSome, IfNone, ◌↔◌};
 ghost use Rattle.std.specs.Borrow.{sem};
-ghost use Rattle.std.specs.Iterator.{Drains, MakesProgress};
+ghost use Rattle.std.specs.Iterator.{MakesProgress, count_map};
+ghost use Rattle.std.specs.Iterator.Runs.{WholeRun};
 ghost use Rattle.std.specs.Mem.{type_size};
 ghost use Rattle.std.specs.Option.{option_to_list};
 ghost use Rattle.arraydeque.specs.Lookahead.{fresh_scanner, left_of, Reads, HandsOut, HasRest, TakesOff, PutsOn, Peeks};
@@ -42,12 +43,14 @@ impl<I: Iterator, const CAP: usize> Scanner<I, CAP> {
     ///
     /// It is refused where the region of its buffer is refused; never at capacity 0 or for items of
     /// size zero.
-    #[tactic(auto, unfolding(crate::specs::Lookahead::HasRest))]
+    #[tactic(auto, unfolding(crate::specs::Lookahead::HasRest, crate::specs::Lookahead::left_of))]
     pub fn new(alloc: Global, iter: I) -> Result<Self, MakeError<I>>
         requires { I.can_next iter }
         ensures ok { IfOk result (λ scanner. scanner ≡ fresh_scanner iter) }
         ensures rest { IfOk result (λ scanner. (rest : List I.Item)
-            → HasRest I.next_gives scanner rest → Drains I.next_gives iter rest) }
+            → HasRest I.next_gives scanner rest
+            → WholeRun I.next_gives iter (λ run. run.items ≡ rest)) }
+        ensures left { IfOk result (λ scanner. left_of I.remaining scanner ≡ I.remaining iter) }
         ensures source { IfErr result (λ refusal. refusal.source ≡ iter) }
         ensures refused { OnErr result (0 < CAP * type_size I.Item.row) }
     {
@@ -74,7 +77,7 @@ impl<I: Iterator, const CAP: usize> Scanner<I, CAP> {
     }
 
     /// Takes the next item: the first of the buffer, or the iterator's next where that is empty.
-    #[tactic(auto, unfolding(crate::specs::Lookahead::HasRest))]
+    #[tactic(auto, unfolding(crate::specs::Lookahead::HasRest, crate::specs::Lookahead::left_of))]
     pub fn next(&mut self) -> Option<I::Item>
         ensures hands_out { HandsOut I.next_gives self.old (option_to_list result) self.new }
         ensures rest { TakesOff I.next_gives self.old (option_to_list result) self.new }
@@ -96,12 +99,14 @@ impl<I: Iterator, const CAP: usize> Scanner<I, CAP> {
     }
 
     /// Puts an item back, so that it comes next. A full buffer hands it back and stays as it was.
-    #[tactic(auto, unfolding(crate::specs::Lookahead::HasRest))]
+    #[tactic(auto, unfolding(crate::specs::Lookahead::HasRest, crate::specs::Lookahead::left_of))]
     pub fn unread(&mut self, item: I::Item) -> Result<(), CapacityError<I::Item>>
         ensures room { IsOk result ↔ (length self.old.buffer < CAP) }
         ensures buffer { OnOk result (self.new ≡
             record self.old { buffer = item ∷ self.old.buffer }) }
         ensures rest { OnOk result (PutsOn I.next_gives self.old item self.new) }
+        ensures left { OnOk result (left_of I.remaining self.new
+            ≡ count_map (λ n. n + 1) (left_of I.remaining self.old)) }
         ensures full { IfErr result (λ refusal. refusal.element ≡ item) }
         ensures unchanged { OnErr result (self.new ≡ self.old) }
     {
@@ -109,6 +114,7 @@ impl<I: Iterator, const CAP: usize> Scanner<I, CAP> {
     }
 
     /// Reads on until the buffer has an item at `k`, or the iterator ends.
+    #[tactic(auto, unfolding(crate::specs::Lookahead::left_of))]
     fn fill(&mut self, k: usize)
         requires { k < CAP }
         ensures { Peeks I.next_gives I.remaining self.old k (slice_get self.new.buffer k) self.new }
@@ -125,6 +131,7 @@ impl<I: Iterator, const CAP: usize> Scanner<I, CAP> {
     }
 
     /// Asks the iterator once, unless it has given its first `None`. The buffer is left alone.
+    #[tactic(auto, unfolding(crate::specs::Lookahead::left_of))]
     fn read(&mut self) -> Option<I::Item>
         ensures reads { Reads I.next_gives self.old.ended self.old.iter (option_to_list result)
             self.new.ended self.new.iter }

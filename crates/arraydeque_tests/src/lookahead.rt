@@ -1,7 +1,6 @@
 //! A scanner's answers, and how often it asks its iterator.
 use crate::asked::{Count, Script};
 use arraydeque::lookahead::Scanner;
-use std::alloc::Global;
 use std::cell::Cell;
 use std::process::Abort;
 use std::test::Fail;
@@ -11,6 +10,12 @@ use std::test::Fail;
 struct Watched<'a, I> {
     iter: I,
     asked: &'a Cell<usize>,
+}
+
+impl<'a, I> Watched<'a, I> {
+    fn by(asked: &'a Cell<usize>, iter: I) -> Watched<'a, I> {
+        Watched { iter, asked }
+    }
 }
 
 impl<I: Iterator> Iterator for Watched<'_, I> {
@@ -32,22 +37,14 @@ enum Call {
     Unread(i64),
 }
 
-/// Makes the calls on a scanner over the iterator. With each call stand its answer, which is what comes
-/// back of an `unread`, and how often the iterator was asked by then.
+/// Makes the calls. With each stand its answer, which is what comes back of an `unread`, and how often
+/// the iterator was asked by then.
 fn scans<I: Iterator<Item = i64>, const CAP: usize>(
     rt: &impl Abort,
-    alloc: Global,
-    iter: I,
+    scanner: &mut Scanner<I, CAP>,
+    asked: &Cell<usize>,
     calls: &[(Call, Option<i64>, usize)],
-) -> Result<(), Fail>
-    requires { I.can_next iter }
-{
-    let asked = Cell::new(0);
-    let iter = Watched {
-        iter,
-        asked: &asked,
-    };
-    let mut scanner = Scanner::<Watched<'_, I>, CAP>::new(alloc, iter).map_err(|_| "refused")?;
+) {
     assert_eq!(rt; asked.get(), 0);
     for &(call, answer, times) in calls {
         let got = match call {
@@ -60,7 +57,6 @@ fn scans<I: Iterator<Item = i64>, const CAP: usize>(
         };
         assert_eq!(rt; (got, asked.get()), (answer, times));
     }
-    Ok(())
 }
 
 #[test]
@@ -76,7 +72,11 @@ fn a_scanner_gives_the_input_and_what_was_put_back(rt: HostRuntime) -> Result<()
         (Call::Next, Some(3), 3),
         (Call::Next, None, 4),
     ];
-    scans::<_, 2>(&rt, rt.alloc(), Script::of(&input), &calls)
+    let asked = Cell::new(0);
+    let iter = Watched::by(&asked, Script::of(&input));
+    let mut scanner = Scanner::<_, 2>::new(rt.alloc(), iter).map_err(|_| "refused")?;
+    scans(&rt, &mut scanner, &asked, &calls);
+    Ok(())
 }
 
 #[test]
@@ -87,7 +87,11 @@ fn a_scanner_of_no_capacity_hands_back_each_item(rt: HostRuntime) -> Result<(), 
         (Call::Next, Some(2), 2),
         (Call::Next, None, 3),
     ];
-    scans::<_, 0>(&rt, rt.alloc(), Script::of(&[Some(1), Some(2)]), &calls)
+    let asked = Cell::new(0);
+    let iter = Watched::by(&asked, Script::of(&[Some(1), Some(2)]));
+    let mut scanner = Scanner::<_, 0>::new(rt.alloc(), iter).map_err(|_| "refused")?;
+    scans(&rt, &mut scanner, &asked, &calls);
+    Ok(())
 }
 
 #[test]
@@ -102,7 +106,11 @@ fn a_scanner_asks_no_more_after_the_first_none(rt: HostRuntime) -> Result<(), Fa
         (Call::Next, Some(7), 2),
         (Call::Next, None, 2),
     ];
-    scans::<_, 3>(&rt, rt.alloc(), Script::of(&input), &calls)
+    let asked = Cell::new(0);
+    let iter = Watched::by(&asked, Script::of(&input));
+    let mut scanner = Scanner::<_, 3>::new(rt.alloc(), iter).map_err(|_| "refused")?;
+    scans(&rt, &mut scanner, &asked, &calls);
+    Ok(())
 }
 
 #[test]
@@ -113,5 +121,9 @@ fn a_scanner_asks_for_no_more_than_it_wants(rt: HostRuntime) -> Result<(), Fail>
         (Call::Next, Some(10), 2),
         (Call::Peek(1), Some(12), 3),
     ];
-    scans::<_, 2>(&rt, rt.alloc(), Count::from(10), &calls)
+    let asked = Cell::new(0);
+    let iter = Watched::by(&asked, Count::from(10));
+    let mut scanner = Scanner::<_, 2>::new(rt.alloc(), iter).map_err(|_| "refused")?;
+    scans(&rt, &mut scanner, &asked, &calls);
+    Ok(())
 }

@@ -1,10 +1,12 @@
 use Rattle.std.proofs.Common.{arith, refl, [], ◌∷◌, ◌<◌, length, inl, inr}
 use Rattle.std.proofs.lemmas.Grind.{common_steps}
 use Rattle.std.proofs.lemmas.Option.{slice_get_cases, slice_get_past}
+use Rattle.arraydeque.specs.Lookahead.{left_of}
 use Rattle.arraydeque.proofs.Scanned.{HandsOut-append, TakesOff-from_out}
 use Rattle.arraydeque.proofs.lookahead.Scanner.fill.Goals as goal
 
 pub loop-self-preserved : goal.loop-self-preserved
+unfolding left_of
 loop-self-preserved g c =
     let read = rw (← c.self-in-loop-self.view_is) at c.in-Some.ensures.reads in
     record {
@@ -16,6 +18,7 @@ loop-self-preserved g c =
     }
 
 pub returns-in_default : goal.returns-in_default
+unfolding left_of
 returns-in_default g c =
     let was = c.loop-self.invariant in
     let whole = HandsOut-append g.I.Iterator.next_gives c.args.self.now c.loop-self.self c.read.new.self [] [] was.hands_out ([], c.in_default.ensures.reads, grind (arith, common_steps)) in
