@@ -14,6 +14,8 @@ mod deque;
 #[cfg(test)]
 mod drops;
 #[cfg(test)]
+mod examples;
+#[cfg(test)]
 mod extend;
 #[cfg(test)]
 mod linearize;
