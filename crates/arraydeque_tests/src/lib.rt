@@ -3,17 +3,12 @@
 #![tactic(auto)]
 
 #[cfg(test)]
+use arraydeque_samples::{asked, build};
+
+#[cfg(test)]
 mod access;
 #[cfg(test)]
-mod asked;
-#[cfg(test)]
-mod build;
-#[cfg(test)]
 mod capacities;
-#[cfg(test)]
-mod clones;
-#[cfg(test)]
-mod compared;
 #[cfg(test)]
 mod deque;
 #[cfg(test)]
@@ -22,8 +17,6 @@ mod drops;
 mod extend;
 #[cfg(test)]
 mod linearize;
-#[cfg(test)]
-mod lookahead;
 #[cfg(test)]
 mod makers;
 #[cfg(test)]
