@@ -42,7 +42,7 @@ pub enum Call<T> {
     ExtendBack(Vec<T>),
     /// Adds items at the front, one by one.
     ExtendFront(Vec<T>),
-    /// Adds items at the back while there is room.
+    /// Adds items at the back, in order, as std's trait does.
     Extend(Vec<T>),
     /// Takes out the items from an index up to another.
     Drain(usize, usize),
@@ -156,7 +156,7 @@ impl<T: Drop, const CAP: usize> Answering<T, CAP> for Saturating {
                     Err(refusal) => Reply::Full(refusal),
                 }
             }
-            Call::ExtendBack(elements) => {
+            Call::ExtendBack(elements) | Call::Extend(elements) => {
                 deque.extend_back(elements);
                 Reply::Done
             }
@@ -181,7 +181,7 @@ impl<T: Drop, const CAP: usize> Answering<T, CAP> for Wrapping {
             Call::PushFront(element) => Reply::Displaced(deque.push_front(element)),
             Call::PushBack(element) => Reply::Displaced(deque.push_back(element)),
             Call::Insert(_, element) => Reply::NotOffered(element),
-            Call::ExtendBack(elements) => {
+            Call::ExtendBack(elements) | Call::Extend(elements) => {
                 deque.extend_back(elements);
                 Reply::Done
             }
@@ -228,10 +228,6 @@ impl<T: Drop, const CAP: usize, B: Behavior> ArrayDeque<T, CAP, B> {
                 self.linearize();
                 Reply::Done
             }
-            Call::Extend(elements) => {
-                self.fill_back(elements);
-                Reply::Done
-            }
             Call::Drain(from, to) => {
                 if from > to || to > self.len() {
                     return Reply::OutOfRange(None);
@@ -258,7 +254,8 @@ impl<T: Drop, const CAP: usize, B: Behavior> ArrayDeque<T, CAP, B> {
             | Call::PushBack(_)
             | Call::Insert(_, _)
             | Call::ExtendBack(_)
-            | Call::ExtendFront(_) => unreachable!(),
+            | Call::ExtendFront(_)
+            | Call::Extend(_) => unreachable!(),
         }
     }
 }
