@@ -1,5 +1,5 @@
-//! How often calls ask for memory, and for how much. The name of each test ends in the requests that
-//! it makes and the bytes that it takes; it gives all of them back.
+//! How often calls ask for memory, and for how much. The name of each test ends in the requests
+//! that it makes and the bytes that it takes; it gives all of them back.
 use crate::build::{deque_at, holds, made};
 use arraydeque::{ArrayDeque, Saturating, Wrapping};
 use std::test::Fail;
