@@ -43,7 +43,7 @@ pub enum Call<T> {
     ExtendBack(Vec<T>),
     /// Adds items at the front, one by one.
     ExtendFront(Vec<T>),
-    /// Adds items at the back while there is room.
+    /// Adds items at the back, in order, as std's trait does.
     Extend(Vec<T>),
     /// Takes out the items from an index up to another.
     Drain(usize, usize),
@@ -143,7 +143,7 @@ impl<T: Drop, const CAP: usize> Answering<T, CAP> for Saturating {
             Call::PushFront(element) => deque.answer_push_front(element),
             Call::PushBack(element) => deque.answer_push_back(element),
             Call::Insert(index, element) => deque.answer_insert(index, element),
-            Call::ExtendBack(elements) => {
+            Call::ExtendBack(elements) | Call::Extend(elements) => {
                 deque.extend_back(elements);
                 Reply::Done
             }
@@ -209,7 +209,7 @@ impl<T: Drop, const CAP: usize> Answering<T, CAP> for Wrapping {
             Call::PushFront(element) => Reply::Displaced(deque.push_front(element)),
             Call::PushBack(element) => Reply::Displaced(deque.push_back(element)),
             Call::Insert(_, element) => Reply::NotOffered(element),
-            Call::ExtendBack(elements) => {
+            Call::ExtendBack(elements) | Call::Extend(elements) => {
                 deque.extend_back(elements);
                 Reply::Done
             }
@@ -246,10 +246,6 @@ impl<T: Drop, const CAP: usize, B: Behavior> ArrayDeque<T, CAP, B> {
                 self.linearize();
                 Reply::Done
             }
-            Call::Extend(elements) => {
-                self.fill_back(elements);
-                Reply::Done
-            }
             Call::Drain(from, to) => self.answer_drain(from, to),
             Call::SplitOff(at) => self.answer_split_off(at),
             Call::Len => Reply::Number(self.len()),
@@ -260,9 +256,11 @@ impl<T: Drop, const CAP: usize, B: Behavior> ArrayDeque<T, CAP, B> {
             | Call::PushBack(_)
             | Call::Insert(_, _)
             | Call::ExtendBack(_)
-            | Call::ExtendFront(_) => unreachable!(),
+            | Call::ExtendFront(_)
+            | Call::Extend(_) => unreachable!(),
         }
     }
+
     /// An exchange of two items, where both are there.
     fn answer_swap(&mut self, i: usize, j: usize) -> Reply<T, CAP, B>
         ensures answers { (p : Policy) →

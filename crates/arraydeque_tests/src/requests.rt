@@ -95,7 +95,7 @@ fn extends_1_request_32_bytes(rt: HostRuntime) -> Result<(), Fail> {
     deque.extend_front([7]);
     deque.extend([8])?;
     let deque: ArrayDeque<i64, 4, Saturating> = deque.into();
-    assert!(rt; holds(&deque, &[7, 2, 3, 5]));
+    assert!(rt; holds(&deque, &[2, 3, 5, 8]));
     Ok(())
 }
 

@@ -155,6 +155,17 @@ fn good_runs(rt: HostRuntime) -> Result<(), Fail> {
               split_off 0\nsplit_off 0\nlen\n",
             b"none\n1\n2\nok\nok\n[7]\n[]\n0\nlist: []\n",
         ),
+        (
+            "wrap 3",
+            b"extend_back 1 2\nextend 3 4 5\n",
+            b"ok\nok\nlist: [3, 4, 5]\n",
+        ),
+        (
+            "sat 3",
+            b"extend_back 1 2\nextend 3 4 5\n",
+            b"ok\nok\nlist: [1, 2, 3]\n",
+        ),
+        ("wrap 0", b"extend 1 2\n", b"ok\nlist: []\n"),
         ("wrap 2", b"capacity\n", b"2\nlist: []\n"),
         ("wrap 5", b"capacity\n", b"5\nlist: []\n"),
         ("wrap 7", b"capacity\n", b"7\nlist: []\n"),

@@ -1,14 +1,5 @@
-use Rattle.std.proofs.Common.{refl, ap}
-use Rattle.std.specs.Vec.Iter.{into_iter_items}
-use Rattle.arraydeque.specs.Deque.{DequeState}
 use Rattle.arraydeque.proofs.Exchanges.{back_costs, front_costs}
-use Rattle.arraydeque.proofs.Taken.{TakesFrom-list}
 use Rattle.arraydeque.proofs.deque.ArrayDeque.answer_alike.Goals as goal
-
-pub returns-in-Extend-clause-answers : goal.returns-in-Extend-clause-answers
-returns-in-Extend-clause-answers g c p =
-    let added = TakesFrom-list _ _ _ _ c.in-Extend.elements.items into_iter_items _ c.fill_back.ensures (λ it became. (became.0, became.3)) in
-    rw c.in-Extend.is (refl, ap (λ (d : DequeState g.row.T.Denot). d.items) added)
 
 pub returns-in-SwapRemoveBack-clause-costs : goal.returns-in-SwapRemoveBack-clause-costs
 returns-in-SwapRemoveBack-clause-costs g c =
