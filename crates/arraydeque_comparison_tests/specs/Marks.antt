@@ -1,4 +1,5 @@
--- How marks compare. A mark is a number, or `None`, which is equal to nothing and in no order with anything.
+-- How marks compare. A mark is a number, or `None`, which is equal to nothing and in no order with
+-- anything.
 use Rattle.std.specs.Prelude.{◌≡◌, ℤ, Bool, true, false, Option, Some, None, refl}
 use Rattle.std.specs.Bool.{Decides}
 use Rattle.std.specs.Cmp.{IsPartialEquivalence, IsPartialOrder, partial_equiv_from_equiv, int_eq_equiv, signed_po}

@@ -37,8 +37,8 @@ enum Call {
     Unread(i64),
 }
 
-/// Makes the calls. With each stand its answer, which is what comes back of an `unread`, and how often
-/// the iterator was asked by then.
+/// Makes the calls. With each stand its answer, which is what comes back of an `unread`, and how
+/// often the iterator was asked by then.
 fn scans<I: Iterator<Item = i64>, const CAP: usize>(
     rt: &impl Abort,
     scanner: &mut Scanner<I, CAP>,

@@ -1,4 +1,5 @@
-//! What may cross threads: a deque, what was drained from one, and the errors, where their items may.
+//! What may cross threads: a deque, what was drained from one, and the errors, where their items
+//! may.
 use crate::build::holds;
 use arraydeque::behavior::Behavior;
 use arraydeque::{ArrayDeque, CapacityError, Drain, MakeError, Saturating, Wrapping};

@@ -27,7 +27,8 @@ impl<T> Ring<T> {
     pub fn as_mut_slices(&mut self) -> (&mut [T], &mut [T])
         ensures* writes_back { sem 𝓛 (lends_slices T.row self.entry result) }
         ensures joined { result.0.now ++ result.1.now ≡ self.old.items }
-        ensures one_piece { self.old.start + length self.old.items ≤ self.old.capacity → result.1.now ≡ [] }
+        ensures one_piece { self.old.start + length self.old.items ≤ self.old.capacity
+            → result.1.now ≡ [] }
     {
         self.lend().into_slices()
     }
@@ -39,7 +40,8 @@ impl<T> Ring<T> {
     pub fn lend(&mut self) -> IterMut<'_, T>
         ensures* writes_back { sem 𝓛 (lends_loan T.row self.entry result) }
         ensures value { remaining result ≡ self.old.items }
-        ensures one_piece { self.old.start + length self.old.items ≤ self.old.capacity → result.second.now ≡ [] }
+        ensures one_piece { self.old.start + length self.old.items ≤ self.old.capacity
+            → result.second.now ≡ [] }
     {
         let start = self.start;
         let len = self.len;

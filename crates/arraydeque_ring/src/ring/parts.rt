@@ -1,4 +1,5 @@
-//! Parts of a ring that become rings of their own: the items of a range, and those from an index on.
+//! Parts of a ring that become rings of their own: the items of a range, and those from an index
+//! on.
 ghost use Rattle.std.specs.Prelude.{◌≡◌, ◌-◌, ◌+◌, ◌*◌, ◌<◌, ◌≤◌, ◌++◌, length, take, drop, slice_range, min, nat_lt, if◌then◌else◌, IfOk, OnOk, OnErr};
 ghost use Rattle.std.specs.List.{remove_range};
 ghost use Rattle.std.specs.Mem.{type_size};

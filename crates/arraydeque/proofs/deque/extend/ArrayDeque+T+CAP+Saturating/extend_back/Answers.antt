@@ -1,5 +1,5 @@
 use Rattle.arraydeque.proofs.Taken.{TakesFrom-loop}
-use Rattle.arraydeque.proofs.deque.ArrayDeque.fill_back.Goals as goal
+use Rattle.arraydeque.proofs.deque.extend.ArrayDeque+T+CAP+Saturating.extend_back.Goals as goal
 
 pub returns : goal.returns
 returns g c =

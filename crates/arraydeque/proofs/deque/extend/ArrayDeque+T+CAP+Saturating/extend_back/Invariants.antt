@@ -1,7 +1,7 @@
 use Rattle.std.proofs.Common.{◌≡◌, ◌+◌, ◌-◌, ◌++◌, length}
 use Rattle.std.specs.Iterator.Adapters.{take_count}
 use Rattle.arraydeque_ring.specs.Steps.{more_puts}
-use Rattle.arraydeque.proofs.deque.ArrayDeque.fill_back.Given as goal
+use Rattle.arraydeque.proofs.deque.extend.ArrayDeque+T+CAP+Saturating.extend_back.Given as goal
 
 abbrev pub invariant-loop-element : goal.invariant-loop-element
 invariant-loop-element g l = record {

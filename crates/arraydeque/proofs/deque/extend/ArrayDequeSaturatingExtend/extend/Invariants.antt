@@ -1,6 +1,6 @@
 use Rattle.std.proofs.Common.{◌≡◌, ◌-◌, length, take}
 use Rattle.arraydeque.specs.Deque.{with_back}
-use Rattle.arraydeque.proofs.deque.extend.ArrayDequeExtend.extend.Given as goal
+use Rattle.arraydeque.proofs.deque.extend.ArrayDequeSaturatingExtend.extend.Given as goal
 
 abbrev pub invariant-loop-element : goal.invariant-loop-element
 invariant-loop-element g l = record {

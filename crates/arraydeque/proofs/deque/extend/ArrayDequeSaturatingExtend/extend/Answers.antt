@@ -1,5 +1,5 @@
 use Rattle.arraydeque.proofs.Taken.{TakesAll-loop}
-use Rattle.arraydeque.proofs.deque.extend.ArrayDequeExtend.extend.Goals as goal
+use Rattle.arraydeque.proofs.deque.extend.ArrayDequeSaturatingExtend.extend.Goals as goal
 
 pub returns-clause-taken : goal.returns-clause-taken
 returns-clause-taken g c =
