@@ -7,6 +7,8 @@ mod access;
 #[cfg(test)]
 mod asked;
 #[cfg(test)]
+mod boasts;
+#[cfg(test)]
 mod build;
 #[cfg(test)]
 mod capacities;
@@ -14,6 +16,10 @@ mod capacities;
 mod clones;
 #[cfg(test)]
 mod compared;
+#[cfg(test)]
+mod copies;
+#[cfg(test)]
+mod counted;
 #[cfg(test)]
 mod deque;
 #[cfg(test)]
@@ -40,6 +46,8 @@ mod requests;
 mod retain;
 #[cfg(test)]
 mod sent;
+#[cfg(test)]
+mod small;
 #[cfg(test)]
 mod steps;
 #[cfg(test)]
