@@ -3,23 +3,12 @@
 #![tactic(auto)]
 
 #[cfg(test)]
+use arraydeque_samples::{asked, build};
+
+#[cfg(test)]
 mod access;
 #[cfg(test)]
-mod asked;
-#[cfg(test)]
-mod boasts;
-#[cfg(test)]
-mod build;
-#[cfg(test)]
 mod capacities;
-#[cfg(test)]
-mod clones;
-#[cfg(test)]
-mod compared;
-#[cfg(test)]
-mod copies;
-#[cfg(test)]
-mod counted;
 #[cfg(test)]
 mod deque;
 #[cfg(test)]
@@ -28,8 +17,6 @@ mod drops;
 mod extend;
 #[cfg(test)]
 mod linearize;
-#[cfg(test)]
-mod lookahead;
 #[cfg(test)]
 mod makers;
 #[cfg(test)]
@@ -46,8 +33,6 @@ mod requests;
 mod retain;
 #[cfg(test)]
 mod sent;
-#[cfg(test)]
-mod small;
 #[cfg(test)]
 mod steps;
 #[cfg(test)]

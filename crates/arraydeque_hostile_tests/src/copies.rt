@@ -1,7 +1,7 @@
 //! What is made of a deque, and what a deque is made of, at each start and length of small
 //! capacities. Nothing is refused.
-use crate::build::{deque_at, holds, made, numbers, wrapping_at};
 use arraydeque::{ArrayDeque, Saturating, Wrapping};
+use arraydeque_samples::build::{deque_at, holds, made, numbers, wrapping_at};
 use std::alloc::Global;
 use std::process::Abort;
 use std::test::Fail;

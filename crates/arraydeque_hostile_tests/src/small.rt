@@ -1,8 +1,8 @@
 //! The smallest capacities, where `capacities` leaves off: iterators, comparisons, copies, and one item
 //! in one place. Then a region of the most places.
-use crate::build::{deque_at, holds, is_cut, made, wrapping_at};
 use arraydeque::behavior::Behavior;
 use arraydeque::{ArrayDeque, Saturating, Wrapping};
+use arraydeque_samples::build::{deque_at, holds, is_cut, made, wrapping_at};
 use std::cmp::Ordering;
 use std::process::Abort;
 use std::test::Fail;

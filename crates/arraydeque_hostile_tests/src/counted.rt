@@ -1,10 +1,10 @@
 //! How often further calls ask for memory, and for how much. The name of each test ends in the requests
 //! that it makes and the bytes that it takes; it gives all of them back.
-use crate::asked::Script;
-use crate::build::{deque_at, holds, is_cut, made};
 use arraydeque::lookahead::Scanner;
 use arraydeque::run::Call;
 use arraydeque::{ArrayDeque, RangeArgument, Saturating, Wrapping};
+use arraydeque_samples::asked::Script;
+use arraydeque_samples::build::{deque_at, holds, is_cut, made};
 use std::cmp::Ordering;
 use std::hash::{DefaultHasher, Hash, Hasher};
 use std::test::Fail;

@@ -2,8 +2,8 @@
 ghost use Rattle.std.specs.Prelude.{◌+◌, ◌^◌, length};
 ghost use Rattle.std.specs.Iterator.{at_most};
 
-use crate::build::{deque_at, holds, made, wrapping_at};
 use arraydeque::{ArrayDeque, Saturating, Wrapping};
+use arraydeque_samples::build::{deque_at, holds, made, wrapping_at};
 use std::alloc::Global;
 use std::test::Fail;
 
