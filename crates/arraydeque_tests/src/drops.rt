@@ -1,4 +1,6 @@
 //! Which items are dropped, and in which order.
+mod handed_out;
+
 use crate::build::made;
 use arraydeque::run::Call;
 use arraydeque::{ArrayDeque, Saturating, Wrapping};

@@ -362,3 +362,74 @@ fn failing_faults(rt: HostRuntime) -> Result<(), Fail> {
     }
     Ok(())
 }
+
+/// A stream whose calls stop short at one offset of all that it moves.
+#[derive(Drop)]
+struct Short<S> {
+    stream: S,
+    left: usize,
+}
+
+impl<S> Short<S> {
+    /// How many bytes the next call moves, of so many: none beyond the offset, until that is reached.
+    fn count(&mut self, len: usize) -> usize {
+        let count = if self.left == 0 {
+            len
+        } else {
+            len.min(self.left)
+        };
+        self.left = self.left.saturating_sub(count);
+        count
+    }
+}
+
+impl<S: Read> Read for Short<S> {
+    fn read(&mut self, buffer: &mut [u8]) -> io::Result<usize> {
+        let count = self.count(buffer.len()).min(buffer.len());
+        self.stream.read(&mut buffer[..count])
+    }
+}
+
+impl<S: Write> Write for Short<S> {
+    fn write(&mut self, buffer: &[u8]) -> io::Result<usize> {
+        let count = self.count(buffer.len()).min(buffer.len());
+        self.stream.write(&buffer[..count])
+    }
+
+    fn flush(&mut self) -> io::Result<()> {
+        self.stream.flush()
+    }
+}
+
+#[test]
+fn short_reads(rt: HostRuntime) -> Result<(), Fail> {
+    for left in 0..=CALLS.len() {
+        let input = Short {
+            stream: CALLS,
+            left,
+        };
+        let end = run(rt.alloc(), "sat 3", input)?;
+        assert!(rt; end.is(0, REPLIES, b""), "{left}: {end:?}");
+    }
+    Ok(())
+}
+
+#[test]
+fn short_writes(rt: HostRuntime) -> Result<(), Fail> {
+    let alloc = rt.alloc();
+    let args = words(alloc, "sat 3")?;
+    for left in 0..=REPLIES.len() {
+        let mut end = End {
+            status: 0,
+            output: Vec::new(alloc),
+            faults: Vec::new(alloc),
+        };
+        let output = Short {
+            stream: &mut end.output,
+            left,
+        };
+        end.status = drive(alloc, args.as_slice(), CALLS, output, &mut end.faults);
+        assert!(rt; end.is(0, REPLIES, b""), "{left}: {end:?}");
+    }
+    Ok(())
+}
