@@ -1,3 +1,4 @@
+mod Examples
 pub mod loans
 pub mod memory
 pub mod moved
