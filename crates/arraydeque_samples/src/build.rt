@@ -5,7 +5,7 @@ use std::alloc::{AllocError, Global};
 use std::test::Fail;
 
 /// A deque of `items`, the first of which stands at the place `start`.
-pub(crate) fn deque_at<const CAP: usize>(
+pub fn deque_at<const CAP: usize>(
     alloc: Global,
     start: usize,
     items: &[i64],
@@ -22,7 +22,7 @@ pub(crate) fn deque_at<const CAP: usize>(
 }
 
 /// The same under the policy that displaces.
-pub(crate) fn wrapping_at<const CAP: usize>(
+pub fn wrapping_at<const CAP: usize>(
     alloc: Global,
     start: usize,
     items: &[i64],
@@ -31,12 +31,12 @@ pub(crate) fn wrapping_at<const CAP: usize>(
 }
 
 /// The numbers from 0 on, `len` of them.
-pub(crate) fn numbers(alloc: Global, len: usize) -> Result<Vec<i64>, AllocError> {
+pub fn numbers(alloc: Global, len: usize) -> Result<Vec<i64>, AllocError> {
     (0..i64::MAX).take(len).collect(alloc)
 }
 
 /// Whether the two slices, joined, are `items`.
-pub(crate) fn holds<T: PartialEq, const CAP: usize, B: Behavior>(
+pub fn holds<T: PartialEq, const CAP: usize, B: Behavior>(
     deque: &ArrayDeque<T, CAP, B>,
     items: &[T],
 ) -> bool {
@@ -48,7 +48,7 @@ pub(crate) fn holds<T: PartialEq, const CAP: usize, B: Behavior>(
 }
 
 /// Whether the two slices are these.
-pub(crate) fn is_cut<const CAP: usize, B: Behavior>(
+pub fn is_cut<const CAP: usize, B: Behavior>(
     deque: &ArrayDeque<i64, CAP, B>,
     first: &[i64],
     second: &[i64],
@@ -58,6 +58,6 @@ pub(crate) fn is_cut<const CAP: usize, B: Behavior>(
 }
 
 /// What was made, or a failure where memory was refused.
-pub(crate) fn made<T, S: Drop>(made: Result<T, MakeError<S>>) -> Result<T, Fail> {
+pub fn made<T, S: Drop>(made: Result<T, MakeError<S>>) -> Result<T, Fail> {
     Ok(made.map_err(|_| "refused")?)
 }

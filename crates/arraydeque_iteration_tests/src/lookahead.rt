@@ -1,6 +1,6 @@
 //! A scanner's answers, and how often it asks its iterator.
-use crate::asked::{Count, Script};
 use arraydeque::lookahead::Scanner;
+use arraydeque_samples::asked::{Count, Script};
 use std::cell::Cell;
 use std::process::Abort;
 use std::test::Fail;

@@ -1,8 +1,8 @@
 //! Clones of deques, and of items that refuse theirs.
 ghost use Rattle.std.specs.Prelude.{◌≡◌};
 
-use crate::build::{deque_at, holds};
 use arraydeque::{ArrayDeque, Saturating};
+use arraydeque_samples::build::{deque_at, holds};
 use std::alloc::{AllocError, Global};
 use std::cell::{Cell, RefCell};
 use std::process::Abort;

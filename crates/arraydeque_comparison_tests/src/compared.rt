@@ -1,10 +1,10 @@
 //! Equality, order, hashes and texts.
 ghost use Rattle.std.specs.Cmp.{on_per, on_po};
-ghost use Rattle.arraydeque_tests.specs.Marks.{marks_eq, marks_partial_cmp, marks_per, marks_po};
+ghost use Rattle.arraydeque_comparison_tests.specs.Marks.{marks_eq, marks_partial_cmp, marks_per, marks_po};
 
-use crate::build::{deque_at, numbers, wrapping_at};
 use arraydeque::behavior::Behavior;
 use arraydeque::{ArrayDeque, CapacityError, MakeError, Saturating, Wrapping};
+use arraydeque_samples::build::{deque_at, numbers, wrapping_at};
 use std::alloc::{AllocError, Global};
 use std::cell::RefCell;
 use std::cmp::Ordering;

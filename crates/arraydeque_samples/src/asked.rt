@@ -4,14 +4,14 @@ ghost use Rattle.std.specs.Iterator.{at_most};
 
 /// Counts upwards without end.
 #[derive(Drop)]
-pub(crate) struct Count {
+pub struct Count {
     next: i64,
-    pub(crate) asked: usize,
+    pub asked: usize,
 }
 
 impl Count {
     /// The count from `next` on, not asked yet.
-    pub(crate) fn from(next: i64) -> Count {
+    pub fn from(next: i64) -> Count {
         Count { next, asked: 0 }
     }
 }
@@ -29,14 +29,14 @@ impl Iterator for Count {
 
 /// Gives the answers that it was made with, a `None` among them too, and `None` ever after.
 #[derive(Drop)]
-pub(crate) struct Script<'a> {
+pub struct Script<'a> {
     rest: &'a [Option<i64>],
-    pub(crate) asked: usize,
+    pub asked: usize,
 }
 
 impl<'a> Script<'a> {
     /// An iterator that gives these answers, and `None` after them.
-    pub(crate) fn of(answers: &'a [Option<i64>]) -> Script<'a> {
+    pub fn of(answers: &'a [Option<i64>]) -> Script<'a> {
         Script {
             rest: answers,
             asked: 0,
