@@ -17,9 +17,11 @@ impl<T, const CAP: usize> ArrayDeque<T, CAP, Saturating> {
             (CAP - length self.old.items) (λ xs. self.new ≡ with_back xs self.old) }
     {
         let room = self.room();
+        let mut ring = self.ring.moved_out();
         for element in iter.into_iter().take(room) {
-            self.ring.push_back(element);
+            ring.push_back(element);
         }
+        self.ring.move_in(ring);
     }
 
     /// Adds items before the first one while there is room, so that the last one taken comes to
@@ -31,9 +33,11 @@ impl<T, const CAP: usize> ArrayDeque<T, CAP, Saturating> {
             (CAP - length self.old.items) (λ xs. self.new ≡ with_front CAP xs self.old) }
     {
         let room = self.room();
+        let mut ring = self.ring.moved_out();
         for element in iter.into_iter().take(room) {
-            self.ring.push_front(element);
+            ring.push_front(element);
         }
+        self.ring.move_in(ring);
     }
 
     /// How many more items there may be.
@@ -57,9 +61,11 @@ impl<T: Drop, const CAP: usize> ArrayDeque<T, CAP, Wrapping> {
     {
         // That the list is within the capacity is what `len` promises.
         let _len = self.len();
+        let mut deque = Self::of(self.ring.moved_out());
         for element in iter {
-            drop(self.push_back(element));
+            drop(deque.push_back(element));
         }
+        self.ring.move_in(deque.into_ring());
     }
 
     /// Pushes each item of an iterator that ends before the first one, so that the last one comes
@@ -75,9 +81,11 @@ impl<T: Drop, const CAP: usize> ArrayDeque<T, CAP, Wrapping> {
     {
         // That the list is within the capacity is what `len` promises.
         let _len = self.len();
+        let mut deque = Self::of(self.ring.moved_out());
         for element in iter {
-            drop(self.push_front(element));
+            drop(deque.push_front(element));
         }
+        self.ring.move_in(deque.into_ring());
     }
 }
 
