@@ -59,8 +59,8 @@ fn clones_and_vectors_of_every_start_and_length(rt: HostRuntime) -> Result<(), F
     Ok(())
 }
 
-/// Whether the deques of an iterator and of a vector, under either policy, have the first or the last
-/// items of it.
+/// Whether the deques of an iterator and of a vector, under either policy, have the first or the
+/// last items of it.
 fn made_alike<const CAP: usize>(alloc: Global, len: usize) -> Result<bool, Fail> {
     let list = numbers(alloc, len)?;
     let (first, _) = list.split_at(list.len().min(CAP));

@@ -1,5 +1,5 @@
-//! How often further calls ask for memory, and for how much. The name of each test ends in the requests
-//! that it makes and the bytes that it takes; it gives all of them back.
+//! How often further calls ask for memory, and for how much. The name of each test ends in the
+//! requests that it makes and the bytes that it takes; it gives all of them back.
 use arraydeque::lookahead::Scanner;
 use arraydeque::run::Call;
 use arraydeque::{ArrayDeque, RangeArgument, Saturating, Wrapping};

@@ -1,5 +1,5 @@
-//! Tests of the deque at its smallest and largest, with iterators that boast, and of the memory that its
-//! calls ask for; there is nothing here to call.
+//! Tests of the deque at its smallest and largest, with iterators that boast, and of the memory
+//! that its calls ask for; there is nothing here to call.
 #![tactic(auto)]
 
 #[cfg(test)]

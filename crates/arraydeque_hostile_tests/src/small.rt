@@ -1,5 +1,5 @@
-//! The smallest capacities, where `capacities` leaves off: iterators, comparisons, copies, and one item
-//! in one place. Then a region of the most places.
+//! The smallest capacities, beyond an empty deque's calls: iterators, comparisons, copies, and one
+//! item in one place. Then a region of the most places.
 use arraydeque::behavior::Behavior;
 use arraydeque::{ArrayDeque, Saturating, Wrapping};
 use arraydeque_samples::build::{deque_at, holds, is_cut, made, wrapping_at};
