@@ -7,6 +7,8 @@ mod capacities;
 #[cfg(test)]
 mod linearize;
 #[cfg(test)]
+mod moves;
+#[cfg(test)]
 mod ring;
 #[cfg(test)]
 mod slots;

@@ -1,0 +1,200 @@
+//! Items that move across the region's end, in rings of items of every size.
+use arraydeque_ring::ring::Ring;
+use std::alloc::Global;
+use std::process::Abort;
+use std::test::Fail;
+
+/// Items that are told apart by a number, where they take any bytes.
+trait Numbered: Drop {
+    fn of(number: u8) -> Self;
+
+    fn number(&self) -> u8;
+}
+
+impl Numbered for () {
+    fn of(_number: u8) {}
+
+    fn number(&self) -> u8 {
+        0
+    }
+}
+
+impl Numbered for u8 {
+    fn of(number: u8) -> u8 {
+        number
+    }
+
+    fn number(&self) -> u8 {
+        *self
+    }
+}
+
+impl Numbered for u64 {
+    fn of(number: u8) -> u64 {
+        u64::from(number) << 56 | u64::from(number)
+    }
+
+    fn number(&self) -> u8 {
+        let [first, .., last] = self.to_be_bytes();
+        if first == last { first } else { u8::MAX }
+    }
+}
+
+/// An item of 24 bytes.
+#[derive(Drop)]
+struct Three {
+    words: [u64; 3],
+}
+
+impl Numbered for Three {
+    fn of(number: u8) -> Three {
+        Three {
+            words: [u64::of(number); 3],
+        }
+    }
+
+    fn number(&self) -> u8 {
+        let [first, _, last] = self.words;
+        if first == last {
+            first.number()
+        } else {
+            u8::MAX
+        }
+    }
+}
+
+/// An item of 200 bytes.
+#[derive(Drop)]
+struct Wide {
+    bytes: [u8; 200],
+}
+
+impl Numbered for Wide {
+    fn of(number: u8) -> Wide {
+        Wide {
+            bytes: [number; 200],
+        }
+    }
+
+    fn number(&self) -> u8 {
+        let [first, .., last] = self.bytes;
+        if first == last { first } else { u8::MAX }
+    }
+}
+
+/// Whether the ring holds items of the numbers in these runs, each from its first up to its end.
+fn holds<T: Numbered>(ring: &Ring<T>, runs: &[(u8, u8)]) -> bool {
+    let len = ring.len();
+    let mut index = 0;
+    for &(from, to) in runs {
+        for number in from..to {
+            if index >= len || !has_at(ring, index, T::of(number)) {
+                return false;
+            }
+            index += 1;
+        }
+    }
+    index == len
+}
+
+/// Whether the item at an index has the number of another item.
+fn has_at<T: Numbered>(ring: &Ring<T>, index: usize, item: T) -> bool {
+    match ring.get(index) {
+        Some(held) => held.number() == item.number(),
+        None => false,
+    }
+}
+
+/// A ring whose `len` items are numbered from 0 on, and stand from the place `start` on.
+fn ring_at<T: Numbered>(
+    rt: &impl Abort,
+    alloc: Global,
+    capacity: usize,
+    start: u8,
+    len: u8,
+) -> Result<Ring<T>, Fail> {
+    let mut ring = Ring::<T>::new(alloc, capacity)?;
+    for _ in 0..start {
+        assert!(rt; ring.len() < ring.capacity());
+        ring.push_back(T::of(0));
+        ring.pop_front();
+    }
+    for number in 0..len {
+        assert!(rt; ring.len() < ring.capacity());
+        ring.push_back(T::of(number));
+    }
+    Ok(ring)
+}
+
+/// Inserts an item, and takes it out again.
+fn insert_and_remove<T: Numbered>(rt: &impl Abort, mut ring: Ring<T>, index: u8, len: u8) {
+    assert!(rt; usize::from(index) <= ring.len() && ring.len() < ring.capacity());
+    ring.insert(usize::from(index), T::of(99));
+    assert!(rt;
+        holds(&ring, &[(0, index), (99, 100), (index, len)]),
+        "insert at {index}"
+    );
+    assert!(rt; usize::from(index) < ring.len());
+    let item = ring.remove(usize::from(index));
+    assert_eq!(rt; item.number(), T::of(99).number());
+    assert!(rt; holds(&ring, &[(0, len)]), "remove at {index}");
+}
+
+/// Drains the items from one index up to another.
+fn drain_between<T: Numbered>(
+    rt: &impl Abort,
+    mut ring: Ring<T>,
+    from: u8,
+    to: u8,
+    len: u8,
+) -> Result<(), Fail> {
+    assert!(rt; from <= to && usize::from(to) <= ring.len());
+    let drained = ring.drain(usize::from(from), usize::from(to))?;
+    assert!(rt; holds(&drained, &[(from, to)]), "drain {from}..{to}");
+    assert!(rt; holds(&ring, &[(0, from), (to, len)]), "drain {from}..{to}");
+    Ok(())
+}
+
+/// Inserts, removes and drains at each index of a list of six that starts at each of eight places.
+fn move_across_the_end<T: Numbered>(rt: &impl Abort, alloc: Global) -> Result<(), Fail> {
+    for start in 0..8 {
+        for from in 0..=6 {
+            insert_and_remove(rt, ring_at::<T>(rt, alloc, 8, start, 6)?, from, 6);
+            for to in from..=6 {
+                drain_between(rt, ring_at::<T>(rt, alloc, 8, start, 6)?, from, to, 6)?;
+            }
+        }
+    }
+    Ok(())
+}
+
+#[test]
+fn items_of_every_size_move_across_the_end(rt: HostRuntime) -> Result<(), Fail> {
+    move_across_the_end::<()>(&rt, rt.alloc())?;
+    move_across_the_end::<u8>(&rt, rt.alloc())?;
+    move_across_the_end::<u64>(&rt, rt.alloc())?;
+    move_across_the_end::<Three>(&rt, rt.alloc())?;
+    move_across_the_end::<Wide>(&rt, rt.alloc())
+}
+
+#[test]
+fn long_runs_move_across_the_end(rt: HostRuntime) -> Result<(), Fail> {
+    for start in [0, 20, 60] {
+        for index in [25, 33, 40] {
+            insert_and_remove(
+                &rt,
+                ring_at::<Three>(&rt, rt.alloc(), 70, start, 66)?,
+                index,
+                66,
+            );
+            drain_between(
+                &rt,
+                ring_at::<Wide>(&rt, rt.alloc(), 70, start, 66)?,
+                20,
+                index,
+                66,
+            )?;
+        }
+    }
+    Ok(())
+}
