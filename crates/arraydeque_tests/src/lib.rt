@@ -21,6 +21,8 @@ mod drops;
 #[cfg(test)]
 mod extend;
 #[cfg(test)]
+mod iterators;
+#[cfg(test)]
 mod linearize;
 #[cfg(test)]
 mod lookahead;
