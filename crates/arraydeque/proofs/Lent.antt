@@ -1,5 +1,5 @@
 -- A deque in memory is taken apart into its ring, and made of it again. All its items are lent as its ring lends them. Assumes `Logic`.
-use Rattle.arraydeque_ring.proofs.memory.Kit.{◌≡◌, sym, ap, subst, ◌∙◌, List, [], ◌∷◌, ◌++◌, ℕ, ◌+◌, ◌≤◌, length, Ura, full_share, SProp, ent, sep, ex, Logic, sem, ‵, raw, ◌⊛◌, ◌$◌, ◌∵◌, !, qed, by, use2, RattleType, part_at, param, param_laws, Fml, El, R, el_x}
+use Rattle.arraydeque_ring.proofs.memory.Kit.{◌≡◌, sym, ap, subst, ◌∙◌, List, [], ◌∷◌, ℕ, ◌+◌, ◌≤◌, length, Ura, full_share, SProp, ent, sep, ex, Logic, sem, ‵, raw, ◌⊛◌, ◌$◌, ◌∵◌, !, qed, by, use2, RattleType, part_at, param, param_laws, Fml, El, R, el_x}
 use denote.Laws.{Lawfuls}
 use denote.Memory.{part_of, lone}
 use denote.Model.Fields.{plain_out, Plain-in, view_made}

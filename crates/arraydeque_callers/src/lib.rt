@@ -101,9 +101,7 @@ pub fn write_ends_and_push<const CAP: usize>(
 
 /// Writes over the first item of each of the two slices, pushes, and answers how many items there
 /// were.
-pub fn write_slices_and_push<const CAP: usize>(
-    deque: &mut ArrayDeque<u64, CAP, Wrapping>,
-) -> usize
+pub fn write_slices_and_push<const CAP: usize>(deque: &mut ArrayDeque<u64, CAP, Wrapping>) -> usize
     ensures len { length deque.old.items < CAP → length deque.new.items ≡ length deque.old.items + 1 }
     ensures result { result ≡ length deque.old.items }
 {
@@ -120,9 +118,7 @@ pub fn write_slices_and_push<const CAP: usize>(
 }
 
 /// How many items the two slices have.
-pub fn count_in_slices<T, const CAP: usize, B: Behavior>(
-    deque: &mut ArrayDeque<T, CAP, B>,
-) -> usize
+pub fn count_in_slices<T, const CAP: usize, B: Behavior>(deque: &mut ArrayDeque<T, CAP, B>) -> usize
     ensures { result ≡ length deque.old.items }
 {
     // That the two slices are within the capacity is known of the length.

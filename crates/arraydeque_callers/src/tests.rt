@@ -40,7 +40,10 @@ fn each_item_is_written(rt: HostRuntime) -> Result<(), Fail> {
         assert!(rt; holds(&deque, &[8, 8, 8]), "start {start}");
         fill_walked(&mut deque, 9);
         assert!(rt; holds(&deque, &[9, 9, 9]), "start {start}");
-        assert_eq!(rt; (fill_by_hand(&mut deque), count_in_slices(&mut deque)), (3, 3));
+        assert_eq!(rt;
+            (fill_by_hand(&mut deque), count_in_slices(&mut deque)),
+            (3, 3)
+        );
         assert!(rt; holds(&deque, &[0, 0, 0]), "start {start}");
     }
     Ok(())

@@ -31,7 +31,10 @@ fn both_ends_meet(rt: HostRuntime) -> Result<(), Fail> {
     let mut copy = items.clone()?;
     assert_eq!(rt; (items.next_back(), items.next()), (Some(&4), Some(&3)));
     assert_eq!(rt; (items.next(), items.next_back()), (None, None));
-    assert_eq!(rt; (copy.len(), copy.next(), copy.next()), (2, Some(&3), Some(&4)));
+    assert_eq!(rt;
+        (copy.len(), copy.next(), copy.next()),
+        (2, Some(&3), Some(&4))
+    );
     Ok(())
 }
 

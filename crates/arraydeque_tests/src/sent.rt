@@ -99,7 +99,10 @@ fn iterators_cross_threads(rt: HostRuntime) -> Result<(), Fail> {
     deque.push_back(1).map_err(|_| "no room")?;
     assert_eq!(rt; iter_shared(&iter_sent(deque.iter())).len(), 1);
     assert_eq!(rt; iter_mut_shared(&iter_mut_sent(deque.iter_mut())).len(), 1);
-    assert_eq!(rt; into_iter_shared(&into_iter_sent(deque.into_iter())).len(), 1);
+    assert_eq!(rt;
+        into_iter_shared(&into_iter_sent(deque.into_iter())).len(),
+        1
+    );
     Ok(())
 }
 

@@ -6,7 +6,6 @@ ghost use Rattle.arraydeque.specs.DequeLends.{lends_items};
 
 use crate::behavior::Behavior;
 use crate::deque::ArrayDeque;
-
 pub use arraydeque_ring::iter_mut::IterMut;
 
 impl<'a, T, const CAP: usize, B: Behavior> IntoIterator for &'a mut ArrayDeque<T, CAP, B> {

@@ -1,5 +1,5 @@
 -- `iter_mut` is `lend`, and the deque follows the loan's name. Assumes `Logic`.
-use Rattle.arraydeque_ring.proofs.memory.Kit.{◌≡◌, refl, [], ◌∷◌, ℕ, ◌+◌, ◌≤◌, length, id⊢, ftrue, flft, Fn, inst_fn, named, fact, tables, ‵, raw, ◌⊛◌, some, later, ◌$◌, ◌∵◌, !, qed, move, use1, drop, split, join, pick, frame, await, fsplit, fjoin, suffices, done, enter, addr, stop, no_more, and_then, returns, alloc_all, pass_all, free_all, look_at, get, through, sets, lands_as, no, plain, Is, shows, peeks, Stays, walk_of, says, stay_dropped, ends_at, nothing, heard, calls_at, framed, triple_of, param_laws, RattleType, El, R, el_x, proved}
+use Rattle.arraydeque_ring.proofs.memory.Kit.{◌≡◌, refl, [], ◌∷◌, ◌+◌, ◌≤◌, length, id⊢, ftrue, flft, Fn, inst_fn, named, fact, tables, ‵, raw, ◌⊛◌, some, later, ◌$◌, ◌∵◌, !, qed, move, use1, drop, split, join, pick, frame, await, fsplit, fjoin, suffices, done, enter, addr, stop, no_more, and_then, returns, alloc_all, pass_all, free_all, look_at, get, through, sets, lands_as, no, plain, Is, shows, peeks, Stays, walk_of, says, stay_dropped, ends_at, nothing, heard, calls_at, framed, triple_of, param_laws, RattleType, El, R, el_x, proved}
 use types.Kit.{split3}
 use denote.Param.{bounded, number}
 use denote.Ref.{NamedLft, mut_vals, mut_Tells}
