@@ -53,8 +53,8 @@ pub fn fill_by_hand<const CAP: usize, B: Behavior>(deque: &mut ArrayDeque<u64, C
     ensures len { length deque.new.items ≡ length deque.old.items }
     ensures result { result ≡ length deque.old.items }
 {
-    let mut items = deque.iter_mut();
-    while let Some(item) = items.next() {
+    let mut walk = deque.iter_mut();
+    while let Some(item) = walk.next() {
         *item = 0;
     }
     deque.len()
@@ -69,14 +69,14 @@ pub fn fill_until<const CAP: usize, B: Behavior>(
     ensures len { length deque.new.items ≡ length deque.old.items }
     ensures start { deque.new.start ≡ deque.old.start }
 {
-    for item in deque.iter_mut() {
-        if *item == stop {
+    for found in deque.iter_mut() {
+        if *found == stop {
             return true;
         }
-        *item = 0;
+        *found = 0;
     }
-    for item in deque.iter_mut().rev() {
-        *item = 1;
+    for other in deque.iter_mut().rev() {
+        *other = 1;
     }
     false
 }
@@ -115,6 +115,22 @@ pub fn write_slices_and_push<const CAP: usize>(deque: &mut ArrayDeque<u64, CAP, 
     let len = deque.len();
     let _displaced = deque.push_back(3);
     len
+}
+
+/// Writes over the first item of each of the two slices, and answers how many items there are.
+pub fn write_slices<const CAP: usize, B: Behavior>(deque: &mut ArrayDeque<u64, CAP, B>) -> usize
+    ensures len { length deque.new.items ≡ length deque.old.items }
+    ensures start { deque.new.start ≡ deque.old.start }
+    ensures result { result ≡ length deque.old.items }
+{
+    let (first, second) = deque.as_mut_slices();
+    if let Some(item) = first.first_mut() {
+        *item = 1;
+    }
+    if let Some(item) = second.first_mut() {
+        *item = 2;
+    }
+    deque.len()
 }
 
 /// How many items the two slices have.
