@@ -85,7 +85,8 @@ pub fn fill_until<const CAP: usize, B: Behavior>(
 pub fn write_ends_and_push<const CAP: usize>(
     deque: &mut ArrayDeque<u64, CAP, Saturating>,
 ) -> Result<(), CapacityError<u64>>
-    ensures ok { length deque.old.items < CAP → length deque.new.items ≡ length deque.old.items + 1 }
+    ensures ok { length deque.old.items < CAP →
+        length deque.new.items ≡ length deque.old.items + 1 }
     ensures full { length deque.old.items ≡ CAP → length deque.new.items ≡ CAP }
 {
     let mut items = deque.iter_mut();
@@ -102,7 +103,8 @@ pub fn write_ends_and_push<const CAP: usize>(
 /// Writes over the first item of each of the two slices, pushes, and answers how many items there
 /// were.
 pub fn write_slices_and_push<const CAP: usize>(deque: &mut ArrayDeque<u64, CAP, Wrapping>) -> usize
-    ensures len { length deque.old.items < CAP → length deque.new.items ≡ length deque.old.items + 1 }
+    ensures len { length deque.old.items < CAP →
+        length deque.new.items ≡ length deque.old.items + 1 }
     ensures result { result ≡ length deque.old.items }
 {
     let (front, back) = deque.iter_mut().into_slices();

@@ -99,10 +99,10 @@ fn items_are_given_in_order(rt: HostRuntime) -> Result<(), Fail> {
 fn slices_for_writing(rt: HostRuntime) -> Result<(), Fail> {
     let mut deque = deque_at::<7>(rt.alloc(), 0, &[0, 1])?;
     let (front, back) = deque.as_mut_slices();
-    assert!(rt; *front == [0, 1] && back.is_empty());
+    assert!(rt; &*front == [0, 1].as_slice() && back.is_empty());
     assert!(rt; deque.push_front(2).is_ok());
     let (front, back) = deque.as_mut_slices();
-    assert!(rt; *front == [2] && *back == [0, 1]);
+    assert!(rt; &*front == [2].as_slice() && &*back == [0, 1].as_slice());
     if let Some(item) = back.first_mut() {
         *item = 9;
     }
