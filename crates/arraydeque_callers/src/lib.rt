@@ -119,22 +119,6 @@ pub fn write_slices_and_push<const CAP: usize>(deque: &mut ArrayDeque<u64, CAP, 
     len
 }
 
-/// Writes over the first item of each of the two slices, and answers how many items there are.
-pub fn write_slices<const CAP: usize, B: Behavior>(deque: &mut ArrayDeque<u64, CAP, B>) -> usize
-    ensures len { length deque.new.items ≡ length deque.old.items }
-    ensures start { deque.new.start ≡ deque.old.start }
-    ensures result { result ≡ length deque.old.items }
-{
-    let (first, second) = deque.as_mut_slices();
-    if let Some(item) = first.first_mut() {
-        *item = 1;
-    }
-    if let Some(item) = second.first_mut() {
-        *item = 2;
-    }
-    deque.len()
-}
-
 /// How many items the two slices have.
 pub fn count_in_slices<T, const CAP: usize, B: Behavior>(deque: &mut ArrayDeque<T, CAP, B>) -> usize
     ensures { result ≡ length deque.old.items }

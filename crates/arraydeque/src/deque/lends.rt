@@ -25,7 +25,9 @@ impl<T, const CAP: usize, B: Behavior> ArrayDeque<T, CAP, B> {
     /// The items for writing in two slices: those from the front to the region's end, then the
     /// wrapped rest. Where all lie in one piece, the second is empty.
     ///
-    /// Whatever is written, there are as many items as before, and they start where they did.
+    /// Whatever is written, there are as many items as before, and they start where they did. A
+    /// caller whose proof needs that writes `iter_mut().into_slices()`: the prover follows the one
+    /// name of that loan, and not a pair.
     #[inline]
     pub fn as_mut_slices(&mut self) -> (&mut [T], &mut [T])
         ensures* writes_back { sem 𝓛 (lends_slices T.row CAP.row B.row self.entry result) }
