@@ -15,6 +15,7 @@ mod access;
 mod clone;
 mod compare;
 mod extend;
+mod lends;
 mod linearize;
 mod makers;
 mod moves;

@@ -237,6 +237,22 @@ fn a_drain_drops_nothing_that_it_gave(rt: HostRuntime) -> Result<(), Fail> {
 }
 
 #[test]
+fn an_iterator_by_value_drops_what_is_left(rt: HostRuntime) -> Result<(), Fail> {
+    let drops = Drops::new();
+    for start in 0..5 {
+        let mut items = deque_at::<5>(rt.alloc(), &drops, start, 5)?.into_iter();
+        let (first, last) = (items.next(), items.next_back());
+        assert_eq!(rt; drops.since(), 0, "start {start}");
+        drop(items);
+        assert_eq!(rt; drops.since(), 234, "start {start}");
+        drop(last);
+        drop(first);
+        assert_eq!(rt; drops.since(), 51, "start {start}");
+    }
+    Ok(())
+}
+
+#[test]
 fn vectors_in_a_deque_drop_their_items(rt: HostRuntime) -> Result<(), Fail> {
     let drops = Drops::new();
     let mut deque = ArrayDeque::<Vec<Noted<'_>>, 3, Saturating>::new(rt.alloc())?;

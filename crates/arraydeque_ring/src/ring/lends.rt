@@ -22,7 +22,9 @@ impl<T> Ring<T> {
     /// The items for writing in two slices: those from the start to the region's end, then the
     /// wrapped rest.
     ///
-    /// Whatever is written, there are as many items as before, and they start where they did.
+    /// Whatever is written, there are as many items as before, and they start where they did. A
+    /// caller whose proof needs that writes `iter_mut().into_slices()`: the prover follows the one
+    /// name of that loan, and not a pair.
     #[inline]
     pub fn as_mut_slices(&mut self) -> (&mut [T], &mut [T])
         ensures* writes_back { sem 𝓛 (lends_slices T.row self.entry result) }
