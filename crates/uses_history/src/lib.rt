@@ -1,7 +1,8 @@
 //! A history of states with at most `CAP` steps to undo.
 //!
-//! It stands on `arraydeque` under `Wrapping`, and is proved from the deque's public contract alone:
-//! an undo after a step gives the state before it back, and no state is lost by an undo or a redo.
+//! It stands on `arraydeque` under `Wrapping`, and is proved from the deque's public contract
+//! alone: an undo after a step gives the state before it back, and no state is lost by an undo or
+//! a redo.
 #![tactic(auto)]
 
 ghost use Rattle.std.specs.Prelude.{◌≡◌, ◌<◌, ◌++◌, ◌∷◌, [], ◌↔◌, length, IsTrue, IfOk};

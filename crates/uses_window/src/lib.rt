@@ -1,7 +1,7 @@
 //! A sliding window over the last `CAP` samples, with their sum.
 //!
-//! It stands on `arraydeque` under `Wrapping`, and is proved from the deque's public contract alone:
-//! the window is the last `CAP` of all samples pushed, and the sum is theirs.
+//! It stands on `arraydeque` under `Wrapping`, and is proved from the deque's public contract
+//! alone: the window is the last `CAP` of all samples pushed, and the sum is theirs.
 #![tactic(auto)]
 
 ghost use Rattle.std.specs.Prelude.{◌≡◌, ◌≤◌, ◌^◌, ◌++◌, ◌∷◌, [], length, sum, IfOk};
