@@ -71,6 +71,7 @@ fn workloads() -> Vec<Workload> {
     of_all_items!(list, get, arraydeque_bench_get, (8, u64, 64), (8, u64, 1000000));
     workloads!(list, index, arraydeque_bench_index, true, (8, u64, 1024), (8, u64, 1000));
     of_all_items!(list, iterate, arraydeque_bench_iterate);
+    of_all_items!(list, iterate_mut, arraydeque_bench_iterate_mut);
     of_all_items!(list, middle, arraydeque_bench_middle);
     of_all_items!(list, random, arraydeque_bench_random);
     of_all_items!(list, extend_slice, arraydeque_bench_extend_slice);

@@ -1,14 +1,20 @@
-//! The workloads by their exported names. Each is handed the bytes of an item, the capacity and the number of
-//! rounds, and answers a sum, or 0 where it has no such item or capacity or memory is refused.
+//! The workloads by their exported names. Each is handed the bytes of an item, the capacity and the
+//! number of rounds, and answers a sum, or 0 where it has no such item or capacity or memory is
+//! refused.
 use crate::items::Block;
 use crate::{ends, lists, middle, parts};
 use std::alloc::Global;
 
 /// A workload at the item and the capacity that were asked for.
 macro_rules! chosen {
-    ($module:ident, $work:ident, $alloc:ident, $rounds:ident, $asked:expr, $(($bytes:literal, $item:ty, $capacity:literal)),+) => {
+    (
+        $module:ident, $work:ident, $alloc:ident, $rounds:ident, $asked:expr,
+        $(($bytes:literal, $item:ty, $capacity:literal)),+
+    ) => {
         match $asked {
-            $(($bytes, $capacity) => $module::$work::<$item, $capacity>($alloc, $rounds).unwrap_or(0),)+
+            $(($bytes, $capacity) => {
+                $module::$work::<$item, $capacity>($alloc, $rounds).unwrap_or(0)
+            })+
             _ => 0,
         }
     };
@@ -17,7 +23,10 @@ macro_rules! chosen {
 /// Items of 1 and 8 bytes.
 macro_rules! plain {
     ($module:ident, $work:ident, $alloc:ident, $rounds:ident, $asked:expr) => {
-        chosen!($module, $work, $alloc, $rounds, $asked, (1, u8, 1024), (1, u8, 1000), (8, u64, 1024), (8, u64, 1000))
+        chosen!(
+            $module, $work, $alloc, $rounds, $asked,
+            (1, u8, 1024), (8, u64, 1024), (8, u64, 1000)
+        )
     };
 }
 
@@ -26,7 +35,7 @@ macro_rules! all {
     ($module:ident, $work:ident, $alloc:ident, $rounds:ident, $asked:expr) => {
         chosen!(
             $module, $work, $alloc, $rounds, $asked,
-            (1, u8, 1024), (1, u8, 1000), (8, u64, 1024), (8, u64, 1000), (64, Block, 1024), (64, Block, 1000)
+            (1, u8, 1024), (8, u64, 1024), (8, u64, 1000), (64, Block, 1024)
         )
     };
 }
@@ -36,8 +45,8 @@ macro_rules! wide {
     ($module:ident, $work:ident, $alloc:ident, $rounds:ident, $asked:expr) => {
         chosen!(
             $module, $work, $alloc, $rounds, $asked,
-            (1, u8, 1024), (1, u8, 1000), (8, u64, 64), (8, u64, 1000), (8, u64, 1024), (8, u64, 1000000), (64, Block, 1024),
-            (64, Block, 1000)
+            (1, u8, 1024), (8, u64, 1024), (8, u64, 1000), (64, Block, 1024),
+            (8, u64, 64), (8, u64, 1000000)
         )
     };
 }
@@ -106,6 +115,17 @@ pub extern "C" fn arraydeque_bench_iterate(
     rounds: usize,
 ) -> u64 {
     all!(lists, iterate, alloc, rounds, (bytes, capacity))
+}
+
+/// All items of a list that wraps, written.
+#[unsafe(no_mangle)]
+pub extern "C" fn arraydeque_bench_iterate_mut(
+    alloc: Global,
+    bytes: usize,
+    capacity: usize,
+    rounds: usize,
+) -> u64 {
+    all!(lists, iterate_mut, alloc, rounds, (bytes, capacity))
 }
 
 /// An item in at the middle, and one out.

@@ -19,8 +19,26 @@ pub(crate) fn iterate<T: Item, const CAP: usize>(
     Ok(sum)
 }
 
-/// Each round three quarters of the places are filled so that the list wraps, and it is brought into one
-/// piece.
+/// A list that wraps: each round all items are written.
+pub(crate) fn iterate_mut<T: Item, const CAP: usize>(
+    alloc: Global,
+    rounds: usize,
+) -> Result<u64, AllocError> {
+    let mut deque = deque_at::<T, CAP>(alloc, CAP / 2, CAP)?;
+    let mut sum = 0u64;
+    for round in 0..rounds {
+        for item in deque.iter_mut() {
+            *item = T::of(item.number() ^ round as u64);
+        }
+        if let Some(item) = deque.back() {
+            sum = sum.wrapping_add(item.number());
+        }
+    }
+    Ok(sum)
+}
+
+/// A list over three quarters of the places: each round it is turned by half the capacity, so that
+/// it wraps, and brought into one piece.
 pub(crate) fn linearize<T: Item, const CAP: usize>(
     alloc: Global,
     rounds: usize,
@@ -39,8 +57,8 @@ pub(crate) fn linearize<T: Item, const CAP: usize>(
     Ok(sum)
 }
 
-/// Each round the last item becomes the first, so that one item lies apart, and the list is brought into
-/// one piece.
+/// Each round the last item becomes the first, so that one item lies apart, and the list is brought
+/// into one piece.
 pub(crate) fn linearize_one<T: Item, const CAP: usize>(
     alloc: Global,
     rounds: usize,

@@ -371,7 +371,8 @@ struct Short<S> {
 }
 
 impl<S> Short<S> {
-    /// How many bytes the next call moves, of so many: none beyond the offset, until that is reached.
+    /// How many bytes the next call moves, of so many: none beyond the offset, until that is
+    /// reached.
     fn count(&mut self, len: usize) -> usize {
         let count = if self.left == 0 {
             len
