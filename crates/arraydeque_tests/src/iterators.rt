@@ -1,6 +1,6 @@
 //! Walks over a deque by reference, for writing and by value, from both ends.
 use crate::build::{deque_at, holds, numbers};
-use arraydeque::{ArrayDeque, Saturating};
+use arraydeque::{ArrayDeque, IntoIter, Iter, IterMut, Saturating};
 use std::alloc::Global;
 use std::process::Abort;
 use std::test::Fail;
@@ -43,12 +43,14 @@ fn items_are_lent_for_writing_in_order(rt: HostRuntime) -> Result<(), Fail> {
     let mut deque = deque_at::<2>(rt.alloc(), 0, &[1, 2])?;
     let mut items = deque.iter_mut();
     assert_eq!(rt; items.size_hint(), (2, Some(2)));
-    assert_eq!(rt; (items.next(), items.next()), (Some(&mut 1), Some(&mut 2)));
+    assert_eq!(rt; items.next(), Some(&mut 1));
+    assert_eq!(rt; items.next(), Some(&mut 2));
     assert_eq!(rt; (items.next(), items.size_hint()), (None, (0, Some(0))));
     deque.pop_front();
     assert!(rt; deque.push_back(3).is_ok());
     let mut items = (&mut deque).into_iter();
-    assert_eq!(rt; (items.next(), items.next()), (Some(&mut 2), Some(&mut 3)));
+    assert_eq!(rt; items.next(), Some(&mut 2));
+    assert_eq!(rt; items.next(), Some(&mut 3));
     assert_eq!(rt; items.next(), None);
     Ok(())
 }
@@ -110,20 +112,38 @@ fn slices_for_writing(rt: HostRuntime) -> Result<(), Fail> {
     Ok(())
 }
 
-/// Whether two iterators give the same, four times, at the ends that the binary digits of `ends`
-/// tell: 1 is the back.
-fn gives_alike<I, J>(mut items: I, mut plain: J, mut ends: u32) -> bool
-where
-    I: DoubleEndedIterator<Item = i64> + ExactSizeIterator,
-    J: DoubleEndedIterator<Item = i64> + ExactSizeIterator,
-{
+/// Whether an iterator lends what the list has, four times, at the ends that the binary digits of
+/// `ends` tell: 1 is the back.
+fn lends_alike(mut items: Iter<'_, i64>, list: &[i64], mut ends: u32) -> bool {
+    let mut plain = list.iter();
+    for _ in 0..4 {
+        let (lent, expected) = if ends % 2 == 1 {
+            (items.next_back(), plain.next_back())
+        } else {
+            (items.next(), plain.next())
+        };
+        if lent != expected || items.len() != plain.len() {
+            return false;
+        }
+        ends /= 2;
+    }
+    true
+}
+
+/// The same of an iterator that gives its items.
+fn gives_alike<const CAP: usize>(
+    mut items: IntoIter<i64, CAP, Saturating>,
+    list: &[i64],
+    mut ends: u32,
+) -> bool {
+    let mut plain = list.iter();
     for _ in 0..4 {
         let (given, expected) = if ends % 2 == 1 {
             (items.next_back(), plain.next_back())
         } else {
             (items.next(), plain.next())
         };
-        if given != expected || items.len() != plain.len() {
+        if given != expected.copied() || items.len() != plain.len() {
             return false;
         }
         ends /= 2;
@@ -132,7 +152,26 @@ where
 }
 
 /// Writes 10 and on over four items, from the ends that `ends` tells, and 0 over the others.
-fn write_over<'a, I: DoubleEndedIterator<Item = &'a mut i64>>(mut items: I, mut ends: u32) {
+fn write_over(mut items: IterMut<'_, i64>, mut ends: u32) {
+    for number in 10..14 {
+        let lent = if ends % 2 == 1 {
+            items.next_back()
+        } else {
+            items.next()
+        };
+        if let Some(item) = lent {
+            *item = number;
+        }
+        ends /= 2;
+    }
+    for item in items {
+        *item = 0;
+    }
+}
+
+/// The same over a plain list.
+fn write_over_list(list: &mut [i64], mut ends: u32) {
+    let mut items = list.iter_mut();
     for number in 10..14 {
         let lent = if ends % 2 == 1 {
             items.next_back()
@@ -158,11 +197,11 @@ fn walks_alike<const CAP: usize>(
 ) -> Result<bool, Fail> {
     let mut list = numbers(alloc, len)?;
     let mut deque = deque_at::<CAP>(alloc, start, &list)?;
-    let read = gives_alike(deque.iter().copied(), list.iter().copied(), ends);
+    let read = lends_alike(deque.iter(), &list, ends);
     write_over(deque.iter_mut(), ends);
-    write_over(list.iter_mut(), ends);
+    write_over_list(&mut list, ends);
     let written = holds(&deque, &list);
-    Ok(read && written && gives_alike(deque.into_iter(), list.iter().copied(), ends))
+    Ok(read && written && gives_alike(deque.into_iter(), &list, ends))
 }
 
 /// The walks at each start and length, by each mixture of four ends, and so of fewer too: what is
