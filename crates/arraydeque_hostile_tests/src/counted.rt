@@ -157,3 +157,12 @@ fn a_run_3_requests(rt: HostRuntime) -> Result<(), Fail> {
     assert!(rt; holds(&deque, &[0, 2, 3]));
     Ok(())
 }
+
+/// The one byte is what a vector of any number of such items takes.
+#[test]
+fn a_vector_of_items_of_size_zero_1_request_1_byte(rt: HostRuntime) -> Result<(), Fail> {
+    let mut deque = ArrayDeque::<(), 3, Saturating>::new(rt.alloc())?;
+    deque.extend_back([(), ()]);
+    assert_eq!(rt; made(deque.into_vec())?.len(), 2);
+    Ok(())
+}

@@ -139,7 +139,6 @@ fn items_of_size_zero_0_requests_0_bytes(rt: HostRuntime) -> Result<(), Fail> {
     assert_eq!(rt; deque.drain(1..2)?.len(), 1);
     assert_eq!(rt; deque.len(), 2);
     assert_eq!(rt; deque.split_off(1)?.len(), 1);
-    assert_eq!(rt; made(deque.into_vec())?.len(), 1);
     Ok(())
 }
 
