@@ -2,4 +2,6 @@
 #![tactic(auto)]
 
 #[cfg(test)]
+mod iterators;
+#[cfg(test)]
 mod lookahead;

@@ -18,8 +18,6 @@ mod examples;
 #[cfg(test)]
 mod extend;
 #[cfg(test)]
-mod iterators;
-#[cfg(test)]
 mod linearize;
 #[cfg(test)]
 mod makers;

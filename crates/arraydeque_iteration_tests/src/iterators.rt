@@ -1,5 +1,5 @@
 //! Walks over a deque by reference, for writing and by value, from both ends.
-use crate::build::{deque_at, holds, numbers};
+use arraydeque_samples::build::{deque_at, holds, numbers};
 use arraydeque::{ArrayDeque, IntoIter, Iter, IterMut, Saturating};
 use std::alloc::Global;
 use std::process::Abort;
