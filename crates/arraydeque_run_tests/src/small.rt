@@ -132,7 +132,7 @@ fn displacing_at_one_place(rt: HostRuntime) -> Result<(), Fail> {
         (Call::Drain(0, 1), "drained [6]"),
         (Call::Extend(two), "done"),
         (Call::IsFull, "true"),
-        (Call::PopFront, "item Some(8)"),
+        (Call::PopFront, "item Some(9)"),
     ]?;
     wrapping::<1>(&rt, rt.alloc(), rows, &[])
 }
