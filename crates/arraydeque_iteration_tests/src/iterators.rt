@@ -59,13 +59,15 @@ fn items_are_lent_for_writing_in_order(rt: HostRuntime) -> Result<(), Fail> {
         (read(items.next()), items.size_hint()),
         (None, (0, Some(0)))
     );
-    deque.pop_front();
-    assert!(rt; deque.push_back(3).is_ok());
+    Ok(())
+}
+
+#[test]
+fn a_loan_is_walked(rt: HostRuntime) -> Result<(), Fail> {
+    let mut deque = deque_at::<2>(rt.alloc(), 1, &[2, 3])?;
     let mut items = (&mut deque).into_iter();
-    assert_eq!(rt;
-        (read(items.next()), read(items.next())),
-        (Some(2), Some(3))
-    );
+    assert_eq!(rt; read(items.next()), Some(2));
+    assert_eq!(rt; read(items.next()), Some(3));
     assert_eq!(rt; read(items.next()), None);
     Ok(())
 }
