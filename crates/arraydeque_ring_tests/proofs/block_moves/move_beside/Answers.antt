@@ -1,4 +1,4 @@
-use Rattle.std.proofs.Common.{ℕ, length, get_or, replicate, List, Option, None, sym, subst, ap, absurd, ◌∙◌, arith}
+use Rattle.std.proofs.Common.{ℕ, length, get_or, replicate, List, Option, None, sym, subst, ap, ◌∙◌, arith}
 use Rattle.std.proofs.lemmas.List.{ext_get_or, get_or-replicate, length-replicate}
 use Rattle.std.proofs.lemmas.List.FromFn.{length-map-range_with_len, get_or-map-range_with_len}
 use Rattle.arraydeque_ring.specs.Moved.{held_after, IsFilledRound}
