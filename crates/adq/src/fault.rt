@@ -76,7 +76,8 @@ impl<S: Drop> From<MakeError<S>> for Fault {
 
 /// A stream or a buffer that is refused memory tells it by an `io::Error` too.
 impl From<io::Error> for Fault {
-    ghost from_gives = { λ error fault. (error_kind error ≡ OutOfMemory → fault ≡ Memory) × (error_kind error ≢ OutOfMemory → fault ≡ Io) };
+    ghost from_gives = { λ error fault. (error_kind error ≡ OutOfMemory → fault ≡ Memory)
+        × (error_kind error ≢ OutOfMemory → fault ≡ Io) };
 
     fn from(error: io::Error) -> Fault {
         match error.kind() {

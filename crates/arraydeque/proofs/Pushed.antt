@@ -4,9 +4,13 @@ use Rattle.std.proofs.Math.Nat.{mod-add-mod, add_assoc}
 use native.Mathlib.Nat.{suc-mul}
 use Rattle.std.proofs.lemmas.Bool.{cases_lt, lt-ltb, le-ltb}
 use Rattle.std.proofs.lemmas.List.{length-append, length-drop, length-take, length-reverse}
-use Rattle.arraydeque_ring.specs.Ring.{place_of}
+use Rattle.arraydeque_ring.specs.Ring.{RingState, place_of}
 use Rattle.arraydeque_ring.specs.Steps.{more_puts, more_takes}
 use Rattle.arraydeque.specs.Deque.{DequeState, keep_last, back_by, wrapped_back, wrapped_front}
+
+-- what is seen of a deque over a ring
+abbrev pub of_ring : {X : Type 0} → RingState X → DequeState X
+of_ring ring = record { items = ring.items; start = ring.start; steps = ring.steps }
 
 -- to go on by j and then by k is to go on by both
 place_of-on : (s j k n : ℕ) → place_of (place_of s j n) k n ≡ place_of s (j + k) n

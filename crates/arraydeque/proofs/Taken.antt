@@ -1,10 +1,10 @@
 -- What is taken of a source of items.
 use Rattle.std.proofs.Common.{◌≡◌, ℕ, ◌<◌, ◌≤◌, List, length, take, min, Option, None, IsTrue, true, sym, subst, ap, ◌∙◌, arith, inl, inr}
-use Rattle.std.proofs.iter.runs.Made.{run_of_exit}
+use Rattle.std.proofs.iter.runs.Made.{run_of_exit, took}
 use Rattle.std.proofs.lemmas.Bool.{cases_lt}
 use Rattle.std.proofs.lemmas.List.{same_lists, length-take, get_or-take}
 use Rattle.std.specs.Option.{unwrap_or}
-use Rattle.std.specs.Iterator.{Yields}
+use Rattle.std.specs.Iterator.{Yields, Drains}
 use Rattle.std.specs.Iterator.Adapters.{take_steps}
 use Rattle.std.specs.Iterator.Runs.{Run, SomeRun, EachRunFrom, HasSameItems, ItemsAre, YieldsInOrder}
 use Rattle.std.specs.declared.iter.Take.{Take}
@@ -38,6 +38,13 @@ module _ {Source S A : Type 0} (becomes : Source → S → Type 0) (gives : S �
     -- and all of them
     pub TakesAll-list : TakesAll becomes gives source P → Shows → P xs
     TakesAll-list took shows = subst P ((reads shows took.iterator took.run took.became took.from_it).4 took.to_end) took.holds
+
+  -- what std's `Extend` says of an iterator that came to its end
+  pub TakesAll-drains : TakesAll becomes gives source P → (it : S) × (xs : List A) × becomes source it × P xs × Drains gives it xs
+  TakesAll-drains all =
+      let ran = took all.run in
+      let ended = ran.2 all.to_end in
+      (all.iterator, all.run.items, all.became, all.holds, (ended.0, (ran.0, subst (λ s. Yields gives s all.run.items ran.0) all.from_it ran.1, ended.1)))
 
   -- by a loop over the iterator s, at whose exit P holds of the items that came
   module _ (s : S) (became : becomes source s) (xs : List A) (holds : P xs) where

@@ -3,7 +3,8 @@ use Rattle.std.specs.Prelude.{◌≡◌, ◌<◌, List, [], ◌++◌, length}
 use Rattle.arraydeque.specs.declared.deque.compare.Stretches.{Stretches}
 
 module _ {X : Type 0} where
-  -- two lists, cut behind xs and behind ys: both at one index, or the one that is cut earlier ends there
+  -- two lists, cut behind xs and behind ys: both at one index, or the one that is cut earlier ends
+  -- there
   pub record CutAlike (xs xs-left ys ys-left : List X) : Type 0 where
     pub first_ends : length xs < length ys → xs-left ≡ []
     pub second_ends : length ys < length xs → ys-left ≡ []

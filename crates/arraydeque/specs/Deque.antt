@@ -1,5 +1,5 @@
 -- What a contract sees of a deque.
-use Rattle.std.specs.Prelude.{ℕ, ◌+◌, ◌-◌, ◌*◌, List, [], ◌++◌, length, take, drop, reverse, slice_get, Option, nat_lt, if◌then◌else◌}
+use Rattle.std.specs.Prelude.{◌≡◌, ℕ, ◌<◌, ◌+◌, ◌-◌, ◌*◌, List, [], ◌++◌, length, take, drop, reverse, slice_get, Option, nat_lt, if◌then◌else◌}
 use Rattle.arraydeque_ring.specs.Ring.{RingState, place_of}
 use Rattle.arraydeque_ring.specs.Steps.{Steps, no_steps, more_puts, more_takes}
 
@@ -55,6 +55,12 @@ module _ {X : Type 0} where
         start = if nat_lt n total then place_of deque.start (total - n) n else deque.start;
         steps = more_puts (length xs) (more_takes (total - n) deque.steps);
       }
+
+  -- xs were pushed one by one behind the last item of the old deque of capacity n, which stays as
+  -- it was if it has no places
+  abbrev pub WrapsBack : ℕ → DequeState X → List X → DequeState X → Type 0
+  WrapsBack n old xs new = (new.items ≡ keep_last n (old.items ++ xs))
+      × (0 < n → new ≡ wrapped_back n xs old) × (n ≡ 0 → new ≡ old)
 
   -- the deque of capacity n with xs pushed one by one before its first item, where each push into a
   -- full one takes its last item out

@@ -1,6 +1,7 @@
--- What a deque ends as, once a `&mut` to one of its items has ended.
-use Rattle.std.specs.Prelude.{ℕ, slice_set, Option}
-use Rattle.std.specs.Borrow.{Fml, RattleType, MutBor, Lends, LendsIf}
+-- What a deque ends as, once a `&mut` to one of its items, or to all of them, has ended.
+use Rattle.std.specs.Prelude.{ℕ, List, ◌++◌, slice_set, Option}
+use Rattle.std.specs.Borrow.{Fml, GName, RattleType, MutBor, Array, Lends, LendsIf, LendsBoth, fsep, follows, follows_both}
+use Rattle.arraydeque_ring.specs.Loans.{Loan, as_many}
 use Rattle.arraydeque_ring.specs.Steps.{more_lends}
 use Rattle.arraydeque.specs.Deque.{DequeState}
 use Rattle.arraydeque.specs.contracts.deque.ArrayDeque.{the_row}
@@ -21,3 +22,30 @@ module _ (T CAP B : RattleType) (deque : MutBor (DequeState T.Denot)) (index : �
   -- the same of an index that is there
   abbrev pub lends_index : MutBor T.Denot → Fml
   lends_index r = Lends (the_row T CAP B) T deque r with_item
+
+-- a deque with the items xs, as many of them as it had, and two lends counted
+abbrev pub rewritten : {X : Type 0} → DequeState X → List X → DequeState X
+rewritten deque xs = record deque {
+  items = as_many deque.items xs;
+  steps = more_lends 2 deque.steps;
+}
+
+module _ (T CAP B : RattleType) (deque : MutBor (DequeState T.Denot)) where
+  -- there are as many items as before and two lends are counted, and nothing else changes
+  abbrev pub lends_items : GName → Fml
+  lends_items name = follows (the_row T CAP B) (the_row T CAP B) deque.ghost_name name
+      (λ w. rewritten deque.now w.items)
+
+  -- the items end as what was last written through r, and two lends are counted, and nothing else
+  -- changes
+  abbrev pub lends_slices : MutBor (List T.Denot) × MutBor (List T.Denot) → Fml
+  lends_slices r = LendsBoth (the_row T CAP B) (Array T 0) (Array T 0) deque r
+      (λ ws vs. rewritten deque.now (as_many r.0.now ws ++ as_many r.1.now vs))
+
+  -- the deque follows the name of a loan of its items, and that name follows the two slices
+  abbrev pub lends_loan : Loan T.Denot → Fml
+  lends_loan loan = fsep
+      (lends_items loan.name)
+      (follows_both (the_row T CAP B) (Array T 0) (Array T 0)
+      loan.name loan.first.ghost_name loan.second.ghost_name
+      (λ ws vs. rewritten deque.now (as_many loan.first.now ws ++ as_many loan.second.now vs)))

@@ -99,6 +99,7 @@ module _ {X : Type 0} where
   IsAlike (Insert i x) = ⊥
   IsAlike (ExtendBack v) = ⊥
   IsAlike (ExtendFront v) = ⊥
+  IsAlike (Extend v) = ⊥
   IsAlike _ = Unit {0}
 
   -- under the policy and the capacity n the call is answered so, and takes the list l to `left`
@@ -121,7 +122,7 @@ module _ {X : Type 0} where
   Answers p n l Linearize = Gives done l
   Answers p n l (ExtendBack v) = Gives done (extended_back p n l v.items)
   Answers p n l (ExtendFront v) = Gives done (extended_front p n l v.items)
-  Answers p n l (Extend v) = Gives done (extended_back saturating n l v.items)
+  Answers p n l (Extend v) = Gives done (extended_back p n l v.items)
   Answers p n l (Drain from to) = InRange (nat_le from to && nat_le to (length l)) None l
       (OrNoMemory (nat_lt from to) l
       (Gives (drained (slice_range l from to)) (remove_range l from to)))

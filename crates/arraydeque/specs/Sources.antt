@@ -8,8 +8,8 @@ IsIterable {S = S} becomes can source = (it : S) → becomes source it → can i
 
 module _ {Source S A : Type 0} (becomes : Source → S → Type 0)
     (gives : S → Option A → S → Type 0) (source : Source) where
-  -- the source became an iterator whose calls gave at most n items, and fewer only where a None came
-  -- after them, and P holds of these items
+  -- the source became an iterator whose calls gave at most n items, and fewer only where a None
+  -- came after them, and P holds of these items
   pub record TakesFrom (n : ℕ) (P : List A → Type 0) : Type 0 where
     pub iterator : S
     pub became : becomes source iterator

@@ -15,6 +15,7 @@ mod access;
 mod clone;
 mod compare;
 mod extend;
+mod lends;
 mod linearize;
 mod makers;
 mod moves;
@@ -58,10 +59,29 @@ impl<T, const CAP: usize, B: Behavior> ArrayDeque<T, CAP, B> {
         ensures refused { OnErr result (0 < CAP * type_size T.row) }
     {
         let ring = Ring::new(alloc, CAP)?;
-        Ok(ArrayDeque {
+        Ok(Self::of(ring))
+    }
+
+    /// The deque over a ring of `CAP` places.
+    #[inline]
+    fn of(ring: Ring<T>) -> Self
+        requires capacity { ring.capacity ≡ CAP }
+        requires within { length ring.items ≤ CAP }
+        ensures { as_ring CAP result ≡ ring }
+    {
+        ArrayDeque {
             ring,
             behavior: PhantomData,
-        })
+        }
+    }
+
+    /// The ring that the deque stands on.
+    #[inline]
+    fn into_ring(self) -> Ring<T>
+        ensures { result ≡ as_ring CAP self }
+    {
+        let ArrayDeque { ring, behavior: _ } = self;
+        ring
     }
 
     /// How many items there may be: `CAP`.

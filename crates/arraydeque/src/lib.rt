@@ -13,5 +13,5 @@ pub mod run;
 pub use behavior::{Saturating, Wrapping};
 pub use deque::ArrayDeque;
 pub use error::{CapacityError, MakeError};
-pub use iter::{Drain, IntoIter, Iter};
+pub use iter::{Drain, IntoIter, Iter, IterMut};
 pub use range::RangeArgument;

@@ -64,8 +64,8 @@ impl<I: Iterator, const CAP: usize> Scanner<I, CAP> {
         }
     }
 
-    /// The item `k` places ahead, or `None` where the input ends before it. What is read for it stays
-    /// in the buffer.
+    /// The item `k` places ahead, or `None` where the input ends before it. What is read for it
+    /// stays in the buffer.
     pub fn peek(&mut self, k: usize) -> Option<&I::Item>
         requires { k < CAP }
         ensures* peeks { sem 𝓛 (follows_so (the_row I.row CAP.row I.Item.row I.Iterator)

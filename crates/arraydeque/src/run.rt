@@ -4,11 +4,12 @@ ghost use Rattle.arraydeque.specs.Costs.{CallCosts, RunCosts};
 ghost use Rattle.arraydeque.specs.Machine.{Answers, answer_of, IsAlike};
 ghost use Rattle.arraydeque.specs.Policy.{Policy, saturating, wrapping};
 ghost use Rattle.arraydeque.specs.Run.{Run};
+ghost use Rattle.arraydeque.specs.declared.run.Call.TheVariants.{PushFront, PushBack, Insert, Swap, Replace, Drain, SplitOff};
 
 use crate::behavior::{Behavior, Saturating, Wrapping};
 use crate::deque::ArrayDeque;
 use crate::error::{CapacityError, MakeError};
-use crate::iter::Drain;
+use crate::iter;
 use std::mem;
 
 /// A call of a deque, as a value.
@@ -42,7 +43,7 @@ pub enum Call<T> {
     ExtendBack(Vec<T>),
     /// Adds items at the front, one by one.
     ExtendFront(Vec<T>),
-    /// Adds items at the back while there is room.
+    /// Adds items at the back, in order, as std's trait does.
     Extend(Vec<T>),
     /// Takes out the items from an index up to another.
     Drain(usize, usize),
@@ -72,7 +73,7 @@ pub enum Reply<T, const CAP: usize, B: Behavior> {
     /// Yes or no.
     Truth(bool),
     /// The items that were taken out.
-    Drained(Drain<T>),
+    Drained(iter::Drain<T>),
     /// The part that was cut off.
     Split(ArrayDeque<T, CAP, B>),
     /// A push or an insert into a full deque. The element comes back, and the list is as it was.
@@ -139,24 +140,10 @@ impl<T: Drop, const CAP: usize> Answering<T, CAP> for Saturating {
         ensures costs { CallCosts call (answer_of result) deque.old deque.new }
     {
         match call {
-            Call::PushFront(element) => match deque.push_front(element) {
-                Ok(()) => Reply::Done,
-                Err(refusal) => Reply::Full(refusal),
-            },
-            Call::PushBack(element) => match deque.push_back(element) {
-                Ok(()) => Reply::Done,
-                Err(refusal) => Reply::Full(refusal),
-            },
-            Call::Insert(index, element) => {
-                if index > deque.len() {
-                    return Reply::OutOfRange(Some(element));
-                }
-                match deque.insert(index, element) {
-                    Ok(()) => Reply::Done,
-                    Err(refusal) => Reply::Full(refusal),
-                }
-            }
-            Call::ExtendBack(elements) => {
+            Call::PushFront(element) => deque.answer_push_front(element),
+            Call::PushBack(element) => deque.answer_push_back(element),
+            Call::Insert(index, element) => deque.answer_insert(index, element),
+            Call::ExtendBack(elements) | Call::Extend(elements) => {
                 deque.extend_back(elements);
                 Reply::Done
             }
@@ -165,6 +152,47 @@ impl<T: Drop, const CAP: usize> Answering<T, CAP> for Saturating {
                 Reply::Done
             }
             call => deque.answer_alike(call),
+        }
+    }
+}
+
+impl<T: Drop, const CAP: usize> ArrayDeque<T, CAP, Saturating> {
+    /// A push before the first item, where there is room.
+    fn answer_push_front(&mut self, element: T) -> Reply<T, CAP, Saturating>
+        ensures answers { Answers saturating CAP self.old.items (PushFront element)
+            (answer_of result) self.new.items }
+        ensures costs { CallCosts (PushFront element) (answer_of result) self.old self.new }
+    {
+        match self.push_front(element) {
+            Ok(()) => Reply::Done,
+            Err(refusal) => Reply::Full(refusal),
+        }
+    }
+
+    /// A push behind the last item, where there is room.
+    fn answer_push_back(&mut self, element: T) -> Reply<T, CAP, Saturating>
+        ensures answers { Answers saturating CAP self.old.items (PushBack element)
+            (answer_of result) self.new.items }
+        ensures costs { CallCosts (PushBack element) (answer_of result) self.old self.new }
+    {
+        match self.push_back(element) {
+            Ok(()) => Reply::Done,
+            Err(refusal) => Reply::Full(refusal),
+        }
+    }
+
+    /// An insert, where the index is in range and there is room.
+    fn answer_insert(&mut self, index: usize, element: T) -> Reply<T, CAP, Saturating>
+        ensures answers { Answers saturating CAP self.old.items (Insert index element)
+            (answer_of result) self.new.items }
+        ensures costs { CallCosts (Insert index element) (answer_of result) self.old self.new }
+    {
+        if index > self.len() {
+            return Reply::OutOfRange(Some(element));
+        }
+        match self.insert(index, element) {
+            Ok(()) => Reply::Done,
+            Err(refusal) => Reply::Full(refusal),
         }
     }
 }
@@ -181,7 +209,7 @@ impl<T: Drop, const CAP: usize> Answering<T, CAP> for Wrapping {
             Call::PushFront(element) => Reply::Displaced(deque.push_front(element)),
             Call::PushBack(element) => Reply::Displaced(deque.push_back(element)),
             Call::Insert(_, element) => Reply::NotOffered(element),
-            Call::ExtendBack(elements) => {
+            Call::ExtendBack(elements) | Call::Extend(elements) => {
                 deque.extend_back(elements);
                 Reply::Done
             }
@@ -208,18 +236,8 @@ impl<T: Drop, const CAP: usize, B: Behavior> ArrayDeque<T, CAP, B> {
             Call::Remove(index) => Reply::Item(self.remove(index)),
             Call::SwapRemoveBack(index) => Reply::Item(self.swap_remove_back(index)),
             Call::SwapRemoveFront(index) => Reply::Item(self.swap_remove_front(index)),
-            Call::Swap(i, j) => {
-                let len = self.len();
-                if i >= len || j >= len {
-                    return Reply::OutOfRange(None);
-                }
-                self.swap(i, j);
-                Reply::Done
-            }
-            Call::Replace(index, element) => match self.get_mut(index) {
-                Some(item) => Reply::Item(Some(mem::replace(item, element))),
-                None => Reply::OutOfRange(Some(element)),
-            },
+            Call::Swap(i, j) => self.answer_swap(i, j),
+            Call::Replace(index, element) => self.answer_replace(index, element),
             Call::Clear => {
                 self.clear();
                 Reply::Done
@@ -228,28 +246,8 @@ impl<T: Drop, const CAP: usize, B: Behavior> ArrayDeque<T, CAP, B> {
                 self.linearize();
                 Reply::Done
             }
-            Call::Extend(elements) => {
-                self.fill_back(elements);
-                Reply::Done
-            }
-            Call::Drain(from, to) => {
-                if from > to || to > self.len() {
-                    return Reply::OutOfRange(None);
-                }
-                match self.drain(from..to) {
-                    Ok(drained) => Reply::Drained(drained),
-                    Err(_) => Reply::NoMemory,
-                }
-            }
-            Call::SplitOff(at) => {
-                if at > self.len() {
-                    return Reply::OutOfRange(None);
-                }
-                match self.split_off(at) {
-                    Ok(tail) => Reply::Split(tail),
-                    Err(_) => Reply::NoMemory,
-                }
-            }
+            Call::Drain(from, to) => self.answer_drain(from, to),
+            Call::SplitOff(at) => self.answer_split_off(at),
             Call::Len => Reply::Number(self.len()),
             Call::Capacity => Reply::Number(self.capacity()),
             Call::IsEmpty => Reply::Truth(self.is_empty()),
@@ -258,7 +256,64 @@ impl<T: Drop, const CAP: usize, B: Behavior> ArrayDeque<T, CAP, B> {
             | Call::PushBack(_)
             | Call::Insert(_, _)
             | Call::ExtendBack(_)
-            | Call::ExtendFront(_) => unreachable!(),
+            | Call::ExtendFront(_)
+            | Call::Extend(_) => unreachable!(),
+        }
+    }
+
+    /// An exchange of two items, where both are there.
+    fn answer_swap(&mut self, i: usize, j: usize) -> Reply<T, CAP, B>
+        ensures answers { (p : Policy) →
+            Answers p CAP self.old.items (Swap i j) (answer_of result) self.new.items }
+        ensures costs { CallCosts (Swap i j) (answer_of result) self.old self.new }
+    {
+        let len = self.len();
+        if i >= len || j >= len {
+            return Reply::OutOfRange(None);
+        }
+        self.swap(i, j);
+        Reply::Done
+    }
+
+    /// Another item in the place of one, where it is there.
+    fn answer_replace(&mut self, index: usize, element: T) -> Reply<T, CAP, B>
+        ensures answers { (p : Policy) →
+            Answers p CAP self.old.items (Replace index element) (answer_of result) self.new.items }
+        ensures costs { CallCosts (Replace index element) (answer_of result) self.old self.new }
+    {
+        match self.get_mut(index) {
+            Some(item) => Reply::Item(Some(mem::replace(item, element))),
+            None => Reply::OutOfRange(Some(element)),
+        }
+    }
+
+    /// The items of a range that is there, where memory is granted.
+    fn answer_drain(&mut self, from: usize, to: usize) -> Reply<T, CAP, B>
+        ensures answers { (p : Policy) →
+            Answers p CAP self.old.items (Drain from to) (answer_of result) self.new.items }
+        ensures costs { CallCosts (Drain from to) (answer_of result) self.old self.new }
+    {
+        if from > to || to > self.len() {
+            return Reply::OutOfRange(None);
+        }
+        match self.drain(from..to) {
+            Ok(drained) => Reply::Drained(drained),
+            Err(_) => Reply::NoMemory,
+        }
+    }
+
+    /// The items from an index on, where it is in range and memory is granted.
+    fn answer_split_off(&mut self, at: usize) -> Reply<T, CAP, B>
+        ensures answers { (p : Policy) →
+            Answers p CAP self.old.items (SplitOff at) (answer_of result) self.new.items }
+        ensures costs { CallCosts (SplitOff at) (answer_of result) self.old self.new }
+    {
+        if at > self.len() {
+            return Reply::OutOfRange(None);
+        }
+        match self.split_off(at) {
+            Ok(tail) => Reply::Split(tail),
+            Err(_) => Reply::NoMemory,
         }
     }
 }

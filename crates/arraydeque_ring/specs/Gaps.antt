@@ -8,7 +8,8 @@ module _ {X : Type 0} where
 
   -- the m elements from the index `at` on, and the n behind them, in each other's place
   abbrev pub runs_swapped : ℕ → ℕ → ℕ → List X → List X
-  runs_swapped at m n xs = take at xs ++ (take n (drop (at + m) xs) ++ (take m (drop at xs) ++ drop (at + m + n) xs))
+  runs_swapped at m n xs = take at xs
+      ++ (take n (drop (at + m) xs) ++ (take m (drop at xs) ++ drop (at + m + n) xs))
 
   -- the places, with nothing in the len from the index `at` on
   abbrev pub run_emptied : ℕ → ℕ → List (Option X) → List (Option X)

@@ -13,8 +13,8 @@ abbrev pub is_among : ℕ → ℕ → ℕ → ℕ → Bool
 is_among from len n place = nat_lt (distance from place n) len
 
 -- of n places, the len from dst on don't meet those from src on at both their ends
-abbrev pub AreApart : ℕ → ℕ → ℕ → ℕ → Type 0
-AreApart dst src len n = (len ≤ distance src dst n) ⊎ (distance src dst n + len ≤ n)
+abbrev pub MeetAtOneEndAtMost : ℕ → ℕ → ℕ → ℕ → Type 0
+MeetAtOneEndAtMost dst src len n = (len ≤ distance src dst n) ⊎ (distance src dst n + len ≤ n)
 
 module _ {X : Type 0} where
   -- the len places from `from` on, round the end, hold values
@@ -50,5 +50,5 @@ module _ {X : Type 0} where
   pub record CanMove (dst src len : ℕ) (ps : List (Option X)) : Type 0 where
     pub dst_in_region : dst < length ps
     pub src_in_region : src < length ps
-    pub apart : AreApart dst src len (length ps)
+    pub apart : MeetAtOneEndAtMost dst src len (length ps)
     pub filled : IsFilledRound src len ps

@@ -20,6 +20,7 @@ use crate::slots::Slots;
 use crate::wrap::wrap_add;
 use std::alloc::{AllocError, Global};
 use std::marker::Model;
+use std::mem::replace;
 
 /// A list of at most `capacity` items in one region, whose front may stand at any place.
 pub struct Ring<T> {
@@ -198,6 +199,29 @@ impl<T> Ring<T> {
                 self.slots.slice(0, self.len - to_end),
             )
         }
+    }
+
+    /// The ring itself, in whose place one of no places is left.
+    #[inline]
+    pub fn moved_out(&mut self) -> Ring<T>
+        ensures value { result ≡ self.old }
+        ensures left { self.new ≡ empty_ring 0 }
+    {
+        Ring {
+            slots: self.slots.moved_out(),
+            start: replace(&mut self.start, 0),
+            len: replace(&mut self.len, 0),
+            alloc: self.alloc,
+        }
+    }
+
+    /// Becomes another ring. It must hold no item itself, and gives its own region back.
+    #[inline]
+    pub fn move_in(&mut self, ring: Ring<T>)
+        requires { self.old.items ≡ [] }
+        ensures { self.new ≡ ring }
+    {
+        replace(self, ring).give_back();
     }
 
     /// Gives the region of a ring that holds no item back.

@@ -84,13 +84,11 @@ fn every_list_of_few_items(rt: HostRuntime) -> Result<(), Fail> {
 #[test]
 fn long_lists_of_small_and_large_items(rt: HostRuntime) -> Result<(), Fail> {
     for capacity in 60..=70 {
-        for start in [1, 2, 9, 30, 33, 45, 59] {
-            for len in [31, 48, 59, 60] {
+        for start in 0..capacity {
+            for len in [1, capacity / 2, capacity - 12, capacity - 1, capacity] {
                 ring_comes_to_one_piece::<u8>(&rt, rt.alloc(), capacity, start, len)?;
                 ring_comes_to_one_piece::<Wide>(&rt, rt.alloc(), capacity, start, len)?;
             }
-            ring_comes_to_one_piece::<u8>(&rt, rt.alloc(), capacity, start, capacity)?;
-            ring_comes_to_one_piece::<Wide>(&rt, rt.alloc(), capacity, start, capacity)?;
         }
     }
     Ok(())

@@ -7,3 +7,5 @@ mod refusals;
 mod replies;
 #[cfg(test)]
 mod run;
+#[cfg(test)]
+mod small;

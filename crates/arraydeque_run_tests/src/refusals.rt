@@ -7,7 +7,8 @@ use arraydeque::{ArrayDeque, Saturating};
 use std::process::Abort;
 use std::test::Fail;
 
-/// The replies, of which the one to the drain may be that memory was refused. Answers what is left then.
+/// The replies, of which the one to the drain may be that memory was refused. Answers what is left
+/// then.
 fn compare_replies(rt: &impl Abort, replies: Vec<Reply<i64, 5, Saturating>>) -> &'static [i64] {
     let mut replies = replies.into_iter();
     assert!(rt; matches!(&replies.next(), Some(Reply::Done)));

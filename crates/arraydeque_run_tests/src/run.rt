@@ -107,7 +107,7 @@ fn parts_have_their_replies(rt: HostRuntime) -> Result<(), Fail> {
 #[test]
 fn a_wrapping_deque_has_its_replies(rt: HostRuntime) -> Result<(), Fail> {
     let four = vec![in rt.alloc(); 1, 2, 3, 4]?;
-    let one = vec![in rt.alloc(); 7]?;
+    let two_more = vec![in rt.alloc(); 7, 8]?;
     let two = vec![in rt.alloc(); 1, 0]?;
     let rows = vec![in rt.alloc();
         (Call::ExtendBack(four), "done"),
@@ -119,11 +119,11 @@ fn a_wrapping_deque_has_its_replies(rt: HostRuntime) -> Result<(), Fail> {
         (Call::Drain(1, 9), "out of range None"),
         (Call::PopFront, "item Some(3)"),
         (Call::PushBack(6), "displaced None"),
-        (Call::Extend(one), "done"),
+        (Call::Extend(two_more), "done"),
         (Call::ExtendFront(two), "done"),
         (Call::IsFull, "true"),
     ]?;
-    wrapping::<3>(&rt, rt.alloc(), rows, &[0, 1, 4])
+    wrapping::<3>(&rt, rt.alloc(), rows, &[0, 1, 6])
 }
 
 #[test]

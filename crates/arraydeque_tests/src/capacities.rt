@@ -119,10 +119,10 @@ fn extends_of_capacity_zero(rt: HostRuntime) -> Result<(), Fail> {
 
 #[test]
 fn extends_of_capacity_one(rt: HostRuntime) -> Result<(), Fail> {
-    for (way, last) in [(Way::Back, [4]), (Way::Front, [4]), (Way::Trait, [1])] {
-        let kept: [(&[i64], &[i64]); 1] = [(&[3, 4], &[1])];
+    let kept: [(&[i64], &[i64]); 1] = [(&[3, 4], &[1])];
+    let displaced: [(&[i64], &[i64]); 1] = [(&[3, 4], &[4])];
+    for way in [Way::Back, Way::Front, Way::Trait] {
         extend_in_turn::<1>(&rt, deque_at(rt.alloc(), 0, &[1])?, way, &kept)?;
-        let displaced: [(&[i64], &[i64]); 1] = [(&[3, 4], &last)];
         extend_wrapping_in_turn::<1>(&rt, wrapping_at(rt.alloc(), 0, &[1])?, way, &displaced)?;
     }
     Ok(())

@@ -1,4 +1,6 @@
 //! Which items are dropped, and in which order.
+mod handed_out;
+
 use crate::build::made;
 use arraydeque::run::Call;
 use arraydeque::{ArrayDeque, Saturating, Wrapping};
@@ -178,13 +180,13 @@ fn surplus_items_of_extends_are_dropped(rt: HostRuntime) -> Result<(), Fail> {
     assert_eq!(rt; drops.since(), 45);
     let mut deque: ArrayDeque<Noted<'_>, 3, Wrapping> = deque.into();
     deque.extend(vector_of(rt.alloc(), &drops, &[6, 7])?)?;
-    assert_eq!(rt; drops.since(), 67);
+    assert_eq!(rt; drops.since(), 12);
     let mut deque: ArrayDeque<Noted<'_>, 3, Saturating> = deque.into();
     deque.extend_back(vector_of(rt.alloc(), &drops, &[8])?);
     deque.extend_front(vector_of(rt.alloc(), &drops, &[9])?);
     assert_eq!(rt; drops.since(), 89);
     drop(deque);
-    assert_eq!(rt; drops.since(), 123);
+    assert_eq!(rt; drops.since(), 367);
     Ok(())
 }
 
@@ -231,6 +233,22 @@ fn a_drain_drops_nothing_that_it_gave(rt: HostRuntime) -> Result<(), Fail> {
     drop(last);
     drop(deque);
     assert_eq!(rt; drops.since(), 415);
+    Ok(())
+}
+
+#[test]
+fn an_iterator_by_value_drops_what_is_left(rt: HostRuntime) -> Result<(), Fail> {
+    let drops = Drops::new();
+    for start in 0..5 {
+        let mut items = deque_at::<5>(rt.alloc(), &drops, start, 5)?.into_iter();
+        let (first, last) = (items.next(), items.next_back());
+        assert_eq!(rt; drops.since(), 0, "start {start}");
+        drop(items);
+        assert_eq!(rt; drops.since(), 234, "start {start}");
+        drop(last);
+        drop(first);
+        assert_eq!(rt; drops.since(), 51, "start {start}");
+    }
     Ok(())
 }
 

@@ -114,15 +114,23 @@ fn extends_past_three_places(rt: HostRuntime) -> Result<(), Fail> {
 }
 
 #[test]
-fn the_trait_displaces_none(rt: HostRuntime) -> Result<(), Fail> {
-    let lists: [(&[i64], &[i64]); 1] = [(&[3, 4, 5], &[1, 2, 3])];
-    extend_in_turn::<3>(&rt, deque_at(rt.alloc(), 0, &[1, 2])?, Way::Trait, &lists)?;
-    extend_wrapping_in_turn::<3>(
-        &rt,
-        wrapping_at(rt.alloc(), 0, &[1, 2])?,
-        Way::Trait,
-        &lists,
-    )?;
+fn the_trait_displaces_where_the_policy_does(rt: HostRuntime) -> Result<(), Fail> {
+    let kept: [(&[i64], &[i64]); 2] = [(&[], &[1, 2]), (&[3, 4, 5], &[1, 2, 3])];
+    let displaced: [(&[i64], &[i64]); 2] = [(&[], &[1, 2]), (&[3, 4, 5], &[3, 4, 5])];
+    for start in 0..3 {
+        extend_in_turn::<3>(
+            &rt,
+            deque_at(rt.alloc(), start, &[1, 2])?,
+            Way::Trait,
+            &kept,
+        )?;
+        extend_wrapping_in_turn::<3>(
+            &rt,
+            wrapping_at(rt.alloc(), start, &[1, 2])?,
+            Way::Trait,
+            &displaced,
+        )?;
+    }
     Ok(())
 }
 

@@ -3,27 +3,22 @@
 #![tactic(auto)]
 
 #[cfg(test)]
+use arraydeque_samples::{asked, build};
+
+#[cfg(test)]
 mod access;
 #[cfg(test)]
-mod asked;
-#[cfg(test)]
-mod build;
-#[cfg(test)]
 mod capacities;
-#[cfg(test)]
-mod clones;
-#[cfg(test)]
-mod compared;
 #[cfg(test)]
 mod deque;
 #[cfg(test)]
 mod drops;
 #[cfg(test)]
+mod examples;
+#[cfg(test)]
 mod extend;
 #[cfg(test)]
 mod linearize;
-#[cfg(test)]
-mod lookahead;
 #[cfg(test)]
 mod makers;
 #[cfg(test)]

@@ -1,6 +1,7 @@
 //! What comes back where memory is refused. Each test holds where none is, and whichever request of
 //! the calls that it is of is refused; where one is refused that its set-up makes, it ends there.
 mod compared;
+mod new;
 
 use crate::asked::Script;
 use crate::build::{deque_at, holds};

@@ -1,7 +1,9 @@
-//! What may cross threads: a deque, what was drained from one, and the errors, where their items may.
+//! What may cross threads: a deque, its iterators and the errors, where their items may.
 use crate::build::holds;
 use arraydeque::behavior::Behavior;
-use arraydeque::{ArrayDeque, CapacityError, Drain, MakeError, Saturating, Wrapping};
+use arraydeque::{
+    ArrayDeque, CapacityError, Drain, IntoIter, Iter, MakeError, Saturating, Wrapping,
+};
 use std::marker::{Send, Sync};
 use std::test::Fail;
 
@@ -35,6 +37,26 @@ fn drain_shared<T: Sync>(drain: &Drain<T>) -> &Drain<T> {
     sent(shared(drain))
 }
 
+fn iter_sent<'a, T: Sync>(items: Iter<'a, T>) -> Iter<'a, T> {
+    sent(items)
+}
+
+fn iter_shared<'a, 'b, T: Sync>(items: &'b Iter<'a, T>) -> &'b Iter<'a, T> {
+    sent(shared(items))
+}
+
+fn into_iter_sent<T: Send, const CAP: usize, B: Behavior + Send>(
+    items: IntoIter<T, CAP, B>,
+) -> IntoIter<T, CAP, B> {
+    sent(items)
+}
+
+fn into_iter_shared<T: Sync, const CAP: usize, B: Behavior + Sync>(
+    items: &IntoIter<T, CAP, B>,
+) -> &IntoIter<T, CAP, B> {
+    sent(shared(items))
+}
+
 fn errors_sent<T: Send>(
     full: CapacityError<T>,
     refused: MakeError<T>,
@@ -60,6 +82,18 @@ fn deques_cross_threads(rt: HostRuntime) -> Result<(), Fail> {
     assert!(rt; holds(deque_shared(&deque), &[1, 2]));
     let drain = drain_sent(deque.drain(1..)?);
     assert_eq!(rt; drain_shared(&drain).len(), 1);
+    Ok(())
+}
+
+#[test]
+fn iterators_cross_threads(rt: HostRuntime) -> Result<(), Fail> {
+    let mut deque: ArrayDeque<u64, 2, Saturating> = ArrayDeque::new(rt.alloc())?;
+    deque.push_back(1).map_err(|_| "no room")?;
+    assert_eq!(rt; iter_shared(&iter_sent(deque.iter())).len(), 1);
+    assert_eq!(rt;
+        into_iter_shared(&into_iter_sent(deque.into_iter())).len(),
+        1
+    );
     Ok(())
 }
 

@@ -127,29 +127,45 @@ fn good_runs(rt: HostRuntime) -> Result<(), Fail> {
         ),
         (
             "sat 2",
-            b"extend_back 7 8 9\nreplace 1 -1\nreplace 2 5\nswap 0 1\nswap 0 2\npop_front\npop_front\npop_front\n",
+            b"extend_back 7 8 9\nreplace 1 -1\nreplace 2 5\nswap 0 1\nswap 0 2\npop_front\n\
+              pop_front\npop_front\n",
             b"ok\n8\nrange\nok\nrange\n-1\n7\nnone\nlist: []\n",
         ),
         (
             "sat 3",
-            b"insert 0 3\ninsert 0 1\ninsert 1 2\ninsert 1 4\ninsert 4 9\nremove 1\nlinearize\nis_full\nsplit_off 1\n",
+            b"insert 0 3\ninsert 0 1\ninsert 1 2\ninsert 1 4\ninsert 4 9\nremove 1\nlinearize\n\
+              is_full\nsplit_off 1\n",
             b"ok\nok\nok\nfull 4\nrange\n2\nok\nfalse\n[3]\nlist: [1]\n",
         ),
         (
             "sat 7",
-            b"extend_back 0 1 2 3 4 5\ninsert 2 9\nremove 3\nswap 0 5\nswap_remove_back 4\nswap_remove_front 0\ninsert 9 8\n",
+            b"extend_back 0 1 2 3 4 5\ninsert 2 9\nremove 3\nswap 0 5\nswap_remove_back 4\n\
+              swap_remove_front 0\ninsert 9 8\n",
             b"ok\nok\n2\nok\n4\n5\nrange\nlist: [1, 9, 3, 0]\n",
         ),
         (
             "sat 0",
-            b"insert 0 5\ninsert 1 5\nremove 0\nswap 0 0\nreplace 0 5\nextend_front 1 2\ndrain 0 0\ndrain 0 1\nsplit_off 0\nlinearize\nclear\nis_empty\nis_full\n",
+            b"insert 0 5\ninsert 1 5\nremove 0\nswap 0 0\nreplace 0 5\nextend_front 1 2\n\
+              drain 0 0\ndrain 0 1\nsplit_off 0\nlinearize\nclear\nis_empty\nis_full\n",
             b"full 5\nrange\nnone\nrange\nrange\nok\n[]\nrange\n[]\nok\nok\ntrue\ntrue\nlist: []\n",
         ),
         (
             "wrap 1",
-            b"push_back 1\npush_front 2\npush_back 3\nextend_back 4 5\nextend_front 6 7\nsplit_off 0\nsplit_off 0\nlen\n",
+            b"push_back 1\npush_front 2\npush_back 3\nextend_back 4 5\nextend_front 6 7\n\
+              split_off 0\nsplit_off 0\nlen\n",
             b"none\n1\n2\nok\nok\n[7]\n[]\n0\nlist: []\n",
         ),
+        (
+            "wrap 3",
+            b"extend_back 1 2\nextend 3 4 5\n",
+            b"ok\nok\nlist: [3, 4, 5]\n",
+        ),
+        (
+            "sat 3",
+            b"extend_back 1 2\nextend 3 4 5\n",
+            b"ok\nok\nlist: [1, 2, 3]\n",
+        ),
+        ("wrap 0", b"extend 1 2\n", b"ok\nlist: []\n"),
         ("wrap 2", b"capacity\n", b"2\nlist: []\n"),
         ("wrap 5", b"capacity\n", b"5\nlist: []\n"),
         ("wrap 7", b"capacity\n", b"7\nlist: []\n"),
@@ -343,6 +359,78 @@ fn failing_faults(rt: HostRuntime) -> Result<(), Fail> {
             );
             assert_eq!(rt; ended, status, "{calls}");
         }
+    }
+    Ok(())
+}
+
+/// A stream whose calls stop short at one offset of all that it moves.
+#[derive(Drop)]
+struct Short<S> {
+    stream: S,
+    left: usize,
+}
+
+impl<S> Short<S> {
+    /// How many bytes the next call moves, of so many: none beyond the offset, until that is
+    /// reached.
+    fn count(&mut self, len: usize) -> usize {
+        let count = if self.left == 0 {
+            len
+        } else {
+            len.min(self.left)
+        };
+        self.left = self.left.saturating_sub(count);
+        count
+    }
+}
+
+impl<S: Read> Read for Short<S> {
+    fn read(&mut self, buffer: &mut [u8]) -> io::Result<usize> {
+        let count = self.count(buffer.len()).min(buffer.len());
+        self.stream.read(&mut buffer[..count])
+    }
+}
+
+impl<S: Write> Write for Short<S> {
+    fn write(&mut self, buffer: &[u8]) -> io::Result<usize> {
+        let count = self.count(buffer.len()).min(buffer.len());
+        self.stream.write(&buffer[..count])
+    }
+
+    fn flush(&mut self) -> io::Result<()> {
+        self.stream.flush()
+    }
+}
+
+#[test]
+fn short_reads(rt: HostRuntime) -> Result<(), Fail> {
+    for left in 0..=CALLS.len() {
+        let input = Short {
+            stream: CALLS,
+            left,
+        };
+        let end = run(rt.alloc(), "sat 3", input)?;
+        assert!(rt; end.is(0, REPLIES, b""), "{left}: {end:?}");
+    }
+    Ok(())
+}
+
+#[test]
+fn short_writes(rt: HostRuntime) -> Result<(), Fail> {
+    let alloc = rt.alloc();
+    let args = words(alloc, "sat 3")?;
+    for left in 0..=REPLIES.len() {
+        let mut end = End {
+            status: 0,
+            output: Vec::new(alloc),
+            faults: Vec::new(alloc),
+        };
+        let output = Short {
+            stream: &mut end.output,
+            left,
+        };
+        end.status = drive(alloc, args.as_slice(), CALLS, output, &mut end.faults);
+        assert!(rt; end.is(0, REPLIES, b""), "{left}: {end:?}");
     }
     Ok(())
 }

@@ -1,11 +1,11 @@
 //! Adding the items of an iterator.
 ghost use Rattle.std.specs.Prelude.{◌≡◌, ◌<◌, ◌-◌, ◌++◌, length, reverse, take, IsOk};
 ghost use Rattle.std.specs.Iterator.{IsFiniteIterable, ExtendsWithItems};
-ghost use Rattle.arraydeque.specs.Deque.{keep_last, with_back, with_front, wrapped_back, wrapped_front};
+ghost use Rattle.arraydeque.specs.Deque.{keep_last, with_back, with_front, wrapped_back, wrapped_front, WrapsBack};
 ghost use Rattle.arraydeque.specs.Sources.{IsIterable, TakesFrom, TakesAll};
 
 use super::ArrayDeque;
-use crate::behavior::{Behavior, Saturating, Wrapping};
+use crate::behavior::{Saturating, Wrapping};
 use std::alloc::AllocError;
 
 impl<T, const CAP: usize> ArrayDeque<T, CAP, Saturating> {
@@ -16,7 +16,12 @@ impl<T, const CAP: usize> ArrayDeque<T, CAP, Saturating> {
         ensures { TakesFrom I.into_iter_gives I.IntoIter.next_gives iter
             (CAP - length self.old.items) (λ xs. self.new ≡ with_back xs self.old) }
     {
-        self.fill_back(iter);
+        let room = self.room();
+        let mut ring = self.ring.moved_out();
+        for element in iter.into_iter().take(room) {
+            ring.push_back(element);
+        }
+        self.ring.move_in(ring);
     }
 
     /// Adds items before the first one while there is room, so that the last one taken comes to
@@ -28,9 +33,18 @@ impl<T, const CAP: usize> ArrayDeque<T, CAP, Saturating> {
             (CAP - length self.old.items) (λ xs. self.new ≡ with_front CAP xs self.old) }
     {
         let room = self.room();
+        let mut ring = self.ring.moved_out();
         for element in iter.into_iter().take(room) {
-            self.ring.push_front(element);
+            ring.push_front(element);
         }
+        self.ring.move_in(ring);
+    }
+
+    /// How many more items there may be.
+    fn room(&self) -> usize
+        ensures { result ≡ CAP - length self.now.items }
+    {
+        CAP - self.len()
     }
 }
 
@@ -47,9 +61,11 @@ impl<T: Drop, const CAP: usize> ArrayDeque<T, CAP, Wrapping> {
     {
         // That the list is within the capacity is what `len` promises.
         let _len = self.len();
+        let mut deque = Self::of(self.ring.moved_out());
         for element in iter {
-            drop(self.push_back(element));
+            drop(deque.push_back(element));
         }
+        self.ring.move_in(deque.into_ring());
     }
 
     /// Pushes each item of an iterator that ends before the first one, so that the last one comes
@@ -65,13 +81,15 @@ impl<T: Drop, const CAP: usize> ArrayDeque<T, CAP, Wrapping> {
     {
         // That the list is within the capacity is what `len` promises.
         let _len = self.len();
+        let mut deque = Self::of(self.ring.moved_out());
         for element in iter {
-            drop(self.push_front(element));
+            drop(deque.push_front(element));
         }
+        self.ring.move_in(deque.into_ring());
     }
 }
 
-impl<T: Drop, const CAP: usize, B: Behavior> Extend<T> for ArrayDeque<T, CAP, B> {
+impl<T: Drop, const CAP: usize> Extend<T> for ArrayDeque<T, CAP, Saturating> {
     ghost extend_gives = { λ old xs new. new ≡ with_back (take (CAP - length old.items) xs) old };
 
     /// Adds items of an iterator that ends behind the last one while there is room, displaces none,
@@ -95,23 +113,21 @@ impl<T: Drop, const CAP: usize, B: Behavior> Extend<T> for ArrayDeque<T, CAP, B>
     }
 }
 
-impl<T, const CAP: usize, B: Behavior> ArrayDeque<T, CAP, B> {
-    /// Adds items behind the last one while there is room, and asks for no more.
-    pub(crate) fn fill_back<I: IntoIterator<Item = T>>(&mut self, iter: I)
-        requires { IsIterable I.into_iter_gives I.IntoIter.can_next iter }
-        ensures { TakesFrom I.into_iter_gives I.IntoIter.next_gives iter
-            (CAP - length self.old.items) (λ xs. self.new ≡ with_back xs self.old) }
-    {
-        let room = self.room();
-        for element in iter.into_iter().take(room) {
-            self.ring.push_back(element);
-        }
-    }
+impl<T: Drop, const CAP: usize> Extend<T> for ArrayDeque<T, CAP, Wrapping> {
+    ghost extend_gives = { WrapsBack CAP };
 
-    /// How many more items there may be.
-    fn room(&self) -> usize
-        ensures { result ≡ CAP - length self.now.items }
+    /// Pushes each item of an iterator that ends behind the last one, as `extend_back` does. The
+    /// answer is always `Ok`.
+    fn extend<I: IntoIterator<Item = T>>(&mut self, iter: I) -> Result<(), AllocError>
+        requires { IsFiniteIterable
+            I.into_iter_gives I.IntoIter.can_next I.IntoIter.remaining iter }
+        ensures ran { ExtendsWithItems I.into_iter_gives I.IntoIter.next_gives
+            (WrapsBack CAP) iter self.old self.new result }
+        ensures taken { TakesAll I.into_iter_gives I.IntoIter.next_gives iter
+            (λ xs. WrapsBack CAP self.old xs self.new) }
+        ensures ok { IsOk result }
     {
-        CAP - self.len()
+        self.extend_back(iter);
+        Ok(())
     }
 }

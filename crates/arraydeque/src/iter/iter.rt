@@ -8,7 +8,6 @@ use crate::deque::ArrayDeque;
 use std::alloc::AllocError;
 use std::iter::FusedIterator;
 use std::marker::Model;
-use std::mem;
 
 /// The items of a deque, front to back or back to front.
 ///
@@ -38,11 +37,12 @@ impl<'a, T> Iterator for Iter<'a, T> {
 
     #[inline]
     fn next(&mut self) -> Option<&'a T> {
-        if self.first.is_empty() {
-            self.first = mem::take(&mut self.second);
+        if let Some((item, rest)) = self.first.split_first() {
+            self.first = rest;
+            return Some(item);
         }
-        let (item, rest) = self.first.split_first()?;
-        self.first = rest;
+        let (item, rest) = self.second.split_first()?;
+        self.second = rest;
         Some(item)
     }
 
@@ -62,11 +62,12 @@ impl<'a, T> DoubleEndedIterator for Iter<'a, T> {
 
     #[inline]
     fn next_back(&mut self) -> Option<&'a T> {
-        if self.second.is_empty() {
-            self.second = mem::take(&mut self.first);
+        if let Some((item, rest)) = self.second.split_last() {
+            self.second = rest;
+            return Some(item);
         }
-        let (item, rest) = self.second.split_last()?;
-        self.second = rest;
+        let (item, rest) = self.first.split_last()?;
+        self.first = rest;
         Some(item)
     }
 }

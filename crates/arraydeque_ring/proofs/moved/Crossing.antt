@@ -5,7 +5,7 @@ use Rattle.std.proofs.lemmas.Bool.Decides.{nat_tests}
 use Rattle.std.proofs.lemmas.Grind.{common_steps}
 use Rattle.std.proofs.lemmas.List.{get_or-append_right}
 use Rattle.arraydeque_ring.specs.Gaps.{IsEmptyRun, runs_swapped}
-use Rattle.arraydeque_ring.specs.Moved.{AreApart, distance, IsFilledRound, IsFreeRound, run_moved}
+use Rattle.arraydeque_ring.specs.Moved.{MeetAtOneEndAtMost, distance, IsFilledRound, IsFreeRound, run_moved}
 use Rattle.arraydeque_ring.specs.Places.{held_at, IsFilledRun}
 use Rattle.arraydeque_ring.specs.Ring.{place_of, turned}
 use Rattle.arraydeque_ring.proofs.moved.Filled.{place_of-on}
@@ -53,13 +53,13 @@ module _ {X : Type 0} where
 
 -- what `wrap_move` asks, and what it leaves, of a run that moves from the index j on to the index i on
 pub record Moves {X : Type 0} (t i j len n : ℕ) (ps after : List (Option X)) : Type 0 where
-  pub apart : AreApart (place_of t i n) (place_of t j n) len n
+  pub apart : MeetAtOneEndAtMost (place_of t i n) (place_of t j n) len n
   pub filled : IsFilledRound (place_of t j n) len ps
   pub free : IsFreeRound (place_of t i n) (place_of t j n) len ps
   pub count : (if place_of t i n == place_of t j n then 0 else len) ≡ len
   pub is : turned t (run_moved (place_of t i n) (place_of t j n) len ps) ≡ after
 
-apart_by : (t i j len n : ℕ) → t < n → i + len ≤ n → j + len ≤ n → AreApart (place_of t i n) (place_of t j n) len n
+apart_by : (t i j len n : ℕ) → t < n → i + len ≤ n → j + len ≤ n → MeetAtOneEndAtMost (place_of t i n) (place_of t j n) len n
 apart_by t i j zero n t_in a b = inl (omega arith)
 apart_by t i j (suc len) n t_in a b = grind (arith, nat_tests, distance-turned t j i n t_in (omega arith) (omega arith), distance_is j i n (omega arith) (omega arith))
 

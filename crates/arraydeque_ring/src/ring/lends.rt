@@ -22,12 +22,15 @@ impl<T> Ring<T> {
     /// The items for writing in two slices: those from the start to the region's end, then the
     /// wrapped rest.
     ///
-    /// Whatever is written, there are as many items as before, and they start where they did.
+    /// Whatever is written, there are as many items as before, and they start where they did. A
+    /// caller whose proof needs that writes `iter_mut().into_slices()`: the prover follows the one
+    /// name of that loan, and not a pair.
     #[inline]
     pub fn as_mut_slices(&mut self) -> (&mut [T], &mut [T])
         ensures* writes_back { sem 𝓛 (lends_slices T.row self.entry result) }
         ensures joined { result.0.now ++ result.1.now ≡ self.old.items }
-        ensures one_piece { self.old.start + length self.old.items ≤ self.old.capacity → result.1.now ≡ [] }
+        ensures one_piece { self.old.start + length self.old.items ≤ self.old.capacity
+            → result.1.now ≡ [] }
     {
         self.lend().into_slices()
     }
@@ -39,7 +42,8 @@ impl<T> Ring<T> {
     pub fn lend(&mut self) -> IterMut<'_, T>
         ensures* writes_back { sem 𝓛 (lends_loan T.row self.entry result) }
         ensures value { remaining result ≡ self.old.items }
-        ensures one_piece { self.old.start + length self.old.items ≤ self.old.capacity → result.second.now ≡ [] }
+        ensures one_piece { self.old.start + length self.old.items ≤ self.old.capacity
+            → result.second.now ≡ [] }
     {
         let start = self.start;
         let len = self.len;

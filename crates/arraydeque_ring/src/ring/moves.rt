@@ -15,8 +15,8 @@ use crate::wrap::wrap_add;
 
 impl<T> Ring<T> {
     /// Adds an item before the one at an index, or behind the last one. The fewer items on either
-    /// side of it move: those before it where they are the fewer, and the start with them, else those
-    /// behind it.
+    /// side of it move: those before it where they are the fewer, and the start with them, else
+    /// those behind it.
     pub fn insert(&mut self, index: usize, item: T)
         requires in_bounds { index ≤ length self.old.items }
         requires room { length self.old.items < self.old.capacity }
@@ -24,8 +24,8 @@ impl<T> Ring<T> {
         ensures capacity { self.new.capacity ≡ self.old.capacity }
         ensures start { self.new.start ≡
             start_opened index (length self.old.items - index) self.old.capacity self.old.start }
-        ensures steps { self.new.steps ≡
-            more_puts 1 (more_moves (moves_to_insert index (length self.old.items)) self.old.steps) }
+        ensures steps { self.new.steps ≡ more_puts 1
+            (more_moves (moves_to_insert index (length self.old.items)) self.old.steps) }
         ensures fewest { let old = self.old in let n = length old.items in
             IsFewest (moves_to_insert index n) old.capacity
             (changed_insert index n old.capacity old.start) self.new.start }
@@ -49,10 +49,10 @@ impl<T> Ring<T> {
         ensures value { slice_get self.old.items index ≡ Some result }
         ensures items { self.new.items ≡ remove self.old.items index }
         ensures capacity { self.new.capacity ≡ self.old.capacity }
-        ensures start { self.new.start ≡
-            start_closed index 1 (length self.old.items - 1 - index) self.old.capacity self.old.start }
-        ensures steps { self.new.steps ≡
-            more_moves (moves_to_remove index (length self.old.items)) (more_takes 1 self.old.steps) }
+        ensures start { self.new.start ≡ start_closed
+            index 1 (length self.old.items - 1 - index) self.old.capacity self.old.start }
+        ensures steps { self.new.steps ≡ more_moves
+            (moves_to_remove index (length self.old.items)) (more_takes 1 self.old.steps) }
         ensures fewest { let old = self.old in let n = length old.items in
             IsFewest (moves_to_remove index n) old.capacity
             (changed_remove index n old.capacity old.start) self.new.start }

@@ -1,4 +1,5 @@
-//! Parts of a ring that become rings of their own: the items of a range, and those from an index on.
+//! Parts of a ring that become rings of their own: the items of a range, and those from an index
+//! on.
 ghost use Rattle.std.specs.Prelude.{◌≡◌, ◌-◌, ◌+◌, ◌*◌, ◌<◌, ◌≤◌, ◌++◌, length, take, drop, slice_range, min, nat_lt, if◌then◌else◌, IfOk, OnOk, OnErr};
 ghost use Rattle.std.specs.List.{remove_range};
 ghost use Rattle.std.specs.Mem.{type_size};
@@ -14,6 +15,7 @@ use super::moves::close_gap;
 use crate::slots::Slots;
 use crate::wrap::wrap_add;
 use std::alloc::AllocError;
+use std::mem::replace;
 
 impl<T> Ring<T> {
     /// Takes out the items from the index `from` up to `to`, which is not among them. The fewer
@@ -96,8 +98,12 @@ fn take_run<T>(slots: &mut Slots<T>, start: usize, at: usize, len: usize, taken:
     } }
 {
     let capacity = slots.capacity();
+    let mut here = slots.moved_out();
+    let mut there = taken.moved_out();
     for k in 0..len {
-        let item = slots.take(wrap_add(start, at + k, capacity));
-        taken.push_back(item);
+        let item = here.take(wrap_add(start, at + k, capacity));
+        there.push_back(item);
     }
+    let _nothing = replace(slots, here);
+    taken.move_in(there);
 }

@@ -3,7 +3,7 @@
 //! A run goes by plain copies, each of which passes the region's end on neither side and is made
 //! of blocks, the ones that lie ahead first. No call here touches memory but by `move_block`.
 ghost use Rattle.std.specs.Prelude.{◌≡◌, ◌+◌, ◌-◌, ◌<◌, ◌≤◌, length, if◌then◌else◌, ◌==◌};
-ghost use Rattle.arraydeque_ring.specs.Moved.{AreApart, IsFilledRound, IsFreeRound, CanCopy, CanMove, run_moved};
+ghost use Rattle.arraydeque_ring.specs.Moved.{MeetAtOneEndAtMost, IsFilledRound, IsFreeRound, CanCopy, CanMove, run_moved};
 ghost use Rattle.arraydeque_ring.specs.Ring.{place_of};
 ghost use Rattle.arraydeque_ring.specs.Steps.{more_moves};
 
@@ -19,7 +19,7 @@ impl<T> Slots<T> {
     pub fn wrap_move(&mut self, dst: usize, src: usize, len: usize)
         requires dst_in_region { dst < length self.old.places }
         requires src_in_region { src < length self.old.places }
-        requires apart { AreApart dst src len (length self.old.places) }
+        requires apart { MeetAtOneEndAtMost dst src len (length self.old.places) }
         requires filled { IsFilledRound src len self.old.places }
         requires free { IsFreeRound dst src len self.old.places }
         ensures places { self.new.places ≡ run_moved dst src len self.old.places }

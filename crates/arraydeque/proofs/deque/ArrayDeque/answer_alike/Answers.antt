@@ -1,18 +1,5 @@
-use Rattle.std.proofs.Common.{refl, ap, arith}
-use Rattle.std.proofs.lemmas.Grind.{common_steps}
-use Rattle.std.specs.Vec.Iter.{into_iter_items}
-use Rattle.arraydeque.specs.Deque.{DequeState}
 use Rattle.arraydeque.proofs.Exchanges.{back_costs, front_costs}
-use Rattle.arraydeque.proofs.Taken.{TakesFrom-list}
 use Rattle.arraydeque.proofs.deque.ArrayDeque.answer_alike.Goals as goal
-
-pub returns-in-Extend-clause-answers : goal.returns-in-Extend-clause-answers
-returns-in-Extend-clause-answers g c p =
-    let added = TakesFrom-list _ _ _ _ c.in-Extend.elements.items into_iter_items _ c.fill_back.ensures (λ it became. (became.0, became.3)) in
-    rw c.in-Extend.is (refl, ap (λ (d : DequeState g.row.T.Denot). d.items) added)
-
-pub returns-in-Err-clause-answers : goal.returns-in-Err-clause-answers
-returns-in-Err-clause-answers g c p = rw c.in-Drain.is (grind (arith, common_steps))
 
 pub returns-in-SwapRemoveBack-clause-costs : goal.returns-in-SwapRemoveBack-clause-costs
 returns-in-SwapRemoveBack-clause-costs g c =
@@ -23,3 +10,27 @@ pub returns-in-SwapRemoveFront-clause-costs : goal.returns-in-SwapRemoveFront-cl
 returns-in-SwapRemoveFront-clause-costs g c =
     let removed = c.swap_remove_front.ensures in
     rw c.in-SwapRemoveFront.is (front_costs c.in-SwapRemoveFront.index _ _ _ removed.value removed.steps removed.none)
+
+pub returns-in-Swap-clause-answers : goal.returns-in-Swap-clause-answers
+returns-in-Swap-clause-answers g c p = rw c.in-Swap.is (c.answer_swap.ensures.answers p)
+
+pub returns-in-Swap-clause-costs : goal.returns-in-Swap-clause-costs
+returns-in-Swap-clause-costs g c = rw c.in-Swap.is c.answer_swap.ensures.costs
+
+pub returns-in-Replace-clause-answers : goal.returns-in-Replace-clause-answers
+returns-in-Replace-clause-answers g c p = rw c.in-Replace.is (c.answer_replace.ensures.answers p)
+
+pub returns-in-Replace-clause-costs : goal.returns-in-Replace-clause-costs
+returns-in-Replace-clause-costs g c = rw c.in-Replace.is c.answer_replace.ensures.costs
+
+pub returns-in-Drain-clause-answers : goal.returns-in-Drain-clause-answers
+returns-in-Drain-clause-answers g c p = rw c.in-Drain.is (c.answer_drain.ensures.answers p)
+
+pub returns-in-Drain-clause-costs : goal.returns-in-Drain-clause-costs
+returns-in-Drain-clause-costs g c = rw c.in-Drain.is c.answer_drain.ensures.costs
+
+pub returns-in-SplitOff-clause-answers : goal.returns-in-SplitOff-clause-answers
+returns-in-SplitOff-clause-answers g c p = rw c.in-SplitOff.is (c.answer_split_off.ensures.answers p)
+
+pub returns-in-SplitOff-clause-costs : goal.returns-in-SplitOff-clause-costs
+returns-in-SplitOff-clause-costs g c = rw c.in-SplitOff.is c.answer_split_off.ensures.costs

@@ -1,6 +1,5 @@
 use Rattle.std.proofs.Common.{false, ap}
 use Rattle.arraydeque.specs.Deque.{DequeState}
-use Rattle.arraydeque.specs.Lookahead.{ScannerState}
 use Rattle.arraydeque.proofs.Scanned.{WholeRun-fresh}
 use Rattle.arraydeque.proofs.lookahead.Scanner.new.Goals as goal
 

@@ -1,4 +1,4 @@
-use Rattle.std.proofs.Common.{refl, ap}
+use Rattle.std.proofs.Common.{refl, ap, inl, inr}
 use Rattle.std.specs.Vec.Iter.{into_iter_items}
 use Rattle.arraydeque.specs.Deque.{DequeState}
 use Rattle.arraydeque.proofs.Alike.{IsAlike-rest}
@@ -8,13 +8,17 @@ use Rattle.arraydeque.proofs.run.SaturatingAnswering.answer.Goals as goal
 pub answer_alike-requires : goal.answer_alike-requires
 answer_alike-requires g c =
     let other = c.in_default in
-    let alike = IsAlike-rest c.args.call other.not-PushFront other.not-PushBack other.not-Insert other.not-ExtendBack other.not-ExtendFront in
+    let alike = IsAlike-rest c.args.call other.not-PushFront other.not-PushBack other.not-Insert other.not-ExtendBack other.not-ExtendFront other.not-Extend in
     assumption alike
 
 pub returns-in-ExtendBack-clause-answers : goal.returns-in-ExtendBack-clause-answers
 returns-in-ExtendBack-clause-answers g c =
     let added = TakesFrom-list _ _ _ _ c.in-ExtendBack.elements.items into_iter_items _ c.extend_back.ensures (λ it became. (became.0, became.3)) in
-    rw c.in-ExtendBack.is (refl, ap (λ (d : DequeState g.row.T.Denot). d.items) added)
+    let left = ap (λ (d : DequeState g.row.T.Denot). d.items) added in
+    elim c.in-ExtendBack.is [
+      | inl back ↦ rw back (refl, left)
+      | inr std ↦ rw std (refl, left)
+    ]
 
 pub returns-in-ExtendFront-clause-answers : goal.returns-in-ExtendFront-clause-answers
 returns-in-ExtendFront-clause-answers g c =

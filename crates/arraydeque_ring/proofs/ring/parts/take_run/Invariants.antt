@@ -5,10 +5,10 @@ use Rattle.arraydeque_ring.specs.Steps.{more_puts, more_takes}
 use Rattle.arraydeque_ring.proofs.ring.parts.take_run.Given as goal
 
 abbrev pub invariant-loop-k : goal.invariant-loop-k
-invariant-loop-k g l = let old = turned l.start l.initial.slots.places in record {
-  capacity : length l.slots.places ≡ l.capacity;
-  places : turned l.start l.slots.places ≡ run_emptied l.at l.k old;
-  steps : l.slots.steps ≡ more_takes l.k l.initial.slots.steps;
-  many : length l.taken.items ≡ length l.initial.taken.items + l.k;
-  taken : l.taken ≡ record l.initial.taken { items = l.initial.taken.items ++ values (take l.k (drop l.at old)); steps = more_puts l.k l.initial.taken.steps };
+invariant-loop-k g l = let old = turned l.start l.fn.slots.places in record {
+  capacity : length l.here.places ≡ l.capacity;
+  places : turned l.start l.here.places ≡ run_emptied l.at l.k old;
+  steps : l.here.steps ≡ more_takes l.k l.fn.slots.steps;
+  many : length l.there.items ≡ length l.fn.taken.items + l.k;
+  taken : l.there ≡ record l.fn.taken { items = l.fn.taken.items ++ values (take l.k (drop l.at old)); steps = more_puts l.k l.fn.taken.steps };
 }

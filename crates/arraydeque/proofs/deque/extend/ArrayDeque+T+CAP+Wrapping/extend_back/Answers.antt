@@ -1,6 +1,6 @@
-use Rattle.std.proofs.Common.{[], ◌∷◌, ◌++◌, append_assoc, rules}
+use Rattle.std.proofs.Common.{ap, ◌∙◌, [], ◌∷◌, ◌++◌, append_assoc, rules}
 use Rattle.arraydeque.proofs.KeepLast.{keep_last-append}
-use Rattle.arraydeque.proofs.Pushed.{wrapped_back-push}
+use Rattle.arraydeque.proofs.Pushed.{of_ring, wrapped_back-push}
 use Rattle.arraydeque.proofs.Taken.{TakesAll-loop}
 use Rattle.arraydeque.proofs.deque.extend.ArrayDeque+T+CAP+Wrapping.extend_back.Goals as goal
 
@@ -13,7 +13,7 @@ loop-element-preserved g c =
       can_next = search rules;
       finite = search rules;
       items = items;
-      pushed = λ some. wrapped_back-push g.row.CAP c.args.self.now c.loop-element.self c.push_back.new.self c.loop-element.yielded c.in-Some.element
+      pushed = λ some. wrapped_back-push g.row.CAP c.args.self.now c.loop-element.deque c.push_back.new.self c.loop-element.yielded c.in-Some.element
           (was.pushed some) items (push.start some) (push.steps some);
       no_places = search rules;
     }
@@ -21,5 +21,6 @@ loop-element-preserved g c =
 pub returns : goal.returns
 returns g c =
     let left = c.loop-element.invariant in
+    let same = ap of_ring (c.move_in.ensures ∙ c.into_ring.ensures) in
     TakesAll-loop g.I.IntoIterator.into_iter_gives g.I.IntoIter.Iterator.next_gives c.args.iter _ c.into_iter-element-iterator.result c.into_iter-element-iterator.ensures.into_iter_gives
-    c.loop-element.yielded (left.items, left.pushed, left.no_places) c.loop-element.element-iterator c.next.new.self c.loop-element.yielded_by c.in-None.ensures.steps
+    c.loop-element.yielded (ap (λ d. d.items) same ∙ left.items, (λ some. same ∙ left.pushed some), λ none. same ∙ left.no_places none) c.loop-element.element-iterator c.next.new.self c.loop-element.yielded_by c.in-None.ensures.steps

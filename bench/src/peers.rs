@@ -1,0 +1,228 @@
+//! The two peers, by one set of calls.
+use arraydeque::{ArrayDeque, Saturating, Wrapping};
+use std::collections::VecDeque;
+use std::hash::Hash;
+use std::ops::Range;
+
+/// A deque of at most `CAP` items. A push into a full one is refused.
+pub trait Peer<T>: Sized {
+    /// The same, but a push into a full one gives up the item at the other end.
+    type History: History<T>;
+
+    fn new() -> Self;
+    fn len(&self) -> usize;
+    fn push_back(&mut self, item: T) -> bool;
+    fn push_front(&mut self, item: T) -> bool;
+    fn pop_back(&mut self) -> Option<T>;
+    fn pop_front(&mut self) -> Option<T>;
+    fn get(&self, index: usize) -> Option<&T>;
+    fn at(&self, index: usize) -> &T;
+    fn back(&self) -> Option<&T>;
+    fn back_mut(&mut self) -> Option<&mut T>;
+    fn insert(&mut self, index: usize, item: T) -> bool;
+    fn remove(&mut self, index: usize) -> Option<T>;
+    fn extend_back(&mut self, items: impl IntoIterator<Item = T>);
+    fn clear(&mut self);
+    fn drain(&mut self, range: Range<usize>) -> impl Iterator<Item = T>;
+    fn split_off(&mut self, at: usize) -> Self;
+    fn into_items(self) -> impl Iterator<Item = T>;
+    fn retain(&mut self, keeps: impl FnMut(&T) -> bool);
+    fn iter<'a>(&'a self) -> impl Iterator<Item = &'a T>
+    where
+        T: 'a;
+    fn iter_mut<'a>(&'a mut self) -> impl Iterator<Item = &'a mut T>
+    where
+        T: 'a;
+    fn linearize(&mut self);
+    fn first_slice(&self) -> &[T];
+    fn second_slice(&self) -> &[T];
+}
+
+/// A deque whose oldest item goes when a new one comes.
+pub trait History<T> {
+    fn new() -> Self;
+    fn push_back(&mut self, item: T) -> Option<T>;
+}
+
+/// The calls that both peers have under the same names.
+macro_rules! shared {
+    () => {
+        #[inline]
+        fn len(&self) -> usize {
+            self.0.len()
+        }
+        #[inline]
+        fn pop_back(&mut self) -> Option<T> {
+            self.0.pop_back()
+        }
+        #[inline]
+        fn pop_front(&mut self) -> Option<T> {
+            self.0.pop_front()
+        }
+        #[inline]
+        fn get(&self, index: usize) -> Option<&T> {
+            self.0.get(index)
+        }
+        #[inline]
+        fn at(&self, index: usize) -> &T {
+            &self.0[index]
+        }
+        #[inline]
+        fn back(&self) -> Option<&T> {
+            self.0.back()
+        }
+        #[inline]
+        fn back_mut(&mut self) -> Option<&mut T> {
+            self.0.back_mut()
+        }
+        #[inline]
+        fn remove(&mut self, index: usize) -> Option<T> {
+            self.0.remove(index)
+        }
+        #[inline]
+        fn clear(&mut self) {
+            self.0.clear();
+        }
+        #[inline]
+        fn drain(&mut self, range: Range<usize>) -> impl Iterator<Item = T> {
+            self.0.drain(range)
+        }
+        #[inline]
+        fn split_off(&mut self, at: usize) -> Self {
+            Self(self.0.split_off(at))
+        }
+        #[inline]
+        fn into_items(self) -> impl Iterator<Item = T> {
+            self.0.into_iter()
+        }
+        #[inline]
+        fn retain(&mut self, keeps: impl FnMut(&T) -> bool) {
+            self.0.retain(keeps);
+        }
+        #[inline]
+        fn iter<'a>(&'a self) -> impl Iterator<Item = &'a T>
+        where
+            T: 'a,
+        {
+            self.0.iter()
+        }
+        #[inline]
+        fn iter_mut<'a>(&'a mut self) -> impl Iterator<Item = &'a mut T>
+        where
+            T: 'a,
+        {
+            self.0.iter_mut()
+        }
+        #[inline]
+        fn first_slice(&self) -> &[T] {
+            self.0.as_slices().0
+        }
+        #[inline]
+        fn second_slice(&self) -> &[T] {
+            self.0.as_slices().1
+        }
+    };
+}
+
+/// The Rust crate arraydeque.
+#[derive(Clone, PartialEq, Eq, Hash)]
+pub struct Crate<T, const CAP: usize>(ArrayDeque<T, CAP, Saturating>);
+
+impl<T, const CAP: usize> Peer<T> for Crate<T, CAP> {
+    type History = ArrayDeque<T, CAP, Wrapping>;
+
+    shared!();
+
+    fn new() -> Self {
+        Self(ArrayDeque::new())
+    }
+    #[inline]
+    fn push_back(&mut self, item: T) -> bool {
+        self.0.push_back(item).is_ok()
+    }
+    #[inline]
+    fn push_front(&mut self, item: T) -> bool {
+        self.0.push_front(item).is_ok()
+    }
+    #[inline]
+    fn insert(&mut self, index: usize, item: T) -> bool {
+        self.0.insert(index, item).is_ok()
+    }
+    #[inline]
+    fn extend_back(&mut self, items: impl IntoIterator<Item = T>) {
+        self.0.extend_back(items);
+    }
+    #[inline]
+    fn linearize(&mut self) {
+        self.0.linearize();
+    }
+}
+
+impl<T, const CAP: usize> History<T> for ArrayDeque<T, CAP, Wrapping> {
+    fn new() -> Self {
+        ArrayDeque::new()
+    }
+    #[inline]
+    fn push_back(&mut self, item: T) -> Option<T> {
+        ArrayDeque::<T, CAP, Wrapping>::push_back(self, item)
+    }
+}
+
+/// std's `VecDeque`, bounded by hand.
+#[derive(Clone, PartialEq, Eq, Hash)]
+pub struct Bounded<T, const CAP: usize>(VecDeque<T>);
+
+impl<T, const CAP: usize> Peer<T> for Bounded<T, CAP> {
+    type History = Self;
+
+    shared!();
+
+    fn new() -> Self {
+        Self(VecDeque::with_capacity(CAP))
+    }
+    #[inline]
+    fn push_back(&mut self, item: T) -> bool {
+        let has_room = self.0.len() < CAP;
+        if has_room {
+            self.0.push_back(item);
+        }
+        has_room
+    }
+    #[inline]
+    fn push_front(&mut self, item: T) -> bool {
+        let has_room = self.0.len() < CAP;
+        if has_room {
+            self.0.push_front(item);
+        }
+        has_room
+    }
+    #[inline]
+    fn insert(&mut self, index: usize, item: T) -> bool {
+        let has_room = self.0.len() < CAP;
+        if has_room {
+            self.0.insert(index, item);
+        }
+        has_room
+    }
+    #[inline]
+    fn extend_back(&mut self, items: impl IntoIterator<Item = T>) {
+        let room = CAP - self.0.len();
+        self.0.extend(items.into_iter().take(room));
+    }
+    #[inline]
+    fn linearize(&mut self) {
+        self.0.make_contiguous();
+    }
+}
+
+impl<T, const CAP: usize> History<T> for Bounded<T, CAP> {
+    fn new() -> Self {
+        Peer::new()
+    }
+    #[inline]
+    fn push_back(&mut self, item: T) -> Option<T> {
+        let oldest = if self.0.len() < CAP { None } else { self.0.pop_front() };
+        self.0.push_back(item);
+        oldest
+    }
+}

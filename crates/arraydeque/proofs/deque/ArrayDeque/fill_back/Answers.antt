@@ -1,9 +1,0 @@
-use Rattle.arraydeque.proofs.Taken.{TakesFrom-loop}
-use Rattle.arraydeque.proofs.deque.ArrayDeque.fill_back.Goals as goal
-
-pub returns : goal.returns
-returns g c =
-    let left = c.loop-element.invariant in
-    TakesFrom-loop g.I.IntoIterator.into_iter_gives g.I.IntoIter.Iterator.next_gives c.args.iter _ c.into_iter.result c.into_iter.ensures.into_iter_gives
-    c.loop-element.yielded (λ k. record { items = left.items k; start = left.start k; steps = left.steps k }) _
-    c.into_iter-element-iterator.result c.loop-element.element-iterator c.next.new.self (rw (c.into_iter-element-iterator.ensures.into_iter_gives, ← c.room-room.ensures) c.take-element-items.ensures.runs) c.loop-element.yielded_by c.in-None.ensures.steps

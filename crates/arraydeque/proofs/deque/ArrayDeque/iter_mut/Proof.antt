@@ -1,0 +1,44 @@
+-- `iter_mut` is `lend`, and the deque follows the loan's name. Assumes `Logic`.
+use Rattle.arraydeque_ring.proofs.memory.Kit.{◌≡◌, refl, [], ◌∷◌, ◌+◌, ◌≤◌, length, id⊢, ftrue, flft, Fn, inst_fn, named, fact, tables, ‵, raw, ◌⊛◌, some, later, ◌$◌, ◌∵◌, !, qed, move, use1, drop, split, join, pick, frame, await, fsplit, fjoin, suffices, done, enter, addr, stop, no_more, and_then, returns, alloc_all, pass_all, free_all, look_at, get, through, sets, lands_as, no, plain, Is, shows, peeks, Stays, walk_of, says, stay_dropped, ends_at, nothing, heard, calls_at, framed, triple_of, param_laws, RattleType, El, R, el_x, proved}
+use types.Kit.{split3}
+use denote.Param.{bounded, number}
+use denote.Ref.{NamedLft, mut_vals, mut_Tells}
+use denote.Signature.{mut_ref_to, named_lft}
+use denote.Triple.Clauses.{lasts, Lasts}
+use denote.Triple.Walked.{Goes-spent_ref}
+use mir.Syntax.{dcons, dnil, a_type, a_number}
+use Rattle.arraydeque_ring.specs.Loans.{Loan, remaining}
+use Rattle.arraydeque_ring.specs.contracts.iter_mut.IterMut as iter
+use Rattle.arraydeque_ring.proofs.iter_mut.IterMut.TheLaws as iter_laws
+use Rattle.arraydeque.specs.Deque.{DequeState}
+use Rattle.arraydeque.specs.DequeLends.{lends_loan}
+use Rattle.arraydeque.proofs.Lent.{Dr}
+use Rattle.arraydeque.specs.contracts.deque.ArrayDeque.lend as g
+use Rattle.arraydeque.proofs.deque.ArrayDeque.lend.Met.{met}
+use Rattle.arraydeque.specs.contracts.deque.ArrayDeque.iter_mut as f
+use Rattle.arraydeque.proofs.deque.ArrayDeque.iter_mut.Statement as stated
+use Rattle.arraydeque.proofs.deque.ArrayDeque.iter_mut.Code as code
+
+pub iter_mut_spec : {M : Type 1} → stated.statement M
+iter_mut_spec 𝓤 𝓛 𝓜 𝓡 wired X N B L fits LB members dict dict_met =
+    let E : El = record { row = X; laws = L } in let C : RattleType = number N in
+    let ended = f.ended X C B members dict in let c = f.clauses X C B members dict 𝓛 𝓜.mem 𝓡.returns in
+    let stayed : Stays ended.signature.params ended.kept = (stay_dropped (mut_ref_to (0 ∷ []) tt (plain (λ _. Dr E N B))) no, tt) in
+    let W = walk_of 𝓛 ended stayed c in let 𝓣 = tables 𝓤 𝓛.H 𝓜 𝓡 𝓡.env in
+    let args = bounded (a_type ∷ a_number ∷ a_type ∷ []) (X, (C, (B, tt))) (dcons dict dnil) in let here : Fn = inst_fn args code.function in
+    proved 𝓛 ended stayed c 𝓜 𝓡 (Goes-spent_ref 𝓛 4 (0 ∷ []) tt (plain (λ _. Dr E N B)), tt)
+    (f.Key.name args) here (code.unfolded 𝓤 𝓛.H 𝓜 𝓡 wired (X, (C, (B, tt))) dict)
+    (λ κs. (mut_vals, tt)) (λ κs. (mut_Tells (named 0) κs.0 (Dr E N B), tt)) (λ κs qs bounds a _ are.
+    let y : W.Ghost = ((κs, qs, bounds, a, (mut_vals a.0, tt)), tt) in let d : DequeState (el_x E) = a.0.now in
+    let G = triple_of 𝓛 (g.signature X C B) (g.spec X C B members dict 𝓛 𝓜.mem 𝓡.returns) in let α : NamedLft = named_lft 4 0 tt κs in let It = iter.the_row α (R E) in
+    qed 𝓛 (raw (G.pre y) ∷ []) ∵ enter ! 𝓣.C 𝓣.Λ here _ _ $ alloc_all ! (λ l. pass_all ! refl ((tt, tt), tt) $ sets ! (addr ! (through ! refl (stop !))) refl (tt, tt) $
+    calls_at ! (framed 𝓤 𝓛.H 𝓜 𝓣) G (met 𝓤 𝓛 𝓜 𝓡 (code.calls-arraydeque::deque::ArrayDeque::lend 𝓡.env wired) X N B L fits LB members dict dict_met) y (and_then ! (get ! refl) (no_more !)) (λ v.
+    let Value : Loan (el_x E) → Type 0 = λ it. remaining it ≡ d.items in let Piece : Loan (el_x E) → Type 0 = λ it. d.start + length d.items ≤ N → it.second.now ≡ [] in
+    use1 𝓛 (later (some (λ (it : Loan (el_x E)). ((‵ (flft κs.0 qs.0) ⊛ ‵ (flft κs.1.0 qs.1.0) ⊛ ‵ (flft κs.1.1.0 qs.1.1.0) ⊛ ‵ (flft κs.1.1.1.0 qs.1.1.1.0) ⊛ ‵ ftrue) ⊛ ‵ (It.own_val it (v ∷ []))) ⊛
+    some (λ (ws : Lasts (g.ended X C B members dict) κs a). ‵ (lasts (g.ended X C B members dict) κs a ws) ⊛ (‵ (lends_loan (R E) (f.CAP-row X C B) (f.B-row X C B) a.0 it) ⊛ raw (fact 𝓤 (Value it)) ⊛ raw (fact 𝓤 (Piece it))))))) (id⊢ 𝓤 _) $
+    await ! tt $ pick ! (λ it. split ! $ split ! $ move ! (1 ∷ []) $
+    peeks ! It (Is It) (shows 𝓛 It) it (v ∷ []) (λ is_it. lands_as ! refl refl (((iter_laws.the_row_laws α (R E) (param_laws 0 X L)).lawful 𝓛).typed it (v ∷ []) is_it).0 $
+    -- [the loan; the tokens; what the deque follows]
+    move ! (2 ∷ []) $ pick ! (λ ws. split ! $ drop ! $ split3 ! $ move ! (1 ∷ []) $ heard ! (Value it) (λ value. move ! (1 ∷ []) $ drop ! $ fsplit ! $ move ! (1 ∷ []) $ drop ! $
+    returns ! (look_at ! 0 refl) $ free_all ! refl $ suffices ! _ (ends_at 𝓛 ended stayed c y v it (tt, tt) (tt, tt)) $
+    move ! (1 ∷ []) $ nothing ! $ nothing ! $ fjoin ! $ join ! $ move ! (2 ∷ 0 ∷ []) $ join ! $ frame ! $ says ! value $ done !)))))))

@@ -1,4 +1,0 @@
-use Rattle.arraydeque.proofs.deque.extend.ArrayDequeExtend.TheImpl.Goals as goal
-
-pub extend-asks : goal.extend-asks
-extend-asks g c it became = let asked = c.requires it became in (asked.0, asked.1)

@@ -1,0 +1,51 @@
+//! All items of a deque, lent for writing.
+ghost use Rattle.std.specs.Prelude.{◌≡◌, ◌++◌, []};
+ghost use Rattle.std.specs.Borrow.{sem};
+ghost use Rattle.arraydeque_ring.specs.Loans.{remaining};
+ghost use Rattle.arraydeque_ring.specs.Ring.{IsInOnePiece};
+ghost use Rattle.arraydeque.specs.Deque.{as_ring};
+ghost use Rattle.arraydeque.specs.DequeLends.{lends_items, lends_slices, lends_loan};
+
+use super::ArrayDeque;
+use crate::behavior::Behavior;
+use crate::iter::IterMut;
+
+impl<T, const CAP: usize, B: Behavior> ArrayDeque<T, CAP, B> {
+    /// The items for writing, front to back or back to front.
+    ///
+    /// Whatever is written, there are as many items as before, and they start where they did.
+    #[inline]
+    pub fn iter_mut(&mut self) -> IterMut<'_, T>
+        ensures* writes_back { sem 𝓛 (lends_items T.row CAP.row B.row self.entry result.name) }
+        ensures value { remaining result ≡ self.old.items }
+    {
+        self.lend()
+    }
+
+    /// The items for writing in two slices: those from the front to the region's end, then the
+    /// wrapped rest. Where all lie in one piece, the second is empty.
+    ///
+    /// Whatever is written, there are as many items as before, and they start where they did. A
+    /// caller whose proof needs that writes `iter_mut().into_slices()`: the prover follows the one
+    /// name of that loan, and not a pair.
+    #[inline]
+    pub fn as_mut_slices(&mut self) -> (&mut [T], &mut [T])
+        ensures* writes_back { sem 𝓛 (lends_slices T.row CAP.row B.row self.entry result) }
+        ensures joined { result.0.now ++ result.1.now ≡ self.old.items }
+        ensures one_piece { IsInOnePiece (as_ring CAP self.old) → result.1.now ≡ [] }
+    {
+        self.lend().into_slices()
+    }
+
+    /// The items for writing, as one loan of two slices: its clause says what
+    /// [`ArrayDeque::iter_mut`] says and what [`ArrayDeque::as_mut_slices`] says.
+    #[inline]
+    fn lend(&mut self) -> IterMut<'_, T>
+        ensures* writes_back { sem 𝓛 (lends_loan T.row CAP.row B.row self.entry result) }
+        ensures value { remaining result ≡ self.old.items }
+        ensures one_piece { IsInOnePiece (as_ring CAP self.old) → result.second.now ≡ [] }
+    {
+        let ring = &mut self.ring;
+        ring.lend()
+    }
+}

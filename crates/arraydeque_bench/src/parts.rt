@@ -1,0 +1,142 @@
+//! Many items in, and many out.
+use crate::items::{Item, counted, deque_at, scrambled};
+use arraydeque::{ArrayDeque, Saturating};
+use std::alloc::{AllocError, Global};
+
+/// Each round half the capacity goes in from a slice's iterator, and the deque is cleared.
+pub(crate) fn extend_slice<T: Item, const CAP: usize>(
+    alloc: Global,
+    rounds: usize,
+) -> Result<u64, AllocError> {
+    let items = counted::<T>(alloc, CAP / 2)?;
+    let mut deque = deque_at::<T, CAP>(alloc, 0, CAP / 3)?;
+    let mut sum = 0u64;
+    for _ in 0..rounds {
+        deque.extend_back(items.iter().copied());
+        sum = sum.wrapping_add(last_number(&deque));
+        deque.clear();
+    }
+    Ok(sum)
+}
+
+/// Each round half the capacity goes in from a new `Vec`, and the deque is cleared.
+pub(crate) fn extend_vec<T: Item, const CAP: usize>(
+    alloc: Global,
+    rounds: usize,
+) -> Result<u64, AllocError> {
+    let mut deque = deque_at::<T, CAP>(alloc, 0, CAP / 3)?;
+    let mut sum = 0u64;
+    for _ in 0..rounds {
+        deque.extend_back(counted::<T>(alloc, CAP / 2)?);
+        sum = sum.wrapping_add(last_number(&deque));
+        deque.clear();
+    }
+    Ok(sum)
+}
+
+/// Each round half the capacity goes in by a call that isn't inlined, and the deque is cleared.
+pub(crate) fn extend_lent<T: Item, const CAP: usize>(
+    alloc: Global,
+    rounds: usize,
+) -> Result<u64, AllocError> {
+    let items = counted::<T>(alloc, CAP / 2)?;
+    let mut deque = deque_at::<T, CAP>(alloc, 0, CAP / 3)?;
+    let mut sum = 0u64;
+    for _ in 0..rounds {
+        extend_through(&mut deque, &items);
+        sum = sum.wrapping_add(last_number(&deque));
+        deque.clear();
+    }
+    Ok(sum)
+}
+
+#[inline(never)]
+fn extend_through<T: Item, const CAP: usize>(
+    deque: &mut ArrayDeque<T, CAP, Saturating>,
+    items: &[T],
+) {
+    deque.extend_back(items.iter().copied());
+}
+
+/// The last item's number.
+fn last_number<T: Item, const CAP: usize>(deque: &ArrayDeque<T, CAP, Saturating>) -> u64 {
+    match deque.back() {
+        Some(item) => item.number(),
+        None => 0,
+    }
+}
+
+/// Each round the middle half comes out, and as many items go in at the back.
+pub(crate) fn drain_middle<T: Item, const CAP: usize>(
+    alloc: Global,
+    rounds: usize,
+) -> Result<u64, AllocError> {
+    let items = counted::<T>(alloc, CAP / 2)?;
+    let mut deque = deque_at::<T, CAP>(alloc, CAP / 2, CAP)?;
+    let mut sum = 0u64;
+    for _ in 0..rounds {
+        let from = deque.len() / 4;
+        let to = deque.len() - from;
+        if from <= to {
+            for item in deque.drain(from..to)? {
+                sum = sum.wrapping_add(item.number());
+            }
+        }
+        deque.extend_back(items.iter().copied());
+    }
+    Ok(sum)
+}
+
+/// Each round half the capacity goes in, and all comes out.
+pub(crate) fn drain_all<T: Item, const CAP: usize>(
+    alloc: Global,
+    rounds: usize,
+) -> Result<u64, AllocError> {
+    let items = counted::<T>(alloc, CAP / 2)?;
+    let mut deque = deque_at::<T, CAP>(alloc, CAP / 2, 0)?;
+    let mut sum = 0u64;
+    for _ in 0..rounds {
+        deque.extend_back(items.iter().copied());
+        for item in deque.drain(..)? {
+            sum = sum.wrapping_add(item.number());
+        }
+    }
+    Ok(sum)
+}
+
+/// Each round the back half is cut off and read by value, and as many items go in at the back.
+pub(crate) fn split_off<T: Item, const CAP: usize>(
+    alloc: Global,
+    rounds: usize,
+) -> Result<u64, AllocError> {
+    let items = counted::<T>(alloc, CAP / 2)?;
+    let mut deque = deque_at::<T, CAP>(alloc, CAP / 2, CAP)?;
+    let mut sum = 0u64;
+    for _ in 0..rounds {
+        let middle = deque.len() / 2;
+        for item in deque.split_off(middle)? {
+            sum = sum.wrapping_add(item.number());
+        }
+        deque.extend_back(items.iter().copied());
+    }
+    Ok(sum)
+}
+
+/// Each round the deque is filled with new random items, and those of odd numbers stay.
+pub(crate) fn retain<T: Item, const CAP: usize>(
+    alloc: Global,
+    rounds: usize,
+) -> Result<u64, AllocError> {
+    let mut deque = deque_at::<T, CAP>(alloc, CAP / 2, 0)?;
+    let mut sum = 0u64;
+    let mut state = 1u64;
+    for _ in 0..rounds {
+        for _ in deque.len()..CAP {
+            state = scrambled(state);
+            let _ = deque.push_back(T::of(state));
+        }
+        deque.retain(|item| item.number() % 2 == 1);
+        sum = sum.wrapping_add(deque.len() as u64);
+    }
+    Ok(sum)
+}

@@ -1,0 +1,147 @@
+//! Callers of what a deque lends for writing, proved with no proof file: by the deque's contracts
+//! alone each knows the length and the start afterwards, whatever it wrote.
+#![tactic(auto)]
+
+ghost use Rattle.std.specs.Prelude.{◌≡◌, ◌+◌, ◌-◌, ◌<◌, length};
+
+use arraydeque::behavior::Behavior;
+use arraydeque::{ArrayDeque, CapacityError, IterMut, Saturating, Wrapping};
+
+#[cfg(test)]
+mod tests;
+
+/// Writes over each item.
+pub fn fill<T: Copy + Drop, const CAP: usize, B: Behavior>(deque: &mut ArrayDeque<T, CAP, B>, x: T)
+    ensures len { length deque.new.items ≡ length deque.old.items }
+    ensures start { deque.new.start ≡ deque.old.start }
+{
+    for item in deque.iter_mut() {
+        *item = x;
+    }
+}
+
+/// Writes over each item from the back, and answers how many there are.
+pub fn fill_from_the_back<T: Copy + Drop, const CAP: usize, B: Behavior>(
+    deque: &mut ArrayDeque<T, CAP, B>,
+    x: T,
+) -> usize
+    ensures len { length deque.new.items ≡ length deque.old.items }
+    ensures start { deque.new.start ≡ deque.old.start }
+    ensures result { result ≡ length deque.old.items }
+{
+    for item in deque.iter_mut().rev() {
+        *item = x;
+    }
+    deque.len()
+}
+
+/// Writes over each item of a deque that a `for` walks itself.
+pub fn fill_walked<T: Copy + Drop, const CAP: usize, B: Behavior>(
+    deque: &mut ArrayDeque<T, CAP, B>,
+    x: T,
+)
+    ensures len { length deque.new.items ≡ length deque.old.items }
+    ensures start { deque.new.start ≡ deque.old.start }
+{
+    for item in &mut *deque {
+        *item = x;
+    }
+}
+
+/// Writes over one item after the other, and answers how many there are.
+pub fn fill_by_hand<const CAP: usize, B: Behavior>(deque: &mut ArrayDeque<u64, CAP, B>) -> usize
+    ensures len { length deque.new.items ≡ length deque.old.items }
+    ensures result { result ≡ length deque.old.items }
+{
+    let mut walk = deque.iter_mut();
+    while let Some(item) = walk.next() {
+        *item = 0;
+    }
+    deque.len()
+}
+
+/// Writes 0 over each item before the first that is `stop`, or answers `false` and writes 1 over
+/// all where there is none.
+pub fn fill_until<const CAP: usize, B: Behavior>(
+    deque: &mut ArrayDeque<u64, CAP, B>,
+    stop: u64,
+) -> bool
+    ensures len { length deque.new.items ≡ length deque.old.items }
+    ensures start { deque.new.start ≡ deque.old.start }
+{
+    for found in deque.iter_mut() {
+        if *found == stop {
+            return true;
+        }
+        *found = 0;
+    }
+    for other in deque.iter_mut().rev() {
+        *other = 1;
+    }
+    false
+}
+
+/// Writes over the first and the last item, and pushes the length.
+pub fn write_ends_and_push<const CAP: usize>(
+    deque: &mut ArrayDeque<u64, CAP, Saturating>,
+) -> Result<(), CapacityError<u64>>
+    ensures ok { length deque.old.items < CAP →
+        length deque.new.items ≡ length deque.old.items + 1 }
+    ensures full { length deque.old.items ≡ CAP → length deque.new.items ≡ CAP }
+{
+    let mut items = deque.iter_mut();
+    if let Some(first) = items.next() {
+        *first = 1;
+    }
+    if let Some(last) = items.next_back() {
+        *last = 2;
+    }
+    let len = deque.len();
+    deque.push_back(len as u64)
+}
+
+/// Writes over the first item of each of the two slices, pushes, and answers how many items there
+/// were.
+pub fn write_slices_and_push<const CAP: usize>(deque: &mut ArrayDeque<u64, CAP, Wrapping>) -> usize
+    ensures len { length deque.old.items < CAP →
+        length deque.new.items ≡ length deque.old.items + 1 }
+    ensures result { result ≡ length deque.old.items }
+{
+    let (front, back) = deque.iter_mut().into_slices();
+    if let Some(first) = front.first_mut() {
+        *first = 1;
+    }
+    if let Some(first) = back.first_mut() {
+        *first = 2;
+    }
+    let len = deque.len();
+    let _displaced = deque.push_back(3);
+    len
+}
+
+/// How many items the two slices have.
+pub fn count_in_slices<T, const CAP: usize, B: Behavior>(deque: &mut ArrayDeque<T, CAP, B>) -> usize
+    ensures { result ≡ length deque.old.items }
+{
+    // That the two slices are within the capacity is known of the length.
+    let _len = deque.len();
+    let (front, back) = deque.as_mut_slices();
+    front.len() + back.len()
+}
+
+/// Writes over what is left of a loan.
+fn wipe(items: IterMut<'_, u64>) {
+    for item in items {
+        *item = 0;
+    }
+}
+
+/// Lets another function write over all items, and takes the first.
+pub fn wipe_and_pop<const CAP: usize, B: Behavior>(
+    deque: &mut ArrayDeque<u64, CAP, B>,
+) -> Option<u64>
+    ensures { length deque.new.items ≡ length deque.old.items - 1 }
+{
+    wipe(deque.iter_mut());
+    deque.pop_front()
+}

@@ -1,0 +1,7 @@
+//! Tests of equality, order, hashes, texts and clones; there is nothing here to call.
+#![tactic(auto)]
+
+#[cfg(test)]
+mod clones;
+#[cfg(test)]
+mod compared;

@@ -1,0 +1,7 @@
+//! Tests of what goes through a deque or an iterator item by item; there is nothing here to call.
+#![tactic(auto)]
+
+#[cfg(test)]
+mod iterators;
+#[cfg(test)]
+mod lookahead;
