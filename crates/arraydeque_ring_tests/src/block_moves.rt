@@ -1,6 +1,6 @@
 //! Runs of values that move in a region, beside what each place is to hold afterwards.
 ghost use Rattle.std.specs.Prelude.{◌≡◌, ◌<◌, ◌⊎◌, length, true, IfOk};
-ghost use Rattle.arraydeque_ring.specs.Moved.{AreApart, IsFilledRound, IsFreeRound, distance, held_after};
+ghost use Rattle.arraydeque_ring.specs.Moved.{MeetAtOneEndAtMost, IsFilledRound, IsFreeRound, distance, held_after};
 ghost use Rattle.arraydeque_ring.specs.Places.{IsFilled, IsEmpty};
 
 use arraydeque_ring::slots::Slots;
@@ -77,7 +77,7 @@ fn is_free(row: &[Option<u8>], src: usize, len: usize, place: usize) -> bool
 fn assert_movable(rt: &impl Abort, row: &[Option<u8>], dst: usize, src: usize, len: usize)
     requires dst { dst < length row.now }
     requires src { src < length row.now }
-    ensures apart { AreApart dst src len (length row.now) }
+    ensures apart { MeetAtOneEndAtMost dst src len (length row.now) }
     ensures filled { IsFilledRound src len row.now }
     ensures free { IsFreeRound dst src len row.now }
 {
