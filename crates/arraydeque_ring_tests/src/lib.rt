@@ -3,6 +3,8 @@
 #![tactic(auto)]
 
 #[cfg(test)]
+mod block_moves;
+#[cfg(test)]
 mod capacities;
 #[cfg(test)]
 mod linearize;
