@@ -1,15 +1,15 @@
 -- A run of values that moves across a run of empty places, read from a place from which on neither passes the end.
-use Rattle.std.proofs.Common.{◌≡◌, ◌≢◌, ◌==◌, ℕ, zero, suc, ◌+◌, ◌-◌, ◌<◌, ◌≤◌, ◌⊎◌, inl, inr, List, ◌++◌, length, take, drop, get_or, replicate, nat_lt, if◌then◌else◌, Option, None, refl, sym, ap, ap₂, ◌∙◌, arith}
+use Rattle.std.proofs.Common.{◌≡◌, ◌≢◌, ◌==◌, ℕ, zero, suc, ◌+◌, ◌-◌, ◌<◌, ◌≤◌, ◌⊎◌, inl, inr, List, ◌++◌, length, take, drop, get_or, nat_lt, if◌then◌else◌, Option, None, sym, ap, ◌∙◌, arith}
 use Rattle.std.proofs.lemmas.Bool.{cases_lt}
 use Rattle.std.proofs.lemmas.Bool.Decides.{nat_tests}
 use Rattle.std.proofs.lemmas.Grind.{common_steps}
 use Rattle.std.proofs.lemmas.List.{get_or-append_right}
 use Rattle.arraydeque_ring.specs.Gaps.{IsEmptyRun, runs_swapped}
-use Rattle.arraydeque_ring.specs.Moved.{MeetAtOneEndAtMost, distance, IsFilledRound, IsFreeRound, run_moved}
+use Rattle.arraydeque_ring.specs.Moved.{MeetAtOneEndAtMost, IsFilledRound, IsFreeRound, run_moved}
 use Rattle.arraydeque_ring.specs.Places.{held_at, IsFilledRun}
 use Rattle.arraydeque_ring.specs.Ring.{place_of, turned}
 use Rattle.arraydeque_ring.proofs.moved.Filled.{place_of-on}
-use Rattle.arraydeque_ring.proofs.moved.Flat.{look, distance_is, length-moved, flat_at, same_places}
+use Rattle.arraydeque_ring.proofs.moved.Flat.{distance_is, length-moved, flat_at, same_places}
 use Rattle.arraydeque_ring.proofs.moved.Round.{distance-turned, turned-moved}
 use Rattle.arraydeque_ring.proofs.places.Filled.{filled_in_run}
 use Rattle.arraydeque_ring.proofs.places.Turned.{place_of-lt, one_place, length-turned, get_or-turned}

@@ -1,8 +1,8 @@
 -- No placement of a list after an edit gives fewer items another place than the lesser side has, and the one that the ring leaves just so many.
-use Rattle.std.proofs.Common.{◌≡◌, ℕ, zero, suc, ◌+◌, ◌-◌, ◌%◌, ◌<◌, ◌≤◌, inl, inr, min, Bool, false, not, nat_lt, ◌==◌, if◌then◌else◌, ap, ap₂, ◌∙◌, sym, arith}
+use Rattle.std.proofs.Common.{◌≡◌, ℕ, zero, suc, ◌+◌, ◌-◌, ◌%◌, ◌<◌, ◌≤◌, inl, inr, min, Bool, false, not, nat_lt, ◌==◌, if◌then◌else◌, ap, ap₂, ◌∙◌, arith}
 use Rattle.std.proofs.lemmas.Bool.{cases_lt}
 use Rattle.std.proofs.lemmas.Bool.Decides.{nat_tests}
-use Rattle.arraydeque_ring.specs.Changed.{count_below, is_elsewhere, changed_insert, changed_remove, changed_drain, IsFewest}
+use Rattle.arraydeque_ring.specs.Changed.{count_below, changed_insert, changed_remove, changed_drain, IsFewest}
 use Rattle.arraydeque_ring.specs.Ring.{place_of}
 use Rattle.arraydeque_ring.specs.Sides.{moves_to_insert, moves_to_remove, moves_to_drain, start_opened, start_closed}
 use Rattle.arraydeque_ring.proofs.moved.Filled.{place_of-on}

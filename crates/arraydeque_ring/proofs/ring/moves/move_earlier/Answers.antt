@@ -1,4 +1,4 @@
-use Rattle.std.proofs.Common.{◌+◌, length, refl, ap, ◌∙◌}
+use Rattle.std.proofs.Common.{◌+◌, length, refl, ap}
 use Rattle.arraydeque_ring.specs.Ring.{turned}
 use Rattle.arraydeque_ring.specs.Gaps.{runs_swapped}
 use Rattle.arraydeque_ring.specs.Steps.{more_moves}
