@@ -1,6 +1,6 @@
 //! Walks over a deque by reference, for writing and by value, from both ends.
-use arraydeque_samples::build::{deque_at, holds, numbers};
 use arraydeque::{ArrayDeque, IntoIter, Iter, IterMut, Saturating};
+use arraydeque_samples::build::{deque_at, holds, numbers};
 use std::alloc::Global;
 use std::process::Abort;
 use std::test::Fail;
