@@ -10,7 +10,7 @@ ghost use Rattle.arraydeque_ring.specs.Loans.{remaining};
 ghost use base.Fml.{GName};
 
 use std::iter::FusedIterator;
-use std::marker::{Model, PhantomData};
+use std::marker::{Model, PhantomData, Send, Sync};
 use std::mem;
 
 /// The name of a loan, and nothing else.
@@ -25,6 +25,11 @@ impl<'a, T> Model for Tie<'a, T> {
 
     ghost also_owns = { λ _. ftrue };
 }
+
+// A name owns nothing.
+unsafe impl<'a, T: Send> Send for Tie<'a, T> {}
+
+unsafe impl<'a, T: Sync> Sync for Tie<'a, T> {}
 
 /// Values for writing, front to back or back to front. Each is handed out once.
 ///

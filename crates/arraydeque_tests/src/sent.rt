@@ -2,7 +2,7 @@
 use crate::build::holds;
 use arraydeque::behavior::Behavior;
 use arraydeque::{
-    ArrayDeque, CapacityError, Drain, IntoIter, Iter, MakeError, Saturating, Wrapping,
+    ArrayDeque, CapacityError, Drain, IntoIter, Iter, IterMut, MakeError, Saturating, Wrapping,
 };
 use std::marker::{Send, Sync};
 use std::test::Fail;
@@ -42,6 +42,14 @@ fn iter_sent<'a, T: Sync>(items: Iter<'a, T>) -> Iter<'a, T> {
 }
 
 fn iter_shared<'a, 'b, T: Sync>(items: &'b Iter<'a, T>) -> &'b Iter<'a, T> {
+    sent(shared(items))
+}
+
+fn iter_mut_sent<'a, T: Send>(items: IterMut<'a, T>) -> IterMut<'a, T> {
+    sent(items)
+}
+
+fn iter_mut_shared<'a, 'b, T: Sync>(items: &'b IterMut<'a, T>) -> &'b IterMut<'a, T> {
     sent(shared(items))
 }
 
@@ -90,6 +98,7 @@ fn iterators_cross_threads(rt: HostRuntime) -> Result<(), Fail> {
     let mut deque: ArrayDeque<u64, 2, Saturating> = ArrayDeque::new(rt.alloc())?;
     deque.push_back(1).map_err(|_| "no room")?;
     assert_eq!(rt; iter_shared(&iter_sent(deque.iter())).len(), 1);
+    assert_eq!(rt; iter_mut_shared(&iter_mut_sent(deque.iter_mut())).len(), 1);
     assert_eq!(rt;
         into_iter_shared(&into_iter_sent(deque.into_iter())).len(),
         1
