@@ -87,6 +87,7 @@ fn a_drain_of_all_2_requests_64_bytes(rt: HostRuntime) -> Result<(), Fail> {
 #[test]
 fn two_drains_of_one_3_requests_48_bytes(rt: HostRuntime) -> Result<(), Fail> {
     let mut deque = deque_at::<4>(rt.alloc(), 2, &[0, 1, 2, 3])?;
+    assert_eq!(rt; deque.len(), 4);
     assert_eq!(rt; deque.drain(..1)?.next(), Some(0));
     assert_eq!(rt; deque.len(), 3);
     assert_eq!(rt; deque.drain(2..)?.next_back(), Some(3));
