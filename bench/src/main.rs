@@ -96,13 +96,15 @@ fn timed(work: &dyn Fn(usize) -> u64, rounds: usize) -> Duration {
     start.elapsed()
 }
 
-/// As many rounds as take about as long as a run is to take, beyond what comes before the first.
+/// As many rounds as take about as long as a run is to take, and longer than what comes before the first.
 fn rounds_of(work: &dyn Fn(usize) -> u64) -> usize {
+    let setup = timed(work, 0);
+    let enough = RUN.max(2 * setup);
     let mut rounds = 16;
     loop {
-        let time = timed(work, rounds).saturating_sub(timed(work, 0));
-        if time >= RUN / 2 {
-            return (rounds as f64 * RUN.as_secs_f64() / time.as_secs_f64()).max(1.0) as usize;
+        let time = timed(work, rounds).saturating_sub(setup);
+        if time >= enough / 2 {
+            return (rounds as f64 * enough.as_secs_f64() / time.as_secs_f64()).max(1.0) as usize;
         }
         rounds *= 2;
     }
