@@ -1,5 +1,5 @@
 -- Comparisons of lists that are cut into stretches.
-use Rattle.std.proofs.Common.{◌≡◌, ◌&&◌, Bool, true, false, List, [], ◌∷◌, ◌++◌, length, Option, Some, None, refl, arith}
+use Rattle.std.proofs.Common.{◌≡◌, ◌&&◌, Bool, true, false, List, [], ◌∷◌, ◌++◌, length, Option, Some, None, refl, ap, ◌∙◌, arith}
 use Rattle.std.specs.Cmp.Lexicographic.{pointwise, slice_cmp, slice_partial_cmp}
 use Rattle.std.specs.declared.cmp.Ordering.{Ordering}
 use Rattle.std.specs.declared.cmp.Ordering.TheVariants.{Less, Equal, Greater}
@@ -10,6 +10,10 @@ use Rattle.arraydeque.specs.declared.deque.compare.Stretches.{Stretches}
 and_assoc : (p q r : Bool) → (p && (q && r)) ≡ ((p && q) && r)
 and_assoc true q r = refl
 and_assoc false q r = refl
+
+and_true : (p : Bool) → (p && true) ≡ p
+and_true true = refl
+and_true false = refl
 
 then_assoc : (p q r : Ordering) → ordering_then p (ordering_then q r) ≡ ordering_then (ordering_then p q) r
 then_assoc Less q r = refl
@@ -36,6 +40,14 @@ module _ {X : Type 0} where
   pointwise-cut E [] xs' (y ∷ ys) ys' cut = rw (cut.first_ends (omega arith))
   pointwise-cut E (x ∷ xs) xs' [] ys' cut = rw (cut.second_ends (omega arith))
   pointwise-cut E (x ∷ xs) xs' (y ∷ ys) ys' cut = rw (pointwise-cut E xs xs' ys ys' (after_first x y xs xs' ys ys' cut)) (and_assoc (E x y) (pointwise E xs ys) (pointwise E xs' ys'))
+
+  -- two stretches each, of which the first are as long
+  pub pointwise-both : (E : X → X → Bool) (xs xs' ys ys' : List X) → length xs ≡ length ys → pointwise E (xs ++ xs') (ys ++ ys') ≡ (pointwise E xs ys && pointwise E xs' ys')
+  pointwise-both E xs xs' ys ys' long = pointwise-cut E xs xs' ys ys' (even xs xs' ys ys' long)
+
+  -- one pair more
+  pub pointwise-push : (E : X → X → Bool) (xs ys : List X) (x y : X) → length xs ≡ length ys → pointwise E (xs ++ x ∷ []) (ys ++ y ∷ []) ≡ (pointwise E xs ys && E x y)
+  pointwise-push E xs ys x y long = pointwise-both E xs (x ∷ []) ys (y ∷ []) long ∙ ap (λ b. pointwise E xs ys && b) (and_true (E x y))
 
   slice_cmp-cut : (R : X → X → Ordering) (xs xs' ys ys' : List X) → CutAlike xs xs' ys ys' → slice_cmp R (xs ++ xs') (ys ++ ys') ≡ ordering_then (slice_cmp R xs ys) (slice_cmp R xs' ys')
   slice_cmp-cut R [] xs' [] ys' cut = refl

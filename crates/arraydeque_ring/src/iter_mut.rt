@@ -77,11 +77,12 @@ impl<'a, T> Iterator for IterMut<'a, T> {
 
     #[inline]
     fn next(&mut self) -> Option<&'a mut T> {
-        if self.first.len() == 0 {
-            self.first = mem::take(&mut self.second);
+        if let Some((item, rest)) = mem::take(&mut self.first).split_first_mut() {
+            self.first = rest;
+            return Some(item);
         }
-        let (item, rest) = mem::take(&mut self.first).split_first_mut()?;
-        self.first = rest;
+        let (item, rest) = mem::take(&mut self.second).split_first_mut()?;
+        self.second = rest;
         Some(item)
     }
 
@@ -101,11 +102,12 @@ impl<'a, T> DoubleEndedIterator for IterMut<'a, T> {
 
     #[inline]
     fn next_back(&mut self) -> Option<&'a mut T> {
-        if self.second.len() == 0 {
-            self.second = mem::take(&mut self.first);
+        if let Some((item, rest)) = mem::take(&mut self.second).split_last_mut() {
+            self.second = rest;
+            return Some(item);
         }
-        let (item, rest) = mem::take(&mut self.second).split_last_mut()?;
-        self.second = rest;
+        let (item, rest) = mem::take(&mut self.first).split_last_mut()?;
+        self.first = rest;
         Some(item)
     }
 }

@@ -2,7 +2,7 @@
 //!
 //! A contract sees a [`Ring`] as its items from front to back, its capacity, the place of its first
 //! item and the steps of its region. A ring knows no policy: a push asks for room.
-ghost use Rattle.std.specs.Prelude.{◌≡◌, ◌-◌, ◌*◌, ◌+◌, ◌^◌, ◌<◌, ◌≤◌, [], ◌∷◌, ◌++◌, length, take, drop, slice_get, option_copied, IfOk, OnErr, OnSome, IfNone};
+ghost use Rattle.std.specs.Prelude.{◌≡◌, ◌-◌, ◌*◌, ◌+◌, ◌^◌, ◌<◌, ◌≤◌, [], ◌∷◌, ◌++◌, length, take, drop, slice_get, nat_lt, option_copied, IfOk, OnErr, OnSome, IfNone};
 ghost use Rattle.std.specs.Borrow.{sem};
 ghost use Rattle.std.specs.Mem.{type_size};
 ghost use Rattle.std.specs.Option.{option_copied_mut};
@@ -100,6 +100,30 @@ impl<T> Ring<T> {
     {
         let behind = self.place(self.len);
         self.slots.put(behind, item);
+        self.len += 1;
+    }
+
+    /// Whether there is a place between the last item and the region's end, behind the last item.
+    #[inline(always)]
+    pub fn has_room_to_end(&self) -> bool
+        ensures { result ≡ nat_lt (self.now.start + length self.now.items) self.now.capacity }
+    {
+        self.len < self.slots.capacity() - self.start
+    }
+
+    /// Adds an item behind the last one, as [`Ring::push_back`] does, in a place before the region's
+    /// end. Many such in a row fill places in a row.
+    #[inline(always)]
+    pub fn push_to_end(&mut self, item: T)
+        requires { self.old.start + length self.old.items < self.old.capacity }
+        ensures { self.new ≡ record self.old {
+          items = self.old.items ++ item ∷ [];
+          steps = more_puts 1 self.old.steps;
+        } }
+    {
+        // That no sum passes `usize::MAX` is known of the capacity.
+        let _capacity = self.slots.capacity();
+        self.slots.put(self.start + self.len, item);
         self.len += 1;
     }
 

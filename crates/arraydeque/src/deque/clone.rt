@@ -29,15 +29,18 @@ impl<T: Clone, const CAP: usize, B: Behavior> ArrayDeque<T, CAP, B> {
         Ok(clones)
     }
 
-    /// Puts a clone of each item behind the last one, for which there must be room.
+    /// Puts a clone of each item behind the last one, where the list starts at the first place and
+    /// there is room.
+    #[inline]
     fn clone_back(&mut self, items: &[T]) -> Result<(), AllocError>
+        requires first_place { self.old.start ≡ 0 }
         requires room { length self.old.items + length items.now ≤ CAP }
         requires same { ClonesAreSame T.is_clone items.now }
         ensures ok { OnOk result (self.new ≡ with_back items.now self.old) }
         ensures refused { OnErr result (Any (λ x. ¬ T.is_infallible x) items.now) }
     {
         for item in items {
-            self.ring.push_back(item.clone()?);
+            self.ring.push_to_end(item.clone()?);
         }
         Ok(())
     }

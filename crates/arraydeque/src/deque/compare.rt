@@ -1,5 +1,5 @@
 //! Equality, order and hashes: those of the lists, wherever the rings start.
-ghost use Rattle.std.specs.Prelude.{◌≡◌, fold};
+ghost use Rattle.std.specs.Prelude.{◌≡◌, fold, length};
 ghost use Rattle.std.specs.Cmp.{on_equiv, on_per, on_po, on_total};
 ghost use Rattle.std.specs.Cmp.Lexicographic.{pointwise, slice_cmp, slice_partial_cmp, lists_agrees, lists_equiv, lists_per, lists_po, lists_ties, lists_total};
 ghost use Rattle.std.specs.Hash as fed;
@@ -11,6 +11,9 @@ use super::ArrayDeque;
 use crate::behavior::Behavior;
 use std::cmp::Ordering;
 use std::hash::{Hash, Hasher};
+
+/// How many pairs are compared before the answers are looked at.
+const BLOCK: usize = 8;
 
 /// Two lists in three stretches each, which stand beside each other in pairs.
 #[derive(Drop)]
@@ -59,13 +62,13 @@ impl<T: PartialEq, const CAP: usize, B: Behavior> PartialEq for ArrayDeque<T, CA
             return false;
         }
         let cut = self.beside(other);
-        if cut.front.0 != cut.front.1 {
+        if !are_equal(cut.front.0, cut.front.1) {
             return false;
         }
-        if cut.middle.0 != cut.middle.1 {
+        if !are_equal(cut.middle.0, cut.middle.1) {
             return false;
         }
-        cut.rest.0 == cut.rest.1
+        are_equal(cut.rest.0, cut.rest.1)
     }
 }
 
@@ -140,4 +143,38 @@ fn feed<T: Hash, H: Hasher>(items: &[T], state: &mut H)
     for item in items {
         item.hash(state);
     }
+}
+
+/// Whether two slices are equal, compared block by block.
+fn are_equal<T: PartialEq>(left: &[T], right: &[T]) -> bool
+    ensures { result ≡ pointwise T.eq left.now right.now }
+{
+    if left.len() != right.len() {
+        return false;
+    }
+    let (mut left_rest, mut right_rest) = (left, right);
+    while BLOCK <= left_rest.len() {
+        let (left_block, left_next) = left_rest.split_at(BLOCK);
+        let (right_block, right_next) = right_rest.split_at(BLOCK);
+        if !are_all_equal(left_block, right_block) {
+            return false;
+        }
+        left_rest = left_next;
+        right_rest = right_next;
+    }
+    left_rest == right_rest
+}
+
+/// Whether all pairs of two slices of one length are equal. It looks at every pair, so that several
+/// can be compared at once.
+#[inline(always)]
+fn are_all_equal<T: PartialEq>(left: &[T], right: &[T]) -> bool
+    requires { length left.now ≡ length right.now }
+    ensures { result ≡ pointwise T.eq left.now right.now }
+{
+    let mut equal = true;
+    for k in 0..left.len() {
+        equal &= left[k] == right[k];
+    }
+    equal
 }

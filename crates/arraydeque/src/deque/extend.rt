@@ -18,7 +18,15 @@ impl<T, const CAP: usize> ArrayDeque<T, CAP, Saturating> {
     {
         let room = self.room();
         let mut ring = self.ring.moved_out();
-        for element in iter.into_iter().take(room) {
+        let mut elements = iter.into_iter().take(room);
+        while ring.has_room_to_end() {
+            let Some(element) = elements.next() else {
+                self.ring.move_in(ring);
+                return;
+            };
+            ring.push_to_end(element);
+        }
+        for element in elements {
             ring.push_back(element);
         }
         self.ring.move_in(ring);

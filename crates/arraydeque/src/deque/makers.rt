@@ -126,15 +126,17 @@ impl<T: Drop, const CAP: usize> ArrayDeque<T, CAP, Wrapping> {
 }
 
 impl<T, const CAP: usize, B: Behavior> ArrayDeque<T, CAP, B> {
-    /// Copies items behind the last one, for which there must be room.
+    /// Copies items behind the last one, where the list starts at the first place and there is room.
+    #[inline]
     fn copy_back(&mut self, items: &[T])
     where
         T: Copy,
-        requires { length self.old.items + length items.now ≤ CAP }
+        requires first_place { self.old.start ≡ 0 }
+        requires room { length self.old.items + length items.now ≤ CAP }
         ensures { self.new ≡ with_back items.now self.old }
     {
         for item in items {
-            self.ring.push_back(*item);
+            self.ring.push_to_end(*item);
         }
     }
 }

@@ -43,7 +43,7 @@ abbrev pub MayStartAt : ℕ → ℕ → ℕ → ℕ → Type 0
 MayStartAt t i n p = (p ≡ t + i) ⊎ (p + n ≡ t + i)
 
 -- and its elements stand side by side, as far as the end
-place_of-run : (t i j n p : ℕ) → MayStartAt t i n p → p + j < n → t ≤ n → i + j < n → place_of t (i + j) n ≡ p + j
+pub place_of-run : (t i j n p : ℕ) → MayStartAt t i n p → p + j < n → t ≤ n → i + j < n → place_of t (i + j) n ≡ p + j
 place_of-run t i j n p at a b c = elim (place_of_cases t (i + j) n (omega arith)) [
   | inl w ↦ elim at [ inl e ↦ omega arith | inr e ↦ omega arith ]
   | inr w ↦ elim at [ inl e ↦ omega arith | inr e ↦ omega arith ]

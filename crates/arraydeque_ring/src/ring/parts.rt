@@ -84,11 +84,13 @@ impl<T> Ring<T> {
 }
 
 /// Takes the `len` values from the index `at` on out of the region, the first value first, and adds
-/// them to the items of `taken`. Indexes count from the place `start`, round the end.
+/// them to the items of `taken`, which start at its first place. Indexes count from the place
+/// `start`, round the end: the values up to the region's end stand in a row, and so do the others.
 fn take_run<T>(slots: &mut Slots<T>, start: usize, at: usize, len: usize, taken: &mut Ring<T>)
     requires in_region { start ≤ length slots.old.places - 1 }
     requires filled { IsFilledRun (turned start slots.old.places) at len }
     requires room { length taken.old.items + len ≤ taken.old.capacity }
+    requires first_place { taken.old.start ≡ 0 }
     ensures places { turned start slots.new.places ≡
         run_emptied at len (turned start slots.old.places) }
     ensures steps { slots.new.steps ≡ more_takes len slots.old.steps }
@@ -97,12 +99,19 @@ fn take_run<T>(slots: &mut Slots<T>, start: usize, at: usize, len: usize, taken:
       steps = more_puts len taken.old.steps;
     } }
 {
+    if len == 0 {
+        return;
+    }
     let capacity = slots.capacity();
+    let place = wrap_add(start, at, capacity);
+    let first = len.min(capacity - place);
     let mut here = slots.moved_out();
     let mut there = taken.moved_out();
-    for k in 0..len {
-        let item = here.take(wrap_add(start, at + k, capacity));
-        there.push_back(item);
+    for k in 0..first {
+        there.push_to_end(here.take(place + k));
+    }
+    for k in first..len {
+        there.push_to_end(here.take(k - first));
     }
     let _nothing = replace(slots, here);
     taken.move_in(there);
