@@ -1,5 +1,6 @@
 -- Comparisons of lists that are cut into stretches.
-use Rattle.std.proofs.Common.{◌≡◌, ◌&&◌, Bool, true, false, List, [], ◌∷◌, ◌++◌, length, Option, Some, None, refl, ap, ◌∙◌, arith}
+use Rattle.std.proofs.Common.{◌≡◌, ℕ, ◌&&◌, Bool, true, false, List, [], ◌∷◌, ◌++◌, length, take, drop, Option, Some, None, refl, sym, ap, ap₂, ◌∙◌, arith}
+use Rattle.std.proofs.lemmas.List.{length-take, take-append-drop}
 use Rattle.std.specs.Cmp.Lexicographic.{pointwise, slice_cmp, slice_partial_cmp}
 use Rattle.std.specs.declared.cmp.Ordering.{Ordering}
 use Rattle.std.specs.declared.cmp.Ordering.TheVariants.{Less, Equal, Greater}
@@ -44,6 +45,11 @@ module _ {X : Type 0} where
   -- two stretches each, of which the first are as long
   pub pointwise-both : (E : X → X → Bool) (xs xs' ys ys' : List X) → length xs ≡ length ys → pointwise E (xs ++ xs') (ys ++ ys') ≡ (pointwise E xs ys && pointwise E xs' ys')
   pointwise-both E xs xs' ys ys' long = pointwise-cut E xs xs' ys ys' (even xs xs' ys ys' long)
+
+  -- both cut at one index
+  pub pointwise-split : (E : X → X → Bool) (n : ℕ) (xs ys : List X) → length xs ≡ length ys → pointwise E xs ys ≡ (pointwise E (take n xs) (take n ys) && pointwise E (drop n xs) (drop n ys))
+  pointwise-split E n xs ys long =
+      ap₂ (pointwise E) (sym (take-append-drop n xs)) (sym (take-append-drop n ys)) ∙ pointwise-both E (take n xs) (drop n xs) (take n ys) (drop n ys) (omega (arith, length-take n xs, length-take n ys))
 
   -- one pair more
   pub pointwise-push : (E : X → X → Bool) (xs ys : List X) (x y : X) → length xs ≡ length ys → pointwise E (xs ++ x ∷ []) (ys ++ y ∷ []) ≡ (pointwise E xs ys && E x y)

@@ -13,7 +13,7 @@ use std::cmp::Ordering;
 use std::hash::{Hash, Hasher};
 
 /// How many pairs are compared before the answers are looked at.
-const BLOCK: usize = 8;
+const BLOCK: usize = 32;
 
 /// Two lists in three stretches each, which stand beside each other in pairs.
 #[derive(Drop)]

@@ -1,6 +1,7 @@
 //! The iterator of the items that a drain took out. A contract sees the list of those that remain.
 ghost use Rattle.std.specs.Prelude.{◌≡◌, length, Some};
 ghost use Rattle.std.specs.Iterator.{YieldsFirst, YieldsLast, item_count};
+ghost use Rattle.arraydeque_ring.specs.Ring.{IsInOnePiece};
 
 use arraydeque_ring::ring::Ring;
 use std::iter::FusedIterator;
@@ -15,16 +16,20 @@ pub struct Drain<T> {
 
 impl<T> Model for Drain<T> {
     ghost use Rattle.std.specs.Prelude.{List};
+    ghost use Rattle.arraydeque_ring.specs.Ring.{IsInOnePiece};
 
     ghost Value = { List T };
 
     ghost view = { λ drain. drain.ring.items };
+
+    ghost invariant = { λ drain. IsInOnePiece drain.ring };
 }
 
 impl<T> Drain<T> {
-    /// The drain of the items of a ring that has no place to spare.
+    /// The drain of the items of a ring that has no place to spare and lies in one piece.
     pub(crate) fn of(ring: Ring<T>) -> Drain<T>
-        requires { length ring.items ≡ ring.capacity }
+        requires full { length ring.items ≡ ring.capacity }
+        requires one_piece { IsInOnePiece ring }
         ensures { result ≡ ring.items }
     {
         Drain { ring }
@@ -40,7 +45,7 @@ impl<T: Drop> Iterator for Drain<T> {
 
     #[inline]
     fn next(&mut self) -> Option<T> {
-        self.ring.pop_front()
+        self.ring.take_first()
     }
 
     fn size_hint(&self) -> (usize, Option<usize>)
@@ -56,7 +61,7 @@ impl<T: Drop> DoubleEndedIterator for Drain<T> {
 
     #[inline]
     fn next_back(&mut self) -> Option<T> {
-        self.ring.pop_back()
+        self.ring.take_last()
     }
 }
 

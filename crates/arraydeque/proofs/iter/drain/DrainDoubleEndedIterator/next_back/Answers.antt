@@ -3,5 +3,5 @@ use Rattle.arraydeque.proofs.iter.drain.DrainDoubleEndedIterator.next_back.Goals
 
 pub returns-clause-steps : goal.returns-clause-steps
 returns-clause-steps g c =
-    let popped = c.pop_back.ensures in
-    rw (← c.self.view_is) (YieldsLast-pop c.self.inside.ring c.pop_back.new.self _ c.pop_back.result popped.value popped.taken popped.none)
+    let popped = c.take_last.ensures in
+    rw (← c.self.view_is) (YieldsLast-pop c.self.inside.ring c.take_last.new.self _ c.take_last.result popped.value popped.taken popped.none)
