@@ -6,8 +6,18 @@ use arraydeque_ring::ring::Ring;
 use std::iter::FusedIterator;
 use std::marker::Model;
 
-/// The items that a drain took out, front to back or back to front. It owns them, and drops those
-/// that are not taken.
+/// The items that `ArrayDeque::drain` removed, from both ends. It owns them, and drops those that
+/// are not taken. The deque isn't lent to it.
+///
+/// ```
+/// let mut deque = ArrayDeque::<i64, 3, Saturating>::new(alloc)?;
+/// deque.extend_back([1, 2, 3]);
+/// let mut drained = deque.drain(..)?;
+/// assert_eq!(rt; deque.push_back(4), Ok(()));
+/// assert_eq!(rt; (drained.next_back(), drained.len()), (Some(3), 2));
+/// let rest: Vec<i64> = drained.collect(alloc)?;
+/// assert_eq!(rt; rest.as_slice(), [1, 2].as_slice());
+/// ```
 #[derive(Drop)]
 pub struct Drain<T> {
     ring: Ring<T>,
