@@ -4,7 +4,8 @@
 /// [`Wrapping`].
 pub trait Behavior {}
 
-/// A push or an insert into a full deque returns its element in the error, and nothing has changed.
+/// The policy under which a push or an insert into a full deque returns its element in the error,
+/// and nothing has changed.
 ///
 /// ```
 /// let mut deque = ArrayDeque::<i64, 2, Saturating>::new(alloc)?;
@@ -14,7 +15,8 @@ pub trait Behavior {}
 /// ```
 pub struct Saturating;
 
-/// A push into a full deque removes the item at the other end, and returns it. There is no insert.
+/// The policy under which a push into a full deque removes the item at the other end, and returns
+/// it. At capacity 0 it returns the element itself. There is no insert.
 ///
 /// ```
 /// let mut deque = ArrayDeque::<i64, 2, Wrapping>::new(alloc)?;

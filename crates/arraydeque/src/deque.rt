@@ -221,9 +221,8 @@ impl<T, const CAP: usize, B: Behavior> ArrayDeque<T, CAP, B> {
     /// ```
     /// let mut deque = ArrayDeque::<i64, 3, Saturating>::new(alloc)?;
     /// deque.extend_back([1, 2, 3]);
-    /// assert_eq!(rt; deque.pop_front(), Some(1));
     /// // 4 goes to the place that 1 has left, which is the region's first.
-    /// assert_eq!(rt; deque.push_back(4), Ok(()));
+    /// assert_eq!(rt; (deque.pop_front(), deque.push_back(4)), (Some(1), Ok(())));
     /// let (front, rest) = deque.as_slices();
     /// assert_eq!(rt; (front, rest), ([2, 3].as_slice(), [4].as_slice()));
     /// ```

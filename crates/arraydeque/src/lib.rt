@@ -28,9 +28,9 @@
 //!
 //! - No room: only under `Saturating`, and in [`lookahead::Scanner::unread`]. The element comes
 //!   back in the [`CapacityError`].
-//! - No memory: only in calls that take some, which are the makers, `clone`, `drain`, `split_off`,
-//!   `into_vec`, `run` and `Scanner::new`. Those that consume something hand it back in a
-//!   [`MakeError`], as it was.
+//! - No memory: only in `new`, `from_iter`, `from_vec`, `from_array`, `clone`, `drain`,
+//!   `split_off`, `into_vec`, `run` and `Scanner::new`. The `from_` calls, `into_vec`, `run` and
+//!   `Scanner::new` hand back what they consumed, as it was, in a [`MakeError`].
 //! - No such item: a pop, `front`, `back`, `get`, `remove`, `swap_remove_back` or
 //!   `swap_remove_front` returns `None`.
 //!
@@ -50,7 +50,7 @@
 //! | `linearize` | in place, by no more moves and exchanges, taken together, than items |
 //! | a conversion to the other policy | no item |
 //!
-//! Each item that moves moves once, but in `linearize`.
+//! On a tie the items after the gap move. Each item that moves moves once, but in `linearize`.
 #![tactic(auto)]
 
 pub mod behavior;

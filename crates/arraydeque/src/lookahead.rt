@@ -127,8 +127,8 @@ impl<I: Iterator, const CAP: usize> Scanner<I, CAP> {
         }
     }
 
-    /// Puts an item back, so that `next` will return it. If the buffer is full, returns it in the
-    /// error, and nothing has changed.
+    /// Puts an item back, or another in its place, so that `next` will return it. If the buffer is
+    /// full, returns it in the error, and nothing has changed.
     ///
     /// ```
     /// let mut scanner = Scanner::<_, 1>::new(alloc, [2, 3].into_iter())?;

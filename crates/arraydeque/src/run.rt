@@ -1,4 +1,4 @@
-//! A whole list of calls on a deque, answered one by one.
+//! A whole list of calls on a deque, as values, and a reply to each.
 ghost use Rattle.std.specs.Prelude.{◌≡◌, ◌<◌, length, IfOk, IfErr, OnErr};
 ghost use Rattle.arraydeque.specs.Costs.{CallCosts, RunCosts};
 ghost use Rattle.arraydeque.specs.Machine.{Answers, answer_of, IsAlike};
@@ -73,9 +73,9 @@ pub enum Reply<T, const CAP: usize, B: Behavior> {
     Number(usize),
     /// Yes or no.
     Truth(bool),
-    /// The items that were removed from within.
+    /// The items that a drain removed.
     Drained(iter::Drain<T>),
-    /// The items that were removed from an index on.
+    /// The items that were split off.
     Split(ArrayDeque<T, CAP, B>),
     /// A push or an insert into a full deque. The element comes back, and the list is as it was.
     Full(CapacityError<T>),

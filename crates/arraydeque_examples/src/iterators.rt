@@ -43,8 +43,7 @@ fn drained_iter(rt: HostRuntime) -> Result<(), Fail> {
     let mut deque = ArrayDeque::<i64, 3, Saturating>::new(alloc)?;
     deque.extend_back([1, 2, 3]);
     let mut drained = deque.drain(..)?;
-    assert_eq!(rt; deque.push_back(4), Ok(()));
-    assert_eq!(rt; (drained.next_back(), drained.len()), (Some(3), 2));
+    assert_eq!(rt; (drained.next_back(), deque.len()), (Some(3), 0));
     let rest: Vec<i64> = drained.collect(alloc)?;
     assert_eq!(rt; rest.as_slice(), [1, 2].as_slice());
     Ok(())

@@ -43,8 +43,7 @@ fn clone(rt: HostRuntime) -> Result<(), Fail> {
 #[test]
 fn eq(rt: HostRuntime) -> Result<(), Fail> {
     let alloc = rt.alloc();
-    let mut deque = ArrayDeque::<i64, 3, Saturating>::new(alloc)?;
-    deque.extend_back([1, 2]);
+    let deque = ArrayDeque::<i64, 3, Saturating>::from_array(alloc, [1, 2])?;
     let mut other = ArrayDeque::<i64, 3, Saturating>::new(alloc)?;
     other.extend_front([2, 1]);
     // Both are the list 1, 2, though not in the same places.
@@ -55,10 +54,8 @@ fn eq(rt: HostRuntime) -> Result<(), Fail> {
 #[test]
 fn partial_cmp(rt: HostRuntime) -> Result<(), Fail> {
     let alloc = rt.alloc();
-    let mut deque = ArrayDeque::<i64, 3, Saturating>::new(alloc)?;
-    deque.extend_back([1, 5, 9]);
-    let mut other = ArrayDeque::<i64, 3, Saturating>::new(alloc)?;
-    other.extend_back([1, 6]);
+    let deque = ArrayDeque::<i64, 3, Saturating>::from_array(alloc, [1, 5, 9])?;
+    let other = ArrayDeque::<i64, 3, Saturating>::from_array(alloc, [1, 6])?;
     assert!(rt; deque < other);
     assert_eq!(rt; deque.partial_cmp(&deque), Some(Ordering::Equal));
     Ok(())
@@ -67,10 +64,8 @@ fn partial_cmp(rt: HostRuntime) -> Result<(), Fail> {
 #[test]
 fn cmp(rt: HostRuntime) -> Result<(), Fail> {
     let alloc = rt.alloc();
-    let mut deque = ArrayDeque::<i64, 3, Saturating>::new(alloc)?;
-    deque.extend_back([1, 2]);
-    let mut other = ArrayDeque::<i64, 3, Saturating>::new(alloc)?;
-    other.extend_back([1, 2, 0]);
+    let deque = ArrayDeque::<i64, 3, Saturating>::from_array(alloc, [1, 2])?;
+    let other = ArrayDeque::<i64, 3, Saturating>::from_array(alloc, [1, 2, 0])?;
     assert_eq!(rt; deque.cmp(&other), Ordering::Less);
     Ok(())
 }
@@ -78,8 +73,7 @@ fn cmp(rt: HostRuntime) -> Result<(), Fail> {
 #[test]
 fn hash(rt: HostRuntime) -> Result<(), Fail> {
     let alloc = rt.alloc();
-    let mut deque = ArrayDeque::<i64, 3, Saturating>::new(alloc)?;
-    deque.extend_back([1, 2]);
+    let deque = ArrayDeque::<i64, 3, Saturating>::from_array(alloc, [1, 2])?;
     let mut other = ArrayDeque::<i64, 3, Saturating>::new(alloc)?;
     other.extend_front([2, 1]);
     let mut seen = HashSet::new(alloc);

@@ -69,8 +69,7 @@ fn make_error(rt: HostRuntime) -> Result<(), Fail> {
     let alloc = rt.alloc();
     // No region is as large as that.
     let made = ArrayDeque::<i64, { usize::MAX }, Saturating>::from_array(alloc, [1, 2]);
-    let source = made.err().map(|refusal| refusal.source);
-    assert_eq!(rt; source, Some([1, 2]));
+    assert_eq!(rt; made.err().map(|refusal| refusal.source), Some([1, 2]));
     let text = format!(in alloc; "{}", MakeError { source: 0 })?;
     assert_eq!(rt; text.as_str(), "out of memory");
     Ok(())

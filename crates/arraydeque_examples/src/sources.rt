@@ -68,8 +68,7 @@ fn wrapping_extend(rt: HostRuntime) -> Result<(), Fail> {
 fn saturating_from_iter(rt: HostRuntime) -> Result<(), Fail> {
     let alloc = rt.alloc();
     let mut numbers = 1..=5;
-    let made = ArrayDeque::<i64, 3, Saturating>::from_iter(alloc, &mut numbers);
-    let deque = made.map_err(|_| "out of memory")?;
+    let deque = ArrayDeque::<i64, 3, Saturating>::from_iter(alloc, &mut numbers)?;
     assert_eq!(rt; deque.into_vec()?.as_slice(), [1, 2, 3].as_slice());
     assert_eq!(rt; numbers.next(), Some(4));
     Ok(())

@@ -28,7 +28,7 @@ impl<T, const CAP: usize, B: Behavior> ArrayDeque<T, CAP, B> {
         front.contains(x) || back.contains(x)
     }
 
-    /// Returns the first item, or `None` if the deque is empty.
+    /// Returns a reference to the first item, or `None` if the deque is empty.
     ///
     /// ```
     /// let mut deque = ArrayDeque::<i64, 3, Saturating>::new(alloc)?;
@@ -43,7 +43,7 @@ impl<T, const CAP: usize, B: Behavior> ArrayDeque<T, CAP, B> {
         self.get(0)
     }
 
-    /// Returns the last item, or `None` if the deque is empty.
+    /// Returns a reference to the last item, or `None` if the deque is empty.
     ///
     /// ```
     /// let mut deque = ArrayDeque::<i64, 3, Saturating>::new(alloc)?;
@@ -58,7 +58,8 @@ impl<T, const CAP: usize, B: Behavior> ArrayDeque<T, CAP, B> {
         self.get(self.len().saturating_sub(1))
     }
 
-    /// Returns the item at an index, or `None` if there is none. Index 0 is the front.
+    /// Returns a reference to the item at an index, or `None` if there is none. Index 0 is the
+    /// front.
     ///
     /// ```
     /// let mut deque = ArrayDeque::<i64, 3, Saturating>::new(alloc)?;
@@ -73,7 +74,7 @@ impl<T, const CAP: usize, B: Behavior> ArrayDeque<T, CAP, B> {
         self.ring.get(index)
     }
 
-    /// Returns the first item for writing, or `None` if the deque is empty.
+    /// Returns a mutable reference to the first item, or `None` if the deque is empty.
     ///
     /// ```
     /// let mut deque = ArrayDeque::<i64, 3, Saturating>::new(alloc)?;
@@ -89,7 +90,7 @@ impl<T, const CAP: usize, B: Behavior> ArrayDeque<T, CAP, B> {
         self.get_mut(0)
     }
 
-    /// Returns the last item for writing, or `None` if the deque is empty.
+    /// Returns a mutable reference to the last item, or `None` if the deque is empty.
     ///
     /// ```
     /// let mut deque = ArrayDeque::<i64, 3, Saturating>::new(alloc)?;
@@ -107,7 +108,8 @@ impl<T, const CAP: usize, B: Behavior> ArrayDeque<T, CAP, B> {
         self.get_mut(last)
     }
 
-    /// Returns the item at an index for writing, or `None` if there is none. Index 0 is the front.
+    /// Returns a mutable reference to the item at an index, or `None` if there is none. Index 0 is
+    /// the front.
     ///
     /// ```
     /// let mut deque = ArrayDeque::<i64, 3, Saturating>::new(alloc)?;
@@ -132,8 +134,8 @@ impl<T, const CAP: usize, B: Behavior> Index<usize> for ArrayDeque<T, CAP, B> {
 
     ghost index_gives = { λ d i x. x ≡ slice_index_or d.items i x };
 
-    /// Returns the item at an index, which is required to be below the length. Index 0 is the
-    /// front.
+    /// Returns a reference to the item at an index, which is required to be below the length. Index
+    /// 0 is the front.
     ///
     /// ```
     /// let mut deque = ArrayDeque::<i64, 3, Wrapping>::new(alloc)?;
@@ -148,8 +150,8 @@ impl<T, const CAP: usize, B: Behavior> Index<usize> for ArrayDeque<T, CAP, B> {
 }
 
 impl<T, const CAP: usize, B: Behavior> IndexMut<usize> for ArrayDeque<T, CAP, B> {
-    /// Returns the item at an index for writing. The index is required to be below the length.
-    /// Index 0 is the front.
+    /// Returns a mutable reference to the item at an index, which is required to be below the
+    /// length. Index 0 is the front.
     ///
     /// ```
     /// let mut deque = ArrayDeque::<i64, 3, Saturating>::new(alloc)?;

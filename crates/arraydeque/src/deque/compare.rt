@@ -57,8 +57,7 @@ impl<T: PartialEq, const CAP: usize, B: Behavior> PartialEq for ArrayDeque<T, CA
     /// Where the items stand in their regions has no say.
     ///
     /// ```
-    /// let mut deque = ArrayDeque::<i64, 3, Saturating>::new(alloc)?;
-    /// deque.extend_back([1, 2]);
+    /// let deque = ArrayDeque::<i64, 3, Saturating>::from_array(alloc, [1, 2])?;
     /// let mut other = ArrayDeque::<i64, 3, Saturating>::new(alloc)?;
     /// other.extend_front([2, 1]);
     /// // Both are the list 1, 2, though not in the same places.
@@ -92,10 +91,8 @@ impl<T: PartialOrd, const CAP: usize, B: Behavior> PartialOrd for ArrayDeque<T, 
     /// where these are in no order. If there are none, the shorter deque is less.
     ///
     /// ```
-    /// let mut deque = ArrayDeque::<i64, 3, Saturating>::new(alloc)?;
-    /// deque.extend_back([1, 5, 9]);
-    /// let mut other = ArrayDeque::<i64, 3, Saturating>::new(alloc)?;
-    /// other.extend_back([1, 6]);
+    /// let deque = ArrayDeque::<i64, 3, Saturating>::from_array(alloc, [1, 5, 9])?;
+    /// let other = ArrayDeque::<i64, 3, Saturating>::from_array(alloc, [1, 6])?;
     /// assert!(rt; deque < other);
     /// assert_eq!(rt; deque.partial_cmp(&deque), Some(Ordering::Equal));
     /// ```
@@ -126,10 +123,8 @@ impl<T: Ord, const CAP: usize, B: Behavior> Ord for ArrayDeque<T, CAP, B> {
     /// the shorter deque is less.
     ///
     /// ```
-    /// let mut deque = ArrayDeque::<i64, 3, Saturating>::new(alloc)?;
-    /// deque.extend_back([1, 2]);
-    /// let mut other = ArrayDeque::<i64, 3, Saturating>::new(alloc)?;
-    /// other.extend_back([1, 2, 0]);
+    /// let deque = ArrayDeque::<i64, 3, Saturating>::from_array(alloc, [1, 2])?;
+    /// let other = ArrayDeque::<i64, 3, Saturating>::from_array(alloc, [1, 2, 0])?;
     /// assert_eq!(rt; deque.cmp(&other), Ordering::Less);
     /// ```
     fn cmp(&self, other: &Self) -> Ordering {
@@ -155,8 +150,7 @@ impl<T: Hash, const CAP: usize, B: Behavior> Hash for ArrayDeque<T, CAP, B> {
     /// equal deques feed it alike, wherever their items stand.
     ///
     /// ```
-    /// let mut deque = ArrayDeque::<i64, 3, Saturating>::new(alloc)?;
-    /// deque.extend_back([1, 2]);
+    /// let deque = ArrayDeque::<i64, 3, Saturating>::from_array(alloc, [1, 2])?;
     /// let mut other = ArrayDeque::<i64, 3, Saturating>::new(alloc)?;
     /// other.extend_front([2, 1]);
     /// let mut seen = HashSet::new(alloc);

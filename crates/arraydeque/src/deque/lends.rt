@@ -11,7 +11,7 @@ use crate::behavior::Behavior;
 use crate::iter::IterMut;
 
 impl<T, const CAP: usize, B: Behavior> ArrayDeque<T, CAP, B> {
-    /// Returns an iterator over the items for writing, from both ends.
+    /// Returns an iterator over mutable references to the items, from both ends.
     ///
     /// Whatever is written, the deque holds as many items as before, and they start where they did.
     ///
@@ -31,9 +31,9 @@ impl<T, const CAP: usize, B: Behavior> ArrayDeque<T, CAP, B> {
         self.lend()
     }
 
-    /// Returns the items for writing, in two slices: those from the front to the region's end, and
-    /// then the rest, which stand from the region's first place on. If all lie in one piece, the
-    /// second is empty.
+    /// Returns the items in two mutable slices: those from the front to the region's end, and then
+    /// the rest, which stand from the region's first place on. If all lie in one piece, the second
+    /// is empty.
     ///
     /// Whatever is written, the deque holds as many items as before, and they start where they did.
     /// A caller whose proof needs that writes `iter_mut().into_slices()`: the prover follows the
@@ -43,10 +43,9 @@ impl<T, const CAP: usize, B: Behavior> ArrayDeque<T, CAP, B> {
     /// let mut deque = ArrayDeque::<i64, 3, Saturating>::new(alloc)?;
     /// deque.extend_back([2, 3]);
     /// deque.extend_front([1]);
-    /// let (front, rest) = deque.as_mut_slices();
-    /// front.fill(8);
-    /// rest.fill(9);
-    /// assert_eq!(rt; deque.into_vec()?.as_slice(), [8, 9, 9].as_slice());
+    /// let (_front, rest) = deque.as_mut_slices();
+    /// rest.fill(0);
+    /// assert_eq!(rt; deque.into_vec()?.as_slice(), [1, 0, 0].as_slice());
     /// ```
     #[inline]
     pub fn as_mut_slices(&mut self) -> (&mut [T], &mut [T])

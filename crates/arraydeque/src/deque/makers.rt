@@ -19,8 +19,7 @@ impl<T, const CAP: usize> ArrayDeque<T, CAP, Saturating> {
     ///
     /// ```
     /// let mut numbers = 1..=5;
-    /// let made = ArrayDeque::<i64, 3, Saturating>::from_iter(alloc, &mut numbers);
-    /// let deque = made.map_err(|_| "out of memory")?;
+    /// let deque = ArrayDeque::<i64, 3, Saturating>::from_iter(alloc, &mut numbers)?;
     /// assert_eq!(rt; deque.into_vec()?.as_slice(), [1, 2, 3].as_slice());
     /// assert_eq!(rt; numbers.next(), Some(4));
     /// ```
@@ -219,8 +218,8 @@ impl<T, const CAP: usize, B: Behavior> ArrayDeque<T, CAP, B> {
 impl<T, const CAP: usize> From<ArrayDeque<T, CAP, Wrapping>> for ArrayDeque<T, CAP, Saturating> {
     ghost from_gives = { λ wrapping saturating. saturating ≡ wrapping };
 
-    /// Returns the same deque under the other policy. Its region, its list and where that stands
-    /// stay.
+    /// Returns the same deque under the other policy. The region, the list and the place where it
+    /// starts stay.
     ///
     /// ```
     /// let mut wrapping = ArrayDeque::<i64, 2, Wrapping>::new(alloc)?;
@@ -241,8 +240,8 @@ impl<T, const CAP: usize> From<ArrayDeque<T, CAP, Wrapping>> for ArrayDeque<T, C
 impl<T, const CAP: usize> From<ArrayDeque<T, CAP, Saturating>> for ArrayDeque<T, CAP, Wrapping> {
     ghost from_gives = { λ saturating wrapping. wrapping ≡ saturating };
 
-    /// Returns the same deque under the other policy. Its region, its list and where that stands
-    /// stay.
+    /// Returns the same deque under the other policy. The region, the list and the place where it
+    /// starts stay.
     ///
     /// ```
     /// let mut saturating = ArrayDeque::<i64, 2, Saturating>::new(alloc)?;

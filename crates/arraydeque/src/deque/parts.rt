@@ -1,4 +1,4 @@
-//! Taking a stretch out of a deque, and cutting one in two.
+//! Taking a range out of a deque, and cutting one in two.
 ghost use Rattle.std.specs.Prelude.{◌≡◌, ◌-◌, ◌*◌, ◌<◌, ◌≤◌, length, take, drop, slice_range, IfOk, OnOk, OnErr};
 ghost use Rattle.std.specs.List.{remove_range};
 ghost use Rattle.std.specs.Mem.{type_size};

@@ -9,7 +9,7 @@ use crate::behavior::Behavior;
 
 impl<T, const CAP: usize, B: Behavior> ArrayDeque<T, CAP, B> {
     /// Removes the item at an index and returns it, or returns `None` if there is none. The last
-    /// item takes its place, by one exchange at most, where `remove` would keep the order.
+    /// item takes its place, by one exchange at most. Where the order matters, use `remove`.
     ///
     /// ```
     /// let mut deque = ArrayDeque::<i64, 4, Saturating>::new(alloc)?;
@@ -34,7 +34,7 @@ impl<T, const CAP: usize, B: Behavior> ArrayDeque<T, CAP, B> {
     }
 
     /// Removes the item at an index and returns it, or returns `None` if there is none. The first
-    /// item takes its place, by one exchange at most, where `remove` would keep the order.
+    /// item takes its place, by one exchange at most. Where the order matters, use `remove`.
     ///
     /// ```
     /// let mut deque = ArrayDeque::<i64, 4, Saturating>::new(alloc)?;

@@ -8,8 +8,8 @@ use crate::deque::ArrayDeque;
 use std::iter::FusedIterator;
 use std::marker::Model;
 
-/// The items of a deque, from both ends. It owns them, and drops those that are not taken, front to
-/// back. A deque gives it where it is walked by value.
+/// An iterator that owns the items of a deque, from both ends: that of a deque by value. It drops
+/// the items that are not taken, front to back.
 ///
 /// ```
 /// let mut deque = ArrayDeque::<i64, 3, Saturating>::new(alloc)?;

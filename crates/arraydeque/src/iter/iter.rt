@@ -9,8 +9,8 @@ use std::alloc::AllocError;
 use std::iter::FusedIterator;
 use std::marker::Model;
 
-/// The items of a deque, lent, from both ends. [`ArrayDeque::iter`] and a `&` to a deque give it.
-/// It walks the two slices of the deque one after the other.
+/// An iterator over references to the items of a deque, from both ends: that of
+/// [`ArrayDeque::iter`] and of `&deque`. It walks the two slices of the deque one after the other.
 ///
 /// ```
 /// let mut deque = ArrayDeque::<i64, 3, Saturating>::new(alloc)?;
