@@ -58,8 +58,8 @@ impl<T, const CAP: usize, B: Behavior> ArrayDeque<T, CAP, B> {
         self.get(self.len().saturating_sub(1))
     }
 
-    /// Returns a reference to the item at an index, or `None` if there is none. Index 0 is the
-    /// front.
+    /// Returns a reference to the item at an index, or `None` if there is none. The front has index
+    /// 0.
     ///
     /// ```
     /// let mut deque = ArrayDeque::<i64, 3, Saturating>::new(alloc)?;
@@ -108,8 +108,8 @@ impl<T, const CAP: usize, B: Behavior> ArrayDeque<T, CAP, B> {
         self.get_mut(last)
     }
 
-    /// Returns a mutable reference to the item at an index, or `None` if there is none. Index 0 is
-    /// the front.
+    /// Returns a mutable reference to the item at an index, or `None` if there is none. The front
+    /// has index 0.
     ///
     /// ```
     /// let mut deque = ArrayDeque::<i64, 3, Saturating>::new(alloc)?;
@@ -134,8 +134,8 @@ impl<T, const CAP: usize, B: Behavior> Index<usize> for ArrayDeque<T, CAP, B> {
 
     ghost index_gives = { λ d i x. x ≡ slice_index_or d.items i x };
 
-    /// Returns a reference to the item at an index, which is required to be below the length. Index
-    /// 0 is the front.
+    /// Returns a reference to the item at an index, which is required to be below the length. The
+    /// front has index 0.
     ///
     /// ```
     /// let mut deque = ArrayDeque::<i64, 3, Wrapping>::new(alloc)?;
@@ -151,7 +151,7 @@ impl<T, const CAP: usize, B: Behavior> Index<usize> for ArrayDeque<T, CAP, B> {
 
 impl<T, const CAP: usize, B: Behavior> IndexMut<usize> for ArrayDeque<T, CAP, B> {
     /// Returns a mutable reference to the item at an index, which is required to be below the
-    /// length. Index 0 is the front.
+    /// length. The front has index 0.
     ///
     /// ```
     /// let mut deque = ArrayDeque::<i64, 3, Saturating>::new(alloc)?;
