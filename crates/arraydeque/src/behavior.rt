@@ -1,12 +1,29 @@
 //! What a push into a full deque does: the policies.
 
-/// A policy of a deque.
+/// A policy: what a push into a full deque does. This crate has two, [`Saturating`] and
+/// [`Wrapping`].
 pub trait Behavior {}
 
-/// A full deque hands a pushed element back, and stays as it was.
+/// The policy under which a push or an insert into a full deque returns its element in the error,
+/// and nothing has changed.
+///
+/// ```
+/// let mut deque = ArrayDeque::<i64, 2, Saturating>::new(alloc)?;
+/// deque.extend_back([1, 2, 3]);
+/// assert_eq!(rt; deque.push_front(0), Err(CapacityError { element: 0 }));
+/// assert_eq!(rt; deque.into_vec()?.as_slice(), [1, 2].as_slice());
+/// ```
 pub struct Saturating;
 
-/// A full deque gives up the item at the other end for a pushed element.
+/// The policy under which a push into a full deque removes the item at the other end, and returns
+/// it. At capacity 0 it returns the element itself. There is no insert.
+///
+/// ```
+/// let mut deque = ArrayDeque::<i64, 2, Wrapping>::new(alloc)?;
+/// deque.extend_back([1, 2, 3]);
+/// assert_eq!(rt; deque.push_front(0), Some(3));
+/// assert_eq!(rt; deque.into_vec()?.as_slice(), [0, 2].as_slice());
+/// ```
 pub struct Wrapping;
 
 impl Behavior for Saturating {}

@@ -24,10 +24,19 @@ mod policies;
 mod retain;
 mod swaps;
 
-/// A double-ended queue of at most `CAP` items, in one region that is taken when it is made. `B`
-/// says what a push into a full one does.
+/// A double-ended queue of at most `CAP` items, in one region of memory that is taken when the
+/// deque is made. The policy `B` says what a push into a full deque does.
 ///
-/// A capacity of 0 is allowed: such a deque is always empty and always full.
+/// A capacity of 0 is allowed: such a deque is always empty and always full. A deque that is
+/// dropped drops its items front to back.
+///
+/// ```
+/// let mut deque = ArrayDeque::<i64, 4, Saturating>::new(alloc)?;
+/// deque.extend_back([2, 3]);
+/// assert_eq!(rt; deque.push_front(1), Ok(()));
+/// assert_eq!(rt; (deque.pop_front(), deque.pop_back()), (Some(1), Some(3)));
+/// assert_eq!(rt; (deque.len(), deque.capacity()), (1, 4));
+/// ```
 #[derive(Drop)]
 pub struct ArrayDeque<T, const CAP: usize, B: Behavior> {
     ring: Ring<T>,
@@ -50,10 +59,17 @@ impl<T, const CAP: usize, B: Behavior> Model for ArrayDeque<T, CAP, B> {
 }
 
 impl<T, const CAP: usize, B: Behavior> ArrayDeque<T, CAP, B> {
-    /// An empty deque, over a new region of `CAP` places from `alloc`.
+    /// Returns an empty deque, over a new region of `CAP` places from `alloc`.
     ///
-    /// It is refused where the allocator refuses the memory, and where the region would be larger
-    /// than the machine can name; never at capacity 0 or for items of size zero.
+    /// Fails only if memory is refused, as it is for a region larger than the machine can name. At
+    /// capacity 0 or for items of size zero it never fails.
+    ///
+    /// ```
+    /// let deque = ArrayDeque::<i64, 4, Saturating>::new(alloc)?;
+    /// assert_eq!(rt; (deque.len(), deque.capacity()), (0, 4));
+    /// // No region is as large as that.
+    /// assert!(rt; ArrayDeque::<i64, { usize::MAX }, Saturating>::new(alloc).is_err());
+    /// ```
     pub fn new(alloc: Global) -> Result<Self, AllocError>
         ensures ok { IfOk result (λ deque. deque ≡ empty_deque) }
         ensures refused { OnErr result (0 < CAP * type_size T.row) }
@@ -84,7 +100,13 @@ impl<T, const CAP: usize, B: Behavior> ArrayDeque<T, CAP, B> {
         ring
     }
 
-    /// How many items there may be: `CAP`.
+    /// Returns how many items the deque can hold: `CAP`.
+    ///
+    /// ```
+    /// let mut deque = ArrayDeque::<i64, 3, Wrapping>::new(alloc)?;
+    /// deque.extend_back([1, 2]);
+    /// assert_eq!(rt; (deque.len(), deque.capacity()), (2, 3));
+    /// ```
     #[inline]
     pub fn capacity(&self) -> usize
         ensures capacity { result ≡ CAP }
@@ -95,7 +117,15 @@ impl<T, const CAP: usize, B: Behavior> ArrayDeque<T, CAP, B> {
         CAP
     }
 
-    /// How many items there are.
+    /// Returns how many items the deque holds, which is `CAP` at most.
+    ///
+    /// ```
+    /// let mut deque = ArrayDeque::<i64, 3, Wrapping>::new(alloc)?;
+    /// deque.extend_back([1, 2, 3, 4]);
+    /// assert_eq!(rt; deque.len(), 3);
+    /// assert_eq!(rt; deque.pop_front(), Some(2));
+    /// assert_eq!(rt; deque.len(), 2);
+    /// ```
     #[inline]
     pub fn len(&self) -> usize
         ensures len { result ≡ length self.now.items }
@@ -105,7 +135,14 @@ impl<T, const CAP: usize, B: Behavior> ArrayDeque<T, CAP, B> {
         self.ring.len()
     }
 
-    /// Whether there is no item.
+    /// Whether the deque holds no item.
+    ///
+    /// ```
+    /// let mut deque = ArrayDeque::<i64, 1, Saturating>::new(alloc)?;
+    /// assert!(rt; deque.is_empty());
+    /// assert_eq!(rt; deque.push_back(1), Ok(()));
+    /// assert!(rt; !deque.is_empty());
+    /// ```
     #[inline]
     pub fn is_empty(&self) -> bool
         ensures { result ≡ (length self.now.items == 0) }
@@ -113,7 +150,16 @@ impl<T, const CAP: usize, B: Behavior> ArrayDeque<T, CAP, B> {
         self.len() == 0
     }
 
-    /// Whether there is room for no further item.
+    /// Whether the deque holds `CAP` items. At capacity 0 it is full, and empty as well.
+    ///
+    /// ```
+    /// let mut deque = ArrayDeque::<i64, 1, Saturating>::new(alloc)?;
+    /// assert!(rt; !deque.is_full());
+    /// assert_eq!(rt; deque.push_back(1), Ok(()));
+    /// assert!(rt; deque.is_full());
+    /// let none = ArrayDeque::<i64, 0, Saturating>::new(alloc)?;
+    /// assert!(rt; none.is_full() && none.is_empty());
+    /// ```
     #[inline]
     pub fn is_full(&self) -> bool
         ensures full { result ≡ (length self.now.items == CAP) }
@@ -122,7 +168,16 @@ impl<T, const CAP: usize, B: Behavior> ArrayDeque<T, CAP, B> {
         self.len() == CAP
     }
 
-    /// Takes the first item off, or answers `None` where there is none. No kept item moves.
+    /// Removes the first item and returns it, or returns `None` if the deque is empty. No other
+    /// item moves.
+    ///
+    /// ```
+    /// let mut deque = ArrayDeque::<i64, 3, Saturating>::new(alloc)?;
+    /// deque.extend_back([1, 2]);
+    /// assert_eq!(rt; deque.pop_front(), Some(1));
+    /// assert_eq!(rt; deque.pop_front(), Some(2));
+    /// assert_eq!(rt; deque.pop_front(), None);
+    /// ```
     #[inline]
     pub fn pop_front(&mut self) -> Option<T>
         ensures value { result ≡ slice_get self.old.items 0 }
@@ -136,7 +191,16 @@ impl<T, const CAP: usize, B: Behavior> ArrayDeque<T, CAP, B> {
         self.ring.pop_front()
     }
 
-    /// Takes the last item off, or answers `None` where there is none. No kept item moves.
+    /// Removes the last item and returns it, or returns `None` if the deque is empty. No other item
+    /// moves.
+    ///
+    /// ```
+    /// let mut deque = ArrayDeque::<i64, 3, Saturating>::new(alloc)?;
+    /// deque.extend_back([1, 2]);
+    /// assert_eq!(rt; deque.pop_back(), Some(2));
+    /// assert_eq!(rt; deque.pop_back(), Some(1));
+    /// assert_eq!(rt; deque.pop_back(), None);
+    /// ```
     #[inline]
     pub fn pop_back(&mut self) -> Option<T>
         ensures value { result ≡ last_item self.old.items }
@@ -150,8 +214,18 @@ impl<T, const CAP: usize, B: Behavior> ArrayDeque<T, CAP, B> {
         self.ring.pop_back()
     }
 
-    /// The items in two slices: those from the front to the region's end, then the wrapped rest.
-    /// Where all lie in one piece, the second is empty.
+    /// Returns the items in two slices: those from the front to the region's end, and then the
+    /// rest, which stand from the region's first place on. If all lie in one piece, the second is
+    /// empty.
+    ///
+    /// ```
+    /// let mut deque = ArrayDeque::<i64, 3, Saturating>::new(alloc)?;
+    /// deque.extend_back([1, 2, 3]);
+    /// // 4 goes to the place that 1 has left, which is the region's first.
+    /// assert_eq!(rt; (deque.pop_front(), deque.push_back(4)), (Some(1), Ok(())));
+    /// let (front, rest) = deque.as_slices();
+    /// assert_eq!(rt; (front, rest), ([2, 3].as_slice(), [4].as_slice()));
+    /// ```
     #[inline]
     pub fn as_slices(&self) -> (&[T], &[T])
         ensures joined { result.0.now ++ result.1.now ≡ self.now.items }
@@ -166,7 +240,14 @@ impl<T, const CAP: usize, B: Behavior> ArrayDeque<T, CAP, B> {
 }
 
 impl<T: fmt::Debug, const CAP: usize, B: Behavior> fmt::Debug for ArrayDeque<T, CAP, B> {
-    /// The items as a list, like `[0, 1, 2, 3]`.
+    /// Writes the items as a list.
+    ///
+    /// ```
+    /// let mut deque = ArrayDeque::<i64, 4, Wrapping>::new(alloc)?;
+    /// deque.extend_back([0, 1, 2]);
+    /// let text = format!(in alloc; "{deque:?}")?;
+    /// assert_eq!(rt; text.as_str(), "[0, 1, 2]");
+    /// ```
     fn fmt<W: fmt::Write>(&self, f: &mut fmt::Formatter<W>) -> fmt::Result {
         let (front, back) = self.as_slices();
         f.debug_list().slice(front).slice(back).finish()

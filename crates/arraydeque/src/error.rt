@@ -4,7 +4,19 @@ ghost use Rattle.std.specs.Prelude.{◌≡◌, Some, codes};
 use std::error::Error;
 use std::fmt;
 
-/// A full deque's answer: the element that found no room.
+/// The error of a call that found the deque full: the element comes back in it, and nothing has
+/// changed.
+///
+/// Two such errors compare as their elements do. The text is always `insufficient capacity`.
+///
+/// ```
+/// let mut deque = ArrayDeque::<i64, 0, Saturating>::new(alloc)?;
+/// let refusal = CapacityError { element: 7 };
+/// assert_eq!(rt; deque.push_back(7), Err(refusal));
+/// assert_eq!(rt; refusal.element, 7);
+/// let text = format!(in alloc; "{refusal}")?;
+/// assert_eq!(rt; text.as_str(), "insufficient capacity");
+/// ```
 #[derive(Clone, Copy, Drop, Eq, Ord, PartialEq, PartialOrd)]
 pub struct CapacityError<T> {
     /// The element that was handed in.
@@ -29,7 +41,18 @@ impl<T: Drop> fmt::Debug for CapacityError<T> {
     }
 }
 
-/// The answer of a call that memory was refused to: what the call consumed, as it was.
+/// The error of a call that memory was refused to: what the call consumed comes back in it, as it
+/// was handed in.
+///
+/// The text is always `out of memory`.
+///
+/// ```
+/// // No region is as large as that.
+/// let made = ArrayDeque::<i64, { usize::MAX }, Saturating>::from_array(alloc, [1, 2]);
+/// assert_eq!(rt; made.err().map(|refusal| refusal.source), Some([1, 2]));
+/// let text = format!(in alloc; "{}", MakeError { source: 0 })?;
+/// assert_eq!(rt; text.as_str(), "out of memory");
+/// ```
 #[derive(Drop)]
 pub struct MakeError<S> {
     /// What was handed in.

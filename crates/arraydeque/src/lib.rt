@@ -1,5 +1,56 @@
-//! A double-ended queue of fixed capacity in one ring, with a policy for what a push into a full
-//! one does.
+//! A double-ended queue of at most `CAP` items, in one ring of memory that is taken when it is made
+//! and never grows.
+//!
+//! A deque is an [`ArrayDeque<T, CAP, B>`](ArrayDeque), whose type says the items, the capacity and
+//! the policy. In all examples `rt` is the program's runtime and `alloc` is `rt.alloc()`.
+//!
+//! ```
+//! let mut last_two = ArrayDeque::<i64, 2, Wrapping>::new(alloc)?;
+//! last_two.extend_back([1, 2, 3]);
+//! assert_eq!(rt; last_two.push_back(4), Some(2));
+//! let mut queue: ArrayDeque<i64, 2, Saturating> = last_two.into();
+//! assert_eq!(rt; queue.push_back(5), Err(CapacityError { element: 5 }));
+//! assert_eq!(rt; (queue.pop_front(), queue.pop_front()), (Some(3), Some(4)));
+//! ```
+//!
+//! # Policies
+//!
+//! - [`Saturating`]: a push or an insert into a full deque returns its element in a
+//!   [`CapacityError`]. `extend_back`, `extend_front` and `from_iter` take no more items than there
+//!   is room for.
+//! - [`Wrapping`]: a push into a full deque removes the item at the other end, and returns it. An
+//!   extend pushes each of its items so, and drops what goes. There is no `insert`.
+//!
+//! A deque of capacity 0 is always empty and always full, and takes no memory. A push returns its
+//! element: in the error under `Saturating`, in place of an item under `Wrapping`.
+//!
+//! # What can fail
+//!
+//! - No room: only under `Saturating`, and in [`lookahead::Scanner::unread`]. The element comes
+//!   back in the [`CapacityError`].
+//! - No memory: only in `new`, `from_iter`, `from_vec`, `from_array`, `clone`, `drain`,
+//!   `split_off`, `into_vec`, `run` and `Scanner::new`. The `from_` calls, `into_vec`, `run` and
+//!   `Scanner::new` hand back what they consumed, as it was, in a [`MakeError`].
+//! - No such item: a pop, `front`, `back`, `get`, `remove`, `swap_remove_back` or
+//!   `swap_remove_front` returns `None`.
+//!
+//! After each of these the deque is as it was. `deque[index]`, `insert`, `swap`, `drain` and
+//! `split_off` require indexes that are in range: the caller shows that they are, as by a test of
+//! `len`. `run` makes that test itself.
+//!
+//! # What a call moves
+//!
+//! | Call | Moves |
+//! |---|---|
+//! | pushes, pops, extends, `split_off`, `clear` | no item that stays |
+//! | `insert` | the items before the index or those from it on, whichever are fewer |
+//! | `remove`, `drain` | the items before what goes or those after it, whichever are fewer |
+//! | `swap`, `swap_remove_back`, `swap_remove_front` | two items, by one exchange at most |
+//! | `retain` | each kept item after the first that goes, once |
+//! | `linearize` | in place, by no more moves and exchanges, taken together, than items |
+//! | a conversion to the other policy | no item |
+//!
+//! On a tie the items after the gap move. Each item that moves moves once, but in `linearize`.
 #![tactic(auto)]
 
 pub mod behavior;

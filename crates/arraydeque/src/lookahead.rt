@@ -15,7 +15,14 @@ use std::marker::Model;
 
 /// An iterator in which one can look up to `CAP` items ahead, and that takes items back.
 ///
-/// It asks its iterator for no more than a call wants, and never again after the first `None`.
+/// It asks its iterator for no more than a call needs, and never again after the first `None`.
+///
+/// ```
+/// let mut scanner = Scanner::<_, 2>::new(alloc, [1, 2, 3].into_iter())?;
+/// assert_eq!(rt; scanner.peek(1), Some(&2));
+/// assert_eq!(rt; (scanner.next(), scanner.unread(9)), (Some(1), Ok(())));
+/// assert_eq!(rt; (scanner.next(), scanner.next()), (Some(9), Some(2)));
+/// ```
 #[derive(Drop)]
 pub struct Scanner<I: Iterator, const CAP: usize> {
     iter: I,
@@ -39,10 +46,16 @@ impl<I: Iterator, const CAP: usize> Scanner<I, CAP> {
     ghost use mathlib.Core.Option.{none};
     ghost use denote.Follow.{follows_so};
 
-    /// A scanner over an iterator, which is asked for nothing yet.
+    /// Returns a scanner over an iterator, which is asked for nothing yet.
     ///
-    /// It is refused where the region of its buffer is refused; never at capacity 0 or for items of
-    /// size zero.
+    /// Fails only if memory is refused; then the iterator comes back in the error as it was. At
+    /// capacity 0 or for items of size zero it never fails.
+    ///
+    /// ```
+    /// let mut scanner = Scanner::<_, 0>::new(alloc, [1, 2].into_iter())?;
+    /// assert_eq!(rt; (scanner.next(), scanner.next()), (Some(1), Some(2)));
+    /// assert_eq!(rt; scanner.next(), None);
+    /// ```
     #[tactic(auto, unfolding(crate::specs::Lookahead::HasRest, crate::specs::Lookahead::left_of))]
     pub fn new(alloc: Global, iter: I) -> Result<Self, MakeError<I>>
         requires { I.can_next iter }
@@ -64,8 +77,16 @@ impl<I: Iterator, const CAP: usize> Scanner<I, CAP> {
         }
     }
 
-    /// The item `k` places ahead, or `None` where the input ends before it. What is read for it
-    /// stays in the buffer.
+    /// Returns the item `k` places ahead, or `None` if the input ends before it. At 0 it is the
+    /// item that `next` will return. Requires `k` below `CAP`. What is read for it stays in the
+    /// buffer.
+    ///
+    /// ```
+    /// let mut scanner = Scanner::<_, 3>::new(alloc, [1, 2].into_iter())?;
+    /// assert_eq!(rt; scanner.peek(1), Some(&2));
+    /// assert_eq!(rt; scanner.peek(2), None);
+    /// assert_eq!(rt; scanner.next(), Some(1));
+    /// ```
     pub fn peek(&mut self, k: usize) -> Option<&I::Item>
         requires { k < CAP }
         ensures* peeks { sem 𝓛 (follows_so (the_row I.row CAP.row I.Item.row I.Iterator)
@@ -76,7 +97,15 @@ impl<I: Iterator, const CAP: usize> Scanner<I, CAP> {
         self.buffer.get(k)
     }
 
-    /// Takes the next item: the first of the buffer, or the iterator's next where that is empty.
+    /// Removes the next item and returns it: the first of the buffer, or what the iterator gives if
+    /// that is empty. Returns `None` only at the end.
+    ///
+    /// ```
+    /// let mut scanner = Scanner::<_, 1>::new(alloc, [1, 2].into_iter())?;
+    /// assert_eq!(rt; scanner.peek(0), Some(&1));
+    /// assert_eq!(rt; (scanner.next(), scanner.next()), (Some(1), Some(2)));
+    /// assert_eq!(rt; scanner.next(), None);
+    /// ```
     #[tactic(auto, unfolding(crate::specs::Lookahead::HasRest, crate::specs::Lookahead::left_of))]
     pub fn next(&mut self) -> Option<I::Item>
         ensures hands_out { HandsOut I.next_gives self.old (option_to_list result) self.new }
@@ -98,7 +127,15 @@ impl<I: Iterator, const CAP: usize> Scanner<I, CAP> {
         }
     }
 
-    /// Puts an item back, so that it comes next. A full buffer hands it back and stays as it was.
+    /// Puts an item back, or another in its place, so that `next` will return it. If the buffer is
+    /// full, returns it in the error, and nothing has changed.
+    ///
+    /// ```
+    /// let mut scanner = Scanner::<_, 1>::new(alloc, [2, 3].into_iter())?;
+    /// assert_eq!(rt; scanner.unread(1), Ok(()));
+    /// assert_eq!(rt; scanner.unread(0), Err(CapacityError { element: 0 }));
+    /// assert_eq!(rt; (scanner.next(), scanner.next()), (Some(1), Some(2)));
+    /// ```
     #[tactic(auto, unfolding(crate::specs::Lookahead::HasRest, crate::specs::Lookahead::left_of))]
     pub fn unread(&mut self, item: I::Item) -> Result<(), CapacityError<I::Item>>
         ensures room { IsOk result ↔ (length self.old.buffer < CAP) }

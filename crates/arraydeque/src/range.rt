@@ -3,7 +3,19 @@ ghost use Rattle.std.specs.Prelude.{◌≡◌, Option, Some, None};
 
 use std::ops::{Range, RangeFrom, RangeFull, RangeTo};
 
-/// A stretch of indexes, which may leave either bound open. A caller's type may implement it.
+/// A range of indexes as an argument: `..`, `a..`, `..b`, `a..b`, or a type of your own that
+/// implements this.
+///
+/// A bound that is left open is the front or the end of the list.
+///
+/// ```
+/// let mut deque = ArrayDeque::<i64, 5, Saturating>::new(alloc)?;
+/// deque.extend_back([0, 1, 2, 3, 4]);
+/// assert_eq!(rt; deque.len(), 5);
+/// assert_eq!(rt; deque.drain(3..)?.len(), 2);
+/// assert_eq!(rt; deque.drain(..1)?.len(), 1);
+/// assert_eq!(rt; deque.drain(..)?.next(), Some(1));
+/// ```
 pub trait RangeArgument<T> {
     // The first index that the value names.
     ghost names_start: { Self → Option T };
@@ -11,11 +23,11 @@ pub trait RangeArgument<T> {
     // The first index past the stretch that the value names.
     ghost names_end: { Self → Option T };
 
-    /// The first index of the stretch, or `None` where the value leaves it open.
+    /// Returns the first index of the range, or `None` where the range leaves it open.
     fn start(&self) -> Option<T>
         ensures { result ≡ names_start self.now };
 
-    /// The first index past the stretch, or `None` where the value leaves it open.
+    /// Returns the first index after the range, or `None` where the range leaves it open.
     fn end(&self) -> Option<T>
         ensures { result ≡ names_end self.now };
 }

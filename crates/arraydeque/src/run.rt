@@ -1,4 +1,4 @@
-//! A whole list of calls on a deque, answered one by one.
+//! A whole list of calls on a deque, as values, and a reply to each.
 ghost use Rattle.std.specs.Prelude.{◌≡◌, ◌<◌, length, IfOk, IfErr, OnErr};
 ghost use Rattle.arraydeque.specs.Costs.{CallCosts, RunCosts};
 ghost use Rattle.arraydeque.specs.Machine.{Answers, answer_of, IsAlike};
@@ -15,66 +15,67 @@ use std::mem;
 /// A call of a deque, as a value.
 #[derive(Drop)]
 pub enum Call<T> {
-    /// Adds an item at the front.
+    /// Adds an element at the front.
     PushFront(T),
-    /// Adds an item at the back.
+    /// Adds an element at the back.
     PushBack(T),
-    /// Takes the first item off.
+    /// Removes the first item.
     PopFront,
-    /// Takes the last item off.
+    /// Removes the last item.
     PopBack,
-    /// Adds an item before the one at an index.
+    /// Adds an element before the item at an index.
     Insert(usize, T),
-    /// Takes out the item at an index.
+    /// Removes the item at an index.
     Remove(usize),
-    /// Takes out the item at an index, and puts the last one in its place.
+    /// Removes the item at an index, and puts the last one in its place.
     SwapRemoveBack(usize),
-    /// Takes out the item at an index, and puts the first one in its place.
+    /// Removes the item at an index, and puts the first one in its place.
     SwapRemoveFront(usize),
     /// Exchanges two items.
     Swap(usize, usize),
-    /// Puts an item in the place of another.
+    /// Puts an element in the place of an item.
     Replace(usize, T),
     /// Drops every item.
     Clear,
     /// Lays the items in one piece.
     Linearize,
-    /// Adds items at the back, in order.
+    /// Adds elements at the back, in order.
     ExtendBack(Vec<T>),
-    /// Adds items at the front, one by one.
+    /// Adds elements at the front, one by one.
     ExtendFront(Vec<T>),
-    /// Adds items at the back, in order, as std's trait does.
+    /// Adds elements at the back, in order, as std's trait does.
     Extend(Vec<T>),
-    /// Takes out the items from an index up to another.
+    /// Removes the items from an index up to another.
     Drain(usize, usize),
-    /// Cuts off the items from an index on.
+    /// Removes the items from an index on.
     SplitOff(usize),
-    /// How many items there are.
+    /// How many items the deque holds.
     Len,
-    /// How many items there may be.
+    /// How many items the deque can hold.
     Capacity,
-    /// Whether there is no item.
+    /// Whether the deque holds no item.
     IsEmpty,
-    /// Whether there is room for no further item.
+    /// Whether the deque holds `CAP` items.
     IsFull,
 }
 
-/// What a call answered.
+/// What a call returned.
 #[derive(Drop)]
 pub enum Reply<T, const CAP: usize, B: Behavior> {
-    /// The call did its work, and has nothing to tell.
+    /// The call did its work, and returns nothing.
     Done,
-    /// The item that was taken off, if there was one, or the one that another took the place of.
+    /// The item that was removed, if there was one, or the one that another took the place of.
     Item(Option<T>),
-    /// The item that a push into a full deque gave up, if it did.
+    /// The item that a push into a full deque removed, if it did, or at capacity 0 the element
+    /// itself.
     Displaced(Option<T>),
     /// A length or a capacity.
     Number(usize),
     /// Yes or no.
     Truth(bool),
-    /// The items that were taken out.
+    /// The items that a drain removed.
     Drained(iter::Drain<T>),
-    /// The part that was cut off.
+    /// The items that were split off.
     Split(ArrayDeque<T, CAP, B>),
     /// A push or an insert into a full deque. The element comes back, and the list is as it was.
     Full(CapacityError<T>),
@@ -88,10 +89,20 @@ pub enum Reply<T, const CAP: usize, B: Behavior> {
 }
 
 impl<T: Drop, const CAP: usize, B: Answering<T, CAP>> ArrayDeque<T, CAP, B> {
-    /// Makes the calls in order and answers each. A refused call does not stop the run.
+    /// Makes the calls in order, and returns a reply to each. A call that is refused doesn't stop
+    /// the run: its reply says so, and the list is as it was.
     ///
-    /// Room for the replies is taken before the first call, and none for an empty list. Where it is
-    /// refused, nothing was done and the calls come back.
+    /// Memory for the replies is taken before the first call, and none if there is no call. Fails
+    /// only if that is refused; then nothing has changed, and the calls come back in the error.
+    ///
+    /// ```
+    /// let mut deque = ArrayDeque::<i64, 1, Saturating>::new(alloc)?;
+    /// let calls = vec![in alloc; Call::PushBack(1), Call::PushBack(2), Call::Len]?;
+    /// let mut replies = deque.run(calls)?.into_iter();
+    /// assert!(rt; matches!(replies.next(), Some(Reply::Done)));
+    /// assert!(rt; matches!(replies.next(), Some(Reply::Full(_))));
+    /// assert!(rt; matches!(replies.next(), Some(Reply::Number(1))));
+    /// ```
     pub fn run(
         &mut self,
         calls: Vec<Call<T>>,

@@ -14,8 +14,6 @@ mod deque;
 #[cfg(test)]
 mod drops;
 #[cfg(test)]
-mod examples;
-#[cfg(test)]
 mod extend;
 #[cfg(test)]
 mod linearize;

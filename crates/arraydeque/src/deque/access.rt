@@ -11,7 +11,14 @@ use crate::behavior::Behavior;
 use std::ops::{Index, IndexMut};
 
 impl<T, const CAP: usize, B: Behavior> ArrayDeque<T, CAP, B> {
-    /// Whether some item is equal to `x`.
+    /// Whether some item equals `x`, by the items' own equality.
+    ///
+    /// ```
+    /// let mut deque = ArrayDeque::<i64, 3, Wrapping>::new(alloc)?;
+    /// deque.extend_back([1, 2, 3, 4]);
+    /// // 1 was dropped for 4.
+    /// assert!(rt; deque.contains(&4) && !deque.contains(&1));
+    /// ```
     pub fn contains(&self, x: &T) -> bool
     where
         T: PartialEq,
@@ -21,7 +28,14 @@ impl<T, const CAP: usize, B: Behavior> ArrayDeque<T, CAP, B> {
         front.contains(x) || back.contains(x)
     }
 
-    /// The first item, if there is one.
+    /// Returns a reference to the first item, or `None` if the deque is empty.
+    ///
+    /// ```
+    /// let mut deque = ArrayDeque::<i64, 3, Saturating>::new(alloc)?;
+    /// assert_eq!(rt; deque.front(), None);
+    /// deque.extend_back([1, 2]);
+    /// assert_eq!(rt; deque.front(), Some(&1));
+    /// ```
     #[inline]
     pub fn front(&self) -> Option<&T>
         ensures { option_copied result ≡ slice_get self.now.items 0 }
@@ -29,7 +43,14 @@ impl<T, const CAP: usize, B: Behavior> ArrayDeque<T, CAP, B> {
         self.get(0)
     }
 
-    /// The last item, if there is one.
+    /// Returns a reference to the last item, or `None` if the deque is empty.
+    ///
+    /// ```
+    /// let mut deque = ArrayDeque::<i64, 3, Saturating>::new(alloc)?;
+    /// assert_eq!(rt; deque.back(), None);
+    /// deque.extend_back([1, 2]);
+    /// assert_eq!(rt; deque.back(), Some(&2));
+    /// ```
     #[inline]
     pub fn back(&self) -> Option<&T>
         ensures { option_copied result ≡ last_item self.now.items }
@@ -37,7 +58,15 @@ impl<T, const CAP: usize, B: Behavior> ArrayDeque<T, CAP, B> {
         self.get(self.len().saturating_sub(1))
     }
 
-    /// The item at an index, if there is one. Index 0 is the front.
+    /// Returns a reference to the item at an index, or `None` if there is none. The front has index
+    /// 0.
+    ///
+    /// ```
+    /// let mut deque = ArrayDeque::<i64, 3, Saturating>::new(alloc)?;
+    /// deque.extend_back([1, 2, 3]);
+    /// assert_eq!(rt; deque.pop_front(), Some(1));
+    /// assert_eq!(rt; (deque.get(0), deque.get(2)), (Some(&2), None));
+    /// ```
     #[inline]
     pub fn get(&self, index: usize) -> Option<&T>
         ensures { option_copied result ≡ slice_get self.now.items index }
@@ -45,7 +74,14 @@ impl<T, const CAP: usize, B: Behavior> ArrayDeque<T, CAP, B> {
         self.ring.get(index)
     }
 
-    /// The first item for writing, if there is one.
+    /// Returns a mutable reference to the first item, or `None` if the deque is empty.
+    ///
+    /// ```
+    /// let mut deque = ArrayDeque::<i64, 3, Saturating>::new(alloc)?;
+    /// deque.extend_back([1, 2, 3]);
+    /// *deque.front_mut().ok_or("no item")? = 7;
+    /// assert_eq!(rt; deque.into_vec()?.as_slice(), [7, 2, 3].as_slice());
+    /// ```
     #[inline]
     pub fn front_mut(&mut self) -> Option<&mut T>
         ensures* writes_back { sem 𝓛 (lends_item T.row CAP.row B.row self.entry 0 result) }
@@ -54,7 +90,14 @@ impl<T, const CAP: usize, B: Behavior> ArrayDeque<T, CAP, B> {
         self.get_mut(0)
     }
 
-    /// The last item for writing, if there is one.
+    /// Returns a mutable reference to the last item, or `None` if the deque is empty.
+    ///
+    /// ```
+    /// let mut deque = ArrayDeque::<i64, 3, Saturating>::new(alloc)?;
+    /// deque.extend_back([1, 2, 3]);
+    /// *deque.back_mut().ok_or("no item")? = 7;
+    /// assert_eq!(rt; deque.into_vec()?.as_slice(), [1, 2, 7].as_slice());
+    /// ```
     #[inline]
     pub fn back_mut(&mut self) -> Option<&mut T>
         ensures* writes_back { let last = length self.old.items - 1 in
@@ -65,7 +108,16 @@ impl<T, const CAP: usize, B: Behavior> ArrayDeque<T, CAP, B> {
         self.get_mut(last)
     }
 
-    /// The item at an index for writing, if there is one. Index 0 is the front.
+    /// Returns a mutable reference to the item at an index, or `None` if there is none. The front
+    /// has index 0.
+    ///
+    /// ```
+    /// let mut deque = ArrayDeque::<i64, 3, Saturating>::new(alloc)?;
+    /// deque.extend_back([1, 2, 3]);
+    /// *deque.get_mut(1).ok_or("no item")? = 7;
+    /// assert_eq!(rt; deque.get_mut(3), None);
+    /// assert_eq!(rt; deque.into_vec()?.as_slice(), [1, 7, 3].as_slice());
+    /// ```
     #[inline]
     pub fn get_mut(&mut self, index: usize) -> Option<&mut T>
         ensures* writes_back { sem 𝓛 (lends_item T.row CAP.row B.row self.entry index result) }
@@ -82,7 +134,15 @@ impl<T, const CAP: usize, B: Behavior> Index<usize> for ArrayDeque<T, CAP, B> {
 
     ghost index_gives = { λ d i x. x ≡ slice_index_or d.items i x };
 
-    /// The item at an index that is there. Index 0 is the front.
+    /// Returns a reference to the item at an index, which is required to be below the length. The
+    /// front has index 0.
+    ///
+    /// ```
+    /// let mut deque = ArrayDeque::<i64, 3, Wrapping>::new(alloc)?;
+    /// deque.extend_back([1, 2, 3, 4]);
+    /// assert_eq!(rt; deque.len(), 3);
+    /// assert_eq!(rt; (deque[0], deque[2]), (2, 4));
+    /// ```
     #[inline]
     fn index(&self, index: usize) -> &T {
         self.get(index).unwrap()
@@ -90,7 +150,16 @@ impl<T, const CAP: usize, B: Behavior> Index<usize> for ArrayDeque<T, CAP, B> {
 }
 
 impl<T, const CAP: usize, B: Behavior> IndexMut<usize> for ArrayDeque<T, CAP, B> {
-    /// The item at an index that is there, for writing. Index 0 is the front.
+    /// Returns a mutable reference to the item at an index, which is required to be below the
+    /// length. The front has index 0.
+    ///
+    /// ```
+    /// let mut deque = ArrayDeque::<i64, 3, Saturating>::new(alloc)?;
+    /// deque.extend_back([1, 2, 3]);
+    /// assert_eq!(rt; deque.len(), 3);
+    /// deque[1] = 7;
+    /// assert_eq!(rt; deque.into_vec()?.as_slice(), [1, 7, 3].as_slice());
+    /// ```
     #[inline]
     fn index_mut(&mut self, index: usize) -> &mut T
         requires { index < length self.old.items }

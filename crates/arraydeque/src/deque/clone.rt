@@ -9,11 +9,20 @@ use crate::behavior::Behavior;
 use std::alloc::AllocError;
 
 impl<T: Clone, const CAP: usize, B: Behavior> ArrayDeque<T, CAP, B> {
-    /// A deque of a clone of each item, over a new region from the same allocator. The region is
-    /// taken first, and then the items are cloned front to back.
+    /// Returns a deque of a clone of each item, over a new region from the same allocator. Requires
+    /// that each clone of an item is that item once more, as it is for numbers.
     ///
-    /// It is refused where the region is, or where the clone of an item is; then the clones that
-    /// were made are dropped.
+    /// The region is taken first, and then the items are cloned front to back. Fails only if memory
+    /// is refused or the clone of an item fails; then the clones that were made are dropped.
+    ///
+    /// ```
+    /// let mut deque = ArrayDeque::<i64, 3, Saturating>::new(alloc)?;
+    /// deque.extend_back([1, 2]);
+    /// let copy = deque.clone()?;
+    /// assert_eq!(rt; copy, deque);
+    /// assert_eq!(rt; deque.pop_front(), Some(1));
+    /// assert_eq!(rt; copy.into_vec()?.as_slice(), [1, 2].as_slice());
+    /// ```
     pub fn clone(&self) -> Result<Self, AllocError>
         requires { ClonesAreSame T.is_clone self.now.items }
         ensures items { IfOk result (λ deque. deque ≡ with_back self.now.items empty_deque) }

@@ -56,7 +56,16 @@ impl<T: PartialEq, const CAP: usize, B: Behavior> PartialEq for ArrayDeque<T, CA
 
     ghost laws = { on_per (λ v. v.items) (lists_per T.laws) };
 
-    /// Whether there are as many items, each equal to the one at its index.
+    /// Whether both deques hold as many items, each equal to the one at its index in the other.
+    /// Where the items stand in their regions has no say.
+    ///
+    /// ```
+    /// let deque = ArrayDeque::<i64, 3, Saturating>::from_array(alloc, [1, 2])?;
+    /// let mut other = ArrayDeque::<i64, 3, Saturating>::new(alloc)?;
+    /// other.extend_front([2, 1]);
+    /// // Both are the list 1, 2, though not in the same places.
+    /// assert_eq!(rt; deque, other);
+    /// ```
     fn eq(&self, other: &Self) -> bool {
         if self.len() != other.len() {
             return false;
@@ -81,8 +90,15 @@ impl<T: PartialOrd, const CAP: usize, B: Behavior> PartialOrd for ArrayDeque<T, 
 
     ghost laws = { on_po (λ v. v.items) (lists_po T.PartialOrd.laws) };
 
-    /// The answer of the first pair of items that is not equal. Where there is none, the shorter
-    /// list is less.
+    /// Compares the first two items at one index that don't compare as equal, and returns `None`
+    /// where these are in no order. If there are none, the shorter deque is less.
+    ///
+    /// ```
+    /// let deque = ArrayDeque::<i64, 3, Saturating>::from_array(alloc, [1, 5, 9])?;
+    /// let other = ArrayDeque::<i64, 3, Saturating>::from_array(alloc, [1, 6])?;
+    /// assert!(rt; deque < other);
+    /// assert_eq!(rt; deque.partial_cmp(&deque), Some(Ordering::Equal));
+    /// ```
     fn partial_cmp(&self, other: &Self) -> Option<Ordering> {
         let cut = self.beside(other);
         let found = cut.front.0.partial_cmp(&cut.front.1);
@@ -106,8 +122,14 @@ impl<T: Ord, const CAP: usize, B: Behavior> Ord for ArrayDeque<T, CAP, B> {
 
     ghost matches_eq = { λ v w. lists_ties T.cmp T.matches_eq v.items w.items };
 
-    /// The answer of the first pair of items that is not equal. Where there is none, the shorter
-    /// list is less.
+    /// Compares the first two items at one index that don't compare as equal. If there are none,
+    /// the shorter deque is less.
+    ///
+    /// ```
+    /// let deque = ArrayDeque::<i64, 3, Saturating>::from_array(alloc, [1, 2])?;
+    /// let other = ArrayDeque::<i64, 3, Saturating>::from_array(alloc, [1, 2, 0])?;
+    /// assert_eq!(rt; deque.cmp(&other), Ordering::Less);
+    /// ```
     fn cmp(&self, other: &Self) -> Ordering {
         let cut = self.beside(other);
         let found = cut.front.0.cmp(&cut.front.1);
@@ -127,7 +149,17 @@ impl<T: Hash, const CAP: usize, B: Behavior> Hash for ArrayDeque<T, CAP, B> {
 
     ghost respects_eq = { λ v w. (alike (record { fed = T.respects_eq })).fed v.items w.items };
 
-    /// Feeds the length as a `usize`, and then each item by itself, front to back.
+    /// Feeds the hasher the length as a `usize`, and then each item by itself, front to back. So
+    /// equal deques feed it alike, wherever their items stand.
+    ///
+    /// ```
+    /// let deque = ArrayDeque::<i64, 3, Saturating>::from_array(alloc, [1, 2])?;
+    /// let mut other = ArrayDeque::<i64, 3, Saturating>::new(alloc)?;
+    /// other.extend_front([2, 1]);
+    /// let mut seen = HashSet::new(alloc);
+    /// assert!(rt; seen.insert(deque)?);
+    /// assert!(rt; !seen.insert(other)?);
+    /// ```
     fn hash<H: Hasher>(&self, state: &mut H) {
         let (front, back) = self.as_slices();
         state.write_usize(self.len());

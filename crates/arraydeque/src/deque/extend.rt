@@ -9,8 +9,18 @@ use crate::behavior::{Saturating, Wrapping};
 use std::alloc::AllocError;
 
 impl<T, const CAP: usize> ArrayDeque<T, CAP, Saturating> {
-    /// Adds items behind the last one while there is room. The iterator is asked for no more items
-    /// than there is room for, and never after its first `None`.
+    /// Adds the items of an iterator at the back, in order, while there is room. The iterator is
+    /// asked for no more items than there is room for, and never after its first `None`. No item
+    /// moves.
+    ///
+    /// ```
+    /// let mut deque = ArrayDeque::<i64, 3, Saturating>::new(alloc)?;
+    /// let mut numbers = 1..=5;
+    /// deque.extend_back(&mut numbers);
+    /// // What finds no room isn't taken.
+    /// assert_eq!(rt; numbers.next(), Some(4));
+    /// assert_eq!(rt; deque.into_vec()?.as_slice(), [1, 2, 3].as_slice());
+    /// ```
     pub fn extend_back<I: IntoIterator<Item = T>>(&mut self, iter: I)
         requires { IsIterable I.into_iter_gives I.IntoIter.can_next iter }
         ensures { TakesFrom I.into_iter_gives I.IntoIter.next_gives iter
@@ -32,9 +42,16 @@ impl<T, const CAP: usize> ArrayDeque<T, CAP, Saturating> {
         self.ring.move_in(ring);
     }
 
-    /// Adds items before the first one while there is room, so that the last one taken comes to
-    /// stand first. The iterator is asked for no more items than there is room for, and never after
-    /// its first `None`.
+    /// Adds the items of an iterator at the front, one by one, while there is room: the last one
+    /// taken comes to stand first. The iterator is asked for no more items than there is room for,
+    /// and never after its first `None`. No item moves.
+    ///
+    /// ```
+    /// let mut deque = ArrayDeque::<i64, 3, Saturating>::new(alloc)?;
+    /// deque.extend_back([9]);
+    /// deque.extend_front([1, 2, 3]);
+    /// assert_eq!(rt; deque.into_vec()?.as_slice(), [2, 1, 9].as_slice());
+    /// ```
     pub fn extend_front<I: IntoIterator<Item = T>>(&mut self, iter: I)
         requires { IsIterable I.into_iter_gives I.IntoIter.can_next iter }
         ensures { TakesFrom I.into_iter_gives I.IntoIter.next_gives iter
@@ -57,8 +74,16 @@ impl<T, const CAP: usize> ArrayDeque<T, CAP, Saturating> {
 }
 
 impl<T: Drop, const CAP: usize> ArrayDeque<T, CAP, Wrapping> {
-    /// Pushes each item of an iterator that ends behind the last one. A full deque drops its first
-    /// item for each, and one of capacity 0 the item itself.
+    /// Adds the items of an iterator at the back, in order. For each one that finds the deque full,
+    /// the first item is dropped, and at capacity 0 the one itself. Requires an iterator that ends.
+    /// No kept item moves.
+    ///
+    /// ```
+    /// let mut deque = ArrayDeque::<i64, 3, Wrapping>::new(alloc)?;
+    /// deque.extend_back([1, 2]);
+    /// deque.extend_back([3, 4]);
+    /// assert_eq!(rt; deque.into_vec()?.as_slice(), [2, 3, 4].as_slice());
+    /// ```
     pub fn extend_back<I: IntoIterator<Item = T>>(&mut self, iter: I)
         requires { IsFiniteIterable
             I.into_iter_gives I.IntoIter.can_next I.IntoIter.remaining iter }
@@ -76,9 +101,16 @@ impl<T: Drop, const CAP: usize> ArrayDeque<T, CAP, Wrapping> {
         self.ring.move_in(deque.into_ring());
     }
 
-    /// Pushes each item of an iterator that ends before the first one, so that the last one comes
-    /// to stand first. A full deque drops its last item for each, and one of capacity 0 the item
-    /// itself.
+    /// Adds the items of an iterator at the front, one by one: the last one comes to stand first.
+    /// For each one that finds the deque full, the last item is dropped, and at capacity 0 the one
+    /// itself. Requires an iterator that ends. No kept item moves.
+    ///
+    /// ```
+    /// let mut deque = ArrayDeque::<i64, 3, Wrapping>::new(alloc)?;
+    /// deque.extend_back([1, 2]);
+    /// deque.extend_front([3, 4]);
+    /// assert_eq!(rt; deque.into_vec()?.as_slice(), [4, 3, 1].as_slice());
+    /// ```
     pub fn extend_front<I: IntoIterator<Item = T>>(&mut self, iter: I)
         requires { IsFiniteIterable
             I.into_iter_gives I.IntoIter.can_next I.IntoIter.remaining iter }
@@ -100,8 +132,17 @@ impl<T: Drop, const CAP: usize> ArrayDeque<T, CAP, Wrapping> {
 impl<T: Drop, const CAP: usize> Extend<T> for ArrayDeque<T, CAP, Saturating> {
     ghost extend_gives = { λ old xs new. new ≡ with_back (take (CAP - length old.items) xs) old };
 
-    /// Adds items of an iterator that ends behind the last one while there is room, displaces none,
-    /// and drops the rest of the iterator's items. The answer is always `Ok`.
+    /// Adds the items of an iterator at the back, in order, while there is room, and drops the
+    /// others: unlike `extend_back` it runs the iterator to its end. Requires an iterator that
+    /// ends. It always returns `Ok`.
+    ///
+    /// ```
+    /// let mut deque = ArrayDeque::<i64, 3, Saturating>::new(alloc)?;
+    /// let mut numbers = 1..=5;
+    /// deque.extend(&mut numbers)?;
+    /// assert_eq!(rt; numbers.next(), None);
+    /// assert_eq!(rt; deque.into_vec()?.as_slice(), [1, 2, 3].as_slice());
+    /// ```
     fn extend<I: IntoIterator<Item = T>>(&mut self, iter: I) -> Result<(), AllocError>
         requires { IsFiniteIterable
             I.into_iter_gives I.IntoIter.can_next I.IntoIter.remaining iter }
@@ -124,8 +165,14 @@ impl<T: Drop, const CAP: usize> Extend<T> for ArrayDeque<T, CAP, Saturating> {
 impl<T: Drop, const CAP: usize> Extend<T> for ArrayDeque<T, CAP, Wrapping> {
     ghost extend_gives = { WrapsBack CAP };
 
-    /// Pushes each item of an iterator that ends behind the last one, as `extend_back` does. The
-    /// answer is always `Ok`.
+    /// Adds the items of an iterator at the back, as `extend_back` does: a full deque drops its
+    /// first item for each. Requires an iterator that ends. It always returns `Ok`.
+    ///
+    /// ```
+    /// let mut deque = ArrayDeque::<i64, 3, Wrapping>::new(alloc)?;
+    /// deque.extend([1, 2, 3, 4])?;
+    /// assert_eq!(rt; deque.into_vec()?.as_slice(), [2, 3, 4].as_slice());
+    /// ```
     fn extend<I: IntoIterator<Item = T>>(&mut self, iter: I) -> Result<(), AllocError>
         requires { IsFiniteIterable
             I.into_iter_gives I.IntoIter.can_next I.IntoIter.remaining iter }

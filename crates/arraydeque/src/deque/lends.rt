@@ -11,9 +11,18 @@ use crate::behavior::Behavior;
 use crate::iter::IterMut;
 
 impl<T, const CAP: usize, B: Behavior> ArrayDeque<T, CAP, B> {
-    /// The items for writing, front to back or back to front.
+    /// Returns an iterator over mutable references to the items, from both ends.
     ///
-    /// Whatever is written, there are as many items as before, and they start where they did.
+    /// Whatever is written, the deque holds as many items as before, and they start where they did.
+    ///
+    /// ```
+    /// let mut deque = ArrayDeque::<i64, 3, Saturating>::new(alloc)?;
+    /// deque.extend_back([1, 2, 3]);
+    /// for item in deque.iter_mut().rev().take(2) {
+    ///     *item = 0;
+    /// }
+    /// assert_eq!(rt; deque.into_vec()?.as_slice(), [1, 0, 0].as_slice());
+    /// ```
     #[inline]
     pub fn iter_mut(&mut self) -> IterMut<'_, T>
         ensures* writes_back { sem 𝓛 (lends_items T.row CAP.row B.row self.entry result.name) }
@@ -22,12 +31,22 @@ impl<T, const CAP: usize, B: Behavior> ArrayDeque<T, CAP, B> {
         self.lend()
     }
 
-    /// The items for writing in two slices: those from the front to the region's end, then the
-    /// wrapped rest. Where all lie in one piece, the second is empty.
+    /// Returns the items in two mutable slices: those from the front to the region's end, and then
+    /// the rest, which stand from the region's first place on. If all lie in one piece, the second
+    /// is empty.
     ///
-    /// Whatever is written, there are as many items as before, and they start where they did. A
-    /// caller whose proof needs that writes `iter_mut().into_slices()`: the prover follows the one
-    /// name of that loan, and not a pair.
+    /// Whatever is written, the deque holds as many items as before, and they start where they did.
+    /// A caller whose proof needs that writes `iter_mut().into_slices()`: the prover follows the
+    /// one name of that loan, and not a pair.
+    ///
+    /// ```
+    /// let mut deque = ArrayDeque::<i64, 3, Saturating>::new(alloc)?;
+    /// deque.extend_back([2, 3]);
+    /// deque.extend_front([1]);
+    /// let (_front, rest) = deque.as_mut_slices();
+    /// rest.fill(0);
+    /// assert_eq!(rt; deque.into_vec()?.as_slice(), [1, 0, 0].as_slice());
+    /// ```
     #[inline]
     pub fn as_mut_slices(&mut self) -> (&mut [T], &mut [T])
         ensures* writes_back { sem 𝓛 (lends_slices T.row CAP.row B.row self.entry result) }

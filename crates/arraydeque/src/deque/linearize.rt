@@ -11,7 +11,17 @@ impl<T, const CAP: usize, B: Behavior> ArrayDeque<T, CAP, B> {
     /// Lays the list in one piece, so that the first slice of `as_slices` has all items. Nothing
     /// happens where it lies in one piece already.
     ///
-    /// In place: no memory is taken, and there are no more moves and exchanges than items.
+    /// It works in place and takes no memory: there are no more moves and exchanges, taken
+    /// together, than items.
+    ///
+    /// ```
+    /// let mut deque = ArrayDeque::<i64, 4, Saturating>::new(alloc)?;
+    /// deque.extend_back([2, 3]);
+    /// deque.extend_front([1]);
+    /// assert_eq!(rt; deque.as_slices().0, [1].as_slice());
+    /// deque.linearize();
+    /// assert_eq!(rt; deque.as_slices().0, [1, 2, 3].as_slice());
+    /// ```
     pub fn linearize(&mut self)
         ensures items { self.new.items ≡ self.old.items }
         ensures one_piece { IsInOnePiece (as_ring CAP self.new) }

@@ -12,8 +12,17 @@ use std::alloc::Global;
 use std::marker::PhantomData;
 
 impl<T, const CAP: usize> ArrayDeque<T, CAP, Saturating> {
-    /// A deque of the first `CAP` items of an iterator. The region is taken first; where it is
-    /// refused the source comes back as it was, asked for nothing.
+    /// Returns a deque of the first `CAP` items of an iterator, which is asked for no more.
+    ///
+    /// Fails only if memory is refused; then the source comes back in the error as it was, asked
+    /// for nothing.
+    ///
+    /// ```
+    /// let mut numbers = 1..=5;
+    /// let deque = ArrayDeque::<i64, 3, Saturating>::from_iter(alloc, &mut numbers)?;
+    /// assert_eq!(rt; deque.into_vec()?.as_slice(), [1, 2, 3].as_slice());
+    /// assert_eq!(rt; numbers.next(), Some(4));
+    /// ```
     pub fn from_iter<I: IntoIterator<Item = T>>(
         alloc: Global,
         iter: I,
@@ -34,8 +43,15 @@ impl<T, const CAP: usize> ArrayDeque<T, CAP, Saturating> {
         }
     }
 
-    /// A deque of the first `CAP` items of a vector; the others are dropped. Where the region is
-    /// refused the vector comes back as it was.
+    /// Returns a deque of the first `CAP` items of a vector. The others are dropped.
+    ///
+    /// Fails only if memory is refused; then the vector comes back in the error as it was.
+    ///
+    /// ```
+    /// let list = vec![in alloc; 1, 2, 3]?;
+    /// let deque = ArrayDeque::<i64, 2, Saturating>::from_vec(alloc, list)?;
+    /// assert_eq!(rt; deque.into_vec()?.as_slice(), [1, 2].as_slice());
+    /// ```
     pub fn from_vec(alloc: Global, v: Vec<T>) -> Result<Self, MakeError<Vec<T>>>
     where
         T: Drop,
@@ -46,8 +62,14 @@ impl<T, const CAP: usize> ArrayDeque<T, CAP, Saturating> {
         Self::from_iter(alloc, v)
     }
 
-    /// A deque of the first `CAP` items of an array. Where the region is refused the array comes
-    /// back as it was.
+    /// Returns a deque of the first `CAP` items of an array.
+    ///
+    /// Fails only if memory is refused; then the array comes back in the error as it was.
+    ///
+    /// ```
+    /// let deque = ArrayDeque::<i64, 2, Saturating>::from_array(alloc, [1, 2, 3])?;
+    /// assert_eq!(rt; deque.into_vec()?.as_slice(), [1, 2].as_slice());
+    /// ```
     pub fn from_array<const N: usize>(alloc: Global, a: [T; N]) -> Result<Self, MakeError<[T; N]>>
     where
         T: Copy,
@@ -67,8 +89,16 @@ impl<T, const CAP: usize> ArrayDeque<T, CAP, Saturating> {
 }
 
 impl<T: Drop, const CAP: usize> ArrayDeque<T, CAP, Wrapping> {
-    /// A deque of the last `CAP` items of an iterator that ends; the others are dropped. The region
-    /// is taken first; where it is refused the source comes back as it was, asked for nothing.
+    /// Returns a deque of the last `CAP` items of an iterator. The others are dropped. Requires an
+    /// iterator that ends.
+    ///
+    /// Fails only if memory is refused; then the source comes back in the error as it was, asked
+    /// for nothing.
+    ///
+    /// ```
+    /// let deque = ArrayDeque::<i64, 3, Wrapping>::from_iter(alloc, 1..=5)?;
+    /// assert_eq!(rt; deque.into_vec()?.as_slice(), [3, 4, 5].as_slice());
+    /// ```
     pub fn from_iter<I: IntoIterator<Item = T>>(
         alloc: Global,
         iter: I,
@@ -92,8 +122,15 @@ impl<T: Drop, const CAP: usize> ArrayDeque<T, CAP, Wrapping> {
         }
     }
 
-    /// A deque of the last `CAP` items of a vector; the others are dropped. Where the region is
-    /// refused the vector comes back as it was.
+    /// Returns a deque of the last `CAP` items of a vector. The others are dropped.
+    ///
+    /// Fails only if memory is refused; then the vector comes back in the error as it was.
+    ///
+    /// ```
+    /// let list = vec![in alloc; 1, 2, 3]?;
+    /// let deque = ArrayDeque::<i64, 2, Wrapping>::from_vec(alloc, list)?;
+    /// assert_eq!(rt; deque.into_vec()?.as_slice(), [2, 3].as_slice());
+    /// ```
     pub fn from_vec(alloc: Global, v: Vec<T>) -> Result<Self, MakeError<Vec<T>>>
         ensures items { IfOk result (λ deque. deque.items ≡ keep_last CAP v.items) }
         ensures pushed { IfOk result (λ deque.
@@ -105,8 +142,14 @@ impl<T: Drop, const CAP: usize> ArrayDeque<T, CAP, Wrapping> {
         Self::from_iter(alloc, v)
     }
 
-    /// A deque of the last `CAP` items of an array. Where the region is refused the array comes
-    /// back as it was.
+    /// Returns a deque of the last `CAP` items of an array.
+    ///
+    /// Fails only if memory is refused; then the array comes back in the error as it was.
+    ///
+    /// ```
+    /// let deque = ArrayDeque::<i64, 2, Wrapping>::from_array(alloc, [1, 2, 3])?;
+    /// assert_eq!(rt; deque.into_vec()?.as_slice(), [2, 3].as_slice());
+    /// ```
     pub fn from_array<const N: usize>(alloc: Global, a: [T; N]) -> Result<Self, MakeError<[T; N]>>
     where
         T: Copy,
@@ -142,8 +185,17 @@ impl<T, const CAP: usize, B: Behavior> ArrayDeque<T, CAP, B> {
 }
 
 impl<T, const CAP: usize, B: Behavior> ArrayDeque<T, CAP, B> {
-    /// A vector of the items, front to back. Where its memory is refused the deque comes back as it
-    /// was; an empty deque asks for none.
+    /// Returns a vector of the items, front to back.
+    ///
+    /// Fails only if memory is refused; then the deque comes back in the error as it was. An empty
+    /// deque takes no memory.
+    ///
+    /// ```
+    /// let mut deque = ArrayDeque::<i64, 3, Wrapping>::new(alloc)?;
+    /// deque.extend_back([1, 2, 3, 4]);
+    /// let list = deque.into_vec()?;
+    /// assert_eq!(rt; list.as_slice(), [2, 3, 4].as_slice());
+    /// ```
     pub fn into_vec(self) -> Result<Vec<T>, MakeError<Self>>
         ensures items { IfOk result (λ v. v.items ≡ self.items) }
         ensures source { IfErr result (λ refusal. refusal.source ≡ self) }
@@ -168,7 +220,16 @@ impl<T, const CAP: usize, B: Behavior> ArrayDeque<T, CAP, B> {
 impl<T, const CAP: usize> From<ArrayDeque<T, CAP, Wrapping>> for ArrayDeque<T, CAP, Saturating> {
     ghost from_gives = { λ wrapping saturating. saturating ≡ wrapping };
 
-    /// The same deque under the other policy: its region, list and start stay.
+    /// Returns the same deque under the other policy. The region, the list and the place where it
+    /// starts stay.
+    ///
+    /// ```
+    /// let mut wrapping = ArrayDeque::<i64, 2, Wrapping>::new(alloc)?;
+    /// wrapping.extend_back([1, 2, 3]);
+    /// let mut deque = ArrayDeque::<i64, 2, Saturating>::from(wrapping);
+    /// assert_eq!(rt; deque.push_back(4), Err(CapacityError { element: 4 }));
+    /// assert_eq!(rt; deque.into_vec()?.as_slice(), [2, 3].as_slice());
+    /// ```
     fn from(deque: ArrayDeque<T, CAP, Wrapping>) -> Self {
         let ArrayDeque { ring, behavior: _ } = deque;
         ArrayDeque {
@@ -181,7 +242,16 @@ impl<T, const CAP: usize> From<ArrayDeque<T, CAP, Wrapping>> for ArrayDeque<T, C
 impl<T, const CAP: usize> From<ArrayDeque<T, CAP, Saturating>> for ArrayDeque<T, CAP, Wrapping> {
     ghost from_gives = { λ saturating wrapping. wrapping ≡ saturating };
 
-    /// The same deque under the other policy: its region, list and start stay.
+    /// Returns the same deque under the other policy. The region, the list and the place where it
+    /// starts stay.
+    ///
+    /// ```
+    /// let mut saturating = ArrayDeque::<i64, 2, Saturating>::new(alloc)?;
+    /// saturating.extend_back([1, 2, 3]);
+    /// let mut deque = ArrayDeque::<i64, 2, Wrapping>::from(saturating);
+    /// assert_eq!(rt; deque.push_back(4), Some(1));
+    /// assert_eq!(rt; deque.into_vec()?.as_slice(), [2, 4].as_slice());
+    /// ```
     fn from(deque: ArrayDeque<T, CAP, Saturating>) -> Self {
         let ArrayDeque { ring, behavior: _ } = deque;
         ArrayDeque {

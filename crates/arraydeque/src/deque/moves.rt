@@ -11,9 +11,21 @@ use crate::behavior::{Behavior, Saturating};
 use crate::error::CapacityError;
 
 impl<T, const CAP: usize> ArrayDeque<T, CAP, Saturating> {
-    /// Adds an item before the one at an index, or behind the last one. The items on the side with
-    /// fewer of them move by one place, at most half of the items. A full deque hands the element
-    /// back and stays as it was.
+    /// Adds an element before the item at an index, or at the back where the index is the length.
+    /// Requires an index up to the length. If the deque is full, returns the element in the error,
+    /// and nothing has changed.
+    ///
+    /// The items before the index or those from it on move by one place, whichever are fewer, and
+    /// on a tie the latter: at most half of the items.
+    ///
+    /// ```
+    /// let mut deque = ArrayDeque::<i64, 4, Saturating>::new(alloc)?;
+    /// deque.extend_back([1, 2, 3]);
+    /// assert_eq!(rt; deque.len(), 3);
+    /// assert_eq!(rt; deque.insert(1, 9), Ok(()));
+    /// assert_eq!(rt; deque.insert(0, 8), Err(CapacityError { element: 8 }));
+    /// assert_eq!(rt; deque.into_vec()?.as_slice(), [1, 9, 2, 3].as_slice());
+    /// ```
     pub fn insert(&mut self, index: usize, element: T) -> Result<(), CapacityError<T>>
         requires { index ≤ length self.old.items }
         ensures room { IsOk result ↔ (length self.old.items < CAP) }
@@ -37,8 +49,19 @@ impl<T, const CAP: usize> ArrayDeque<T, CAP, Saturating> {
 }
 
 impl<T, const CAP: usize, B: Behavior> ArrayDeque<T, CAP, B> {
-    /// Takes out the item at an index, or answers `None` where there is none. The items on the side
-    /// with fewer of them move by one place, at most half of the items.
+    /// Removes the item at an index and returns it, or returns `None` if there is none.
+    ///
+    /// The items before it or those after it move by one place, whichever are fewer, and on a tie
+    /// the latter: fewer than half of the items.
+    ///
+    /// ```
+    /// let mut deque = ArrayDeque::<i64, 4, Saturating>::new(alloc)?;
+    /// deque.extend_back([1, 2, 3, 4]);
+    /// // Only 1 moves.
+    /// assert_eq!(rt; deque.remove(1), Some(2));
+    /// assert_eq!(rt; deque.remove(3), None);
+    /// assert_eq!(rt; deque.into_vec()?.as_slice(), [1, 3, 4].as_slice());
+    /// ```
     pub fn remove(&mut self, index: usize) -> Option<T>
         ensures value { result ≡ slice_get self.old.items index }
         ensures items { self.new.items ≡ remove self.old.items index }

@@ -1,4 +1,4 @@
-//! Taking a stretch out of a deque, and cutting one in two.
+//! Taking a range out of a deque, and cutting one in two.
 ghost use Rattle.std.specs.Prelude.{◌≡◌, ◌-◌, ◌*◌, ◌<◌, ◌≤◌, length, take, drop, slice_range, IfOk, OnOk, OnErr};
 ghost use Rattle.std.specs.List.{remove_range};
 ghost use Rattle.std.specs.Mem.{type_size};
@@ -15,11 +15,21 @@ use std::alloc::AllocError;
 use std::marker::PhantomData;
 
 impl<T, const CAP: usize, B: Behavior> ArrayDeque<T, CAP, B> {
-    /// Takes a stretch of items out, which the answer owns in a region of its own. The gap is
-    /// closed when the call returns, by moving the items on the side with fewer of them.
+    /// Removes the items of a range, and returns them in a [`Drain`], which owns them in a region
+    /// of its own. Requires a range that is in order and ends within the list.
     ///
-    /// A bound that the range leaves open is the front or the end of the list. Refused for memory
-    /// alone, with nothing changed; never for an empty stretch or for items of size zero.
+    /// The deque is whole when the call returns: the items before the range or those after it have
+    /// moved, whichever are fewer, and none for an empty range. Fails only if memory is refused;
+    /// then nothing has changed. An empty range, or items of size zero, take none.
+    ///
+    /// ```
+    /// let mut deque = ArrayDeque::<i64, 5, Saturating>::new(alloc)?;
+    /// deque.extend_back([0, 1, 2, 3, 4]);
+    /// assert_eq!(rt; deque.len(), 5);
+    /// let mut drained = deque.drain(1..3)?;
+    /// assert_eq!(rt; (drained.next(), deque.len()), (Some(1), 3));
+    /// assert_eq!(rt; deque.into_vec()?.as_slice(), [0, 3, 4].as_slice());
+    /// ```
     pub fn drain<R: RangeArgument<usize>>(&mut self, range: R) -> Result<Drain<T>, AllocError>
     where
         R: Drop,
@@ -67,11 +77,20 @@ impl<T, const CAP: usize, B: Behavior> ArrayDeque<T, CAP, B> {
         Ok(Drain::of(ring))
     }
 
-    /// Cuts the deque in two: the items before an index stay, and the answer, of the same capacity,
-    /// holds the others.
+    /// Removes the items from an index on, and returns them in a deque of the same capacity and
+    /// policy. Requires an index up to the length.
     ///
-    /// No kept item moves. Refused for memory alone, with nothing changed; never at capacity 0 or
-    /// for items of size zero.
+    /// No kept item moves. Fails only if memory is refused; then nothing has changed. At capacity 0
+    /// or for items of size zero it never fails.
+    ///
+    /// ```
+    /// let mut deque = ArrayDeque::<i64, 3, Saturating>::new(alloc)?;
+    /// deque.extend_back([1, 2, 3]);
+    /// assert_eq!(rt; deque.len(), 3);
+    /// let rest = deque.split_off(1)?;
+    /// assert_eq!(rt; (deque.len(), rest.capacity()), (1, 3));
+    /// assert_eq!(rt; rest.into_vec()?.as_slice(), [2, 3].as_slice());
+    /// ```
     pub fn split_off(&mut self, at: usize) -> Result<Self, AllocError>
         requires { at ≤ length self.old.items }
         ensures tail { IfOk result (λ tail. tail ≡ record {

@@ -9,8 +9,16 @@ use crate::behavior::{Saturating, Wrapping};
 use crate::error::CapacityError;
 
 impl<T, const CAP: usize> ArrayDeque<T, CAP, Saturating> {
-    /// Adds an item before the first one. No kept item moves. A full deque hands the element back
-    /// and stays as it was.
+    /// Adds an element at the front. If the deque is full, returns it in the error, and nothing has
+    /// changed. No item moves.
+    ///
+    /// ```
+    /// let mut deque = ArrayDeque::<i64, 2, Saturating>::new(alloc)?;
+    /// assert_eq!(rt; deque.push_front(2), Ok(()));
+    /// assert_eq!(rt; deque.push_front(1), Ok(()));
+    /// assert_eq!(rt; deque.push_front(0), Err(CapacityError { element: 0 }));
+    /// assert_eq!(rt; deque.front(), Some(&1));
+    /// ```
     #[inline]
     pub fn push_front(&mut self, element: T) -> Result<(), CapacityError<T>>
         ensures room { IsOk result ↔ (length self.old.items < CAP) }
@@ -27,8 +35,15 @@ impl<T, const CAP: usize> ArrayDeque<T, CAP, Saturating> {
         Ok(())
     }
 
-    /// Adds an item behind the last one. No kept item moves. A full deque hands the element back
-    /// and stays as it was.
+    /// Adds an element at the back. If the deque is full, returns it in the error, and nothing has
+    /// changed. No item moves.
+    ///
+    /// ```
+    /// let mut deque = ArrayDeque::<i64, 3, Saturating>::new(alloc)?;
+    /// deque.extend_back([1, 2]);
+    /// assert_eq!(rt; deque.push_back(3), Ok(()));
+    /// assert_eq!(rt; deque.push_back(4), Err(CapacityError { element: 4 }));
+    /// ```
     #[inline]
     pub fn push_back(&mut self, element: T) -> Result<(), CapacityError<T>>
         ensures room { IsOk result ↔ (length self.old.items < CAP) }
@@ -47,8 +62,17 @@ impl<T, const CAP: usize> ArrayDeque<T, CAP, Saturating> {
 }
 
 impl<T, const CAP: usize> ArrayDeque<T, CAP, Wrapping> {
-    /// Adds an item before the first one. No kept item moves. A full deque gives up its last item,
-    /// and one of capacity 0 the element itself.
+    /// Adds an element at the front. If the deque is full, removes the last item for it and returns
+    /// that, and at capacity 0 returns the element itself. No kept item moves.
+    ///
+    /// ```
+    /// let mut deque = ArrayDeque::<i64, 2, Wrapping>::new(alloc)?;
+    /// assert_eq!(rt; deque.push_front(2), None);
+    /// assert_eq!(rt; deque.push_front(1), None);
+    /// // 2 goes for it, at the back.
+    /// assert_eq!(rt; deque.push_front(0), Some(2));
+    /// assert_eq!(rt; (deque.front(), deque.back()), (Some(&0), Some(&1)));
+    /// ```
     #[inline]
     pub fn push_front(&mut self, element: T) -> Option<T>
         ensures items { self.new.items ≡ take CAP (element ∷ self.old.items) }
@@ -72,8 +96,17 @@ impl<T, const CAP: usize> ArrayDeque<T, CAP, Wrapping> {
         displaced
     }
 
-    /// Adds an item behind the last one. No kept item moves. A full deque gives up its first item,
-    /// and one of capacity 0 the element itself.
+    /// Adds an element at the back. If the deque is full, removes the first item for it and returns
+    /// that, and at capacity 0 returns the element itself. No kept item moves.
+    ///
+    /// ```
+    /// let mut deque = ArrayDeque::<i64, 2, Wrapping>::new(alloc)?;
+    /// deque.extend_back([1, 2]);
+    /// // 1 goes for it, at the front.
+    /// assert_eq!(rt; deque.push_back(3), Some(1));
+    /// let mut none = ArrayDeque::<i64, 0, Wrapping>::new(alloc)?;
+    /// assert_eq!(rt; none.push_back(3), Some(3));
+    /// ```
     #[inline]
     pub fn push_back(&mut self, element: T) -> Option<T>
         ensures items { self.new.items ≡ keep_last CAP (self.old.items ++ element ∷ []) }

@@ -10,7 +10,16 @@ use super::ArrayDeque;
 use crate::behavior::Behavior;
 
 impl<T, const CAP: usize, B: Behavior> ArrayDeque<T, CAP, B> {
-    /// Drops every item, front to back.
+    /// Drops every item, front to back. The region stays, and the list starts again at its first
+    /// place.
+    ///
+    /// ```
+    /// let mut deque = ArrayDeque::<i64, 2, Saturating>::new(alloc)?;
+    /// deque.extend_back([1, 2]);
+    /// deque.clear();
+    /// assert!(rt; deque.is_empty());
+    /// assert_eq!(rt; deque.push_back(3), Ok(()));
+    /// ```
     pub fn clear(&mut self)
     where
         T: Drop,
@@ -23,11 +32,18 @@ impl<T, const CAP: usize, B: Behavior> ArrayDeque<T, CAP, B> {
         self.ring.clear();
     }
 
-    /// Keeps the items that `f` answers true for, in order, and drops the others. `f` is called
+    /// Keeps the items for which `f` returns true, in order, and drops the others. `f` is called
     /// once on each item, front to back.
     ///
-    /// In place: each item that stays behind the first that goes moves once, and no memory is
-    /// taken.
+    /// It works in place and takes no memory: each kept item after the first that goes moves once.
+    ///
+    /// ```
+    /// let mut deque = ArrayDeque::<i64, 5, Saturating>::new(alloc)?;
+    /// deque.extend_back([1, 2, 3, 4, 5]);
+    /// // 3 and 5 move, once each.
+    /// deque.retain(|item| item % 2 == 1);
+    /// assert_eq!(rt; deque.into_vec()?.as_slice(), [1, 3, 5].as_slice());
+    /// ```
     pub fn retain<F: FnMut(&T) -> bool>(&mut self, f: F)
     where
         T: Drop,

@@ -8,8 +8,16 @@ use super::ArrayDeque;
 use crate::behavior::Behavior;
 
 impl<T, const CAP: usize, B: Behavior> ArrayDeque<T, CAP, B> {
-    /// Takes out the item at an index, or answers `None` where there is none. The last item takes
-    /// its place, by one exchange at most.
+    /// Removes the item at an index and returns it, or returns `None` if there is none. The last
+    /// item takes its place, by one exchange at most. Where the order matters, use `remove`.
+    ///
+    /// ```
+    /// let mut deque = ArrayDeque::<i64, 4, Saturating>::new(alloc)?;
+    /// deque.extend_back([1, 2, 3, 4]);
+    /// assert_eq!(rt; deque.swap_remove_back(0), Some(1));
+    /// assert_eq!(rt; deque.swap_remove_back(3), None);
+    /// assert_eq!(rt; deque.into_vec()?.as_slice(), [4, 2, 3].as_slice());
+    /// ```
     pub fn swap_remove_back(&mut self, index: usize) -> Option<T>
         ensures value { result ≡ slice_get self.old.items index }
         ensures items { self.new.items ≡
@@ -25,8 +33,16 @@ impl<T, const CAP: usize, B: Behavior> ArrayDeque<T, CAP, B> {
         self.ring.swap_remove_back(index)
     }
 
-    /// Takes out the item at an index, or answers `None` where there is none. The first item takes
-    /// its place, by one exchange at most.
+    /// Removes the item at an index and returns it, or returns `None` if there is none. The first
+    /// item takes its place, by one exchange at most. Where the order matters, use `remove`.
+    ///
+    /// ```
+    /// let mut deque = ArrayDeque::<i64, 4, Saturating>::new(alloc)?;
+    /// deque.extend_back([1, 2, 3, 4]);
+    /// assert_eq!(rt; deque.swap_remove_front(3), Some(4));
+    /// assert_eq!(rt; deque.swap_remove_front(3), None);
+    /// assert_eq!(rt; deque.into_vec()?.as_slice(), [2, 3, 1].as_slice());
+    /// ```
     pub fn swap_remove_front(&mut self, index: usize) -> Option<T>
         ensures value { result ≡ slice_get self.old.items index }
         ensures items { self.new.items ≡
@@ -41,7 +57,16 @@ impl<T, const CAP: usize, B: Behavior> ArrayDeque<T, CAP, B> {
         self.ring.swap_remove_front(index)
     }
 
-    /// Exchanges two items. Nothing happens where the two are one.
+    /// Exchanges the items at two indexes. Nothing happens where the two are the same. Requires
+    /// both to be below the length.
+    ///
+    /// ```
+    /// let mut deque = ArrayDeque::<i64, 3, Saturating>::new(alloc)?;
+    /// deque.extend_back([1, 2, 3]);
+    /// assert_eq!(rt; deque.len(), 3);
+    /// deque.swap(0, 2);
+    /// assert_eq!(rt; deque.into_vec()?.as_slice(), [3, 2, 1].as_slice());
+    /// ```
     #[inline]
     pub fn swap(&mut self, i: usize, j: usize)
         requires i_in_bounds { i < length self.old.items }

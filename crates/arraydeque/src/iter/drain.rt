@@ -7,8 +7,17 @@ use arraydeque_ring::ring::Ring;
 use std::iter::FusedIterator;
 use std::marker::Model;
 
-/// The items that a drain took out, front to back or back to front. It owns them, and drops those
-/// that are not taken.
+/// An iterator that owns the items that `ArrayDeque::drain` removed, from both ends. It drops those
+/// that are not taken, and doesn't borrow the deque.
+///
+/// ```
+/// let mut deque = ArrayDeque::<i64, 3, Saturating>::new(alloc)?;
+/// deque.extend_back([1, 2, 3]);
+/// let mut drained = deque.drain(..)?;
+/// assert_eq!(rt; (drained.next_back(), deque.len()), (Some(3), 0));
+/// let rest: Vec<i64> = drained.collect(alloc)?;
+/// assert_eq!(rt; rest.as_slice(), [1, 2].as_slice());
+/// ```
 #[derive(Drop)]
 pub struct Drain<T> {
     ring: Ring<T>,

@@ -8,8 +8,16 @@ use crate::deque::ArrayDeque;
 use std::iter::FusedIterator;
 use std::marker::Model;
 
-/// The items of a deque, front to back or back to front. It owns them, and drops those that are
-/// not taken, front to back.
+/// An iterator that owns the items of a deque, from both ends: that of a deque by value. It drops
+/// the items that are not taken, front to back.
+///
+/// ```
+/// let mut deque = ArrayDeque::<i64, 3, Saturating>::new(alloc)?;
+/// deque.extend_back([1, 2, 3]);
+/// let mut items = deque.into_iter();
+/// assert_eq!(rt; (items.next(), items.next_back()), (Some(1), Some(3)));
+/// assert_eq!(rt; (items.len(), items.next()), (1, Some(2)));
+/// ```
 #[derive(Drop)]
 pub struct IntoIter<T, const CAP: usize, B: Behavior> {
     deque: ArrayDeque<T, CAP, B>,

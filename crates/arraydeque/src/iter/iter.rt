@@ -9,9 +9,17 @@ use std::alloc::AllocError;
 use std::iter::FusedIterator;
 use std::marker::Model;
 
-/// The items of a deque, front to back or back to front.
+/// An iterator over references to the items of a deque, from both ends: that of
+/// [`ArrayDeque::iter`] and of `&deque`. It walks the two slices of the deque one after the other.
 ///
-/// It walks the two slices of the deque one after the other.
+/// ```
+/// let mut deque = ArrayDeque::<i64, 3, Saturating>::new(alloc)?;
+/// deque.extend_back([1, 2, 3]);
+/// let mut items = (&deque).into_iter();
+/// assert_eq!(rt; (items.next_back(), items.len()), (Some(&3), 2));
+/// let mut again = items.clone()?;
+/// assert_eq!(rt; (items.next(), again.next()), (Some(&1), Some(&1)));
+/// ```
 #[derive(Drop)]
 pub struct Iter<'a, T> {
     first: &'a [T],
@@ -95,7 +103,14 @@ impl<'a, T> Clone for Iter<'a, T> {
 }
 
 impl<T, const CAP: usize, B: Behavior> ArrayDeque<T, CAP, B> {
-    /// The items, front to back or back to front.
+    /// Returns an iterator over the items, from both ends.
+    ///
+    /// ```
+    /// let mut deque = ArrayDeque::<i64, 3, Wrapping>::new(alloc)?;
+    /// deque.extend_back([1, 2, 3, 4]);
+    /// let turned: Vec<i64> = deque.iter().rev().copied().collect(alloc)?;
+    /// assert_eq!(rt; turned.as_slice(), [4, 3, 2].as_slice());
+    /// ```
     #[inline]
     pub fn iter(&self) -> Iter<'_, T>
         ensures { result ≡ self.now.items }

@@ -32,7 +32,13 @@ impl<T> Ring<T> {
 }
 
 /// Turns the region, in which `len` values stand from the place `start` on, round the end, so that
-/// they stand from the first place on.
+/// they stand from the first place on. Seven values, in a region of 8 places:
+///
+///     place             0 1 2 3 4 5 6 7
+///     before, from 5 on d e f g . a b c
+///     0-2 with 5-7      a b c g . d e f
+///     3 with 5, 6 to 4  a b c d e g . f
+///     5 to 6, 7 to 5    a b c d e f g .
 fn turn<T>(slots: Slots<T>, start: usize, len: usize) -> Slots<T>
     requires in_region { start < length slots.places }
     requires filled { FilledFrom start len (filled slots.places) }

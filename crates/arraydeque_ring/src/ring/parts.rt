@@ -24,7 +24,12 @@ impl<T> Ring<T> {
     ///
     /// The items go into a ring of their own, whose region is taken first and has no place to
     /// spare. Where that is refused nothing has changed. A range of no items, or of items of size
-    /// zero, takes no memory and is never refused.
+    /// zero, takes no memory and is never refused. Of a ring of 8 places:
+    ///
+    ///     place                 0 1 2 3 4 5 6 7
+    ///     before, from 5 on     d e . . . a b c
+    ///     without 1..3, from 7  d e . . . . . a
+    ///     without 2..4, from 5  . . . . . a b e
     pub fn drain(&mut self, from: usize, to: usize) -> Result<Ring<T>, AllocError>
         requires in_order { from ≤ to }
         requires in_bounds { to ≤ length self.old.items }
