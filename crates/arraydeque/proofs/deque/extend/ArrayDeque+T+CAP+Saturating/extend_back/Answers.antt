@@ -15,16 +15,19 @@ more_twice : {X : Type 0} (xs ys : List X) (s : Steps) → more_puts (length ys)
 more_twice xs ys s = ap (λ n. record s { puts = n }) (omega (arith, length-append xs ys))
 
 pub loop-elements-init : goal.loop-elements-init
-loop-elements-init g c = ([], record {
-  capacity = search rules;
-  room = grind (arith, common_steps);
-  items = search rules;
-  start = search rules;
-  steps = grind (arith, common_steps);
-  yielded = refl;
-  can_next = rw c.take-elements.ensures.source (c.requires _ c.into_iter.ensures.into_iter_gives);
-  empty = search rules;
-})
+loop-elements-init g c = (
+  [],
+  record {
+    capacity = search rules;
+    room = grind (arith, common_steps);
+    items = search rules;
+    start = search rules;
+    steps = grind (arith, common_steps);
+    yielded = refl;
+    can_next = rw c.take-elements.ensures.source (c.requires _ c.into_iter.ensures.into_iter_gives);
+    empty = search rules;
+  },
+)
 
 pub next-requires : goal.next-requires
 next-requires g c = c.loop-elements.invariant.1.can_next
@@ -36,17 +39,19 @@ pub loop-elements-preserved : goal.loop-elements-preserved
 loop-elements-preserved g c =
     let xs = c.loop-elements.invariant.0 in
     let was = c.loop-elements.invariant.1 in
-    let x = c.in-Some.element in
-    (xs ++ x ∷ [], record {
-      capacity = grind (arith, common_steps);
-      room = omega (arith, was.room, length-append xs (x ∷ []), c.in-Some.ensures.steps.1);
-      items = ap (λ (r : RingState g.row.T.Denot). r.items) c.push_to_end.ensures ∙ ap (λ l. l ++ x ∷ []) was.items ∙ append_assoc c.args.self.now.items xs (x ∷ []);
-      start = ap (λ (r : RingState g.row.T.Denot). r.start) c.push_to_end.ensures ∙ was.start;
-      steps = ap (λ (r : RingState g.row.T.Denot). r.steps) c.push_to_end.ensures ∙ ap (more_puts 1) was.steps ∙ more_twice xs (x ∷ []) c.args.self.now.steps;
-      yielded = Yields-more (take_steps g.I.IntoIter.Iterator.next_gives) _ xs _ x _ was.yielded c.in-Some.ensures.steps;
-      can_next = c.in-Some.ensures.goes.keeps;
-      empty = was.empty;
-    })
+    let x = c.in-Some.element in (
+      xs ++ x ∷ [],
+      record {
+        capacity = grind (arith, common_steps);
+        room = omega (arith, was.room, length-append xs (x ∷ []), c.in-Some.ensures.steps.1);
+        items = ap (λ (r : RingState g.row.T.Denot). r.items) c.push_to_end.ensures ∙ ap (λ l. l ++ x ∷ []) was.items ∙ append_assoc c.args.self.now.items xs (x ∷ []);
+        start = ap (λ (r : RingState g.row.T.Denot). r.start) c.push_to_end.ensures ∙ was.start;
+        steps = ap (λ (r : RingState g.row.T.Denot). r.steps) c.push_to_end.ensures ∙ ap (more_puts 1) was.steps ∙ more_twice xs (x ∷ []) c.args.self.now.steps;
+        yielded = Yields-more (take_steps g.I.IntoIter.Iterator.next_gives) _ xs _ x _ was.yielded c.in-Some.ensures.steps;
+        can_next = c.in-Some.ensures.goes.keeps;
+        empty = was.empty;
+      },
+    )
 
 pub loop-element-init-derived : goal.loop-element-init-derived
 loop-element-init-derived g c = rw c.into_iter-element-iterator.ensures.into_iter_gives (c.loop-elements.invariant.1.can_next, search rules)
