@@ -127,6 +127,22 @@ impl<T> Ring<T> {
         self.len += 1;
     }
 
+    /// Adds an item behind the last one, as [`Ring::push_back`] does, where no place is left between
+    /// them and the region's end. Many such in a row fill places in a row.
+    #[inline(always)]
+    pub fn push_past_end(&mut self, item: T)
+        requires room { length self.old.items < self.old.capacity }
+        requires no_room_to_end { self.old.capacity ≤ self.old.start + length self.old.items }
+        ensures { self.new ≡ record self.old {
+          items = self.old.items ++ item ∷ [];
+          steps = more_puts 1 self.old.steps;
+        } }
+    {
+        let to_end = self.slots.capacity() - self.start;
+        self.slots.put(self.len - to_end, item);
+        self.len += 1;
+    }
+
     /// Adds an item before the first one, whose place the start goes back to. No kept item moves.
     #[inline]
     pub fn push_front(&mut self, item: T)

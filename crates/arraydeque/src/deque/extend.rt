@@ -37,7 +37,7 @@ impl<T, const CAP: usize> ArrayDeque<T, CAP, Saturating> {
             ring.push_to_end(element);
         }
         for element in elements {
-            ring.push_back(element);
+            ring.push_past_end(element);
         }
         self.ring.move_in(ring);
     }

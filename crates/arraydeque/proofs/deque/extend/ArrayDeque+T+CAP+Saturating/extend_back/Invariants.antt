@@ -1,4 +1,4 @@
-use Rattle.std.proofs.Common.{◌≡◌, ◌+◌, ◌-◌, ◌++◌, List, [], length}
+use Rattle.std.proofs.Common.{◌≡◌, ◌≤◌, ◌+◌, ◌-◌, ◌++◌, List, [], length}
 use Rattle.std.specs.Iterator.{Yields}
 use Rattle.std.specs.Iterator.Adapters.{take_count, take_source, take_steps}
 use Rattle.arraydeque_ring.specs.Steps.{more_puts}
@@ -25,6 +25,7 @@ invariant-loop-element g l = record {
   finite : (goal.iterator-loop-element g).is_finite l.element-iterator;
   capacity : l.ring.capacity ≡ g.row.CAP;
   room : length l.initial.ring.items + length l.yielded + take_count l.element-iterator ≡ g.row.CAP;
+  past : g.row.CAP ≤ l.ring.start + length l.ring.items;
   items : l.ring.items ≡ l.initial.ring.items ++ l.yielded;
   start : l.ring.start ≡ l.initial.ring.start;
   steps : l.ring.steps ≡ more_puts (length l.yielded) l.initial.ring.steps;
