@@ -51,6 +51,17 @@ fn no_calls_have_no_replies(rt: HostRuntime) -> Result<(), Fail> {
 }
 
 #[test]
+fn a_linearize_lays_the_list_in_one_piece(rt: HostRuntime) -> Result<(), Fail> {
+    let mut deque = ArrayDeque::<i64, 4, Wrapping>::new(rt.alloc())?;
+    deque.extend_back([0, 1, 2, 3, 4, 5]);
+    assert_eq!(rt; deque.as_slices().1, [4, 5].as_slice());
+    let calls = vec![in rt.alloc(); Call::Linearize]?;
+    let _replies = deque.run(calls).map_err(|_| "refused")?;
+    assert_eq!(rt; deque.as_slices().0, [2, 3, 4, 5].as_slice());
+    Ok(())
+}
+
+#[test]
 fn replaces_answer_the_old_item(rt: HostRuntime) -> Result<(), Fail> {
     let rows = vec![in rt.alloc();
         (Call::PushBack(0), "done"),

@@ -5,7 +5,8 @@
 //! a redo.
 #![tactic(auto)]
 
-ghost use Rattle.std.specs.Prelude.{◌≡◌, ◌<◌, ◌++◌, ◌∷◌, [], ◌↔◌, length, IsTrue, IfOk};
+ghost use Rattle.std.specs.Prelude.{◌≡◌, ◌<◌, ◌++◌, ◌∷◌, [], ◌↔◌, length, IsTrue, IfOk, OnErr, ◌*◌};
+ghost use Rattle.std.specs.Mem.{type_size};
 ghost use Rattle.arraydeque.specs.Deque.{keep_last};
 
 use arraydeque::{ArrayDeque, Wrapping};
@@ -42,8 +43,9 @@ impl<T, const CAP: usize> Model for History<T, CAP> {
 impl<T: Drop, const CAP: usize> History<T, CAP> {
     /// A history of one state.
     pub fn new(alloc: Global, present: T) -> Result<Self, AllocError>
-        ensures { IfOk result (λ history. history ≡
+        ensures fresh { IfOk result (λ history. history ≡
             record { past = []; present = present; undone = [] }) }
+        ensures refused { OnErr result (0 < CAP * type_size T.row) }
     {
         let past = ArrayDeque::new(alloc)?;
         let undone = ArrayDeque::new(alloc)?;

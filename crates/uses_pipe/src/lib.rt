@@ -4,7 +4,7 @@
 //! alone: what was written comes out unchanged.
 #![tactic(auto)]
 
-ghost use Rattle.std.specs.Prelude.{◌≡◌, ◌<◌, ◌-◌, ◌++◌, [], length, take, min, IfOk, OnOk};
+ghost use Rattle.std.specs.Prelude.{◌≡◌, ◌<◌, ◌-◌, ◌++◌, [], length, take, min, IfOk, OnOk, OnErr};
 
 use arraydeque::{ArrayDeque, Saturating};
 use std::alloc::{AllocError, Global};
@@ -30,7 +30,8 @@ impl<const CAP: usize> Model for Pipe<CAP> {
 impl<const CAP: usize> Pipe<CAP> {
     /// A pipe that holds nothing.
     pub fn new(alloc: Global) -> Result<Self, AllocError>
-        ensures { IfOk result (λ pipe. pipe ≡ []) }
+        ensures empty { IfOk result (λ pipe. pipe ≡ []) }
+        ensures refused { OnErr result (0 < CAP) }
     {
         let bytes = ArrayDeque::new(alloc)?;
         Ok(Pipe { bytes })
@@ -57,6 +58,7 @@ impl<const CAP: usize> Pipe<CAP> {
     pub fn read(&mut self, into: &mut Vec<u8>) -> Result<(), AllocError>
         ensures unchanged { into.new.items ++ self.new ≡ into.old.items ++ self.old }
         ensures all { OnOk result (self.new ≡ []) }
+        ensures refused { OnErr result (0 < length self.new) }
     {
         while let Some(&byte) = self.bytes.front() {
             into.push(byte)?;

@@ -21,3 +21,7 @@ joined tokens = flat_map (λ token. token.text.items) tokens
 abbrev pub IsOfOneKind : Token → Type 0
 IsOfOneKind token = (0 < length token.text.items)
     × All (λ byte. kind_of byte ≡ token.kind) token.text.items
+
+-- the token has one byte if it is a sign
+abbrev pub IsOneByteIfSign : Token → Type 0
+IsOneByteIfSign token = token.kind ≡ Sign → length token.text.items ≡ 1

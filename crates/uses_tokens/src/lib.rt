@@ -4,11 +4,12 @@
 //! alone: the tokens of an input, joined, are the input.
 #![tactic(auto)]
 
-ghost use Rattle.std.specs.Prelude.{◌≡◌, ◌<◌, [], IfOk, IfSome, IfNone, All, ⊤};
+ghost use Rattle.std.specs.Prelude.{◌≡◌, ◌≢◌, ◌<◌, [], IfOk, IfSome, IfNone, All, ⊤};
 ghost use Rattle.std.specs.Iterator.{IsFinite, MakesProgress, UpTo, size};
 ghost use Rattle.std.specs.Option.{option_to_list};
 ghost use Rattle.arraydeque.specs.Lookahead.{HasRest, TakesOff, left_of};
-ghost use Rattle.uses_tokens.specs.Tokens.{kind_of, joined, IsOfOneKind};
+ghost use Rattle.uses_tokens.specs.Tokens.{kind_of, joined, IsOfOneKind, IsOneByteIfSign};
+ghost use Rattle.uses_tokens.specs.declared.Kind.TheVariants.{Sign};
 
 use arraydeque::lookahead::Scanner;
 use std::alloc::{AllocError, Global};
@@ -48,6 +49,7 @@ pub fn tokenize<I: Iterator<Item = u8>, const AHEAD: usize>(
     ensures joined { IfOk result (λ tokens.
         HasRest I.next_gives scanner.old (joined tokens.items)) }
     ensures one_kind { IfOk result (λ tokens. All IsOfOneKind tokens.items) }
+    ensures signs { IfOk result (λ tokens. All IsOneByteIfSign tokens.items) }
 {
     let mut tokens = Vec::new(alloc);
     while let Some(token) = next_token(alloc, scanner)? {
@@ -60,6 +62,7 @@ pub fn tokenize<I: Iterator<Item = u8>, const AHEAD: usize>(
 pub fn tokenize_text(alloc: Global, text: &[u8]) -> Result<Vec<Token>, AllocError>
     ensures joined { IfOk result (λ tokens. joined tokens.items ≡ text.now) }
     ensures one_kind { IfOk result (λ tokens. All IsOfOneKind tokens.items) }
+    ensures signs { IfOk result (λ tokens. All IsOneByteIfSign tokens.items) }
 {
     match Scanner::<_, 1>::new(alloc, text.iter().copied()) {
         Ok(mut scanner) => tokenize(alloc, &mut scanner),
@@ -78,6 +81,7 @@ fn next_token<I: Iterator<Item = u8>, const AHEAD: usize>(
         TakesOff I.next_gives scanner.old (joined (option_to_list token)) scanner.new) }
     ensures over { IfOk result (λ token. IfNone token (HasRest I.next_gives scanner.old [])) }
     ensures one_kind { IfOk result (λ token. IfSome token IsOfOneKind) }
+    ensures signs { IfOk result (λ token. IfSome token IsOneByteIfSign) }
     ensures goes { IfOk result (λ token.
         MakesProgress (λ _. ⊤) (left_of I.remaining) scanner.old token scanner.new) }
 {
@@ -101,6 +105,7 @@ fn next_of_kind<I: Iterator<Item = u8>, const AHEAD: usize>(
     requires ahead { 0 < AHEAD }
     ensures taken { TakesOff I.next_gives scanner.old (option_to_list result) scanner.new }
     ensures same_kind { IfSome result (λ byte. kind_of byte ≡ kind) }
+    ensures no_sign { IfSome result (λ _. kind ≢ Sign) }
     ensures goes { MakesProgress (λ _. ⊤) (left_of I.remaining) scanner.old result scanner.new }
     ensures finite { IsFinite (left_of I.remaining scanner.old)
         → UpTo (left_of I.remaining scanner.new) (size (left_of I.remaining scanner.old)) }

@@ -4,7 +4,7 @@
 //! alone: the window is the last `CAP` of all samples pushed, and the sum is theirs.
 #![tactic(auto)]
 
-ghost use Rattle.std.specs.Prelude.{◌≡◌, ◌≤◌, ◌^◌, ◌++◌, ◌∷◌, [], length, sum, IfOk};
+ghost use Rattle.std.specs.Prelude.{◌≡◌, ◌≤◌, ◌^◌, ◌++◌, ◌∷◌, [], length, sum, IfOk, OnErr, ◌<◌};
 ghost use Rattle.arraydeque.specs.Deque.{keep_last};
 
 use arraydeque::{ArrayDeque, Wrapping};
@@ -36,7 +36,8 @@ impl<const CAP: usize> Window<CAP> {
     /// A window that has seen no sample. `CAP` is small enough for the sum to fit.
     pub fn new(alloc: Global) -> Result<Self, AllocError>
         requires fits { CAP ≤ 2 ^ 32 }
-        ensures { IfOk result (λ window. window ≡ []) }
+        ensures empty { IfOk result (λ window. window ≡ []) }
+        ensures refused { OnErr result (0 < CAP) }
     {
         let recent = ArrayDeque::new(alloc)?;
         Ok(Window { recent, total: 0 })

@@ -13,6 +13,7 @@ loop-byte-preserved g c =
       taken = rw c.in_ok-push-2.ensures.items (TakesOff-append g.I.Iterator.next_gives c.args.scanner.now c.loop-byte.scanner c.next_of_kind.new.scanner c.loop-byte.text.items (c.in-Some-next_of_kind.byte ∷ []) was.taken c.in-Some-next_of_kind.ensures.taken);
       some = grind (arith, common_steps);
       one_kind = rw c.in_ok-push-2.ensures.items (All-push (λ byte. kind_of byte ≡ c.kind_of-kind.result) c.loop-byte.text.items c.in-Some-next_of_kind.byte was.one_kind c.in-Some-next_of_kind.ensures.same_kind);
+      signs = grind (arith, common_steps);
       finite = on.1;
       goes = omega (arith, on.2, was.goes);
     }

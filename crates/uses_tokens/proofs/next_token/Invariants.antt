@@ -2,6 +2,7 @@ use Rattle.std.proofs.Common.{◌≡◌, ◌<◌, All, length}
 use Rattle.std.specs.Iterator.{IsFinite, size}
 use Rattle.arraydeque.specs.Lookahead.{TakesOff, left_of}
 use Rattle.uses_tokens.specs.Tokens.{kind_of}
+use Rattle.uses_tokens.specs.declared.Kind.TheVariants.{Sign}
 use Rattle.uses_tokens.proofs.next_token.Given as goal
 
 abbrev pub invariant-loop-byte : goal.invariant-loop-byte
@@ -9,6 +10,7 @@ invariant-loop-byte g l = record {
   taken : TakesOff g.I.Iterator.next_gives l.fn.scanner l.text.items l.scanner;
   some : 0 < length l.text.items;
   one_kind : All (λ byte. kind_of byte ≡ l.kind) l.text.items;
+  signs : l.kind ≡ Sign → length l.text.items ≡ 1;
   finite : IsFinite (left_of g.I.Iterator.remaining l.scanner);
   goes : size (left_of g.I.Iterator.remaining l.scanner) < size (left_of g.I.Iterator.remaining l.fn.scanner);
 }

@@ -10,6 +10,7 @@ loop-tokens-preserved g c =
     record {
       taken = rw (c.in_ok-push.ensures.items, flat_map-append) (TakesOff-append g.I.Iterator.next_gives c.args.scanner.now c.loop-tokens.scanner c.next_token.new.scanner (joined c.loop-tokens.tokens.items) (joined (c.in-Some.token ∷ [])) c.loop-tokens.invariant.taken token);
       one_kind = grind (arith, common_steps);
+      signs = grind (arith, common_steps);
       finite = grind (arith, common_steps);
     }
 

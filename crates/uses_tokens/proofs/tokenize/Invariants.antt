@@ -1,13 +1,14 @@
 use Rattle.std.proofs.Common.{All}
 use Rattle.std.specs.Iterator.{IsFinite, size}
 use Rattle.arraydeque.specs.Lookahead.{TakesOff, left_of}
-use Rattle.uses_tokens.specs.Tokens.{joined, IsOfOneKind}
+use Rattle.uses_tokens.specs.Tokens.{joined, IsOfOneKind, IsOneByteIfSign}
 use Rattle.uses_tokens.proofs.tokenize.Given as goal
 
 abbrev pub invariant-loop-tokens : goal.invariant-loop-tokens
 invariant-loop-tokens g l = record {
   taken : TakesOff g.I.Iterator.next_gives l.fn.scanner (joined l.tokens.items) l.scanner;
   one_kind : All IsOfOneKind l.tokens.items;
+  signs : All IsOneByteIfSign l.tokens.items;
   finite : IsFinite (left_of g.I.Iterator.remaining l.scanner);
 }
 
