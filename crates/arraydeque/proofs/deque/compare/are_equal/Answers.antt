@@ -1,4 +1,4 @@
-use Rattle.std.proofs.Common.{◌≡◌, ◌&&◌, length, take, drop, true, false, sym, ap, ap₂, ◌∙◌, arith}
+use Rattle.std.proofs.Common.{◌&&◌, length, drop, sym, ap, ap₂, ◌∙◌, arith}
 use Rattle.std.proofs.lemmas.List.{length-drop}
 use Rattle.std.specs.Cmp.Lexicographic.{pointwise}
 use Rattle.arraydeque.proofs.Stretches.{pointwise-split}
