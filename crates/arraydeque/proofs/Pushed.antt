@@ -1,12 +1,13 @@
 -- What pushes leave, one and many.
-use Rattle.std.proofs.Common.{◌≡◌, ℕ, zero, suc, ◌+◌, ◌-◌, ◌*◌, ◌%◌, List, [], ◌∷◌, ◌++◌, length, take, reverse, nat_lt, if◌then◌else◌, sym, ap, ap₂, ◌∙◌, arith, inl, inr}
+use Rattle.std.proofs.Common.{◌≡◌, ◌<◌, ◌≤◌, ℕ, zero, suc, ◌+◌, ◌-◌, ◌*◌, ◌%◌, List, [], ◌∷◌, ◌++◌, length, take, reverse, nat_lt, if◌then◌else◌, sym, ap, ap₂, ◌∙◌, arith, inl, inr}
 use Rattle.std.proofs.Math.Nat.{mod-add-mod, add_assoc}
 use native.Mathlib.Nat.{suc-mul}
 use Rattle.std.proofs.lemmas.Bool.{cases_lt, lt-ltb, le-ltb}
-use Rattle.std.proofs.lemmas.List.{length-append, length-drop, length-take, length-reverse}
+use Rattle.std.proofs.lemmas.List.{append_assoc, append-nil, reverse-append, length-append, length-drop, length-take, length-reverse, take_all}
 use Rattle.arraydeque_ring.specs.Ring.{RingState, place_of}
 use Rattle.arraydeque_ring.specs.Steps.{more_puts, more_takes}
-use Rattle.arraydeque.specs.Deque.{DequeState, keep_last, back_by, wrapped_back, wrapped_front}
+use Rattle.arraydeque.specs.Deque.{DequeState, keep_last, back_by, with_back, with_front, wrapped_back, wrapped_front, WrapsBack}
+use Rattle.arraydeque.proofs.KeepLast.{keep_last-all}
 
 -- what is seen of a deque over a ring
 abbrev pub of_ring : {X : Type 0} → RingState X → DequeState X
@@ -22,6 +23,11 @@ back_by-one zero s n = ap (λ m. place_of s m n) (omega arith)
 back_by-one (suc k) s n =
     let back : (j : ℕ) → back_by (suc j) s n ≡ place_of s (suc j * (n - 1)) n = λ j. ap (λ b. if b then place_of s (suc j * (n - 1)) n else s) (lt-ltb 0 (suc j) (omega arith)) in
     ap (λ t. place_of t (n - 1) n) (back k) ∙ place_of-on s (suc k * (n - 1)) (n - 1) n ∙ ap (λ m. place_of s m n) (omega (arith, suc-mul (suc k) (n - 1))) ∙ sym (back (suc k))
+
+-- to go back by j places and then by k is to go back by both
+back_by-both : (j k s n : ℕ) → back_by k (back_by j s n) n ≡ back_by (j + k) s n
+back_by-both j zero s n = ap (λ m. back_by m s n) (omega arith)
+back_by-both j (suc k) s n = sym (back_by-one k (back_by j s n) n) ∙ ap (λ t. place_of t (n - 1) n) (back_by-both j k s n) ∙ back_by-one (j + k) s n ∙ ap (λ m. back_by m s n) (omega arith)
 
 -- where one item more is pushed, it displaces one where there was no room
 out_by_one : (total kept n : ℕ) → kept ≡ total - (total - n) → (total - n) + (if nat_lt kept n then 0 else 1) ≡ suc total - n
@@ -88,3 +94,85 @@ module _ {X : Type 0} (n : ℕ) (old mid new : DequeState X) (xs : List X) (x : 
       let here : new.start ≡ back_by (length (xs ++ x ∷ [])) old.start n = start ∙ ap (λ (d : DequeState X). place_of d.start (n - 1) n) before ∙ back_by-push xs x old.start n in
       let counted = one_more kept (ap (λ (d : DequeState X). d.steps) before) steps in
       (λ i. record { items = items i; start = here i; steps = counted i })
+
+-- xs were pushed one by one before the first item of the old deque of capacity n, which stays as it was if it has no places
+abbrev pub WrapsFront : {X : Type 0} → ℕ → DequeState X → List X → DequeState X → Type 0
+WrapsFront n old xs new = (new.items ≡ take n (reverse xs ++ old.items)) × (0 < n → new ≡ wrapped_front n xs old) × (n ≡ 0 → new ≡ old)
+
+nothing_behind : {X : Type 0} (xs ys : List X) → length ys ≤ 0 → xs ++ ys ≡ xs
+nothing_behind xs [] short = append-nil xs
+nothing_behind xs (y ∷ ys) short = absurd (omega arith)
+
+nothing_before : {X : Type 0} (n : ℕ) (xs : List X) (old : DequeState X) → length xs ≤ 0 → with_front n xs old ≡ old
+nothing_before n [] old short = let puts : old.steps.puts + 0 ≡ old.steps.puts = omega arith in (λ i. record { items = old.items; start = old.start; steps = record old.steps { puts = puts i } })
+nothing_before n (x ∷ xs) old short = absurd (omega arith)
+
+-- pushes in two parts, the first of which found room
+module _ {X : Type 0} (n : ℕ) (old mid : DequeState X) (xs : List X) (within : length mid.items ≤ n) where
+  module _ (same : mid ≡ with_back xs old) where
+    short : length (old.items ++ xs) ≤ n
+    short = let long = ap (λ (d : DequeState X). length d.items) same in omega arith
+
+    none_behind : n ≡ 0 → mid ≡ old
+    none_behind none =
+        let puts : old.steps.puts + length xs ≡ old.steps.puts = omega (arith, short, length-append old.items xs) in
+        same ∙ (λ i. record { items = nothing_behind old.items xs (omega (arith, short, length-append old.items xs)) i; start = old.start; steps = record old.steps { puts = puts i } })
+
+    pub WrapsBack-room : WrapsBack n old xs mid
+    WrapsBack-room =
+        let total = length old.items + length xs in
+        let up_to : total ≤ n = omega (arith, short, length-append old.items xs) in
+        let items = sym (keep_last-all n (old.items ++ xs) short) in
+        let start = sym (ap (λ b. if b then place_of old.start (total - n) n else old.start) (le-ltb n total up_to)) in
+        let takes : old.steps.takes ≡ old.steps.takes + (total - n) = omega arith in (
+          ap (λ (d : DequeState X). d.items) same ∙ items,
+          (λ _. same ∙ (λ i. record { items = items i; start = start i; steps = more_puts (length xs) (record old.steps { takes = takes i }) })),
+          none_behind,
+        )
+
+    pub WrapsBack-both : (ys : List X) (from to new : DequeState X) → from ≡ mid → new ≡ to → WrapsBack n from ys to → WrapsBack n old (xs ++ ys) new
+    WrapsBack-both ys from to new here there wraps =
+        let first = here ∙ same in
+        let total : length (old.items ++ xs) + length ys ≡ length old.items + length (xs ++ ys) = omega (arith, length-append old.items xs, length-append xs ys) in
+        let puts : old.steps.puts + length xs + length ys ≡ old.steps.puts + length (xs ++ ys) = omega (arith, length-append xs ys) in
+        let items = ap (keep_last n) (append_assoc old.items xs ys) in
+        let both : wrapped_back n ys (with_back xs old) ≡ wrapped_back n (xs ++ ys) old =
+        λ i. record {
+          items = items i;
+          start = if nat_lt n (total i) then place_of old.start (total i - n) n else old.start;
+          steps = record old.steps { puts = puts i; takes = old.steps.takes + (total i - n) };
+        } in (
+          ap (λ (d : DequeState X). d.items) there ∙ wraps.0 ∙ ap (λ (d : DequeState X). keep_last n (d.items ++ ys)) first ∙ items,
+          (λ some. there ∙ wraps.1 some ∙ ap (wrapped_back n ys) first ∙ both),
+          λ none. there ∙ wraps.2 none ∙ here ∙ none_behind none,
+        )
+
+  module _ (same : mid ≡ with_front n xs old) where
+    short_front : length (reverse xs ++ old.items) ≤ n
+    short_front = let long = ap (λ (d : DequeState X). length d.items) same in omega arith
+
+    none_before : n ≡ 0 → mid ≡ old
+    none_before none = same ∙ nothing_before n xs old (omega (arith, short_front, length-append (reverse xs) old.items, length-reverse xs))
+
+    pub WrapsFront-room : WrapsFront n old xs mid
+    WrapsFront-room =
+        let items = sym (take_all n (reverse xs ++ old.items) short_front) in
+        let takes : old.steps.takes ≡ old.steps.takes + (length old.items + length xs - n) = omega (arith, short_front, length-append (reverse xs) old.items, length-reverse xs) in (
+          ap (λ (d : DequeState X). d.items) same ∙ items,
+          (λ _. same ∙ (λ i. record { items = items i; start = back_by (length xs) old.start n; steps = more_puts (length xs) (record old.steps { takes = takes i }) })),
+          none_before,
+        )
+
+    pub WrapsFront-both : (ys : List X) (from to new : DequeState X) → from ≡ mid → new ≡ to → WrapsFront n from ys to → WrapsFront n old (xs ++ ys) new
+    WrapsFront-both ys from to new here there wraps =
+        let first = here ∙ same in
+        let total : length (reverse xs ++ old.items) + length ys ≡ length old.items + length (xs ++ ys) = omega (arith, length-append (reverse xs) old.items, length-reverse xs, length-append xs ys) in
+        let puts : old.steps.puts + length xs + length ys ≡ old.steps.puts + length (xs ++ ys) = omega (arith, length-append xs ys) in
+        let items = ap (take n) (sym (append_assoc (reverse ys) (reverse xs) old.items) ∙ ap (λ l. l ++ old.items) (sym (reverse-append xs ys))) in
+        let start = back_by-both (length xs) (length ys) old.start n ∙ ap (λ k. back_by k old.start n) (sym (length-append xs ys)) in
+        let both : wrapped_front n ys (with_front n xs old) ≡ wrapped_front n (xs ++ ys) old =
+        λ i. record { items = items i; start = start i; steps = record old.steps { puts = puts i; takes = old.steps.takes + (total i - n) } } in (
+          ap (λ (d : DequeState X). d.items) there ∙ wraps.0 ∙ ap (λ (d : DequeState X). take n (reverse ys ++ d.items)) first ∙ items,
+          (λ some. there ∙ wraps.1 some ∙ ap (wrapped_front n ys) first ∙ both),
+          λ none. there ∙ wraps.2 none ∙ here ∙ none_before none,
+        )

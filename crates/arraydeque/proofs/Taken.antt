@@ -1,14 +1,14 @@
 -- What is taken of a source of items.
-use Rattle.std.proofs.Common.{◌≡◌, ℕ, ◌<◌, ◌≤◌, List, length, take, min, Option, None, IsTrue, true, sym, subst, ap, ◌∙◌, arith, inl, inr}
-use Rattle.std.proofs.iter.runs.Made.{run_of_exit, took}
-use Rattle.std.proofs.lemmas.Bool.{cases_lt}
+use Rattle.std.proofs.Common.{◌≡◌, ℕ, ◌<◌, ◌≤◌, List, length, take, min, Option, None, Bool, true, false, ◌++◌, refl, sym, subst, ap, ◌∙◌, arith, inl, inr}
+use Rattle.std.proofs.iter.runs.Lists.{Yields-both}
+use Rattle.std.proofs.iter.runs.Made.{run, run_of_exit, took}
+use Rattle.std.proofs.lemmas.Bool.{cases_lt, cases_Bool}
 use Rattle.std.proofs.lemmas.List.{same_lists, length-take, get_or-take}
 use Rattle.std.specs.Option.{unwrap_or}
 use Rattle.std.specs.Iterator.{Yields, Drains}
-use Rattle.std.specs.Iterator.Adapters.{take_steps}
-use Rattle.std.specs.Iterator.Runs.{Run, SomeRun, EachRunFrom, HasSameItems, ItemsAre, YieldsInOrder}
+use Rattle.std.specs.Iterator.Runs.{Run, ItemsAre, YieldsInOrder}
 use Rattle.std.specs.declared.iter.Take.{Take}
-use Rattle.arraydeque.specs.Sources.{TakesFrom, TakesAll}
+use Rattle.arraydeque.specs.Sources.{TakesFrom, TakesAll, Fills}
 
 -- a run over a list gives the first n of it, where it gives at most n items, and fewer only at its end
 pub items-first : {S A : Type 0} {gives : S → Option A → S → Type 0} (run : Run gives) (n : ℕ) (xs : List A)
@@ -48,26 +48,31 @@ module _ {Source S A : Type 0} (becomes : Source → S → Type 0) (gives : S �
 
   -- by a loop over the iterator s, at whose exit P holds of the items that came
   module _ (s : S) (became : becomes source s) (xs : List A) (holds : P xs) where
-    -- over `take(n)`
-    pub TakesFrom-loop : (n : ℕ) (taker last end : Take S)
-        → EachRunFrom (take_steps gives) taker (λ p. (p.len ≤ n) × SomeRun gives s (λ q. HasSameItems p q × (IsTrue p.whole → p.len < n → IsTrue q.whole)))
-        → Yields (take_steps gives) taker xs last → take_steps gives last None end → TakesFrom becomes gives source n P
-    TakesFrom-loop n taker last end runs yielded ended =
-        let ran = run_of_exit (take_steps gives) taker xs last yielded end ended in
-        let took = runs ran.0 ran.0.seen ran.1 in
-        let same = took.1.2.0 in
-        record {
-          iterator = s;
-          became = became;
-          run = took.1.0;
-          from_it = took.1.1;
-          at_most = omega (arith, same.0, took.0);
-          or_all = λ less. took.1.2.1 ran.2 (omega (arith, same.0, less));
-          holds = subst P (sym (same.1 ∙ ran.3.0)) holds;
-        }
-
     -- over all of it
     pub TakesAll-loop : (last end : S) → Yields gives s xs last → gives last None end → TakesAll becomes gives source P
     TakesAll-loop last end yielded ended =
         let ran = run_of_exit gives s xs last yielded end ended in
         record { iterator = s; became = became; run = ran.0; from_it = ran.1; to_end = ran.2; holds = subst P (sym ran.3.0) holds }
+
+  -- by a fill, and by a loop over what it left
+  module _ (s t : S) (became : becomes source s) (n : ℕ) (ended : Bool) (Q : List A → Type 0) (filled : Fills gives s t n ended Q) where
+    pub TakesFrom-fills : ((xs : List A) → Q xs → P xs) → TakesFrom becomes gives source n P
+    TakesFrom-fills holds = record {
+      iterator = s;
+      became = became;
+      run = run gives s filled.items ended (filled.last, filled.yielded, λ none. (t, filled.none none));
+      from_it = refl;
+      at_most = filled.at_most;
+      or_all = λ less. elim (cases_Bool ended) [ inl none ↦ none | inr some ↦ let all = (filled.all some).1 in absurd (omega arith) ];
+      holds = holds filled.items filled.holds;
+    }
+
+    pub TakesAll-fills : ended ≡ true → ((xs : List A) → length xs ≤ n → Q xs → P xs) → TakesAll becomes gives source P
+    TakesAll-fills none holds = TakesAll-loop s became filled.items (holds filled.items filled.at_most filled.holds) filled.last t filled.yielded (filled.none none)
+
+    pub TakesAll-filled : ended ≡ false → (ys : List A) (last end : S) → Yields gives t ys last → gives last None end
+        → ((xs : List A) → length xs ≡ n → Q xs → P (xs ++ ys)) → TakesAll becomes gives source P
+    TakesAll-filled some ys last end yielded none holds =
+        let all = filled.all some in
+        TakesAll-loop s became (filled.items ++ ys) (holds filled.items all.1 filled.holds) last end
+        (Yields-both gives filled.items ys s t last (subst (Yields gives s filled.items) all.0 filled.yielded) yielded) none

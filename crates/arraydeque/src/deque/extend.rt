@@ -1,11 +1,11 @@
 //! Adding the items of an iterator.
-ghost use Rattle.std.specs.Prelude.{◌≡◌, ◌<◌, ◌-◌, ◌++◌, length, reverse, take, IsOk};
-ghost use Rattle.std.specs.Iterator.{IsFiniteIterable, ExtendsWithItems};
+ghost use Rattle.std.specs.Prelude.{◌≡◌, ◌<◌, ◌≤◌, ◌-◌, ◌++◌, length, reverse, take, false, IsOk};
+ghost use Rattle.std.specs.Iterator.{IsFinite, IsFiniteIterable, ExtendsWithItems};
 ghost use Rattle.arraydeque.specs.Deque.{keep_last, with_back, with_front, wrapped_back, wrapped_front, WrapsBack};
-ghost use Rattle.arraydeque.specs.Sources.{IsIterable, TakesFrom, TakesAll};
+ghost use Rattle.arraydeque.specs.Sources.{IsIterable, Fills, TakesFrom, TakesAll};
 
 use super::ArrayDeque;
-use crate::behavior::{Saturating, Wrapping};
+use crate::behavior::{Behavior, Saturating, Wrapping};
 use std::alloc::AllocError;
 
 impl<T, const CAP: usize> ArrayDeque<T, CAP, Saturating> {
@@ -27,20 +27,8 @@ impl<T, const CAP: usize> ArrayDeque<T, CAP, Saturating> {
         ensures { TakesFrom I.into_iter_gives I.IntoIter.next_gives iter
             (CAP - length self.old.items) (λ xs. self.new ≡ with_back xs self.old) }
     {
-        let room = self.room();
-        let mut ring = self.ring.moved_out();
-        let mut elements = iter.into_iter().take(room);
-        while ring.has_room_to_end() {
-            let Some(element) = elements.next() else {
-                self.ring.move_in(ring);
-                return;
-            };
-            ring.push_to_end(element);
-        }
-        for element in elements {
-            ring.push_past_end(element);
-        }
-        self.ring.move_in(ring);
+        let mut elements = iter.into_iter();
+        self.fill_back(&mut elements);
     }
 
     /// Adds the items of an iterator at the front, one by one, while there is room: the last one
@@ -58,19 +46,64 @@ impl<T, const CAP: usize> ArrayDeque<T, CAP, Saturating> {
         ensures { TakesFrom I.into_iter_gives I.IntoIter.next_gives iter
             (CAP - length self.old.items) (λ xs. self.new ≡ with_front CAP xs self.old) }
     {
-        let room = self.room();
+        let mut elements = iter.into_iter();
+        self.fill_front(&mut elements);
+    }
+}
+
+impl<T, const CAP: usize, B: Behavior> ArrayDeque<T, CAP, B> {
+    /// Puts what the iterator gives behind the last item while there is room: in a row up to the
+    /// region's end, and then in a row from the first place on. Returns whether the iterator ended
+    /// before that.
+    #[inline(always)]
+    fn fill_back<I: Iterator<Item = T>>(&mut self, elements: &mut I) -> bool
+        requires { I.can_next elements.old }
+        ensures filled { Fills I.next_gives elements.old elements.new
+            (CAP - length self.old.items) result (λ xs. self.new ≡ with_back xs self.old) }
+        ensures within { length self.new.items ≤ CAP }
+        ensures goes { result ≡ false → I.can_next elements.new
+            × (IsFinite (I.remaining elements.old) → IsFinite (I.remaining elements.new)) }
+    {
         let mut ring = self.ring.moved_out();
-        for element in iter.into_iter().take(room) {
+        while ring.has_room_to_end() {
+            let Some(element) = elements.next() else {
+                self.ring.move_in(ring);
+                return true;
+            };
+            ring.push_to_end(element);
+        }
+        while ring.len() < CAP {
+            let Some(element) = elements.next() else {
+                self.ring.move_in(ring);
+                return true;
+            };
+            ring.push_past_end(element);
+        }
+        self.ring.move_in(ring);
+        false
+    }
+
+    /// Puts what the iterator gives before the first item, one by one, while there is room. Returns
+    /// whether the iterator ended before that.
+    #[inline(always)]
+    fn fill_front<I: Iterator<Item = T>>(&mut self, elements: &mut I) -> bool
+        requires { I.can_next elements.old }
+        ensures filled { Fills I.next_gives elements.old elements.new
+            (CAP - length self.old.items) result (λ xs. self.new ≡ with_front CAP xs self.old) }
+        ensures within { length self.new.items ≤ CAP }
+        ensures goes { result ≡ false → I.can_next elements.new
+            × (IsFinite (I.remaining elements.old) → IsFinite (I.remaining elements.new)) }
+    {
+        let mut ring = self.ring.moved_out();
+        while ring.len() < CAP {
+            let Some(element) = elements.next() else {
+                self.ring.move_in(ring);
+                return true;
+            };
             ring.push_front(element);
         }
         self.ring.move_in(ring);
-    }
-
-    /// How many more items there may be.
-    fn room(&self) -> usize
-        ensures { result ≡ CAP - length self.now.items }
-    {
-        CAP - self.len()
+        false
     }
 }
 
@@ -93,10 +126,12 @@ impl<T: Drop, const CAP: usize> ArrayDeque<T, CAP, Wrapping> {
             × (0 < CAP → self.new ≡ wrapped_back CAP xs self.old)
             × (CAP ≡ 0 → self.new ≡ self.old)) }
     {
-        // That the list is within the capacity is what `len` promises.
-        let _len = self.len();
+        let mut elements = iter.into_iter();
+        if self.fill_back(&mut elements) {
+            return;
+        }
         let mut deque = Self::of(self.ring.moved_out());
-        for element in iter {
+        for element in elements {
             drop(deque.push_back(element));
         }
         self.ring.move_in(deque.into_ring());
@@ -120,10 +155,12 @@ impl<T: Drop, const CAP: usize> ArrayDeque<T, CAP, Wrapping> {
             × (0 < CAP → self.new ≡ wrapped_front CAP xs self.old)
             × (CAP ≡ 0 → self.new ≡ self.old)) }
     {
-        // That the list is within the capacity is what `len` promises.
-        let _len = self.len();
+        let mut elements = iter.into_iter();
+        if self.fill_front(&mut elements) {
+            return;
+        }
         let mut deque = Self::of(self.ring.moved_out());
-        for element in iter {
+        for element in elements {
             drop(deque.push_front(element));
         }
         self.ring.move_in(deque.into_ring());
@@ -154,9 +191,10 @@ impl<T: Drop, const CAP: usize> Extend<T> for ArrayDeque<T, CAP, Saturating> {
             (λ xs. self.new ≡ with_back (take (CAP - length self.old.items) xs) self.old) }
         ensures ok { IsOk result }
     {
-        for element in iter {
-            if !self.is_full() {
-                self.ring.push_back(element);
+        let mut elements = iter.into_iter();
+        if !self.fill_back(&mut elements) {
+            for element in elements {
+                drop(element);
             }
         }
         Ok(())

@@ -1,24 +1,41 @@
 use Rattle.std.proofs.Common.{ap, ◌∙◌, rules, arith}
 use Rattle.std.proofs.lemmas.Grind.{common_steps}
-use Rattle.arraydeque.proofs.Taken.{TakesAll-loop}
-use Rattle.arraydeque.proofs.Pushed.{of_ring, wrapped_front-push}
+use Rattle.arraydeque.proofs.Pushed.{of_ring, wrapped_front-push, WrapsFront-room, WrapsFront-both}
+use Rattle.arraydeque.proofs.Taken.{TakesAll-fills, TakesAll-filled}
 use Rattle.arraydeque.proofs.deque.extend.ArrayDeque+T+CAP+Wrapping.extend_front.Goals as goal
+
+pub loop-element-init-derived : goal.loop-element-init-derived
+loop-element-init-derived g c =
+    let given = c.requires _ c.into_iter-elements.ensures.into_iter_gives in
+    let goes = c.fill_front.ensures.goes c.if-fill_front.false in
+    rw c.into_iter-element-iterator.ensures.into_iter_gives (goes.0, goes.1 given.1)
 
 pub loop-element-preserved : goal.loop-element-preserved
 loop-element-preserved g c =
     let push = c.push_front.ensures in
+    let was = c.loop-element.invariant.wraps in
+    let ahead = was.0 in
     record {
       can_next = search rules;
       finite = search rules;
-      items = grind (arith, common_steps);
-      pushed = λ some. wrapped_front-push g.row.CAP c.args.self.now c.loop-element.deque c.push_front.new.self c.loop-element.yielded c.in-Some.element
-          (c.loop-element.invariant.pushed some) (grind (arith, common_steps)) (push.start some) (push.steps some);
-      no_places = search rules;
+      wraps = (
+        grind (arith, common_steps, ahead),
+        (λ some. wrapped_front-push g.row.CAP c.of-deque.result c.loop-element.deque c.push_front.new.self c.loop-element.yielded c.in-Some.element
+            (was.1 some) (grind (arith, common_steps, ahead)) (push.start some) (push.steps some)),
+        λ none. push.no_places none ∙ was.2 none,
+      );
     }
+
+pub returns-then-fill_front : goal.returns-then-fill_front
+returns-then-fill_front g c =
+    TakesAll-fills g.I.IntoIterator.into_iter_gives g.I.IntoIter.Iterator.next_gives c.args.iter _ _ _ c.into_iter-elements.ensures.into_iter_gives _ _ _
+    c.fill_front.ensures.filled c.if-fill_front.true (λ xs _ all. WrapsFront-room g.row.CAP c.args.self.now c.fill_front.new.self xs c.fill_front.ensures.within all)
 
 pub returns : goal.returns
 returns g c =
-    let left = c.loop-element.invariant in
-    let same = ap of_ring (c.move_in.ensures ∙ c.into_ring.ensures) in
-    TakesAll-loop g.I.IntoIterator.into_iter_gives g.I.IntoIter.Iterator.next_gives c.args.iter _ c.into_iter-element-iterator.result c.into_iter-element-iterator.ensures.into_iter_gives
-    c.loop-element.yielded (ap (λ d. d.items) same ∙ left.items, (λ some. same ∙ left.pushed some), λ none. same ∙ left.no_places none) c.loop-element.element-iterator c.next.new.self c.loop-element.yielded_by c.in-None.ensures.steps
+    let ys = c.loop-element.yielded in
+    TakesAll-filled g.I.IntoIterator.into_iter_gives g.I.IntoIter.Iterator.next_gives c.args.iter _ _ _ c.into_iter-elements.ensures.into_iter_gives _ _ _
+    c.fill_front.ensures.filled c.if-fill_front.false ys c.loop-element.element-iterator c.next.new.self
+    (rw c.into_iter-element-iterator.ensures.into_iter_gives at c.loop-element.yielded_by) c.in-None.ensures.steps
+    (λ xs _ all. WrapsFront-both g.row.CAP c.args.self.now c.fill_front.new.self xs c.fill_front.ensures.within all ys
+    c.of-deque.result c.loop-element.deque (of_ring c.move_in.new.self) (search rules) (ap of_ring (c.move_in.ensures ∙ c.into_ring.ensures)) c.loop-element.invariant.wraps)

@@ -1,12 +1,9 @@
-use Rattle.std.proofs.Common.{◌≡◌, ◌<◌, ◌++◌, take, reverse}
-use Rattle.arraydeque.specs.Deque.{wrapped_front}
+use Rattle.arraydeque.proofs.Pushed.{WrapsFront}
 use Rattle.arraydeque.proofs.deque.extend.ArrayDeque+T+CAP+Wrapping.extend_front.Given as goal
 
 abbrev pub invariant-loop-element : goal.invariant-loop-element
 invariant-loop-element g l = record {
   can_next : (goal.iterator-loop-element g).can_next l.element-iterator;
   finite : (goal.iterator-loop-element g).is_finite l.element-iterator;
-  items : l.deque.items ≡ take g.row.CAP (reverse l.yielded ++ l.fn.self.items);
-  pushed : 0 < g.row.CAP → l.deque ≡ wrapped_front g.row.CAP l.yielded l.fn.self;
-  no_places : g.row.CAP ≡ 0 → l.deque ≡ l.fn.self;
+  wraps : WrapsFront g.row.CAP l.initial.deque l.yielded l.deque;
 }

@@ -1,10 +1,7 @@
-use Rattle.std.proofs.Common.{◌≡◌, ◌-◌, length, take}
-use Rattle.arraydeque.specs.Deque.{with_back}
 use Rattle.arraydeque.proofs.deque.extend.ArrayDequeSaturatingExtend.extend.Given as goal
 
 abbrev pub invariant-loop-element : goal.invariant-loop-element
 invariant-loop-element g l = record {
   can_next : (goal.iterator-loop-element g).can_next l.element-iterator;
   finite : (goal.iterator-loop-element g).is_finite l.element-iterator;
-  self : l.self ≡ with_back (take (g.row.CAP - length l.fn.self.items) l.yielded) l.fn.self;
 }
