@@ -42,6 +42,8 @@ pub trait Peer<T>: Sized {
 pub trait History<T> {
     fn new() -> Self;
     fn push_back(&mut self, item: T) -> Option<T>;
+    fn extend_back(&mut self, items: impl IntoIterator<Item = T>);
+    fn front(&self) -> Option<&T>;
 }
 
 /// The calls that both peers have under the same names.
@@ -166,6 +168,14 @@ impl<T, const CAP: usize> History<T> for ArrayDeque<T, CAP, Wrapping> {
     fn push_back(&mut self, item: T) -> Option<T> {
         ArrayDeque::<T, CAP, Wrapping>::push_back(self, item)
     }
+    #[inline]
+    fn extend_back(&mut self, items: impl IntoIterator<Item = T>) {
+        ArrayDeque::<T, CAP, Wrapping>::extend_back(self, items);
+    }
+    #[inline]
+    fn front(&self) -> Option<&T> {
+        ArrayDeque::front(self)
+    }
 }
 
 /// std's `VecDeque`, bounded by hand.
@@ -224,5 +234,15 @@ impl<T, const CAP: usize> History<T> for Bounded<T, CAP> {
         let oldest = if self.0.len() < CAP { None } else { self.0.pop_front() };
         self.0.push_back(item);
         oldest
+    }
+    #[inline]
+    fn extend_back(&mut self, items: impl IntoIterator<Item = T>) {
+        for item in items {
+            History::push_back(self, item);
+        }
+    }
+    #[inline]
+    fn front(&self) -> Option<&T> {
+        self.0.front()
     }
 }

@@ -180,6 +180,18 @@ pub fn extend_lent<T: Item, D: Peer<T>, const CAP: usize>(rounds: usize) -> u64 
     sum
 }
 
+pub fn extend_history<T: Item, D: Peer<T>, const CAP: usize>(rounds: usize) -> u64 {
+    let items = counted::<T>(CAP / 2);
+    let mut deque = D::History::new();
+    deque.extend_back(counted::<T>(CAP));
+    let mut sum = 0u64;
+    for _ in 0..rounds {
+        deque.extend_back(items.iter().copied());
+        sum = sum.wrapping_add(deque.front().map_or(0, Item::number));
+    }
+    sum
+}
+
 pub fn drain_middle<T: Item, D: Peer<T>, const CAP: usize>(rounds: usize) -> u64 {
     let items = counted::<T>(CAP / 2);
     let mut deque: D = peer_at(CAP / 2, CAP);

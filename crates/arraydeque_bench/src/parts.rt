@@ -1,6 +1,6 @@
 //! Many items in, and many out.
 use crate::items::{Item, counted, deque_at, scrambled};
-use arraydeque::{ArrayDeque, Saturating};
+use arraydeque::{ArrayDeque, Saturating, Wrapping};
 use std::alloc::{AllocError, Global};
 
 /// Each round half the capacity goes in from a slice's iterator, and the deque is cleared.
@@ -56,6 +56,25 @@ fn extend_through<T: Item, const CAP: usize>(
     items: &[T],
 ) {
     deque.extend_back(items.iter().copied());
+}
+
+/// A full deque under `Wrapping`: each round half the capacity goes in from a slice's iterator, and
+/// as many of the oldest items are given up.
+pub(crate) fn extend_history<T: Item, const CAP: usize>(
+    alloc: Global,
+    rounds: usize,
+) -> Result<u64, AllocError> {
+    let items = counted::<T>(alloc, CAP / 2)?;
+    let mut deque = ArrayDeque::<T, CAP, Wrapping>::new(alloc)?;
+    deque.extend_back(counted::<T>(alloc, CAP)?);
+    let mut sum = 0u64;
+    for _ in 0..rounds {
+        deque.extend_back(items.iter().copied());
+        if let Some(item) = deque.front() {
+            sum = sum.wrapping_add(item.number());
+        }
+    }
+    Ok(sum)
 }
 
 /// The last item's number.
