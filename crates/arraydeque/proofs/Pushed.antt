@@ -1,13 +1,13 @@
 -- What pushes leave, one and many.
-use Rattle.std.proofs.Common.{◌≡◌, ◌<◌, ◌≤◌, ℕ, zero, suc, ◌+◌, ◌-◌, ◌*◌, ◌%◌, List, [], ◌∷◌, ◌++◌, length, take, reverse, nat_lt, if◌then◌else◌, sym, ap, ap₂, ◌∙◌, arith, inl, inr}
+use Rattle.std.proofs.Common.{◌≡◌, ◌<◌, ◌≤◌, ℕ, zero, suc, ◌+◌, ◌-◌, ◌*◌, ◌%◌, List, [], ◌∷◌, ◌++◌, length, take, drop, reverse, nat_lt, if◌then◌else◌, sym, ap, ap₂, ◌∙◌, arith, inl, inr}
 use Rattle.std.proofs.Math.Nat.{mod-add-mod, add_assoc}
 use native.Mathlib.Nat.{suc-mul}
 use Rattle.std.proofs.lemmas.Bool.{cases_lt, lt-ltb, le-ltb}
-use Rattle.std.proofs.lemmas.List.{append_assoc, append-nil, reverse-append, length-append, length-drop, length-take, length-reverse, take_all}
+use Rattle.std.proofs.lemmas.List.{append_assoc, append-nil, reverse-append, length-append, length-drop, length-take, length-reverse, take_all, drop-append-le}
 use Rattle.arraydeque_ring.specs.Ring.{RingState, place_of}
 use Rattle.arraydeque_ring.specs.Steps.{more_puts, more_takes}
 use Rattle.arraydeque.specs.Deque.{DequeState, keep_last, back_by, with_back, with_front, wrapped_back, wrapped_front, WrapsBack}
-use Rattle.arraydeque.proofs.KeepLast.{keep_last-all}
+use Rattle.arraydeque.proofs.KeepLast.{keep_last-all, keep_last-append}
 
 -- what is seen of a deque over a ring
 abbrev pub of_ring : {X : Type 0} → RingState X → DequeState X
@@ -94,6 +94,23 @@ module _ {X : Type 0} (n : ℕ) (old mid new : DequeState X) (xs : List X) (x : 
       let here : new.start ≡ back_by (length (xs ++ x ∷ [])) old.start n = start ∙ ap (λ (d : DequeState X). place_of d.start (n - 1) n) before ∙ back_by-push xs x old.start n in
       let counted = one_more kept (ap (λ (d : DequeState X). d.steps) before) steps in
       (λ i. record { items = items i; start = here i; steps = counted i })
+
+-- where there is no room, one item more takes the place of the first
+pub WrapsBack-replace : {X : Type 0} (n : ℕ) (old mid new : DequeState X) (xs : List X) (x : X) → 0 < n → length mid.items ≡ n
+    → new ≡ record { items = drop 1 mid.items ++ x ∷ []; start = place_of mid.start 1 n; steps = more_puts 1 (more_takes 1 mid.steps) }
+    → WrapsBack n old xs mid → WrapsBack n old (xs ++ x ∷ []) new
+WrapsBack-replace n old mid new xs x some full same wraps =
+    let over : length (mid.items ++ x ∷ []) - n ≡ 1 = omega (arith, length-append mid.items (x ∷ [])) in
+    let items : new.items ≡ keep_last n (old.items ++ (xs ++ x ∷ [])) =
+    ap (λ d. d.items) same ∙ sym (ap (λ k. drop k (mid.items ++ x ∷ [])) over ∙ drop-append-le 1 mid.items (x ∷ []) (omega arith))
+    ∙ ap (λ l. keep_last n (l ++ x ∷ [])) wraps.0 ∙ keep_last-append n (old.items ++ xs) (x ∷ []) ∙ ap (keep_last n) (append_assoc old.items xs (x ∷ [])) in
+    let none = sym (le-ltb (length mid.items) n (omega arith)) in (
+      items,
+      (λ _. wrapped_back-push n old mid new xs x (wraps.1 some) items
+          (ap (λ d. d.start) same ∙ ap (λ b. if b then mid.start else place_of mid.start 1 n) none)
+          (ap (λ d. d.steps) same ∙ ap (λ b. more_puts 1 (more_takes (if b then 0 else 1) mid.steps)) none)),
+      λ zero. absurd (omega arith),
+    )
 
 -- xs were pushed one by one before the first item of the old deque of capacity n, which stays as it was if it has no places
 abbrev pub WrapsFront : {X : Type 0} → ℕ → DequeState X → List X → DequeState X → Type 0

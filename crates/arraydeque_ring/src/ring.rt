@@ -2,7 +2,7 @@
 //!
 //! A contract sees a [`Ring`] as its items from front to back, its capacity, the place of its first
 //! item and the steps of its region. A ring knows no policy: a push asks for room.
-ghost use Rattle.std.specs.Prelude.{◌≡◌, ◌-◌, ◌*◌, ◌+◌, ◌^◌, ◌<◌, ◌≤◌, ◌==◌, [], ◌∷◌, ◌++◌, length, take, drop, slice_get, nat_lt, if◌then◌else◌, option_copied, IfOk, OnErr, OnSome, IfNone};
+ghost use Rattle.std.specs.Prelude.{◌≡◌, ◌-◌, ◌*◌, ◌+◌, ◌^◌, ◌<◌, ◌≤◌, ◌==◌, [], ◌∷◌, ◌++◌, length, take, drop, slice_get, nat_lt, if◌then◌else◌, option_copied, Some, IfOk, OnErr, OnSome, IfNone};
 ghost use Rattle.std.specs.Borrow.{sem};
 ghost use Rattle.std.specs.Mem.{type_size};
 ghost use Rattle.std.specs.Option.{option_copied_mut};
@@ -242,6 +242,26 @@ impl<T> Ring<T> {
         }
         self.len -= 1;
         Some(self.slots.take(self.start + self.len))
+    }
+
+    /// Takes the first item off a ring that is full, and puts another in its place, which so comes to
+    /// stand behind the last one. The start goes on to the next place, and no kept item moves.
+    #[inline(always)]
+    pub fn replace_first(&mut self, item: T) -> T
+        requires some { 0 < self.old.capacity }
+        requires full { length self.old.items ≡ self.old.capacity }
+        ensures value { Some result ≡ slice_get self.old.items 0 }
+        ensures replaced { self.new ≡ record self.old {
+          items = drop 1 self.old.items ++ item ∷ [];
+          start = place_of self.old.start 1 self.old.capacity;
+          steps = more_puts 1 (more_takes 1 self.old.steps);
+        } }
+    {
+        let next = self.place(1);
+        let first = self.slots.take(self.start);
+        self.slots.put(self.start, item);
+        self.start = next;
+        first
     }
 
     /// The item at an index, if there is one. Index 0 is the front.

@@ -130,11 +130,13 @@ impl<T: Drop, const CAP: usize> ArrayDeque<T, CAP, Wrapping> {
         if self.fill_back(&mut elements) {
             return;
         }
-        let mut deque = Self::of(self.ring.moved_out());
+        let mut ring = self.ring.moved_out();
         for element in elements {
-            drop(deque.push_back(element));
+            if CAP > 0 {
+                drop(ring.replace_first(element));
+            }
         }
-        self.ring.move_in(deque.into_ring());
+        self.ring.move_in(ring);
     }
 
     /// Adds the items of an iterator at the front, one by one: the last one comes to stand first.

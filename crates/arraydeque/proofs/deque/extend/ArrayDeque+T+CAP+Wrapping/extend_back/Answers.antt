@@ -1,8 +1,16 @@
-use Rattle.std.proofs.Common.{ap, ◌∙◌, [], ◌∷◌, ◌++◌, append_assoc, rules}
-use Rattle.arraydeque.proofs.KeepLast.{keep_last-append}
-use Rattle.arraydeque.proofs.Pushed.{of_ring, wrapped_back-push, WrapsBack-room, WrapsBack-both}
+use Rattle.std.proofs.Common.{ℕ, drop, ap, ◌∙◌, [], ◌∷◌, ◌++◌, rules, arith}
+use Rattle.std.proofs.lemmas.Grind.{common_steps}
+use Rattle.arraydeque_ring.specs.Ring.{place_of}
+use Rattle.arraydeque_ring.specs.Steps.{more_puts, more_takes}
+use Rattle.arraydeque.specs.Deque.{DequeState}
+use Rattle.arraydeque.proofs.Pushed.{of_ring, WrapsBack-replace, WrapsBack-room, WrapsBack-both}
 use Rattle.arraydeque.proofs.Taken.{TakesAll-fills, TakesAll-filled}
 use Rattle.arraydeque.proofs.deque.extend.ArrayDeque+T+CAP+Wrapping.extend_back.Goals as goal
+
+pub returns-then-fill_back : goal.returns-then-fill_back
+returns-then-fill_back g c =
+    TakesAll-fills g.I.IntoIterator.into_iter_gives g.I.IntoIter.Iterator.next_gives c.args.iter _ _ _ c.into_iter-elements.ensures.into_iter_gives _ _ _
+    c.fill_back.ensures.filled c.if-fill_back.true (λ xs _ all. WrapsBack-room g.row.CAP c.args.self.now c.fill_back.new.self xs c.fill_back.ensures.within all)
 
 pub loop-element-init-derived : goal.loop-element-init-derived
 loop-element-init-derived g c =
@@ -10,26 +18,19 @@ loop-element-init-derived g c =
     let goes = c.fill_back.ensures.goes c.if-fill_back.false in
     rw c.into_iter-element-iterator.ensures.into_iter_gives (goes.0, goes.1 given.1)
 
-pub loop-element-preserved : goal.loop-element-preserved
-loop-element-preserved g c =
-    let push = c.push_back.ensures in
+pub loop-element-preserved-then-this-gt0 : goal.loop-element-preserved-then-this-gt0
+loop-element-preserved-then-this-gt0 g c =
     let was = c.loop-element.invariant in
-    let items = rw (was.wraps.0, keep_last-append g.row.CAP (c.of-deque.result.items ++ c.loop-element.yielded) (c.in-Some.element ∷ []), append_assoc) at push.items in
+    let ring = c.loop-element.ring in
+    let with_next : ℕ → DequeState g.row.T.Denot = λ n. record { items = drop 1 ring.items ++ c.in-Some.element ∷ []; start = place_of ring.start 1 n; steps = more_puts 1 (more_takes 1 ring.steps) } in
     record {
       can_next = search rules;
       finite = search rules;
-      wraps = (
-        items,
-        (λ some. wrapped_back-push g.row.CAP c.of-deque.result c.loop-element.deque c.push_back.new.self c.loop-element.yielded c.in-Some.element
-            (was.wraps.1 some) items (push.start some) (push.steps some)),
-        λ none. push.no_places none ∙ was.wraps.2 none,
-      );
+      capacity = grind (arith, common_steps);
+      full = grind (arith, common_steps);
+      wraps = WrapsBack-replace g.row.CAP (of_ring c.moved_out-ring.result) (of_ring c.loop-element.ring) (of_ring c.replace_first.new.self) c.loop-element.yielded c.in-Some.element
+          (omega (arith, c.if-this-gt0.true)) was.full (ap of_ring c.replace_first.ensures.replaced ∙ (λ i. with_next (was.capacity i))) was.wraps;
     }
-
-pub returns-then-fill_back : goal.returns-then-fill_back
-returns-then-fill_back g c =
-    TakesAll-fills g.I.IntoIterator.into_iter_gives g.I.IntoIter.Iterator.next_gives c.args.iter _ _ _ c.into_iter-elements.ensures.into_iter_gives _ _ _
-    c.fill_back.ensures.filled c.if-fill_back.true (λ xs _ all. WrapsBack-room g.row.CAP c.args.self.now c.fill_back.new.self xs c.fill_back.ensures.within all)
 
 pub returns : goal.returns
 returns g c =
@@ -38,4 +39,4 @@ returns g c =
     c.fill_back.ensures.filled c.if-fill_back.false ys c.loop-element.element-iterator c.next.new.self
     (rw c.into_iter-element-iterator.ensures.into_iter_gives at c.loop-element.yielded_by) c.in-None.ensures.steps
     (λ xs _ all. WrapsBack-both g.row.CAP c.args.self.now c.fill_back.new.self xs c.fill_back.ensures.within all ys
-    c.of-deque.result c.loop-element.deque (of_ring c.move_in.new.self) (search rules) (ap of_ring (c.move_in.ensures ∙ c.into_ring.ensures)) c.loop-element.invariant.wraps)
+    (of_ring c.moved_out-ring.result) (of_ring c.loop-element.ring) (of_ring c.move_in.new.self) (search rules) (ap of_ring c.move_in.ensures) c.loop-element.invariant.wraps)
