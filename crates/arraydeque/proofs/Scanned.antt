@@ -1,4 +1,4 @@
--- One stretch of a scanner's calls after another.
+-- One run of a scanner's calls after another.
 use Rattle.std.proofs.Common.{◌≡◌, Bool, true, false, true≢false, List, [], ◌∷◌, ◌++◌, Option, Some, None, IfNone, refl, sym, ◌∙◌, ap, subst, append-nil, append_assoc}
 use Rattle.std.specs.Iterator.{Yields}
 use Rattle.std.specs.Iterator.Runs.{WholeRun}
@@ -11,7 +11,7 @@ module _ {S A : Type 0} (steps : S → Option A → S → Type 0) where
   Yields-append s t u [] ys first second = subst (λ v. Yields steps v ys u) (sym first) second
   Yields-append s t u (x ∷ xs) ys first second = (first.0, first.1, Yields-append first.0 t u xs ys first.2 second)
 
-  -- what is read in two stretches is read in one
+  -- what is read in two runs is read in one
   Reads-append : (a b c : Bool) (s t u : S) (xs ys : List A) → Reads steps a s xs b t → Reads steps b t ys c u → Reads steps a s (xs ++ ys) c u
   Reads-append true true c s t u xs ys first second = ((λ i. first.0 i ++ second.0 i), second.1 ∙ first.1, second.2)
   Reads-append true false c s t u xs ys first second = absurd (true≢false (sym first.2))
@@ -21,7 +21,7 @@ module _ {S A : Type 0} (steps : S → Option A → S → Type 0) where
   Reads-append false false false s t u xs ys first second = Yields-append s t u xs ys first second
 
   module _ (old mid new : ScannerState S A) (xs ys : List A) where
-    -- what is handed out in two stretches is handed out in one
+    -- what is handed out in two runs is handed out in one
     pub HandsOut-append : HandsOut steps old xs mid → HandsOut steps mid ys new → HandsOut steps old (xs ++ ys) new
     HandsOut-append first second = (
       first.0 ++ second.0,

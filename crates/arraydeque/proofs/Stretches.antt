@@ -1,4 +1,4 @@
--- Comparisons of lists that are cut into stretches.
+-- Comparisons of lists that are cut into parts.
 use Rattle.std.proofs.Common.{◌≡◌, ℕ, ◌&&◌, Bool, true, false, List, [], ◌∷◌, ◌++◌, length, take, drop, Option, Some, None, refl, sym, ap, ap₂, ◌∙◌, arith}
 use Rattle.std.proofs.lemmas.List.{length-take, take-append-drop}
 use Rattle.std.specs.Cmp.Lexicographic.{pointwise, slice_cmp, slice_partial_cmp}
@@ -42,7 +42,7 @@ module _ {X : Type 0} where
   pointwise-cut E (x ∷ xs) xs' [] ys' cut = rw (cut.second_ends (omega arith))
   pointwise-cut E (x ∷ xs) xs' (y ∷ ys) ys' cut = rw (pointwise-cut E xs xs' ys ys' (after_first x y xs xs' ys ys' cut)) (and_assoc (E x y) (pointwise E xs ys) (pointwise E xs' ys'))
 
-  -- two stretches each, of which the first are as long
+  -- two parts each, of which the first are as long
   pub pointwise-both : (E : X → X → Bool) (xs xs' ys ys' : List X) → length xs ≡ length ys → pointwise E (xs ++ xs') (ys ++ ys') ≡ (pointwise E xs ys && pointwise E xs' ys')
   pointwise-both E xs xs' ys ys' long = pointwise-cut E xs xs' ys ys' (even xs xs' ys ys' long)
 

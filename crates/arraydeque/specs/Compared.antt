@@ -1,4 +1,4 @@
--- Two lists in three stretches each, which stand beside each other in pairs.
+-- Two lists in three parts each, which stand beside each other in pairs.
 use Rattle.std.specs.Prelude.{◌≡◌, ◌<◌, List, [], ◌++◌, length}
 use Rattle.arraydeque.specs.declared.deque.compare.Stretches.{Stretches}
 
@@ -9,7 +9,7 @@ module _ {X : Type 0} where
     pub first_ends : length xs < length ys → xs-left ≡ []
     pub second_ends : length ys < length xs → ys-left ≡ []
 
-  -- the stretches are those of xs and of ys, cut at the same two indexes as far as both lists go
+  -- the parts are those of xs and of ys, cut at the same two indexes as far as both lists go
   pub record Beside (xs ys : List X) (cut : Stretches X) : Type 0 where
     pub first : xs ≡ cut.front.0.now ++ (cut.middle.0.now ++ cut.rest.0.now)
     pub second : ys ≡ cut.front.1.now ++ (cut.middle.1.now ++ cut.rest.1.now)

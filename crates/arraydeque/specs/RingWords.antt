@@ -1,7 +1,10 @@
 -- The ring's words that contracts of the deque use, passed on to crates that list the deque alone.
+pub use Rattle.arraydeque_ring.specs.Changed.{IsFewest, changed_insert, changed_remove}
+pub use Rattle.arraydeque_ring.specs.Changed.{changed_drain}
+pub use Rattle.arraydeque_ring.specs.Loans.{Loan, as_many, remaining}
 pub use Rattle.arraydeque_ring.specs.Retained.{Retains, count_moved}
-pub use Rattle.arraydeque_ring.specs.Ring.{RingState, place_of}
+pub use Rattle.arraydeque_ring.specs.Ring.{RingState, place_of, IsInOnePiece}
 pub use Rattle.arraydeque_ring.specs.Sides.{moves_to_insert, moves_to_remove, moves_to_drain}
 pub use Rattle.arraydeque_ring.specs.Sides.{start_opened, start_closed}
 pub use Rattle.arraydeque_ring.specs.Steps.{Steps, no_steps, more_puts, more_takes, more_moves}
-pub use Rattle.arraydeque_ring.specs.Steps.{more_exchanges, more_lends}
+pub use Rattle.arraydeque_ring.specs.Steps.{more_exchanges, more_lends, Rearranges}

@@ -20,7 +20,7 @@ pub trait RangeArgument<T> {
     // The first index that the value names.
     ghost names_start: { Self → Option T };
 
-    // The first index past the stretch that the value names.
+    // The first index past the part that the value names.
     ghost names_end: { Self → Option T };
 
     /// Returns the first index of the range, or `None` where the range leaves it open.

@@ -111,8 +111,8 @@ impl<T> Ring<T> {
         self.len < self.slots.capacity() - self.start
     }
 
-    /// Adds an item behind the last one, as [`Ring::push_back`] does, in a place before the region's
-    /// end. Many such in a row fill places in a row.
+    /// Adds an item behind the last one, in a place before the region's end. Many such in a row
+    /// fill places in a row.
     #[inline(always)]
     pub fn push_to_end(&mut self, item: T)
         requires { self.old.start + length self.old.items < self.old.capacity }
@@ -127,8 +127,8 @@ impl<T> Ring<T> {
         self.len += 1;
     }
 
-    /// Adds an item behind the last one, as [`Ring::push_back`] does, where no place is left between
-    /// them and the region's end. Many such in a row fill places in a row.
+    /// Adds an item behind the last one, where no place is left between them and the region's end.
+    /// Many such in a row fill places in a row.
     #[inline(always)]
     pub fn push_past_end(&mut self, item: T)
         requires room { length self.old.items < self.old.capacity }
@@ -198,9 +198,9 @@ impl<T> Ring<T> {
         Some(self.slots.take(last))
     }
 
-    /// Takes the first item off, if there is one, where the list lies in one piece. No kept item moves.
-    /// Many such in a row empty places in a row: an empty list starts at the first place, and no
-    /// other start wraps.
+    /// Takes the first item off, if there is one, where the list lies in one piece. No kept item
+    /// moves. Many such in a row empty places in a row: an empty list starts at the first place,
+    /// and no other start wraps.
     #[inline(always)]
     pub fn take_first(&mut self) -> Option<T>
         requires { IsInOnePiece self.old }

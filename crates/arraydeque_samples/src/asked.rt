@@ -1,17 +1,20 @@
 //! Iterators that note how often they are asked.
-ghost use Rattle.std.specs.Prelude.{◌-◌, length};
+ghost use Rattle.std.specs.Prelude.{◌≡◌, ◌-◌, length};
 ghost use Rattle.std.specs.Iterator.{at_most};
 
 /// Counts upwards without end.
 #[derive(Drop)]
 pub struct Count {
-    next: i64,
+    pub next: i64,
     pub asked: usize,
 }
 
 impl Count {
     /// The count from `next` on, not asked yet.
-    pub fn from(next: i64) -> Count {
+    pub fn from(next: i64) -> Count
+        ensures first { result.next ≡ next }
+        ensures unasked { result.asked ≡ 0 }
+    {
         Count { next, asked: 0 }
     }
 }
@@ -30,13 +33,16 @@ impl Iterator for Count {
 /// Gives the answers that it was made with, a `None` among them too, and `None` ever after.
 #[derive(Drop)]
 pub struct Script<'a> {
-    rest: &'a [Option<i64>],
+    pub rest: &'a [Option<i64>],
     pub asked: usize,
 }
 
 impl<'a> Script<'a> {
     /// An iterator that gives these answers, and `None` after them.
-    pub fn of(answers: &'a [Option<i64>]) -> Script<'a> {
+    pub fn of(answers: &'a [Option<i64>]) -> Script<'a>
+        ensures answers { result.rest ≡ answers.entry }
+        ensures unasked { result.asked ≡ 0 }
+    {
         Script {
             rest: answers,
             asked: 0,

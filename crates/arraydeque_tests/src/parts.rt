@@ -1,4 +1,4 @@
-//! Draining a stretch, and splitting.
+//! Draining a part, and splitting.
 ghost use Rattle.std.specs.Prelude.{Some, ◌+◌};
 
 use crate::build::{deque_at, holds, numbers};
@@ -194,7 +194,7 @@ fn splits_alike<const CAP: usize>(
     Ok(holds(&deque, &list[..at]) && holds(&rest, &list[at..]))
 }
 
-/// Drains and splits beside a plain list, at each start, length and stretch.
+/// Drains and splits beside a plain list, at each start and length, for each part.
 fn compare_all<const CAP: usize>(rt: &impl Abort, alloc: Global) -> Result<(), Fail> {
     for start in 0..CAP {
         for len in 0..=CAP {

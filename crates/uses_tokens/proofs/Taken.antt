@@ -1,4 +1,4 @@
--- What is taken off in two stretches.
+-- What is taken off in two parts.
 use Rattle.std.proofs.Common.{List, ◌++◌, Option, append_assoc}
 use Rattle.arraydeque.specs.Lookahead.{ScannerState, TakesOff}
 

@@ -15,7 +15,7 @@ use std::hash::{Hash, Hasher};
 /// How many pairs are compared before the answers are looked at.
 const BLOCK: usize = 32;
 
-/// Two lists in three stretches each, which stand beside each other in pairs.
+/// Two lists in three parts each, which stand beside each other in pairs.
 #[derive(Drop)]
 struct Stretches<'a, T> {
     front: (&'a [T], &'a [T]),

@@ -169,7 +169,7 @@ impl<T: Drop, const CAP: usize> ArrayDeque<T, CAP, Wrapping> {
 }
 
 impl<T, const CAP: usize, B: Behavior> ArrayDeque<T, CAP, B> {
-    /// Copies items behind the last one, where the list starts at the first place and there is room.
+    /// Copies items behind the last one, where the list starts at the first place and has room.
     #[inline]
     fn copy_back(&mut self, items: &[T])
     where
