@@ -6,7 +6,6 @@ use Rattle.std.specs.Option.{OnSome, IfNone}
 use Rattle.std.specs.Iterator.{YieldsLast}
 use Rattle.arraydeque_ring.specs.Ring.{RingState}
 use Rattle.arraydeque_ring.specs.Steps.{Steps}
-use Rattle.arraydeque.specs.Deque.{last_item}
 
 module _ {X : Type 0} where
   -- only an empty list has no last item
@@ -32,8 +31,3 @@ module _ {X : Type 0} where
         → OnSome popped (new ≡ record old { items = take (length old.items - 1) old.items; steps = st }) → IfNone popped (new ≡ old) → YieldsLast (λ (l : List X). l) old.items popped new.items
     YieldsLast-pop None last taken kept = (nothing_last old.items last, ap (λ (r : RingState X). r.items) kept ∙ nothing_last old.items last)
     YieldsLast-pop (Some x) last taken kept = sym (conserved-pop_back (Some x) last taken kept)
-
-  -- what a pop of the last item says in an iterator's words
-  pub YieldsLast-take : (old new : List X) (popped : Option X) → popped ≡ last_item old → new ≡ take (length old - 1) old → YieldsLast (λ (l : List X). l) old popped new
-  YieldsLast-take old new None last rest = let none = nothing_last old last in (none, rest ∙ ap (λ l. take (length l - 1) l) none)
-  YieldsLast-take old new (Some x) last rest = sym (last_and_rest old x last) ∙ ap (λ l. l ++ x ∷ []) (sym rest)

@@ -93,7 +93,7 @@ impl<T, const CAP: usize, B: Behavior> ArrayDeque<T, CAP, B> {
 
     /// The ring that the deque stands on.
     #[inline]
-    fn into_ring(self) -> Ring<T>
+    pub(crate) fn into_ring(self) -> Ring<T>
         ensures { result ≡ as_ring CAP self }
     {
         let ArrayDeque { ring, behavior: _ } = self;

@@ -2,7 +2,7 @@
 //!
 //! A contract sees a [`Ring`] as its items from front to back, its capacity, the place of its first
 //! item and the steps of its region. A ring knows no policy: a push asks for room.
-ghost use Rattle.std.specs.Prelude.{◌≡◌, ◌-◌, ◌*◌, ◌+◌, ◌^◌, ◌<◌, ◌≤◌, ◌==◌, [], ◌∷◌, ◌++◌, length, take, drop, slice_get, nat_lt, if◌then◌else◌, option_copied, Some, IfOk, OnErr, OnSome, IfNone};
+ghost use Rattle.std.specs.Prelude.{◌≡◌, ◌-◌, ◌*◌, ◌+◌, ◌^◌, ◌<◌, ◌≤◌, ◌==◌, [], ◌∷◌, ◌++◌, length, take, drop, slice_get, nat_lt, Some, if◌then◌else◌, option_copied, IfOk, OnErr, OnSome, IfNone};
 ghost use Rattle.std.specs.Borrow.{sem};
 ghost use Rattle.std.specs.Mem.{type_size};
 ghost use Rattle.std.specs.Option.{option_copied_mut};
@@ -178,6 +178,37 @@ impl<T> Ring<T> {
         self.start = self.place(1);
         self.len -= 1;
         Some(self.slots.take(first))
+    }
+
+    /// How many items stand in the region's last place and, round its end, behind it. All others
+    /// can be taken off by [`Ring::take_before_end`], one after the other.
+    #[inline(always)]
+    pub fn len_from_last_place(&self) -> usize
+        ensures { result ≡ length self.now.items - (self.now.capacity - 1 - self.now.start) }
+    {
+        let to_end = self.slots.capacity() - self.start;
+        self.len.saturating_sub(to_end.saturating_sub(1))
+    }
+
+    /// Takes the first item off, as [`Ring::pop_front`] does, where the next place is before the
+    /// region's end. Many such in a row empty places in a row.
+    #[inline(always)]
+    pub fn take_before_end(&mut self) -> T
+        requires some { 0 < length self.old.items }
+        requires before_end { self.old.start + 1 < self.old.capacity }
+        ensures value { Some result ≡ slice_get self.old.items 0 }
+        ensures taken { self.new ≡ record self.old {
+          items = drop 1 self.old.items;
+          start = self.old.start + 1;
+          steps = more_takes 1 self.old.steps;
+        } }
+    {
+        // That no sum passes `usize::MAX` is known of the capacity.
+        let _capacity = self.slots.capacity();
+        let place = self.start;
+        self.start = place + 1;
+        self.len -= 1;
+        self.slots.take(place)
     }
 
     /// Takes the last item off, if there is one. The start stays, and no kept item moves.

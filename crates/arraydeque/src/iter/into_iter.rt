@@ -5,8 +5,9 @@ ghost use Rattle.std.specs.Iterator.SizeHint.{IsWithinCount};
 
 use crate::behavior::Behavior;
 use crate::deque::ArrayDeque;
+use arraydeque_ring::ring::Ring;
 use std::iter::FusedIterator;
-use std::marker::Model;
+use std::marker::{Model, PhantomData};
 
 /// An iterator that owns the items of a deque, from both ends: that of a deque by value. It drops
 /// the items that are not taken, front to back.
@@ -20,15 +21,21 @@ use std::marker::Model;
 /// ```
 #[derive(Drop)]
 pub struct IntoIter<T, const CAP: usize, B: Behavior> {
-    deque: ArrayDeque<T, CAP, B>,
+    ring: Ring<T>,
+    /// How many items at most stand in the region's last place and, round its end, behind it.
+    rest: usize,
+    behavior: PhantomData<B>,
 }
 
 impl<T, const CAP: usize, B: Behavior> Model for IntoIter<T, CAP, B> {
-    ghost use Rattle.std.specs.Prelude.{List};
+    ghost use Rattle.std.specs.Prelude.{◌≤◌, ◌-◌, List, length};
 
     ghost Value = { List T };
 
-    ghost view = { λ it. it.deque.items };
+    ghost view = { λ it. it.ring.items };
+
+    ghost invariant = { λ it.
+        length it.ring.items - (it.ring.capacity - 1 - it.ring.start) ≤ it.rest };
 }
 
 impl<T: Drop, const CAP: usize, B: Behavior> Iterator for IntoIter<T, CAP, B> {
@@ -40,7 +47,12 @@ impl<T: Drop, const CAP: usize, B: Behavior> Iterator for IntoIter<T, CAP, B> {
 
     #[inline]
     fn next(&mut self) -> Option<T> {
-        self.deque.pop_front()
+        if self.ring.len() > self.rest {
+            return Some(self.ring.take_before_end());
+        }
+        let item = self.ring.pop_front();
+        self.rest = self.ring.len_from_last_place();
+        item
     }
 
     #[inline]
@@ -59,14 +71,14 @@ impl<T: Drop, const CAP: usize, B: Behavior> DoubleEndedIterator for IntoIter<T,
 
     #[inline]
     fn next_back(&mut self) -> Option<T> {
-        self.deque.pop_back()
+        self.ring.pop_back()
     }
 }
 
 impl<T: Drop, const CAP: usize, B: Behavior> ExactSizeIterator for IntoIter<T, CAP, B> {
     #[inline]
     fn len(&self) -> usize {
-        self.deque.len()
+        self.ring.len()
     }
 }
 
@@ -81,6 +93,12 @@ impl<T: Drop, const CAP: usize, B: Behavior> IntoIterator for ArrayDeque<T, CAP,
 
     #[inline]
     fn into_iter(self) -> IntoIter<T, CAP, B> {
-        IntoIter { deque: self }
+        let ring = self.into_ring();
+        let rest = ring.len_from_last_place();
+        IntoIter {
+            ring,
+            rest,
+            behavior: PhantomData,
+        }
     }
 }
