@@ -7,7 +7,6 @@ use Rattle.std.proofs.lemmas.List.{same_lists, length-take, get_or-take}
 use Rattle.std.specs.Option.{unwrap_or}
 use Rattle.std.specs.Iterator.{Yields, Drains}
 use Rattle.std.specs.Iterator.Runs.{Run, ItemsAre, YieldsInOrder}
-use Rattle.std.specs.declared.iter.Take.{Take}
 use Rattle.arraydeque.specs.Sources.{TakesFrom, TakesAll, Fills}
 
 -- a run over a list gives the first n of it, where it gives at most n items, and fewer only at its end

@@ -1,5 +1,6 @@
 //! Iterators that note how often they are asked.
-ghost use Rattle.std.specs.Prelude.{◌≡◌, ◌-◌, length};
+ghost use Rattle.std.specs.Prelude.{◌≡◌, ◌-◌, ◌+◌, ◌%◌, ◌^◌, Some, None, length, drop, slice_get, unwrap_or, pos};
+ghost use Rattle.std.specs.Int.{int_wrapping_add, w64};
 ghost use Rattle.std.specs.Iterator.{at_most};
 
 /// Counts upwards without end.
@@ -21,6 +22,10 @@ impl Count {
 
 impl Iterator for Count {
     type Item = i64;
+
+    ghost next_gives = { λ old result new. (result ≡ Some old.next)
+        × (new.next ≡ int_wrapping_add w64 old.next (pos 1))
+        × (new.asked ≡ (old.asked + 1) % 2 ^ 64) };
 
     fn next(&mut self) -> Option<i64> {
         let item = self.next;
@@ -52,6 +57,11 @@ impl<'a> Script<'a> {
 
 impl Iterator for Script<'_> {
     type Item = i64;
+
+    ghost next_gives = { λ old result new.
+        (result ≡ unwrap_or (slice_get old.rest.now 0) None)
+        × (new.rest.now ≡ drop 1 old.rest.now)
+        × (new.asked ≡ (old.asked + 1) % 2 ^ 64) };
 
     ghost remaining = { λ s. at_most (length s.rest.now) };
 
