@@ -76,6 +76,7 @@ fn workloads() -> Vec<Workload> {
     of_all_items!(list, random, arraydeque_bench_random);
     of_all_items!(list, extend_slice, arraydeque_bench_extend_slice);
     of_all_items!(list, extend_lent, arraydeque_bench_extend_lent);
+    of_all_items!(list, extend_front, arraydeque_bench_extend_front);
     of_all_items!(list, extend_history, arraydeque_bench_extend_history);
     workloads!(list, extend_vec, arraydeque_bench_extend_vec, true, (8, u64, 1024), (8, u64, 1000));
     of_all_items!(list, drain_middle, arraydeque_bench_drain_middle);

@@ -22,6 +22,7 @@ pub trait Peer<T>: Sized {
     fn insert(&mut self, index: usize, item: T) -> bool;
     fn remove(&mut self, index: usize) -> Option<T>;
     fn extend_back(&mut self, items: impl IntoIterator<Item = T>);
+    fn extend_front(&mut self, items: impl IntoIterator<Item = T>);
     fn clear(&mut self);
     fn drain(&mut self, range: Range<usize>) -> impl Iterator<Item = T>;
     fn split_off(&mut self, at: usize) -> Self;
@@ -155,6 +156,10 @@ impl<T, const CAP: usize> Peer<T> for Crate<T, CAP> {
         self.0.extend_back(items);
     }
     #[inline]
+    fn extend_front(&mut self, items: impl IntoIterator<Item = T>) {
+        self.0.extend_front(items);
+    }
+    #[inline]
     fn linearize(&mut self) {
         self.0.linearize();
     }
@@ -218,6 +223,13 @@ impl<T, const CAP: usize> Peer<T> for Bounded<T, CAP> {
     fn extend_back(&mut self, items: impl IntoIterator<Item = T>) {
         let room = CAP - self.0.len();
         self.0.extend(items.into_iter().take(room));
+    }
+    #[inline]
+    fn extend_front(&mut self, items: impl IntoIterator<Item = T>) {
+        let room = CAP - self.0.len();
+        for item in items.into_iter().take(room) {
+            self.0.push_front(item);
+        }
     }
     #[inline]
     fn linearize(&mut self) {

@@ -180,6 +180,18 @@ pub fn extend_lent<T: Item, D: Peer<T>, const CAP: usize>(rounds: usize) -> u64 
     sum
 }
 
+pub fn extend_front<T: Item, D: Peer<T>, const CAP: usize>(rounds: usize) -> u64 {
+    let items = counted::<T>(CAP / 2);
+    let mut deque: D = peer_at(0, CAP / 3);
+    let mut sum = 0u64;
+    for _ in 0..rounds {
+        deque.extend_front(items.iter().copied());
+        sum = sum.wrapping_add(last_number(&deque));
+        deque.clear();
+    }
+    sum
+}
+
 pub fn extend_history<T: Item, D: Peer<T>, const CAP: usize>(rounds: usize) -> u64 {
     let items = counted::<T>(CAP / 2);
     let mut deque = D::History::new();

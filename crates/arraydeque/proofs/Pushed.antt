@@ -1,6 +1,6 @@
 -- What pushes leave, one and many.
 use Rattle.std.proofs.Common.{◌≡◌, ◌<◌, ◌≤◌, ℕ, zero, suc, ◌+◌, ◌-◌, ◌*◌, ◌%◌, List, [], ◌∷◌, ◌++◌, length, take, drop, reverse, nat_lt, if◌then◌else◌, sym, ap, ap₂, ◌∙◌, arith, inl, inr}
-use Rattle.std.proofs.Math.Nat.{mod-add-mod, add_assoc}
+use Rattle.std.proofs.Math.Nat.{mod-add-mod, add-mod_right, mod-eq_of_lt, add_assoc}
 use native.Mathlib.Nat.{suc-mul}
 use Rattle.std.proofs.lemmas.Bool.{cases_lt, lt-ltb, le-ltb}
 use Rattle.std.proofs.lemmas.List.{append_assoc, append-nil, reverse-append, length-append, length-drop, length-take, length-reverse, take_all, drop-append-le}
@@ -16,6 +16,10 @@ of_ring ring = record { items = ring.items; start = ring.start; steps = ring.ste
 -- to go on by j and then by k is to go on by both
 place_of-on : (s j k n : ℕ) → place_of (place_of s j n) k n ≡ place_of s (j + k) n
 place_of-on s j k n = mod-add-mod (s + j) n k ∙ ap (λ m. m % n) (add_assoc s j k)
+
+-- to go back by one where no place wraps
+pub place_of-before : (s n : ℕ) → 0 < s → s ≤ n - 1 → place_of s (n - 1) n ≡ s - 1
+place_of-before s n some within = ap (λ k. k % n) (omega arith) ∙ add-mod_right (s - 1) n ∙ mod-eq_of_lt (omega arith)
 
 -- to go back by k places and then by one is to go back by one more
 back_by-one : (k s n : ℕ) → place_of (back_by k s n) (n - 1) n ≡ back_by (suc k) s n

@@ -183,6 +183,17 @@ pub extern "C" fn arraydeque_bench_extend_lent(
     all!(parts, extend_lent, alloc, rounds, (bytes, capacity))
 }
 
+/// Half the capacity in at the front from a slice's iterator, and all cleared.
+#[unsafe(no_mangle)]
+pub extern "C" fn arraydeque_bench_extend_front(
+    alloc: Global,
+    bytes: usize,
+    capacity: usize,
+    rounds: usize,
+) -> u64 {
+    all!(parts, extend_front, alloc, rounds, (bytes, capacity))
+}
+
 /// Half the capacity in at the back of a full `Wrapping` deque, and as many of the oldest given up.
 #[unsafe(no_mangle)]
 pub extern "C" fn arraydeque_bench_extend_history(

@@ -58,6 +58,23 @@ fn extend_through<T: Item, const CAP: usize>(
     deque.extend_back(items.iter().copied());
 }
 
+/// Each round half the capacity goes in at the front from a slice's iterator, and the deque is
+/// cleared.
+pub(crate) fn extend_front<T: Item, const CAP: usize>(
+    alloc: Global,
+    rounds: usize,
+) -> Result<u64, AllocError> {
+    let items = counted::<T>(alloc, CAP / 2)?;
+    let mut deque = deque_at::<T, CAP>(alloc, 0, CAP / 3)?;
+    let mut sum = 0u64;
+    for _ in 0..rounds {
+        deque.extend_front(items.iter().copied());
+        sum = sum.wrapping_add(last_number(&deque));
+        deque.clear();
+    }
+    Ok(sum)
+}
+
 /// A full deque under `Wrapping`: each round half the capacity goes in from a slice's iterator, and
 /// as many of the oldest items are given up.
 pub(crate) fn extend_history<T: Item, const CAP: usize>(

@@ -2,7 +2,7 @@
 //!
 //! A contract sees a [`Ring`] as its items from front to back, its capacity, the place of its first
 //! item and the steps of its region. A ring knows no policy: a push asks for room.
-ghost use Rattle.std.specs.Prelude.{◌≡◌, ◌-◌, ◌*◌, ◌+◌, ◌^◌, ◌<◌, ◌≤◌, ◌==◌, [], ◌∷◌, ◌++◌, length, take, drop, slice_get, nat_lt, Some, if◌then◌else◌, option_copied, IfOk, OnErr, OnSome, IfNone};
+ghost use Rattle.std.specs.Prelude.{◌≡◌, ◌-◌, ◌*◌, ◌+◌, ◌^◌, ◌<◌, ◌≤◌, ◌==◌, [], ◌∷◌, ◌++◌, length, take, drop, slice_get, nat_lt, min, Some, if◌then◌else◌, option_copied, IfOk, OnErr, OnSome, IfNone};
 ghost use Rattle.std.specs.Borrow.{sem};
 ghost use Rattle.std.specs.Mem.{type_size};
 ghost use Rattle.std.specs.Option.{option_copied_mut};
@@ -156,6 +156,35 @@ impl<T> Ring<T> {
         let before = self.place(self.slots.capacity() - 1);
         self.slots.put(before, item);
         self.start = before;
+        self.len += 1;
+    }
+
+    /// How long the list can get at its front before a place wraps. As long as it is shorter, items
+    /// can be put by [`Ring::push_before`].
+    #[inline(always)]
+    pub fn len_before_wrap(&self) -> usize
+        ensures { let len = length self.now.items in
+            result ≡ len + min self.now.start (self.now.capacity - len) }
+    {
+        self.len + self.start.min(self.slots.capacity() - self.len)
+    }
+
+    /// Adds an item before the first one, as [`Ring::push_front`] does, in a place behind the
+    /// region's first. Many such in a row fill places in a row.
+    #[inline(always)]
+    pub fn push_before(&mut self, item: T)
+        requires room { length self.old.items < self.old.capacity }
+        requires place_before { 0 < self.old.start }
+        ensures { self.new ≡ record self.old {
+          items = item ∷ self.old.items;
+          start = self.old.start - 1;
+          steps = more_puts 1 self.old.steps;
+        } }
+    {
+        // That no sum passes `usize::MAX` is known of the capacity.
+        let _capacity = self.slots.capacity();
+        self.start -= 1;
+        self.slots.put(self.start, item);
         self.len += 1;
     }
 

@@ -83,8 +83,9 @@ impl<T, const CAP: usize, B: Behavior> ArrayDeque<T, CAP, B> {
         false
     }
 
-    /// Puts what the iterator gives before the first item, one by one, while there is room. Returns
-    /// whether the iterator ended before that.
+    /// Puts what the iterator gives before the first item, one by one, while there is room: in a row
+    /// down to the region's first place, and then in a row from its end on. Returns whether the
+    /// iterator ended before that.
     #[inline(always)]
     fn fill_front<I: Iterator<Item = T>>(&mut self, elements: &mut I) -> bool
         requires { I.can_next elements.old }
@@ -95,12 +96,18 @@ impl<T, const CAP: usize, B: Behavior> ArrayDeque<T, CAP, B> {
             × (IsFinite (I.remaining elements.old) → IsFinite (I.remaining elements.new)) }
     {
         let mut ring = self.ring.moved_out();
+        let mut reach = ring.len_before_wrap();
         while ring.len() < CAP {
             let Some(element) = elements.next() else {
                 self.ring.move_in(ring);
                 return true;
             };
-            ring.push_front(element);
+            if ring.len() < reach {
+                ring.push_before(element);
+            } else {
+                ring.push_front(element);
+                reach = ring.len_before_wrap();
+            }
         }
         self.ring.move_in(ring);
         false

@@ -209,6 +209,10 @@ impl<T, const CAP: usize, B: Behavior> ArrayDeque<T, CAP, B> {
             mut ring,
             behavior: _,
         } = self;
+        let rest = ring.len_from_last_place();
+        while ring.len() > rest {
+            v.push_reserved(ring.take_before_end());
+        }
         while let Some(item) = ring.pop_front() {
             v.push_reserved(item);
         }

@@ -1,8 +1,8 @@
-use Rattle.std.proofs.Common.{◌∷◌, ◌++◌, ◌-◌, [], rules, refl, ap, ap₂, ◌∙◌, arith}
+use Rattle.std.proofs.Common.{◌<◌, length, sym, ◌∷◌, ◌++◌, ◌-◌, [], rules, refl, ap, ap₂, ◌∙◌, arith}
 use Rattle.std.proofs.iter.Next.{Yields-more}
 use Rattle.std.proofs.lemmas.Grind.{common_steps}
 use Rattle.arraydeque_ring.specs.Ring.{place_of}
-use Rattle.arraydeque.proofs.Pushed.{back_by-push}
+use Rattle.arraydeque.proofs.Pushed.{place_of-before, back_by-push}
 use Rattle.arraydeque.proofs.deque.ArrayDeque.fill_front.Goals as goal
 
 pub loop-elements-init : goal.loop-elements-init
@@ -10,6 +10,7 @@ loop-elements-init g c = (
   [],
   record {
     capacity = search rules;
+    reach = search rules;
     within = search rules;
     items = search rules;
     start = search rules;
@@ -21,6 +22,31 @@ loop-elements-init g c = (
   },
 )
 
+pub loop-elements-preserved-then-len-reach : goal.loop-elements-preserved-then-len-reach
+loop-elements-preserved-then-len-reach g c =
+    let xs = c.loop-elements.invariant.0 in
+    let was = c.loop-elements.invariant.1 in
+    let x = c.in-Some.element in
+    let ring = c.loop-elements.ring in
+    let short : length ring.items < c.loop-elements.reach = omega (arith, c.if-len-reach.true, c.len-in-loop-elements.ensures.len) in
+    let room : length ring.items < ring.capacity = omega (arith, c.loop-elements-test.true, c.len.ensures.len, was.capacity) in
+    let some : 0 < ring.start = omega (arith, was.reach) in (
+      xs ++ x ∷ [],
+      record {
+        capacity = grind (arith, common_steps);
+        reach = rw c.push_before.ensures (omega (arith, was.reach));
+        within = rw c.push_before.ensures (omega (arith, was.capacity));
+        items = grind (arith, common_steps);
+        start = ap (λ r. r.start) c.push_before.ensures ∙ sym (place_of-before ring.start ring.capacity some c.len.ensures.start)
+            ∙ ap₂ (λ s n. place_of s (n - 1) n) was.start was.capacity ∙ back_by-push xs x c.args.self.now.start g.row.CAP;
+        steps = grind (arith, common_steps);
+        yielded = Yields-more g.I.Iterator.next_gives _ xs _ x _ was.yielded c.in-Some.ensures.steps;
+        can_next = c.in-Some.ensures.goes.keeps;
+        finite = λ f. (c.in-Some.ensures.goes.on (was.finite f)).1;
+        empty = was.empty;
+      },
+    )
+
 pub loop-elements-preserved : goal.loop-elements-preserved
 loop-elements-preserved g c =
     let xs = c.loop-elements.invariant.0 in
@@ -29,6 +55,7 @@ loop-elements-preserved g c =
       xs ++ x ∷ [],
       record {
         capacity = grind (arith, common_steps);
+        reach = search rules;
         within = grind (arith, common_steps);
         items = grind (arith, common_steps);
         start = ap (λ r. r.start) c.push_front.ensures ∙ ap₂ (λ s n. place_of s (n - 1) n) was.start was.capacity ∙ back_by-push xs x c.args.self.now.start g.row.CAP;
