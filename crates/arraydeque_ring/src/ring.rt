@@ -169,8 +169,8 @@ impl<T> Ring<T> {
         self.len + self.start.min(self.slots.capacity() - self.len)
     }
 
-    /// Adds an item before the first one, as [`Ring::push_front`] does, in a place behind the
-    /// region's first. Many such in a row fill places in a row.
+    /// Adds an item before the first one, as [`Ring::push_front`] does, where the list doesn't start
+    /// at the region's first place. Many such in a row fill places in a row.
     #[inline(always)]
     pub fn push_before(&mut self, item: T)
         requires room { length self.old.items < self.old.capacity }
