@@ -169,8 +169,8 @@ impl<T> Ring<T> {
         self.len + self.start.min(self.slots.capacity() - self.len)
     }
 
-    /// Adds an item before the first one, as [`Ring::push_front`] does, where the list doesn't start
-    /// at the region's first place. Many such in a row fill places in a row.
+    /// Adds an item before the first one, where the list doesn't start at the region's first place.
+    /// Many such in a row fill places in a row.
     #[inline(always)]
     pub fn push_before(&mut self, item: T)
         requires room { length self.old.items < self.old.capacity }
@@ -304,8 +304,8 @@ impl<T> Ring<T> {
         Some(self.slots.take(self.start + self.len))
     }
 
-    /// Takes the first item off a ring that is full, and puts another in its place, which so comes to
-    /// stand behind the last one. The start goes on to the next place, and no kept item moves.
+    /// Takes the first item off a ring that is full, and puts another in its place, so that it
+    /// stands behind the last one. The start goes on to the next place, and no kept item moves.
     #[inline(always)]
     pub fn replace_first(&mut self, item: T) -> T
         requires some { 0 < self.old.capacity }

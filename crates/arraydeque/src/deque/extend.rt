@@ -83,8 +83,8 @@ impl<T, const CAP: usize, B: Behavior> ArrayDeque<T, CAP, B> {
         false
     }
 
-    /// Puts what the iterator gives before the first item, one by one, while there is room: in a row
-    /// down to the region's first place, and then in a row from its end on. Returns whether the
+    /// Puts what the iterator gives before the first item, one by one, while there is room: in a
+    /// row down to the region's first place, and then in a row from its end on. Returns whether the
     /// iterator ended before that.
     #[inline(always)]
     fn fill_front<I: Iterator<Item = T>>(&mut self, elements: &mut I) -> bool
