@@ -198,3 +198,39 @@ fn long_runs_move_across_the_end(rt: HostRuntime) -> Result<(), Fail> {
     }
     Ok(())
 }
+
+/// The number of the item at an index of a long list.
+fn number_at(index: usize) -> u8 {
+    (index % 251) as u8
+}
+
+/// Drains two of 2,800 items, so that 1,365 move: as many as a block of each length takes.
+fn blocks_of_each_length<T: Numbered>(
+    rt: &impl Abort,
+    alloc: Global,
+    from: usize,
+) -> Result<(), Fail> {
+    let mut ring = Ring::<T>::new(alloc, 2_800)?;
+    for index in 0..2_800 {
+        assert!(rt; ring.len() < ring.capacity());
+        ring.push_back(T::of(number_at(index)));
+    }
+    assert!(rt; from < 2_798 && ring.len() == 2_800);
+    let drained = ring.drain(from, from + 2)?;
+    assert!(rt; has_at(&drained, 1, T::of(number_at(from + 1))));
+    for index in 0..2_798 {
+        let was = if index < from { index } else { index + 2 };
+        assert!(rt; has_at(&ring, index, T::of(number_at(was))), "item {was}");
+    }
+    Ok(())
+}
+
+#[test]
+fn long_runs_move_in_blocks_of_each_length(rt: HostRuntime) -> Result<(), Fail> {
+    for from in [1_365, 1_433] {
+        blocks_of_each_length::<u8>(&rt, rt.alloc(), from)?;
+        blocks_of_each_length::<u64>(&rt, rt.alloc(), from)?;
+        blocks_of_each_length::<Three>(&rt, rt.alloc(), from)?;
+    }
+    Ok(())
+}

@@ -12,6 +12,10 @@ use super::{Slots, StepKind};
 use crate::wrap::wrap_add;
 use std::mem::replace;
 
+/// How many bytes a block takes at most: so many that the C library copies a large one its fastest
+/// way.
+const BLOCK_BYTES: usize = 32_768;
+
 impl<T> Slots<T> {
     /// Moves the values in the `len` places from `src` on to those from `dst` on, all at once.
     /// Either run goes on at the first place after the last. The two may share places, as long as
@@ -170,38 +174,38 @@ impl<T> Slots<T> {
         self.move_first::<1>(dst, src, len, 0);
     }
 
-    /// Copies a run on in blocks of at most 4096 bytes, the largest first.
+    /// Copies a run on in blocks, the largest first.
     #[inline(never)]
     fn copy_on(&mut self, dst: usize, src: usize, len: usize)
         requires on { src ≤ dst }
         requires can { CanCopy dst src len self.old.places }
         ensures { self.new ≡ record self.old { places = run_moved dst src len self.old.places } }
     {
-        let left = self.move_last::<512>(dst, src, len);
-        let left = self.move_last::<128>(dst, src, left);
-        let left = self.move_last::<32>(dst, src, left);
-        let left = self.move_last::<8>(dst, src, left);
-        let left = self.move_last::<2>(dst, src, left);
+        let left = self.move_last::<1024>(dst, src, len);
+        let left = self.move_last::<256>(dst, src, left);
+        let left = self.move_last::<64>(dst, src, left);
+        let left = self.move_last::<16>(dst, src, left);
+        let left = self.move_last::<4>(dst, src, left);
         self.move_last::<1>(dst, src, left);
     }
 
-    /// Copies a run back in blocks of at most 4096 bytes, the largest first.
+    /// Copies a run back in blocks, the largest first.
     #[inline(never)]
     fn copy_back(&mut self, dst: usize, src: usize, len: usize)
         requires back { dst ≤ src }
         requires can { CanCopy dst src len self.old.places }
         ensures { self.new ≡ record self.old { places = run_moved dst src len self.old.places } }
     {
-        let moved = self.move_first::<512>(dst, src, len, 0);
-        let moved = self.move_first::<128>(dst, src, len, moved);
-        let moved = self.move_first::<32>(dst, src, len, moved);
-        let moved = self.move_first::<8>(dst, src, len, moved);
-        let moved = self.move_first::<2>(dst, src, len, moved);
+        let moved = self.move_first::<1024>(dst, src, len, 0);
+        let moved = self.move_first::<256>(dst, src, len, moved);
+        let moved = self.move_first::<64>(dst, src, len, moved);
+        let moved = self.move_first::<16>(dst, src, len, moved);
+        let moved = self.move_first::<4>(dst, src, len, moved);
         self.move_first::<1>(dst, src, len, moved);
     }
 
     /// Moves the last values of a run in blocks of `N`, as long as there are so many. The answer is
-    /// how many are left. Blocks of more than 4096 bytes are not tried, unless `N` is 1.
+    /// how many are left. Blocks that are too large are not tried, unless `N` is 1.
     #[inline(always)]
     fn move_last<const N: usize>(&mut self, dst: usize, src: usize, len: usize) -> usize
         requires some { 0 < N }
@@ -214,7 +218,7 @@ impl<T> Slots<T> {
         ensures steps { self.new.steps ≡ self.old.steps }
     {
         let mut moved = 0;
-        if N == 1 || size_of_item::<T>() <= 4096 / N {
+        if N == 1 || size_of_item::<T>() <= BLOCK_BYTES / N {
             while N <= len - moved {
                 moved += N;
                 self.move_block::<N>(dst, src, len - moved);
@@ -245,7 +249,7 @@ impl<T> Slots<T> {
         ensures steps { self.new.steps ≡ self.old.steps }
     {
         let mut moved = from;
-        if N == 1 || size_of_item::<T>() <= 4096 / N {
+        if N == 1 || size_of_item::<T>() <= BLOCK_BYTES / N {
             while N <= len - moved {
                 self.move_block::<N>(dst, src, moved);
                 moved += N;
