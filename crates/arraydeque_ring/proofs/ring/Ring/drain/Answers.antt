@@ -30,6 +30,9 @@ take_run-requires-clause-filled g c =
     let ring = opened c.self.inside c.self.invariant c.self.view_is in
     IsFilledRun-turned ring.laid _ _ (omega arith)
 
+pub take_run-requires-clause-room : goal.take_run-requires-clause-room
+take_run-requires-clause-room g c = rw c.in_ok-drained.ensures.ok (omega arith)
+
 pub overflow_sub-self : goal.overflow_sub-self
 overflow_sub-self g c = let ring = opened c.self.inside c.self.invariant c.self.view_is in omega arith
 

@@ -37,6 +37,11 @@ returns-then-self-capacity-clause-start g c =
     let ring = opened c.self.inside c.self.invariant c.self.view_is in
     λ wraps. absurd (wraps (omega (arith, ring.laid.long, ring.laid.in_region, length_within ring.laid, ring.len, ring.start)))
 
+pub turn-slots-requires-clause-in_region : goal.turn-slots-requires-clause-in_region
+turn-slots-requires-clause-in_region g c =
+    let ring = opened c.self.inside c.self.invariant c.self.view_is in
+    rw c.moved_out.ensures.region (omega (arith, ring.laid.long, ring.laid.in_region, length_within ring.laid, ring.len))
+
 pub invariant_of-self : goal.invariant_of-self
 invariant_of-self g c = kept (after g (goal.at.invariant_of-self g c).After-replace-nothing)
 

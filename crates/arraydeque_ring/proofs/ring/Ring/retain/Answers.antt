@@ -89,3 +89,8 @@ returns-clause-no_longer g c =
     let ring = opened c.self.inside c.self.invariant c.self.view_is in
     let so_far = c.loop-index.invariant.so_far in
     omega (arith, so_far.many, (all_within so_far (omega arith)).0, ap (λ (ring : RingState g.row.T.Denot). length ring.items) (closed (after g c)))
+
+pub settle-requires-clause-filled : goal.settle-requires-clause-filled
+settle-requires-clause-filled g c =
+    let ring = opened c.self.inside c.self.invariant c.self.view_is in
+    rw c.wrap_add-place.ensures (next_filled c.loop-index.invariant.so_far (omega arith))

@@ -1,0 +1,9 @@
+use Rattle.std.proofs.Common.{◌≡◌, List, [], ◌++◌, sym, ap, ◌∙◌, arith}
+use Rattle.std.proofs.lemmas.Grind.{common_steps}
+use Rattle.std.proofs.lemmas.List.{append-nil}
+use Rattle.arraydeque.proofs.deque.ArrayDeque.into_vec.Goals as goal
+
+pub returns-clause-items : goal.returns-clause-items
+returns-clause-items g c =
+    let empty : c.loop-item.ring.items ≡ [] = grind (arith, common_steps) in
+    sym (append-nil _) ∙ ap (λ (xs : List g.row.T.Denot). c.loop-item.v.items ++ xs) (sym empty) ∙ c.loop-item.invariant.items

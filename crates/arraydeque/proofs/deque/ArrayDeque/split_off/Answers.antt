@@ -1,0 +1,21 @@
+use Rattle.std.proofs.Common.{ap, ◌∙◌}
+use Rattle.std.proofs.lemmas.Result.{MatchResult-from_err}
+use Rattle.arraydeque_ring.specs.Ring.{RingState}
+use Rattle.arraydeque.proofs.Pushed.{of_ring}
+use Rattle.arraydeque.proofs.deque.ArrayDeque.split_off.Goals as goal
+
+pub returns-in_err-ring-clause-unchanged : goal.returns-in_err-ring-clause-unchanged
+returns-in_err-ring-clause-unchanged g c =
+    MatchResult-from_err c.from_residual.result _ _ c.from_residual.ensures.0 (λ _. ap of_ring (rw c.in_err-ring.was at c.split_off.ensures.unchanged) ∙ c.self.view_is)
+
+pub returns : goal.returns
+returns g c =
+    let cut = c.in_ok-ring.ensures in
+    rw (← c.self.view_is) (record {
+      tail = ap of_ring cut.tail;
+      items = ap (λ (r : RingState g.row.T.Denot). r.items) cut.kept;
+      start = ap (λ (r : RingState g.row.T.Denot). r.start) cut.kept;
+      steps = ap (λ (r : RingState g.row.T.Denot). r.steps) cut.kept;
+      unchanged = tt;
+      refused = tt;
+    })

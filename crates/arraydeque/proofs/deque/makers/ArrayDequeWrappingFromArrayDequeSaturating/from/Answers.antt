@@ -1,0 +1,4 @@
+use Rattle.arraydeque.proofs.deque.makers.ArrayDequeWrappingFromArrayDequeSaturating.from.Goals as goal
+
+pub returns : goal.returns
+returns g c = c.deque.view_is
