@@ -108,10 +108,12 @@ fn are_alike<const CAP: usize>(
     right: &Deque<CAP>,
 ) {
     assert!(rt; *left == *right, "{left:?} with {right:?}");
-    assert_eq!(rt; left.cmp(right), Ordering::Equal, "{left:?} with {right:?}");
-    assert_eq!(rt;
-        left.partial_cmp(right),
-        Some(Ordering::Equal),
+    assert!(rt;
+        left.cmp(right) == Ordering::Equal,
+        "{left:?} with {right:?}"
+    );
+    assert!(rt;
+        left.partial_cmp(right) == Some(Ordering::Equal),
         "{left:?} with {right:?}"
     );
     assert!(rt;
@@ -124,14 +126,13 @@ fn are_alike<const CAP: usize>(
 fn are_in_order<const CAP: usize>(rt: &impl Abort, less: &Deque<CAP>, more: &Deque<CAP>) {
     assert!(rt; *less != *more, "{less:?} before {more:?}");
     assert!(rt; *more != *less, "{less:?} before {more:?}");
-    assert_eq!(rt;
-        (less.cmp(more), more.cmp(less)),
-        (Ordering::Less, Ordering::Greater),
+    assert!(rt;
+        (less.cmp(more), more.cmp(less)) == (Ordering::Less, Ordering::Greater),
         "{less:?} before {more:?}"
     );
-    assert_eq!(rt;
-        (less.partial_cmp(more), more.partial_cmp(less)),
-        (Some(Ordering::Less), Some(Ordering::Greater)),
+    assert!(rt;
+        (less.partial_cmp(more), more.partial_cmp(less))
+            == (Some(Ordering::Less), Some(Ordering::Greater)),
         "{less:?} before {more:?}"
     );
 }
@@ -203,7 +204,7 @@ fn equal_from_every_start(rt: HostRuntime) -> Result<(), Fail> {
         for start in 0..10 {
             let mut deque = deque_at::<10>(rt.alloc(), start, &list)?;
             let mut expected = deque_at::<10>(rt.alloc(), 0, &list)?;
-            assert_eq!(rt; deque, expected, "start {start}, length {len}");
+            assert!(rt; deque == expected, "start {start}, length {len}");
             if len > 2 {
                 deque.pop_front();
                 expected.pop_back();
@@ -222,11 +223,11 @@ fn the_first_pair_that_is_not_equal_decides(rt: HostRuntime) -> Result<(), Fail>
         for other_start in 0..3 {
             let left = turned::<_, 3>(rt.alloc(), start, &[known(1), unknown, known(2)])?;
             let right = turned::<_, 3>(rt.alloc(), other_start, &[known(1), unknown, known(3)])?;
-            assert_eq!(rt; left.partial_cmp(&right), None);
+            assert!(rt; left.partial_cmp(&right).is_none());
             assert!(rt; left != right);
             let left = turned::<_, 3>(rt.alloc(), start, &[known(1), unknown])?;
             let right = turned::<_, 3>(rt.alloc(), other_start, &[known(2), unknown])?;
-            assert_eq!(rt; left.partial_cmp(&right), Some(Ordering::Less));
+            assert!(rt; left.partial_cmp(&right) == Some(Ordering::Less));
             assert!(rt; left != right);
         }
     }
@@ -239,9 +240,9 @@ fn a_hasher_is_fed_the_length_and_each_item(rt: HostRuntime) -> Result<(), Fail>
         let deque = turned::<u8, 3>(rt.alloc(), start, &[1, 2, 3])?;
         let writes = writes_of(rt.alloc(), &deque);
         let expected: [&[u8]; 4] = [&[3, 0, 0, 0, 0, 0, 0, 0], &[1], &[2], &[3]];
-        assert_eq!(rt; writes.len(), 4, "start {start}");
+        assert!(rt; writes.len() == 4, "start {start}");
         for (write, bytes) in writes.iter().zip(expected) {
-            assert_eq!(rt; write.as_slice(), bytes, "start {start}");
+            assert!(rt; write.as_slice() == bytes, "start {start}");
         }
     }
     Ok(())
@@ -252,10 +253,10 @@ fn sets_and_sorts_of_deques(rt: HostRuntime) -> Result<(), Fail> {
     let mut set = HashSet::new(rt.alloc());
     for start in 0..3 {
         let is_new = set.insert(deque_at::<3>(rt.alloc(), start, &[1, 2, 3])?)?;
-        assert_eq!(rt; is_new, start == 0);
+        assert!(rt; is_new == (start == 0));
     }
     assert!(rt; set.insert(deque_at::<3>(rt.alloc(), 0, &[1, 2])?)?);
-    assert_eq!(rt; set.len(), 2);
+    assert!(rt; set.len() == 2);
     let mut ordered = BTreeSet::new(rt.alloc());
     let mut sorted = Vec::new(rt.alloc());
     let lists: [&[i64]; 4] = [&[2], &[1, 2], &[], &[1]];
@@ -264,36 +265,25 @@ fn sets_and_sorts_of_deques(rt: HostRuntime) -> Result<(), Fail> {
         sorted.push(deque_at::<4>(rt.alloc(), start, list)?)?;
     }
     sorted.sort()?;
-    assert_eq!(rt;
-        format!(in rt.alloc(); "{sorted:?}")?.as_str(),
-        "[[], [1], [1, 2], [2]]"
-    );
-    assert_eq!(rt;
-        format!(in rt.alloc(); "{ordered:?}")?.as_str(),
-        "{[], [1], [1, 2], [2]}"
-    );
+    assert!(rt; format!(in rt.alloc(); "{sorted:?}")?.as_str() == "[[], [1], [1, 2], [2]]");
+    assert!(rt; format!(in rt.alloc(); "{ordered:?}")?.as_str() == "{[], [1], [1, 2], [2]}");
     Ok(())
 }
 
 #[test]
 fn a_deque_prints_as_a_list(rt: HostRuntime) -> Result<(), Fail> {
     let mut deque = Deque::<5>::new(rt.alloc())?;
-    assert_eq!(rt; format!(in rt.alloc(); "{deque:?}")?.as_str(), "[]");
+    assert!(rt; format!(in rt.alloc(); "{deque:?}")?.as_str() == "[]");
     deque.extend_back(0..4);
-    assert_eq!(rt;
-        format!(in rt.alloc(); "{deque:?}")?.as_str(),
-        "[0, 1, 2, 3]"
-    );
+    assert!(rt; format!(in rt.alloc(); "{deque:?}")?.as_str() == "[0, 1, 2, 3]");
     for start in 0..5 {
         let deque = wrapping_at::<5>(rt.alloc(), start, &[0, 1])?;
-        assert_eq!(rt;
-            format!(in rt.alloc(); "{deque:?}")?.as_str(),
-            "[0, 1]",
+        assert!(rt;
+            format!(in rt.alloc(); "{deque:?}")?.as_str() == "[0, 1]",
             "start {start}"
         );
-        assert_eq!(rt;
-            format!(in rt.alloc(); "{deque:#?}")?.as_str(),
-            "[\n    0,\n    1,\n]",
+        assert!(rt;
+            format!(in rt.alloc(); "{deque:#?}")?.as_str() == "[\n    0,\n    1,\n]",
             "start {start}"
         );
     }
@@ -307,28 +297,18 @@ struct Silent;
 #[test]
 fn the_errors_say_what_is_wrong(rt: HostRuntime) -> Result<(), Fail> {
     let full = CapacityError { element: Silent };
-    assert_eq!(rt;
-        format!(in rt.alloc(); "{full}")?.as_str(),
-        "insufficient capacity"
-    );
-    assert_eq!(rt;
-        format!(in rt.alloc(); "{full:?}")?.as_str(),
-        "CapacityError: insufficient capacity"
+    assert!(rt; format!(in rt.alloc(); "{full}")?.as_str() == "insufficient capacity");
+    assert!(rt;
+        format!(in rt.alloc(); "{full:?}")?.as_str() == "CapacityError: insufficient capacity"
     );
     let refused = MakeError { source: Silent };
-    assert_eq!(rt;
-        format!(in rt.alloc(); "{refused}")?.as_str(),
-        "out of memory"
-    );
-    assert_eq!(rt;
-        format!(in rt.alloc(); "{refused:?}")?.as_str(),
-        "out of memory"
-    );
+    assert!(rt; format!(in rt.alloc(); "{refused}")?.as_str() == "out of memory");
+    assert!(rt; format!(in rt.alloc(); "{refused:?}")?.as_str() == "out of memory");
     let full = CapacityError { element: 1 };
     let again = full;
-    assert_eq!(rt; again, full.clone()?);
+    assert!(rt; again == full.clone()?);
     assert!(rt; full < CapacityError { element: 2 });
-    assert_eq!(rt; full.cmp(&again), Ordering::Equal);
+    assert!(rt; full.cmp(&again) == Ordering::Equal);
     Ok(())
 }
 

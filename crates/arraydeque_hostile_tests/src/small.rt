@@ -14,11 +14,11 @@ fn gives_nothing<const CAP: usize, B: Behavior>(
 ) {
     deque.linearize();
     let mut iter = deque.iter();
-    assert_eq!(rt; (iter.len(), iter.size_hint()), (0, (0, Some(0))));
-    assert_eq!(rt; (iter.next(), iter.next_back()), (None, None));
+    assert!(rt; (iter.len(), iter.size_hint()) == (0, (0, Some(0))));
+    assert!(rt; (iter.next(), iter.next_back()) == (None, None));
     let mut iter = deque.into_iter();
-    assert_eq!(rt; (iter.len(), iter.size_hint()), (0, (0, Some(0))));
-    assert_eq!(rt; (iter.next(), iter.next_back()), (None, None));
+    assert!(rt; (iter.len(), iter.size_hint()) == (0, (0, Some(0))));
+    assert!(rt; (iter.next(), iter.next_back()) == (None, None));
 }
 
 #[test]
@@ -37,8 +37,8 @@ fn equals_its_clone<const CAP: usize, B: Behavior>(
 ) -> Result<(), Fail> {
     let clone = deque.clone()?;
     assert!(rt; clone == *deque);
-    assert_eq!(rt; clone.cmp(deque), Ordering::Equal);
-    assert_eq!(rt; clone.partial_cmp(deque), Some(Ordering::Equal));
+    assert!(rt; clone.cmp(deque) == Ordering::Equal);
+    assert!(rt; clone.partial_cmp(deque) == Some(Ordering::Equal));
     Ok(())
 }
 
@@ -63,28 +63,28 @@ fn conversions_of_capacity_zero_and_one(rt: HostRuntime) -> Result<(), Fail> {
 
 /// Reads the one item, and lends it.
 fn reads_one<B: Behavior>(rt: &impl Abort, deque: &mut ArrayDeque<i64, 1, B>) {
-    assert_eq!(rt; (deque.len(), deque.capacity()), (1, 1));
-    assert_eq!(rt; (deque.is_empty(), deque.is_full()), (false, true));
-    assert_eq!(rt; (deque.front(), deque.back()), (Some(&6), Some(&6)));
-    assert_eq!(rt; (deque.get(0), deque.get(1)), (Some(&6), None));
-    assert_eq!(rt; (deque.contains(&6), deque.contains(&7)), (true, false));
+    assert!(rt; (deque.len(), deque.capacity()) == (1, 1));
+    assert!(rt; (deque.is_empty(), deque.is_full()) == (false, true));
+    assert!(rt; (deque.front(), deque.back()) == (Some(&6), Some(&6)));
+    assert!(rt; (deque.get(0), deque.get(1)) == (Some(&6), None));
+    assert!(rt; (deque.contains(&6), deque.contains(&7)) == (true, false));
     deque.linearize();
     assert!(rt; is_cut(deque, &[6], &[]));
-    assert_eq!(rt; deque.front_mut().copied(), Some(6));
-    assert_eq!(rt; deque.back_mut().copied(), Some(6));
-    assert_eq!(rt; deque.get_mut(0).copied(), Some(6));
-    assert_eq!(rt; deque.get_mut(1).copied(), None);
+    assert!(rt; deque.front_mut().copied() == Some(6));
+    assert!(rt; deque.back_mut().copied() == Some(6));
+    assert!(rt; deque.get_mut(0).copied() == Some(6));
+    assert!(rt; deque.get_mut(1).copied().is_none());
 }
 
 /// Gives the one item from either end of an iterator.
 fn gives_one<B: Behavior>(rt: &impl Abort, deque: ArrayDeque<i64, 1, B>) {
     let mut iter = deque.iter();
-    assert_eq!(rt; (iter.next_back(), iter.next()), (Some(&6), None));
+    assert!(rt; (iter.next_back(), iter.next()) == (Some(&6), None));
     let mut iter = deque.iter();
-    assert_eq!(rt; (iter.next(), iter.next_back()), (Some(&6), None));
+    assert!(rt; (iter.next(), iter.next_back()) == (Some(&6), None));
     let mut iter = deque.into_iter();
-    assert_eq!(rt; (iter.next_back(), iter.len()), (Some(6), 0));
-    assert_eq!(rt; (iter.next(), iter.next_back()), (None, None));
+    assert!(rt; (iter.next_back(), iter.len()) == (Some(6), 0));
+    assert!(rt; (iter.next(), iter.next_back()) == (None, None));
 }
 
 #[test]
@@ -140,13 +140,13 @@ fn the_item_of_one_place_goes_and_another_comes(rt: HostRuntime) -> Result<(), F
     ];
     for out in ways {
         let mut deque = deque_at::<1>(rt.alloc(), 0, &[6])?;
-        assert_eq!(rt; take_out(&mut deque, out), Some(6), "{out:?}");
-        assert_eq!(rt; deque.len(), 0, "{out:?}");
+        assert!(rt; take_out(&mut deque, out) == Some(6), "{out:?}");
+        assert!(rt; deque.len() == 0, "{out:?}");
         assert!(rt; deque.insert(0, 7).is_ok(), "{out:?}");
         assert!(rt; holds(&deque, &[7]), "{out:?}");
         let mut deque = wrapping_at::<1>(rt.alloc(), 0, &[6])?;
-        assert_eq!(rt; take_out(&mut deque, out), Some(6), "{out:?}");
-        assert_eq!(rt; deque.push_front(7), None, "{out:?}");
+        assert!(rt; take_out(&mut deque, out) == Some(6), "{out:?}");
+        assert!(rt; deque.push_front(7).is_none(), "{out:?}");
         assert!(rt; holds(&deque, &[7]), "{out:?}");
     }
     Ok(())
@@ -157,17 +157,14 @@ fn parts_of_one<B: Behavior>(
     rt: &impl Abort,
     mut deque: ArrayDeque<i64, 1, B>,
 ) -> Result<(), Fail> {
-    assert_eq!(rt; deque.len(), 1);
+    assert!(rt; deque.len() == 1);
     assert!(rt; deque.split_off(1)?.is_empty());
-    assert_eq!(rt; deque.len(), 1);
+    assert!(rt; deque.len() == 1);
     let mut rest = deque.split_off(0)?;
     assert!(rt; deque.is_empty());
-    assert_eq!(rt; rest.len(), 1);
+    assert!(rt; rest.len() == 1);
     let mut drain = rest.drain(0..1)?;
-    assert_eq!(rt;
-        (drain.len(), drain.next_back(), drain.next()),
-        (1, Some(6), None)
-    );
+    assert!(rt; (drain.len(), drain.next_back(), drain.next()) == (1, Some(6), None));
     assert!(rt; made(rest.into_vec())?.is_empty());
     Ok(())
 }
@@ -181,29 +178,14 @@ fn parts_of_one_place(rt: HostRuntime) -> Result<(), Fail> {
 #[test]
 fn one_place_is_full_at_one_item(rt: HostRuntime) -> Result<(), Fail> {
     let mut deque = deque_at::<1>(rt.alloc(), 0, &[6])?;
-    assert_eq!(rt;
-        deque.push_back(7).err().map(|refusal| refusal.element),
-        Some(7)
-    );
-    assert_eq!(rt;
-        deque.push_front(7).err().map(|refusal| refusal.element),
-        Some(7)
-    );
-    assert_eq!(rt; deque.len(), 1);
-    assert_eq!(rt;
-        deque.insert(1, 8).err().map(|refusal| refusal.element),
-        Some(8)
-    );
-    assert_eq!(rt;
-        deque.insert(0, 9).err().map(|refusal| refusal.element),
-        Some(9)
-    );
+    assert!(rt; deque.push_back(7).err().map(|refusal| refusal.element) == Some(7));
+    assert!(rt; deque.push_front(7).err().map(|refusal| refusal.element) == Some(7));
+    assert!(rt; deque.len() == 1);
+    assert!(rt; deque.insert(1, 8).err().map(|refusal| refusal.element) == Some(8));
+    assert!(rt; deque.insert(0, 9).err().map(|refusal| refusal.element) == Some(9));
     assert!(rt; holds(&deque, &[6]));
     let mut deque = wrapping_at::<1>(rt.alloc(), 0, &[6])?;
-    assert_eq!(rt;
-        (deque.push_back(7), deque.push_front(8)),
-        (Some(6), Some(7))
-    );
+    assert!(rt; (deque.push_back(7), deque.push_front(8)) == (Some(6), Some(7)));
     assert!(rt; holds(&deque, &[8]));
     Ok(())
 }
@@ -212,15 +194,12 @@ fn one_place_is_full_at_one_item(rt: HostRuntime) -> Result<(), Fail> {
 fn the_most_places_of_size_zero(rt: HostRuntime) -> Result<(), Fail> {
     let mut deque = ArrayDeque::<(), { usize::MAX }, Saturating>::new(rt.alloc())?;
     assert!(rt; deque.push_front(()).is_ok() && deque.push_back(()).is_ok());
-    assert_eq!(rt; (deque.get(1), deque.get(2)), (Some(&()), None));
-    assert_eq!(rt; deque.len(), 2);
+    assert!(rt; (deque.get(1), deque.get(2)) == (Some(&()), None));
+    assert!(rt; deque.len() == 2);
     assert!(rt; deque.insert(1, ()).is_ok());
-    assert_eq!(rt;
-        (deque.len(), deque.remove(1), deque.len()),
-        (3, Some(()), 2)
-    );
+    assert!(rt; (deque.len(), deque.remove(1), deque.len()) == (3, Some(()), 2));
     deque.linearize();
     let (first, second) = deque.as_slices();
-    assert_eq!(rt; (first.len(), second.len()), (2, 0));
+    assert!(rt; (first.len(), second.len()) == (2, 0));
     Ok(())
 }

@@ -9,16 +9,16 @@ use std::test::Fail;
 fn items_are_lent_in_order(rt: HostRuntime) -> Result<(), Fail> {
     let mut deque = deque_at::<2>(rt.alloc(), 0, &[1, 2])?;
     let mut items = deque.iter();
-    assert_eq!(rt; items.size_hint(), (2, Some(2)));
-    assert_eq!(rt; (items.next(), items.next()), (Some(&1), Some(&2)));
-    assert_eq!(rt; (items.next(), items.size_hint()), (None, (0, Some(0))));
+    assert!(rt; items.size_hint() == (2, Some(2)));
+    assert!(rt; (items.next(), items.next()) == (Some(&1), Some(&2)));
+    assert!(rt; (items.next(), items.size_hint()) == (None, (0, Some(0))));
     deque.pop_front();
     assert!(rt; deque.push_back(3).is_ok());
     let mut items = (&deque).into_iter();
-    assert_eq!(rt; items.next(), Some(&2));
+    assert!(rt; items.next() == Some(&2));
     let mut copy = items.clone()?;
-    assert_eq!(rt; (items.next(), items.next()), (Some(&3), None));
-    assert_eq!(rt; (copy.next(), copy.next()), (Some(&3), None));
+    assert!(rt; (items.next(), items.next()) == (Some(&3), None));
+    assert!(rt; (copy.next(), copy.next()) == (Some(&3), None));
     Ok(())
 }
 
@@ -26,15 +26,12 @@ fn items_are_lent_in_order(rt: HostRuntime) -> Result<(), Fail> {
 fn both_ends_meet(rt: HostRuntime) -> Result<(), Fail> {
     let deque = deque_at::<5>(rt.alloc(), 3, &[1, 2, 3, 4, 5])?;
     let mut items = deque.iter();
-    assert_eq!(rt; (items.next(), items.next_back()), (Some(&1), Some(&5)));
-    assert_eq!(rt; (items.next(), items.len()), (Some(&2), 2));
+    assert!(rt; (items.next(), items.next_back()) == (Some(&1), Some(&5)));
+    assert!(rt; (items.next(), items.len()) == (Some(&2), 2));
     let mut copy = items.clone()?;
-    assert_eq!(rt; (items.next_back(), items.next()), (Some(&4), Some(&3)));
-    assert_eq!(rt; (items.next(), items.next_back()), (None, None));
-    assert_eq!(rt;
-        (copy.len(), copy.next(), copy.next()),
-        (2, Some(&3), Some(&4))
-    );
+    assert!(rt; (items.next_back(), items.next()) == (Some(&4), Some(&3)));
+    assert!(rt; (items.next(), items.next_back()) == (None, None));
+    assert!(rt; (copy.len(), copy.next(), copy.next()) == (2, Some(&3), Some(&4)));
     Ok(())
 }
 
@@ -50,15 +47,9 @@ fn read(item: Option<&mut i64>) -> Option<i64> {
 fn items_are_lent_for_writing_in_order(rt: HostRuntime) -> Result<(), Fail> {
     let mut deque = deque_at::<2>(rt.alloc(), 0, &[1, 2])?;
     let mut items = deque.iter_mut();
-    assert_eq!(rt; items.size_hint(), (2, Some(2)));
-    assert_eq!(rt;
-        (read(items.next()), read(items.next())),
-        (Some(1), Some(2))
-    );
-    assert_eq!(rt;
-        (read(items.next()), items.size_hint()),
-        (None, (0, Some(0)))
-    );
+    assert!(rt; items.size_hint() == (2, Some(2)));
+    assert!(rt; (read(items.next()), read(items.next())) == (Some(1), Some(2)));
+    assert!(rt; (read(items.next()), items.size_hint()) == (None, (0, Some(0))));
     Ok(())
 }
 
@@ -66,9 +57,9 @@ fn items_are_lent_for_writing_in_order(rt: HostRuntime) -> Result<(), Fail> {
 fn a_loan_is_walked(rt: HostRuntime) -> Result<(), Fail> {
     let mut deque = deque_at::<2>(rt.alloc(), 1, &[2, 3])?;
     let mut items = (&mut deque).into_iter();
-    assert_eq!(rt; read(items.next()), Some(2));
-    assert_eq!(rt; read(items.next()), Some(3));
-    assert_eq!(rt; read(items.next()), None);
+    assert!(rt; read(items.next()) == Some(2));
+    assert!(rt; read(items.next()) == Some(3));
+    assert!(rt; read(items.next()).is_none());
     Ok(())
 }
 
@@ -106,10 +97,10 @@ fn last_two(alloc: Global, last: u8) -> Result<ArrayDeque<Kept, 3, Saturating>, 
 fn items_are_given_in_order(rt: HostRuntime) -> Result<(), Fail> {
     for last in 2..=4 {
         let mut items = last_two(rt.alloc(), last)?.into_iter();
-        assert_eq!(rt; items.size_hint(), (2, Some(2)));
-        assert_eq!(rt; items.next(), Some(Kept(last.wrapping_sub(1))));
-        assert_eq!(rt; items.next(), Some(Kept(last)));
-        assert_eq!(rt; (items.next(), items.size_hint()), (None, (0, Some(0))));
+        assert!(rt; items.size_hint() == (2, Some(2)));
+        assert!(rt; items.next() == Some(Kept(last.wrapping_sub(1))));
+        assert!(rt; items.next() == Some(Kept(last)));
+        assert!(rt; (items.next(), items.size_hint()) == (None, (0, Some(0))));
     }
     Ok(())
 }
@@ -253,13 +244,13 @@ fn two_items_of_size_zero(rt: HostRuntime) -> Result<(), Fail> {
     let mut deque = ArrayDeque::<(), { usize::MAX }, Saturating>::new(rt.alloc())?;
     assert!(rt; deque.push_front(()).is_ok() && deque.push_back(()).is_ok());
     let mut items = deque.iter();
-    assert_eq!(rt; (items.len(), items.next()), (2, Some(&())));
-    assert_eq!(rt; (items.next_back(), items.next()), (Some(&()), None));
+    assert!(rt; (items.len(), items.next()) == (2, Some(&())));
+    assert!(rt; (items.next_back(), items.next()) == (Some(&()), None));
     let mut items = deque.iter_mut();
-    assert_eq!(rt; (items.len(), items.next()), (2, Some(&mut ())));
-    assert_eq!(rt; (items.next_back(), items.next()), (Some(&mut ()), None));
+    assert!(rt; (items.len(), items.next()) == (2, Some(&mut ())));
+    assert!(rt; (items.next_back(), items.next()) == (Some(&mut ()), None));
     let mut items = deque.into_iter();
-    assert_eq!(rt; (items.len(), items.next()), (2, Some(())));
-    assert_eq!(rt; (items.next_back(), items.next()), (Some(()), None));
+    assert!(rt; (items.len(), items.next()) == (2, Some(())));
+    assert!(rt; (items.next_back(), items.next()) == (Some(()), None));
     Ok(())
 }

@@ -45,7 +45,7 @@ fn scans<I: Iterator<Item = i64>, const CAP: usize>(
     asked: &Cell<usize>,
     calls: &[(Call, Option<i64>, usize)],
 ) {
-    assert_eq!(rt; asked.get(), 0);
+    assert!(rt; asked.get() == 0);
     for &(call, answer, times) in calls {
         let got = match call {
             Call::Peek(k) => {
@@ -55,7 +55,7 @@ fn scans<I: Iterator<Item = i64>, const CAP: usize>(
             Call::Next => scanner.next(),
             Call::Unread(item) => scanner.unread(item).err().map(|refusal| refusal.element),
         };
-        assert_eq!(rt; (got, asked.get()), (answer, times));
+        assert!(rt; (got, asked.get()) == (answer, times));
     }
 }
 

@@ -18,9 +18,9 @@ fn capacity_of_region<T>(alloc: Global, capacity: usize) -> Result<usize, AllocE
 #[test]
 fn capacity_zero_has_no_items(rt: HostRuntime) -> Result<(), Fail> {
     let mut ring = Ring::<i64>::new(rt.alloc(), 0)?;
-    assert_eq!(rt; (ring.len(), ring.capacity(), ring.get(0)), (0, 0, None));
-    assert_eq!(rt; (ring.pop_front(), ring.pop_back()), (None, None));
-    assert_eq!(rt; capacity_of_region::<i64>(rt.alloc(), 0)?, 0);
+    assert!(rt; (ring.len(), ring.capacity(), ring.get(0)) == (0, 0, None));
+    assert!(rt; (ring.pop_front(), ring.pop_back()) == (None, None));
+    assert!(rt; capacity_of_region::<i64>(rt.alloc(), 0)? == 0);
     Ok(())
 }
 
@@ -36,17 +36,13 @@ fn hold_two<T: Copy + PartialEq + Debug>(
     let mut ring = Ring::<T>::new(alloc, capacity)?;
     ring.push_front(item);
     ring.push_back(item);
-    assert_eq!(rt; (ring.len(), ring.capacity()), (2, capacity));
+    assert!(rt; (ring.len(), ring.capacity()) == (2, capacity));
     let (first, second) = ring.as_slices();
-    assert_eq!(rt; first, [item].as_slice());
-    assert_eq!(rt; second, [item].as_slice());
-    assert_eq!(rt;
-        (ring.get(1).copied(), ring.get(2).copied()),
-        (Some(item), None)
-    );
-    assert_eq!(rt;
-        (ring.pop_front(), ring.pop_back(), ring.pop_back()),
-        (Some(item), Some(item), None)
+    assert!(rt; first == [item].as_slice());
+    assert!(rt; second == [item].as_slice());
+    assert!(rt; (ring.get(1).copied(), ring.get(2).copied()) == (Some(item), None));
+    assert!(rt;
+        (ring.pop_front(), ring.pop_back(), ring.pop_back()) == (Some(item), Some(item), None)
     );
     Ok(())
 }
@@ -57,13 +53,13 @@ fn a_ring_of_items_of_size_zero(rt: HostRuntime) -> Result<(), Fail> {
     hold_two::<[u64; 0]>(&rt, rt.alloc(), usize::MAX, [])?;
     hold_two::<[u128; 0]>(&rt, rt.alloc(), usize::MAX, [])?;
     let capacity = capacity_of_region::<()>(rt.alloc(), usize::MAX)?;
-    assert_eq!(rt; capacity, usize::MAX);
+    assert!(rt; capacity == usize::MAX);
     Ok(())
 }
 
 #[test]
 fn a_ring_of_items_of_the_largest_alignment(rt: HostRuntime) -> Result<(), Fail> {
-    assert_eq!(rt; align_of::<u128>(), 16);
+    assert!(rt; align_of::<u128>() == 16);
     hold_two::<u128>(&rt, rt.alloc(), 2, 1)?;
     hold_two::<u128>(&rt, rt.alloc(), 3, 2)
 }

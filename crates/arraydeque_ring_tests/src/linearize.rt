@@ -61,7 +61,7 @@ fn ring_comes_to_one_piece<T: Numbered>(
     }
     ring.linearize();
     let (first, second) = ring.as_slices();
-    assert_eq!(rt; second.len(), 0, "start {start}, {len} of {capacity}");
+    assert!(rt; second.len() == 0, "start {start}, {len} of {capacity}");
     assert!(rt;
         first.iter().map(T::number).eq(0..len),
         "start {start}, {len} of {capacity}"

@@ -8,14 +8,14 @@ fn a_ring_wraps(rt: HostRuntime) -> Result<(), Fail> {
     ring.push_back(2);
     ring.push_back(3);
     ring.push_front(1);
-    assert_eq!(rt; (ring.len(), ring.capacity()), (3, 3));
-    assert_eq!(rt; ring.as_slices(), ([1].as_slice(), [2, 3].as_slice()));
+    assert!(rt; (ring.len(), ring.capacity()) == (3, 3));
+    assert!(rt; ring.as_slices() == ([1].as_slice(), [2, 3].as_slice()));
     for (index, item) in [(0, Some(1)), (2, Some(3)), (3, None)] {
-        assert_eq!(rt; ring.get(index).copied(), item, "index {index}");
+        assert!(rt; ring.get(index).copied() == item, "index {index}");
     }
-    assert_eq!(rt; (ring.pop_front(), ring.pop_back()), (Some(1), Some(3)));
+    assert!(rt; (ring.pop_front(), ring.pop_back()) == (Some(1), Some(3)));
     let mut other = Ring::new(ring.alloc(), 1)?;
     other.push_front(ring.pop_back());
-    assert_eq!(rt; (ring.pop_front(), other.pop_back()), (None, Some(Some(2))));
+    assert!(rt; (ring.pop_front(), other.pop_back()) == (None, Some(Some(2))));
     Ok(())
 }

@@ -14,7 +14,7 @@ fn compare_replies(rt: &impl Abort, replies: Vec<Reply<i64, 5, Saturating>>) -> 
     assert!(rt; matches!(&replies.next(), Some(Reply::Done)));
     let left: &'static [i64] = match replies.next() {
         Some(Reply::Drained(mut drained)) => {
-            assert_eq!(rt; (drained.next(), drained.next()), (Some(1), Some(2)));
+            assert!(rt; (drained.next(), drained.next()) == (Some(1), Some(2)));
             &[3, 4]
         }
         reply => {

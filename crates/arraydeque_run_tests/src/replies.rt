@@ -58,10 +58,10 @@ fn compare<const CAP: usize, B: Behavior>(
     replies: Vec<Reply<i64, CAP, B>>,
     told: &[&str],
 ) -> Result<(), Fail> {
-    assert_eq!(rt; replies.len(), told.len());
+    assert!(rt; replies.len() == told.len());
     for (reply, expected) in replies.into_iter().zip(told) {
         let text = text_of(alloc, reply)?;
-        assert_eq!(rt; text.as_str(), *expected);
+        assert!(rt; text.as_str() == *expected);
     }
     Ok(())
 }
@@ -73,7 +73,7 @@ pub(crate) fn compare_list<const CAP: usize, B: Behavior>(
     list: &[i64],
 ) {
     for &item in list {
-        assert_eq!(rt; deque.pop_front(), Some(item));
+        assert!(rt; deque.pop_front() == Some(item));
     }
     assert!(rt; deque.is_empty());
 }

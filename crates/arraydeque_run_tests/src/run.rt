@@ -54,10 +54,10 @@ fn no_calls_have_no_replies(rt: HostRuntime) -> Result<(), Fail> {
 fn a_linearize_lays_the_list_in_one_piece(rt: HostRuntime) -> Result<(), Fail> {
     let mut deque = ArrayDeque::<i64, 4, Wrapping>::new(rt.alloc())?;
     deque.extend_back([0, 1, 2, 3, 4, 5]);
-    assert_eq!(rt; deque.as_slices().1, [4, 5].as_slice());
+    assert!(rt; deque.as_slices().1 == [4, 5].as_slice());
     let calls = vec![in rt.alloc(); Call::Linearize]?;
     let _replies = deque.run(calls).map_err(|_| "refused")?;
-    assert_eq!(rt; deque.as_slices().0, [2, 3, 4, 5].as_slice());
+    assert!(rt; deque.as_slices().0 == [2, 3, 4, 5].as_slice());
     Ok(())
 }
 

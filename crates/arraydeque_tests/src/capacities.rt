@@ -12,24 +12,18 @@ use std::test::Fail;
 fn capacity_zero_refuses(rt: HostRuntime) -> Result<(), Fail> {
     let mut deque = ArrayDeque::<i64, 0, Saturating>::new(rt.alloc())?;
     let (back, front) = (deque.push_back(5).err(), deque.push_front(6).err());
-    assert_eq!(rt; back.map(|refusal| refusal.element), Some(5));
-    assert_eq!(rt; front.map(|refusal| refusal.element), Some(6));
-    assert_eq!(rt;
-        deque.insert(0, 7).err().map(|refusal| refusal.element),
-        Some(7)
-    );
-    assert_eq!(rt; (deque.len(), deque.capacity()), (0, 0));
+    assert!(rt; back.map(|refusal| refusal.element) == Some(5));
+    assert!(rt; front.map(|refusal| refusal.element) == Some(6));
+    assert!(rt; deque.insert(0, 7).err().map(|refusal| refusal.element) == Some(7));
+    assert!(rt; (deque.len(), deque.capacity()) == (0, 0));
     Ok(())
 }
 
 #[test]
 fn capacity_zero_displaces(rt: HostRuntime) -> Result<(), Fail> {
     let mut deque = ArrayDeque::<i64, 0, Wrapping>::new(rt.alloc())?;
-    assert_eq!(rt;
-        (deque.push_back(5), deque.push_front(6)),
-        (Some(5), Some(6))
-    );
-    assert_eq!(rt; (deque.len(), deque.capacity()), (0, 0));
+    assert!(rt; (deque.push_back(5), deque.push_front(6)) == (Some(5), Some(6)));
+    assert!(rt; (deque.len(), deque.capacity()) == (0, 0));
     Ok(())
 }
 
@@ -37,16 +31,13 @@ fn reads_nothing<const CAP: usize, B: Behavior>(
     rt: &impl Abort,
     deque: &mut ArrayDeque<i64, CAP, B>,
 ) {
-    assert_eq!(rt; (deque.len(), deque.capacity()), (0, CAP));
-    assert_eq!(rt; (deque.is_empty(), deque.is_full()), (true, CAP == 0));
-    assert_eq!(rt;
-        (deque.front().copied(), deque.back().copied()),
-        (None, None)
-    );
-    assert_eq!(rt; deque.get(0).copied(), None);
-    assert_eq!(rt; deque.front_mut(), None);
-    assert_eq!(rt; deque.back_mut(), None);
-    assert_eq!(rt; deque.get_mut(0), None);
+    assert!(rt; (deque.len(), deque.capacity()) == (0, CAP));
+    assert!(rt; (deque.is_empty(), deque.is_full()) == (true, CAP == 0));
+    assert!(rt; (deque.front().copied(), deque.back().copied()) == (None, None));
+    assert!(rt; deque.get(0).copied().is_none());
+    assert!(rt; deque.front_mut().is_none());
+    assert!(rt; deque.back_mut().is_none());
+    assert!(rt; deque.get_mut(0).is_none());
     assert!(rt; !deque.contains(&1));
     assert!(rt; is_cut(deque, &[], &[]));
 }
@@ -55,21 +46,21 @@ fn takes_nothing<const CAP: usize, B: Behavior>(
     rt: &impl Abort,
     deque: &mut ArrayDeque<i64, CAP, B>,
 ) {
-    assert_eq!(rt; (deque.pop_front(), deque.pop_back()), (None, None));
-    assert_eq!(rt; (deque.remove(0), deque.swap_remove_back(0)), (None, None));
-    assert_eq!(rt; deque.swap_remove_front(0), None);
+    assert!(rt; (deque.pop_front(), deque.pop_back()) == (None, None));
+    assert!(rt; (deque.remove(0), deque.swap_remove_back(0)) == (None, None));
+    assert!(rt; deque.swap_remove_front(0).is_none());
     deque.retain(|_| true);
     deque.clear();
-    assert_eq!(rt; deque.len(), 0);
+    assert!(rt; deque.len() == 0);
 }
 
 fn parts_of_nothing<const CAP: usize, B: Behavior>(
     rt: &impl Abort,
     mut deque: ArrayDeque<i64, CAP, B>,
 ) -> Result<(), Fail> {
-    assert_eq!(rt; deque.len(), 0);
-    assert_eq!(rt; deque.drain(..)?.next(), None);
-    assert_eq!(rt; deque.len(), 0);
+    assert!(rt; deque.len() == 0);
+    assert!(rt; deque.drain(..)?.next().is_none());
+    assert!(rt; deque.len() == 0);
     assert!(rt; deque.split_off(0)?.is_empty());
     assert!(rt; made(deque.into_vec())?.is_empty());
     Ok(())
@@ -131,10 +122,10 @@ fn extends_of_capacity_one(rt: HostRuntime) -> Result<(), Fail> {
 #[test]
 fn the_one_item_of_capacity_one(rt: HostRuntime) -> Result<(), Fail> {
     let mut one = wrapping_at::<1>(rt.alloc(), 0, &[6])?;
-    assert_eq!(rt; one.len(), 1);
+    assert!(rt; one.len() == 1);
     one.swap(0, 0);
     assert!(rt; holds(&one, &[6]));
-    assert_eq!(rt; one.len(), 1);
+    assert!(rt; one.len() == 1);
     one[0] = 7;
     assert!(rt; holds(&one, &[7]));
     Ok(())
@@ -150,17 +141,11 @@ fn hold_three<T: Copy + PartialEq + Debug>(
     assert!(rt; deque.push_front(item).is_ok());
     assert!(rt; deque.push_back(item).is_ok());
     assert!(rt; deque.push_front(item).is_ok());
-    assert_eq!(rt; (deque.len(), deque.capacity()), (3, usize::MAX));
+    assert!(rt; (deque.len(), deque.capacity()) == (3, usize::MAX));
     assert!(rt; holds(&deque, &[item, item, item]));
-    assert_eq!(rt;
-        (deque.get(2).copied(), deque.get(3).copied()),
-        (Some(item), None)
-    );
-    assert_eq!(rt;
-        (deque.pop_back(), deque.pop_front()),
-        (Some(item), Some(item))
-    );
-    assert_eq!(rt; (deque.pop_back(), deque.pop_front()), (Some(item), None));
+    assert!(rt; (deque.get(2).copied(), deque.get(3).copied()) == (Some(item), None));
+    assert!(rt; (deque.pop_back(), deque.pop_front()) == (Some(item), Some(item)));
+    assert!(rt; (deque.pop_back(), deque.pop_front()) == (Some(item), None));
     Ok(())
 }
 
@@ -180,14 +165,14 @@ fn edit_two<T: Copy + PartialEq + Debug>(
     let mut deque = ArrayDeque::<T, { usize::MAX }, Saturating>::new(alloc)?;
     assert!(rt; deque.push_front(item).is_ok());
     assert!(rt; deque.push_back(item).is_ok());
-    assert_eq!(rt; deque.len(), 2);
+    assert!(rt; deque.len() == 2);
     assert!(rt; deque.insert(1, item).is_ok());
-    assert_eq!(rt; deque.len(), 3);
-    assert_eq!(rt; (deque.remove(1), deque.len()), (Some(item), 2));
+    assert!(rt; deque.len() == 3);
+    assert!(rt; (deque.remove(1), deque.len()) == (Some(item), 2));
     let rest = deque.split_off(1)?;
-    assert_eq!(rt; (deque.len(), rest.len()), (1, 1));
+    assert!(rt; (deque.len(), rest.len()) == (1, 1));
     let drain = deque.drain(0..1)?;
-    assert_eq!(rt; (drain.len(), deque.len()), (1, 0));
+    assert!(rt; (drain.len(), deque.len()) == (1, 0));
     Ok(())
 }
 

@@ -128,9 +128,8 @@ fn compare_all<const CAP: usize>(rt: &impl Abort, alloc: Global) -> Result<(), F
             for end in [End::Front, End::Back] {
                 let pushes = pushes_alike::<CAP>(alloc, start, len, end)?;
                 let pops = pops_alike::<CAP>(alloc, start, len, end)?;
-                assert_eq!(rt;
-                    (pushes, pops),
-                    (true, true),
+                assert!(rt;
+                    (pushes, pops) == (true, true),
                     "{end:?} of {CAP}, start {start}, length {len}"
                 );
             }

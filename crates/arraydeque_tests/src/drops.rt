@@ -77,10 +77,10 @@ fn a_deque_drops_its_items_front_to_back(rt: HostRuntime) -> Result<(), Fail> {
     let drops = Drops::new();
     for start in 0..4 {
         drop(deque_at::<4>(rt.alloc(), &drops, start, 4)?);
-        assert_eq!(rt; drops.since(), 1234, "start {start}");
+        assert!(rt; drops.since() == 1234, "start {start}");
     }
     drop(deque_at::<128>(rt.alloc(), &drops, 0, 2)?);
-    assert_eq!(rt; drops.since(), 12);
+    assert!(rt; drops.since() == 12);
     Ok(())
 }
 
@@ -92,13 +92,13 @@ fn pops_and_refused_pushes_drop_nothing(rt: HostRuntime) -> Result<(), Fail> {
     let refused_front = deque.push_front(drops.item(5));
     let popped_front = deque.pop_front();
     let popped_back = deque.pop_back();
-    assert_eq!(rt; drops.since(), 0);
+    assert!(rt; drops.since() == 0);
     drop(refused_front);
     drop(refused_back);
     drop(popped_back);
     drop(popped_front);
     drop(deque);
-    assert_eq!(rt; drops.since(), 54312);
+    assert!(rt; drops.since() == 54312);
     Ok(())
 }
 
@@ -108,9 +108,9 @@ fn clearing_drops_front_to_back(rt: HostRuntime) -> Result<(), Fail> {
     for start in 0..5 {
         let mut deque = deque_at::<5>(rt.alloc(), &drops, start, 5)?;
         deque.clear();
-        assert_eq!(rt; drops.since(), 12345, "start {start}");
+        assert!(rt; drops.since() == 12345, "start {start}");
         drop(deque);
-        assert_eq!(rt; drops.since(), 0, "start {start}");
+        assert!(rt; drops.since() == 0, "start {start}");
     }
     Ok(())
 }
@@ -135,10 +135,10 @@ fn retaining_drops_what_goes_once(rt: HostRuntime) -> Result<(), Fail> {
         let dropped = drops.since();
         assert!(rt; dropped < 1000, "start {start}");
         for name in [1, 3, 5] {
-            assert_eq!(rt; count_of(dropped, name), 1, "{name}, start {start}");
+            assert!(rt; count_of(dropped, name) == 1, "{name}, start {start}");
         }
         drop(deque);
-        assert_eq!(rt; drops.since(), 24, "start {start}");
+        assert!(rt; drops.since() == 24, "start {start}");
     }
     Ok(())
 }
@@ -148,11 +148,11 @@ fn displaced_items_are_dropped(rt: HostRuntime) -> Result<(), Fail> {
     let drops = Drops::new();
     let mut deque: ArrayDeque<Noted<'_>, 3, Wrapping> = deque_at(rt.alloc(), &drops, 0, 3)?.into();
     deque.extend_back(vector_of(rt.alloc(), &drops, &[4, 5])?);
-    assert_eq!(rt; drops.since(), 12);
+    assert!(rt; drops.since() == 12);
     deque.extend_front(vector_of(rt.alloc(), &drops, &[6, 7])?);
-    assert_eq!(rt; drops.since(), 54);
+    assert!(rt; drops.since() == 54);
     drop(deque);
-    assert_eq!(rt; drops.since(), 763);
+    assert!(rt; drops.since() == 763);
     Ok(())
 }
 
@@ -161,14 +161,14 @@ fn surplus_items_of_makers_are_dropped(rt: HostRuntime) -> Result<(), Fail> {
     let drops = Drops::new();
     let items = vector_of(rt.alloc(), &drops, &[1, 2, 3, 4, 5])?;
     let deque = made(ArrayDeque::<Noted<'_>, 3, Saturating>::from_vec(rt.alloc(), items))?;
-    assert_eq!(rt; drops.since(), 45);
+    assert!(rt; drops.since() == 45);
     drop(deque);
-    assert_eq!(rt; drops.since(), 123);
+    assert!(rt; drops.since() == 123);
     let items = vector_of(rt.alloc(), &drops, &[1, 2, 3, 4, 5])?;
     let deque = made(ArrayDeque::<Noted<'_>, 3, Wrapping>::from_vec(rt.alloc(), items))?;
-    assert_eq!(rt; drops.since(), 12);
+    assert!(rt; drops.since() == 12);
     drop(deque);
-    assert_eq!(rt; drops.since(), 345);
+    assert!(rt; drops.since() == 345);
     Ok(())
 }
 
@@ -177,16 +177,16 @@ fn surplus_items_of_extends_are_dropped(rt: HostRuntime) -> Result<(), Fail> {
     let drops = Drops::new();
     let mut deque = deque_at::<3>(rt.alloc(), &drops, 0, 2)?;
     deque.extend(vector_of(rt.alloc(), &drops, &[3, 4, 5])?)?;
-    assert_eq!(rt; drops.since(), 45);
+    assert!(rt; drops.since() == 45);
     let mut deque: ArrayDeque<Noted<'_>, 3, Wrapping> = deque.into();
     deque.extend(vector_of(rt.alloc(), &drops, &[6, 7])?)?;
-    assert_eq!(rt; drops.since(), 12);
+    assert!(rt; drops.since() == 12);
     let mut deque: ArrayDeque<Noted<'_>, 3, Saturating> = deque.into();
     deque.extend_back(vector_of(rt.alloc(), &drops, &[8])?);
     deque.extend_front(vector_of(rt.alloc(), &drops, &[9])?);
-    assert_eq!(rt; drops.since(), 89);
+    assert!(rt; drops.since() == 89);
     drop(deque);
-    assert_eq!(rt; drops.since(), 367);
+    assert!(rt; drops.since() == 367);
     Ok(())
 }
 
@@ -199,11 +199,11 @@ fn what_is_handed_out_is_not_dropped(rt: HostRuntime) -> Result<(), Fail> {
     let replies = made(deque.run(calls))?;
     let wrapping: ArrayDeque<Noted<'_>, 3, Wrapping> = deque.into();
     let list = made(wrapping.into_vec())?;
-    assert_eq!(rt; drops.since(), 0);
+    assert!(rt; drops.since() == 0);
     drop(removed);
     drop(replies);
     drop(list);
-    assert_eq!(rt; drops.since(), 2143);
+    assert!(rt; drops.since() == 2143);
     Ok(())
 }
 
@@ -211,13 +211,13 @@ fn what_is_handed_out_is_not_dropped(rt: HostRuntime) -> Result<(), Fail> {
 fn a_drain_drops_what_is_left(rt: HostRuntime) -> Result<(), Fail> {
     let drops = Drops::new();
     let mut deque = deque_at::<5>(rt.alloc(), &drops, 0, 4)?;
-    assert_eq!(rt; deque.len(), 4);
+    assert!(rt; deque.len() == 4);
     let drain = deque.drain(1..3)?;
-    assert_eq!(rt; drops.since(), 0);
+    assert!(rt; drops.since() == 0);
     drop(drain);
-    assert_eq!(rt; drops.since(), 23);
+    assert!(rt; drops.since() == 23);
     drop(deque);
-    assert_eq!(rt; drops.since(), 14);
+    assert!(rt; drops.since() == 14);
     Ok(())
 }
 
@@ -225,14 +225,14 @@ fn a_drain_drops_what_is_left(rt: HostRuntime) -> Result<(), Fail> {
 fn a_drain_drops_nothing_that_it_gave(rt: HostRuntime) -> Result<(), Fail> {
     let drops = Drops::new();
     let mut deque = deque_at::<5>(rt.alloc(), &drops, 0, 5)?;
-    assert_eq!(rt; deque.len(), 5);
+    assert!(rt; deque.len() == 5);
     let mut drain = deque.drain(1..4)?;
     let last = drain.next_back();
     drop(drain);
-    assert_eq!(rt; drops.since(), 23);
+    assert!(rt; drops.since() == 23);
     drop(last);
     drop(deque);
-    assert_eq!(rt; drops.since(), 415);
+    assert!(rt; drops.since() == 415);
     Ok(())
 }
 
@@ -242,12 +242,12 @@ fn an_iterator_by_value_drops_what_is_left(rt: HostRuntime) -> Result<(), Fail> 
     for start in 0..5 {
         let mut items = deque_at::<5>(rt.alloc(), &drops, start, 5)?.into_iter();
         let (first, last) = (items.next(), items.next_back());
-        assert_eq!(rt; drops.since(), 0, "start {start}");
+        assert!(rt; drops.since() == 0, "start {start}");
         drop(items);
-        assert_eq!(rt; drops.since(), 234, "start {start}");
+        assert!(rt; drops.since() == 234, "start {start}");
         drop(last);
         drop(first);
-        assert_eq!(rt; drops.since(), 51, "start {start}");
+        assert!(rt; drops.since() == 51, "start {start}");
     }
     Ok(())
 }
@@ -263,13 +263,13 @@ fn vectors_in_a_deque_drop_their_items(rt: HostRuntime) -> Result<(), Fail> {
     }
     let surplus = vector_of(rt.alloc(), &drops, &[4])?;
     assert!(rt; deque.push_back(surplus).is_err());
-    assert_eq!(rt; drops.since(), 4);
+    assert!(rt; drops.since() == 4);
     drop(deque.pop_back());
-    assert_eq!(rt; drops.since(), 0);
+    assert!(rt; drops.since() == 0);
     drop(deque.pop_back());
-    assert_eq!(rt; drops.since(), 23);
+    assert!(rt; drops.since() == 23);
     drop(deque);
-    assert_eq!(rt; drops.since(), 1);
+    assert!(rt; drops.since() == 1);
     Ok(())
 }
 

@@ -49,7 +49,7 @@ fn vectors_of_deques(rt: HostRuntime) -> Result<(), Fail> {
             let items = numbers(rt.alloc(), len)?;
             let deque = deque_at::<4>(rt.alloc(), start, &items)?;
             let list = made(deque.into_vec())?;
-            assert_eq!(rt; list, items, "start {start}, length {len}");
+            assert!(rt; list == items, "start {start}, length {len}");
         }
     }
     Ok(())
@@ -64,9 +64,9 @@ fn conversions_keep_the_list(rt: HostRuntime) -> Result<(), Fail> {
     let mut saturating: ArrayDeque<i64, 3, Saturating> = wrapping.into();
     assert!(rt; holds(&saturating, &[2, 3, 4]));
     let refused = saturating.push_back(5).err();
-    assert_eq!(rt; refused.map(|refusal| refusal.element), Some(5));
+    assert!(rt; refused.map(|refusal| refusal.element) == Some(5));
     let list = made(saturating.into_vec())?;
-    assert_eq!(rt; list.as_slice(), [2, 3, 4].as_slice());
+    assert!(rt; list.as_slice() == [2, 3, 4].as_slice());
     Ok(())
 }
 
@@ -75,10 +75,7 @@ fn conversions_keep_the_start(rt: HostRuntime) -> Result<(), Fail> {
     let saturating = deque_at::<3>(rt.alloc(), 2, &[1, 2])?;
     let mut wrapping: ArrayDeque<i64, 3, Wrapping> = saturating.into();
     assert!(rt; is_cut(&wrapping, &[1], &[2]));
-    assert_eq!(rt;
-        (wrapping.push_back(3), wrapping.push_back(4)),
-        (None, Some(1))
-    );
+    assert!(rt; (wrapping.push_back(3), wrapping.push_back(4)) == (None, Some(1)));
     assert!(rt; holds(&wrapping, &[2, 3, 4]));
     Ok(())
 }

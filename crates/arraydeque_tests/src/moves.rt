@@ -29,7 +29,7 @@ fn edit_in_turn<const CAP: usize>(
             }
             Edit::Remove(index) => deque.remove(index),
         };
-        assert_eq!(rt; given, answer, "{edit:?}");
+        assert!(rt; given == answer, "{edit:?}");
         assert!(rt; holds(&deque, left), "{edit:?}");
     }
 }
@@ -137,9 +137,8 @@ fn compare_all<const CAP: usize>(rt: &impl Abort, alloc: Global) -> Result<(), F
             for index in 0..=len {
                 let inserts = inserts_alike::<CAP>(alloc, start, len, index)?;
                 let removes = removes_alike::<CAP>(alloc, start, len, index)?;
-                assert_eq!(rt;
-                    (inserts, removes),
-                    (true, true),
+                assert!(rt;
+                    (inserts, removes) == (true, true),
                     "index {index} of {CAP}, start {start}, length {len}"
                 );
             }

@@ -44,7 +44,7 @@ fn compare_drain<const CAP: usize, R: RangeArgument<usize> + Drop>(
     };
     assert!(rt; start <= end && end <= deque.len());
     let drained: Vec<i64> = deque.drain(range)?.collect(alloc)?;
-    assert_eq!(rt; drained.as_slice(), gone);
+    assert!(rt; drained.as_slice() == gone);
     assert!(rt; holds(&deque, left));
     Ok(())
 }
@@ -117,9 +117,9 @@ fn three_of_eight(rt: HostRuntime) -> Result<(), Fail> {
 fn a_drain_may_be_dropped_early(rt: HostRuntime) -> Result<(), Fail> {
     for start in 0..8 {
         let mut deque = deque_at::<8>(rt.alloc(), start, &[0, 1, 2, 3, 4, 5, 6, 7])?;
-        assert_eq!(rt; deque.len(), 8);
+        assert!(rt; deque.len() == 8);
         let mut drain = deque.drain(2..5)?;
-        assert_eq!(rt; drain.next_back(), Some(4), "start {start}");
+        assert!(rt; drain.next_back() == Some(4), "start {start}");
         drop(drain);
         assert!(rt; holds(&deque, &[0, 1, 5, 6, 7]), "start {start}");
     }
@@ -138,8 +138,8 @@ fn a_drain_gives_from_both_ends(rt: HostRuntime) -> Result<(), Fail> {
         (0, None, None),
     ];
     for (len, first, last) in rows {
-        assert_eq!(rt; (drain.len(), drain.size_hint()), (len, (len, Some(len))));
-        assert_eq!(rt; (drain.next(), drain.next_back()), (first, last));
+        assert!(rt; (drain.len(), drain.size_hint()) == (len, (len, Some(len))));
+        assert!(rt; (drain.next(), drain.next_back()) == (first, last));
     }
     Ok(())
 }

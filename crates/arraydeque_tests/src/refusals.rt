@@ -14,11 +14,11 @@ use std::test::Fail;
 fn a_refused_iterator_comes_back(rt: HostRuntime) -> Result<(), Fail> {
     match ArrayDeque::<i64, 3, Saturating>::from_iter(rt.alloc(), 1..5) {
         Ok(deque) => assert!(rt; holds(&deque, &[1, 2, 3])),
-        Err(mut refusal) => assert_eq!(rt; refusal.source.next(), Some(1)),
+        Err(mut refusal) => assert!(rt; refusal.source.next() == Some(1)),
     }
     match ArrayDeque::<i64, 3, Wrapping>::from_iter(rt.alloc(), 1..5) {
         Ok(deque) => assert!(rt; holds(&deque, &[2, 3, 4])),
-        Err(mut refusal) => assert_eq!(rt; refusal.source.next(), Some(1)),
+        Err(mut refusal) => assert!(rt; refusal.source.next() == Some(1)),
     }
     Ok(())
 }
@@ -27,11 +27,11 @@ fn a_refused_iterator_comes_back(rt: HostRuntime) -> Result<(), Fail> {
 fn a_refused_array_comes_back(rt: HostRuntime) -> Result<(), Fail> {
     match ArrayDeque::<i64, 3, Saturating>::from_array(rt.alloc(), [1, 2, 3, 4]) {
         Ok(deque) => assert!(rt; holds(&deque, &[1, 2, 3])),
-        Err(refusal) => assert_eq!(rt; refusal.source, [1, 2, 3, 4]),
+        Err(refusal) => assert!(rt; refusal.source == [1, 2, 3, 4]),
     }
     match ArrayDeque::<i64, 3, Wrapping>::from_array(rt.alloc(), [1, 2, 3, 4]) {
         Ok(deque) => assert!(rt; holds(&deque, &[2, 3, 4])),
-        Err(refusal) => assert_eq!(rt; refusal.source, [1, 2, 3, 4]),
+        Err(refusal) => assert!(rt; refusal.source == [1, 2, 3, 4]),
     }
     Ok(())
 }
@@ -41,12 +41,12 @@ fn a_refused_vector_comes_back(rt: HostRuntime) -> Result<(), Fail> {
     let list = vec![in rt.alloc(); 1, 2, 3, 4]?;
     match ArrayDeque::<i64, 3, Saturating>::from_vec(rt.alloc(), list) {
         Ok(deque) => assert!(rt; holds(&deque, &[1, 2, 3])),
-        Err(refusal) => assert_eq!(rt; refusal.source.as_slice(), [1, 2, 3, 4].as_slice()),
+        Err(refusal) => assert!(rt; refusal.source.as_slice() == [1, 2, 3, 4].as_slice()),
     }
     let list = vec![in rt.alloc(); 1, 2, 3, 4]?;
     match ArrayDeque::<i64, 3, Wrapping>::from_vec(rt.alloc(), list) {
         Ok(deque) => assert!(rt; holds(&deque, &[2, 3, 4])),
-        Err(refusal) => assert_eq!(rt; refusal.source.as_slice(), [1, 2, 3, 4].as_slice()),
+        Err(refusal) => assert!(rt; refusal.source.as_slice() == [1, 2, 3, 4].as_slice()),
     }
     Ok(())
 }
@@ -55,7 +55,7 @@ fn a_refused_vector_comes_back(rt: HostRuntime) -> Result<(), Fail> {
 fn a_refused_deque_comes_back(rt: HostRuntime) -> Result<(), Fail> {
     let deque = deque_at::<3>(rt.alloc(), 2, &[2, 3, 4])?;
     match deque.into_vec() {
-        Ok(list) => assert_eq!(rt; list.as_slice(), [2, 3, 4].as_slice()),
+        Ok(list) => assert!(rt; list.as_slice() == [2, 3, 4].as_slice()),
         Err(refusal) => assert!(rt; holds(&refusal.source, &[2, 3, 4])),
     }
     Ok(())
@@ -64,7 +64,7 @@ fn a_refused_deque_comes_back(rt: HostRuntime) -> Result<(), Fail> {
 #[test]
 fn a_refused_split_leaves_the_list(rt: HostRuntime) -> Result<(), Fail> {
     let mut deque = deque_at::<3>(rt.alloc(), 2, &[0, 1, 2])?;
-    assert_eq!(rt; deque.len(), 3);
+    assert!(rt; deque.len() == 3);
     match deque.split_off(1) {
         Ok(rest) => {
             assert!(rt; holds(&rest, &[1, 2]));
@@ -78,10 +78,10 @@ fn a_refused_split_leaves_the_list(rt: HostRuntime) -> Result<(), Fail> {
 #[test]
 fn a_refused_drain_leaves_the_list(rt: HostRuntime) -> Result<(), Fail> {
     let mut deque = deque_at::<4>(rt.alloc(), 3, &[0, 1, 2, 3])?;
-    assert_eq!(rt; deque.len(), 4);
+    assert!(rt; deque.len() == 4);
     match deque.drain(1..3) {
         Ok(mut drain) => {
-            assert_eq!(rt; (drain.next(), drain.next()), (Some(1), Some(2)));
+            assert!(rt; (drain.next(), drain.next()) == (Some(1), Some(2)));
             assert!(rt; holds(&deque, &[0, 3]));
         }
         Err(_) => assert!(rt; holds(&deque, &[0, 1, 2, 3])),
@@ -92,13 +92,10 @@ fn a_refused_drain_leaves_the_list(rt: HostRuntime) -> Result<(), Fail> {
 #[test]
 fn a_refused_scanner_gives_its_iterator_back(rt: HostRuntime) -> Result<(), Fail> {
     match Scanner::<Script<'_>, 2>::new(rt.alloc(), Script::of(&[Some(1)])) {
-        Ok(mut scanner) => assert_eq!(rt; (scanner.next(), scanner.next()), (Some(1), None)),
+        Ok(mut scanner) => assert!(rt; (scanner.next(), scanner.next()) == (Some(1), None)),
         Err(mut refusal) => {
-            assert_eq!(rt; refusal.source.asked, 0);
-            assert_eq!(rt;
-                (refusal.source.next(), refusal.source.next()),
-                (Some(1), None)
-            );
+            assert!(rt; refusal.source.asked == 0);
+            assert!(rt; (refusal.source.next(), refusal.source.next()) == (Some(1), None));
         }
     }
     Ok(())
@@ -110,14 +107,14 @@ fn a_refused_scanner_gives_its_iterator_back(rt: HostRuntime) -> Result<(), Fail
 fn a_scanner_reads_on_without_memory(rt: HostRuntime) -> Result<(), Fail> {
     let input = [Some(1), Some(2), Some(3)];
     let mut scanner = Scanner::<_, 2>::new(rt.alloc(), Script::of(&input)).map_err(|_| AllocError)?;
-    assert_eq!(rt; scanner.peek(1), Some(&2));
-    assert_eq!(rt; scanner.next(), Some(1));
+    assert!(rt; scanner.peek(1) == Some(&2));
+    assert!(rt; scanner.next() == Some(1));
     assert!(rt; scanner.unread(9).is_ok());
     assert!(rt; scanner.unread(8).is_err());
-    assert_eq!(rt; (scanner.next(), scanner.next()), (Some(9), Some(2)));
-    assert_eq!(rt; (scanner.next(), scanner.next()), (Some(3), None));
+    assert!(rt; (scanner.next(), scanner.next()) == (Some(9), Some(2)));
+    assert!(rt; (scanner.next(), scanner.next()) == (Some(3), None));
     let mut scanner = Scanner::<_, 0>::new(rt.alloc(), Script::of(&input)).map_err(|_| "refused")?;
-    assert_eq!(rt; scanner.next(), Some(1));
+    assert!(rt; scanner.next() == Some(1));
     assert!(rt; scanner.unread(9).is_err());
     Ok(())
 }

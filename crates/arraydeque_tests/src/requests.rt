@@ -9,10 +9,10 @@ fn both_ends_1_request_32_bytes(rt: HostRuntime) -> Result<(), Fail> {
     let mut deque = ArrayDeque::<i64, 4, Saturating>::new(rt.alloc())?;
     assert!(rt; deque.push_back(1).is_ok());
     assert!(rt; deque.push_front(0).is_ok());
-    assert_eq!(rt; (deque.len(), deque.capacity()), (2, 4));
-    assert_eq!(rt; (deque.is_empty(), deque.is_full()), (false, false));
-    assert_eq!(rt; (deque.pop_front(), deque.pop_back()), (Some(0), Some(1)));
-    assert_eq!(rt; (deque.pop_front(), deque.pop_back()), (None, None));
+    assert!(rt; (deque.len(), deque.capacity()) == (2, 4));
+    assert!(rt; (deque.is_empty(), deque.is_full()) == (false, false));
+    assert!(rt; (deque.pop_front(), deque.pop_back()) == (Some(0), Some(1)));
+    assert!(rt; (deque.pop_front(), deque.pop_back()) == (None, None));
     Ok(())
 }
 
@@ -20,24 +20,21 @@ fn both_ends_1_request_32_bytes(rt: HostRuntime) -> Result<(), Fail> {
 fn both_ends_of_a_wrapping_deque_1_request_32_bytes(rt: HostRuntime) -> Result<(), Fail> {
     let mut deque = ArrayDeque::<i64, 4, Wrapping>::new(rt.alloc())?;
     for item in 0..4 {
-        assert_eq!(rt; deque.push_back(item), None);
+        assert!(rt; deque.push_back(item).is_none());
     }
-    assert_eq!(rt;
-        (deque.push_back(4), deque.push_front(0)),
-        (Some(0), Some(4))
-    );
-    assert_eq!(rt; (deque.pop_front(), deque.pop_back()), (Some(0), Some(3)));
+    assert!(rt; (deque.push_back(4), deque.push_front(0)) == (Some(0), Some(4)));
+    assert!(rt; (deque.pop_front(), deque.pop_back()) == (Some(0), Some(3)));
     Ok(())
 }
 
 #[test]
 fn reads_1_request_32_bytes(rt: HostRuntime) -> Result<(), Fail> {
     let deque = deque_at::<4>(rt.alloc(), 2, &[0, 5, 1])?;
-    assert_eq!(rt; (deque.front(), deque.back()), (Some(&0), Some(&1)));
-    assert_eq!(rt; (deque.get(1), deque.get(3)), (Some(&5), None));
-    assert_eq!(rt; (deque.contains(&5), deque.contains(&6)), (true, false));
-    assert_eq!(rt; deque.len(), 3);
-    assert_eq!(rt; deque[1], 5);
+    assert!(rt; (deque.front(), deque.back()) == (Some(&0), Some(&1)));
+    assert!(rt; (deque.get(1), deque.get(3)) == (Some(&5), None));
+    assert!(rt; (deque.contains(&5), deque.contains(&6)) == (true, false));
+    assert!(rt; deque.len() == 3);
+    assert!(rt; deque[1] == 5);
     assert!(rt; holds(&deque, &[0, 5, 1]));
     Ok(())
 }
@@ -48,7 +45,7 @@ fn writes_1_request_32_bytes(rt: HostRuntime) -> Result<(), Fail> {
     *deque.front_mut().ok_or("no item")? = 7;
     *deque.back_mut().ok_or("no item")? = 8;
     *deque.get_mut(1).ok_or("no item")? = 9;
-    assert_eq!(rt; deque.len(), 4);
+    assert!(rt; deque.len() == 4);
     deque[2] = 6;
     assert!(rt; holds(&deque, &[7, 9, 6, 8]));
     Ok(())
@@ -57,19 +54,13 @@ fn writes_1_request_32_bytes(rt: HostRuntime) -> Result<(), Fail> {
 #[test]
 fn moves_and_swaps_1_request_32_bytes(rt: HostRuntime) -> Result<(), Fail> {
     let mut deque = deque_at::<4>(rt.alloc(), 2, &[7, 6, 8])?;
-    assert_eq!(rt; deque.len(), 3);
+    assert!(rt; deque.len() == 3);
     assert!(rt; deque.insert(1, 9).is_ok());
-    assert_eq!(rt; deque.len(), 4);
+    assert!(rt; deque.len() == 4);
     deque.swap(0, 3);
     assert!(rt; holds(&deque, &[8, 9, 6, 7]));
-    assert_eq!(rt;
-        (deque.remove(1), deque.swap_remove_back(0)),
-        (Some(9), Some(8))
-    );
-    assert_eq!(rt;
-        (deque.swap_remove_front(1), deque.pop_front()),
-        (Some(6), Some(7))
-    );
+    assert!(rt; (deque.remove(1), deque.swap_remove_back(0)) == (Some(9), Some(8)));
+    assert!(rt; (deque.swap_remove_front(1), deque.pop_front()) == (Some(6), Some(7)));
     Ok(())
 }
 
@@ -102,8 +93,8 @@ fn extends_1_request_32_bytes(rt: HostRuntime) -> Result<(), Fail> {
 #[test]
 fn nothing_to_hand_out_1_request_32_bytes(rt: HostRuntime) -> Result<(), Fail> {
     let mut deque = deque_at::<4>(rt.alloc(), 2, &[1, 2])?;
-    assert_eq!(rt; deque.len(), 2);
-    assert_eq!(rt; deque.drain(1..1)?.next(), None);
+    assert!(rt; deque.len() == 2);
+    assert!(rt; deque.drain(1..1)?.next().is_none());
     let replies = made(deque.run(Vec::new(rt.alloc())))?;
     assert!(rt; replies.is_empty());
     deque.clear();
@@ -115,7 +106,7 @@ fn nothing_to_hand_out_1_request_32_bytes(rt: HostRuntime) -> Result<(), Fail> {
 fn capacity_zero_0_requests_0_bytes(rt: HostRuntime) -> Result<(), Fail> {
     let mut deque = ArrayDeque::<i64, 0, Saturating>::new(rt.alloc())?;
     assert!(rt; deque.split_off(0)?.is_empty());
-    assert_eq!(rt; deque.drain(..)?.next(), None);
+    assert!(rt; deque.drain(..)?.next().is_none());
     assert!(rt; made(deque.into_vec())?.is_empty());
     Ok(())
 }
@@ -135,10 +126,10 @@ fn makers_of_capacity_zero_0_requests_0_bytes(rt: HostRuntime) -> Result<(), Fai
 fn items_of_size_zero_0_requests_0_bytes(rt: HostRuntime) -> Result<(), Fail> {
     let mut deque = ArrayDeque::<(), 3, Wrapping>::new(rt.alloc())?;
     deque.extend_back([(), (), ()]);
-    assert_eq!(rt; deque.len(), 3);
-    assert_eq!(rt; deque.drain(1..2)?.len(), 1);
-    assert_eq!(rt; deque.len(), 2);
-    assert_eq!(rt; deque.split_off(1)?.len(), 1);
+    assert!(rt; deque.len() == 3);
+    assert!(rt; deque.drain(1..2)?.len() == 1);
+    assert!(rt; deque.len() == 2);
+    assert!(rt; deque.split_off(1)?.len() == 1);
     Ok(())
 }
 
@@ -167,7 +158,7 @@ fn a_deque_of_a_vector_2_requests_72_bytes(rt: HostRuntime) -> Result<(), Fail> 
 fn a_vector_of_a_deque_2_requests_56_bytes(rt: HostRuntime) -> Result<(), Fail> {
     let deque = deque_at::<4>(rt.alloc(), 2, &[1, 2, 3])?;
     let list = made(deque.into_vec())?;
-    assert_eq!(rt; list.as_slice(), [1, 2, 3].as_slice());
+    assert!(rt; list.as_slice() == [1, 2, 3].as_slice());
     Ok(())
 }
 
@@ -175,9 +166,9 @@ fn a_vector_of_a_deque_2_requests_56_bytes(rt: HostRuntime) -> Result<(), Fail> 
 #[test]
 fn a_drain_2_requests_48_bytes(rt: HostRuntime) -> Result<(), Fail> {
     let mut deque = deque_at::<4>(rt.alloc(), 2, &[0, 1, 2, 3])?;
-    assert_eq!(rt; deque.len(), 4);
+    assert!(rt; deque.len() == 4);
     let drained = deque.drain(1..3)?;
-    assert_eq!(rt; drained.len(), 2);
+    assert!(rt; drained.len() == 2);
     assert!(rt; holds(&deque, &[0, 3]));
     Ok(())
 }
@@ -186,7 +177,7 @@ fn a_drain_2_requests_48_bytes(rt: HostRuntime) -> Result<(), Fail> {
 #[test]
 fn a_split_2_requests_64_bytes(rt: HostRuntime) -> Result<(), Fail> {
     let mut deque = deque_at::<4>(rt.alloc(), 2, &[0, 1, 2])?;
-    assert_eq!(rt; deque.len(), 3);
+    assert!(rt; deque.len() == 3);
     let rest = deque.split_off(1)?;
     assert!(rt; holds(&deque, &[0]) && holds(&rest, &[1, 2]));
     Ok(())

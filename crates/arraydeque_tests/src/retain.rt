@@ -8,7 +8,7 @@ fn retain_keeps_what_the_closure_wants(rt: HostRuntime) -> Result<(), Fail> {
     for start in 0..10 {
         let mut deque = deque_at::<10>(rt.alloc(), start, &[0, 1, 2, 3, 4, 5, 6, 7, 8, 9])?;
         deque.retain(|item| item % 2 == 0);
-        assert_eq!(rt; deque.len(), 5);
+        assert!(rt; deque.len() == 5);
         assert!(rt; holds(&deque, &[0, 2, 4, 6, 8]), "start {start}");
     }
     let mut deque = deque_at::<4>(rt.alloc(), 0, &[0, 1, 2, 3])?;
@@ -27,7 +27,7 @@ fn retain_keeps_every_second_call(rt: HostRuntime) -> Result<(), Fail> {
         calls = calls.wrapping_add(1);
         calls % 2 == 1
     });
-    assert_eq!(rt; calls, 4);
+    assert!(rt; calls == 4);
     assert!(rt; holds(&deque, &[0, 2]));
     Ok(())
 }
@@ -78,9 +78,8 @@ fn retain_asks_once_at_each_item_in_order(rt: HostRuntime) -> Result<(), Fail> {
     for start in 0..4 {
         for (items, digits) in rows {
             for mask in 0..16 {
-                assert_eq!(rt;
-                    retain_masked(rt.alloc(), start, items, mask)?,
-                    (digits, masked(items, mask)),
+                assert!(rt;
+                    retain_masked(rt.alloc(), start, items, mask)? == (digits, masked(items, mask)),
                     "mask {mask} of {items:?}, start {start}"
                 );
             }

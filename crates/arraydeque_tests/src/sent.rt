@@ -89,7 +89,7 @@ fn deques_cross_threads(rt: HostRuntime) -> Result<(), Fail> {
     deque.push_back(2);
     assert!(rt; holds(deque_shared(&deque), &[1, 2]));
     let drain = drain_sent(deque.drain(1..)?);
-    assert_eq!(rt; drain_shared(&drain).len(), 1);
+    assert!(rt; drain_shared(&drain).len() == 1);
     Ok(())
 }
 
@@ -97,12 +97,9 @@ fn deques_cross_threads(rt: HostRuntime) -> Result<(), Fail> {
 fn iterators_cross_threads(rt: HostRuntime) -> Result<(), Fail> {
     let mut deque: ArrayDeque<u64, 2, Saturating> = ArrayDeque::new(rt.alloc())?;
     deque.push_back(1).map_err(|_| "no room")?;
-    assert_eq!(rt; iter_shared(&iter_sent(deque.iter())).len(), 1);
-    assert_eq!(rt; iter_mut_shared(&iter_mut_sent(deque.iter_mut())).len(), 1);
-    assert_eq!(rt;
-        into_iter_shared(&into_iter_sent(deque.into_iter())).len(),
-        1
-    );
+    assert!(rt; iter_shared(&iter_sent(deque.iter())).len() == 1);
+    assert!(rt; iter_mut_shared(&iter_mut_sent(deque.iter_mut())).len() == 1);
+    assert!(rt; into_iter_shared(&into_iter_sent(deque.into_iter())).len() == 1);
     Ok(())
 }
 
@@ -110,6 +107,6 @@ fn iterators_cross_threads(rt: HostRuntime) -> Result<(), Fail> {
 fn errors_cross_threads(rt: HostRuntime) -> Result<(), Fail> {
     let (full, refused) = errors_sent(CapacityError { element: 1_u64 }, MakeError { source: 2 });
     let (full, refused) = errors_shared(&full, &refused);
-    assert_eq!(rt; (full.element, refused.source), (1, 2));
+    assert!(rt; (full.element, refused.source) == (1, 2));
     Ok(())
 }

@@ -74,7 +74,7 @@ pub(crate) fn walk<const CAP: usize>(
             Step::Push(end, item) => push(&mut deque, end, item),
             Step::Pop(end) => pop(&mut deque, end),
         };
-        assert_eq!(rt; given, answer, "{step:?}");
+        assert!(rt; given == answer, "{step:?}");
         assert!(rt; has_length(&deque, len), "{step:?}");
     }
     assert!(rt; holds(&deque, left));
@@ -92,7 +92,7 @@ pub(crate) fn walk_wrapping<const CAP: usize>(
             Step::Push(end, item) => displace(&mut deque, end, item),
             Step::Pop(end) => pop(&mut deque, end),
         };
-        assert_eq!(rt; given, answer, "{step:?}");
+        assert!(rt; given == answer, "{step:?}");
         assert!(rt; has_length(&deque, len), "{step:?}");
     }
     assert!(rt; holds(&deque, left));

@@ -21,8 +21,8 @@ fn comparisons_and_hashes_ask_for_no_memory(rt: HostRuntime) -> Result<(), Fail>
     let deque = deque_at::<3>(rt.alloc(), 1, &[1, 2, 3])?;
     let other = deque_at::<3>(rt.alloc(), 2, &[1, 2, 4])?;
     assert!(rt; deque != other);
-    assert_eq!(rt; deque.cmp(&other), Ordering::Less);
-    assert_eq!(rt; other.partial_cmp(&deque), Some(Ordering::Greater));
+    assert!(rt; deque.cmp(&other) == Ordering::Less);
+    assert!(rt; other.partial_cmp(&deque) == Some(Ordering::Greater));
     let mut state = DefaultHasher::new();
     let mut other_state = DefaultHasher::new();
     deque.hash(&mut state);
@@ -35,6 +35,6 @@ fn comparisons_and_hashes_ask_for_no_memory(rt: HostRuntime) -> Result<(), Fail>
 #[test]
 fn a_clone_of_capacity_zero_asks_for_no_memory(rt: HostRuntime) -> Result<(), Fail> {
     let deque = ArrayDeque::<i64, 0, Saturating>::new(rt.alloc())?;
-    assert_eq!(rt; deque.clone()?, deque);
+    assert!(rt; deque.clone()? == deque);
     Ok(())
 }
