@@ -1,0 +1,19 @@
+use Rattle.std.proofs.Common.{◌≡◌, ◌<◌, All, length}
+use Rattle.std.specs.Iterator.{IsFinite, size}
+use Rattle.arraydeque.specs.Lookahead.{TakesOff, left_of}
+use Rattle.uses.specs.Tokens.{kind_of}
+use Rattle.uses.specs.declared.tokens.Kind.TheVariants.{Sign}
+use Rattle.uses.proofs.tokens.next_token.Given as goal
+
+abbrev pub invariant-loop-byte : goal.invariant-loop-byte
+invariant-loop-byte g l = record {
+  taken : TakesOff g.I.Iterator.next_gives l.fn.scanner l.text.items l.scanner;
+  some : 0 < length l.text.items;
+  one_kind : All (λ byte. kind_of byte ≡ l.kind) l.text.items;
+  signs : l.kind ≡ Sign → length l.text.items ≡ 1;
+  finite : IsFinite (left_of g.I.Iterator.remaining l.scanner);
+  goes : size (left_of g.I.Iterator.remaining l.scanner) < size (left_of g.I.Iterator.remaining l.fn.scanner);
+}
+
+abbrev pub decreases-loop-byte : goal.decreases-loop-byte
+decreases-loop-byte g l = size (left_of g.I.Iterator.remaining l.scanner)

@@ -1,0 +1,20 @@
+use Rattle.std.proofs.Common.{[], ◌∷◌, append-nil, arith}
+use Rattle.std.proofs.lemmas.Grind.{common_steps, flat_map-append}
+use Rattle.uses.specs.Tokens.{joined}
+use Rattle.uses.proofs.Taken.{TakesOff-append}
+use Rattle.uses.proofs.tokens.tokenize.Goals as goal
+
+pub loop-tokens-preserved : goal.loop-tokens-preserved
+loop-tokens-preserved g c =
+    let token = rw c.in-Some.is at c.in_ok-token.ensures.taken in
+    record {
+      taken = rw (c.in_ok-push.ensures.items, flat_map-append) (TakesOff-append g.I.Iterator.next_gives c.args.scanner.now c.loop-tokens.scanner c.next_token.new.scanner (joined c.loop-tokens.tokens.items) (joined (c.in-Some.token ∷ [])) c.loop-tokens.invariant.taken token);
+      one_kind = grind (arith, common_steps);
+      signs = grind (arith, common_steps);
+      finite = grind (arith, common_steps);
+    }
+
+pub returns-clause-joined : goal.returns-clause-joined
+returns-clause-joined g c =
+    let over = rw c.in_default.is at c.in_ok-token.ensures.over in
+    rw append-nil at (c.loop-tokens.invariant.taken [] over)

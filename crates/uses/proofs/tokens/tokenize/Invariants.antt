@@ -1,0 +1,16 @@
+use Rattle.std.proofs.Common.{All}
+use Rattle.std.specs.Iterator.{IsFinite, size}
+use Rattle.arraydeque.specs.Lookahead.{TakesOff, left_of}
+use Rattle.uses.specs.Tokens.{joined, IsOfOneKind, IsOneByteIfSign}
+use Rattle.uses.proofs.tokens.tokenize.Given as goal
+
+abbrev pub invariant-loop-tokens : goal.invariant-loop-tokens
+invariant-loop-tokens g l = record {
+  taken : TakesOff g.I.Iterator.next_gives l.fn.scanner (joined l.tokens.items) l.scanner;
+  one_kind : All IsOfOneKind l.tokens.items;
+  signs : All IsOneByteIfSign l.tokens.items;
+  finite : IsFinite (left_of g.I.Iterator.remaining l.scanner);
+}
+
+abbrev pub decreases-loop-tokens : goal.decreases-loop-tokens
+decreases-loop-tokens g l = size (left_of g.I.Iterator.remaining l.scanner)

@@ -1,0 +1,27 @@
+-- What the tokens of an input are.
+use Rattle.std.specs.Prelude.{◌≡◌, ◌<◌, ℕ, List, length, All, if◌then◌else◌}
+use Rattle.std.specs.List.{flat_map}
+use Rattle.std.specs.Char.{is_ascii_alphabetic, is_ascii_digit}
+use Rattle.uses.specs.declared.tokens.Kind.{Kind}
+use Rattle.uses.specs.declared.tokens.Kind.TheVariants.{Letters, Digits, Sign}
+use Rattle.uses.specs.declared.tokens.Token.{Token}
+
+-- what kind of token a byte stands in
+abbrev pub kind_of : ℕ → Kind
+kind_of byte =
+    if is_ascii_alphabetic byte then Letters
+    else (if is_ascii_digit byte then Digits
+    else Sign)
+
+-- the texts of tokens, one after the other
+abbrev pub joined : List Token → List ℕ
+joined tokens = flat_map (λ token. token.text.items) tokens
+
+-- the token has bytes, each of its kind
+abbrev pub IsOfOneKind : Token → Type 0
+IsOfOneKind token = (0 < length token.text.items)
+    × All (λ byte. kind_of byte ≡ token.kind) token.text.items
+
+-- the token has one byte if it is a sign
+abbrev pub IsOneByteIfSign : Token → Type 0
+IsOneByteIfSign token = token.kind ≡ Sign → length token.text.items ≡ 1

@@ -1,0 +1,27 @@
+//! Steps, and steps undone.
+use super::History;
+use std::test::Fail;
+
+#[test]
+fn an_undo_gives_the_state_before_back(rt: HostRuntime) -> Result<(), Fail> {
+    let mut history = History::<_, 2>::new(rt.alloc(), "a")?;
+    history.step("ab");
+    assert!(rt; history.undo());
+    assert!(rt; *history.present() == "a");
+    assert!(rt; !history.undo());
+    assert!(rt; history.redo());
+    assert!(rt; *history.present() == "ab");
+    assert!(rt; !history.redo());
+    Ok(())
+}
+
+#[test]
+fn only_so_many_steps_can_be_undone(rt: HostRuntime) -> Result<(), Fail> {
+    let mut history = History::<_, 2>::new(rt.alloc(), 1)?;
+    for state in 2..6 {
+        history.step(state);
+    }
+    assert!(rt; (history.undo(), history.undo(), history.undo()) == (true, true, false));
+    assert!(rt; *history.present() == 3);
+    Ok(())
+}

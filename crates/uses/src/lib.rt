@@ -1,0 +1,9 @@
+//! Uses of the deque, to be read as examples. Each stands on the deque's public contract alone, and
+//! is proved to keep what its users care about.
+#![tactic(auto)]
+
+pub mod history;
+pub mod jobs;
+pub mod pipe;
+pub mod tokens;
+pub mod window;

@@ -1,0 +1,83 @@
+//! A pipe that holds at most `CAP` bytes.
+//!
+//! It stands on `arraydeque` under `Saturating`, and is proved from the deque's public contract
+//! alone: what was written comes out unchanged.
+ghost use Rattle.std.specs.Prelude.{◌≡◌, ◌<◌, ◌-◌, ◌++◌, [], length, take, min, IfOk, OnOk, OnErr};
+
+use arraydeque::{ArrayDeque, Saturating};
+use std::alloc::{AllocError, Global};
+use std::marker::Model;
+
+#[cfg(test)]
+mod tests;
+
+/// The bytes that were written and not yet read, in order.
+#[derive(Drop)]
+pub struct Pipe<const CAP: usize> {
+    bytes: ArrayDeque<u8, CAP, Saturating>,
+}
+
+impl<const CAP: usize> Model for Pipe<CAP> {
+    ghost use Rattle.std.specs.Prelude.{ℕ, List};
+
+    ghost Value = { List ℕ };
+
+    ghost view = { λ pipe. pipe.bytes.items };
+}
+
+impl<const CAP: usize> Pipe<CAP> {
+    /// A pipe that holds nothing.
+    pub fn new(alloc: Global) -> Result<Self, AllocError>
+        ensures empty { IfOk result (λ pipe. pipe ≡ []) }
+        ensures refused { OnErr result (0 < CAP) }
+    {
+        let bytes = ArrayDeque::new(alloc)?;
+        Ok(Pipe { bytes })
+    }
+
+    /// Writes as many of the bytes as there is room for, and returns how many that are.
+    pub fn write(&mut self, from: &[u8]) -> usize
+        ensures count { result ≡ min (length from.now) (CAP - length self.old) }
+        ensures written { self.new ≡ self.old ++ take result from.now }
+    {
+        let room = self.bytes.capacity() - self.bytes.len();
+        let count = room.min(from.len());
+        let piece = &from[..count];
+        for &byte in piece {
+            match self.bytes.push_back(byte) {
+                Ok(()) => {}
+                Err(_) => unreachable!(),
+            }
+        }
+        count
+    }
+
+    /// Reads all bytes that wait onto the end of `into`. Those that memory is refused for stay.
+    pub fn read(&mut self, into: &mut Vec<u8>) -> Result<(), AllocError>
+        ensures unchanged { into.new.items ++ self.new ≡ into.old.items ++ self.old }
+        ensures all { OnOk result (self.new ≡ []) }
+        ensures refused { OnErr result (0 < length self.new) }
+    {
+        while let Some(&byte) = self.bytes.front() {
+            into.push(byte)?;
+            self.bytes.pop_front();
+        }
+        Ok(())
+    }
+
+    /// Sends a text through an empty pipe, piece by piece, onto the end of `into`.
+    pub fn send(&mut self, text: &[u8], into: &mut Vec<u8>) -> Result<(), AllocError>
+        requires room { 0 < CAP }
+        requires empty { self.old ≡ [] }
+        ensures whole { OnOk result (into.new.items ≡ into.old.items ++ text.now) }
+        ensures empty { OnOk result (self.new ≡ []) }
+    {
+        let mut rest = text;
+        while !rest.is_empty() {
+            let count = self.write(rest);
+            rest = &rest[count..];
+            self.read(into)?;
+        }
+        Ok(())
+    }
+}

@@ -1,0 +1,128 @@
+//! A tokenizer with one byte of look-ahead.
+//!
+//! It stands on `arraydeque::lookahead::Scanner`, and is proved from the scanner's public contract
+//! alone: the tokens of an input, joined, are the input.
+ghost use Rattle.std.specs.Prelude.{◌≡◌, ◌≢◌, ◌<◌, [], IfOk, IfSome, IfNone, All, ⊤};
+ghost use Rattle.std.specs.Iterator.{IsFinite, MakesProgress, UpTo, size};
+ghost use Rattle.std.specs.Option.{option_to_list};
+ghost use Rattle.arraydeque.specs.Lookahead.{HasRest, TakesOff, left_of};
+ghost use Rattle.uses.specs.Tokens.{kind_of, joined, IsOfOneKind, IsOneByteIfSign};
+ghost use Rattle.uses.specs.declared.tokens.Kind.TheVariants.{Sign};
+
+use arraydeque::lookahead::Scanner;
+use std::alloc::{AllocError, Global};
+
+#[cfg(test)]
+mod tests;
+
+/// What a token consists of.
+#[derive(Clone, Copy, Debug, PartialEq, Eq)]
+pub enum Kind {
+    /// ASCII letters.
+    Letters,
+    /// ASCII digits.
+    Digits,
+    /// One byte of another kind.
+    Sign,
+}
+
+/// A run of bytes of one kind.
+#[derive(Debug, Drop)]
+pub struct Token {
+    /// What it consists of.
+    pub kind: Kind,
+    /// Its bytes.
+    pub text: Vec<u8>,
+}
+
+/// Cuts all that a scanner has left into tokens: runs of letters, runs of digits, and single signs.
+///
+/// The scanner can look at least one byte ahead.
+pub fn tokenize<I: Iterator<Item = u8>, const AHEAD: usize>(
+    alloc: Global,
+    scanner: &mut Scanner<I, AHEAD>,
+) -> Result<Vec<Token>, AllocError>
+    requires ahead { 0 < AHEAD }
+    requires finite { IsFinite (left_of I.remaining scanner.old) }
+    ensures joined { IfOk result (λ tokens.
+        HasRest I.next_gives scanner.old (joined tokens.items)) }
+    ensures one_kind { IfOk result (λ tokens. All IsOfOneKind tokens.items) }
+    ensures signs { IfOk result (λ tokens. All IsOneByteIfSign tokens.items) }
+{
+    let mut tokens = Vec::new(alloc);
+    while let Some(token) = next_token(alloc, scanner)? {
+        tokens.push(token)?;
+    }
+    Ok(tokens)
+}
+
+/// Cuts a text into tokens, with a scanner that looks one byte ahead.
+pub fn tokenize_text(alloc: Global, text: &[u8]) -> Result<Vec<Token>, AllocError>
+    ensures joined { IfOk result (λ tokens. joined tokens.items ≡ text.now) }
+    ensures one_kind { IfOk result (λ tokens. All IsOfOneKind tokens.items) }
+    ensures signs { IfOk result (λ tokens. All IsOneByteIfSign tokens.items) }
+{
+    match Scanner::<_, 1>::new(alloc, text.iter().copied()) {
+        Ok(mut scanner) => tokenize(alloc, &mut scanner),
+        Err(_) => Err(AllocError),
+    }
+}
+
+/// Takes the next token, of which only the first byte is sure to be there.
+fn next_token<I: Iterator<Item = u8>, const AHEAD: usize>(
+    alloc: Global,
+    scanner: &mut Scanner<I, AHEAD>,
+) -> Result<Option<Token>, AllocError>
+    requires ahead { 0 < AHEAD }
+    requires finite { IsFinite (left_of I.remaining scanner.old) }
+    ensures taken { IfOk result (λ token.
+        TakesOff I.next_gives scanner.old (joined (option_to_list token)) scanner.new) }
+    ensures over { IfOk result (λ token. IfNone token (HasRest I.next_gives scanner.old [])) }
+    ensures one_kind { IfOk result (λ token. IfSome token IsOfOneKind) }
+    ensures signs { IfOk result (λ token. IfSome token IsOneByteIfSign) }
+    ensures goes { IfOk result (λ token.
+        MakesProgress (λ _. ⊤) (left_of I.remaining) scanner.old token scanner.new) }
+{
+    let Some(first) = scanner.next() else {
+        return Ok(None);
+    };
+    let kind = kind_of(first);
+    let mut text = Vec::new(alloc);
+    text.push(first)?;
+    while let Some(byte) = next_of_kind(scanner, kind) {
+        text.push(byte)?;
+    }
+    Ok(Some(Token { kind, text }))
+}
+
+/// Takes the next byte if it goes on a token of that kind.
+fn next_of_kind<I: Iterator<Item = u8>, const AHEAD: usize>(
+    scanner: &mut Scanner<I, AHEAD>,
+    kind: Kind,
+) -> Option<u8>
+    requires ahead { 0 < AHEAD }
+    ensures taken { TakesOff I.next_gives scanner.old (option_to_list result) scanner.new }
+    ensures same_kind { IfSome result (λ byte. kind_of byte ≡ kind) }
+    ensures no_sign { IfSome result (λ _. kind ≢ Sign) }
+    ensures goes { MakesProgress (λ _. ⊤) (left_of I.remaining) scanner.old result scanner.new }
+    ensures finite { IsFinite (left_of I.remaining scanner.old)
+        → UpTo (left_of I.remaining scanner.new) (size (left_of I.remaining scanner.old)) }
+{
+    match scanner.peek(0) {
+        Some(&byte) if kind != Kind::Sign && kind_of(byte) == kind => scanner.next(),
+        _ => None,
+    }
+}
+
+/// What kind of token a byte stands in.
+fn kind_of(byte: u8) -> Kind
+    ensures { result ≡ kind_of byte }
+{
+    if byte.is_ascii_alphabetic() {
+        Kind::Letters
+    } else if byte.is_ascii_digit() {
+        Kind::Digits
+    } else {
+        Kind::Sign
+    }
+}
