@@ -1,11 +1,11 @@
 -- What pushes leave, one and many.
-use Rattle.std.proofs.Common.{◌≡◌, ◌<◌, ◌≤◌, ℕ, zero, suc, ◌+◌, ◌-◌, ◌*◌, ◌%◌, List, [], ◌∷◌, ◌++◌, length, take, drop, reverse, nat_lt, if◌then◌else◌, sym, ap, ap₂, ◌∙◌, arith, inl, inr}
+use Rattle.std.proofs.Common.{◌≡◌, ◌<◌, ◌≤◌, ℕ, zero, suc, ◌+◌, ◌-◌, ◌*◌, ◌%◌, List, [], ◌∷◌, ◌++◌, length, take, drop, reverse, nat_lt, if◌then◌else◌, refl, sym, ap, ap₂, ◌∙◌, arith, inl, inr}
 use Rattle.std.proofs.Math.Nat.{mod-add-mod, add-mod_right, mod-eq_of_lt, add_assoc}
 use native.Mathlib.Nat.{suc-mul}
 use Rattle.std.proofs.lemmas.Bool.{cases_lt, lt-ltb, le-ltb}
-use Rattle.std.proofs.lemmas.List.{append_assoc, append-nil, reverse-append, length-append, length-drop, length-take, length-reverse, take_all, drop-append-le}
+use Rattle.std.proofs.lemmas.List.{append_assoc, append-nil, reverse-append, length-append, length-drop, length-take, length-reverse, take_all, take-take, drop-append-le}
 use Rattle.arraydeque_ring.specs.Ring.{RingState, place_of}
-use Rattle.arraydeque_ring.specs.Steps.{more_puts, more_takes}
+use Rattle.arraydeque_ring.specs.Steps.{Steps, more_puts, more_takes}
 use Rattle.arraydeque.specs.Deque.{DequeState, keep_last, back_by, with_back, with_front, wrapped_back, wrapped_front, WrapsBack}
 use Rattle.arraydeque.proofs.KeepLast.{keep_last-all, keep_last-append}
 
@@ -32,6 +32,19 @@ back_by-one (suc k) s n =
 back_by-both : (j k s n : ℕ) → back_by k (back_by j s n) n ≡ back_by (j + k) s n
 back_by-both j zero s n = ap (λ m. back_by m s n) (omega arith)
 back_by-both j (suc k) s n = sym (back_by-one k (back_by j s n) n) ∙ ap (λ t. place_of t (n - 1) n) (back_by-both j k s n) ∙ back_by-one (j + k) s n ∙ ap (λ m. back_by m s n) (omega arith)
+
+-- an item that goes in before those that went in last
+pub one_before : {X : Type 0} (x : X) (xs ys : List X) → x ∷ (reverse xs ++ ys) ≡ reverse (xs ++ x ∷ []) ++ ys
+one_before x xs ys = ap (λ l. l ++ ys) (sym (reverse-append xs (x ∷ [])))
+
+-- the same, where only n of them are kept
+pub take-one_before : {X : Type 0} (n : ℕ) (x : X) (xs ys : List X) → take n (x ∷ take n (reverse xs ++ ys)) ≡ take n (reverse (xs ++ x ∷ []) ++ ys)
+take-one_before zero x xs ys = refl
+take-one_before (suc n) x xs ys = ap (λ l. x ∷ l) (take-take n (suc n) (reverse xs ++ ys) (omega arith)) ∙ ap (take (suc n)) (one_before x xs ys)
+
+-- puts that are counted in two parts
+pub more_twice : {X : Type 0} (xs ys : List X) (s : Steps) → more_puts (length ys) (more_puts (length xs) s) ≡ more_puts (length (xs ++ ys)) s
+more_twice xs ys s = ap (λ n. record s { puts = n }) (omega (arith, length-append xs ys))
 
 -- where one item more is pushed, it displaces one where there was no room
 out_by_one : (total kept n : ℕ) → kept ≡ total - (total - n) → (total - n) + (if nat_lt kept n then 0 else 1) ≡ suc total - n

@@ -1,14 +1,11 @@
-use Rattle.std.proofs.Common.{◌≡◌, List, ◌++◌, ◌∷◌, [], length, rules, refl, ap, ◌∙◌, arith}
+use Rattle.std.proofs.Common.{◌++◌, ◌∷◌, [], rules, refl, ap, ◌∙◌, arith}
 use Rattle.std.proofs.iter.Next.{Yields-more}
 use Rattle.std.proofs.lemmas.Grind.{common_steps}
-use Rattle.std.proofs.lemmas.List.{append_assoc, length-append}
+use Rattle.std.proofs.lemmas.List.{append_assoc}
 use Rattle.arraydeque_ring.specs.Ring.{RingState}
-use Rattle.arraydeque_ring.specs.Steps.{Steps, more_puts}
+use Rattle.arraydeque_ring.specs.Steps.{more_puts}
+use Rattle.arraydeque.proofs.Pushed.{more_twice}
 use Rattle.arraydeque.proofs.deque.ArrayDeque.fill_back.Goals as goal
-
--- puts that are counted in two parts
-more_twice : {X : Type 0} (xs ys : List X) (s : Steps) → more_puts (length ys) (more_puts (length xs) s) ≡ more_puts (length (xs ++ ys)) s
-more_twice xs ys s = ap (λ n. record s { puts = n }) (omega (arith, length-append xs ys))
 
 pub loop-elements-init : goal.loop-elements-init
 loop-elements-init g c = (

@@ -1,8 +1,9 @@
 use Rattle.std.proofs.Common.{◌<◌, length, sym, ◌∷◌, ◌++◌, ◌-◌, [], rules, refl, ap, ap₂, ◌∙◌, arith}
 use Rattle.std.proofs.iter.Next.{Yields-more}
 use Rattle.std.proofs.lemmas.Grind.{common_steps}
-use Rattle.arraydeque_ring.specs.Ring.{place_of}
-use Rattle.arraydeque.proofs.Pushed.{place_of-before, back_by-push}
+use Rattle.arraydeque_ring.specs.Ring.{RingState, place_of}
+use Rattle.arraydeque.proofs.Pushed.{place_of-before, back_by-push, more_twice, one_before}
+use Rattle.arraydeque_ring.specs.Steps.{more_puts}
 use Rattle.arraydeque.proofs.deque.ArrayDeque.fill_front.Goals as goal
 
 pub loop-elements-init : goal.loop-elements-init
@@ -36,10 +37,10 @@ loop-elements-preserved-then-len-reach g c =
         capacity = grind (arith, common_steps);
         reach = rw c.push_before.ensures (omega (arith, was.reach));
         within = rw c.push_before.ensures (omega (arith, was.capacity));
-        items = grind (arith, common_steps);
+        items = ap (λ (r : RingState g.row.T.Denot). r.items) c.push_before.ensures ∙ ap (λ l. x ∷ l) was.items ∙ one_before x xs c.args.self.now.items;
         start = ap (λ r. r.start) c.push_before.ensures ∙ sym (place_of-before ring.start ring.capacity some c.len.ensures.start)
             ∙ ap₂ (λ s n. place_of s (n - 1) n) was.start was.capacity ∙ back_by-push xs x c.args.self.now.start g.row.CAP;
-        steps = grind (arith, common_steps);
+        steps = ap (λ (r : RingState g.row.T.Denot). r.steps) c.push_before.ensures ∙ ap (more_puts 1) was.steps ∙ more_twice xs (x ∷ []) c.args.self.now.steps;
         yielded = Yields-more g.I.Iterator.next_gives _ xs _ x _ was.yielded c.in-Some.ensures.steps;
         can_next = c.in-Some.ensures.goes.keeps;
         finite = λ f. (c.in-Some.ensures.goes.on (was.finite f)).1;
@@ -57,9 +58,9 @@ loop-elements-preserved g c =
         capacity = grind (arith, common_steps);
         reach = search rules;
         within = grind (arith, common_steps);
-        items = grind (arith, common_steps);
+        items = ap (λ (r : RingState g.row.T.Denot). r.items) c.push_front.ensures ∙ ap (λ l. x ∷ l) was.items ∙ one_before x xs c.args.self.now.items;
         start = ap (λ r. r.start) c.push_front.ensures ∙ ap₂ (λ s n. place_of s (n - 1) n) was.start was.capacity ∙ back_by-push xs x c.args.self.now.start g.row.CAP;
-        steps = grind (arith, common_steps);
+        steps = ap (λ (r : RingState g.row.T.Denot). r.steps) c.push_front.ensures ∙ ap (more_puts 1) was.steps ∙ more_twice xs (x ∷ []) c.args.self.now.steps;
         yielded = Yields-more g.I.Iterator.next_gives _ xs _ x _ was.yielded c.in-Some.ensures.steps;
         can_next = c.in-Some.ensures.goes.keeps;
         finite = λ f. (c.in-Some.ensures.goes.on (was.finite f)).1;

@@ -1,6 +1,5 @@
-use Rattle.std.proofs.Common.{ap, ◌∙◌, rules, arith}
-use Rattle.std.proofs.lemmas.Grind.{common_steps}
-use Rattle.arraydeque.proofs.Pushed.{of_ring, wrapped_front-push, WrapsFront-room, WrapsFront-both}
+use Rattle.std.proofs.Common.{◌≡◌, ◌++◌, ◌∷◌, [], take, reverse, ap, ◌∙◌, rules}
+use Rattle.arraydeque.proofs.Pushed.{of_ring, take-one_before, wrapped_front-push, WrapsFront-room, WrapsFront-both}
 use Rattle.arraydeque.proofs.Taken.{TakesAll-fills, TakesAll-filled}
 use Rattle.arraydeque.proofs.deque.extend.ArrayDeque+T+CAP+Wrapping.extend_front.Goals as goal
 
@@ -14,14 +13,16 @@ pub loop-element-preserved : goal.loop-element-preserved
 loop-element-preserved g c =
     let push = c.push_front.ensures in
     let was = c.loop-element.invariant.wraps in
-    let ahead = was.0 in
+    let xs = c.loop-element.yielded in
+    let x = c.in-Some.element in
+    let items : c.push_front.new.self.items ≡ take g.row.CAP (reverse (xs ++ x ∷ []) ++ c.of-deque.result.items) =
+    push.items ∙ ap (λ l. take g.row.CAP (x ∷ l)) was.0 ∙ take-one_before g.row.CAP x xs c.of-deque.result.items in
     record {
       can_next = search rules;
       finite = search rules;
       wraps = (
-        grind (arith, common_steps, ahead),
-        (λ some. wrapped_front-push g.row.CAP c.of-deque.result c.loop-element.deque c.push_front.new.self c.loop-element.yielded c.in-Some.element
-            (was.1 some) (grind (arith, common_steps, ahead)) (push.start some) (push.steps some)),
+        items,
+        (λ some. wrapped_front-push g.row.CAP c.of-deque.result c.loop-element.deque c.push_front.new.self xs x (was.1 some) items (push.start some) (push.steps some)),
         λ none. push.no_places none ∙ was.2 none,
       );
     }
