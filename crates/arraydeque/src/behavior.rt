@@ -10,8 +10,8 @@ pub trait Behavior {}
 /// ```
 /// let mut deque = ArrayDeque::<i64, 2, Saturating>::new(alloc)?;
 /// deque.extend_back([1, 2, 3]);
-/// assert_eq!(rt; deque.push_front(0), Err(CapacityError { element: 0 }));
-/// assert_eq!(rt; deque.into_vec()?.as_slice(), [1, 2].as_slice());
+/// assert!(rt; deque.push_front(0) == Err(CapacityError { element: 0 }));
+/// assert!(rt; deque.into_vec()?.as_slice() == [1, 2].as_slice());
 /// ```
 pub struct Saturating;
 
@@ -21,8 +21,8 @@ pub struct Saturating;
 /// ```
 /// let mut deque = ArrayDeque::<i64, 2, Wrapping>::new(alloc)?;
 /// deque.extend_back([1, 2, 3]);
-/// assert_eq!(rt; deque.push_front(0), Some(3));
-/// assert_eq!(rt; deque.into_vec()?.as_slice(), [0, 2].as_slice());
+/// assert!(rt; deque.push_front(0) == Some(3));
+/// assert!(rt; deque.into_vec()?.as_slice() == [0, 2].as_slice());
 /// ```
 pub struct Wrapping;
 

@@ -33,9 +33,9 @@ mod swaps;
 /// ```
 /// let mut deque = ArrayDeque::<i64, 4, Saturating>::new(alloc)?;
 /// deque.extend_back([2, 3]);
-/// assert_eq!(rt; deque.push_front(1), Ok(()));
-/// assert_eq!(rt; (deque.pop_front(), deque.pop_back()), (Some(1), Some(3)));
-/// assert_eq!(rt; (deque.len(), deque.capacity()), (1, 4));
+/// assert!(rt; deque.push_front(1) == Ok(()));
+/// assert!(rt; (deque.pop_front(), deque.pop_back()) == (Some(1), Some(3)));
+/// assert!(rt; (deque.len(), deque.capacity()) == (1, 4));
 /// ```
 #[derive(Drop)]
 pub struct ArrayDeque<T, const CAP: usize, B: Behavior> {
@@ -66,7 +66,7 @@ impl<T, const CAP: usize, B: Behavior> ArrayDeque<T, CAP, B> {
     ///
     /// ```
     /// let deque = ArrayDeque::<i64, 4, Saturating>::new(alloc)?;
-    /// assert_eq!(rt; (deque.len(), deque.capacity()), (0, 4));
+    /// assert!(rt; (deque.len(), deque.capacity()) == (0, 4));
     /// // No region is as large as that.
     /// assert!(rt; ArrayDeque::<i64, { usize::MAX }, Saturating>::new(alloc).is_err());
     /// ```
@@ -105,7 +105,7 @@ impl<T, const CAP: usize, B: Behavior> ArrayDeque<T, CAP, B> {
     /// ```
     /// let mut deque = ArrayDeque::<i64, 3, Wrapping>::new(alloc)?;
     /// deque.extend_back([1, 2]);
-    /// assert_eq!(rt; (deque.len(), deque.capacity()), (2, 3));
+    /// assert!(rt; (deque.len(), deque.capacity()) == (2, 3));
     /// ```
     #[inline]
     pub fn capacity(&self) -> usize
@@ -122,9 +122,9 @@ impl<T, const CAP: usize, B: Behavior> ArrayDeque<T, CAP, B> {
     /// ```
     /// let mut deque = ArrayDeque::<i64, 3, Wrapping>::new(alloc)?;
     /// deque.extend_back([1, 2, 3, 4]);
-    /// assert_eq!(rt; deque.len(), 3);
-    /// assert_eq!(rt; deque.pop_front(), Some(2));
-    /// assert_eq!(rt; deque.len(), 2);
+    /// assert!(rt; deque.len() == 3);
+    /// assert!(rt; deque.pop_front() == Some(2));
+    /// assert!(rt; deque.len() == 2);
     /// ```
     #[inline]
     pub fn len(&self) -> usize
@@ -140,7 +140,7 @@ impl<T, const CAP: usize, B: Behavior> ArrayDeque<T, CAP, B> {
     /// ```
     /// let mut deque = ArrayDeque::<i64, 1, Saturating>::new(alloc)?;
     /// assert!(rt; deque.is_empty());
-    /// assert_eq!(rt; deque.push_back(1), Ok(()));
+    /// assert!(rt; deque.push_back(1) == Ok(()));
     /// assert!(rt; !deque.is_empty());
     /// ```
     #[inline]
@@ -155,7 +155,7 @@ impl<T, const CAP: usize, B: Behavior> ArrayDeque<T, CAP, B> {
     /// ```
     /// let mut deque = ArrayDeque::<i64, 1, Saturating>::new(alloc)?;
     /// assert!(rt; !deque.is_full());
-    /// assert_eq!(rt; deque.push_back(1), Ok(()));
+    /// assert!(rt; deque.push_back(1) == Ok(()));
     /// assert!(rt; deque.is_full());
     /// let none = ArrayDeque::<i64, 0, Saturating>::new(alloc)?;
     /// assert!(rt; none.is_full() && none.is_empty());
@@ -174,9 +174,9 @@ impl<T, const CAP: usize, B: Behavior> ArrayDeque<T, CAP, B> {
     /// ```
     /// let mut deque = ArrayDeque::<i64, 3, Saturating>::new(alloc)?;
     /// deque.extend_back([1, 2]);
-    /// assert_eq!(rt; deque.pop_front(), Some(1));
-    /// assert_eq!(rt; deque.pop_front(), Some(2));
-    /// assert_eq!(rt; deque.pop_front(), None);
+    /// assert!(rt; deque.pop_front() == Some(1));
+    /// assert!(rt; deque.pop_front() == Some(2));
+    /// assert!(rt; deque.pop_front() == None);
     /// ```
     #[inline]
     pub fn pop_front(&mut self) -> Option<T>
@@ -197,9 +197,9 @@ impl<T, const CAP: usize, B: Behavior> ArrayDeque<T, CAP, B> {
     /// ```
     /// let mut deque = ArrayDeque::<i64, 3, Saturating>::new(alloc)?;
     /// deque.extend_back([1, 2]);
-    /// assert_eq!(rt; deque.pop_back(), Some(2));
-    /// assert_eq!(rt; deque.pop_back(), Some(1));
-    /// assert_eq!(rt; deque.pop_back(), None);
+    /// assert!(rt; deque.pop_back() == Some(2));
+    /// assert!(rt; deque.pop_back() == Some(1));
+    /// assert!(rt; deque.pop_back() == None);
     /// ```
     #[inline]
     pub fn pop_back(&mut self) -> Option<T>
@@ -222,9 +222,9 @@ impl<T, const CAP: usize, B: Behavior> ArrayDeque<T, CAP, B> {
     /// let mut deque = ArrayDeque::<i64, 3, Saturating>::new(alloc)?;
     /// deque.extend_back([1, 2, 3]);
     /// // 4 goes to the place that 1 has left, which is the region's first.
-    /// assert_eq!(rt; (deque.pop_front(), deque.push_back(4)), (Some(1), Ok(())));
+    /// assert!(rt; (deque.pop_front(), deque.push_back(4)) == (Some(1), Ok(())));
     /// let (front, rest) = deque.as_slices();
-    /// assert_eq!(rt; (front, rest), ([2, 3].as_slice(), [4].as_slice()));
+    /// assert!(rt; (front, rest) == ([2, 3].as_slice(), [4].as_slice()));
     /// ```
     #[inline]
     pub fn as_slices(&self) -> (&[T], &[T])
@@ -246,7 +246,7 @@ impl<T: fmt::Debug, const CAP: usize, B: Behavior> fmt::Debug for ArrayDeque<T, 
     /// let mut deque = ArrayDeque::<i64, 4, Wrapping>::new(alloc)?;
     /// deque.extend_back([0, 1, 2]);
     /// let text = format!(in alloc; "{deque:?}")?;
-    /// assert_eq!(rt; text.as_str(), "[0, 1, 2]");
+    /// assert!(rt; text.as_str() == "[0, 1, 2]");
     /// ```
     fn fmt<W: fmt::Write>(&self, f: &mut fmt::Formatter<W>) -> fmt::Result {
         let (front, back) = self.as_slices();

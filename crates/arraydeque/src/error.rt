@@ -12,10 +12,10 @@ use std::fmt;
 /// ```
 /// let mut deque = ArrayDeque::<i64, 0, Saturating>::new(alloc)?;
 /// let refusal = CapacityError { element: 7 };
-/// assert_eq!(rt; deque.push_back(7), Err(refusal));
-/// assert_eq!(rt; refusal.element, 7);
+/// assert!(rt; deque.push_back(7) == Err(refusal));
+/// assert!(rt; refusal.element == 7);
 /// let text = format!(in alloc; "{refusal}")?;
-/// assert_eq!(rt; text.as_str(), "insufficient capacity");
+/// assert!(rt; text.as_str() == "insufficient capacity");
 /// ```
 #[derive(Clone, Copy, Drop, Eq, Ord, PartialEq, PartialOrd)]
 pub struct CapacityError<T> {
@@ -49,9 +49,9 @@ impl<T: Drop> fmt::Debug for CapacityError<T> {
 /// ```
 /// // No region is as large as that.
 /// let made = ArrayDeque::<i64, { usize::MAX }, Saturating>::from_array(alloc, [1, 2]);
-/// assert_eq!(rt; made.err().map(|refusal| refusal.source), Some([1, 2]));
+/// assert!(rt; made.err().map(|refusal| refusal.source) == Some([1, 2]));
 /// let text = format!(in alloc; "{}", MakeError { source: 0 })?;
-/// assert_eq!(rt; text.as_str(), "out of memory");
+/// assert!(rt; text.as_str() == "out of memory");
 /// ```
 #[derive(Drop)]
 pub struct MakeError<S> {

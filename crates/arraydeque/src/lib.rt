@@ -7,10 +7,10 @@
 //! ```
 //! let mut last_two = ArrayDeque::<i64, 2, Wrapping>::new(alloc)?;
 //! last_two.extend_back([1, 2, 3]);
-//! assert_eq!(rt; last_two.push_back(4), Some(2));
+//! assert!(rt; last_two.push_back(4) == Some(2));
 //! let mut queue: ArrayDeque<i64, 2, Saturating> = last_two.into();
-//! assert_eq!(rt; queue.push_back(5), Err(CapacityError { element: 5 }));
-//! assert_eq!(rt; (queue.pop_front(), queue.pop_front()), (Some(3), Some(4)));
+//! assert!(rt; queue.push_back(5) == Err(CapacityError { element: 5 }));
+//! assert!(rt; (queue.pop_front(), queue.pop_front()) == (Some(3), Some(4)));
 //! ```
 //!
 //! # Policies

@@ -19,9 +19,9 @@ use std::marker::Model;
 ///
 /// ```
 /// let mut scanner = Scanner::<_, 2>::new(alloc, [1, 2, 3].into_iter())?;
-/// assert_eq!(rt; scanner.peek(1), Some(&2));
-/// assert_eq!(rt; (scanner.next(), scanner.unread(9)), (Some(1), Ok(())));
-/// assert_eq!(rt; (scanner.next(), scanner.next()), (Some(9), Some(2)));
+/// assert!(rt; scanner.peek(1) == Some(&2));
+/// assert!(rt; (scanner.next(), scanner.unread(9)) == (Some(1), Ok(())));
+/// assert!(rt; (scanner.next(), scanner.next()) == (Some(9), Some(2)));
 /// ```
 #[derive(Drop)]
 pub struct Scanner<I: Iterator, const CAP: usize> {
@@ -53,8 +53,8 @@ impl<I: Iterator, const CAP: usize> Scanner<I, CAP> {
     ///
     /// ```
     /// let mut scanner = Scanner::<_, 0>::new(alloc, [1, 2].into_iter())?;
-    /// assert_eq!(rt; (scanner.next(), scanner.next()), (Some(1), Some(2)));
-    /// assert_eq!(rt; scanner.next(), None);
+    /// assert!(rt; (scanner.next(), scanner.next()) == (Some(1), Some(2)));
+    /// assert!(rt; scanner.next() == None);
     /// ```
     #[tactic(auto, unfolding(crate::specs::Lookahead::HasRest, crate::specs::Lookahead::left_of))]
     pub fn new(alloc: Global, iter: I) -> Result<Self, MakeError<I>>
@@ -83,9 +83,9 @@ impl<I: Iterator, const CAP: usize> Scanner<I, CAP> {
     ///
     /// ```
     /// let mut scanner = Scanner::<_, 3>::new(alloc, [1, 2].into_iter())?;
-    /// assert_eq!(rt; scanner.peek(1), Some(&2));
-    /// assert_eq!(rt; scanner.peek(2), None);
-    /// assert_eq!(rt; scanner.next(), Some(1));
+    /// assert!(rt; scanner.peek(1) == Some(&2));
+    /// assert!(rt; scanner.peek(2) == None);
+    /// assert!(rt; scanner.next() == Some(1));
     /// ```
     pub fn peek(&mut self, k: usize) -> Option<&I::Item>
         requires { k < CAP }
@@ -102,9 +102,9 @@ impl<I: Iterator, const CAP: usize> Scanner<I, CAP> {
     ///
     /// ```
     /// let mut scanner = Scanner::<_, 1>::new(alloc, [1, 2].into_iter())?;
-    /// assert_eq!(rt; scanner.peek(0), Some(&1));
-    /// assert_eq!(rt; (scanner.next(), scanner.next()), (Some(1), Some(2)));
-    /// assert_eq!(rt; scanner.next(), None);
+    /// assert!(rt; scanner.peek(0) == Some(&1));
+    /// assert!(rt; (scanner.next(), scanner.next()) == (Some(1), Some(2)));
+    /// assert!(rt; scanner.next() == None);
     /// ```
     #[tactic(auto, unfolding(crate::specs::Lookahead::HasRest, crate::specs::Lookahead::left_of))]
     pub fn next(&mut self) -> Option<I::Item>
@@ -132,9 +132,9 @@ impl<I: Iterator, const CAP: usize> Scanner<I, CAP> {
     ///
     /// ```
     /// let mut scanner = Scanner::<_, 1>::new(alloc, [2, 3].into_iter())?;
-    /// assert_eq!(rt; scanner.unread(1), Ok(()));
-    /// assert_eq!(rt; scanner.unread(0), Err(CapacityError { element: 0 }));
-    /// assert_eq!(rt; (scanner.next(), scanner.next()), (Some(1), Some(2)));
+    /// assert!(rt; scanner.unread(1) == Ok(()));
+    /// assert!(rt; scanner.unread(0) == Err(CapacityError { element: 0 }));
+    /// assert!(rt; (scanner.next(), scanner.next()) == (Some(1), Some(2)));
     /// ```
     #[tactic(auto, unfolding(crate::specs::Lookahead::HasRest, crate::specs::Lookahead::left_of))]
     pub fn unread(&mut self, item: I::Item) -> Result<(), CapacityError<I::Item>>

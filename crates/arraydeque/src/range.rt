@@ -11,10 +11,10 @@ use std::ops::{Range, RangeFrom, RangeFull, RangeTo};
 /// ```
 /// let mut deque = ArrayDeque::<i64, 5, Saturating>::new(alloc)?;
 /// deque.extend_back([0, 1, 2, 3, 4]);
-/// assert_eq!(rt; deque.len(), 5);
-/// assert_eq!(rt; deque.drain(3..)?.len(), 2);
-/// assert_eq!(rt; deque.drain(..1)?.len(), 1);
-/// assert_eq!(rt; deque.drain(..)?.next(), Some(1));
+/// assert!(rt; deque.len() == 5);
+/// assert!(rt; deque.drain(3..)?.len() == 2);
+/// assert!(rt; deque.drain(..1)?.len() == 1);
+/// assert!(rt; deque.drain(..)?.next() == Some(1));
 /// ```
 pub trait RangeArgument<T> {
     // The first index that the value names.

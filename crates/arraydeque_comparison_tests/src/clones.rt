@@ -2,10 +2,9 @@
 ghost use Rattle.std.specs.Prelude.{◌≡◌};
 
 use arraydeque::{ArrayDeque, Saturating};
-use arraydeque_samples::build::{deque_at, holds};
+use arraydeque_samples::build::{deque_at, holds, is_cut, made};
 use std::alloc::{AllocError, Global};
 use std::cell::{Cell, RefCell};
-use std::process::Abort;
 use std::test::Fail;
 
 /// The names of the items that were dropped, in order, and how many clones may be made yet.
@@ -60,97 +59,85 @@ impl Drop for Item<'_> {
     }
 }
 
+type Items<'a> = ArrayDeque<Item<'a>, 3, Saturating>;
+
 /// The items 1, 2, 3, the first at the place `start`.
-fn three_items<'a>(
-    alloc: Global,
-    ledger: &'a Ledger,
-    start: usize,
-) -> Result<ArrayDeque<Item<'a>, 3, Saturating>, Fail> {
-    let mut deque = ArrayDeque::<Item<'a>, 3, Saturating>::new(alloc)?;
+fn three_items<'a>(alloc: Global, ledger: &'a Ledger, start: usize) -> Result<Items<'a>, Fail> {
+    let mut deque = Items::<'a>::new(alloc)?;
     for _ in 0..start {
-        deque
-            .push_back(Item { name: 0, ledger })
-            .map_err(|_| "no room")?;
+        deque.extend_back([Item { name: 0, ledger }]);
         deque.pop_front();
     }
-    for name in [1, 2, 3] {
-        deque
-            .push_back(Item { name, ledger })
-            .map_err(|_| "no room")?;
-    }
+    deque.extend_back([
+        Item { name: 1, ledger },
+        Item { name: 2, ledger },
+        Item { name: 3, ledger },
+    ]);
     Ok(deque)
 }
 
-/// The names of the items, front to back.
-fn names_of(
-    alloc: Global,
-    deque: &ArrayDeque<Item<'_>, 3, Saturating>,
-) -> Result<Vec<u8>, AllocError> {
-    let (front, back) = deque.as_slices();
-    front
-        .iter()
-        .chain(back)
-        .map(|item| item.name)
-        .collect(alloc)
+/// Whether the items are 1, 2, 3, front to back.
+fn has_three(deque: &Items<'_>) -> bool {
+    deque.len() == 3 && (deque[0].name, deque[1].name, deque[2].name) == (1, 2, 3)
 }
 
-/// A clone where only some of the items' own clones are granted.
-fn clone_with(rt: &impl Abort, alloc: Global, start: usize, granted: usize) -> Result<(), Fail> {
-    let ledger = Ledger::new(alloc);
-    let deque = three_items(alloc, &ledger, start)?;
+/// Whether a deque has the items 1, 2, 3, and drops just these.
+fn drops_three(alloc: Global, deque: Items<'_>, ledger: &Ledger) -> Result<bool, Fail> {
+    let has_three = has_three(&deque) && ledger.since(alloc)?.is_empty();
+    drop(deque);
+    Ok(ledger.since(alloc)?.as_slice() == [1, 2, 3].as_slice() && has_three)
+}
+
+/// Whether a clone ends at the first of its items whose own clone isn't granted, and drops those
+/// that it has made.
+fn clones_what_is_granted(
+    alloc: Global,
+    ledger: &Ledger,
+    start: usize,
+    granted: usize,
+) -> Result<bool, Fail> {
+    let deque = three_items(alloc, ledger, start)?;
     ledger.since(alloc)?;
     ledger.clones_left.set(granted);
-    let names = [1, 2, 3];
-    match deque.clone() {
-        Ok(clones) => {
-            assert!(rt; granted == 3);
-            assert!(rt; names_of(alloc, &clones)?.as_slice() == names.as_slice());
-            assert!(rt; ledger.since(alloc)?.is_empty());
-            drop(clones);
-            assert!(rt; ledger.since(alloc)?.as_slice() == names.as_slice());
-        }
-        Err(_) => {
-            let made = names.get(..granted).ok_or("all are granted")?;
-            assert!(rt; ledger.since(alloc)?.as_slice() == made);
-        }
-    }
-    assert!(rt; names_of(alloc, &deque)?.as_slice() == names.as_slice());
-    drop(deque);
-    assert!(rt; ledger.since(alloc)?.as_slice() == names.as_slice());
-    Ok(())
+    let is_cloned = match deque.clone() {
+        Ok(clones) => granted == 3 && drops_three(alloc, clones, ledger)?,
+        Err(_) => Some(ledger.since(alloc)?.as_slice()) == [1, 2, 3].get(..granted),
+    };
+    Ok(drops_three(alloc, deque, ledger)? && is_cloned)
 }
 
 #[test]
 fn a_refused_item_ends_the_clone(rt: HostRuntime) -> Result<(), Fail> {
     for start in 0..3 {
         for granted in 0..4 {
-            clone_with(&rt, rt.alloc(), start, granted)?;
+            let ledger = Ledger::new(rt.alloc());
+            assert!(rt;
+                clones_what_is_granted(rt.alloc(), &ledger, start, granted)?,
+                "start {start}, {granted} granted"
+            );
         }
     }
     Ok(())
 }
 
-#[test]
-fn a_clone_is_a_deque_of_its_own(rt: HostRuntime) -> Result<(), Fail> {
-    for start in 0..4 {
-        let deque = deque_at::<4>(rt.alloc(), start, &[1, 2, 3])?;
-        let mut clone = deque.clone()?;
-        assert!(rt; clone == deque, "start {start}");
-        assert!(rt; clone.push_back(4).is_ok(), "start {start}");
-        assert!(rt;
-            clone.as_slices() == ([1, 2, 3, 4].as_slice(), [].as_slice()),
-            "start {start}"
-        );
-        assert!(rt; holds(&deque, &[1, 2, 3]), "start {start}");
-    }
-    Ok(())
+/// Whether a clone is equal to its deque, and then changes without it.
+fn is_of_its_own(alloc: Global, start: usize) -> Result<bool, Fail> {
+    let deque = deque_at::<4>(alloc, start, &[1, 2, 3])?;
+    let mut clone = deque.clone()?;
+    Ok(
+        clone == deque
+            && clone.push_back(4).is_ok()
+            && is_cut(&clone, &[1, 2, 3, 4], &[])
+            && holds(&deque, &[1, 2, 3]),
+    )
 }
 
 #[test]
-fn a_clone_of_what_an_iterator_gave(rt: HostRuntime) -> Result<(), Fail> {
-    let deque = ArrayDeque::<i64, 16, Saturating>::from_iter(rt.alloc(), 0..16).map_err(
-        |_| "refused",
-    )?;
+fn a_clone_is_a_deque_of_its_own(rt: HostRuntime) -> Result<(), Fail> {
+    for start in 0..4 {
+        assert!(rt; is_of_its_own(rt.alloc(), start)?, "start {start}");
+    }
+    let deque = made(ArrayDeque::<i64, 16, Saturating>::from_iter(rt.alloc(), 0..16))?;
     assert!(rt; deque.clone()? == deque);
     Ok(())
 }

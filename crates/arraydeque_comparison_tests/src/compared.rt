@@ -9,6 +9,8 @@ use std::alloc::{AllocError, Global};
 use std::cell::RefCell;
 use std::cmp::Ordering;
 use std::collections::{BTreeSet, HashSet};
+use std::error::Error;
+use std::fmt::Debug;
 use std::hash::{Hash, Hasher};
 use std::process::Abort;
 use std::test::Fail;
@@ -87,74 +89,52 @@ fn turned<T: Copy + Drop, const CAP: usize>(
     items: &[T],
 ) -> Result<ArrayDeque<T, CAP, Saturating>, Fail> {
     let mut deque = ArrayDeque::<T, CAP, Saturating>::new(alloc)?;
-    let first = *items.first().ok_or("no item")?;
     for _ in 0..start {
-        deque.push_back(first).map_err(|_| "no room")?;
+        deque.extend_back(items.first().copied());
         deque.pop_front();
     }
-    for &item in items {
-        deque.push_back(item).map_err(|_| "no room")?;
-    }
+    deque.extend_back(items.iter().copied());
     Ok(deque)
 }
 
 type Deque<const CAP: usize> = ArrayDeque<i64, CAP, Saturating>;
 
-/// The two are equal in every way.
-fn are_alike<const CAP: usize>(
-    rt: &impl Abort,
-    alloc: Global,
-    left: &Deque<CAP>,
-    right: &Deque<CAP>,
-) {
-    assert!(rt; *left == *right, "{left:?} with {right:?}");
-    assert!(rt;
-        left.cmp(right) == Ordering::Equal,
-        "{left:?} with {right:?}"
-    );
-    assert!(rt;
-        left.partial_cmp(right) == Some(Ordering::Equal),
-        "{left:?} with {right:?}"
-    );
-    assert!(rt;
-        writes_of(alloc, left) == writes_of(alloc, right),
-        "{left:?} with {right:?}"
-    );
+/// Whether the two are equal in every way.
+fn are_alike<const CAP: usize>(alloc: Global, left: &Deque<CAP>, right: &Deque<CAP>) -> bool {
+    *left == *right
+        && left.cmp(right) == Ordering::Equal
+        && left.partial_cmp(right) == Some(Ordering::Equal)
+        && writes_of(alloc, left) == writes_of(alloc, right)
 }
 
-/// The first is less than the second in every way.
-fn are_in_order<const CAP: usize>(rt: &impl Abort, less: &Deque<CAP>, more: &Deque<CAP>) {
-    assert!(rt; *less != *more, "{less:?} before {more:?}");
-    assert!(rt; *more != *less, "{less:?} before {more:?}");
-    assert!(rt;
-        (less.cmp(more), more.cmp(less)) == (Ordering::Less, Ordering::Greater),
-        "{less:?} before {more:?}"
-    );
-    assert!(rt;
-        (less.partial_cmp(more), more.partial_cmp(less))
-            == (Some(Ordering::Less), Some(Ordering::Greater)),
-        "{less:?} before {more:?}"
-    );
+/// Whether the first is less than the second in every way.
+fn are_in_order<const CAP: usize>(less: &Deque<CAP>, more: &Deque<CAP>) -> bool {
+    *less != *more
+        && *more != *less
+        && (less.cmp(more), more.cmp(less)) == (Ordering::Less, Ordering::Greater)
+        && (less.partial_cmp(more), more.partial_cmp(less))
+            == (Some(Ordering::Less), Some(Ordering::Greater))
 }
 
-/// A list beside the same list, the same with one item greater, and all that begin it.
-fn compare_lists<const CAP: usize>(
-    rt: &impl Abort,
+/// Whether a list is equal to itself, less than the same with one item greater, and greater than
+/// all that begin it.
+fn compares_alike<const CAP: usize>(
     alloc: Global,
     start: usize,
     other_start: usize,
     list: &[i64],
-) -> Result<(), Fail> {
+) -> Result<bool, Fail> {
     let deque = deque_at::<CAP>(alloc, start, list)?;
-    are_alike(rt, alloc, &deque, &deque_at(alloc, other_start, list)?);
     for index in 0..list.len() {
-        let front = deque_at(alloc, other_start, &list[..index])?;
-        are_in_order(rt, &front, &deque);
         let mut greater = Vec::from_slice(alloc, list)?;
-        *greater.get_mut(index).ok_or("no item")? = 9;
-        are_in_order(rt, &deque, &deque_at(alloc, other_start, &greater)?);
+        greater[index] = 9;
+        if !are_in_order(&deque_at(alloc, other_start, &list[..index])?, &deque)
+            || !are_in_order(&deque, &deque_at(alloc, other_start, &greater)?)
+        {
+            return Ok(false);
+        }
     }
-    Ok(())
+    Ok(are_alike(alloc, &deque, &deque_at(alloc, other_start, list)?))
 }
 
 /// Lists of every length, from every two starts.
@@ -163,38 +143,51 @@ fn compare_all_starts<const CAP: usize>(rt: &impl Abort, alloc: Global) -> Resul
         for other_start in 0..CAP {
             for len in 0..=CAP {
                 let list = numbers(alloc, len)?;
-                compare_lists::<CAP>(rt, alloc, start, other_start, &list)?;
+                assert!(rt;
+                    compares_alike::<CAP>(alloc, start, other_start, &list)?,
+                    "{len} of {CAP}, starts {start} and {other_start}"
+                );
             }
         }
     }
     Ok(())
 }
 
+/// Whether a list that came by two ways is alike.
+fn is_alike_by_two_ways(alloc: Global) -> Result<bool, Fail> {
+    let left = deque_at::<3>(alloc, 0, &[1, 2, 3])?;
+    let mut right = deque_at::<3>(alloc, 0, &[2, 3])?;
+    Ok(right.push_front(1).is_ok() && are_alike(alloc, &left, &right))
+}
+
+/// Whether a list comes before one that goes on, though with a lesser item.
+fn is_before_a_longer(alloc: Global) -> Result<bool, Fail> {
+    let short = deque_at::<3>(alloc, 0, &[1, 2])?;
+    Ok(are_in_order(&short, &deque_at::<3>(alloc, 0, &[1, 2, 0])?))
+}
+
 #[test]
-fn no_start_has_a_say(rt: HostRuntime) -> Result<(), Fail> {
+fn no_start_and_no_way_has_a_say(rt: HostRuntime) -> Result<(), Fail> {
     compare_all_starts::<1>(&rt, rt.alloc())?;
     compare_all_starts::<2>(&rt, rt.alloc())?;
     compare_all_starts::<3>(&rt, rt.alloc())?;
     compare_all_starts::<4>(&rt, rt.alloc())?;
+    assert!(rt; is_alike_by_two_ways(rt.alloc())? && is_before_a_longer(rt.alloc())?);
     Ok(())
 }
 
-#[test]
-fn one_list_by_two_ways(rt: HostRuntime) -> Result<(), Fail> {
-    let mut left = Deque::<3>::new(rt.alloc())?;
-    let mut right = Deque::<3>::new(rt.alloc())?;
-    for item in [1, 2, 3] {
-        assert!(rt; left.push_back(item).is_ok());
+/// Whether a list from any start is equal to that from the first place, and to no other part of
+/// it.
+fn is_equal_from(alloc: Global, start: usize, list: &[i64]) -> Result<bool, Fail> {
+    let mut deque = deque_at::<10>(alloc, start, list)?;
+    let mut expected = deque_at::<10>(alloc, 0, list)?;
+    let is_equal = deque == expected;
+    if list.len() > 2 {
+        deque.pop_front();
+        expected.pop_back();
+        return Ok(deque != expected && is_equal);
     }
-    for item in [2, 3] {
-        assert!(rt; right.push_back(item).is_ok());
-    }
-    assert!(rt; right.push_front(1).is_ok());
-    are_alike(&rt, rt.alloc(), &left, &right);
-    let short = deque_at::<3>(rt.alloc(), 0, &[1, 2])?;
-    let long = deque_at::<3>(rt.alloc(), 0, &[1, 2, 0])?;
-    are_in_order(&rt, &short, &long);
-    Ok(())
+    Ok(is_equal)
 }
 
 #[test]
@@ -202,92 +195,146 @@ fn equal_from_every_start(rt: HostRuntime) -> Result<(), Fail> {
     for len in 0..=10 {
         let list = numbers(rt.alloc(), len)?;
         for start in 0..10 {
-            let mut deque = deque_at::<10>(rt.alloc(), start, &list)?;
-            let mut expected = deque_at::<10>(rt.alloc(), 0, &list)?;
-            assert!(rt; deque == expected, "start {start}, length {len}");
-            if len > 2 {
-                deque.pop_front();
-                expected.pop_back();
-                assert_ne!(rt; deque, expected, "start {start}, length {len}");
-            }
+            assert!(rt;
+                is_equal_from(rt.alloc(), start, &list)?,
+                "start {start}, length {len}"
+            );
         }
     }
     Ok(())
 }
 
+/// What two lists of marks are beside each other, if they aren't equal.
+fn order_of(
+    alloc: Global,
+    starts: (usize, usize),
+    left: &[Mark],
+    right: &[Mark],
+) -> Result<Option<Ordering>, Fail> {
+    let left = turned::<_, 3>(alloc, starts.0, left)?;
+    let right = turned::<_, 3>(alloc, starts.1, right)?;
+    if left != right {
+        return Ok(left.partial_cmp(&right));
+    }
+    Ok(Some(Ordering::Equal))
+}
+
 #[test]
 fn the_first_pair_that_is_not_equal_decides(rt: HostRuntime) -> Result<(), Fail> {
-    let known = |n: i64| Mark(Some(n));
+    let [one, two, three] = [Mark(Some(1)), Mark(Some(2)), Mark(Some(3))];
     let unknown = Mark(None);
     for start in 0..3 {
         for other_start in 0..3 {
-            let left = turned::<_, 3>(rt.alloc(), start, &[known(1), unknown, known(2)])?;
-            let right = turned::<_, 3>(rt.alloc(), other_start, &[known(1), unknown, known(3)])?;
-            assert!(rt; left.partial_cmp(&right).is_none());
-            assert!(rt; left != right);
-            let left = turned::<_, 3>(rt.alloc(), start, &[known(1), unknown])?;
-            let right = turned::<_, 3>(rt.alloc(), other_start, &[known(2), unknown])?;
-            assert!(rt; left.partial_cmp(&right) == Some(Ordering::Less));
-            assert!(rt; left != right);
+            let starts = (start, other_start);
+            let unordered = order_of(
+                rt.alloc(),
+                starts,
+                &[one, unknown, two],
+                &[one, unknown, three],
+            )?;
+            let less = order_of(rt.alloc(), starts, &[one, unknown], &[two, unknown])?;
+            assert!(rt;
+                (unordered, less) == (None, Some(Ordering::Less)),
+                "{starts:?}"
+            );
         }
     }
     Ok(())
+}
+
+/// Whether a hasher is fed the length 3 and the items 1, 2, 3, each by a write of its own.
+fn feeds_three(alloc: Global, start: usize) -> Result<bool, Fail> {
+    let deque = turned::<u8, 3>(alloc, start, &[1, 2, 3])?;
+    let writes = writes_of(alloc, &deque);
+    let expected: [&[u8]; 4] = [&[3, 0, 0, 0, 0, 0, 0, 0], &[1], &[2], &[3]];
+    Ok(
+        writes.len() == 4
+            && (writes[0].as_slice(), writes[1].as_slice()) == (expected[0], expected[1])
+            && (writes[2].as_slice(), writes[3].as_slice()) == (expected[2], expected[3]),
+    )
 }
 
 #[test]
 fn a_hasher_is_fed_the_length_and_each_item(rt: HostRuntime) -> Result<(), Fail> {
     for start in 0..3 {
-        let deque = turned::<u8, 3>(rt.alloc(), start, &[1, 2, 3])?;
-        let writes = writes_of(rt.alloc(), &deque);
-        let expected: [&[u8]; 4] = [&[3, 0, 0, 0, 0, 0, 0, 0], &[1], &[2], &[3]];
-        assert!(rt; writes.len() == 4, "start {start}");
-        for (write, bytes) in writes.iter().zip(expected) {
-            assert!(rt; write.as_slice() == bytes, "start {start}");
-        }
+        assert!(rt; feeds_three(rt.alloc(), start)?, "start {start}");
     }
     Ok(())
 }
 
-#[test]
-fn sets_and_sorts_of_deques(rt: HostRuntime) -> Result<(), Fail> {
-    let mut set = HashSet::new(rt.alloc());
+/// Whether a value's `{:?}` is that text.
+fn prints<T: Debug>(alloc: Global, value: &T, text: &str) -> Result<bool, Fail> {
+    Ok(format!(in alloc; "{value:?}")?.as_str() == text)
+}
+
+/// Whether a set takes a list once, whatever its start.
+fn is_kept_once(alloc: Global) -> Result<bool, Fail> {
+    let mut set = HashSet::new(alloc);
     for start in 0..3 {
-        let is_new = set.insert(deque_at::<3>(rt.alloc(), start, &[1, 2, 3])?)?;
-        assert!(rt; is_new == (start == 0));
+        if set.insert(deque_at::<3>(alloc, start, &[1, 2, 3])?)? != (start == 0) {
+            return Ok(false);
+        }
     }
-    assert!(rt; set.insert(deque_at::<3>(rt.alloc(), 0, &[1, 2])?)?);
-    assert!(rt; set.len() == 2);
-    let mut ordered = BTreeSet::new(rt.alloc());
-    let mut sorted = Vec::new(rt.alloc());
-    let lists: [&[i64]; 4] = [&[2], &[1, 2], &[], &[1]];
-    for (list, start) in lists.iter().zip(0..4) {
-        ordered.insert(deque_at::<4>(rt.alloc(), start, list)?)?;
-        sorted.push(deque_at::<4>(rt.alloc(), start, list)?)?;
+    Ok(set.insert(deque_at::<3>(alloc, 0, &[1, 2])?)? && set.len() == 2)
+}
+
+/// Lists in no order.
+const LISTS: [&[i64]; 4] = [&[2], &[1, 2], &[], &[1]];
+
+/// Whether a set has its lists in order, whatever their starts.
+fn keeps_in_order(alloc: Global) -> Result<bool, Fail> {
+    let mut ordered = BTreeSet::new(alloc);
+    for (list, start) in LISTS.iter().zip(0..4) {
+        ordered.insert(deque_at::<4>(alloc, start, list)?)?;
+    }
+    prints(alloc, &ordered, "{[], [1], [1, 2], [2]}")
+}
+
+/// Whether a sort brings them in order.
+fn sorts(alloc: Global) -> Result<bool, Fail> {
+    let mut sorted = Vec::new(alloc);
+    for (list, start) in LISTS.iter().zip(0..4) {
+        sorted.push(deque_at::<4>(alloc, start, list)?)?;
     }
     sorted.sort()?;
-    assert!(rt; format!(in rt.alloc(); "{sorted:?}")?.as_str() == "[[], [1], [1, 2], [2]]");
-    assert!(rt; format!(in rt.alloc(); "{ordered:?}")?.as_str() == "{[], [1], [1, 2], [2]}");
+    prints(alloc, &sorted, "[[], [1], [1, 2], [2]]")
+}
+
+#[test]
+fn sets_and_sorts_of_deques(rt: HostRuntime) -> Result<(), Fail> {
+    assert!(rt;
+        is_kept_once(rt.alloc())?
+            && keeps_in_order(rt.alloc())?
+            && sorts(rt.alloc())?
+            && Some(ArrayDeque::<Box<()>, 100, Saturating>::new(rt.alloc())?).is_some()
+    );
     Ok(())
+}
+
+/// Whether a deque of two items prints as a list in a line, and in lines of their own.
+fn prints_two(alloc: Global, start: usize) -> Result<bool, Fail> {
+    let deque = wrapping_at::<5>(alloc, start, &[0, 1])?;
+    Ok(
+        prints(alloc, &deque, "[0, 1]")?
+            && format!(in alloc; "{deque:#?}")?.as_str() == "[\n    0,\n    1,\n]",
+    )
 }
 
 #[test]
 fn a_deque_prints_as_a_list(rt: HostRuntime) -> Result<(), Fail> {
     let mut deque = Deque::<5>::new(rt.alloc())?;
-    assert!(rt; format!(in rt.alloc(); "{deque:?}")?.as_str() == "[]");
+    let is_empty = prints(rt.alloc(), &deque, "[]")?;
     deque.extend_back(0..4);
-    assert!(rt; format!(in rt.alloc(); "{deque:?}")?.as_str() == "[0, 1, 2, 3]");
+    assert!(rt; prints(rt.alloc(), &deque, "[0, 1, 2, 3]")? && is_empty);
     for start in 0..5 {
-        let deque = wrapping_at::<5>(rt.alloc(), start, &[0, 1])?;
-        assert!(rt;
-            format!(in rt.alloc(); "{deque:?}")?.as_str() == "[0, 1]",
-            "start {start}"
-        );
-        assert!(rt;
-            format!(in rt.alloc(); "{deque:#?}")?.as_str() == "[\n    0,\n    1,\n]",
-            "start {start}"
-        );
+        assert!(rt; prints_two(rt.alloc(), start)?, "start {start}");
     }
     Ok(())
+}
+
+/// Whether an error's `{}` and `{:?}` are these texts.
+fn says<T: Error>(alloc: Global, error: &T, text: &str, debug: &str) -> Result<bool, Fail> {
+    Ok(format!(in alloc; "{error}")?.as_str() == text && prints(alloc, error, debug)?)
 }
 
 /// What prints in no way.
@@ -297,24 +344,19 @@ struct Silent;
 #[test]
 fn the_errors_say_what_is_wrong(rt: HostRuntime) -> Result<(), Fail> {
     let full = CapacityError { element: Silent };
-    assert!(rt; format!(in rt.alloc(); "{full}")?.as_str() == "insufficient capacity");
-    assert!(rt;
-        format!(in rt.alloc(); "{full:?}")?.as_str() == "CapacityError: insufficient capacity"
-    );
     let refused = MakeError { source: Silent };
-    assert!(rt; format!(in rt.alloc(); "{refused}")?.as_str() == "out of memory");
-    assert!(rt; format!(in rt.alloc(); "{refused:?}")?.as_str() == "out of memory");
+    let text = "insufficient capacity";
+    let debug = "CapacityError: insufficient capacity";
+    assert!(rt;
+        says(rt.alloc(), &full, text, debug)?
+            && says(rt.alloc(), &refused, "out of memory", "out of memory")?
+    );
     let full = CapacityError { element: 1 };
     let again = full;
-    assert!(rt; again == full.clone()?);
-    assert!(rt; full < CapacityError { element: 2 });
-    assert!(rt; full.cmp(&again) == Ordering::Equal);
-    Ok(())
-}
-
-#[test]
-fn a_deque_may_stand_in_an_option(rt: HostRuntime) -> Result<(), Fail> {
-    let deque = ArrayDeque::<Box<()>, 100, Saturating>::new(rt.alloc())?;
-    assert!(rt; Some(deque).is_some());
+    assert!(rt;
+        again == full.clone()?
+            && full < CapacityError { element: 2 }
+            && full.cmp(&again) == Ordering::Equal
+    );
     Ok(())
 }

@@ -1,5 +1,6 @@
-//! The examples of the documents and of the documentation of `arraydeque`, letter for letter, one
-//! test each: `.ci/examples` compares them. There is nothing here to call.
+//! The examples of the documents and of the documentation of `arraydeque`, letter for letter, in
+//! functions that one test a file calls: `.ci/examples` compares them. There is nothing here to
+//! call.
 #![tactic(auto)]
 
 #[cfg(test)]

@@ -1,79 +1,96 @@
 //! Walks over a deque by reference, for writing and by value, from both ends.
 use arraydeque::{ArrayDeque, IntoIter, Iter, IterMut, Saturating};
 use arraydeque_samples::build::{deque_at, holds, numbers};
-use std::alloc::Global;
+use std::alloc::{AllocError, Global};
 use std::process::Abort;
 use std::test::Fail;
+
+/// Whether an iterator lends the items 1 and 2, and no more.
+fn lends_one_and_two(mut items: Iter<'_, i64>) -> bool {
+    items.size_hint() == (2, Some(2))
+        && (items.next(), items.next()) == (Some(&1), Some(&2))
+        && (items.next(), items.size_hint()) == (None, (0, Some(0)))
+}
+
+/// Whether an iterator lends the items 2 and 3, and a copy that is made between them goes on.
+fn lends_two_and_three(mut items: Iter<'_, i64>) -> Result<bool, AllocError> {
+    let first = items.next();
+    let mut copy = items.clone()?;
+    Ok(
+        first == Some(&2)
+            && (items.next(), items.next()) == (Some(&3), None)
+            && (copy.next(), copy.next()) == (Some(&3), None),
+    )
+}
+
+/// Whether both ends of an iterator of 1 to 5 meet, as those of a copy do that is made between.
+fn meets(mut items: Iter<'_, i64>) -> Result<bool, AllocError> {
+    if (items.next(), items.next_back()) != (Some(&1), Some(&5))
+        || (items.next(), items.len()) != (Some(&2), 2)
+    {
+        return Ok(false);
+    }
+    let mut copy = items.clone()?;
+    Ok(
+        (items.next_back(), items.next()) == (Some(&4), Some(&3))
+            && (items.next(), items.next_back()) == (None, None)
+            && (copy.len(), copy.next(), copy.next()) == (2, Some(&3), Some(&4)),
+    )
+}
 
 #[test]
 fn items_are_lent_in_order(rt: HostRuntime) -> Result<(), Fail> {
     let mut deque = deque_at::<2>(rt.alloc(), 0, &[1, 2])?;
-    let mut items = deque.iter();
-    assert!(rt; items.size_hint() == (2, Some(2)));
-    assert!(rt; (items.next(), items.next()) == (Some(&1), Some(&2)));
-    assert!(rt; (items.next(), items.size_hint()) == (None, (0, Some(0))));
+    let is_lent = lends_one_and_two(deque.iter());
     deque.pop_front();
-    assert!(rt; deque.push_back(3).is_ok());
-    let mut items = (&deque).into_iter();
-    assert!(rt; items.next() == Some(&2));
-    let mut copy = items.clone()?;
-    assert!(rt; (items.next(), items.next()) == (Some(&3), None));
-    assert!(rt; (copy.next(), copy.next()) == (Some(&3), None));
+    assert!(rt;
+        is_lent && deque.push_back(3).is_ok() && lends_two_and_three((&deque).into_iter())?
+    );
+    assert!(rt; meets(deque_at::<5>(rt.alloc(), 3, &[1, 2, 3, 4, 5])?.iter())?);
     Ok(())
 }
 
-#[test]
-fn both_ends_meet(rt: HostRuntime) -> Result<(), Fail> {
-    let deque = deque_at::<5>(rt.alloc(), 3, &[1, 2, 3, 4, 5])?;
-    let mut items = deque.iter();
-    assert!(rt; (items.next(), items.next_back()) == (Some(&1), Some(&5)));
-    assert!(rt; (items.next(), items.len()) == (Some(&2), 2));
-    let mut copy = items.clone()?;
-    assert!(rt; (items.next_back(), items.next()) == (Some(&4), Some(&3)));
-    assert!(rt; (items.next(), items.next_back()) == (None, None));
-    assert!(rt; (copy.len(), copy.next(), copy.next()) == (2, Some(&3), Some(&4)));
-    Ok(())
+/// Whether an iterator lends these two items for writing, and no more.
+fn lends_two(mut items: IterMut<'_, i64>, first: i64, second: i64) -> bool {
+    items.size_hint() == (2, Some(2))
+        && items.next().copied() == Some(first)
+        && items.next().copied() == Some(second)
+        && items.next().is_none()
+        && items.size_hint() == (0, Some(0))
 }
 
-/// The item that is lent, if one is.
-fn read(item: Option<&mut i64>) -> Option<i64> {
-    match item {
-        Some(item) => Some(*item),
-        None => None,
+/// Whether items are lent for writing in order, by an iterator of a loan too, and keep what is
+/// written.
+fn lends_for_writing(alloc: Global) -> Result<bool, Fail> {
+    let mut deque = deque_at::<2>(alloc, 0, &[1, 2])?;
+    let mut turned = deque_at::<2>(alloc, 1, &[2, 3])?;
+    let is_lent = lends_two(deque.iter_mut(), 1, 2) && lends_two((&mut turned).into_iter(), 2, 3);
+    let mut items = turned.iter_mut();
+    if let (Some(first), Some(second)) = (items.next(), items.next()) {
+        *first = first.wrapping_add(1);
+        *second = second.wrapping_add(2);
     }
+    Ok(is_lent && holds(&turned, &[3, 5]))
 }
 
-#[test]
-fn items_are_lent_for_writing_in_order(rt: HostRuntime) -> Result<(), Fail> {
-    let mut deque = deque_at::<2>(rt.alloc(), 0, &[1, 2])?;
-    let mut items = deque.iter_mut();
-    assert!(rt; items.size_hint() == (2, Some(2)));
-    assert!(rt; (read(items.next()), read(items.next())) == (Some(1), Some(2)));
-    assert!(rt; (read(items.next()), items.size_hint()) == (None, (0, Some(0))));
-    Ok(())
-}
-
-#[test]
-fn a_loan_is_walked(rt: HostRuntime) -> Result<(), Fail> {
-    let mut deque = deque_at::<2>(rt.alloc(), 1, &[2, 3])?;
-    let mut items = (&mut deque).into_iter();
-    assert!(rt; read(items.next()) == Some(2));
-    assert!(rt; read(items.next()) == Some(3));
-    assert!(rt; read(items.next()).is_none());
-    Ok(())
-}
-
-#[test]
-fn what_is_written_stays(rt: HostRuntime) -> Result<(), Fail> {
-    let mut deque = deque_at::<2>(rt.alloc(), 1, &[2, 3])?;
-    let mut items = deque.iter_mut();
-    if let Some(item) = items.next() {
-        *item = item.wrapping_add(1);
+/// Whether two slices for writing are the list, before and after it is cut, and keep what is
+/// written.
+fn lends_slices(alloc: Global) -> Result<bool, Fail> {
+    let mut deque = deque_at::<7>(alloc, 0, &[0, 1])?;
+    let (front, back) = deque.as_mut_slices();
+    let is_lent = &*front == [0, 1].as_slice() && back.is_empty();
+    let is_pushed = deque.push_front(2).is_ok();
+    let (front, back) = deque.as_mut_slices();
+    let is_cut = &*front == [2].as_slice() && &*back == [0, 1].as_slice();
+    if let Some(item) = back.first_mut() {
+        *item = 9;
     }
-    if let Some(item) = items.next() {
-        *item = item.wrapping_add(2);
-    }
-    assert!(rt; holds(&deque, &[3, 5]));
+    Ok(is_lent && is_pushed && is_cut && holds(&deque, &[2, 9, 1]))
+}
+
+#[test]
+fn items_are_lent_for_writing(rt: HostRuntime) -> Result<(), Fail> {
+    assert!(rt; lends_for_writing(rt.alloc())? && lends_slices(rt.alloc())?);
     Ok(())
 }
 
@@ -88,35 +105,27 @@ fn last_two(alloc: Global, last: u8) -> Result<ArrayDeque<Kept, 3, Saturating>, 
         if deque.len() == 2 {
             deque.pop_front();
         }
-        deque.push_back(Kept(number)).map_err(|_| "no room")?;
+        deque.push_back(Kept(number)).ok().ok_or("no room")?;
     }
     Ok(deque)
+}
+
+/// Whether an owned iterator gives these two items, and no more.
+fn gives_two(mut items: IntoIter<Kept, 3, Saturating>, first: Kept, second: Kept) -> bool {
+    items.size_hint() == (2, Some(2))
+        && (items.next(), items.next()) == (Some(first), Some(second))
+        && (items.next(), items.size_hint()) == (None, (0, Some(0)))
 }
 
 #[test]
 fn items_are_given_in_order(rt: HostRuntime) -> Result<(), Fail> {
     for last in 2..=4 {
-        let mut items = last_two(rt.alloc(), last)?.into_iter();
-        assert!(rt; items.size_hint() == (2, Some(2)));
-        assert!(rt; items.next() == Some(Kept(last.wrapping_sub(1))));
-        assert!(rt; items.next() == Some(Kept(last)));
-        assert!(rt; (items.next(), items.size_hint()) == (None, (0, Some(0))));
+        let items = last_two(rt.alloc(), last)?.into_iter();
+        assert!(rt;
+            gives_two(items, Kept(last.wrapping_sub(1)), Kept(last)),
+            "{last}"
+        );
     }
-    Ok(())
-}
-
-#[test]
-fn slices_for_writing(rt: HostRuntime) -> Result<(), Fail> {
-    let mut deque = deque_at::<7>(rt.alloc(), 0, &[0, 1])?;
-    let (front, back) = deque.as_mut_slices();
-    assert!(rt; &*front == [0, 1].as_slice() && back.is_empty());
-    assert!(rt; deque.push_front(2).is_ok());
-    let (front, back) = deque.as_mut_slices();
-    assert!(rt; &*front == [2].as_slice() && &*back == [0, 1].as_slice());
-    if let Some(item) = back.first_mut() {
-        *item = 9;
-    }
-    assert!(rt; holds(&deque, &[2, 9, 1]));
     Ok(())
 }
 
@@ -239,18 +248,36 @@ fn every_start_and_length(rt: HostRuntime) -> Result<(), Fail> {
     Ok(())
 }
 
+type MostPlaces = ArrayDeque<(), { usize::MAX }, Saturating>;
+
+/// Whether two items of size zero are lent.
+fn lends_two_of_size_zero(mut items: Iter<'_, ()>) -> bool {
+    (items.len(), items.next()) == (2, Some(&()))
+        && (items.next_back(), items.next()) == (Some(&()), None)
+}
+
+/// Whether they are lent for writing.
+fn lends_two_of_size_zero_for_writing(mut items: IterMut<'_, ()>) -> bool {
+    (items.len(), items.next()) == (2, Some(&mut ()))
+        && (items.next_back(), items.next()) == (Some(&mut ()), None)
+}
+
+/// Whether they are given.
+fn gives_two_of_size_zero(deque: MostPlaces) -> bool {
+    let mut items = deque.into_iter();
+    (items.len(), items.next()) == (2, Some(()))
+        && (items.next_back(), items.next()) == (Some(()), None)
+}
+
 #[test]
 fn two_items_of_size_zero(rt: HostRuntime) -> Result<(), Fail> {
-    let mut deque = ArrayDeque::<(), { usize::MAX }, Saturating>::new(rt.alloc())?;
-    assert!(rt; deque.push_front(()).is_ok() && deque.push_back(()).is_ok());
-    let mut items = deque.iter();
-    assert!(rt; (items.len(), items.next()) == (2, Some(&())));
-    assert!(rt; (items.next_back(), items.next()) == (Some(&()), None));
-    let mut items = deque.iter_mut();
-    assert!(rt; (items.len(), items.next()) == (2, Some(&mut ())));
-    assert!(rt; (items.next_back(), items.next()) == (Some(&mut ()), None));
-    let mut items = deque.into_iter();
-    assert!(rt; (items.len(), items.next()) == (2, Some(())));
-    assert!(rt; (items.next_back(), items.next()) == (Some(()), None));
+    let mut deque = MostPlaces::new(rt.alloc())?;
+    assert!(rt;
+        deque.push_front(()).is_ok()
+            && deque.push_back(()).is_ok()
+            && lends_two_of_size_zero(deque.iter())
+            && lends_two_of_size_zero_for_writing(deque.iter_mut())
+            && gives_two_of_size_zero(deque)
+    );
     Ok(())
 }

@@ -1,8 +1,9 @@
 //! A scanner's answers, and how often it asks its iterator.
 use arraydeque::lookahead::Scanner;
 use arraydeque_samples::asked::{Count, Script};
+use arraydeque_samples::build::made;
+use std::alloc::Global;
 use std::cell::Cell;
-use std::process::Abort;
 use std::test::Fail;
 
 /// An iterator that notes, for others to see, how often it is asked.
@@ -37,31 +38,35 @@ enum Call {
     Unread(i64),
 }
 
-/// Makes the calls. With each stand its answer, which is what comes back of an `unread`, and how
-/// often the iterator was asked by then.
+/// Whether a scanner answers the calls so. With each stand its answer, which is what comes back of
+/// an `unread`, and how often the iterator was asked by then.
 fn scans<I: Iterator<Item = i64>, const CAP: usize>(
-    rt: &impl Abort,
     scanner: &mut Scanner<I, CAP>,
     asked: &Cell<usize>,
     calls: &[(Call, Option<i64>, usize)],
-) {
-    assert!(rt; asked.get() == 0);
+) -> bool {
+    if asked.get() != 0 {
+        return false;
+    }
     for &(call, answer, times) in calls {
         let got = match call {
-            Call::Peek(k) => {
-                assert!(rt; k < CAP);
-                scanner.peek(k).copied()
-            }
+            Call::Peek(k) if k < CAP => scanner.peek(k).copied(),
+            Call::Peek(_) => return false,
             Call::Next => scanner.next(),
-            Call::Unread(item) => scanner.unread(item).err().map(|refusal| refusal.element),
+            Call::Unread(item) => match scanner.unread(item) {
+                Ok(()) => None,
+                Err(refusal) => Some(refusal.element),
+            },
         };
-        assert!(rt; (got, asked.get()) == (answer, times));
+        if (got, asked.get()) != (answer, times) {
+            return false;
+        }
     }
+    true
 }
 
-#[test]
-fn a_scanner_gives_the_input_and_what_was_put_back(rt: HostRuntime) -> Result<(), Fail> {
-    let input = [Some(1), Some(2), Some(3)];
+/// Whether a scanner gives the input, and what was put back.
+fn gives_the_input_and_what_was_put_back(alloc: Global) -> Result<bool, Fail> {
     let calls = [
         (Call::Peek(1), Some(2), 2),
         (Call::Next, Some(1), 2),
@@ -73,14 +78,13 @@ fn a_scanner_gives_the_input_and_what_was_put_back(rt: HostRuntime) -> Result<()
         (Call::Next, None, 4),
     ];
     let asked = Cell::new(0);
-    let iter = Watched::by(&asked, Script::of(&input));
-    let mut scanner = Scanner::<_, 2>::new(rt.alloc(), iter).map_err(|_| "refused")?;
-    scans(&rt, &mut scanner, &asked, &calls);
-    Ok(())
+    let iter = Watched::by(&asked, Script::of(&[Some(1), Some(2), Some(3)]));
+    let mut scanner = made(Scanner::<_, 2>::new(alloc, iter))?;
+    Ok(scans(&mut scanner, &asked, &calls))
 }
 
-#[test]
-fn a_scanner_of_no_capacity_hands_back_each_item(rt: HostRuntime) -> Result<(), Fail> {
+/// Whether one of no capacity hands back each item.
+fn hands_back_each_item(alloc: Global) -> Result<bool, Fail> {
     let calls = [
         (Call::Next, Some(1), 1),
         (Call::Unread(9), Some(9), 1),
@@ -89,14 +93,12 @@ fn a_scanner_of_no_capacity_hands_back_each_item(rt: HostRuntime) -> Result<(), 
     ];
     let asked = Cell::new(0);
     let iter = Watched::by(&asked, Script::of(&[Some(1), Some(2)]));
-    let mut scanner = Scanner::<_, 0>::new(rt.alloc(), iter).map_err(|_| "refused")?;
-    scans(&rt, &mut scanner, &asked, &calls);
-    Ok(())
+    let mut scanner = made(Scanner::<_, 0>::new(alloc, iter))?;
+    Ok(scans(&mut scanner, &asked, &calls))
 }
 
-#[test]
-fn a_scanner_asks_no_more_after_the_first_none(rt: HostRuntime) -> Result<(), Fail> {
-    let input = [Some(1), None, Some(2)];
+/// Whether one asks no more after the first `None`.
+fn asks_no_more_after_the_first_none(alloc: Global) -> Result<bool, Fail> {
     let calls = [
         (Call::Peek(2), None, 2),
         (Call::Peek(0), Some(1), 2),
@@ -107,14 +109,13 @@ fn a_scanner_asks_no_more_after_the_first_none(rt: HostRuntime) -> Result<(), Fa
         (Call::Next, None, 2),
     ];
     let asked = Cell::new(0);
-    let iter = Watched::by(&asked, Script::of(&input));
-    let mut scanner = Scanner::<_, 3>::new(rt.alloc(), iter).map_err(|_| "refused")?;
-    scans(&rt, &mut scanner, &asked, &calls);
-    Ok(())
+    let iter = Watched::by(&asked, Script::of(&[Some(1), None, Some(2)]));
+    let mut scanner = made(Scanner::<_, 3>::new(alloc, iter))?;
+    Ok(scans(&mut scanner, &asked, &calls))
 }
 
-#[test]
-fn a_scanner_asks_for_no_more_than_it_wants(rt: HostRuntime) -> Result<(), Fail> {
+/// Whether one asks for no more than it wants.
+fn asks_for_no_more_than_it_wants(alloc: Global) -> Result<bool, Fail> {
     let calls = [
         (Call::Peek(1), Some(11), 2),
         (Call::Peek(0), Some(10), 2),
@@ -123,7 +124,15 @@ fn a_scanner_asks_for_no_more_than_it_wants(rt: HostRuntime) -> Result<(), Fail>
     ];
     let asked = Cell::new(0);
     let iter = Watched::by(&asked, Count::from(10));
-    let mut scanner = Scanner::<_, 2>::new(rt.alloc(), iter).map_err(|_| "refused")?;
-    scans(&rt, &mut scanner, &asked, &calls);
+    let mut scanner = made(Scanner::<_, 2>::new(alloc, iter))?;
+    Ok(scans(&mut scanner, &asked, &calls))
+}
+
+#[test]
+fn scanners_answer_and_ask_as_they_should(rt: HostRuntime) -> Result<(), Fail> {
+    assert!(rt; gives_the_input_and_what_was_put_back(rt.alloc())?);
+    assert!(rt; hands_back_each_item(rt.alloc())?);
+    assert!(rt; asks_no_more_after_the_first_none(rt.alloc())?);
+    assert!(rt; asks_for_no_more_than_it_wants(rt.alloc())?);
     Ok(())
 }

@@ -38,8 +38,7 @@ fn hold_two<T: Copy + PartialEq + Debug>(
     ring.push_back(item);
     assert!(rt; (ring.len(), ring.capacity()) == (2, capacity));
     let (first, second) = ring.as_slices();
-    assert!(rt; first == [item].as_slice());
-    assert!(rt; second == [item].as_slice());
+    assert!(rt; (first, second) == ([item].as_slice(), [item].as_slice()));
     assert!(rt; (ring.get(1).copied(), ring.get(2).copied()) == (Some(item), None));
     assert!(rt;
         (ring.pop_front(), ring.pop_back(), ring.pop_back()) == (Some(item), Some(item), None)

@@ -7,6 +7,8 @@ mod block_moves;
 #[cfg(test)]
 mod capacities;
 #[cfg(test)]
+mod items;
+#[cfg(test)]
 mod linearize;
 #[cfg(test)]
 mod moves;

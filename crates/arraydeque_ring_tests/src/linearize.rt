@@ -1,44 +1,9 @@
 //! Rings that come to lie in one piece.
+use crate::items::{Numbered, Wide};
 use arraydeque_ring::ring::Ring;
 use std::alloc::Global;
 use std::process::Abort;
 use std::test::Fail;
-
-/// Items that are told apart by a number.
-trait Numbered: Drop {
-    fn of(number: u8) -> Self;
-
-    fn number(&self) -> u8;
-}
-
-impl Numbered for u8 {
-    fn of(number: u8) -> u8 {
-        number
-    }
-
-    fn number(&self) -> u8 {
-        *self
-    }
-}
-
-/// An item of 200 bytes.
-#[derive(Drop)]
-struct Wide {
-    bytes: [u8; 200],
-}
-
-impl Numbered for Wide {
-    fn of(number: u8) -> Wide {
-        Wide {
-            bytes: [number; 200],
-        }
-    }
-
-    fn number(&self) -> u8 {
-        let [first, .., last] = self.bytes;
-        if first == last { first } else { u8::MAX }
-    }
-}
 
 /// A ring of `len` items that starts at the place `start` lies in one piece once it is linearized,
 /// with the items in the same order.
@@ -61,9 +26,8 @@ fn ring_comes_to_one_piece<T: Numbered>(
     }
     ring.linearize();
     let (first, second) = ring.as_slices();
-    assert!(rt; second.len() == 0, "start {start}, {len} of {capacity}");
     assert!(rt;
-        first.iter().map(T::number).eq(0..len),
+        second.len() == 0 && first.iter().map(T::number).eq(0..len),
         "start {start}, {len} of {capacity}"
     );
     Ok(())

@@ -1,86 +1,9 @@
 //! Items that move across the region's end, in rings of items of every size.
+use crate::items::{Numbered, Three, Wide};
 use arraydeque_ring::ring::Ring;
 use std::alloc::Global;
 use std::process::Abort;
 use std::test::Fail;
-
-/// Items that are told apart by a number, where they take any bytes.
-trait Numbered: Drop {
-    fn of(number: u8) -> Self;
-
-    fn number(&self) -> u8;
-}
-
-impl Numbered for () {
-    fn of(_number: u8) {}
-
-    fn number(&self) -> u8 {
-        0
-    }
-}
-
-impl Numbered for u8 {
-    fn of(number: u8) -> u8 {
-        number
-    }
-
-    fn number(&self) -> u8 {
-        *self
-    }
-}
-
-impl Numbered for u64 {
-    fn of(number: u8) -> u64 {
-        u64::from(number) << 56 | u64::from(number)
-    }
-
-    fn number(&self) -> u8 {
-        let [first, .., last] = self.to_be_bytes();
-        if first == last { first } else { u8::MAX }
-    }
-}
-
-/// An item of 24 bytes.
-#[derive(Drop)]
-struct Three {
-    words: [u64; 3],
-}
-
-impl Numbered for Three {
-    fn of(number: u8) -> Three {
-        Three {
-            words: [u64::of(number); 3],
-        }
-    }
-
-    fn number(&self) -> u8 {
-        let [first, _, last] = self.words;
-        if first == last {
-            first.number()
-        } else {
-            u8::MAX
-        }
-    }
-}
-
-/// An item of 200 bytes.
-#[derive(Drop)]
-struct Wide {
-    bytes: [u8; 200],
-}
-
-impl Numbered for Wide {
-    fn of(number: u8) -> Wide {
-        Wide {
-            bytes: [number; 200],
-        }
-    }
-
-    fn number(&self) -> u8 {
-        let [first, .., last] = self.bytes;
-        if first == last { first } else { u8::MAX }
-    }
-}
 
 /// Whether the ring holds items of the numbers in these runs, each from its first up to its end.
 fn holds<T: Numbered>(ring: &Ring<T>, runs: &[(u8, u8)]) -> bool {

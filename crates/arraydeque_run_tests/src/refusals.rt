@@ -22,8 +22,7 @@ fn compare_replies(rt: &impl Abort, replies: Vec<Reply<i64, 5, Saturating>>) -> 
             &[1, 2, 3, 4]
         }
     };
-    assert!(rt; matches!(&replies.next(), Some(Reply::Item(Some(0)))));
-    assert!(rt; replies.next().is_none());
+    assert!(rt; matches!(&replies.next(), Some(Reply::Item(Some(0)))) && replies.next().is_none());
     left
 }
 

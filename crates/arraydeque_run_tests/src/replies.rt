@@ -20,7 +20,7 @@ pub(crate) fn saturating<const CAP: usize>(
 ) -> Result<(), Fail> {
     let (calls, told) = parted(alloc, rows)?;
     let mut deque = ArrayDeque::<i64, CAP, Saturating>::new(alloc)?;
-    let replies = deque.run(calls).map_err(|_| "no room for the replies")?;
+    let replies = deque.run(calls).ok().ok_or("no room for the replies")?;
     compare(rt, alloc, replies, told.as_slice())?;
     compare_list(rt, deque, left);
     Ok(())
@@ -35,7 +35,7 @@ pub(crate) fn wrapping<const CAP: usize>(
 ) -> Result<(), Fail> {
     let (calls, told) = parted(alloc, rows)?;
     let mut deque = ArrayDeque::<i64, CAP, Wrapping>::new(alloc)?;
-    let replies = deque.run(calls).map_err(|_| "no room for the replies")?;
+    let replies = deque.run(calls).ok().ok_or("no room for the replies")?;
     compare(rt, alloc, replies, told.as_slice())?;
     compare_list(rt, deque, left);
     Ok(())
@@ -60,8 +60,7 @@ fn compare<const CAP: usize, B: Behavior>(
 ) -> Result<(), Fail> {
     assert!(rt; replies.len() == told.len());
     for (reply, expected) in replies.into_iter().zip(told) {
-        let text = text_of(alloc, reply)?;
-        assert!(rt; text.as_str() == *expected);
+        assert!(rt; text_of(alloc, reply)?.as_str() == *expected);
     }
     Ok(())
 }

@@ -1,196 +1,189 @@
 //! The smallest and the largest capacities, and items of size zero.
-use crate::build::{deque_at, holds, is_cut, made, wrapping_at};
-use crate::extend::{Way, extend_in_turn, extend_wrapping_in_turn};
+use crate::build::{holds, is_cut, made, wrapping_at};
+use crate::extend::by_each_way;
 use arraydeque::behavior::Behavior;
-use arraydeque::{ArrayDeque, Saturating, Wrapping};
+use arraydeque::{ArrayDeque, CapacityError, Saturating, Wrapping};
 use std::alloc::Global;
-use std::fmt::Debug;
-use std::process::Abort;
 use std::test::Fail;
 
-#[test]
-fn capacity_zero_refuses(rt: HostRuntime) -> Result<(), Fail> {
-    let mut deque = ArrayDeque::<i64, 0, Saturating>::new(rt.alloc())?;
-    let (back, front) = (deque.push_back(5).err(), deque.push_front(6).err());
-    assert!(rt; back.map(|refusal| refusal.element) == Some(5));
-    assert!(rt; front.map(|refusal| refusal.element) == Some(6));
-    assert!(rt; deque.insert(0, 7).err().map(|refusal| refusal.element) == Some(7));
-    assert!(rt; (deque.len(), deque.capacity()) == (0, 0));
-    Ok(())
+/// Whether a deque of no items shows none.
+fn shows_nothing<const CAP: usize, B: Behavior>(deque: &mut ArrayDeque<i64, CAP, B>) -> bool {
+    deque.len() == 0
+        && deque.capacity() == CAP
+        && deque.is_empty()
+        && deque.is_full() == (CAP == 0)
+        && deque.front().is_none()
+        && deque.back().is_none()
+        && deque.get(0).is_none()
+        && deque.front_mut().is_none()
+        && deque.back_mut().is_none()
+        && deque.get_mut(0).is_none()
+        && !deque.contains(&1)
+        && is_cut(deque, &[], &[])
 }
 
-#[test]
-fn capacity_zero_displaces(rt: HostRuntime) -> Result<(), Fail> {
-    let mut deque = ArrayDeque::<i64, 0, Wrapping>::new(rt.alloc())?;
-    assert!(rt; (deque.push_back(5), deque.push_front(6)) == (Some(5), Some(6)));
-    assert!(rt; (deque.len(), deque.capacity()) == (0, 0));
-    Ok(())
-}
-
-fn reads_nothing<const CAP: usize, B: Behavior>(
-    rt: &impl Abort,
+/// Whether nothing can be taken out of a deque of no items, piece by piece or at once.
+fn gives_nothing<const CAP: usize, B: Behavior>(
     deque: &mut ArrayDeque<i64, CAP, B>,
-) {
-    assert!(rt; (deque.len(), deque.capacity()) == (0, CAP));
-    assert!(rt; (deque.is_empty(), deque.is_full()) == (true, CAP == 0));
-    assert!(rt; (deque.front().copied(), deque.back().copied()) == (None, None));
-    assert!(rt; deque.get(0).copied().is_none());
-    assert!(rt; deque.front_mut().is_none());
-    assert!(rt; deque.back_mut().is_none());
-    assert!(rt; deque.get_mut(0).is_none());
-    assert!(rt; !deque.contains(&1));
-    assert!(rt; is_cut(deque, &[], &[]));
-}
-
-fn takes_nothing<const CAP: usize, B: Behavior>(
-    rt: &impl Abort,
-    deque: &mut ArrayDeque<i64, CAP, B>,
-) {
-    assert!(rt; (deque.pop_front(), deque.pop_back()) == (None, None));
-    assert!(rt; (deque.remove(0), deque.swap_remove_back(0)) == (None, None));
-    assert!(rt; deque.swap_remove_front(0).is_none());
+) -> Result<bool, Fail> {
+    let pops_nothing = deque.pop_front().is_none()
+        && deque.pop_back().is_none()
+        && deque.remove(0).is_none()
+        && deque.swap_remove_back(0).is_none()
+        && deque.swap_remove_front(0).is_none();
     deque.retain(|_| true);
     deque.clear();
-    assert!(rt; deque.len() == 0);
+    Ok(
+        pops_nothing
+            && deque.len() == 0
+            && deque.drain(..)?.next().is_none()
+            && deque.len() == 0
+            && deque.split_off(0)?.is_empty(),
+    )
 }
 
-fn parts_of_nothing<const CAP: usize, B: Behavior>(
-    rt: &impl Abort,
-    mut deque: ArrayDeque<i64, CAP, B>,
-) -> Result<(), Fail> {
-    assert!(rt; deque.len() == 0);
-    assert!(rt; deque.drain(..)?.next().is_none());
-    assert!(rt; deque.len() == 0);
-    assert!(rt; deque.split_off(0)?.is_empty());
-    assert!(rt; made(deque.into_vec())?.is_empty());
-    Ok(())
+/// Whether the calls of every policy find nothing in a new deque.
+fn starts_empty<const CAP: usize, B: Behavior>(alloc: Global) -> Result<bool, Fail> {
+    let mut deque = ArrayDeque::<i64, CAP, B>::new(alloc)?;
+    let has_nothing = shows_nothing(&mut deque) && gives_nothing(&mut deque)?;
+    Ok(made(deque.into_vec())?.is_empty() && has_nothing)
 }
 
-/// The calls of every policy on a deque of no items.
-fn calls_on_no_items<const CAP: usize, B: Behavior>(
-    rt: &impl Abort,
-    mut deque: ArrayDeque<i64, CAP, B>,
-) -> Result<(), Fail> {
-    reads_nothing(rt, &mut deque);
-    takes_nothing(rt, &mut deque);
-    parts_of_nothing(rt, deque)
+/// Whether a deque of capacity 0 hands back each element.
+fn hands_each_back(alloc: Global) -> Result<bool, Fail> {
+    let mut saturating = ArrayDeque::<i64, 0, Saturating>::new(alloc)?;
+    let mut wrapping = ArrayDeque::<i64, 0, Wrapping>::new(alloc)?;
+    Ok(
+        saturating.push_back(5) == Err(CapacityError { element: 5 })
+            && saturating.push_front(6) == Err(CapacityError { element: 6 })
+            && saturating.insert(0, 7) == Err(CapacityError { element: 7 })
+            && saturating.len() == 0
+            && saturating.capacity() == 0
+            && wrapping.push_back(5) == Some(5)
+            && wrapping.push_front(6) == Some(6)
+            && wrapping.len() == 0
+            && wrapping.capacity() == 0,
+    )
 }
 
-#[test]
-fn empty_deques_of_capacity_zero_and_one(rt: HostRuntime) -> Result<(), Fail> {
-    calls_on_no_items(&rt, ArrayDeque::<i64, 0, Saturating>::new(rt.alloc())?)?;
-    calls_on_no_items(&rt, ArrayDeque::<i64, 0, Wrapping>::new(rt.alloc())?)?;
-    calls_on_no_items(&rt, ArrayDeque::<i64, 1, Saturating>::new(rt.alloc())?)?;
-    calls_on_no_items(&rt, ArrayDeque::<i64, 1, Wrapping>::new(rt.alloc())?)?;
-    Ok(())
-}
-
-#[test]
-fn makers_of_capacity_zero_and_one(rt: HostRuntime) -> Result<(), Fail> {
-    let none = made(ArrayDeque::<i64, 0, Saturating>::from_array(rt.alloc(), [1, 2]))?;
-    assert!(rt; none.is_empty());
-    let none = made(ArrayDeque::<i64, 0, Wrapping>::from_iter(rt.alloc(), 1..3))?;
-    assert!(rt; none.is_empty());
-    let one = made(ArrayDeque::<i64, 1, Saturating>::from_iter(rt.alloc(), 1..3))?;
-    assert!(rt; holds(&one, &[1]));
-    let one = made(ArrayDeque::<i64, 1, Wrapping>::from_iter(rt.alloc(), 1..3))?;
-    assert!(rt; holds(&one, &[2]));
-    Ok(())
+/// Whether the makers of a deque of capacity 0 keep nothing, and are not refused.
+fn makers_keep_nothing(alloc: Global) -> Result<bool, Fail> {
+    Ok(
+        made(ArrayDeque::<i64, 0, Saturating>::from_array(alloc, [1, 2]))?.is_empty()
+            && made(ArrayDeque::<i64, 0, Wrapping>::from_iter(alloc, 1..3))?.is_empty()
+            && ArrayDeque::<i64, 0, Saturating>::from_iter(alloc, 1..4).is_ok()
+            && ArrayDeque::<i64, 0, Wrapping>::from_array(alloc, [1, 2]).is_ok()
+            && ArrayDeque::<i64, 0, Saturating>::from_vec(alloc, Vec::new(alloc)).is_ok(),
+    )
 }
 
 #[test]
-fn extends_of_capacity_zero(rt: HostRuntime) -> Result<(), Fail> {
-    let lists: [(&[i64], &[i64]); 1] = [(&[3, 4], &[])];
-    for way in [Way::Back, Way::Front, Way::Trait] {
-        extend_in_turn::<0>(&rt, deque_at(rt.alloc(), 0, &[])?, way, &lists)?;
-        extend_wrapping_in_turn::<0>(&rt, wrapping_at(rt.alloc(), 0, &[])?, way, &lists)?;
+fn capacity_zero_0_requests_0_bytes(rt: HostRuntime) -> Result<(), Fail> {
+    assert!(rt;
+        starts_empty::<0, Saturating>(rt.alloc())?
+            && starts_empty::<0, Wrapping>(rt.alloc())?
+            && hands_each_back(rt.alloc())?
+            && makers_keep_nothing(rt.alloc())?
+            && by_each_way::<0>(rt.alloc(), &[], (&[3, 4], &[], &[]))?
+    );
+    Ok(())
+}
+
+/// Whether a deque of capacity 1 keeps the first item or the last, and has it replaced in place.
+fn keeps_one(alloc: Global) -> Result<bool, Fail> {
+    let first = made(ArrayDeque::<i64, 1, Saturating>::from_iter(alloc, 1..3))?;
+    let last = made(ArrayDeque::<i64, 1, Wrapping>::from_iter(alloc, 1..3))?;
+    let mut one = wrapping_at::<1>(alloc, 0, &[6])?;
+    if one.len() == 1 {
+        one.swap(0, 0);
     }
-    Ok(())
-}
-
-#[test]
-fn extends_of_capacity_one(rt: HostRuntime) -> Result<(), Fail> {
-    let kept: [(&[i64], &[i64]); 1] = [(&[3, 4], &[1])];
-    let displaced: [(&[i64], &[i64]); 1] = [(&[3, 4], &[4])];
-    for way in [Way::Back, Way::Front, Way::Trait] {
-        extend_in_turn::<1>(&rt, deque_at(rt.alloc(), 0, &[1])?, way, &kept)?;
-        extend_wrapping_in_turn::<1>(&rt, wrapping_at(rt.alloc(), 0, &[1])?, way, &displaced)?;
+    let is_swapped = holds(&one, &[6]);
+    if one.len() == 1 {
+        one[0] = 7;
     }
-    Ok(())
+    Ok(holds(&first, &[1]) && holds(&last, &[2]) && is_swapped && holds(&one, &[7]))
 }
 
 #[test]
-fn the_one_item_of_capacity_one(rt: HostRuntime) -> Result<(), Fail> {
-    let mut one = wrapping_at::<1>(rt.alloc(), 0, &[6])?;
-    assert!(rt; one.len() == 1);
-    one.swap(0, 0);
-    assert!(rt; holds(&one, &[6]));
-    assert!(rt; one.len() == 1);
-    one[0] = 7;
-    assert!(rt; holds(&one, &[7]));
+fn capacity_one(rt: HostRuntime) -> Result<(), Fail> {
+    assert!(rt;
+        starts_empty::<1, Saturating>(rt.alloc())?
+            && starts_empty::<1, Wrapping>(rt.alloc())?
+            && keeps_one(rt.alloc())?
+            && by_each_way::<1>(rt.alloc(), &[1], (&[3, 4], &[1], &[4]))?
+    );
     Ok(())
 }
 
-/// A deque of the largest capacity, which holds three copies of an item of size zero.
-fn hold_three<T: Copy + PartialEq + Debug>(
-    rt: &impl Abort,
-    alloc: Global,
+/// Whether a deque of the largest capacity holds three copies of an item of size zero, of whose
+/// type there is no other.
+fn holds_three<T: Copy + PartialEq>(
+    deque: &mut ArrayDeque<T, { usize::MAX }, Saturating>,
     item: T,
-) -> Result<(), Fail> {
-    let mut deque = ArrayDeque::<T, { usize::MAX }, Saturating>::new(alloc)?;
-    assert!(rt; deque.push_front(item).is_ok());
-    assert!(rt; deque.push_back(item).is_ok());
-    assert!(rt; deque.push_front(item).is_ok());
-    assert!(rt; (deque.len(), deque.capacity()) == (3, usize::MAX));
-    assert!(rt; holds(&deque, &[item, item, item]));
-    assert!(rt; (deque.get(2).copied(), deque.get(3).copied()) == (Some(item), None));
-    assert!(rt; (deque.pop_back(), deque.pop_front()) == (Some(item), Some(item)));
-    assert!(rt; (deque.pop_back(), deque.pop_front()) == (Some(item), None));
-    Ok(())
+    copies: &[T],
+) -> bool {
+    deque.push_front(item).is_ok()
+        && deque.push_back(item).is_ok()
+        && deque.push_front(item).is_ok()
+        && deque.len() == 3
+        && deque.capacity() == usize::MAX
+        && holds(deque, copies)
+        && deque.get(2).is_some()
+        && deque.get(3).is_none()
+        && deque.pop_back().is_some()
+        && deque.pop_front().is_some()
+        && deque.pop_back().is_some()
+        && deque.pop_front().is_none()
 }
 
-#[test]
-fn items_of_size_zero_fill_no_memory(rt: HostRuntime) -> Result<(), Fail> {
-    hold_three(&rt, rt.alloc(), ())?;
-    hold_three::<[u64; 0]>(&rt, rt.alloc(), [])?;
-    hold_three::<[u128; 0]>(&rt, rt.alloc(), [])
-}
-
-/// Inserts, removals and parts of a deque of two copies of an item of size zero.
-fn edit_two<T: Copy + PartialEq + Debug>(
-    rt: &impl Abort,
-    alloc: Global,
+/// Whether two copies of an item of size zero can be edited and parted.
+fn edits_two<T: Copy>(
+    deque: &mut ArrayDeque<T, { usize::MAX }, Saturating>,
     item: T,
+) -> Result<bool, Fail> {
+    Ok(
+        deque.push_front(item).is_ok()
+            && deque.push_back(item).is_ok()
+            && deque.len() == 2
+            && deque.insert(1, item).is_ok()
+            && deque.len() == 3
+            && deque.remove(1).is_some()
+            && deque.len() == 2
+            && deque.split_off(1)?.len() == 1
+            && deque.len() == 1
+            && deque.drain(0..1)?.len() == 1
+            && deque.len() == 0,
+    )
+}
+
+/// Whether a deque of the largest capacity treats items of size zero as others.
+fn takes_items_of<T: Copy + PartialEq>(alloc: Global, item: T, copies: &[T]) -> Result<bool, Fail> {
+    let mut three = ArrayDeque::<T, { usize::MAX }, Saturating>::new(alloc)?;
+    let mut two = ArrayDeque::<T, { usize::MAX }, Saturating>::new(alloc)?;
+    Ok(holds_three(&mut three, item, copies) && edits_two(&mut two, item)?)
+}
+
+/// Whether three items of size zero can be parted under the policy that displaces.
+fn parts_three(deque: &mut ArrayDeque<(), 3, Wrapping>) -> Result<bool, Fail> {
+    deque.extend_back([(), (), ()]);
+    Ok(
+        deque.len() == 3
+            && deque.drain(1..2)?.len() == 1
+            && deque.len() == 2
+            && deque.split_off(1)?.len() == 1,
+    )
+}
+
+#[test]
+fn the_largest_capacity_and_items_of_size_zero_0_requests_0_bytes(
+    rt: HostRuntime,
 ) -> Result<(), Fail> {
-    let mut deque = ArrayDeque::<T, { usize::MAX }, Saturating>::new(alloc)?;
-    assert!(rt; deque.push_front(item).is_ok());
-    assert!(rt; deque.push_back(item).is_ok());
-    assert!(rt; deque.len() == 2);
-    assert!(rt; deque.insert(1, item).is_ok());
-    assert!(rt; deque.len() == 3);
-    assert!(rt; (deque.remove(1), deque.len()) == (Some(item), 2));
-    let rest = deque.split_off(1)?;
-    assert!(rt; (deque.len(), rest.len()) == (1, 1));
-    let drain = deque.drain(0..1)?;
-    assert!(rt; (drain.len(), deque.len()) == (1, 0));
+    assert!(rt;
+        takes_items_of(rt.alloc(), (), &[(), (), ()])?
+            && takes_items_of::<[u64; 0]>(rt.alloc(), [], &[[], [], []])?
+            && takes_items_of::<[u128; 0]>(rt.alloc(), [], &[[], [], []])?
+            && parts_three(&mut ArrayDeque::new(rt.alloc())?)?
+            && ArrayDeque::<u64, { usize::MAX }, Saturating>::new(rt.alloc()).is_err()
+    );
     Ok(())
-}
-
-#[test]
-fn edits_of_items_of_size_zero(rt: HostRuntime) -> Result<(), Fail> {
-    edit_two(&rt, rt.alloc(), ())?;
-    edit_two::<[u64; 0]>(&rt, rt.alloc(), [])?;
-    edit_two::<[u128; 0]>(&rt, rt.alloc(), [])
-}
-
-#[test]
-fn items_of_the_largest_alignment(rt: HostRuntime) -> Result<(), Fail> {
-    let deque = made(ArrayDeque::<u128, 3, Wrapping>::from_array(rt.alloc(), [1, 2, 3, 4]))?;
-    assert!(rt; holds(&deque, &[2, 3, 4]));
-    Ok(())
-}
-
-#[test]
-fn a_region_too_large_to_name_is_refused(rt: HostRuntime) {
-    assert!(rt; ArrayDeque::<u64, { usize::MAX }, Saturating>::new(rt.alloc()).is_err());
 }

@@ -2,145 +2,117 @@
 use crate::asked::{Count, Script};
 use crate::build::{deque_at, holds, made, wrapping_at};
 use arraydeque::{ArrayDeque, Saturating, Wrapping};
-use std::alloc::{AllocError, Global};
-use std::process::Abort;
+use std::alloc::Global;
 use std::test::Fail;
 
 /// How items are added: by an extend at an end, or by the trait's.
-#[derive(Clone, Copy, Debug)]
-pub(crate) enum Way {
+#[derive(Clone, Copy)]
+enum Way {
     Back,
     Front,
     Trait,
 }
 
-/// Adds lists in turn to a deque that refuses. Beside each stands what it leaves.
-pub(crate) fn extend_in_turn<const CAP: usize>(
-    rt: &impl Abort,
-    mut deque: ArrayDeque<i64, CAP, Saturating>,
+/// A list that is added, and what it leaves in a deque that refuses and in one that displaces.
+type Row<'a> = (&'a [i64], &'a [i64], &'a [i64]);
+
+/// Whether lists that are added in turn leave what they should under either policy.
+fn extends<const CAP: usize>(
+    alloc: Global,
+    start: usize,
+    items: &[i64],
     way: Way,
-    lists: &[(&[i64], &[i64])],
-) -> Result<(), AllocError> {
-    for &(list, left) in lists {
-        let items = list.iter().copied();
+    rows: &[Row<'_>],
+) -> Result<bool, Fail> {
+    let mut saturating = deque_at::<CAP>(alloc, start, items)?;
+    let mut wrapping = wrapping_at::<CAP>(alloc, start, items)?;
+    let mut are_left = true;
+    for &(list, kept, displaced) in rows {
+        let (added, pushed) = (list.iter().copied(), list.iter().copied());
         match way {
-            Way::Back => deque.extend_back(items),
-            Way::Front => deque.extend_front(items),
-            Way::Trait => deque.extend(items)?,
+            Way::Back => {
+                saturating.extend_back(added);
+                wrapping.extend_back(pushed);
+            }
+            Way::Front => {
+                saturating.extend_front(added);
+                wrapping.extend_front(pushed);
+            }
+            Way::Trait => {
+                saturating.extend(added)?;
+                wrapping.extend(pushed)?;
+            }
         }
-        assert!(rt; holds(&deque, left), "{way:?}, {list:?}");
+        are_left &= holds(&saturating, kept) && holds(&wrapping, displaced);
     }
-    Ok(())
+    Ok(are_left)
 }
 
-/// The same on a deque that displaces.
-pub(crate) fn extend_wrapping_in_turn<const CAP: usize>(
-    rt: &impl Abort,
-    mut deque: ArrayDeque<i64, CAP, Wrapping>,
-    way: Way,
-    lists: &[(&[i64], &[i64])],
-) -> Result<(), AllocError> {
-    for &(list, left) in lists {
-        let items = list.iter().copied();
-        match way {
-            Way::Back => deque.extend_back(items),
-            Way::Front => deque.extend_front(items),
-            Way::Trait => deque.extend(items)?,
-        }
-        assert!(rt; holds(&deque, left), "{way:?}, {list:?}");
-    }
-    Ok(())
+/// Whether one list, added by each way to these items, leaves what it should.
+pub(crate) fn by_each_way<const CAP: usize>(
+    alloc: Global,
+    items: &[i64],
+    row: Row<'_>,
+) -> Result<bool, Fail> {
+    Ok(
+        extends::<CAP>(alloc, 0, items, Way::Back, &[row])?
+            && extends::<CAP>(alloc, 0, items, Way::Front, &[row])?
+            && extends::<CAP>(alloc, 0, items, Way::Trait, &[row])?,
+    )
 }
 
 #[test]
 fn three_by_three_into_seven_places(rt: HostRuntime) -> Result<(), Fail> {
-    let back: [(&[i64], &[i64]); 3] = [
-        (&[1, 2, 3], &[1, 2, 3]),
-        (&[4, 5, 6], &[1, 2, 3, 4, 5, 6]),
-        (&[7, 8, 9], &[1, 2, 3, 4, 5, 6, 7]),
+    let back: [Row<'_>; 3] = [
+        (&[1, 2, 3], &[1, 2, 3], &[1, 2, 3]),
+        (&[4, 5, 6], &[1, 2, 3, 4, 5, 6], &[1, 2, 3, 4, 5, 6]),
+        (&[7, 8, 9], &[1, 2, 3, 4, 5, 6, 7], &[3, 4, 5, 6, 7, 8, 9]),
     ];
-    extend_in_turn::<7>(&rt, deque_at(rt.alloc(), 0, &[])?, Way::Back, &back)?;
-    let front: [(&[i64], &[i64]); 3] = [
-        (&[9, 8, 7], &[7, 8, 9]),
-        (&[6, 5, 4], &[4, 5, 6, 7, 8, 9]),
-        (&[3, 2, 1], &[3, 4, 5, 6, 7, 8, 9]),
+    let front: [Row<'_>; 3] = [
+        (&[9, 8, 7], &[7, 8, 9], &[7, 8, 9]),
+        (&[6, 5, 4], &[4, 5, 6, 7, 8, 9], &[4, 5, 6, 7, 8, 9]),
+        (&[3, 2, 1], &[3, 4, 5, 6, 7, 8, 9], &[1, 2, 3, 4, 5, 6, 7]),
     ];
-    extend_in_turn::<7>(&rt, deque_at(rt.alloc(), 0, &[])?, Way::Front, &front)?;
-    Ok(())
-}
-
-#[test]
-fn three_by_three_past_seven_places(rt: HostRuntime) -> Result<(), Fail> {
-    let back: [(&[i64], &[i64]); 3] = [
-        (&[1, 2, 3], &[1, 2, 3]),
-        (&[4, 5, 6], &[1, 2, 3, 4, 5, 6]),
-        (&[7, 8, 9], &[3, 4, 5, 6, 7, 8, 9]),
-    ];
-    extend_wrapping_in_turn::<7>(&rt, wrapping_at(rt.alloc(), 0, &[])?, Way::Back, &back)?;
-    let front: [(&[i64], &[i64]); 3] = [
-        (&[9, 8, 7], &[7, 8, 9]),
-        (&[6, 5, 4], &[4, 5, 6, 7, 8, 9]),
-        (&[3, 2, 1], &[1, 2, 3, 4, 5, 6, 7]),
-    ];
-    extend_wrapping_in_turn::<7>(&rt, wrapping_at(rt.alloc(), 0, &[])?, Way::Front, &front)?;
+    assert!(rt;
+        extends::<7>(rt.alloc(), 0, &[], Way::Back, &back)?
+            && extends::<7>(rt.alloc(), 0, &[], Way::Front, &front)?
+    );
     Ok(())
 }
 
 #[test]
 fn extends_into_three_places(rt: HostRuntime) -> Result<(), Fail> {
-    let front: [(&[i64], &[i64]); 2] = [(&[1, 2, 3], &[3, 2, 1]), (&[4, 5], &[3, 2, 1])];
-    let back: [(&[i64], &[i64]); 2] = [(&[1, 2, 3], &[1, 2, 3]), (&[4, 5], &[1, 2, 3])];
+    let front: [Row<'_>; 2] = [
+        (&[1, 2, 3], &[3, 2, 1], &[3, 2, 1]),
+        (&[4, 5], &[3, 2, 1], &[5, 4, 3]),
+    ];
+    let back: [Row<'_>; 2] = [
+        (&[1, 2, 3], &[1, 2, 3], &[1, 2, 3]),
+        (&[4, 5], &[1, 2, 3], &[3, 4, 5]),
+    ];
+    let by_the_trait: [Row<'_>; 2] = [
+        (&[], &[1, 2], &[1, 2]),
+        (&[3, 4, 5], &[1, 2, 3], &[3, 4, 5]),
+    ];
     for start in 0..3 {
-        extend_in_turn::<3>(&rt, deque_at(rt.alloc(), start, &[])?, Way::Front, &front)?;
-        extend_in_turn::<3>(&rt, deque_at(rt.alloc(), start, &[])?, Way::Back, &back)?;
+        assert!(rt;
+            extends::<3>(rt.alloc(), start, &[], Way::Front, &front)?
+                && extends::<3>(rt.alloc(), start, &[], Way::Back, &back)?
+                && extends::<3>(rt.alloc(), start, &[1, 2], Way::Trait, &by_the_trait)?,
+            "start {start}"
+        );
     }
     Ok(())
 }
 
-#[test]
-fn extends_past_three_places(rt: HostRuntime) -> Result<(), Fail> {
-    let front: [(&[i64], &[i64]); 2] = [(&[1, 2, 3], &[3, 2, 1]), (&[4, 5], &[5, 4, 3])];
-    let back: [(&[i64], &[i64]); 2] = [(&[1, 2, 3], &[1, 2, 3]), (&[4, 5], &[3, 4, 5])];
-    for start in 0..3 {
-        extend_wrapping_in_turn::<3>(
-            &rt,
-            wrapping_at(rt.alloc(), start, &[])?,
-            Way::Front,
-            &front,
-        )?;
-        extend_wrapping_in_turn::<3>(&rt, wrapping_at(rt.alloc(), start, &[])?, Way::Back, &back)?;
-    }
-    Ok(())
-}
-
-#[test]
-fn the_trait_displaces_where_the_policy_does(rt: HostRuntime) -> Result<(), Fail> {
-    let kept: [(&[i64], &[i64]); 2] = [(&[], &[1, 2]), (&[3, 4, 5], &[1, 2, 3])];
-    let displaced: [(&[i64], &[i64]); 2] = [(&[], &[1, 2]), (&[3, 4, 5], &[3, 4, 5])];
-    for start in 0..3 {
-        extend_in_turn::<3>(
-            &rt,
-            deque_at(rt.alloc(), start, &[1, 2])?,
-            Way::Trait,
-            &kept,
-        )?;
-        extend_wrapping_in_turn::<3>(
-            &rt,
-            wrapping_at(rt.alloc(), start, &[1, 2])?,
-            Way::Trait,
-            &displaced,
-        )?;
-    }
-    Ok(())
-}
-
-/// How often an endless count from 10 on is asked, and whether the deque is left so.
-fn asked_by(
+/// Whether an endless count from 10 on is asked so often, and the deque is left so.
+fn asks(
     alloc: Global,
     items: &[i64],
     is_front: bool,
+    asked: usize,
     left: &[i64],
-) -> Result<(usize, bool), Fail> {
+) -> Result<bool, Fail> {
     let mut deque = deque_at::<3>(alloc, 0, items)?;
     let mut count = Count::from(10);
     if is_front {
@@ -148,59 +120,49 @@ fn asked_by(
     } else {
         deque.extend_back(&mut count);
     }
-    Ok((count.asked, holds(&deque, left)))
+    Ok(count.asked == asked && holds(&deque, left))
 }
 
 #[test]
 fn an_extend_asks_for_what_it_has_room_for(rt: HostRuntime) -> Result<(), Fail> {
-    let rows: [(&[i64], bool, usize, &[i64]); 4] = [
-        (&[1, 2], false, 1, &[1, 2, 10]),
-        (&[1, 2, 10], false, 0, &[1, 2, 10]),
-        (&[1], true, 2, &[11, 10, 1]),
-        (&[1, 2, 3], true, 0, &[1, 2, 3]),
-    ];
-    for (items, is_front, asked, left) in rows {
-        assert!(rt; asked_by(rt.alloc(), items, is_front, left)? == (asked, true));
-    }
+    let asks_for_room = asks(rt.alloc(), &[1, 2], false, 1, &[1, 2, 10])?
+        && asks(rt.alloc(), &[1, 2, 10], false, 0, &[1, 2, 10])?
+        && asks(rt.alloc(), &[1], true, 2, &[11, 10, 1])?
+        && asks(rt.alloc(), &[1, 2, 3], true, 0, &[1, 2, 3])?;
     let mut count = Count::from(10);
     let deque = made(ArrayDeque::<i64, 3, Saturating>::from_iter(rt.alloc(), &mut count))?;
-    assert!(rt; count.asked == 3);
-    assert!(rt; holds(&deque, &[10, 11, 12]));
+    assert!(rt; asks_for_room && count.asked == 3 && holds(&deque, &[10, 11, 12]));
     Ok(())
 }
 
+/// Whether makers and extends at both ends, under either policy, take what comes before the first
+/// `None`.
+fn ends_at_none(alloc: Global, answers: &[Option<i64>]) -> Result<bool, Fail> {
+    let mut saturating = made(ArrayDeque::<i64, 5, Saturating>::from_iter(
+        alloc,
+        Script::of(answers),
+    ))?;
+    let mut wrapping = made(ArrayDeque::<i64, 5, Wrapping>::from_iter(alloc, Script::of(answers)))?;
+    let are_made = holds(&saturating, &[1]) && holds(&wrapping, &[1]);
+    saturating.clear();
+    wrapping.clear();
+    saturating.extend_back(Script::of(answers));
+    wrapping.extend_back(Script::of(answers));
+    let are_extended_back = holds(&saturating, &[1]) && holds(&wrapping, &[1]);
+    saturating.clear();
+    wrapping.clear();
+    saturating.extend_front(Script::of(answers));
+    wrapping.extend_front(Script::of(answers));
+    let are_extended_front = holds(&saturating, &[1]) && holds(&wrapping, &[1]);
+    Ok(are_made && are_extended_back && are_extended_front)
+}
+
 #[test]
-fn an_extend_ends_at_the_first_none(rt: HostRuntime) -> Result<(), Fail> {
+fn an_iterator_ends_at_its_first_none(rt: HostRuntime) -> Result<(), Fail> {
+    let is_ended = ends_at_none(rt.alloc(), &[Some(1), None, Some(2)])?;
     let mut deque = deque_at::<3>(rt.alloc(), 0, &[1])?;
     let mut script = Script::of(&[Some(7)]);
     deque.extend_back(&mut script);
-    assert!(rt; script.asked == 2);
-    assert!(rt; holds(&deque, &[1, 7]));
-    let answers = [Some(1), None, Some(2)];
-    for is_front in [false, true] {
-        let mut saturating = deque_at::<5>(rt.alloc(), 0, &[])?;
-        let mut wrapping = wrapping_at::<5>(rt.alloc(), 0, &[])?;
-        if is_front {
-            saturating.extend_front(Script::of(&answers));
-            wrapping.extend_front(Script::of(&answers));
-        } else {
-            saturating.extend_back(Script::of(&answers));
-            wrapping.extend_back(Script::of(&answers));
-        }
-        assert!(rt; holds(&saturating, &[1]) && holds(&wrapping, &[1]));
-    }
-    Ok(())
-}
-
-#[test]
-fn a_maker_ends_at_the_first_none(rt: HostRuntime) -> Result<(), Fail> {
-    let answers = [Some(1), None, Some(2)];
-    let deque = made(ArrayDeque::<i64, 5, Saturating>::from_iter(
-        rt.alloc(),
-        Script::of(&answers),
-    ))?;
-    assert!(rt; holds(&deque, &[1]));
-    let deque = made(ArrayDeque::<i64, 5, Wrapping>::from_iter(rt.alloc(), Script::of(&answers)))?;
-    assert!(rt; holds(&deque, &[1]));
+    assert!(rt; is_ended && script.asked == 2 && holds(&deque, &[1, 7]));
     Ok(())
 }

@@ -1,44 +1,54 @@
 //! Deques made of other collections, and collections made of a deque.
 use crate::build::{deque_at, holds, is_cut, made, numbers};
-use arraydeque::{ArrayDeque, Saturating, Wrapping};
+use arraydeque::{ArrayDeque, CapacityError, Saturating, Wrapping};
+use std::alloc::Global;
 use std::test::Fail;
 
-#[test]
-fn deques_of_iterators(rt: HostRuntime) -> Result<(), Fail> {
-    for (last, first_three, last_three) in [(3, [1, 2, 3], [1, 2, 3]), (5, [1, 2, 3], [3, 4, 5])] {
-        let deque = made(ArrayDeque::<i64, 3, Saturating>::from_iter(rt.alloc(), 1..=last))?;
-        assert!(rt; holds(&deque, &first_three), "1 to {last}");
-        let deque = made(ArrayDeque::<i64, 3, Wrapping>::from_iter(rt.alloc(), 1..=last))?;
-        assert!(rt; holds(&deque, &last_three), "1 to {last}");
-    }
-    Ok(())
+/// Whether deques of the numbers from 1 to `last` keep the first three or the last.
+fn keeps_of_iterator(
+    alloc: Global,
+    last: i64,
+    first_three: &[i64],
+    last_three: &[i64],
+) -> Result<bool, Fail> {
+    let first = made(ArrayDeque::<i64, 3, Saturating>::from_iter(alloc, 1..=last))?;
+    let rest = made(ArrayDeque::<i64, 3, Wrapping>::from_iter(alloc, 1..=last))?;
+    Ok(holds(&first, first_three) && holds(&rest, last_three))
 }
 
-#[test]
-fn deques_of_arrays(rt: HostRuntime) -> Result<(), Fail> {
+/// Whether deques of a vector of these items keep the first two or the last.
+fn keeps_of_vector(
+    alloc: Global,
+    items: &[i64],
+    first_two: &[i64],
+    last_two: &[i64],
+) -> Result<bool, Fail> {
+    let list = Vec::from_slice(alloc, items)?;
+    let first = made(ArrayDeque::<i64, 2, Saturating>::from_vec(alloc, list))?;
+    let list = Vec::from_slice(alloc, items)?;
+    let rest = made(ArrayDeque::<i64, 2, Wrapping>::from_vec(alloc, list))?;
+    Ok(holds(&first, first_two) && holds(&rest, last_two))
+}
+
+/// Whether deques of an array keep the first items or the last, those of the largest alignment too.
+fn keeps_of_array(alloc: Global) -> Result<bool, Fail> {
     let array = [1, 2, 3, 4];
-    let deque = made(ArrayDeque::<i64, 2, Saturating>::from_array(rt.alloc(), array))?;
-    assert!(rt; holds(&deque, &[1, 2]));
-    let deque = made(ArrayDeque::<i64, 2, Wrapping>::from_array(rt.alloc(), array))?;
-    assert!(rt; holds(&deque, &[3, 4]));
-    Ok(())
+    let first = made(ArrayDeque::<i64, 2, Saturating>::from_array(alloc, array))?;
+    let last = made(ArrayDeque::<i64, 2, Wrapping>::from_array(alloc, array))?;
+    let aligned = made(ArrayDeque::<u128, 3, Wrapping>::from_array(alloc, [1, 2, 3, 4]))?;
+    Ok(holds(&first, &[1, 2]) && holds(&last, &[3, 4]) && holds(&aligned, &[2, 3, 4]))
 }
 
 #[test]
-fn deques_of_vectors(rt: HostRuntime) -> Result<(), Fail> {
-    let lists: [(&[i64], &[i64], &[i64]); 3] = [
-        (&[], &[], &[]),
-        (&[1, 2], &[1, 2], &[1, 2]),
-        (&[1, 2, 3, 4], &[1, 2], &[3, 4]),
-    ];
-    for (items, first_two, last_two) in lists {
-        let list = Vec::from_slice(rt.alloc(), items)?;
-        let deque = made(ArrayDeque::<i64, 2, Saturating>::from_vec(rt.alloc(), list))?;
-        assert!(rt; holds(&deque, first_two));
-        let list = Vec::from_slice(rt.alloc(), items)?;
-        let deque = made(ArrayDeque::<i64, 2, Wrapping>::from_vec(rt.alloc(), list))?;
-        assert!(rt; holds(&deque, last_two));
-    }
+fn deques_of_other_collections(rt: HostRuntime) -> Result<(), Fail> {
+    assert!(rt;
+        keeps_of_iterator(rt.alloc(), 3, &[1, 2, 3], &[1, 2, 3])?
+            && keeps_of_iterator(rt.alloc(), 5, &[1, 2, 3], &[3, 4, 5])?
+            && keeps_of_array(rt.alloc())?
+            && keeps_of_vector(rt.alloc(), &[], &[], &[])?
+            && keeps_of_vector(rt.alloc(), &[1, 2], &[1, 2], &[1, 2])?
+            && keeps_of_vector(rt.alloc(), &[1, 2, 3, 4], &[1, 2], &[3, 4])?
+    );
     Ok(())
 }
 
@@ -56,26 +66,23 @@ fn vectors_of_deques(rt: HostRuntime) -> Result<(), Fail> {
 }
 
 #[test]
-fn conversions_keep_the_list(rt: HostRuntime) -> Result<(), Fail> {
-    let mut wrapping = ArrayDeque::<i64, 3, Wrapping>::new(rt.alloc())?;
+fn conversions_keep_the_list_and_the_start(rt: HostRuntime) -> Result<(), Fail> {
+    let mut deque = ArrayDeque::<i64, 3, Wrapping>::new(rt.alloc())?;
     for item in [1, 2, 3, 4] {
-        wrapping.push_back(item);
+        deque.push_back(item);
     }
-    let mut saturating: ArrayDeque<i64, 3, Saturating> = wrapping.into();
-    assert!(rt; holds(&saturating, &[2, 3, 4]));
-    let refused = saturating.push_back(5).err();
-    assert!(rt; refused.map(|refusal| refusal.element) == Some(5));
+    let mut saturating: ArrayDeque<i64, 3, Saturating> = deque.into();
+    let is_kept = holds(&saturating, &[2, 3, 4])
+        && saturating.push_back(5) == Err(CapacityError { element: 5 });
     let list = made(saturating.into_vec())?;
-    assert!(rt; list.as_slice() == [2, 3, 4].as_slice());
-    Ok(())
-}
-
-#[test]
-fn conversions_keep_the_start(rt: HostRuntime) -> Result<(), Fail> {
-    let saturating = deque_at::<3>(rt.alloc(), 2, &[1, 2])?;
-    let mut wrapping: ArrayDeque<i64, 3, Wrapping> = saturating.into();
-    assert!(rt; is_cut(&wrapping, &[1], &[2]));
-    assert!(rt; (wrapping.push_back(3), wrapping.push_back(4)) == (None, Some(1)));
-    assert!(rt; holds(&wrapping, &[2, 3, 4]));
+    let mut wrapping: ArrayDeque<i64, 3, Wrapping> = deque_at::<3>(rt.alloc(), 2, &[1, 2])?.into();
+    assert!(rt;
+        is_kept
+            && list.as_slice() == [2, 3, 4].as_slice()
+            && is_cut(&wrapping, &[1], &[2])
+            && wrapping.push_back(3).is_none()
+            && wrapping.push_back(4) == Some(1)
+            && holds(&wrapping, &[2, 3, 4])
+    );
     Ok(())
 }

@@ -1,11 +1,11 @@
 //! Inserting and removing at an index.
 use crate::build::{deque_at, holds, numbers};
-use arraydeque::{ArrayDeque, Saturating};
+use arraydeque::{ArrayDeque, CapacityError, Saturating};
 use std::alloc::Global;
 use std::process::Abort;
 use std::test::Fail;
 
-#[derive(Clone, Copy, Debug)]
+#[derive(Clone, Copy)]
 enum Edit {
     Insert(usize, i64),
     Remove(usize),
@@ -19,18 +19,21 @@ fn edit_in_turn<const CAP: usize>(
     edits: &[(Edit, Option<i64>, &[i64])],
 ) {
     for &(edit, answer, left) in edits {
-        let given = match edit {
+        let is_answered = match edit {
             Edit::Insert(index, item) => {
-                assert!(rt; index <= deque.len());
-                deque
-                    .insert(index, item)
-                    .err()
-                    .map(|refusal| refusal.element)
+                index <= deque.len() && refused(deque.insert(index, item)) == answer
             }
-            Edit::Remove(index) => deque.remove(index),
+            Edit::Remove(index) => deque.remove(index) == answer,
         };
-        assert!(rt; given == answer, "{edit:?}");
-        assert!(rt; holds(&deque, left), "{edit:?}");
+        assert!(rt; is_answered && holds(&deque, left), "{answer:?}, {left:?}");
+    }
+}
+
+/// The element that an insert hands back, if it does.
+fn refused(inserted: Result<(), CapacityError<i64>>) -> Option<i64> {
+    match inserted {
+        Ok(()) => None,
+        Err(refusal) => Some(refusal.element),
     }
 }
 
@@ -43,6 +46,12 @@ fn the_documented_inserts_and_removes(rt: HostRuntime) -> Result<(), Fail> {
         (Edit::Insert(1, 4), Some(4), &[1, 2, 3]),
     ];
     edit_in_turn::<3>(&rt, deque_at(rt.alloc(), 0, &[])?, &inserts);
+    let inserts: [(Edit, Option<i64>, &[i64]); 3] = [
+        (Edit::Insert(0, 1), None, &[1]),
+        (Edit::Insert(1, 2), None, &[1, 2]),
+        (Edit::Insert(2, 3), Some(3), &[1, 2]),
+    ];
+    edit_in_turn::<2>(&rt, deque_at(rt.alloc(), 0, &[])?, &inserts);
     let removals: [(Edit, Option<i64>, &[i64]); 2] = [
         (Edit::Remove(1), Some(1), &[0, 2]),
         (Edit::Remove(2), None, &[0, 2]),
@@ -52,18 +61,7 @@ fn the_documented_inserts_and_removes(rt: HostRuntime) -> Result<(), Fail> {
 }
 
 #[test]
-fn a_full_deque_refuses_an_insert(rt: HostRuntime) -> Result<(), Fail> {
-    let inserts: [(Edit, Option<i64>, &[i64]); 3] = [
-        (Edit::Insert(0, 1), None, &[1]),
-        (Edit::Insert(1, 2), None, &[1, 2]),
-        (Edit::Insert(2, 3), Some(3), &[1, 2]),
-    ];
-    edit_in_turn::<2>(&rt, deque_at(rt.alloc(), 0, &[])?, &inserts);
-    Ok(())
-}
-
-#[test]
-fn an_insert_and_three_removes(rt: HostRuntime) -> Result<(), Fail> {
+fn edits_of_some_items(rt: HostRuntime) -> Result<(), Fail> {
     let mut deque = deque_at::<5>(rt.alloc(), 0, &[1, 2, 3])?;
     assert!(rt; deque.push_front(0).is_ok());
     let edits: [(Edit, Option<i64>, &[i64]); 4] = [
@@ -73,11 +71,8 @@ fn an_insert_and_three_removes(rt: HostRuntime) -> Result<(), Fail> {
         (Edit::Remove(3), None, &[8, 1, 3]),
     ];
     edit_in_turn(&rt, deque, &edits);
-    Ok(())
-}
-
-#[test]
-fn edits_of_six_in_eight_places(rt: HostRuntime) -> Result<(), Fail> {
+    let deque = deque_at::<2>(rt.alloc(), 0, &[1, 2])?;
+    edit_in_turn(&rt, deque, &[(Edit::Remove(1), Some(2), &[1])]);
     let inserts: [(usize, &[i64]); 3] = [
         (2, &[0, 1, 9, 2, 3, 4, 5]),
         (3, &[0, 1, 2, 9, 3, 4, 5]),
@@ -87,13 +82,11 @@ fn edits_of_six_in_eight_places(rt: HostRuntime) -> Result<(), Fail> {
         let deque = deque_at::<8>(rt.alloc(), 0, &[0, 1, 2, 3, 4, 5])?;
         edit_in_turn(&rt, deque, &[(Edit::Insert(index, 9), None, left)]);
     }
-    let deque = deque_at::<2>(rt.alloc(), 0, &[1, 2])?;
-    edit_in_turn(&rt, deque, &[(Edit::Remove(1), Some(2), &[1])]);
     Ok(())
 }
 
 /// Whether an insert does what it does to a plain list.
-fn inserts_alike<const CAP: usize>(
+pub(crate) fn inserts_alike<const CAP: usize>(
     alloc: Global,
     start: usize,
     len: usize,
@@ -101,19 +94,20 @@ fn inserts_alike<const CAP: usize>(
 ) -> Result<bool, Fail> {
     let mut list = numbers(alloc, len)?;
     let mut deque = deque_at::<CAP>(alloc, start, &list)?;
-    if index > deque.len() || index > list.len() {
+    if index > list.len() {
         return Ok(false);
     }
-    let refused = deque.insert(index, 99).err().map(|refusal| refusal.element);
-    if list.len() == CAP {
-        return Ok(refused == Some(99) && holds(&deque, &list));
+    let inserted = deque.insert(index, 99);
+    let mut expected = Err(CapacityError { element: 99 });
+    if list.len() < CAP {
+        list.insert(index, 99)?;
+        expected = Ok(());
     }
-    list.insert(index, 99)?;
-    Ok(refused.is_none() && holds(&deque, &list))
+    Ok(inserted == expected && holds(&deque, &list))
 }
 
 /// Whether a removal, also past the last item, does what it does to a plain list.
-fn removes_alike<const CAP: usize>(
+pub(crate) fn removes_alike<const CAP: usize>(
     alloc: Global,
     start: usize,
     len: usize,
@@ -128,35 +122,4 @@ fn removes_alike<const CAP: usize>(
         None
     };
     Ok(removed == expected && holds(&deque, &list))
-}
-
-/// Inserts and removes beside a plain list, at each start, length and index.
-fn compare_all<const CAP: usize>(rt: &impl Abort, alloc: Global) -> Result<(), Fail> {
-    for start in 0..CAP {
-        for len in 0..=CAP {
-            for index in 0..=len {
-                let inserts = inserts_alike::<CAP>(alloc, start, len, index)?;
-                let removes = removes_alike::<CAP>(alloc, start, len, index)?;
-                assert!(rt;
-                    (inserts, removes) == (true, true),
-                    "index {index} of {CAP}, start {start}, length {len}"
-                );
-            }
-        }
-    }
-    Ok(())
-}
-
-#[test]
-fn every_start_length_and_index(rt: HostRuntime) -> Result<(), Fail> {
-    compare_all::<1>(&rt, rt.alloc())?;
-    compare_all::<2>(&rt, rt.alloc())?;
-    compare_all::<3>(&rt, rt.alloc())?;
-    compare_all::<4>(&rt, rt.alloc())?;
-    compare_all::<5>(&rt, rt.alloc())?;
-    compare_all::<6>(&rt, rt.alloc())?;
-    compare_all::<7>(&rt, rt.alloc())?;
-    compare_all::<8>(&rt, rt.alloc())?;
-    compare_all::<16>(&rt, rt.alloc())?;
-    Ok(())
 }

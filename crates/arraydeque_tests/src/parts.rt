@@ -1,8 +1,9 @@
-//! Draining a part, and splitting.
+//! Draining a part, and splitting; these and edits beside a plain list.
 ghost use Rattle.std.specs.Prelude.{Some, ◌+◌};
 
 use crate::build::{deque_at, holds, numbers};
-use arraydeque::{ArrayDeque, RangeArgument, Saturating};
+use crate::moves::{inserts_alike, removes_alike};
+use arraydeque::RangeArgument;
 use std::alloc::Global;
 use std::process::Abort;
 use std::test::Fail;
@@ -25,91 +26,37 @@ impl RangeArgument<usize> for TwoFrom {
     }
 }
 
-/// Drains a range, and compares what goes and what is left.
-fn compare_drain<const CAP: usize, R: RangeArgument<usize> + Drop>(
-    rt: &impl Abort,
+/// Whether a drain of a range, of the items of a deque that starts at the place `start`, takes some
+/// out and leaves the others.
+fn drains<const CAP: usize, R: RangeArgument<usize> + Drop>(
     alloc: Global,
-    mut deque: ArrayDeque<i64, CAP, Saturating>,
+    start: usize,
+    items: &[i64],
     range: R,
     gone: &[i64],
     left: &[i64],
-) -> Result<(), Fail> {
-    let start = match range.start() {
-        Some(start) => start,
-        None => 0,
-    };
-    let end = match range.end() {
-        Some(end) => end,
-        None => deque.len(),
-    };
-    assert!(rt; start <= end && end <= deque.len());
-    let drained: Vec<i64> = deque.drain(range)?.collect(alloc)?;
-    assert!(rt; drained.as_slice() == gone);
-    assert!(rt; holds(&deque, left));
-    Ok(())
+) -> Result<bool, Fail> {
+    let mut deque = deque_at::<CAP>(alloc, start, items)?;
+    let from = range.start().unwrap_or(0);
+    let to = range.end().unwrap_or(deque.len());
+    if from > to || to > deque.len() {
+        return Ok(false);
+    }
+    Ok(deque.drain(range)?.eq(gone.iter().copied()) && holds(&deque, left))
 }
 
 #[test]
 fn each_kind_of_range(rt: HostRuntime) -> Result<(), Fail> {
+    let alloc = rt.alloc();
     let three = [0, 1, 2];
-    compare_drain::<3, _>(
-        &rt,
-        rt.alloc(),
-        deque_at(rt.alloc(), 0, &three)?,
-        ..,
-        &three,
-        &[],
-    )?;
-    compare_drain::<3, _>(
-        &rt,
-        rt.alloc(),
-        deque_at(rt.alloc(), 0, &three)?,
-        2..,
-        &[2],
-        &[0, 1],
-    )?;
-    compare_drain::<3, _>(
-        &rt,
-        rt.alloc(),
-        deque_at(rt.alloc(), 0, &[0, 1])?,
-        ..,
-        &[0, 1],
-        &[],
-    )?;
-    compare_drain::<3, _>(
-        &rt,
-        rt.alloc(),
-        deque_at(rt.alloc(), 0, &three)?,
-        ..2,
-        &[0, 1],
-        &[2],
-    )?;
-    compare_drain::<3, _>(
-        &rt,
-        rt.alloc(),
-        deque_at(rt.alloc(), 0, &three)?,
-        1..2,
-        &[1],
-        &[0, 2],
-    )?;
-    Ok(())
-}
-
-#[test]
-fn a_range_of_the_callers_own(rt: HostRuntime) -> Result<(), Fail> {
-    let deque = deque_at::<4>(rt.alloc(), 3, &[0, 1, 2, 3])?;
-    compare_drain(&rt, rt.alloc(), deque, TwoFrom(1), &[1, 2], &[0, 3])
-}
-
-#[test]
-fn three_of_eight(rt: HostRuntime) -> Result<(), Fail> {
-    let eight = [0, 1, 2, 3, 4, 5, 6, 7];
-    for start in 0..8 {
-        let deque = deque_at::<8>(rt.alloc(), start, &eight)?;
-        compare_drain(&rt, rt.alloc(), deque, 2..5, &[2, 3, 4], &[0, 1, 5, 6, 7])?;
-        let deque = deque_at::<8>(rt.alloc(), start, &eight)?;
-        compare_drain(&rt, rt.alloc(), deque, 3..3, &[], &eight)?;
-    }
+    assert!(rt;
+        drains::<3, _>(alloc, 0, &three, .., &three, &[])?
+            && drains::<3, _>(alloc, 0, &three, 2.., &[2], &[0, 1])?
+            && drains::<3, _>(alloc, 0, &[0, 1], .., &[0, 1], &[])?
+            && drains::<3, _>(alloc, 0, &three, ..2, &[0, 1], &[2])?
+            && drains::<3, _>(alloc, 0, &three, 1..2, &[1], &[0, 2])?
+            && drains::<4, _>(alloc, 3, &[0, 1, 2, 3], TwoFrom(1), &[1, 2], &[0, 3])?
+    );
     Ok(())
 }
 
@@ -118,18 +65,18 @@ fn a_drain_may_be_dropped_early(rt: HostRuntime) -> Result<(), Fail> {
     for start in 0..8 {
         let mut deque = deque_at::<8>(rt.alloc(), start, &[0, 1, 2, 3, 4, 5, 6, 7])?;
         assert!(rt; deque.len() == 8);
-        let mut drain = deque.drain(2..5)?;
-        assert!(rt; drain.next_back() == Some(4), "start {start}");
-        drop(drain);
-        assert!(rt; holds(&deque, &[0, 1, 5, 6, 7]), "start {start}");
+        let last = deque.drain(2..5)?.next_back();
+        assert!(rt;
+            last == Some(4) && holds(&deque, &[0, 1, 5, 6, 7]),
+            "start {start}"
+        );
     }
     Ok(())
 }
 
 #[test]
 fn a_drain_gives_from_both_ends(rt: HostRuntime) -> Result<(), Fail> {
-    let mut deque = deque_at::<5>(rt.alloc(), 3, &[1, 2, 3, 4, 5])?;
-    let mut drain = deque.drain(..)?;
+    let mut drain = deque_at::<5>(rt.alloc(), 3, &[1, 2, 3, 4, 5])?.drain(..)?;
     let rows = [
         (5, Some(1), Some(5)),
         (3, Some(2), Some(4)),
@@ -138,30 +85,15 @@ fn a_drain_gives_from_both_ends(rt: HostRuntime) -> Result<(), Fail> {
         (0, None, None),
     ];
     for (len, first, last) in rows {
-        assert!(rt; (drain.len(), drain.size_hint()) == (len, (len, Some(len))));
-        assert!(rt; (drain.next(), drain.next_back()) == (first, last));
+        let lens = (drain.len(), drain.size_hint());
+        let items = (drain.next(), drain.next_back());
+        assert!(rt; (lens, items) == ((len, (len, Some(len))), (first, last)));
     }
     Ok(())
 }
 
-#[test]
-fn a_split_cuts_in_two(rt: HostRuntime) -> Result<(), Fail> {
-    let rows: [(usize, &[i64], &[i64]); 3] = [
-        (0, &[], &[0, 1, 2]),
-        (1, &[0], &[1, 2]),
-        (3, &[0, 1, 2], &[]),
-    ];
-    for (at, left, rest) in rows {
-        let mut deque = deque_at::<3>(rt.alloc(), 0, &[0, 1, 2])?;
-        assert!(rt; at <= deque.len());
-        let split = deque.split_off(at)?;
-        assert!(rt; holds(&deque, left) && holds(&split, rest), "at {at}");
-    }
-    Ok(())
-}
-
-/// Whether a drain does what it does to a plain list.
-fn drains_alike<const CAP: usize>(
+/// Whether a split at `to`, and a drain from `from` on to there, do what they do to a plain list.
+fn parts_alike<const CAP: usize>(
     alloc: Global,
     start: usize,
     len: usize,
@@ -169,43 +101,31 @@ fn drains_alike<const CAP: usize>(
     to: usize,
 ) -> Result<bool, Fail> {
     let mut list = numbers(alloc, len)?;
-    let mut deque = deque_at::<CAP>(alloc, start, &list)?;
-    if from > to || to > deque.len() || to > list.len() {
+    if from > to || to > list.len() {
         return Ok(false);
     }
-    let drained: Vec<i64> = deque.drain(from..to)?.collect(alloc)?;
-    let expected: Vec<i64> = list.drain(from..to).collect(alloc)?;
-    Ok(drained == expected && holds(&deque, &list))
-}
-
-/// Whether a split does what it does to a plain list.
-fn splits_alike<const CAP: usize>(
-    alloc: Global,
-    start: usize,
-    len: usize,
-    at: usize,
-) -> Result<bool, Fail> {
-    let list = numbers(alloc, len)?;
     let mut deque = deque_at::<CAP>(alloc, start, &list)?;
-    if at > deque.len() || at > list.len() {
-        return Ok(false);
-    }
-    let rest = deque.split_off(at)?;
-    Ok(holds(&deque, &list[..at]) && holds(&rest, &list[at..]))
+    let rest = deque.split_off(to)?;
+    let splits = holds(&deque, &list[..to]) && holds(&rest, &list[to..]);
+    let mut deque = deque_at::<CAP>(alloc, start, &list)?;
+    let drains = deque.drain(from..to)?.eq(list.drain(from..to)) && holds(&deque, &list);
+    Ok(splits && drains)
 }
 
-/// Drains and splits beside a plain list, at each start and length, for each part.
+/// Edits, drains and splits beside a plain list, at each start and length, for each part.
 fn compare_all<const CAP: usize>(rt: &impl Abort, alloc: Global) -> Result<(), Fail> {
     for start in 0..CAP {
         for len in 0..=CAP {
-            for at in 0..=len {
-                let splits = splits_alike::<CAP>(alloc, start, len, at)?;
-                assert!(rt; splits, "at {at} of {CAP}, start {start}, length {len}");
-                for from in 0..=at {
-                    let drains = drains_alike::<CAP>(alloc, start, len, from, at)?;
+            for to in 0..=len {
+                assert!(rt;
+                    inserts_alike::<CAP>(alloc, start, len, to)?
+                        && removes_alike::<CAP>(alloc, start, len, to)?,
+                    "index {to} of {CAP}, start {start}, length {len}"
+                );
+                for from in 0..=to {
                     assert!(rt;
-                        drains,
-                        "{from} to {at} of {CAP}, start {start}, length {len}"
+                        parts_alike::<CAP>(alloc, start, len, from, to)?,
+                        "{from} to {to} of {CAP}, start {start}, length {len}"
                     );
                 }
             }

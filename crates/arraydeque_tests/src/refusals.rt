@@ -1,120 +1,123 @@
 //! What comes back where memory is refused. Each test holds where none is, and whichever request of
 //! the calls that it is of is refused; where one is refused that its set-up makes, it ends there.
 mod compared;
-mod new;
 
 use crate::asked::Script;
 use crate::build::{deque_at, holds};
+use arraydeque::behavior::Behavior;
 use arraydeque::lookahead::Scanner;
-use arraydeque::{ArrayDeque, Saturating, Wrapping};
+use arraydeque::{ArrayDeque, MakeError, Saturating, Wrapping};
 use std::alloc::AllocError;
 use std::test::Fail;
 
+type Refusing = ArrayDeque<i64, 3, Saturating>;
+
+type Displacing = ArrayDeque<i64, 3, Wrapping>;
+
+/// Whether a deque was made of this list, or its source came back.
+fn comes_back<S: PartialEq + Drop, B: Behavior>(
+    made: Result<ArrayDeque<i64, 3, B>, MakeError<S>>,
+    list: &[i64],
+    source: &S,
+) -> bool {
+    match made {
+        Ok(deque) => holds(&deque, list),
+        Err(refusal) => refusal.source == *source,
+    }
+}
+
 #[test]
-fn a_refused_iterator_comes_back(rt: HostRuntime) -> Result<(), Fail> {
-    match ArrayDeque::<i64, 3, Saturating>::from_iter(rt.alloc(), 1..5) {
-        Ok(deque) => assert!(rt; holds(&deque, &[1, 2, 3])),
-        Err(mut refusal) => assert!(rt; refusal.source.next() == Some(1)),
-    }
-    match ArrayDeque::<i64, 3, Wrapping>::from_iter(rt.alloc(), 1..5) {
-        Ok(deque) => assert!(rt; holds(&deque, &[2, 3, 4])),
-        Err(mut refusal) => assert!(rt; refusal.source.next() == Some(1)),
-    }
+fn a_refused_source_comes_back(rt: HostRuntime) -> Result<(), Fail> {
+    let alloc = rt.alloc();
+    let array = [1, 2, 3, 4];
+    let vector = vec![in alloc; 1, 2, 3, 4]?;
+    let list = vec![in alloc; 1, 2, 3, 4]?;
+    let of_vector = comes_back(Refusing::from_vec(alloc, list), &[1, 2, 3], &vector);
+    let list = vec![in alloc; 1, 2, 3, 4]?;
+    let displaced = comes_back(Displacing::from_vec(alloc, list), &[2, 3, 4], &vector);
+    assert!(rt; of_vector && displaced);
+    assert!(rt;
+        comes_back(Refusing::from_iter(alloc, 1..5), &[1, 2, 3], &(1..5))
+            && comes_back(Displacing::from_iter(alloc, 1..5), &[2, 3, 4], &(1..5))
+            && comes_back(Refusing::from_array(alloc, array), &[1, 2, 3], &array)
+            && comes_back(Displacing::from_array(alloc, array), &[2, 3, 4], &array)
+    );
+    Ok(())
+}
+
+/// Whatever is refused, a deque that is made is whole.
+#[test]
+fn a_refused_region_is_an_error(rt: HostRuntime) -> Result<(), Fail> {
+    let refusing = match Refusing::new(rt.alloc()) {
+        Ok(mut deque) => {
+            deque.extend_back([1, 2]);
+            holds(&deque, &[1, 2])
+        }
+        Err(_) => true,
+    };
+    let displacing = match Displacing::new(rt.alloc()) {
+        Ok(mut deque) => {
+            deque.extend_front([1, 2]);
+            holds(&deque, &[2, 1])
+        }
+        Err(_) => true,
+    };
+    assert!(rt; refusing && displacing);
     Ok(())
 }
 
 #[test]
-fn a_refused_array_comes_back(rt: HostRuntime) -> Result<(), Fail> {
-    match ArrayDeque::<i64, 3, Saturating>::from_array(rt.alloc(), [1, 2, 3, 4]) {
-        Ok(deque) => assert!(rt; holds(&deque, &[1, 2, 3])),
-        Err(refusal) => assert!(rt; refusal.source == [1, 2, 3, 4]),
-    }
-    match ArrayDeque::<i64, 3, Wrapping>::from_array(rt.alloc(), [1, 2, 3, 4]) {
-        Ok(deque) => assert!(rt; holds(&deque, &[2, 3, 4])),
-        Err(refusal) => assert!(rt; refusal.source == [1, 2, 3, 4]),
-    }
-    Ok(())
-}
-
-#[test]
-fn a_refused_vector_comes_back(rt: HostRuntime) -> Result<(), Fail> {
-    let list = vec![in rt.alloc(); 1, 2, 3, 4]?;
-    match ArrayDeque::<i64, 3, Saturating>::from_vec(rt.alloc(), list) {
-        Ok(deque) => assert!(rt; holds(&deque, &[1, 2, 3])),
-        Err(refusal) => assert!(rt; refusal.source.as_slice() == [1, 2, 3, 4].as_slice()),
-    }
-    let list = vec![in rt.alloc(); 1, 2, 3, 4]?;
-    match ArrayDeque::<i64, 3, Wrapping>::from_vec(rt.alloc(), list) {
-        Ok(deque) => assert!(rt; holds(&deque, &[2, 3, 4])),
-        Err(refusal) => assert!(rt; refusal.source.as_slice() == [1, 2, 3, 4].as_slice()),
-    }
-    Ok(())
-}
-
-#[test]
-fn a_refused_deque_comes_back(rt: HostRuntime) -> Result<(), Fail> {
+fn a_refused_call_leaves_the_list(rt: HostRuntime) -> Result<(), Fail> {
     let deque = deque_at::<3>(rt.alloc(), 2, &[2, 3, 4])?;
-    match deque.into_vec() {
-        Ok(list) => assert!(rt; list.as_slice() == [2, 3, 4].as_slice()),
-        Err(refusal) => assert!(rt; holds(&refusal.source, &[2, 3, 4])),
-    }
-    Ok(())
-}
-
-#[test]
-fn a_refused_split_leaves_the_list(rt: HostRuntime) -> Result<(), Fail> {
+    let becomes_vec = match deque.into_vec() {
+        Ok(list) => list.as_slice() == [2, 3, 4].as_slice(),
+        Err(refusal) => holds(&refusal.source, &[2, 3, 4]),
+    };
     let mut deque = deque_at::<3>(rt.alloc(), 2, &[0, 1, 2])?;
-    assert!(rt; deque.len() == 3);
-    match deque.split_off(1) {
-        Ok(rest) => {
-            assert!(rt; holds(&rest, &[1, 2]));
-            assert!(rt; holds(&deque, &[0]));
-        }
-        Err(_) => assert!(rt; holds(&deque, &[0, 1, 2])),
-    }
-    Ok(())
-}
-
-#[test]
-fn a_refused_drain_leaves_the_list(rt: HostRuntime) -> Result<(), Fail> {
+    assert!(rt; becomes_vec && deque.len() == 3);
+    let splits = match deque.split_off(1) {
+        Ok(rest) => holds(&rest, &[1, 2]) && holds(&deque, &[0]),
+        Err(_) => holds(&deque, &[0, 1, 2]),
+    };
+    drop(deque);
     let mut deque = deque_at::<4>(rt.alloc(), 3, &[0, 1, 2, 3])?;
-    assert!(rt; deque.len() == 4);
-    match deque.drain(1..3) {
-        Ok(mut drain) => {
-            assert!(rt; (drain.next(), drain.next()) == (Some(1), Some(2)));
-            assert!(rt; holds(&deque, &[0, 3]));
-        }
-        Err(_) => assert!(rt; holds(&deque, &[0, 1, 2, 3])),
-    }
+    assert!(rt; splits && deque.len() == 4);
+    let drains = match deque.drain(1..3) {
+        Ok(drain) => drain.eq([1, 2]) && holds(&deque, &[0, 3]),
+        Err(_) => holds(&deque, &[0, 1, 2, 3]),
+    };
+    assert!(rt; drains);
     Ok(())
 }
 
-#[test]
-fn a_refused_scanner_gives_its_iterator_back(rt: HostRuntime) -> Result<(), Fail> {
-    match Scanner::<Script<'_>, 2>::new(rt.alloc(), Script::of(&[Some(1)])) {
-        Ok(mut scanner) => assert!(rt; (scanner.next(), scanner.next()) == (Some(1), None)),
-        Err(mut refusal) => {
-            assert!(rt; refusal.source.asked == 0);
-            assert!(rt; (refusal.source.next(), refusal.source.next()) == (Some(1), None));
-        }
-    }
-    Ok(())
+/// Whether a scanner over 1, 2 and 3 gives them, and two items put back, as it should.
+fn reads_on(scanner: &mut Scanner<Script<'_>, 2>) -> bool {
+    scanner.peek(1) == Some(&2)
+        && scanner.next() == Some(1)
+        && scanner.unread(9).is_ok()
+        && scanner.unread(8).is_err()
+        && (scanner.next(), scanner.next()) == (Some(9), Some(2))
+        && (scanner.next(), scanner.next()) == (Some(3), None)
 }
 
-/// After the first request, for the buffer of the first scanner, this test makes none: the second,
+/// After two requests, for the buffers of the first two scanners, this test makes none: the third,
 /// of capacity 0, has no region.
 #[test]
-fn a_scanner_reads_on_without_memory(rt: HostRuntime) -> Result<(), Fail> {
+fn a_refused_scanner_gives_its_iterator_back(rt: HostRuntime) -> Result<(), Fail> {
+    let gives_one = match Scanner::<Script<'_>, 2>::new(rt.alloc(), Script::of(&[Some(1)])) {
+        Ok(mut scanner) => (scanner.next(), scanner.next()) == (Some(1), None),
+        Err(refusal) => {
+            let mut script = refusal.source;
+            script.asked == 0 && (script.next(), script.next()) == (Some(1), None)
+        }
+    };
+    assert!(rt; gives_one);
     let input = [Some(1), Some(2), Some(3)];
-    let mut scanner = Scanner::<_, 2>::new(rt.alloc(), Script::of(&input)).map_err(|_| AllocError)?;
-    assert!(rt; scanner.peek(1) == Some(&2));
-    assert!(rt; scanner.next() == Some(1));
-    assert!(rt; scanner.unread(9).is_ok());
-    assert!(rt; scanner.unread(8).is_err());
-    assert!(rt; (scanner.next(), scanner.next()) == (Some(9), Some(2)));
-    assert!(rt; (scanner.next(), scanner.next()) == (Some(3), None));
-    let mut scanner = Scanner::<_, 0>::new(rt.alloc(), Script::of(&input)).map_err(|_| "refused")?;
-    assert!(rt; scanner.next() == Some(1));
-    assert!(rt; scanner.unread(9).is_err());
+    let scanner = Scanner::<_, 2>::new(rt.alloc(), Script::of(&input));
+    assert!(rt; reads_on(&mut scanner.ok().ok_or(AllocError)?));
+    let mut scanner = Scanner::<_, 0>::new(rt.alloc(), Script::of(&input))
+        .ok()
+        .ok_or("refused")?;
+    assert!(rt; scanner.next() == Some(1) && scanner.unread(9).is_err());
     Ok(())
 }

@@ -3,32 +3,43 @@ use crate::build::{deque_at, holds, made};
 use std::alloc::Global;
 use std::test::Fail;
 
-#[test]
-fn retain_keeps_what_the_closure_wants(rt: HostRuntime) -> Result<(), Fail> {
-    for start in 0..10 {
-        let mut deque = deque_at::<10>(rt.alloc(), start, &[0, 1, 2, 3, 4, 5, 6, 7, 8, 9])?;
-        deque.retain(|item| item % 2 == 0);
-        assert!(rt; deque.len() == 5);
-        assert!(rt; holds(&deque, &[0, 2, 4, 6, 8]), "start {start}");
-    }
-    let mut deque = deque_at::<4>(rt.alloc(), 0, &[0, 1, 2, 3])?;
+/// Whether the even ones of these items are left by one retain, and none by another.
+fn is_halved<const CAP: usize>(
+    alloc: Global,
+    start: usize,
+    items: &[i64],
+    left: &[i64],
+) -> Result<bool, Fail> {
+    let mut deque = deque_at::<CAP>(alloc, start, items)?;
     deque.retain(|item| item % 2 == 0);
-    assert!(rt; holds(&deque, &[0, 2]));
+    let is_left = deque.len() == left.len() && holds(&deque, left);
     deque.retain(|_| false);
-    assert!(rt; deque.is_empty());
-    Ok(())
+    Ok(is_left && deque.is_empty())
 }
 
-#[test]
-fn retain_keeps_every_second_call(rt: HostRuntime) -> Result<(), Fail> {
-    let mut deque = deque_at::<4>(rt.alloc(), 0, &[0, 1, 2, 3])?;
+/// Whether every second call of a closure has its item retained.
+fn is_halved_by_calls(alloc: Global) -> Result<bool, Fail> {
+    let mut deque = deque_at::<4>(alloc, 0, &[0, 1, 2, 3])?;
     let mut calls = 0_usize;
     deque.retain(|_| {
         calls = calls.wrapping_add(1);
         calls % 2 == 1
     });
-    assert!(rt; calls == 4);
-    assert!(rt; holds(&deque, &[0, 2]));
+    Ok(calls == 4 && holds(&deque, &[0, 2]))
+}
+
+#[test]
+fn retain_keeps_what_the_closure_wants(rt: HostRuntime) -> Result<(), Fail> {
+    assert!(rt;
+        is_halved::<4>(rt.alloc(), 0, &[0, 1, 2, 3], &[0, 2])? && is_halved_by_calls(rt.alloc())?
+    );
+    let ten = [0, 1, 2, 3, 4, 5, 6, 7, 8, 9];
+    for start in 0..10 {
+        assert!(rt;
+            is_halved::<10>(rt.alloc(), start, &ten, &[0, 2, 4, 6, 8])?,
+            "start {start}"
+        );
+    }
     Ok(())
 }
 
@@ -93,10 +104,12 @@ fn clear_leaves_an_empty_deque(rt: HostRuntime) -> Result<(), Fail> {
     for start in 0..3 {
         let mut deque = deque_at::<3>(rt.alloc(), start, &[1, 2, 3])?;
         deque.clear();
-        assert!(rt; deque.is_empty());
+        let is_cleared = deque.is_empty();
         deque.clear();
-        assert!(rt; deque.push_back(4).is_ok());
-        assert!(rt; holds(&deque, &[4]), "start {start}");
+        assert!(rt;
+            is_cleared && deque.push_back(4).is_ok() && holds(&deque, &[4]),
+            "start {start}"
+        );
     }
     Ok(())
 }

@@ -80,33 +80,30 @@ fn errors_shared<'a, T: Sync>(
 }
 
 #[test]
-fn deques_cross_threads(rt: HostRuntime) -> Result<(), Fail> {
+fn deques_iterators_and_errors_cross_threads(rt: HostRuntime) -> Result<(), Fail> {
     let mut deque: ArrayDeque<u64, 2, Saturating> = ArrayDeque::new(rt.alloc())?;
-    deque.push_back(1).map_err(|_| "no room")?;
-    let deque = deque_sent(deque);
-    assert!(rt; holds(deque_shared(&deque), &[1]));
+    let has_room = deque.push_back(1).is_ok();
+    let mut deque = deque_sent(deque);
+    assert!(rt;
+        has_room
+            && holds(deque_shared(&deque), &[1])
+            && iter_shared(&iter_sent(deque.iter())).len() == 1
+            && iter_mut_shared(&iter_mut_sent(deque.iter_mut())).len() == 1
+    );
     let mut deque: ArrayDeque<u64, 2, Wrapping> = deque_sent(deque.into());
     deque.push_back(2);
-    assert!(rt; holds(deque_shared(&deque), &[1, 2]));
+    let are_shared = holds(deque_shared(&deque), &[1, 2]);
     let drain = drain_sent(deque.drain(1..)?);
-    assert!(rt; drain_shared(&drain).len() == 1);
-    Ok(())
-}
-
-#[test]
-fn iterators_cross_threads(rt: HostRuntime) -> Result<(), Fail> {
-    let mut deque: ArrayDeque<u64, 2, Saturating> = ArrayDeque::new(rt.alloc())?;
-    deque.push_back(1).map_err(|_| "no room")?;
-    assert!(rt; iter_shared(&iter_sent(deque.iter())).len() == 1);
-    assert!(rt; iter_mut_shared(&iter_mut_sent(deque.iter_mut())).len() == 1);
-    assert!(rt; into_iter_shared(&into_iter_sent(deque.into_iter())).len() == 1);
-    Ok(())
-}
-
-#[test]
-fn errors_cross_threads(rt: HostRuntime) -> Result<(), Fail> {
+    let one: ArrayDeque<u64, 2, Saturating> = deque.into();
+    let items = into_iter_sent(one.into_iter());
     let (full, refused) = errors_sent(CapacityError { element: 1_u64 }, MakeError { source: 2 });
     let (full, refused) = errors_shared(&full, &refused);
-    assert!(rt; (full.element, refused.source) == (1, 2));
+    assert!(rt;
+        are_shared
+            && drain_shared(&drain).len() == 1
+            && into_iter_shared(&items).len() == 1
+            && full.element == 1
+            && refused.source == 2
+    );
     Ok(())
 }

@@ -1,23 +1,25 @@
 //! Exchanges, and removals by an exchange.
 use crate::build::{deque_at, holds, numbers};
+use arraydeque::{ArrayDeque, Saturating};
 use std::alloc::Global;
 use std::test::Fail;
 
-#[test]
-fn swaps_exchange_two_items(rt: HostRuntime) -> Result<(), Fail> {
-    for start in 0..3 {
-        let mut deque = deque_at::<3>(rt.alloc(), start, &[0, 1, 2])?;
-        for (i, j) in [(0, 2), (1, 1)] {
-            assert!(rt; i < deque.len() && j < deque.len());
-            deque.swap(i, j);
-            assert!(rt; holds(&deque, &[2, 1, 0]), "start {start}");
+/// Whether an exchange of the ends of 0, 1 and 2, and one of an item with itself, leave 2, 1 and 0.
+fn swaps(mut deque: ArrayDeque<i64, 3, Saturating>) -> bool {
+    for (i, j) in [(0, 2), (1, 1)] {
+        if i >= deque.len() || j >= deque.len() {
+            return false;
+        }
+        deque.swap(i, j);
+        if !holds(&deque, &[2, 1, 0]) {
+            return false;
         }
     }
-    Ok(())
+    true
 }
 
 #[test]
-fn removals_by_an_exchange(rt: HostRuntime) -> Result<(), Fail> {
+fn swaps_and_removals_by_an_exchange(rt: HostRuntime) -> Result<(), Fail> {
     let rows: [(&[i64], usize, Option<i64>, &[i64], &[i64]); 5] = [
         (&[], 0, None, &[], &[]),
         (&[0, 1, 2], 0, Some(0), &[2, 1], &[1, 2]),
@@ -26,55 +28,52 @@ fn removals_by_an_exchange(rt: HostRuntime) -> Result<(), Fail> {
         (&[0, 1, 2], 3, None, &[0, 1, 2], &[0, 1, 2]),
     ];
     for start in 0..3 {
+        assert!(rt;
+            swaps(deque_at(rt.alloc(), start, &[0, 1, 2])?),
+            "start {start}"
+        );
         for (items, index, removed, by_the_back, by_the_front) in rows {
-            let mut deque = deque_at::<3>(rt.alloc(), start, items)?;
-            assert!(rt; deque.swap_remove_back(index) == removed);
-            assert!(rt; holds(&deque, by_the_back), "{index}, start {start}");
-            let mut deque = deque_at::<3>(rt.alloc(), start, items)?;
-            assert!(rt; deque.swap_remove_front(index) == removed);
-            assert!(rt; holds(&deque, by_the_front), "{index}, start {start}");
+            let mut back = deque_at::<3>(rt.alloc(), start, items)?;
+            let mut front = deque_at::<3>(rt.alloc(), start, items)?;
+            assert!(rt;
+                back.swap_remove_back(index) == removed
+                    && holds(&back, by_the_back)
+                    && front.swap_remove_front(index) == removed
+                    && holds(&front, by_the_front),
+                "{index}, start {start}"
+            );
         }
     }
     Ok(())
 }
 
-/// Takes half of the items of a list out by exchanges with its last item, from the front on.
-/// Whether these go, and the others are left.
-fn halved_by_the_back(alloc: Global, start: usize, half: usize) -> Result<bool, Fail> {
+/// Whether half of the items of a list go by exchanges with its last item, from the front on, and
+/// by exchanges with its first, from the back on, and the others are left.
+fn halves(alloc: Global, start: usize, half: usize) -> Result<bool, Fail> {
     let mut list = numbers(alloc, half.saturating_mul(2))?;
+    let mut front = deque_at::<16>(alloc, start, &list)?;
     list.reverse();
-    let mut deque = deque_at::<16>(alloc, start, &list)?;
+    let mut back = deque_at::<16>(alloc, start, &list)?;
     for (index, &item) in list.iter().enumerate().take(half) {
-        if deque.swap_remove_back(index) != Some(item) {
-            return Ok(false);
-        }
-    }
-    Ok(holds(&deque, &numbers(alloc, half)?))
-}
-
-/// The same by exchanges with its first item, from the back on.
-fn halved_by_the_front(alloc: Global, start: usize, half: usize) -> Result<bool, Fail> {
-    let list = numbers(alloc, half.saturating_mul(2))?;
-    let mut deque = deque_at::<16>(alloc, start, &list)?;
-    for (from_back, &item) in list.iter().rev().enumerate().take(half) {
-        let index = deque.len().saturating_sub(from_back).saturating_sub(1);
-        if deque.swap_remove_front(index) != Some(item) {
+        let from_back = front.len().saturating_sub(index).saturating_sub(1);
+        if back.swap_remove_back(index) != Some(item)
+            || front.swap_remove_front(from_back) != Some(item)
+        {
             return Ok(false);
         }
     }
     let mut left = numbers(alloc, half)?;
+    let is_left = holds(&back, &left);
     left.reverse();
-    Ok(holds(&deque, &left))
+    Ok(is_left && holds(&front, &left))
 }
 
 #[test]
 fn half_of_the_items_by_exchanges(rt: HostRuntime) -> Result<(), Fail> {
     for start in 0..16 {
         for half in 0..8 {
-            let by_the_back = halved_by_the_back(rt.alloc(), start, half)?;
-            let by_the_front = halved_by_the_front(rt.alloc(), start, half)?;
             assert!(rt;
-                (by_the_back, by_the_front) == (true, true),
+                halves(rt.alloc(), start, half)?,
                 "half {half}, start {start}"
             );
         }

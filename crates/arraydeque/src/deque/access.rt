@@ -32,9 +32,9 @@ impl<T, const CAP: usize, B: Behavior> ArrayDeque<T, CAP, B> {
     ///
     /// ```
     /// let mut deque = ArrayDeque::<i64, 3, Saturating>::new(alloc)?;
-    /// assert_eq!(rt; deque.front(), None);
+    /// assert!(rt; deque.front() == None);
     /// deque.extend_back([1, 2]);
-    /// assert_eq!(rt; deque.front(), Some(&1));
+    /// assert!(rt; deque.front() == Some(&1));
     /// ```
     #[inline]
     pub fn front(&self) -> Option<&T>
@@ -47,9 +47,9 @@ impl<T, const CAP: usize, B: Behavior> ArrayDeque<T, CAP, B> {
     ///
     /// ```
     /// let mut deque = ArrayDeque::<i64, 3, Saturating>::new(alloc)?;
-    /// assert_eq!(rt; deque.back(), None);
+    /// assert!(rt; deque.back() == None);
     /// deque.extend_back([1, 2]);
-    /// assert_eq!(rt; deque.back(), Some(&2));
+    /// assert!(rt; deque.back() == Some(&2));
     /// ```
     #[inline]
     pub fn back(&self) -> Option<&T>
@@ -64,8 +64,8 @@ impl<T, const CAP: usize, B: Behavior> ArrayDeque<T, CAP, B> {
     /// ```
     /// let mut deque = ArrayDeque::<i64, 3, Saturating>::new(alloc)?;
     /// deque.extend_back([1, 2, 3]);
-    /// assert_eq!(rt; deque.pop_front(), Some(1));
-    /// assert_eq!(rt; (deque.get(0), deque.get(2)), (Some(&2), None));
+    /// assert!(rt; deque.pop_front() == Some(1));
+    /// assert!(rt; (deque.get(0), deque.get(2)) == (Some(&2), None));
     /// ```
     #[inline]
     pub fn get(&self, index: usize) -> Option<&T>
@@ -80,7 +80,7 @@ impl<T, const CAP: usize, B: Behavior> ArrayDeque<T, CAP, B> {
     /// let mut deque = ArrayDeque::<i64, 3, Saturating>::new(alloc)?;
     /// deque.extend_back([1, 2, 3]);
     /// *deque.front_mut().ok_or("no item")? = 7;
-    /// assert_eq!(rt; deque.into_vec()?.as_slice(), [7, 2, 3].as_slice());
+    /// assert!(rt; deque.into_vec()?.as_slice() == [7, 2, 3].as_slice());
     /// ```
     #[inline]
     pub fn front_mut(&mut self) -> Option<&mut T>
@@ -96,7 +96,7 @@ impl<T, const CAP: usize, B: Behavior> ArrayDeque<T, CAP, B> {
     /// let mut deque = ArrayDeque::<i64, 3, Saturating>::new(alloc)?;
     /// deque.extend_back([1, 2, 3]);
     /// *deque.back_mut().ok_or("no item")? = 7;
-    /// assert_eq!(rt; deque.into_vec()?.as_slice(), [1, 2, 7].as_slice());
+    /// assert!(rt; deque.into_vec()?.as_slice() == [1, 2, 7].as_slice());
     /// ```
     #[inline]
     pub fn back_mut(&mut self) -> Option<&mut T>
@@ -115,8 +115,8 @@ impl<T, const CAP: usize, B: Behavior> ArrayDeque<T, CAP, B> {
     /// let mut deque = ArrayDeque::<i64, 3, Saturating>::new(alloc)?;
     /// deque.extend_back([1, 2, 3]);
     /// *deque.get_mut(1).ok_or("no item")? = 7;
-    /// assert_eq!(rt; deque.get_mut(3), None);
-    /// assert_eq!(rt; deque.into_vec()?.as_slice(), [1, 7, 3].as_slice());
+    /// assert!(rt; deque.get_mut(3) == None);
+    /// assert!(rt; deque.into_vec()?.as_slice() == [1, 7, 3].as_slice());
     /// ```
     #[inline]
     pub fn get_mut(&mut self, index: usize) -> Option<&mut T>
@@ -140,8 +140,8 @@ impl<T, const CAP: usize, B: Behavior> Index<usize> for ArrayDeque<T, CAP, B> {
     /// ```
     /// let mut deque = ArrayDeque::<i64, 3, Wrapping>::new(alloc)?;
     /// deque.extend_back([1, 2, 3, 4]);
-    /// assert_eq!(rt; deque.len(), 3);
-    /// assert_eq!(rt; (deque[0], deque[2]), (2, 4));
+    /// assert!(rt; deque.len() == 3);
+    /// assert!(rt; (deque[0], deque[2]) == (2, 4));
     /// ```
     #[inline]
     fn index(&self, index: usize) -> &T {
@@ -156,9 +156,9 @@ impl<T, const CAP: usize, B: Behavior> IndexMut<usize> for ArrayDeque<T, CAP, B>
     /// ```
     /// let mut deque = ArrayDeque::<i64, 3, Saturating>::new(alloc)?;
     /// deque.extend_back([1, 2, 3]);
-    /// assert_eq!(rt; deque.len(), 3);
+    /// assert!(rt; deque.len() == 3);
     /// deque[1] = 7;
-    /// assert_eq!(rt; deque.into_vec()?.as_slice(), [1, 7, 3].as_slice());
+    /// assert!(rt; deque.into_vec()?.as_slice() == [1, 7, 3].as_slice());
     /// ```
     #[inline]
     fn index_mut(&mut self, index: usize) -> &mut T

@@ -19,9 +19,9 @@ impl<T: Clone, const CAP: usize, B: Behavior> ArrayDeque<T, CAP, B> {
     /// let mut deque = ArrayDeque::<i64, 3, Saturating>::new(alloc)?;
     /// deque.extend_back([1, 2]);
     /// let copy = deque.clone()?;
-    /// assert_eq!(rt; copy, deque);
-    /// assert_eq!(rt; deque.pop_front(), Some(1));
-    /// assert_eq!(rt; copy.into_vec()?.as_slice(), [1, 2].as_slice());
+    /// assert!(rt; copy == deque);
+    /// assert!(rt; deque.pop_front() == Some(1));
+    /// assert!(rt; copy.into_vec()?.as_slice() == [1, 2].as_slice());
     /// ```
     pub fn clone(&self) -> Result<Self, AllocError>
         requires { ClonesAreSame T.is_clone self.now.items }

@@ -64,7 +64,7 @@ impl<T: PartialEq, const CAP: usize, B: Behavior> PartialEq for ArrayDeque<T, CA
     /// let mut other = ArrayDeque::<i64, 3, Saturating>::new(alloc)?;
     /// other.extend_front([2, 1]);
     /// // Both are the list 1, 2, though not in the same places.
-    /// assert_eq!(rt; deque, other);
+    /// assert!(rt; deque == other);
     /// ```
     fn eq(&self, other: &Self) -> bool {
         if self.len() != other.len() {
@@ -97,7 +97,7 @@ impl<T: PartialOrd, const CAP: usize, B: Behavior> PartialOrd for ArrayDeque<T, 
     /// let deque = ArrayDeque::<i64, 3, Saturating>::from_array(alloc, [1, 5, 9])?;
     /// let other = ArrayDeque::<i64, 3, Saturating>::from_array(alloc, [1, 6])?;
     /// assert!(rt; deque < other);
-    /// assert_eq!(rt; deque.partial_cmp(&deque), Some(Ordering::Equal));
+    /// assert!(rt; deque.partial_cmp(&deque) == Some(Ordering::Equal));
     /// ```
     fn partial_cmp(&self, other: &Self) -> Option<Ordering> {
         let cut = self.beside(other);
@@ -128,7 +128,7 @@ impl<T: Ord, const CAP: usize, B: Behavior> Ord for ArrayDeque<T, CAP, B> {
     /// ```
     /// let deque = ArrayDeque::<i64, 3, Saturating>::from_array(alloc, [1, 2])?;
     /// let other = ArrayDeque::<i64, 3, Saturating>::from_array(alloc, [1, 2, 0])?;
-    /// assert_eq!(rt; deque.cmp(&other), Ordering::Less);
+    /// assert!(rt; deque.cmp(&other) == Ordering::Less);
     /// ```
     fn cmp(&self, other: &Self) -> Ordering {
         let cut = self.beside(other);

@@ -18,8 +18,8 @@ impl<T, const CAP: usize> ArrayDeque<T, CAP, Saturating> {
     /// let mut numbers = 1..=5;
     /// deque.extend_back(&mut numbers);
     /// // What finds no room isn't taken.
-    /// assert_eq!(rt; numbers.next(), Some(4));
-    /// assert_eq!(rt; deque.into_vec()?.as_slice(), [1, 2, 3].as_slice());
+    /// assert!(rt; numbers.next() == Some(4));
+    /// assert!(rt; deque.into_vec()?.as_slice() == [1, 2, 3].as_slice());
     /// ```
     #[inline(never)]
     pub fn extend_back<I: IntoIterator<Item = T>>(&mut self, iter: I)
@@ -39,7 +39,7 @@ impl<T, const CAP: usize> ArrayDeque<T, CAP, Saturating> {
     /// let mut deque = ArrayDeque::<i64, 3, Saturating>::new(alloc)?;
     /// deque.extend_back([9]);
     /// deque.extend_front([1, 2, 3]);
-    /// assert_eq!(rt; deque.into_vec()?.as_slice(), [2, 1, 9].as_slice());
+    /// assert!(rt; deque.into_vec()?.as_slice() == [2, 1, 9].as_slice());
     /// ```
     pub fn extend_front<I: IntoIterator<Item = T>>(&mut self, iter: I)
         requires { IsIterable I.into_iter_gives I.IntoIter.can_next iter }
@@ -123,7 +123,7 @@ impl<T: Drop, const CAP: usize> ArrayDeque<T, CAP, Wrapping> {
     /// let mut deque = ArrayDeque::<i64, 3, Wrapping>::new(alloc)?;
     /// deque.extend_back([1, 2]);
     /// deque.extend_back([3, 4]);
-    /// assert_eq!(rt; deque.into_vec()?.as_slice(), [2, 3, 4].as_slice());
+    /// assert!(rt; deque.into_vec()?.as_slice() == [2, 3, 4].as_slice());
     /// ```
     pub fn extend_back<I: IntoIterator<Item = T>>(&mut self, iter: I)
         requires { IsFiniteIterable
@@ -154,7 +154,7 @@ impl<T: Drop, const CAP: usize> ArrayDeque<T, CAP, Wrapping> {
     /// let mut deque = ArrayDeque::<i64, 3, Wrapping>::new(alloc)?;
     /// deque.extend_back([1, 2]);
     /// deque.extend_front([3, 4]);
-    /// assert_eq!(rt; deque.into_vec()?.as_slice(), [4, 3, 1].as_slice());
+    /// assert!(rt; deque.into_vec()?.as_slice() == [4, 3, 1].as_slice());
     /// ```
     pub fn extend_front<I: IntoIterator<Item = T>>(&mut self, iter: I)
         requires { IsFiniteIterable
@@ -187,8 +187,8 @@ impl<T: Drop, const CAP: usize> Extend<T> for ArrayDeque<T, CAP, Saturating> {
     /// let mut deque = ArrayDeque::<i64, 3, Saturating>::new(alloc)?;
     /// let mut numbers = 1..=5;
     /// deque.extend(&mut numbers)?;
-    /// assert_eq!(rt; numbers.next(), None);
-    /// assert_eq!(rt; deque.into_vec()?.as_slice(), [1, 2, 3].as_slice());
+    /// assert!(rt; numbers.next() == None);
+    /// assert!(rt; deque.into_vec()?.as_slice() == [1, 2, 3].as_slice());
     /// ```
     fn extend<I: IntoIterator<Item = T>>(&mut self, iter: I) -> Result<(), AllocError>
         requires { IsFiniteIterable
@@ -219,7 +219,7 @@ impl<T: Drop, const CAP: usize> Extend<T> for ArrayDeque<T, CAP, Wrapping> {
     /// ```
     /// let mut deque = ArrayDeque::<i64, 3, Wrapping>::new(alloc)?;
     /// deque.extend([1, 2, 3, 4])?;
-    /// assert_eq!(rt; deque.into_vec()?.as_slice(), [2, 3, 4].as_slice());
+    /// assert!(rt; deque.into_vec()?.as_slice() == [2, 3, 4].as_slice());
     /// ```
     fn extend<I: IntoIterator<Item = T>>(&mut self, iter: I) -> Result<(), AllocError>
         requires { IsFiniteIterable

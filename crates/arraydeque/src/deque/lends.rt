@@ -21,7 +21,7 @@ impl<T, const CAP: usize, B: Behavior> ArrayDeque<T, CAP, B> {
     /// for item in deque.iter_mut().rev().take(2) {
     ///     *item = 0;
     /// }
-    /// assert_eq!(rt; deque.into_vec()?.as_slice(), [1, 0, 0].as_slice());
+    /// assert!(rt; deque.into_vec()?.as_slice() == [1, 0, 0].as_slice());
     /// ```
     #[inline]
     pub fn iter_mut(&mut self) -> IterMut<'_, T>
@@ -45,7 +45,7 @@ impl<T, const CAP: usize, B: Behavior> ArrayDeque<T, CAP, B> {
     /// deque.extend_front([1]);
     /// let (_front, rest) = deque.as_mut_slices();
     /// rest.fill(0);
-    /// assert_eq!(rt; deque.into_vec()?.as_slice(), [1, 0, 0].as_slice());
+    /// assert!(rt; deque.into_vec()?.as_slice() == [1, 0, 0].as_slice());
     /// ```
     #[inline]
     pub fn as_mut_slices(&mut self) -> (&mut [T], &mut [T])

@@ -18,9 +18,9 @@ impl<T, const CAP: usize, B: Behavior> ArrayDeque<T, CAP, B> {
     /// let mut deque = ArrayDeque::<i64, 4, Saturating>::new(alloc)?;
     /// deque.extend_back([2, 3]);
     /// deque.extend_front([1]);
-    /// assert_eq!(rt; deque.as_slices().0, [1].as_slice());
+    /// assert!(rt; deque.as_slices().0 == [1].as_slice());
     /// deque.linearize();
-    /// assert_eq!(rt; deque.as_slices().0, [1, 2, 3].as_slice());
+    /// assert!(rt; deque.as_slices().0 == [1, 2, 3].as_slice());
     /// ```
     pub fn linearize(&mut self)
         ensures items { self.new.items ≡ self.old.items }

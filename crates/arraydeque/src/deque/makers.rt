@@ -20,8 +20,8 @@ impl<T, const CAP: usize> ArrayDeque<T, CAP, Saturating> {
     /// ```
     /// let mut numbers = 1..=5;
     /// let deque = ArrayDeque::<i64, 3, Saturating>::from_iter(alloc, &mut numbers)?;
-    /// assert_eq!(rt; deque.into_vec()?.as_slice(), [1, 2, 3].as_slice());
-    /// assert_eq!(rt; numbers.next(), Some(4));
+    /// assert!(rt; deque.into_vec()?.as_slice() == [1, 2, 3].as_slice());
+    /// assert!(rt; numbers.next() == Some(4));
     /// ```
     pub fn from_iter<I: IntoIterator<Item = T>>(
         alloc: Global,
@@ -50,7 +50,7 @@ impl<T, const CAP: usize> ArrayDeque<T, CAP, Saturating> {
     /// ```
     /// let list = vec![in alloc; 1, 2, 3]?;
     /// let deque = ArrayDeque::<i64, 2, Saturating>::from_vec(alloc, list)?;
-    /// assert_eq!(rt; deque.into_vec()?.as_slice(), [1, 2].as_slice());
+    /// assert!(rt; deque.into_vec()?.as_slice() == [1, 2].as_slice());
     /// ```
     pub fn from_vec(alloc: Global, v: Vec<T>) -> Result<Self, MakeError<Vec<T>>>
     where
@@ -68,7 +68,7 @@ impl<T, const CAP: usize> ArrayDeque<T, CAP, Saturating> {
     ///
     /// ```
     /// let deque = ArrayDeque::<i64, 2, Saturating>::from_array(alloc, [1, 2, 3])?;
-    /// assert_eq!(rt; deque.into_vec()?.as_slice(), [1, 2].as_slice());
+    /// assert!(rt; deque.into_vec()?.as_slice() == [1, 2].as_slice());
     /// ```
     pub fn from_array<const N: usize>(alloc: Global, a: [T; N]) -> Result<Self, MakeError<[T; N]>>
     where
@@ -97,7 +97,7 @@ impl<T: Drop, const CAP: usize> ArrayDeque<T, CAP, Wrapping> {
     ///
     /// ```
     /// let deque = ArrayDeque::<i64, 3, Wrapping>::from_iter(alloc, 1..=5)?;
-    /// assert_eq!(rt; deque.into_vec()?.as_slice(), [3, 4, 5].as_slice());
+    /// assert!(rt; deque.into_vec()?.as_slice() == [3, 4, 5].as_slice());
     /// ```
     pub fn from_iter<I: IntoIterator<Item = T>>(
         alloc: Global,
@@ -129,7 +129,7 @@ impl<T: Drop, const CAP: usize> ArrayDeque<T, CAP, Wrapping> {
     /// ```
     /// let list = vec![in alloc; 1, 2, 3]?;
     /// let deque = ArrayDeque::<i64, 2, Wrapping>::from_vec(alloc, list)?;
-    /// assert_eq!(rt; deque.into_vec()?.as_slice(), [2, 3].as_slice());
+    /// assert!(rt; deque.into_vec()?.as_slice() == [2, 3].as_slice());
     /// ```
     pub fn from_vec(alloc: Global, v: Vec<T>) -> Result<Self, MakeError<Vec<T>>>
         ensures items { IfOk result (λ deque. deque.items ≡ keep_last CAP v.items) }
@@ -148,7 +148,7 @@ impl<T: Drop, const CAP: usize> ArrayDeque<T, CAP, Wrapping> {
     ///
     /// ```
     /// let deque = ArrayDeque::<i64, 2, Wrapping>::from_array(alloc, [1, 2, 3])?;
-    /// assert_eq!(rt; deque.into_vec()?.as_slice(), [2, 3].as_slice());
+    /// assert!(rt; deque.into_vec()?.as_slice() == [2, 3].as_slice());
     /// ```
     pub fn from_array<const N: usize>(alloc: Global, a: [T; N]) -> Result<Self, MakeError<[T; N]>>
     where
@@ -194,7 +194,7 @@ impl<T, const CAP: usize, B: Behavior> ArrayDeque<T, CAP, B> {
     /// let mut deque = ArrayDeque::<i64, 3, Wrapping>::new(alloc)?;
     /// deque.extend_back([1, 2, 3, 4]);
     /// let list = deque.into_vec()?;
-    /// assert_eq!(rt; list.as_slice(), [2, 3, 4].as_slice());
+    /// assert!(rt; list.as_slice() == [2, 3, 4].as_slice());
     /// ```
     pub fn into_vec(self) -> Result<Vec<T>, MakeError<Self>>
         ensures items { IfOk result (λ v. v.items ≡ self.items) }
@@ -231,8 +231,8 @@ impl<T, const CAP: usize> From<ArrayDeque<T, CAP, Wrapping>> for ArrayDeque<T, C
     /// let mut wrapping = ArrayDeque::<i64, 2, Wrapping>::new(alloc)?;
     /// wrapping.extend_back([1, 2, 3]);
     /// let mut deque = ArrayDeque::<i64, 2, Saturating>::from(wrapping);
-    /// assert_eq!(rt; deque.push_back(4), Err(CapacityError { element: 4 }));
-    /// assert_eq!(rt; deque.into_vec()?.as_slice(), [2, 3].as_slice());
+    /// assert!(rt; deque.push_back(4) == Err(CapacityError { element: 4 }));
+    /// assert!(rt; deque.into_vec()?.as_slice() == [2, 3].as_slice());
     /// ```
     fn from(deque: ArrayDeque<T, CAP, Wrapping>) -> Self {
         let ArrayDeque { ring, behavior: _ } = deque;
@@ -253,8 +253,8 @@ impl<T, const CAP: usize> From<ArrayDeque<T, CAP, Saturating>> for ArrayDeque<T,
     /// let mut saturating = ArrayDeque::<i64, 2, Saturating>::new(alloc)?;
     /// saturating.extend_back([1, 2, 3]);
     /// let mut deque = ArrayDeque::<i64, 2, Wrapping>::from(saturating);
-    /// assert_eq!(rt; deque.push_back(4), Some(1));
-    /// assert_eq!(rt; deque.into_vec()?.as_slice(), [2, 4].as_slice());
+    /// assert!(rt; deque.push_back(4) == Some(1));
+    /// assert!(rt; deque.into_vec()?.as_slice() == [2, 4].as_slice());
     /// ```
     fn from(deque: ArrayDeque<T, CAP, Saturating>) -> Self {
         let ArrayDeque { ring, behavior: _ } = deque;

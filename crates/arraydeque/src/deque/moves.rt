@@ -21,10 +21,10 @@ impl<T, const CAP: usize> ArrayDeque<T, CAP, Saturating> {
     /// ```
     /// let mut deque = ArrayDeque::<i64, 4, Saturating>::new(alloc)?;
     /// deque.extend_back([1, 2, 3]);
-    /// assert_eq!(rt; deque.len(), 3);
-    /// assert_eq!(rt; deque.insert(1, 9), Ok(()));
-    /// assert_eq!(rt; deque.insert(0, 8), Err(CapacityError { element: 8 }));
-    /// assert_eq!(rt; deque.into_vec()?.as_slice(), [1, 9, 2, 3].as_slice());
+    /// assert!(rt; deque.len() == 3);
+    /// assert!(rt; deque.insert(1, 9) == Ok(()));
+    /// assert!(rt; deque.insert(0, 8) == Err(CapacityError { element: 8 }));
+    /// assert!(rt; deque.into_vec()?.as_slice() == [1, 9, 2, 3].as_slice());
     /// ```
     pub fn insert(&mut self, index: usize, element: T) -> Result<(), CapacityError<T>>
         requires { index ≤ length self.old.items }
@@ -58,9 +58,9 @@ impl<T, const CAP: usize, B: Behavior> ArrayDeque<T, CAP, B> {
     /// let mut deque = ArrayDeque::<i64, 4, Saturating>::new(alloc)?;
     /// deque.extend_back([1, 2, 3, 4]);
     /// // Only 1 moves.
-    /// assert_eq!(rt; deque.remove(1), Some(2));
-    /// assert_eq!(rt; deque.remove(3), None);
-    /// assert_eq!(rt; deque.into_vec()?.as_slice(), [1, 3, 4].as_slice());
+    /// assert!(rt; deque.remove(1) == Some(2));
+    /// assert!(rt; deque.remove(3) == None);
+    /// assert!(rt; deque.into_vec()?.as_slice() == [1, 3, 4].as_slice());
     /// ```
     pub fn remove(&mut self, index: usize) -> Option<T>
         ensures value { result ≡ slice_get self.old.items index }

@@ -25,10 +25,10 @@ impl<T, const CAP: usize, B: Behavior> ArrayDeque<T, CAP, B> {
     /// ```
     /// let mut deque = ArrayDeque::<i64, 5, Saturating>::new(alloc)?;
     /// deque.extend_back([0, 1, 2, 3, 4]);
-    /// assert_eq!(rt; deque.len(), 5);
+    /// assert!(rt; deque.len() == 5);
     /// let mut drained = deque.drain(1..3)?;
-    /// assert_eq!(rt; (drained.next(), deque.len()), (Some(1), 3));
-    /// assert_eq!(rt; deque.into_vec()?.as_slice(), [0, 3, 4].as_slice());
+    /// assert!(rt; (drained.next(), deque.len()) == (Some(1), 3));
+    /// assert!(rt; deque.into_vec()?.as_slice() == [0, 3, 4].as_slice());
     /// ```
     pub fn drain<R: RangeArgument<usize>>(&mut self, range: R) -> Result<Drain<T>, AllocError>
     where
@@ -86,10 +86,10 @@ impl<T, const CAP: usize, B: Behavior> ArrayDeque<T, CAP, B> {
     /// ```
     /// let mut deque = ArrayDeque::<i64, 3, Saturating>::new(alloc)?;
     /// deque.extend_back([1, 2, 3]);
-    /// assert_eq!(rt; deque.len(), 3);
+    /// assert!(rt; deque.len() == 3);
     /// let rest = deque.split_off(1)?;
-    /// assert_eq!(rt; (deque.len(), rest.capacity()), (1, 3));
-    /// assert_eq!(rt; rest.into_vec()?.as_slice(), [2, 3].as_slice());
+    /// assert!(rt; (deque.len(), rest.capacity()) == (1, 3));
+    /// assert!(rt; rest.into_vec()?.as_slice() == [2, 3].as_slice());
     /// ```
     pub fn split_off(&mut self, at: usize) -> Result<Self, AllocError>
         requires { at ≤ length self.old.items }

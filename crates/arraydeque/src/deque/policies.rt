@@ -14,10 +14,10 @@ impl<T, const CAP: usize> ArrayDeque<T, CAP, Saturating> {
     ///
     /// ```
     /// let mut deque = ArrayDeque::<i64, 2, Saturating>::new(alloc)?;
-    /// assert_eq!(rt; deque.push_front(2), Ok(()));
-    /// assert_eq!(rt; deque.push_front(1), Ok(()));
-    /// assert_eq!(rt; deque.push_front(0), Err(CapacityError { element: 0 }));
-    /// assert_eq!(rt; deque.front(), Some(&1));
+    /// assert!(rt; deque.push_front(2) == Ok(()));
+    /// assert!(rt; deque.push_front(1) == Ok(()));
+    /// assert!(rt; deque.push_front(0) == Err(CapacityError { element: 0 }));
+    /// assert!(rt; deque.front() == Some(&1));
     /// ```
     #[inline]
     pub fn push_front(&mut self, element: T) -> Result<(), CapacityError<T>>
@@ -41,8 +41,8 @@ impl<T, const CAP: usize> ArrayDeque<T, CAP, Saturating> {
     /// ```
     /// let mut deque = ArrayDeque::<i64, 3, Saturating>::new(alloc)?;
     /// deque.extend_back([1, 2]);
-    /// assert_eq!(rt; deque.push_back(3), Ok(()));
-    /// assert_eq!(rt; deque.push_back(4), Err(CapacityError { element: 4 }));
+    /// assert!(rt; deque.push_back(3) == Ok(()));
+    /// assert!(rt; deque.push_back(4) == Err(CapacityError { element: 4 }));
     /// ```
     #[inline]
     pub fn push_back(&mut self, element: T) -> Result<(), CapacityError<T>>
@@ -67,11 +67,11 @@ impl<T, const CAP: usize> ArrayDeque<T, CAP, Wrapping> {
     ///
     /// ```
     /// let mut deque = ArrayDeque::<i64, 2, Wrapping>::new(alloc)?;
-    /// assert_eq!(rt; deque.push_front(2), None);
-    /// assert_eq!(rt; deque.push_front(1), None);
+    /// assert!(rt; deque.push_front(2) == None);
+    /// assert!(rt; deque.push_front(1) == None);
     /// // 2 goes for it, at the back.
-    /// assert_eq!(rt; deque.push_front(0), Some(2));
-    /// assert_eq!(rt; (deque.front(), deque.back()), (Some(&0), Some(&1)));
+    /// assert!(rt; deque.push_front(0) == Some(2));
+    /// assert!(rt; (deque.front(), deque.back()) == (Some(&0), Some(&1)));
     /// ```
     #[inline]
     pub fn push_front(&mut self, element: T) -> Option<T>
@@ -103,9 +103,9 @@ impl<T, const CAP: usize> ArrayDeque<T, CAP, Wrapping> {
     /// let mut deque = ArrayDeque::<i64, 2, Wrapping>::new(alloc)?;
     /// deque.extend_back([1, 2]);
     /// // 1 goes for it, at the front.
-    /// assert_eq!(rt; deque.push_back(3), Some(1));
+    /// assert!(rt; deque.push_back(3) == Some(1));
     /// let mut none = ArrayDeque::<i64, 0, Wrapping>::new(alloc)?;
-    /// assert_eq!(rt; none.push_back(3), Some(3));
+    /// assert!(rt; none.push_back(3) == Some(3));
     /// ```
     #[inline]
     pub fn push_back(&mut self, element: T) -> Option<T>

@@ -18,7 +18,7 @@ impl<T, const CAP: usize, B: Behavior> ArrayDeque<T, CAP, B> {
     /// deque.extend_back([1, 2]);
     /// deque.clear();
     /// assert!(rt; deque.is_empty());
-    /// assert_eq!(rt; deque.push_back(3), Ok(()));
+    /// assert!(rt; deque.push_back(3) == Ok(()));
     /// ```
     pub fn clear(&mut self)
     where
@@ -42,7 +42,7 @@ impl<T, const CAP: usize, B: Behavior> ArrayDeque<T, CAP, B> {
     /// deque.extend_back([1, 2, 3, 4, 5]);
     /// // 3 and 5 move, once each.
     /// deque.retain(|item| item % 2 == 1);
-    /// assert_eq!(rt; deque.into_vec()?.as_slice(), [1, 3, 5].as_slice());
+    /// assert!(rt; deque.into_vec()?.as_slice() == [1, 3, 5].as_slice());
     /// ```
     pub fn retain<F: FnMut(&T) -> bool>(&mut self, f: F)
     where

@@ -14,9 +14,9 @@ impl<T, const CAP: usize, B: Behavior> ArrayDeque<T, CAP, B> {
     /// ```
     /// let mut deque = ArrayDeque::<i64, 4, Saturating>::new(alloc)?;
     /// deque.extend_back([1, 2, 3, 4]);
-    /// assert_eq!(rt; deque.swap_remove_back(0), Some(1));
-    /// assert_eq!(rt; deque.swap_remove_back(3), None);
-    /// assert_eq!(rt; deque.into_vec()?.as_slice(), [4, 2, 3].as_slice());
+    /// assert!(rt; deque.swap_remove_back(0) == Some(1));
+    /// assert!(rt; deque.swap_remove_back(3) == None);
+    /// assert!(rt; deque.into_vec()?.as_slice() == [4, 2, 3].as_slice());
     /// ```
     pub fn swap_remove_back(&mut self, index: usize) -> Option<T>
         ensures value { result ≡ slice_get self.old.items index }
@@ -39,9 +39,9 @@ impl<T, const CAP: usize, B: Behavior> ArrayDeque<T, CAP, B> {
     /// ```
     /// let mut deque = ArrayDeque::<i64, 4, Saturating>::new(alloc)?;
     /// deque.extend_back([1, 2, 3, 4]);
-    /// assert_eq!(rt; deque.swap_remove_front(3), Some(4));
-    /// assert_eq!(rt; deque.swap_remove_front(3), None);
-    /// assert_eq!(rt; deque.into_vec()?.as_slice(), [2, 3, 1].as_slice());
+    /// assert!(rt; deque.swap_remove_front(3) == Some(4));
+    /// assert!(rt; deque.swap_remove_front(3) == None);
+    /// assert!(rt; deque.into_vec()?.as_slice() == [2, 3, 1].as_slice());
     /// ```
     pub fn swap_remove_front(&mut self, index: usize) -> Option<T>
         ensures value { result ≡ slice_get self.old.items index }
@@ -63,9 +63,9 @@ impl<T, const CAP: usize, B: Behavior> ArrayDeque<T, CAP, B> {
     /// ```
     /// let mut deque = ArrayDeque::<i64, 3, Saturating>::new(alloc)?;
     /// deque.extend_back([1, 2, 3]);
-    /// assert_eq!(rt; deque.len(), 3);
+    /// assert!(rt; deque.len() == 3);
     /// deque.swap(0, 2);
-    /// assert_eq!(rt; deque.into_vec()?.as_slice(), [3, 2, 1].as_slice());
+    /// assert!(rt; deque.into_vec()?.as_slice() == [3, 2, 1].as_slice());
     /// ```
     #[inline]
     pub fn swap(&mut self, i: usize, j: usize)

@@ -14,9 +14,9 @@ use std::marker::Model;
 /// let mut deque = ArrayDeque::<i64, 3, Saturating>::new(alloc)?;
 /// deque.extend_back([1, 2, 3]);
 /// let mut drained = deque.drain(..)?;
-/// assert_eq!(rt; (drained.next_back(), deque.len()), (Some(3), 0));
+/// assert!(rt; (drained.next_back(), deque.len()) == (Some(3), 0));
 /// let rest: Vec<i64> = drained.collect(alloc)?;
-/// assert_eq!(rt; rest.as_slice(), [1, 2].as_slice());
+/// assert!(rt; rest.as_slice() == [1, 2].as_slice());
 /// ```
 #[derive(Drop)]
 pub struct Drain<T> {

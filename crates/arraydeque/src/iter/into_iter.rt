@@ -16,8 +16,8 @@ use std::marker::{Model, PhantomData};
 /// let mut deque = ArrayDeque::<i64, 3, Saturating>::new(alloc)?;
 /// deque.extend_back([1, 2, 3]);
 /// let mut items = deque.into_iter();
-/// assert_eq!(rt; (items.next(), items.next_back()), (Some(1), Some(3)));
-/// assert_eq!(rt; (items.len(), items.next()), (1, Some(2)));
+/// assert!(rt; (items.next(), items.next_back()) == (Some(1), Some(3)));
+/// assert!(rt; (items.len(), items.next()) == (1, Some(2)));
 /// ```
 #[derive(Drop)]
 pub struct IntoIter<T, const CAP: usize, B: Behavior> {

@@ -16,9 +16,9 @@ use std::marker::Model;
 /// let mut deque = ArrayDeque::<i64, 3, Saturating>::new(alloc)?;
 /// deque.extend_back([1, 2, 3]);
 /// let mut items = (&deque).into_iter();
-/// assert_eq!(rt; (items.next_back(), items.len()), (Some(&3), 2));
+/// assert!(rt; (items.next_back(), items.len()) == (Some(&3), 2));
 /// let mut again = items.clone()?;
-/// assert_eq!(rt; (items.next(), again.next()), (Some(&1), Some(&1)));
+/// assert!(rt; (items.next(), again.next()) == (Some(&1), Some(&1)));
 /// ```
 #[derive(Drop)]
 pub struct Iter<'a, T> {
@@ -109,7 +109,7 @@ impl<T, const CAP: usize, B: Behavior> ArrayDeque<T, CAP, B> {
     /// let mut deque = ArrayDeque::<i64, 3, Wrapping>::new(alloc)?;
     /// deque.extend_back([1, 2, 3, 4]);
     /// let turned: Vec<i64> = deque.iter().rev().copied().collect(alloc)?;
-    /// assert_eq!(rt; turned.as_slice(), [4, 3, 2].as_slice());
+    /// assert!(rt; turned.as_slice() == [4, 3, 2].as_slice());
     /// ```
     #[inline]
     pub fn iter(&self) -> Iter<'_, T>

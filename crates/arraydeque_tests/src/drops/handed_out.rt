@@ -5,16 +5,32 @@ use arraydeque::{ArrayDeque, Wrapping};
 use std::test::Fail;
 
 #[test]
-fn an_owned_iterator_drops_what_is_left(rt: HostRuntime) -> Result<(), Fail> {
+fn iterators_and_splits_drop_what_is_left(rt: HostRuntime) -> Result<(), Fail> {
     let drops = Drops::new();
-    for start in 0..4 {
-        let deque = deque_at::<4>(rt.alloc(), &drops, start, 4)?;
-        let mut iter = deque.into_iter();
-        let first = iter.next().map(|item| item.name);
-        let last = iter.next_back().map(|item| item.name);
-        assert!(rt; (first, last, drops.since()) == (Some(1), Some(4), 14));
-        drop(iter);
-        assert!(rt; drops.since() == 23, "start {start}");
+    for start in 0..5 {
+        let mut items = deque_at::<5>(rt.alloc(), &drops, start, 5)?.into_iter();
+        let (first, last) = (items.next(), items.next_back());
+        let before = drops.since();
+        let left = drops.with(items);
+        drop(last);
+        let ends = drops.with(first);
+        let mut items = deque_at::<4>(rt.alloc(), &drops, start, 4)?.into_iter();
+        drop(items.next());
+        let seen = [
+            before,
+            left,
+            ends,
+            drops.with(items.next_back()),
+            drops.with(items),
+        ];
+        let mut deque = deque_at::<4>(rt.alloc(), &drops, start, 4)?;
+        assert!(rt;
+            seen == [0, 234, 51, 14, 23] && deque.len() == 4,
+            "start {start}"
+        );
+        let rest = deque.split_off(1);
+        let seen = [drops.since(), drops.with(deque), drops.with(rest)];
+        assert!(rt; seen == [0, 1, 234], "start {start}");
     }
     Ok(())
 }
@@ -24,52 +40,46 @@ fn edits_drop_nothing(rt: HostRuntime) -> Result<(), Fail> {
     let drops = Drops::new();
     let mut deque = deque_at::<5>(rt.alloc(), &drops, 3, 4)?;
     assert!(rt; deque.len() == 4);
-    let inserted = deque.insert(1, drops.item(5));
+    let inserted = deque.insert(1, drops.item(5)).is_ok();
     deque.linearize();
     assert!(rt; deque.len() == 5);
     deque.swap(0, 4);
     let by_the_back = deque.swap_remove_back(0);
     let by_the_front = deque.swap_remove_front(1);
-    assert!(rt; (drops.since(), inserted.is_ok()) == (0, true));
+    let before = drops.since();
     drop(by_the_back);
-    drop(by_the_front);
-    assert!(rt; drops.since() == 45);
-    drop(deque);
-    assert!(rt; drops.since() == 123);
+    let seen = [before, drops.with(by_the_front), drops.with(deque)];
+    assert!(rt; inserted && seen == [0, 45, 123]);
     Ok(())
 }
 
 #[test]
-fn splits_drop_nothing(rt: HostRuntime) -> Result<(), Fail> {
+fn what_is_handed_out_is_not_dropped(rt: HostRuntime) -> Result<(), Fail> {
     let drops = Drops::new();
-    for start in 0..4 {
-        let mut deque = deque_at::<4>(rt.alloc(), &drops, start, 4)?;
-        assert!(rt; deque.len() == 4);
-        let rest = deque.split_off(1)?;
-        assert!(rt; drops.since() == 0, "start {start}");
-        drop(deque);
-        assert!(rt; drops.since() == 1, "start {start}");
-        drop(rest);
-        assert!(rt; drops.since() == 234, "start {start}");
-    }
-    Ok(())
-}
-
-#[test]
-fn a_full_deque_drops_nothing_that_it_gives_up(rt: HostRuntime) -> Result<(), Fail> {
-    let drops = Drops::new();
+    let calls = vec![in rt.alloc(); Call::Replace(0, drops.item(4))]?;
+    let mut deque = deque_at::<3>(rt.alloc(), &drops, 0, 3)?;
+    let removed = deque.remove(1);
+    let replies = deque.run(calls);
+    let wrapping: ArrayDeque<_, 3, Wrapping> = deque.into();
+    let list = wrapping.into_vec();
+    let before = drops.since();
+    let is_granted = replies.is_ok() && list.is_ok();
+    drop(removed);
+    drop(replies);
+    let seen = [before, drops.with(list)];
+    assert!(rt; is_granted && seen == [0, 2143]);
+    let calls = vec![in rt.alloc(); Call::Insert(0, drops.item(6))]?;
     let mut deque: ArrayDeque<_, 3, Wrapping> = deque_at::<3>(rt.alloc(), &drops, 1, 3)?.into();
     let first = deque.push_back(drops.item(4));
     let last = deque.push_front(drops.item(5));
-    assert!(rt; drops.since() == 0);
+    let before = drops.since();
     drop(first);
-    drop(last);
-    assert!(rt; drops.since() == 14);
-    let calls = vec![in rt.alloc(); Call::Insert(0, drops.item(6))]?;
-    let replies = deque.run(calls).map_err(|_| "refused")?;
-    assert!(rt; drops.since() == 0);
+    let displaced = drops.with(last);
+    let replies = deque.run(calls);
+    let is_granted = replies.is_ok();
+    let answered = drops.since();
     drop(replies);
-    drop(deque);
-    assert!(rt; drops.since() == 6523);
+    let seen = [before, displaced, answered, drops.with(deque)];
+    assert!(rt; is_granted && seen == [0, 14, 0, 6523]);
     Ok(())
 }
