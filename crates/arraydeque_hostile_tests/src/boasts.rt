@@ -68,8 +68,8 @@ fn makers_alike(alloc: Global, told: usize) -> Result<bool, Fail> {
 #[test]
 fn a_hint_has_no_say(rt: HostRuntime) -> Result<(), Fail> {
     for told in [0, 1, 2, 3, 1000, usize::MAX] {
-        let is_heard = extends_alike(rt.alloc(), told)? && makers_alike(rt.alloc(), told)?;
-        assert!(rt; is_heard, "{told}");
+        let are_alike = extends_alike(rt.alloc(), told)? && makers_alike(rt.alloc(), told)?;
+        assert!(rt; are_alike, "{told}");
     }
     Ok(())
 }
