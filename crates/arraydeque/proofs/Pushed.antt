@@ -137,6 +137,16 @@ nothing_behind : {X : Type 0} (xs ys : List X) → length ys ≤ 0 → xs ++ ys 
 nothing_behind xs [] short = append-nil xs
 nothing_behind xs (y ∷ ys) short = absurd (omega arith)
 
+-- where there are no places, a push leaves the deque as it was
+pub WrapsBack-none : {X : Type 0} (n : ℕ) (old new : DequeState X) (xs ys : List X) → n ≤ 0 → length new.items ≡ n → WrapsBack n old xs new → WrapsBack n old ys new
+WrapsBack-none n old new xs ys none full wraps =
+    let kept = keep_last n (old.items ++ ys) in
+    let last = length-drop (length (old.items ++ ys) - n) (old.items ++ ys) in (
+      nothing_behind [] new.items (omega arith) ∙ sym (nothing_behind [] kept (omega (arith, last))),
+      (λ some. absurd (omega arith)),
+      wraps.2,
+    )
+
 nothing_before : {X : Type 0} (n : ℕ) (xs : List X) (old : DequeState X) → length xs ≤ 0 → with_front n xs old ≡ old
 nothing_before n [] old short = let puts : old.steps.puts + 0 ≡ old.steps.puts = omega arith in (λ i. record { items = old.items; start = old.start; steps = record old.steps { puts = puts i } })
 nothing_before n (x ∷ xs) old short = absurd (omega arith)

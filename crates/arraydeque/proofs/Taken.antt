@@ -1,5 +1,5 @@
 -- What is taken of a source of items.
-use Rattle.std.proofs.Common.{◌≡◌, ℕ, ◌<◌, ◌≤◌, List, length, take, min, Option, None, Bool, true, false, ◌++◌, refl, sym, subst, ap, ◌∙◌, arith, inl, inr}
+use Rattle.std.proofs.Common.{◌≡◌, ℕ, ◌<◌, ◌≤◌, List, length, take, min, Option, None, Bool, true, false, ◌++◌, refl, sym, subst, ap, ◌∙◌, arith, inl, inr, true≢false}
 use Rattle.std.proofs.iter.runs.Lists.{Yields-both}
 use Rattle.std.proofs.iter.runs.Made.{run, run_of_exit, took}
 use Rattle.std.proofs.lemmas.Bool.{cases_lt, cases_Bool}
@@ -20,6 +20,18 @@ items-first run n xs are at_most fewer =
     same_lists run.items (take n xs) (omega (arith, run.long, length-take n xs)) (λ k d below.
     let here : k < run.len = omega (arith, run.long) in
     ap (λ o. unwrap_or o d) (sym (run.reads k d here) ∙ are.2 k d here) ∙ sym (get_or-take n xs k d (omega arith)))
+
+-- of a loop that took xs from an iterator, while there was room
+module _ {S A : Type 0} (gives : S → Option A → S → Type 0) (from last : S) (n : ℕ) (P : List A → Type 0) (xs : List A) (yielded : Yields gives from xs last) (holds : P xs) where
+  -- and then a None
+  pub Fills-ended : (to : S) → gives last None to → length xs ≤ n → Fills gives from to n true P
+  Fills-ended to ended at_most =
+      record { items = xs; last = last; yielded = yielded; at_most = at_most; none = λ _. ended; all = λ some. absurd (true≢false some); holds = holds }
+
+  -- until there was none
+  pub Fills-all : length xs ≡ n → Fills gives from last n false P
+  Fills-all long =
+      record { items = xs; last = last; yielded = yielded; at_most = omega arith; none = λ none. absurd (true≢false (sym none)); all = λ _. (refl, long); holds = holds }
 
 module _ {Source S A : Type 0} (becomes : Source → S → Type 0) (gives : S → Option A → S → Type 0) (source : Source) (P : List A → Type 0) where
   -- of a source whose iterator shows the list xs

@@ -1,10 +1,11 @@
-use Rattle.std.proofs.Common.{◌++◌, ◌∷◌, [], rules, refl, ap, ◌∙◌, arith}
+use Rattle.std.proofs.Common.{◌++◌, ◌∷◌, [], length, rules, refl, ap, ◌∙◌, arith}
 use Rattle.std.proofs.iter.Next.{Yields-more}
 use Rattle.std.proofs.lemmas.Grind.{common_steps}
-use Rattle.std.proofs.lemmas.List.{append_assoc}
+use Rattle.std.proofs.lemmas.List.{append_assoc, length-append}
 use Rattle.arraydeque_ring.specs.Ring.{RingState}
 use Rattle.arraydeque_ring.specs.Steps.{more_puts}
-use Rattle.arraydeque.proofs.Pushed.{more_twice}
+use Rattle.arraydeque.proofs.Pushed.{of_ring, more_twice}
+use Rattle.arraydeque.proofs.Taken.{Fills-ended, Fills-all}
 use Rattle.arraydeque.proofs.deque.ArrayDeque.fill_back.Goals as goal
 
 pub loop-elements-init : goal.loop-elements-init
@@ -61,3 +62,27 @@ loop-elements-2-preserved g c =
         empty = was.empty;
       },
     )
+
+pub returns-in_default-clause-filled : goal.returns-in_default-clause-filled
+returns-in_default-clause-filled g c =
+    let xs = c.loop-elements.invariant.0 in
+    let was = c.loop-elements.invariant.1 in
+    let deque = ap of_ring c.move_in.ensures ∙ (λ i. record { items = was.items i; start = was.start i; steps = was.steps i }) in
+    Fills-ended g.I.Iterator.next_gives c.args.elements.now c.loop-elements.elements _ _ xs was.yielded deque c.next.new.self
+    c.in_default.ensures.steps (omega (arith, was.within, ap length was.items, length-append c.args.self.now.items xs))
+
+pub returns-in_default-next-clause-filled : goal.returns-in_default-next-clause-filled
+returns-in_default-next-clause-filled g c =
+    let xs = c.loop-elements-2.invariant.0 in
+    let was = c.loop-elements-2.invariant.1 in
+    let deque = ap of_ring c.move_in-in_default-next.ensures ∙ (λ i. record { items = was.items i; start = was.start i; steps = was.steps i }) in
+    Fills-ended g.I.Iterator.next_gives c.args.elements.now c.loop-elements-2.elements _ _ xs was.yielded deque c.next-in-loop-elements-2.new.self
+    c.in_default-next.ensures.steps (omega (arith, was.within, ap length was.items, length-append c.args.self.now.items xs))
+
+pub returns-clause-filled : goal.returns-clause-filled
+returns-clause-filled g c =
+    let xs = c.loop-elements-2.invariant.0 in
+    let was = c.loop-elements-2.invariant.1 in
+    let deque = ap of_ring c.move_in-2.ensures ∙ (λ i. record { items = was.items i; start = was.start i; steps = was.steps i }) in
+    Fills-all g.I.Iterator.next_gives c.args.elements.now c.loop-elements-2.elements _ _ xs was.yielded deque
+    (omega (arith, was.within, ap length was.items, length-append c.args.self.now.items xs, c.loop-elements-2-test.false, c.len.ensures.len))

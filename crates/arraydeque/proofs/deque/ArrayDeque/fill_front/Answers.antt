@@ -1,9 +1,11 @@
-use Rattle.std.proofs.Common.{◌<◌, length, sym, ◌∷◌, ◌++◌, ◌-◌, [], rules, refl, ap, ap₂, ◌∙◌, arith}
+use Rattle.std.proofs.Common.{◌<◌, length, reverse, sym, ◌∷◌, ◌++◌, ◌-◌, [], rules, refl, ap, ap₂, ◌∙◌, arith}
 use Rattle.std.proofs.iter.Next.{Yields-more}
 use Rattle.std.proofs.lemmas.Grind.{common_steps}
+use Rattle.std.proofs.lemmas.List.{length-append, length-reverse}
 use Rattle.arraydeque_ring.specs.Ring.{RingState, place_of}
-use Rattle.arraydeque.proofs.Pushed.{place_of-before, back_by-push, more_twice, one_before}
 use Rattle.arraydeque_ring.specs.Steps.{more_puts}
+use Rattle.arraydeque.proofs.Pushed.{of_ring, place_of-before, back_by-push, more_twice, one_before}
+use Rattle.arraydeque.proofs.Taken.{Fills-ended, Fills-all}
 use Rattle.arraydeque.proofs.deque.ArrayDeque.fill_front.Goals as goal
 
 pub loop-elements-init : goal.loop-elements-init
@@ -67,3 +69,19 @@ loop-elements-preserved g c =
         empty = was.empty;
       },
     )
+
+pub returns-in_default-clause-filled : goal.returns-in_default-clause-filled
+returns-in_default-clause-filled g c =
+    let xs = c.loop-elements.invariant.0 in
+    let was = c.loop-elements.invariant.1 in
+    let deque = ap of_ring c.move_in.ensures ∙ (λ i. record { items = was.items i; start = was.start i; steps = was.steps i }) in
+    Fills-ended g.I.Iterator.next_gives c.args.elements.now c.loop-elements.elements _ _ xs was.yielded deque c.next.new.self
+    c.in_default.ensures.steps (omega (arith, was.within, ap length was.items, length-append (reverse xs) c.args.self.now.items, length-reverse xs))
+
+pub returns-clause-filled : goal.returns-clause-filled
+returns-clause-filled g c =
+    let xs = c.loop-elements.invariant.0 in
+    let was = c.loop-elements.invariant.1 in
+    let deque = ap of_ring c.move_in-2.ensures ∙ (λ i. record { items = was.items i; start = was.start i; steps = was.steps i }) in
+    Fills-all g.I.Iterator.next_gives c.args.elements.now c.loop-elements.elements _ _ xs was.yielded deque
+    (omega (arith, was.within, ap length was.items, length-append (reverse xs) c.args.self.now.items, length-reverse xs, c.loop-elements-test.false, c.len.ensures.len))

@@ -3,7 +3,7 @@ use Rattle.std.proofs.lemmas.Grind.{common_steps}
 use Rattle.arraydeque_ring.specs.Ring.{place_of}
 use Rattle.arraydeque_ring.specs.Steps.{more_puts, more_takes}
 use Rattle.arraydeque.specs.Deque.{DequeState}
-use Rattle.arraydeque.proofs.Pushed.{of_ring, WrapsBack-replace, WrapsBack-room, WrapsBack-both}
+use Rattle.arraydeque.proofs.Pushed.{of_ring, WrapsBack-none, WrapsBack-replace, WrapsBack-room, WrapsBack-both}
 use Rattle.arraydeque.proofs.Taken.{TakesAll-fills, TakesAll-filled}
 use Rattle.arraydeque.proofs.deque.extend.ArrayDeque+T+CAP+Wrapping.extend_back.Goals as goal
 
@@ -30,6 +30,17 @@ loop-element-preserved-then-this-gt0 g c =
       full = grind (arith, common_steps);
       wraps = WrapsBack-replace g.row.CAP (of_ring c.moved_out-ring.result) (of_ring c.loop-element.ring) (of_ring c.replace_first.new.self) c.loop-element.yielded c.in-Some.element
           (omega (arith, c.if-this-gt0.true)) was.full (ap of_ring c.replace_first.ensures.replaced ∙ (λ i. with_next (was.capacity i))) was.wraps;
+    }
+
+pub loop-element-preserved : goal.loop-element-preserved
+loop-element-preserved g c =
+    let was = c.loop-element.invariant in
+    record {
+      can_next = search rules;
+      finite = search rules;
+      capacity = was.capacity;
+      full = was.full;
+      wraps = WrapsBack-none g.row.CAP (of_ring c.moved_out-ring.result) (of_ring c.loop-element.ring) c.loop-element.yielded (c.loop-element.yielded ++ c.in-Some.element ∷ []) c.if-this-gt0.false was.full was.wraps;
     }
 
 pub returns : goal.returns

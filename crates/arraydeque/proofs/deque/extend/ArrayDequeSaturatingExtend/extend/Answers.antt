@@ -25,3 +25,6 @@ pub returns-else-not-fill_back-clause-taken : goal.returns-else-not-fill_back-cl
 returns-else-not-fill_back-clause-taken g c =
     TakesAll-fills g.I.IntoIterator.into_iter_gives g.I.IntoIter.Iterator.next_gives c.args.iter _ _ _ c.into_iter-elements.ensures.into_iter_gives _ _ _
     c.fill_back.ensures.filled c.if-not-fill_back.false (λ xs short all. all ∙ ap (λ ys. with_back ys c.args.self.now) (sym (take_all _ xs short)))
+
+pub returns-else-not-fill_back-clause-ran : goal.returns-else-not-fill_back-clause-ran
+returns-else-not-fill_back-clause-ran g c = TakesAll-drains g.I.IntoIterator.into_iter_gives g.I.IntoIter.Iterator.next_gives c.args.iter _ (returns-else-not-fill_back-clause-taken g c)
