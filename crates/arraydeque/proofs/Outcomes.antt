@@ -1,5 +1,6 @@
 -- Outcomes of the list machine that hang on a test.
-use Rattle.std.proofs.Common.{◌≡◌, ℕ, ◌*◌, ◌<◌, zero, suc, Bool, true, false, subst, sym, arith}
+use Rattle.std.proofs.Common.{◌≡◌, ℕ, ◌*◌, ◌<◌, ◌≤◌, zero, suc, Bool, true, false, true≢false, List, [], ◌∷◌, length, slice_get, None, is_none, ap, subst, sym, inl, inr, arith}
+use Rattle.std.proofs.lemmas.Bool.{cases_lt}
 use Rattle.std.specs.Bool.{MatchBool}
 
 module _ (b : Bool) (P Q : Type 0) where
@@ -15,3 +16,13 @@ module _ (b : Bool) (P Q : Type 0) where
 pub some_factor : (n size : ℕ) → 0 < n * size → 0 < n
 some_factor zero size some = absurd (omega arith)
 some_factor (suc n) size some = omega arith
+
+-- where a list has no item at i, it ends before it
+pub past_none : {X : Type 0} (xs : List X) (i : ℕ) → slice_get xs i ≡ None → length xs ≤ i
+past_none [] i none = omega arith
+past_none (x ∷ xs) zero none = absurd (true≢false (sym (ap is_none none)))
+past_none (x ∷ xs) (suc i) none = omega (arith, past_none xs i none)
+
+-- where a call that needs room was refused, there is none
+pub no_room : (len n : ℕ) → (len < n → false ≡ true) → n ≤ len
+no_room len n refused = elim (cases_lt len n) [ inl less ↦ absurd (true≢false (sym (refused less))) | inr none ↦ none ]

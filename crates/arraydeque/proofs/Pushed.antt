@@ -220,3 +220,13 @@ module _ {X : Type 0} (n : ℕ) (old mid : DequeState X) (xs : List X) (within :
           (λ some. there ∙ wraps.1 some ∙ ap (wrapped_front n ys) first ∙ both),
           λ none. there ∙ wraps.2 none ∙ here ∙ none_before none,
         )
+
+-- before the first push
+module _ {X : Type 0} (n : ℕ) (deque : DequeState X) (within : length deque.items ≤ n) where
+  pub WrapsBack-first : WrapsBack n deque [] deque
+  WrapsBack-first =
+      let puts : deque.steps.puts ≡ deque.steps.puts + 0 = omega arith in
+      WrapsBack-room n deque deque [] within (λ i. record { items = sym (append-nil deque.items) i; start = deque.start; steps = record deque.steps { puts = puts i } })
+
+  pub WrapsFront-first : WrapsFront n deque [] deque
+  WrapsFront-first = WrapsFront-room n deque deque [] within (sym (nothing_before n [] deque (omega arith)))

@@ -20,6 +20,11 @@ module _ {S A : Type 0} (steps : S → Option A → S → Type 0) where
   Reads-append false false true s t u xs ys first second = (second.0, Yields-append s t second.0 xs ys first second.1, second.2)
   Reads-append false false false s t u xs ys first second = Yields-append s t u xs ys first second
 
+  -- a call that leaves the iterator alone has read nothing
+  pub Reads-none : (ended : Bool) (s : S) → Reads steps ended s [] ended s
+  Reads-none true s = (refl, refl, refl)
+  Reads-none false s = refl
+
   module _ (old mid new : ScannerState S A) (xs ys : List A) where
     -- what is handed out in two runs is handed out in one
     pub HandsOut-append : HandsOut steps old xs mid → HandsOut steps mid ys new → HandsOut steps old (xs ++ ys) new

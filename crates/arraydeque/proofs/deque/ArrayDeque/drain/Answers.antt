@@ -9,6 +9,21 @@ returns-in_err-ring-clause-unchanged g c =
     let refused = err_from_is_err_and c.from_residual.result c.from_residual.ensures.1 in
     rw (refused.1, rw c.in_err-ring.was at c.drain.ensures.unchanged) c.self-2.view_is
 
+pub returns-in_err-ring-clause-drained : goal.returns-in_err-ring-clause-drained
+returns-in_err-ring-clause-drained g c = rw (err_from_is_err_and c.from_residual.result c.from_residual.ensures.1).1 tt
+
+pub returns-in_err-ring-clause-items : goal.returns-in_err-ring-clause-items
+returns-in_err-ring-clause-items g c = rw (err_from_is_err_and c.from_residual.result c.from_residual.ensures.1).1 tt
+
+pub returns-in_err-ring-clause-start : goal.returns-in_err-ring-clause-start
+returns-in_err-ring-clause-start g c = rw (err_from_is_err_and c.from_residual.result c.from_residual.ensures.1).1 tt
+
+pub returns-in_err-ring-clause-steps : goal.returns-in_err-ring-clause-steps
+returns-in_err-ring-clause-steps g c = rw (err_from_is_err_and c.from_residual.result c.from_residual.ensures.1).1 tt
+
+pub returns-in_err-ring-clause-fewest : goal.returns-in_err-ring-clause-fewest
+returns-in_err-ring-clause-fewest g c = rw (err_from_is_err_and c.from_residual.result c.from_residual.ensures.1).1 tt
+
 pub returns : goal.returns
 returns g c =
     let from : unwrap_or (g.R.RangeArgument.names_start c.args.range) 0 ≡ c.match-start.from = elim c.match-start.branch [

@@ -1,9 +1,10 @@
-use Rattle.std.proofs.Common.{ℕ, drop, ap, ◌∙◌, [], ◌∷◌, ◌++◌, rules, arith}
+use Rattle.std.proofs.Common.{◌≡◌, ℕ, length, drop, ap, ◌∙◌, [], ◌∷◌, ◌++◌, rules, arith}
 use Rattle.std.proofs.lemmas.Grind.{common_steps}
-use Rattle.arraydeque_ring.specs.Ring.{place_of}
+use Rattle.std.proofs.lemmas.List.{length-append}
+use Rattle.arraydeque_ring.specs.Ring.{RingState, place_of}
 use Rattle.arraydeque_ring.specs.Steps.{more_puts, more_takes}
 use Rattle.arraydeque.specs.Deque.{DequeState}
-use Rattle.arraydeque.proofs.Pushed.{of_ring, WrapsBack-none, WrapsBack-replace, WrapsBack-room, WrapsBack-both}
+use Rattle.arraydeque.proofs.Pushed.{of_ring, WrapsBack-first, WrapsBack-none, WrapsBack-replace, WrapsBack-room, WrapsBack-both}
 use Rattle.arraydeque.proofs.Taken.{TakesAll-fills, TakesAll-filled}
 use Rattle.arraydeque.proofs.deque.extend.ArrayDeque+T+CAP+Wrapping.extend_back.Goals as goal
 
@@ -17,6 +18,22 @@ loop-element-init-derived g c =
     let given = c.requires _ c.into_iter-elements.ensures.into_iter_gives in
     let goes = c.fill_back.ensures.goes c.if-fill_back.false in
     rw c.into_iter-element-iterator.ensures.into_iter_gives (goes.0, goes.1 given.1)
+
+pub loop-element-init : goal.loop-element-init
+loop-element-init g c =
+    let derived = loop-element-init-derived g c in
+    let filled = c.fill_back.ensures.filled in
+    let length_of = λ (ring : RingState g.row.T.Denot). length ring.items in
+    let length_in = λ (deque : DequeState g.row.T.Denot). length deque.items in
+    let full : length c.moved_out-ring.result.items ≡ g.row.CAP =
+    omega (arith, ap length_of c.moved_out-ring.ensures.value, ap length_in c.self.view_is, ap length_in filled.holds, length-append c.args.self.now.items filled.items, (filled.all c.if-fill_back.false).1, c.fill_back.ensures.within) in
+    record {
+      can_next = derived.0;
+      finite = derived.1;
+      capacity = ap (λ ring. ring.capacity) c.moved_out-ring.ensures.value ∙ c.self.invariant.0;
+      full = full;
+      wraps = WrapsBack-first g.row.CAP (of_ring c.moved_out-ring.result) (omega (arith, full));
+    }
 
 pub loop-element-preserved-then-this-gt0 : goal.loop-element-preserved-then-this-gt0
 loop-element-preserved-then-this-gt0 g c =

@@ -1,5 +1,6 @@
-use Rattle.std.proofs.Common.{◌≡◌, ◌++◌, ◌∷◌, [], take, reverse, ap, ◌∙◌, rules}
-use Rattle.arraydeque.proofs.Pushed.{of_ring, take-one_before, wrapped_front-push, WrapsFront-room, WrapsFront-both}
+use Rattle.std.proofs.Common.{◌≡◌, ◌++◌, ◌∷◌, [], length, take, reverse, ap, ◌∙◌, arith, rules}
+use Rattle.arraydeque_ring.specs.Ring.{RingState}
+use Rattle.arraydeque.proofs.Pushed.{of_ring, take-one_before, wrapped_front-push, WrapsFront-first, WrapsFront-room, WrapsFront-both}
 use Rattle.arraydeque.proofs.Taken.{TakesAll-fills, TakesAll-filled}
 use Rattle.arraydeque.proofs.deque.extend.ArrayDeque+T+CAP+Wrapping.extend_front.Goals as goal
 
@@ -8,6 +9,16 @@ loop-element-init-derived g c =
     let given = c.requires _ c.into_iter-elements.ensures.into_iter_gives in
     let goes = c.fill_front.ensures.goes c.if-fill_front.false in
     rw c.into_iter-element-iterator.ensures.into_iter_gives (goes.0, goes.1 given.1)
+
+pub loop-element-init : goal.loop-element-init
+loop-element-init g c =
+    let derived = loop-element-init-derived g c in
+    let length_of = λ (ring : RingState g.row.T.Denot). length ring.items in
+    record {
+      can_next = derived.0;
+      finite = derived.1;
+      wraps = WrapsFront-first g.row.CAP c.of-deque.result (omega (arith, ap length_of c.of-deque.ensures, ap length_of c.moved_out.ensures.value, c.self.invariant.1));
+    }
 
 pub loop-element-preserved : goal.loop-element-preserved
 loop-element-preserved g c =
