@@ -1,3 +1,4 @@
+pub mod Ends
 mod Examples
 pub mod loans
 pub mod memory

@@ -1,4 +1,4 @@
-//! All items of a deque, lent for writing.
+//! All items of a deque, lent for reading or for writing.
 ghost use Rattle.std.specs.Prelude.{◌≡◌, ◌++◌, []};
 ghost use Rattle.std.specs.Borrow.{sem};
 ghost use Rattle.arraydeque_ring.specs.Loans.{remaining};
@@ -8,9 +8,24 @@ ghost use Rattle.arraydeque.specs.DequeLends.{lends_items, lends_slices, lends_l
 
 use super::ArrayDeque;
 use crate::behavior::Behavior;
-use crate::iter::IterMut;
+use crate::iter::{Iter, IterMut};
 
 impl<T, const CAP: usize, B: Behavior> ArrayDeque<T, CAP, B> {
+    /// Returns an iterator over the items, from both ends.
+    ///
+    /// ```
+    /// let mut deque = ArrayDeque::<i64, 3, Wrapping>::new(alloc)?;
+    /// deque.extend_back([1, 2, 3, 4]);
+    /// let turned: Vec<i64> = deque.iter().rev().copied().collect(alloc)?;
+    /// assert!(rt; turned.as_slice() == [4, 3, 2].as_slice());
+    /// ```
+    #[inline]
+    pub fn iter(&self) -> Iter<'_, T>
+        ensures { result ≡ self.now.items }
+    {
+        self.ring.iter()
+    }
+
     /// Returns an iterator over mutable references to the items, from both ends.
     ///
     /// Whatever is written, the deque holds as many items as before, and they start where they did.

@@ -30,6 +30,17 @@ impl<T, const CAP: usize, B: Behavior> ArrayDeque<T, CAP, B> {
     /// assert!(rt; (drained.next(), deque.len()) == (Some(1), 3));
     /// assert!(rt; deque.into_vec()?.as_slice() == [0, 3, 4].as_slice());
     /// ```
+    ///
+    /// The `Drain` drops the items that are not taken of it.
+    ///
+    /// ```
+    /// let mut deque = ArrayDeque::<i64, 3, Saturating>::new(alloc)?;
+    /// deque.extend_back([1, 2, 3]);
+    /// let mut drained = deque.drain(..)?;
+    /// assert!(rt; (drained.next_back(), deque.len()) == (Some(3), 0));
+    /// let rest: Vec<i64> = drained.collect(alloc)?;
+    /// assert!(rt; rest.as_slice() == [1, 2].as_slice());
+    /// ```
     pub fn drain<R: RangeArgument<usize>>(&mut self, range: R) -> Result<Drain<T>, AllocError>
     where
         R: Drop,

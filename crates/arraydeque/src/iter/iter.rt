@@ -1,126 +1,9 @@
 //! The iterator over the items of a deque, lent for reading.
-ghost use Rattle.std.specs.Prelude.{◌≡◌, ◌+◌, ◌^◌, ◌<◌, ◌++◌, length, Some, IfSome, ⊤};
-ghost use Rattle.std.specs.Iterator.{YieldsFirstRef, YieldsLastRef, UpTo, item_count};
-ghost use Rattle.std.specs.Iterator.SizeHint.{IsWithinCount};
+ghost use Rattle.std.specs.Prelude.{◌≡◌};
 
 use crate::behavior::Behavior;
 use crate::deque::ArrayDeque;
-use std::alloc::AllocError;
-use std::iter::FusedIterator;
-use std::marker::Model;
-
-/// An iterator over references to the items of a deque, from both ends: that of
-/// [`ArrayDeque::iter`] and of `&deque`. It walks the two slices of the deque one after the other.
-///
-/// ```
-/// let mut deque = ArrayDeque::<i64, 3, Saturating>::new(alloc)?;
-/// deque.extend_back([1, 2, 3]);
-/// let mut items = (&deque).into_iter();
-/// assert!(rt; (items.next_back(), items.len()) == (Some(&3), 2));
-/// let mut again = items.clone()?;
-/// assert!(rt; (items.next(), again.next()) == (Some(&1), Some(&1)));
-/// ```
-#[derive(Drop)]
-pub struct Iter<'a, T> {
-    first: &'a [T],
-    second: &'a [T],
-}
-
-impl<'a, T> Model for Iter<'a, T> {
-    ghost use Rattle.std.specs.Prelude.{◌+◌, ◌^◌, ◌<◌, List, ◌++◌, length};
-
-    ghost Value = { List T };
-
-    ghost view = { λ it. it.first.now ++ it.second.now };
-
-    ghost invariant = { λ it. length it.first.now + length it.second.now < 2 ^ 64 };
-}
-
-impl<'a, T> Iterator for Iter<'a, T> {
-    type Item = &'a T;
-
-    ghost next_gives = { YieldsFirstRef (λ remaining. remaining) };
-
-    ghost remaining = { item_count (λ remaining. remaining) };
-
-    #[inline]
-    fn next(&mut self) -> Option<&'a T> {
-        if let Some((item, rest)) = self.first.split_first() {
-            self.first = rest;
-            return Some(item);
-        }
-        let (item, rest) = self.second.split_first()?;
-        self.second = rest;
-        Some(item)
-    }
-
-    #[inline]
-    fn size_hint(&self) -> (usize, Option<usize>)
-        ensures exact { result ≡ (length self.now, Some (length self.now)) }
-        ensures lower { IsWithinCount result.0 (item_count (λ remaining. remaining) self.now) }
-        ensures upper { IfSome result.1 (UpTo (item_count (λ remaining. remaining) self.now)) }
-    {
-        let len = self.len();
-        (len, Some(len))
-    }
-}
-
-impl<'a, T> DoubleEndedIterator for Iter<'a, T> {
-    ghost next_back_gives = { YieldsLastRef (λ remaining. remaining) };
-
-    #[inline]
-    fn next_back(&mut self) -> Option<&'a T> {
-        if let Some((item, rest)) = self.second.split_last() {
-            self.second = rest;
-            return Some(item);
-        }
-        let (item, rest) = self.first.split_last()?;
-        self.first = rest;
-        Some(item)
-    }
-}
-
-impl<'a, T> ExactSizeIterator for Iter<'a, T> {
-    #[inline]
-    fn len(&self) -> usize {
-        self.first.len() + self.second.len()
-    }
-}
-
-impl<'a, T> FusedIterator for Iter<'a, T> {}
-
-impl<'a, T> Clone for Iter<'a, T> {
-    ghost is_clone = { λ it copy. copy ≡ it };
-
-    ghost is_infallible = { λ _. ⊤ };
-
-    fn clone(&self) -> Result<Iter<'a, T>, AllocError> {
-        Ok(Iter {
-            first: self.first,
-            second: self.second,
-        })
-    }
-}
-
-impl<T, const CAP: usize, B: Behavior> ArrayDeque<T, CAP, B> {
-    /// Returns an iterator over the items, from both ends.
-    ///
-    /// ```
-    /// let mut deque = ArrayDeque::<i64, 3, Wrapping>::new(alloc)?;
-    /// deque.extend_back([1, 2, 3, 4]);
-    /// let turned: Vec<i64> = deque.iter().rev().copied().collect(alloc)?;
-    /// assert!(rt; turned.as_slice() == [4, 3, 2].as_slice());
-    /// ```
-    #[inline]
-    pub fn iter(&self) -> Iter<'_, T>
-        ensures { result ≡ self.now.items }
-    {
-        // That the two slices are within the capacity is known of the length.
-        let _len = self.len();
-        let (first, second) = self.as_slices();
-        Iter { first, second }
-    }
-}
+pub use arraydeque_ring::iter::Iter;
 
 impl<'a, T, const CAP: usize, B: Behavior> IntoIterator for &'a ArrayDeque<T, CAP, B> {
     type Item = &'a T;
@@ -129,6 +12,14 @@ impl<'a, T, const CAP: usize, B: Behavior> IntoIterator for &'a ArrayDeque<T, CA
 
     ghost into_iter_gives = { λ deque it. it ≡ deque.now.items };
 
+    /// ```
+    /// let mut deque = ArrayDeque::<i64, 3, Saturating>::new(alloc)?;
+    /// deque.extend_back([1, 2, 3]);
+    /// let mut items = (&deque).into_iter();
+    /// assert!(rt; (items.next_back(), items.len()) == (Some(&3), 2));
+    /// let mut again = items.clone()?;
+    /// assert!(rt; (items.next(), again.next()) == (Some(&1), Some(&1)));
+    /// ```
     #[inline]
     fn into_iter(self) -> Iter<'a, T> {
         self.iter()

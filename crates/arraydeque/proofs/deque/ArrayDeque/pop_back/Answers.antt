@@ -1,6 +1,6 @@
 use Rattle.std.proofs.Common.{ap, ◌∙◌}
 use Rattle.arraydeque.specs.Deque.{DequeState}
-use Rattle.arraydeque.proofs.Ends.{conserved-pop_back}
+use Rattle.arraydeque_ring.proofs.Ends.{conserved-pop_back}
 use Rattle.arraydeque.proofs.deque.ArrayDeque.pop_back.Goals as goal
 
 pub returns-clause-conserved : goal.returns-clause-conserved

@@ -1,0 +1,107 @@
+//! Values that are lent for reading in two slices, one behind the other. A contract sees the list of
+//! those that remain.
+ghost use Rattle.std.specs.Prelude.{◌≡◌, ◌+◌, ◌^◌, ◌<◌, ◌++◌, length, Some, IfSome, ⊤};
+ghost use Rattle.std.specs.Iterator.{YieldsFirstRef, YieldsLastRef, UpTo, item_count};
+ghost use Rattle.std.specs.Iterator.SizeHint.{IsWithinCount};
+
+use crate::ring::Ring;
+use std::alloc::AllocError;
+use std::iter::FusedIterator;
+use std::marker::Model;
+
+/// An iterator over references to the items of a ring, from both ends. It walks two slices one after
+/// the other.
+#[derive(Drop)]
+pub struct Iter<'a, T> {
+    first: &'a [T],
+    second: &'a [T],
+}
+
+impl<'a, T> Model for Iter<'a, T> {
+    ghost use Rattle.std.specs.Prelude.{◌+◌, ◌^◌, ◌<◌, List, ◌++◌, length};
+
+    ghost Value = { List T };
+
+    ghost view = { λ it. it.first.now ++ it.second.now };
+
+    ghost invariant = { λ it. length it.first.now + length it.second.now < 2 ^ 64 };
+}
+
+impl<'a, T> Iterator for Iter<'a, T> {
+    type Item = &'a T;
+
+    ghost next_gives = { YieldsFirstRef (λ remaining. remaining) };
+
+    ghost remaining = { item_count (λ remaining. remaining) };
+
+    #[inline]
+    fn next(&mut self) -> Option<&'a T> {
+        if let Some((item, rest)) = self.first.split_first() {
+            self.first = rest;
+            return Some(item);
+        }
+        let (item, rest) = self.second.split_first()?;
+        self.second = rest;
+        Some(item)
+    }
+
+    #[inline]
+    fn size_hint(&self) -> (usize, Option<usize>)
+        ensures exact { result ≡ (length self.now, Some (length self.now)) }
+        ensures lower { IsWithinCount result.0 (item_count (λ remaining. remaining) self.now) }
+        ensures upper { IfSome result.1 (UpTo (item_count (λ remaining. remaining) self.now)) }
+    {
+        let len = self.len();
+        (len, Some(len))
+    }
+}
+
+impl<'a, T> DoubleEndedIterator for Iter<'a, T> {
+    ghost next_back_gives = { YieldsLastRef (λ remaining. remaining) };
+
+    #[inline]
+    fn next_back(&mut self) -> Option<&'a T> {
+        if let Some((item, rest)) = self.second.split_last() {
+            self.second = rest;
+            return Some(item);
+        }
+        let (item, rest) = self.first.split_last()?;
+        self.first = rest;
+        Some(item)
+    }
+}
+
+impl<'a, T> ExactSizeIterator for Iter<'a, T> {
+    #[inline]
+    fn len(&self) -> usize {
+        self.first.len() + self.second.len()
+    }
+}
+
+impl<'a, T> FusedIterator for Iter<'a, T> {}
+
+impl<'a, T> Clone for Iter<'a, T> {
+    ghost is_clone = { λ it copy. copy ≡ it };
+
+    ghost is_infallible = { λ _. ⊤ };
+
+    fn clone(&self) -> Result<Iter<'a, T>, AllocError> {
+        Ok(Iter {
+            first: self.first,
+            second: self.second,
+        })
+    }
+}
+
+impl<T> Ring<T> {
+    /// The items for reading, front to back or back to front.
+    #[inline]
+    pub fn iter(&self) -> Iter<'_, T>
+        ensures { result ≡ self.now.items }
+    {
+        // That the two slices are within the capacity is known of the length.
+        let _len = self.len();
+        let (first, second) = self.as_slices();
+        Iter { first, second }
+    }
+}
