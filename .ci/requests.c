@@ -1,12 +1,18 @@
-/* Laid before a program by LD_PRELOAD: counts its requests for memory, and may refuse one of them.
+/* Laid before a program by LD_PRELOAD: counts its requests for memory, and may refuse one of them; it may also have
+   one of the standard streams fail, or move less than it is asked to.
    REFUSED is the number of that request, counted from 1. TOLD names a file that is told at the end how many
-   requests were granted, how many regions were given back, and how many bytes were asked for. */
+   requests were granted, how many regions were given back, and how many bytes were asked for.
+   STREAM is the number of that stream. With ERROR it moves one byte a call, and after CALLS calls each fails with that
+   number; without, the calls stop short where CALLS bytes were moved, and move all that they are asked to from there. */
 
 extern void *__libc_malloc(unsigned long);
 extern void *__libc_calloc(unsigned long, unsigned long);
 extern void *__libc_realloc(void *, unsigned long);
 extern void *__libc_memalign(unsigned long, unsigned long);
 extern void __libc_free(void *);
+extern long __read(int, void *, unsigned long);
+extern long __write(int, const void *, unsigned long);
+extern int *__errno_location(void);
 extern char *getenv(const char *);
 extern long atol(const char *);
 extern int creat(const char *, unsigned);
@@ -16,9 +22,8 @@ static unsigned long asked, granted, given_back, bytes;
 
 /* Whether this request is refused. */
 static int refused(void) {
-    const char *number = getenv("REFUSED");
     asked++;
-    return number && (unsigned long)atol(number) == asked;
+    return getenv("REFUSED") && (unsigned long)atol(getenv("REFUSED")) == asked;
 }
 
 static void *counted(void *region, unsigned long size) {
@@ -61,6 +66,37 @@ void free(void *region) {
     if (region)
         given_back++;
     __libc_free(region);
+}
+
+static long number(const char *name) {
+    const char *text = getenv(name);
+    return text ? atol(text) : 0;
+}
+
+/* How many bytes a call may move on this stream, of so many that it is asked for, or -1 where it fails. */
+static long movable(int stream, unsigned long size) {
+    static unsigned long done;
+    unsigned long calls = number("CALLS");
+    if (!getenv("STREAM") || number("STREAM") != stream || size == 0)
+        return size;
+    if (getenv("ERROR")) {
+        *__errno_location() = number("ERROR");
+        return done++ < calls ? 1 : -1;
+    }
+    if (done < calls && calls - done < size)
+        size = calls - done;
+    done += size;
+    return size;
+}
+
+long read(int stream, void *bytes, unsigned long size) {
+    long count = movable(stream, size);
+    return count < 0 ? count : __read(stream, bytes, count);
+}
+
+long write(int stream, const void *bytes, unsigned long size) {
+    long count = movable(stream, size);
+    return count < 0 ? count : __write(stream, bytes, count);
 }
 
 __attribute__((destructor)) static void tell(void) {

@@ -101,6 +101,3 @@ fn print<W: Write + Drop, const CAP: usize, B: Behavior>(
     output.flush()?;
     Ok(())
 }
-
-#[cfg(test)]
-mod tests;

@@ -12,9 +12,6 @@ use std::alloc::{AllocError, Global};
 use std::marker::Model;
 use std::mem;
 
-#[cfg(test)]
-mod tests;
-
 /// The present state, those before it, and those that were undone.
 #[derive(Drop)]
 pub struct History<T, const CAP: usize> {

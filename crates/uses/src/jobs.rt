@@ -10,9 +10,6 @@ use arraydeque::{ArrayDeque, Saturating, Wrapping};
 use std::alloc::{AllocError, Global};
 use std::marker::Model;
 
-#[cfg(test)]
-mod tests;
-
 /// Jobs that wait, in the order in which they were submitted.
 #[derive(Drop)]
 pub struct Jobs<T, const CAP: usize, B: Behavior> {

@@ -7,3 +7,4 @@ pub mod jobs;
 pub mod pipe;
 pub mod tokens;
 pub mod window;
+pub mod writing;

@@ -8,9 +8,6 @@ use arraydeque::{ArrayDeque, Saturating};
 use std::alloc::{AllocError, Global};
 use std::marker::Model;
 
-#[cfg(test)]
-mod tests;
-
 /// The bytes that were written and not yet read, in order.
 #[derive(Drop)]
 pub struct Pipe<const CAP: usize> {

@@ -12,9 +12,6 @@ ghost use Rattle.uses.specs.declared.tokens.Kind.TheVariants.{Sign};
 use arraydeque::lookahead::Scanner;
 use std::alloc::{AllocError, Global};
 
-#[cfg(test)]
-mod tests;
-
 /// What a token consists of.
 #[derive(Clone, Copy, Debug, PartialEq, Eq)]
 pub enum Kind {

@@ -9,9 +9,6 @@ use arraydeque::{ArrayDeque, Wrapping};
 use std::alloc::{AllocError, Global};
 use std::marker::Model;
 
-#[cfg(test)]
-mod tests;
-
 /// The last `CAP` samples, oldest first.
 #[derive(Drop)]
 pub struct Window<const CAP: usize> {

@@ -31,7 +31,7 @@ impl<T, const CAP: usize, B: Behavior> ArrayDeque<T, CAP, B> {
     /// assert!(rt; deque.into_vec()?.as_slice() == [0, 3, 4].as_slice());
     /// ```
     ///
-    /// The `Drain` drops the items that are not taken of it.
+    /// The `Drain` drops the items that are not taken from it.
     ///
     /// ```
     /// let mut deque = ArrayDeque::<i64, 3, Saturating>::new(alloc)?;

@@ -1,6 +1,6 @@
 //! Bytes through a pipe that is shorter than the text.
-use super::Pipe;
 use std::test::Fail;
+use uses::pipe::Pipe;
 
 #[test]
 fn a_full_pipe_takes_no_more(rt: HostRuntime) -> Result<(), Fail> {

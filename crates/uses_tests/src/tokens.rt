@@ -1,8 +1,8 @@
 //! What a few inputs are cut into.
-use super::{Kind, Token, tokenize, tokenize_text};
 use arraydeque::lookahead::Scanner;
 use std::alloc::AllocError;
 use std::test::Fail;
+use uses::tokens::{Kind, Token, tokenize, tokenize_text};
 
 /// Whether the tokens are these.
 fn are(tokens: &[Token], wanted: &[(Kind, &[u8])]) -> bool {

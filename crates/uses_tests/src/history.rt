@@ -1,6 +1,6 @@
 //! Steps, and steps undone.
-use super::History;
 use std::test::Fail;
+use uses::history::History;
 
 #[test]
 fn an_undo_gives_the_state_before_back(rt: HostRuntime) -> Result<(), Fail> {

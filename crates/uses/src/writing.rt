@@ -1,14 +1,9 @@
 //! Callers of what a deque lends for writing, proved with no proof file: by the deque's contracts
 //! alone each knows the length and the start afterwards, whatever it wrote.
-#![tactic(auto)]
-
 ghost use Rattle.std.specs.Prelude.{◌≡◌, ◌+◌, ◌-◌, ◌<◌, length};
 
 use arraydeque::behavior::Behavior;
 use arraydeque::{ArrayDeque, CapacityError, IterMut, Saturating, Wrapping};
-
-#[cfg(test)]
-mod tests;
 
 /// Writes over each item.
 pub fn fill<T: Copy + Drop, const CAP: usize, B: Behavior>(deque: &mut ArrayDeque<T, CAP, B>, x: T)
@@ -49,7 +44,7 @@ pub fn fill_walked<T: Copy + Drop, const CAP: usize, B: Behavior>(
 }
 
 /// Writes over one item after the other, and answers how many there are.
-pub fn fill_by_hand<const CAP: usize, B: Behavior>(deque: &mut ArrayDeque<u64, CAP, B>) -> usize
+pub fn fill_by_hand<const CAP: usize, B: Behavior>(deque: &mut ArrayDeque<i64, CAP, B>) -> usize
     ensures len { length deque.new.items ≡ length deque.old.items }
     ensures result { result ≡ length deque.old.items }
 {
@@ -63,8 +58,8 @@ pub fn fill_by_hand<const CAP: usize, B: Behavior>(deque: &mut ArrayDeque<u64, C
 /// Writes 0 over each item before the first that is `stop`, or answers `false` and writes 1 over
 /// all where there is none.
 pub fn fill_until<const CAP: usize, B: Behavior>(
-    deque: &mut ArrayDeque<u64, CAP, B>,
-    stop: u64,
+    deque: &mut ArrayDeque<i64, CAP, B>,
+    stop: i64,
 ) -> bool
     ensures len { length deque.new.items ≡ length deque.old.items }
     ensures start { deque.new.start ≡ deque.old.start }
@@ -83,8 +78,8 @@ pub fn fill_until<const CAP: usize, B: Behavior>(
 
 /// Writes over the first and the last item, and pushes the length.
 pub fn write_ends_and_push<const CAP: usize>(
-    deque: &mut ArrayDeque<u64, CAP, Saturating>,
-) -> Result<(), CapacityError<u64>>
+    deque: &mut ArrayDeque<i64, CAP, Saturating>,
+) -> Result<(), CapacityError<i64>>
     ensures ok { length deque.old.items < CAP →
         length deque.new.items ≡ length deque.old.items + 1 }
     ensures full { length deque.old.items ≡ CAP → length deque.new.items ≡ CAP }
@@ -97,12 +92,12 @@ pub fn write_ends_and_push<const CAP: usize>(
         *last = 2;
     }
     let len = deque.len();
-    deque.push_back(len as u64)
+    deque.push_back(len as i64)
 }
 
 /// Writes over the first item of each of the two slices, pushes, and answers how many items there
 /// were.
-pub fn write_slices_and_push<const CAP: usize>(deque: &mut ArrayDeque<u64, CAP, Wrapping>) -> usize
+pub fn write_slices_and_push<const CAP: usize>(deque: &mut ArrayDeque<i64, CAP, Wrapping>) -> usize
     ensures len { length deque.old.items < CAP →
         length deque.new.items ≡ length deque.old.items + 1 }
     ensures result { result ≡ length deque.old.items }
@@ -130,7 +125,7 @@ pub fn count_in_slices<T, const CAP: usize, B: Behavior>(deque: &mut ArrayDeque<
 }
 
 /// Writes over what is left of a loan.
-fn wipe(items: IterMut<'_, u64>) {
+fn wipe(items: IterMut<'_, i64>) {
     for item in items {
         *item = 0;
     }
@@ -138,8 +133,8 @@ fn wipe(items: IterMut<'_, u64>) {
 
 /// Lets another function write over all items, and takes the first.
 pub fn wipe_and_pop<const CAP: usize, B: Behavior>(
-    deque: &mut ArrayDeque<u64, CAP, B>,
-) -> Option<u64>
+    deque: &mut ArrayDeque<i64, CAP, B>,
+) -> Option<i64>
     ensures { length deque.new.items ≡ length deque.old.items - 1 }
 {
     wipe(deque.iter_mut());

@@ -1,7 +1,7 @@
 //! What a full queue does with a job under either policy.
-use super::Jobs;
 use arraydeque::{Saturating, Wrapping};
 use std::test::Fail;
+use uses::jobs::Jobs;
 
 #[test]
 fn a_full_queue_hands_the_new_job_back(rt: HostRuntime) -> Result<(), Fail> {

@@ -1,6 +1,6 @@
 //! What stands in a window after more samples than it holds.
-use super::Window;
 use std::test::Fail;
+use uses::window::Window;
 
 #[test]
 fn the_oldest_sample_leaves_a_full_window(rt: HostRuntime) -> Result<(), Fail> {

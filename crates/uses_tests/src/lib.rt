@@ -1,0 +1,15 @@
+//! Tests of the uses at concrete types; there is nothing here to call.
+#![tactic(auto)]
+
+#[cfg(test)]
+mod history;
+#[cfg(test)]
+mod jobs;
+#[cfg(test)]
+mod pipe;
+#[cfg(test)]
+mod tokens;
+#[cfg(test)]
+mod window;
+#[cfg(test)]
+mod writing;
