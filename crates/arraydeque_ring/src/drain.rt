@@ -1,5 +1,5 @@
-//! The items that a drain took out, handed out from both ends. A contract sees the list of those that
-//! remain.
+//! The items that a drain took out, handed out from both ends. A contract sees the list of those
+//! that remain.
 ghost use Rattle.std.specs.Prelude.{◌≡◌, length, Some};
 ghost use Rattle.std.specs.Iterator.{YieldsFirst, YieldsLast, item_count};
 ghost use Rattle.arraydeque_ring.specs.Ring.{IsInOnePiece};
@@ -8,8 +8,8 @@ use crate::ring::Ring;
 use std::iter::FusedIterator;
 use std::marker::Model;
 
-/// An iterator that owns the items that a drain removed, from both ends. It drops those that are not
-/// taken, and doesn't borrow what they were taken out of.
+/// An iterator that owns the items that a drain removed, from both ends. It drops those that are
+/// not taken, and doesn't borrow what they were taken out of.
 #[derive(Drop)]
 pub struct Drain<T> {
     ring: Ring<T>,

@@ -1,5 +1,5 @@
-//! Values that are lent for reading in two slices, one behind the other. A contract sees the list of
-//! those that remain.
+//! Values that are lent for reading in two slices, one behind the other. A contract sees the list
+//! of those that remain.
 ghost use Rattle.std.specs.Prelude.{◌≡◌, ◌+◌, ◌^◌, ◌<◌, ◌++◌, length, Some, IfSome, ⊤};
 ghost use Rattle.std.specs.Iterator.{YieldsFirstRef, YieldsLastRef, UpTo, item_count};
 ghost use Rattle.std.specs.Iterator.SizeHint.{IsWithinCount};
@@ -9,8 +9,8 @@ use std::alloc::AllocError;
 use std::iter::FusedIterator;
 use std::marker::Model;
 
-/// An iterator over references to the items of a ring, from both ends. It walks two slices one after
-/// the other.
+/// An iterator over references to the items of a ring, from both ends. It walks two slices one
+/// after the other.
 #[derive(Drop)]
 pub struct Iter<'a, T> {
     first: &'a [T],

@@ -20,11 +20,13 @@ extern int dprintf(int, const char *, ...);
 
 static unsigned long asked, granted, given_back, bytes;
 
-/* Whether this request is refused. */
-static int refused(void) {
-    asked++;
-    return getenv("REFUSED") && (unsigned long)atol(getenv("REFUSED")) == asked;
+static unsigned long number(const char *name) {
+    const char *text = getenv(name);
+    return text ? atol(text) : 0;
 }
+
+/* Whether this request is refused. */
+static int refused(void) { return number("REFUSED") == ++asked; }
 
 static void *counted(void *region, unsigned long size) {
     if (region) {
@@ -68,20 +70,17 @@ void free(void *region) {
     __libc_free(region);
 }
 
-static long number(const char *name) {
-    const char *text = getenv(name);
-    return text ? atol(text) : 0;
-}
-
 /* How many bytes a call may move on this stream, of so many that it is asked for, or -1 where it fails. */
 static long movable(int stream, unsigned long size) {
     static unsigned long done;
     unsigned long calls = number("CALLS");
-    if (!getenv("STREAM") || number("STREAM") != stream || size == 0)
+    if (!getenv("STREAM") || number("STREAM") != (unsigned long)stream || size == 0)
         return size;
     if (getenv("ERROR")) {
+        if (done++ < calls)
+            return 1;
         *__errno_location() = number("ERROR");
-        return done++ < calls ? 1 : -1;
+        return -1;
     }
     if (done < calls && calls - done < size)
         size = calls - done;

@@ -9,8 +9,8 @@ trap 'rm -rf "$scratch"' EXIT
 can_watch() {
     local compiler
     for compiler in cc clang "$(dirname "$(rt doc)")/toolchain/bin/clang"; do
-        "$compiler" -O1 -fPIC -shared -nostdlib -o "$scratch/requests.so" .ci/requests.c 2>"$scratch/compiler" || continue
-        TOLD="$scratch/told" LD_PRELOAD="$scratch/requests.so" env true && [ -s "$scratch/told" ] && return 0
+        "$compiler" -O1 -fPIC -shared -nostdlib -o "$scratch/watch.so" .ci/watch.c 2>"$scratch/compiler" || continue
+        TOLD="$scratch/told" LD_PRELOAD="$scratch/watch.so" env true && [ -s "$scratch/told" ] && return 0
     done
     return 1
 }
@@ -19,7 +19,7 @@ can_watch() {
 # granted, how many regions were given back, and how many bytes were asked for.
 watched() {
     rm -f "$scratch/told"
-    TOLD="$scratch/told" LD_PRELOAD="$scratch/requests.so" "$@"
+    TOLD="$scratch/told" LD_PRELOAD="$scratch/watch.so" "$@"
 }
 
 # test_programs: the programs of the tests, as the gate built them.
