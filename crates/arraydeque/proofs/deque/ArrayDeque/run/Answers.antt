@@ -1,3 +1,4 @@
+use Rattle.std.proofs.lemmas.Grind.{common_steps}
 use Rattle.std.proofs.Common.{arith, rules, subst, sym, ◌∙◌}
 use Rattle.std.proofs.lemmas.Iterator.Adapters.{YieldsList-from_vec}
 use Rattle.std.proofs.lemmas.Iterator.Consumers.{YieldsList-end}
@@ -19,3 +20,6 @@ returns g c =
     let all = YieldsList-end source c.loop-call.yielded c.loop-call.call-iterator c.loop-call.yielded_by c.next.result c.next.new.self c.in-None.is c.next.ensures.steps in
     let costs = subst (λ calls. RunCosts g.B.Answering.policy c.args.self.now calls c.loop-call.replies.items c.loop-call.self) (sym (map-id _) ∙ all.0) c.loop-call.invariant.so_far in
     record { ok = costs.run; costs = costs; calls_come_back = search rules; unchanged = search rules; some_calls = search rules }
+
+pub returns-in-Err-clause-some_calls : goal.returns-in-Err-clause-some_calls
+returns-in-Err-clause-some_calls g c = grind (arith, common_steps)
