@@ -1,8 +1,9 @@
--- A run of the list machine grows by one call at its end, and costs what that call costs more.
+-- A run grows by one call at its end: it costs what that call costs more, and moves what it moves.
 use Rattle.std.proofs.Common.{◌≡◌, ℕ, Some, ◌≢◌, ◌+◌, ◌≤◌, List, [], ◌∷◌, ◌++◌, refl, ap, subst, arith}
 use Rattle.std.proofs.lemmas.List.Elements.{All-pop}
 use Rattle.arraydeque.specs.Costs.{work_of, price_of, price_of_run, CallCosts, RunCosts}
 use Rattle.arraydeque.specs.Deque.{DequeState}
+use Rattle.arraydeque.specs.Fewest.{CallMovesFewest, RunMovesFewest}
 use Rattle.arraydeque.specs.Machine.{Answer, Answers, answer_of}
 use Rattle.arraydeque.specs.Policy.{Policy}
 use Rattle.arraydeque.specs.Run.{Run}
@@ -49,3 +50,21 @@ module _ {X B : Type 0} {n : ℕ} (p : Policy) (c : Call X) (r : Reply X n B) wh
             let parts = All-pop (λ call. call ≢ Linearize) (cs ++ c ∷ []) cs (Some c) refl none in
             omega (arith, so_far.exactly parts.0, call.1 parts.1, longer.1);
       }
+
+  -- the same, with the fewest moves
+  pub RunMovesFewest-push : (old mid new : DequeState X) (cs : List (Call X))
+      (rs : List (Reply X n B)) → RunMovesFewest p old cs rs mid
+      → Answers p n mid.items c (answer_of r) new.items
+      → CallMovesFewest n c (answer_of r) mid new
+      → RunMovesFewest p old (cs ++ c ∷ []) (rs ++ r ∷ []) new
+  RunMovesFewest-push old mid new [] [] so_far answered fewest = (
+    new,
+    subst (λ (d : DequeState X). Answers p n d.items c (answer_of r) new.items) so_far answered,
+    subst (λ (d : DequeState X). CallMovesFewest n c (answer_of r) d new) so_far fewest,
+    refl,
+  )
+  RunMovesFewest-push old mid new [] (r' ∷ rs) so_far answered fewest = absurd so_far
+  RunMovesFewest-push old mid new (c' ∷ cs) [] so_far answered fewest = absurd so_far
+  RunMovesFewest-push old mid new (c' ∷ cs) (r' ∷ rs) so_far answered fewest =
+      let rest = RunMovesFewest-push so_far.0 mid new cs rs so_far.3 answered fewest in
+      (so_far.0, so_far.1, so_far.2, rest)

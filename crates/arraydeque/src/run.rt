@@ -1,6 +1,7 @@
 //! A whole list of calls on a deque, as values, and a reply to each.
 ghost use Rattle.std.specs.Prelude.{◌≡◌, ◌<◌, length, IfOk, IfErr, OnErr};
 ghost use Rattle.arraydeque.specs.Costs.{CallCosts, RunCosts};
+ghost use Rattle.arraydeque.specs.Fewest.{CallMovesFewest, RunMovesFewest};
 ghost use Rattle.arraydeque.specs.Machine.{Answers, answer_of, IsAlike};
 ghost use Rattle.arraydeque.specs.Policy.{Policy, saturating, wrapping};
 ghost use Rattle.arraydeque.specs.Run.{Run};
@@ -111,6 +112,8 @@ impl<T: Drop, const CAP: usize, B: Answering<T, CAP>> ArrayDeque<T, CAP, B> {
             Run B.policy self.old.items calls.items replies.items self.new.items) }
         ensures costs { IfOk result (λ replies.
             RunCosts B.policy self.old calls.items replies.items self.new) }
+        ensures fewest { IfOk result (λ replies.
+            RunMovesFewest B.policy self.old calls.items replies.items self.new) }
         ensures calls_come_back { IfErr result (λ refusal. refusal.source ≡ calls) }
         ensures unchanged { OnErr result (self.new ≡ self.old) }
         ensures some_calls { OnErr result (0 < length calls.items) }
@@ -136,7 +139,8 @@ pub(crate) trait Answering<T, const CAP: usize>: Behavior {
     fn answer(deque: &mut ArrayDeque<T, CAP, Self>, call: Call<T>) -> Reply<T, CAP, Self>
         ensures answers { Answers policy CAP deque.old.items call (answer_of result)
             deque.new.items }
-        ensures costs { CallCosts call (answer_of result) deque.old deque.new };
+        ensures costs { CallCosts call (answer_of result) deque.old deque.new }
+        ensures fewest { CallMovesFewest CAP call (answer_of result) deque.old deque.new };
 }
 
 impl<T: Drop, const CAP: usize> Answering<T, CAP> for Saturating {
@@ -149,6 +153,7 @@ impl<T: Drop, const CAP: usize> Answering<T, CAP> for Saturating {
         ensures answers { Answers saturating CAP deque.old.items call (answer_of result)
             deque.new.items }
         ensures costs { CallCosts call (answer_of result) deque.old deque.new }
+        ensures fewest { CallMovesFewest CAP call (answer_of result) deque.old deque.new }
     {
         match call {
             Call::PushFront(element) => deque.answer_push_front(element),
@@ -197,6 +202,8 @@ impl<T: Drop, const CAP: usize> ArrayDeque<T, CAP, Saturating> {
         ensures answers { Answers saturating CAP self.old.items (Insert index element)
             (answer_of result) self.new.items }
         ensures costs { CallCosts (Insert index element) (answer_of result) self.old self.new }
+        ensures fewest { CallMovesFewest CAP (Insert index element) (answer_of result)
+            self.old self.new }
     {
         if index > self.len() {
             return Reply::OutOfRange(Some(element));
@@ -215,6 +222,7 @@ impl<T: Drop, const CAP: usize> Answering<T, CAP> for Wrapping {
         ensures answers { Answers wrapping CAP deque.old.items call (answer_of result)
             deque.new.items }
         ensures costs { CallCosts call (answer_of result) deque.old deque.new }
+        ensures fewest { CallMovesFewest CAP call (answer_of result) deque.old deque.new }
     {
         match call {
             Call::PushFront(element) => Reply::Displaced(deque.push_front(element)),
@@ -240,6 +248,7 @@ impl<T: Drop, const CAP: usize, B: Behavior> ArrayDeque<T, CAP, B> {
         ensures answers { (p : Policy) →
             Answers p CAP self.old.items call (answer_of result) self.new.items }
         ensures costs { CallCosts call (answer_of result) self.old self.new }
+        ensures fewest { CallMovesFewest CAP call (answer_of result) self.old self.new }
     {
         match call {
             Call::PopFront => Reply::Item(self.pop_front()),
@@ -303,6 +312,8 @@ impl<T: Drop, const CAP: usize, B: Behavior> ArrayDeque<T, CAP, B> {
         ensures answers { (p : Policy) →
             Answers p CAP self.old.items (Drain from to) (answer_of result) self.new.items }
         ensures costs { CallCosts (Drain from to) (answer_of result) self.old self.new }
+        ensures fewest { CallMovesFewest CAP (Drain from to) (answer_of result)
+            self.old self.new }
     {
         if from > to || to > self.len() {
             return Reply::OutOfRange(None);

@@ -1,5 +1,11 @@
 use Rattle.arraydeque.proofs.Exchanges.{back_costs, front_costs}
+use Rattle.arraydeque.proofs.Fewest.{remove_fewest}
 use Rattle.arraydeque.proofs.deque.ArrayDeque.answer_alike.Goals as goal
+
+pub returns-in-Remove-clause-fewest : goal.returns-in-Remove-clause-fewest
+returns-in-Remove-clause-fewest g c =
+    let removed = c.remove.ensures in
+    rw c.in-Remove.is (remove_fewest g.row.CAP c.in-Remove.index _ _ _ removed.steps removed.fewest)
 
 pub returns-in-SwapRemoveBack-clause-costs : goal.returns-in-SwapRemoveBack-clause-costs
 returns-in-SwapRemoveBack-clause-costs g c =
@@ -28,6 +34,9 @@ returns-in-Drain-clause-answers g c p = rw c.in-Drain.is (c.answer_drain.ensures
 
 pub returns-in-Drain-clause-costs : goal.returns-in-Drain-clause-costs
 returns-in-Drain-clause-costs g c = rw c.in-Drain.is c.answer_drain.ensures.costs
+
+pub returns-in-Drain-clause-fewest : goal.returns-in-Drain-clause-fewest
+returns-in-Drain-clause-fewest g c = rw c.in-Drain.is c.answer_drain.ensures.fewest
 
 pub returns-in-SplitOff-clause-answers : goal.returns-in-SplitOff-clause-answers
 returns-in-SplitOff-clause-answers g c p = rw c.in-SplitOff.is (c.answer_split_off.ensures.answers p)

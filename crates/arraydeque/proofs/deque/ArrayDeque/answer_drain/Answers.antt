@@ -2,6 +2,7 @@ use Rattle.std.proofs.Common.{◌<◌, ◌≤◌, ◌-◌, ◌&&◌, nat_le, len
 use Rattle.std.proofs.Math.Bool.{and-false}
 use Rattle.std.proofs.lemmas.Bool.{lt-ltb, lt-leb, le-leb}
 use Rattle.std.specs.Cmp.Derive.{both_true}
+use Rattle.arraydeque_ring.specs.Steps.{Steps}
 use Rattle.arraydeque.specs.Costs.{work_of}
 use Rattle.arraydeque.specs.Deque.{DequeState}
 use Rattle.arraydeque.specs.Machine.{drained}
@@ -26,6 +27,10 @@ returns-in-Ok-clause-answers g c p =
 
 pub returns-in-Ok-clause-costs : goal.returns-in-Ok-clause-costs
 returns-in-Ok-clause-costs g c = ap work_of c.in-Ok.ensures.steps ∙ omega arith
+
+pub returns-in-Ok-clause-fewest : goal.returns-in-Ok-clause-fewest
+returns-in-Ok-clause-fewest g c =
+    record { moved = ap (λ (s : Steps). s.moves) c.in-Ok.ensures.steps; fewest = c.in-Ok.ensures.fewest }
 
 pub returns-in-Err-clause-answers : goal.returns-in-Err-clause-answers
 returns-in-Err-clause-answers g c p =

@@ -1,5 +1,6 @@
 use Rattle.std.proofs.Common.{◌<◌, ◌≤◌, length, refl, ap, ◌∙◌, arith}
 use Rattle.std.proofs.lemmas.Bool.{lt-ltb, le-ltb, lt-leb, le-leb}
+use Rattle.arraydeque_ring.specs.Steps.{Steps}
 use Rattle.arraydeque.specs.Costs.{work_of}
 use Rattle.arraydeque.specs.Deque.{DequeState}
 use Rattle.arraydeque.specs.Machine.{full}
@@ -18,6 +19,10 @@ returns-in-Ok-clause-answers g c =
 
 pub returns-in-Ok-clause-costs : goal.returns-in-Ok-clause-costs
 returns-in-Ok-clause-costs g c = ap work_of c.in-Ok.ensures.steps ∙ omega arith
+
+pub returns-in-Ok-clause-fewest : goal.returns-in-Ok-clause-fewest
+returns-in-Ok-clause-fewest g c =
+    record { moved = ap (λ (s : Steps). s.moves) c.in-Ok.ensures.steps; fewest = c.in-Ok.ensures.fewest }
 
 pub returns-in-Err-clause-answers : goal.returns-in-Err-clause-answers
 returns-in-Err-clause-answers g c =
