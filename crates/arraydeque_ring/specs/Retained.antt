@@ -1,5 +1,7 @@
 -- What a ring keeps of its items by the answers of a closure, and what it costs.
-use Rattle.std.specs.Prelude.{◌≡◌, ℕ, List, [], ◌∷◌, length, not, Bool, true, false, count_by}
+use Rattle.std.specs.Prelude.{◌≡◌, ℕ, List, [], ◌∷◌, length, slice_get, Some, not, Bool, true, false, count_by}
+use Rattle.std.specs.Borrow.{Bor}
+use Rattle.std.specs.Fn.{CalledAt, Mut}
 use Rattle.std.specs.List.{items_where_true}
 use Rattle.std.specs.List.Retain.{ReturnsInTurn}
 use Rattle.arraydeque_ring.specs.Ring.{RingState}
@@ -23,3 +25,9 @@ pub record Retains {F X : Type 0} (R : F → X → Bool → F → Type 0) (f : F
     items = items_where_true answers old.items;
     steps = more_takes (count_by not answers) (more_moves (count_moved answers) old.steps);
   }
+
+-- f may be asked about each of xs, once and in turn; nothing is said of a call after the last
+abbrev pub MayBeAsked : {F X : Type 0} → Mut F (Bor X × Unit {0}) Bool → F → List X → Type 0
+MayBeAsked {F} {X} g f xs =
+    (answers : List Bool) (state : F) (x : Bor X) → slice_get xs (length answers) ≡ Some x.now
+    → ReturnsInTurn (CalledAt g) f answers xs state → g.pre state (x, tt)

@@ -2,7 +2,7 @@
 ghost use Rattle.std.specs.Prelude.{◌≡◌, ◌≤◌, [], length};
 ghost use Rattle.std.specs.Fn.{CalledAt};
 ghost use Rattle.std.specs.List.Retain.{IsFiltered};
-ghost use Rattle.arraydeque_ring.specs.Retained.{Retains};
+ghost use Rattle.arraydeque_ring.specs.Retained.{Retains, MayBeAsked};
 ghost use Rattle.arraydeque_ring.specs.Steps.{more_takes};
 ghost use Rattle.arraydeque.specs.Deque.{as_ring};
 
@@ -48,7 +48,7 @@ impl<T, const CAP: usize, B: Behavior> ArrayDeque<T, CAP, B> {
     where
         T: Drop,
         F: Drop,
-        requires { F.IsAlwaysCallable f }
+        requires { MayBeAsked F.FnMut f self.old.items }
         ensures retains { Retains (CalledAt F.FnMut) f
             (as_ring CAP self.old) (as_ring CAP self.new) }
         ensures filtered { IsFiltered (CalledAt F.FnMut) f self.old.items self.new.items }

@@ -1,5 +1,5 @@
 -- How far a retain has come: the answers so far, what the places hold by them, and what it has cost.
-use Rattle.std.proofs.Common.{◌≡◌, ◌≢◌, ℕ, suc, ◌+◌, ◌<◌, ◌≤◌, inl, inr, List, [], ◌∷◌, ◌++◌, length, drop, set, Option, Some, None, Bool, true, false, not, count_by, ◌==◌, if◌then◌else◌, refl, sym, ap, ap₂, ◌∙◌, subst, arith}
+use Rattle.std.proofs.Common.{◌≡◌, ◌≢◌, ℕ, suc, ◌+◌, ◌<◌, ◌≤◌, inl, inr, List, [], ◌∷◌, ◌++◌, length, drop, set, slice_get, Option, Some, None, Bool, true, false, not, count_by, ◌==◌, if◌then◌else◌, refl, sym, ap, ap₂, ◌∙◌, subst, arith}
 use Rattle.std.specs.List.{items_where_true}
 use Rattle.std.specs.List.Retain.{ReturnsInTurn}
 use Rattle.std.proofs.lemmas.Bool.{cases_eq, ne_eqb, eq-eqb}
@@ -53,8 +53,8 @@ module _ {F X : Type 0} {R : F → X → Bool → F → Type 0} {f : F} {items :
 
 module _ {F X : Type 0} {R : F → X → Bool → F → Type 0} {f : F} {items : List X} {before : Steps} {n t index kept : ℕ} {ps : List (Option X)} {steps : Steps} {g : F} (s : SoFar R f items before n t index kept ps steps g) (lt : index < length items) where
   -- the next item, and the others behind it
-  next_is : (x : X) × (drop index items ≡ x ∷ drop (index + 1) items)
-  next_is = elim (slice_get_cases items index).1 [ inl at ↦ (at.0, drop_more items index at.0 lt ∙ ap (λ z. z ∷ drop (index + 1) items) at.3) | inr past ↦ absurd (omega arith) ]
+  next_is : (x : X) × (drop index items ≡ x ∷ drop (index + 1) items) × (slice_get items index ≡ Some x)
+  next_is = elim (slice_get_cases items index).1 [ inl at ↦ (at.0, drop_more items index at.0 lt ∙ ap (λ z. z ∷ drop (index + 1) items) at.3, at.2) | inr past ↦ absurd (omega arith) ]
 
   here : length (items_where_true s.answers items) + count_by not s.answers ≡ index
   here = omega (arith, counted s (omega arith), s.many)
@@ -74,6 +74,10 @@ module _ {F X : Type 0} {R : F → X → Bool → F → Type 0} {f : F} {items :
     | inl none ↦ let same : kept ≡ index = omega (arith, here, s.many) in absurd (apart (ap (λ k. place_of t k n) same))
     | inr some ↦ IsEmpty-gap (count_by not s.answers) kept s.places s.many (omega arith)
   ]
+
+  -- what stands there is the item in turn
+  pub next_asked : (x : X) → held_at ps (place_of t index n) ≡ Some x → slice_get items (length s.answers) ≡ Some x
+  next_asked x held = ap (slice_get items) s.asked ∙ next_is.2 ∙ sym next_held ∙ held
 
   -- the item x is answered
   module _ (x : X) (h : F) (held : held_at ps (place_of t index n) ≡ Some x) where

@@ -2,7 +2,7 @@
 ghost use Rattle.std.specs.Prelude.{◌≡◌, ◌≢◌, ◌+◌, ◌-◌, ◌≤◌, [], ◌++◌, length, take, drop, replicate, slice_set, None, if◌then◌else◌, ◌==◌};
 ghost use Rattle.std.specs.Fn.{CalledAt};
 ghost use Rattle.arraydeque_ring.specs.Places.{held_at, IsFilled, IsEmpty, IsFilledRun};
-ghost use Rattle.arraydeque_ring.specs.Retained.{Retains};
+ghost use Rattle.arraydeque_ring.specs.Retained.{Retains, MayBeAsked};
 ghost use Rattle.arraydeque_ring.specs.Steps.{more_takes, more_moves};
 
 use super::Ring;
@@ -34,7 +34,7 @@ impl<T> Ring<T> {
     where
         T: Drop,
         F: Drop,
-        requires { F.IsAlwaysCallable f }
+        requires { MayBeAsked F.FnMut f self.old.items }
         ensures retains { Retains (CalledAt F.FnMut) f self.old self.new }
         ensures no_longer { length self.new.items ≤ length self.old.items }
     {

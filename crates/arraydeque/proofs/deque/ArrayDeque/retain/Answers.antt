@@ -5,7 +5,7 @@ use Rattle.arraydeque.proofs.Pushed.{of_ring}
 use Rattle.arraydeque.proofs.deque.ArrayDeque.retain.Goals as goal
 
 pub retain-requires : goal.retain-requires
-retain-requires g c = c.requires
+retain-requires g c = rw (← c.self.view_is) at c.requires
 
 pub returns-clause-retains : goal.returns-clause-retains
 returns-clause-retains g c =

@@ -1,11 +1,11 @@
-use Rattle.std.proofs.Common.{length, not, count_by, refl, ap, ◌∙◌, subst, Bool, of_calls, arith}
+use Rattle.std.proofs.Common.{length, not, count_by, refl, ap, ◌∙◌, subst, Bool, arith}
 use Rattle.std.specs.Fn.{CalledAt}
 use Rattle.std.specs.List.{items_where_true}
 use Rattle.std.proofs.lemmas.Fn.{called_at}
 use Rattle.arraydeque_ring.specs.Retained.{count_moved}
 use Rattle.arraydeque_ring.specs.Ring.{RingState}
 use Rattle.arraydeque_ring.specs.Steps.{more_takes, more_moves}
-use Rattle.arraydeque_ring.proofs.retained.Retaining.{none_asked, next_filled, room_for_next, all_within, one_stays, one_goes, all_asked}
+use Rattle.arraydeque_ring.proofs.retained.Retaining.{none_asked, next_filled, next_asked, room_for_next, all_within, one_stays, one_goes, all_asked}
 use Rattle.arraydeque_ring.proofs.places.Opened.{Opened, opened, closed, kept}
 use Rattle.arraydeque_ring.proofs.ring.Ring.retain.Given.{Over}
 use Rattle.arraydeque_ring.proofs.ring.Ring.retain.Goals as goal
@@ -14,7 +14,7 @@ use Rattle.arraydeque_ring.proofs.ring.Ring.retain.Goals.{then-keeps, else-keeps
 pub loop-index-init : goal.loop-index-init
 loop-index-init g c =
     let ring = opened c.self.inside c.self.invariant c.self.view_is in
-    record { callable = c.requires; so_far = rw (← ring.steps, c.capacity-capacity.ensures, ring.laid.long) (none_asked _ _ _ ring.laid) }
+    record { so_far = rw (← ring.steps, c.capacity-capacity.ensures, ring.laid.long) (none_asked _ _ _ ring.laid) }
 
 pub wrap_add-place-requires-clause-in_reach : goal.wrap_add-place-requires-clause-in_reach
 wrap_add-place-requires-clause-in_reach g c =
@@ -26,6 +26,12 @@ pub get-requires : goal.get-requires
 get-requires g c =
     let ring = opened c.self.inside c.self.invariant c.self.view_is in
     rw c.wrap_add-place.ensures (next_filled c.loop-index.invariant.so_far (omega arith))
+
+pub f-keeps-requires : goal.f-keeps-requires
+f-keeps-requires g c =
+    let ring = opened c.self.inside c.self.invariant c.self.view_is in
+    let so_far = c.loop-index.invariant.so_far in
+    c.requires so_far.answers c.loop-index.f _ (next_asked so_far (omega arith) _ (rw c.wrap_add-place.ensures at c.get.ensures)) so_far.in_turn
 
 pub wrap_add-requires-clause-in_reach : goal.wrap_add-requires-clause-in_reach
 wrap_add-requires-clause-in_reach g c =
@@ -53,11 +59,9 @@ loop-index-preserved g c =
     let answered : Bool → Type 0 = λ b. CalledAt g.F.FnMut c.loop-index.f c.get.result.now b c.f-keeps.new.self in
     elim c.if-keeps.branch [
       | then-keeps w ↦ record {
-        callable = search of_calls;
         so_far = rw (w.slots-is, w.kept-is, w.settle.ensures.places, w.settle.ensures.steps, w.wrap_add.ensures, c.wrap_add-place.ensures) (one_stays so_far (omega arith) _ _ held (subst answered w.if-keeps.true said));
       }
       | else-keeps w ↦ record {
-        callable = search of_calls;
         so_far = rw (w.slots-is, w.kept-is, w.take.ensures.places, w.take.ensures.steps, c.wrap_add-place.ensures) (one_goes so_far (omega arith) _ _ held (subst answered w.if-keeps.false said));
       }
     ]
