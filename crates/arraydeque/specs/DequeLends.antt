@@ -1,7 +1,7 @@
 -- What a deque ends as, once a `&mut` to one of its items, or to all of them, has ended.
 use Rattle.std.specs.Prelude.{ℕ, List, ◌++◌, slice_set, Option}
 use Rattle.std.specs.Borrow.{Fml, GName, RattleType, MutBor, Array, Lends, LendsIf, LendsBoth, fsep, follows, follows_both}
-use Rattle.arraydeque_ring.specs.Loans.{Loan, as_many}
+use Rattle.arraydeque_ring.specs.Loans.{LoanState, as_many}
 use Rattle.arraydeque_ring.specs.Steps.{more_lends}
 use Rattle.arraydeque.specs.Deque.{DequeState}
 use Rattle.arraydeque.specs.contracts.deque.ArrayDeque.{the_row}
@@ -43,7 +43,7 @@ module _ (T CAP B : RattleType) (deque : MutBor (DequeState T.Denot)) where
       (λ ws vs. rewritten deque.now (as_many r.0.now ws ++ as_many r.1.now vs))
 
   -- the deque follows the name of a loan of its items, and that name follows the two slices
-  abbrev pub lends_loan : Loan T.Denot → Fml
+  abbrev pub lends_loan : LoanState T.Denot → Fml
   lends_loan loan = fsep
       (lends_items loan.name)
       (follows_both (the_row T CAP B) (Array T 0) (Array T 0)

@@ -1,7 +1,7 @@
 -- The ring's words that contracts of the deque use, passed on to crates that list the deque alone.
 pub use Rattle.arraydeque_ring.specs.Changed.{IsFewest, changed_insert, changed_remove}
 pub use Rattle.arraydeque_ring.specs.Changed.{changed_drain}
-pub use Rattle.arraydeque_ring.specs.Loans.{Loan, as_many, remaining}
+pub use Rattle.arraydeque_ring.specs.Loans.{LoanState, as_many, remaining}
 pub use Rattle.arraydeque_ring.specs.Retained.{Retains, count_moved}
 pub use Rattle.arraydeque_ring.specs.Ring.{RingState, place_of, IsInOnePiece}
 pub use Rattle.arraydeque_ring.specs.Sides.{moves_to_insert, moves_to_remove, moves_to_drain}

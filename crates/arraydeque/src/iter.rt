@@ -1,9 +1,10 @@
 //! The iterators of a deque. A contract sees each as the list of the items that remain.
+mod drain;
 mod into_iter;
 mod iter;
 mod iter_mut;
 
-pub use arraydeque_ring::drain::Drain;
+pub use drain::Drain;
 pub use into_iter::IntoIter;
 pub use iter::Iter;
 pub use iter_mut::IterMut;

@@ -1,7 +1,7 @@
 -- What a `Slots` ends as, once a `&mut` into it has ended.
 use Rattle.std.specs.Prelude.{ℕ, List, slice_set, Some}
 use Rattle.std.specs.Borrow.{Fml, RattleType, MutBor, Array, Lends, LendsBoth, fsep, follows, follows_both}
-use Rattle.arraydeque_ring.specs.Loans.{Loan, as_many, with_run, written_over}
+use Rattle.arraydeque_ring.specs.Loans.{LoanState, as_many, with_run, written_over}
 use Rattle.arraydeque_ring.specs.Places.{Region}
 use Rattle.arraydeque_ring.specs.Steps.{more_lends}
 use Rattle.arraydeque_ring.specs.contracts.slots.Slots.{the_row}
@@ -52,7 +52,7 @@ module _ (R : RattleType) (region : MutBor (Region R.Denot)) where
         (two_written r.0.now r.1.now)
 
     -- the region follows the name of a loan of two runs, and that name follows the two slices
-    abbrev pub lends_loan : Loan R.Denot → Fml
+    abbrev pub lends_loan : LoanState R.Denot → Fml
     lends_loan loan = fsep
         (follows (the_row R) (the_row R) region.ghost_name loan.name (λ w. record {
           places = written_over region.now.places w.places;

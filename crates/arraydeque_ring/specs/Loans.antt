@@ -4,14 +4,14 @@ use Rattle.std.specs.Borrow.{GName, MutBor}
 use Rattle.std.specs.List.{refill}
 
 -- a loan: its two slices as they are now, and the name that the lender follows
-pub record Loan (X : Type 0) : Type 0 where
+pub record LoanState (X : Type 0) : Type 0 where
   pub first : MutBor (List X)
   pub second : MutBor (List X)
   pub name : GName
 
 module _ {X : Type 0} where
   -- the values that are left to hand out
-  abbrev pub remaining : Loan X → List X
+  abbrev pub remaining : LoanState X → List X
   remaining loan = loan.first.now ++ loan.second.now
 
   -- the values ws, cut or filled up from xs to as many as xs has

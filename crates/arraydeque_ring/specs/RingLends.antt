@@ -1,7 +1,7 @@
 -- What a `Ring` ends as, once a `&mut` to one of its items has ended.
 use Rattle.std.specs.Prelude.{ℕ, List, ◌++◌, slice_set, Option}
 use Rattle.std.specs.Borrow.{Fml, GName, RattleType, MutBor, Array, LendsIf, LendsBoth, fsep, follows, follows_both}
-use Rattle.arraydeque_ring.specs.Loans.{Loan, as_many}
+use Rattle.arraydeque_ring.specs.Loans.{LoanState, as_many}
 use Rattle.arraydeque_ring.specs.Ring.{RingState}
 use Rattle.arraydeque_ring.specs.Steps.{more_lends}
 use Rattle.arraydeque_ring.specs.contracts.ring.Ring.{the_row}
@@ -35,7 +35,7 @@ module _ (R : RattleType) (ring : MutBor (RingState R.Denot)) where
       (λ ws vs. rewritten ring.now (as_many r.0.now ws ++ as_many r.1.now vs))
 
   -- the ring follows the name of a loan of its items, and that name follows the two slices
-  abbrev pub lends_loan : Loan R.Denot → Fml
+  abbrev pub lends_loan : LoanState R.Denot → Fml
   lends_loan loan = fsep
       (lends_items loan.name)
       (follows_both (the_row R) (Array R 0) (Array R 0)

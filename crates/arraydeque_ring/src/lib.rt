@@ -2,13 +2,9 @@
 //!
 //! [`slots`] is the region, places that each hold a value or nothing, and the only module with raw
 //! pointers.
-//! [`ring`] is a list of items that wraps round the region's end. [`iter`] and [`iter_mut`] lend
-//! its items one by one, and [`drain`] hands out those that were taken out of it.
+//! [`ring`] is a list of items that wraps round the region's end.
 #![tactic(auto)]
 
-pub mod drain;
-pub mod iter;
-pub mod iter_mut;
 pub mod ring;
 pub mod slots;
 mod wrap;

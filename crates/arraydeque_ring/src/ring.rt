@@ -9,6 +9,7 @@ ghost use Rattle.std.specs.Option.{option_copied_mut};
 ghost use Rattle.arraydeque_ring.specs.Ring.{empty_ring, place_of, IsInOnePiece};
 ghost use Rattle.arraydeque_ring.specs.Steps.{more_puts, more_takes};
 
+pub mod into_iter;
 mod lends;
 mod linearize;
 mod moves;
@@ -256,52 +257,6 @@ impl<T> Ring<T> {
         let last = self.place(self.len - 1);
         self.len -= 1;
         Some(self.slots.take(last))
-    }
-
-    /// Takes the first item off, if there is one, where the list lies in one piece. No kept item
-    /// moves. Many such in a row empty places in a row: an empty list starts at the first place,
-    /// and no other start wraps.
-    #[inline(always)]
-    pub fn take_first(&mut self) -> Option<T>
-        requires { IsInOnePiece self.old }
-        ensures value { result ≡ slice_get self.old.items 0 }
-        ensures taken { OnSome result (self.new ≡ record self.old {
-          items = drop 1 self.old.items;
-          start = (if length self.old.items == 1 then 0 else self.old.start + 1);
-          steps = more_takes 1 self.old.steps;
-        }) }
-        ensures none { IfNone result (self.new ≡ self.old) }
-    {
-        // That no sum passes `usize::MAX` is known of the capacity.
-        let _capacity = self.slots.capacity();
-        if self.len == 0 {
-            return None;
-        }
-        let place = self.start;
-        self.start = if self.len == 1 { 0 } else { place + 1 };
-        self.len -= 1;
-        Some(self.slots.take(place))
-    }
-
-    /// Takes the last item off, if there is one, where the list lies in one piece. The start stays,
-    /// and no kept item moves.
-    #[inline(always)]
-    pub fn take_last(&mut self) -> Option<T>
-        requires { IsInOnePiece self.old }
-        ensures value { result ≡ slice_get self.old.items (length self.old.items - 1) }
-        ensures taken { OnSome result (self.new ≡ record self.old {
-          items = take (length self.old.items - 1) self.old.items;
-          steps = more_takes 1 self.old.steps;
-        }) }
-        ensures none { IfNone result (self.new ≡ self.old) }
-    {
-        // That no sum passes `usize::MAX` is known of the capacity.
-        let _capacity = self.slots.capacity();
-        if self.len == 0 {
-            return None;
-        }
-        self.len -= 1;
-        Some(self.slots.take(self.start + self.len))
     }
 
     /// Takes the first item off a ring that is full, and puts another in its place, so that it

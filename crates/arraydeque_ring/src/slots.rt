@@ -11,7 +11,7 @@ ghost use Rattle.arraydeque_ring.specs.Counted.{counted};
 ghost use Rattle.arraydeque_ring.specs.Exchanged.{runs_exchanged};
 ghost use Rattle.arraydeque_ring.specs.Steps.{Steps, more_puts, more_takes, more_moves, more_exchanges};
 
-mod lends;
+pub mod loan;
 mod raw;
 mod runs;
 

@@ -9,6 +9,7 @@ ghost use Rattle.arraydeque.specs.DequeLends.{lends_items, lends_slices, lends_l
 use super::ArrayDeque;
 use crate::behavior::Behavior;
 use crate::iter::{Iter, IterMut};
+use arraydeque_ring::slots::loan::Loan;
 
 impl<T, const CAP: usize, B: Behavior> ArrayDeque<T, CAP, B> {
     /// Returns an iterator over the items, from both ends.
@@ -23,7 +24,10 @@ impl<T, const CAP: usize, B: Behavior> ArrayDeque<T, CAP, B> {
     pub fn iter(&self) -> Iter<'_, T>
         ensures { result ≡ self.now.items }
     {
-        self.ring.iter()
+        // That the two slices are within the capacity is known of the length.
+        let _len = self.len();
+        let (first, second) = self.as_slices();
+        Iter { first, second }
     }
 
     /// Returns an iterator over mutable references to the items, from both ends.
@@ -43,7 +47,7 @@ impl<T, const CAP: usize, B: Behavior> ArrayDeque<T, CAP, B> {
         ensures* writes_back { sem 𝓛 (lends_items T.row CAP.row B.row self.entry result.name) }
         ensures value { remaining result ≡ self.old.items }
     {
-        self.lend()
+        IterMut::of(self.lend())
     }
 
     /// Returns the items in two mutable slices: those from the front to the region's end, and then
@@ -74,7 +78,7 @@ impl<T, const CAP: usize, B: Behavior> ArrayDeque<T, CAP, B> {
     /// The items for writing, as one loan of two slices: its clause says what
     /// [`ArrayDeque::iter_mut`] says and what [`ArrayDeque::as_mut_slices`] says.
     #[inline]
-    fn lend(&mut self) -> IterMut<'_, T>
+    fn lend(&mut self) -> Loan<'_, T>
         ensures* writes_back { sem 𝓛 (lends_loan T.row CAP.row B.row self.entry result) }
         ensures value { remaining result ≡ self.old.items }
         ensures one_piece { IsInOnePiece (as_ring CAP self.old) → result.second.now ≡ [] }

@@ -5,7 +5,7 @@ ghost use Rattle.std.specs.Iterator.SizeHint.{IsWithinCount};
 
 use crate::behavior::Behavior;
 use crate::deque::ArrayDeque;
-use arraydeque_ring::ring::Ring;
+use arraydeque_ring::ring::into_iter;
 use std::iter::FusedIterator;
 use std::marker::{Model, PhantomData};
 
@@ -21,21 +21,16 @@ use std::marker::{Model, PhantomData};
 /// ```
 #[derive(Drop)]
 pub struct IntoIter<T, const CAP: usize, B: Behavior> {
-    ring: Ring<T>,
-    /// How many items at most stand in the region's last place and, round its end, behind it.
-    rest: usize,
+    items: into_iter::IntoIter<T>,
     behavior: PhantomData<B>,
 }
 
 impl<T, const CAP: usize, B: Behavior> Model for IntoIter<T, CAP, B> {
-    ghost use Rattle.std.specs.Prelude.{◌≤◌, ◌-◌, List, length};
+    ghost use Rattle.std.specs.Prelude.{List};
 
     ghost Value = { List T };
 
-    ghost view = { λ it. it.ring.items };
-
-    ghost invariant = { λ it.
-        length it.ring.items - (it.ring.capacity - 1 - it.ring.start) ≤ it.rest };
+    ghost view = { λ it. it.items };
 }
 
 impl<T: Drop, const CAP: usize, B: Behavior> Iterator for IntoIter<T, CAP, B> {
@@ -47,12 +42,7 @@ impl<T: Drop, const CAP: usize, B: Behavior> Iterator for IntoIter<T, CAP, B> {
 
     #[inline]
     fn next(&mut self) -> Option<T> {
-        if self.ring.len() > self.rest {
-            return Some(self.ring.take_before_end());
-        }
-        let item = self.ring.pop_front();
-        self.rest = self.ring.len_from_last_place();
-        item
+        self.items.next()
     }
 
     #[inline]
@@ -71,14 +61,14 @@ impl<T: Drop, const CAP: usize, B: Behavior> DoubleEndedIterator for IntoIter<T,
 
     #[inline]
     fn next_back(&mut self) -> Option<T> {
-        self.ring.pop_back()
+        self.items.next_back()
     }
 }
 
 impl<T: Drop, const CAP: usize, B: Behavior> ExactSizeIterator for IntoIter<T, CAP, B> {
     #[inline]
     fn len(&self) -> usize {
-        self.ring.len()
+        self.items.len()
     }
 }
 
@@ -93,11 +83,8 @@ impl<T: Drop, const CAP: usize, B: Behavior> IntoIterator for ArrayDeque<T, CAP,
 
     #[inline]
     fn into_iter(self) -> IntoIter<T, CAP, B> {
-        let ring = self.into_ring();
-        let rest = ring.len_from_last_place();
         IntoIter {
-            ring,
-            rest,
+            items: into_iter::IntoIter::of(self.into_ring()),
             behavior: PhantomData,
         }
     }

@@ -1,9 +1,97 @@
 //! The iterator over the items of a deque, lent for reading.
-ghost use Rattle.std.specs.Prelude.{◌≡◌};
+ghost use Rattle.std.specs.Prelude.{◌≡◌, ◌+◌, ◌^◌, ◌<◌, ◌++◌, length, Some, IfSome, ⊤};
+ghost use Rattle.std.specs.Iterator.{YieldsFirstRef, YieldsLastRef, UpTo, item_count};
+ghost use Rattle.std.specs.Iterator.SizeHint.{IsWithinCount};
 
 use crate::behavior::Behavior;
 use crate::deque::ArrayDeque;
-pub use arraydeque_ring::iter::Iter;
+use std::alloc::AllocError;
+use std::iter::FusedIterator;
+use std::marker::Model;
+
+/// An iterator over references to the items of a deque, from both ends. It walks the two slices one
+/// after the other.
+#[derive(Drop)]
+pub struct Iter<'a, T> {
+    pub(crate) first: &'a [T],
+    pub(crate) second: &'a [T],
+}
+
+impl<'a, T> Model for Iter<'a, T> {
+    ghost use Rattle.std.specs.Prelude.{◌+◌, ◌^◌, ◌<◌, List, ◌++◌, length};
+
+    ghost Value = { List T };
+
+    ghost view = { λ it. it.first.now ++ it.second.now };
+
+    ghost invariant = { λ it. length it.first.now + length it.second.now < 2 ^ 64 };
+}
+
+impl<'a, T> Iterator for Iter<'a, T> {
+    type Item = &'a T;
+
+    ghost next_gives = { YieldsFirstRef (λ remaining. remaining) };
+
+    ghost remaining = { item_count (λ remaining. remaining) };
+
+    #[inline]
+    fn next(&mut self) -> Option<&'a T> {
+        if let Some((item, rest)) = self.first.split_first() {
+            self.first = rest;
+            return Some(item);
+        }
+        let (item, rest) = self.second.split_first()?;
+        self.second = rest;
+        Some(item)
+    }
+
+    #[inline]
+    fn size_hint(&self) -> (usize, Option<usize>)
+        ensures exact { result ≡ (length self.now, Some (length self.now)) }
+        ensures lower { IsWithinCount result.0 (item_count (λ remaining. remaining) self.now) }
+        ensures upper { IfSome result.1 (UpTo (item_count (λ remaining. remaining) self.now)) }
+    {
+        let len = self.len();
+        (len, Some(len))
+    }
+}
+
+impl<'a, T> DoubleEndedIterator for Iter<'a, T> {
+    ghost next_back_gives = { YieldsLastRef (λ remaining. remaining) };
+
+    #[inline]
+    fn next_back(&mut self) -> Option<&'a T> {
+        if let Some((item, rest)) = self.second.split_last() {
+            self.second = rest;
+            return Some(item);
+        }
+        let (item, rest) = self.first.split_last()?;
+        self.first = rest;
+        Some(item)
+    }
+}
+
+impl<'a, T> ExactSizeIterator for Iter<'a, T> {
+    #[inline]
+    fn len(&self) -> usize {
+        self.first.len() + self.second.len()
+    }
+}
+
+impl<'a, T> FusedIterator for Iter<'a, T> {}
+
+impl<'a, T> Clone for Iter<'a, T> {
+    ghost is_clone = { λ it copy. copy ≡ it };
+
+    ghost is_infallible = { λ _. ⊤ };
+
+    fn clone(&self) -> Result<Iter<'a, T>, AllocError> {
+        Ok(Iter {
+            first: self.first,
+            second: self.second,
+        })
+    }
+}
 
 impl<'a, T, const CAP: usize, B: Behavior> IntoIterator for &'a ArrayDeque<T, CAP, B> {
     type Item = &'a T;

@@ -1,12 +1,122 @@
 //! The iterator over the items of a deque, lent for writing.
-ghost use Rattle.std.specs.Prelude.{◌≡◌};
+ghost use Rattle.std.specs.Prelude.{◌≡◌, ◌+◌, ◌^◌, ◌<◌, ◌++◌, length, Some, IfSome};
 ghost use Rattle.std.specs.Borrow.{sem};
+ghost use Rattle.std.specs.Iterator.{YieldsFirstMut, YieldsLastMut, UpTo, item_count};
+ghost use Rattle.std.specs.Iterator.SizeHint.{IsWithinCount};
 ghost use Rattle.arraydeque_ring.specs.Loans.{remaining};
 ghost use Rattle.arraydeque.specs.DequeLends.{lends_items};
 
 use crate::behavior::Behavior;
 use crate::deque::ArrayDeque;
-pub use arraydeque_ring::iter_mut::IterMut;
+use arraydeque_ring::slots::loan::{Loan, LoanName};
+use std::iter::FusedIterator;
+use std::marker::Model;
+use std::mem;
+
+/// An iterator over mutable references to the items of a deque, from both ends. Each is handed out
+/// once. It walks the two slices one after the other.
+///
+/// A contract sees its two slices and the name of the loan, which the deque follows: a caller who
+/// only writes through the iterator knows the deque afterwards.
+#[derive(Drop)]
+pub struct IterMut<'a, T> {
+    first: &'a mut [T],
+    second: &'a mut [T],
+    name: LoanName<'a, T>,
+}
+
+impl<'a, T> Model for IterMut<'a, T> {
+    ghost use Rattle.std.specs.Prelude.{◌+◌, ◌^◌, ◌<◌, length};
+    ghost use Rattle.arraydeque_ring.specs.Loans.{LoanState};
+
+    ghost Value = { LoanState T };
+
+    ghost view = { λ it. record { first = it.first; second = it.second; name = it.name.name } };
+
+    ghost invariant = { λ it. length it.first.now + length it.second.now < 2 ^ 64 };
+}
+
+impl<'a, T> IterMut<'a, T> {
+    /// The iterator over what is lent.
+    #[inline]
+    pub(crate) fn of(loan: Loan<'a, T>) -> IterMut<'a, T>
+        ensures { result ≡ loan.entry }
+    {
+        let (first, second, name) = loan.into_parts();
+        IterMut {
+            first,
+            second,
+            name,
+        }
+    }
+
+    /// What is left, as the two slices that it walks.
+    #[inline]
+    pub fn into_slices(self) -> (&'a mut [T], &'a mut [T])
+        ensures first { result.0 ≡ self.entry.first }
+        ensures second { result.1 ≡ self.entry.second }
+    {
+        let IterMut {
+            first,
+            second,
+            name: _,
+        } = self;
+        (first, second)
+    }
+}
+
+impl<'a, T> Iterator for IterMut<'a, T> {
+    type Item = &'a mut T;
+
+    ghost next_gives = { YieldsFirstMut remaining };
+
+    ghost remaining = { item_count remaining };
+
+    #[inline]
+    fn next(&mut self) -> Option<&'a mut T> {
+        if let Some((item, rest)) = mem::take(&mut self.first).split_first_mut() {
+            self.first = rest;
+            return Some(item);
+        }
+        let (item, rest) = mem::take(&mut self.second).split_first_mut()?;
+        self.second = rest;
+        Some(item)
+    }
+
+    #[inline]
+    fn size_hint(&self) -> (usize, Option<usize>)
+        ensures exact { result ≡ (length (remaining self.now), Some (length (remaining self.now))) }
+        ensures lower { IsWithinCount result.0 (item_count remaining self.now) }
+        ensures upper { IfSome result.1 (UpTo (item_count remaining self.now)) }
+    {
+        let len = self.len();
+        (len, Some(len))
+    }
+}
+
+impl<'a, T> DoubleEndedIterator for IterMut<'a, T> {
+    ghost next_back_gives = { YieldsLastMut remaining };
+
+    #[inline]
+    fn next_back(&mut self) -> Option<&'a mut T> {
+        if let Some((item, rest)) = mem::take(&mut self.second).split_last_mut() {
+            self.second = rest;
+            return Some(item);
+        }
+        let (item, rest) = mem::take(&mut self.first).split_last_mut()?;
+        self.first = rest;
+        Some(item)
+    }
+}
+
+impl<'a, T> ExactSizeIterator for IterMut<'a, T> {
+    #[inline]
+    fn len(&self) -> usize {
+        self.first.len() + self.second.len()
+    }
+}
+
+impl<'a, T> FusedIterator for IterMut<'a, T> {}
 
 impl<'a, T, const CAP: usize, B: Behavior> IntoIterator for &'a mut ArrayDeque<T, CAP, B> {
     type Item = &'a mut T;

@@ -14,7 +14,7 @@ use denote.Struct.Struct.{exits_of}
 use denote.Struct.Owning.{shape, fields, to}
 use denote.Param.Send.{IsSend, IsSync, Quiet, Common, AllSend, AllSync, part_keyless, owning_send, struct_send, struct_sync, sendable}
 use Rattle.arraydeque_ring.specs.Ownership.{owned_if, places_owned, places_lent, right_to_free, slots_owned, slots_lent}
-use Rattle.arraydeque_ring.specs.contracts.iter_mut.Tie as Tie
+use Rattle.arraydeque_ring.specs.contracts.slots.loan.LoanName as loan_name
 use Rattle.arraydeque_ring.specs.contracts.slots.Slots.TheInside as inside
 
 -- what the fields leave names no thread, whatever hides it
@@ -69,12 +69,12 @@ module _ (R : RattleType) where
       record { shared = λ d b o κ. ((struct_sync (shape O) all).shared (to O d) b o κ, slots_lent-Common y d.ptr d.places κ) }
 
 -- the name of a loan names no thread
-pub Tie-send : (κ : NamedLft) (R : RattleType) → IsSend (Tie.the_row κ R)
-Tie-send κ R =
-    let O = Tie.the_type κ R in
+pub LoanName-send : (κ : NamedLft) (R : RattleType) → IsSend (loan_name.the_row κ R)
+LoanName-send κ R =
+    let O = loan_name.the_type κ R in
     let all : AllSend (fields O) = (search sendable, tt) in
     owning_send O all (λ d. tt) (λ k. quiet (to O) (exits_of k (fields O)) ((struct_send (shape O) all).leaving k))
 
 -- and a `&` to one shows what it owns
-pub Tie-sync : (κ : NamedLft) (R : RattleType) → IsSync (Tie.the_row κ R)
-Tie-sync κ R = record { shared = λ d b o l q. part_keyless (Tie.the_row κ R) (Tie-send κ R) q d b o }
+pub LoanName-sync : (κ : NamedLft) (R : RattleType) → IsSync (loan_name.the_row κ R)
+LoanName-sync κ R = record { shared = λ d b o l q. part_keyless (loan_name.the_row κ R) (LoanName-send κ R) q d b o }

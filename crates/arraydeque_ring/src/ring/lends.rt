@@ -2,29 +2,18 @@
 ghost use Rattle.std.specs.Prelude.{◌≡◌, ◌+◌, ◌-◌, ◌≤◌, [], ◌++◌, length, min};
 ghost use Rattle.std.specs.Borrow.{sem};
 ghost use Rattle.arraydeque_ring.specs.Loans.{remaining};
-ghost use Rattle.arraydeque_ring.specs.RingLends.{lends_items, lends_slices, lends_loan};
+ghost use Rattle.arraydeque_ring.specs.RingLends.{lends_slices, lends_loan};
 
 use super::Ring;
-use crate::iter_mut::IterMut;
+use crate::slots::loan::Loan;
 
 impl<T> Ring<T> {
-    /// The items for writing, front to back or back to front.
-    ///
-    /// Whatever is written, there are as many items as before, and they start where they did.
-    #[inline]
-    pub fn iter_mut(&mut self) -> IterMut<'_, T>
-        ensures* writes_back { sem 𝓛 (lends_items T.row self.entry result.name) }
-        ensures value { remaining result ≡ self.old.items }
-    {
-        self.lend()
-    }
-
     /// The items for writing in two slices: those from the start to the region's end, then the
     /// wrapped rest.
     ///
     /// Whatever is written, there are as many items as before, and they start where they did. A
-    /// caller whose proof needs that writes `iter_mut().into_slices()`: the prover follows the one
-    /// name of that loan, and not a pair.
+    /// caller whose proof needs that writes `lend().into_slices()`: the prover follows the one name
+    /// of that loan, and not a pair.
     #[inline]
     pub fn as_mut_slices(&mut self) -> (&mut [T], &mut [T])
         ensures* writes_back { sem 𝓛 (lends_slices T.row self.entry result) }
@@ -35,11 +24,9 @@ impl<T> Ring<T> {
         self.lend().into_slices()
     }
 
-    /// The items for writing, as one loan of two slices.
-    ///
-    /// It is for layers above, whose proofs are written by hand: its clause says what
-    /// [`Ring::iter_mut`] says and what [`Ring::as_mut_slices`] says.
-    pub fn lend(&mut self) -> IterMut<'_, T>
+    /// The items for writing, as one loan of two slices: its clause says what
+    /// [`Ring::as_mut_slices`] says, and that the ring follows the loan's name.
+    pub fn lend(&mut self) -> Loan<'_, T>
         ensures* writes_back { sem 𝓛 (lends_loan T.row self.entry result) }
         ensures value { remaining result ≡ self.old.items }
         ensures one_piece { self.old.start + length self.old.items ≤ self.old.capacity

@@ -11,7 +11,7 @@ ghost use Rattle.arraydeque_ring.specs.Moved.{run_moved};
 ghost use Rattle.arraydeque_ring.specs.Places.{empty_region, held_at, IsFilled, IsEmpty, HoldsRun, IsFilledRun, AreAllEmpty};
 
 use super::Slots;
-use crate::iter_mut::{IterMut, Tie};
+use super::loan::{Loan, LoanName};
 use std::alloc::{AllocError, Allocator, Global};
 use std::marker::PhantomData;
 use std::mem::{align_of, size_of};
@@ -84,13 +84,7 @@ impl<T> Slots<T> {
     }
 
     /// Lends two runs of places for writing, which have no place in common, and counts two lends.
-    pub(crate) fn lend_two(
-        &mut self,
-        a: usize,
-        a_len: usize,
-        b: usize,
-        b_len: usize,
-    ) -> IterMut<'_, T>
+    pub(crate) fn lend_two(&mut self, a: usize, a_len: usize, b: usize, b_len: usize) -> Loan<'_, T>
         requires a_filled { IsFilledRun self.old.places a a_len }
         requires b_filled { IsFilledRun self.old.places b b_len }
         requires apart { AreApart a a_len b b_len }
@@ -99,10 +93,10 @@ impl<T> Slots<T> {
         ensures second { HoldsRun self.old.places b b_len result.second.now }
     {
         unsafe {
-            IterMut {
+            Loan {
                 first: slice::from_raw_parts_mut(self.ptr.add(a), a_len),
                 second: slice::from_raw_parts_mut(self.ptr.add(b), b_len),
-                tie: Tie { mark: PhantomData },
+                name: LoanName { mark: PhantomData },
             }
         }
     }

@@ -13,9 +13,9 @@ use denote.Triple.Clauses.{lasts, Lasts}
 use denote.Triple.Entry.{on_entry}
 use denote.Triple.Walked.{Goes-spent_ref}
 use mir.Syntax.{dcons, dnil, a_type, a_number}
-use Rattle.arraydeque_ring.specs.Loans.{Loan, remaining, as_many}
-use Rattle.arraydeque_ring.specs.contracts.iter_mut.IterMut as iter
-use Rattle.arraydeque_ring.proofs.iter_mut.IterMut.TheLaws as iter_laws
+use Rattle.arraydeque_ring.specs.Loans.{LoanState, remaining, as_many}
+use Rattle.arraydeque_ring.specs.contracts.slots.loan.Loan as loan
+use Rattle.arraydeque_ring.proofs.slots.loan.Loan.TheLaws as loan_laws
 use Rattle.arraydeque_ring.proofs.loans.Names.{followed_both}
 use Rattle.arraydeque_ring.proofs.loans.Placed.{as_many-twice}
 use Rattle.arraydeque_ring.proofs.loans.Slices.{Slices, slices_lawful}
@@ -24,8 +24,8 @@ use Rattle.arraydeque.specs.DequeLends.{rewritten, lends_loan, lends_slices}
 use Rattle.arraydeque.proofs.Lent.{Dr}
 use Rattle.arraydeque.specs.contracts.deque.ArrayDeque.lend as g
 use Rattle.arraydeque.proofs.deque.ArrayDeque.lend.Met.{met}
-use Rattle.arraydeque_ring.specs.contracts.iter_mut.IterMut.into_slices as h
-use Rattle.arraydeque_ring.proofs.iter_mut.IterMut.into_slices.Met.{met as into_met}
+use Rattle.arraydeque_ring.specs.contracts.slots.loan.Loan.into_slices as h
+use Rattle.arraydeque_ring.proofs.slots.loan.Loan.into_slices.Met.{met as into_met}
 use Rattle.arraydeque.specs.contracts.deque.ArrayDeque.as_mut_slices as f
 use Rattle.arraydeque.proofs.deque.ArrayDeque.as_mut_slices.Statement as stated
 use Rattle.arraydeque.proofs.deque.ArrayDeque.as_mut_slices.Code as code
@@ -45,23 +45,23 @@ as_mut_slices_spec 𝓤 𝓛 𝓜 𝓡 wired X N B L fits LB members dict dict_m
     let y : W.Ghost = ((κs, qs, bounds, a, (mut_vals a.0, tt)), tt) in let d : DequeState (el_x E) = a.0.now in
     let G = triple_of 𝓛 (g.signature X C B) (g.spec X C B members dict 𝓛 𝓜.mem 𝓡.returns) in let G' = triple_of 𝓛 (h.signature X) (h.spec X 𝓛 𝓜.mem 𝓡.returns) in
     let κs' : Lfts (h.signature X).lifetimes = (κ, (κ₁, tt)) in let bounds' : AllOutlive (h.signature X).lifetimes (h.signature X).outlives κs' = (bounds.0, tt) in
-    let α : NamedLft = named_lft 2 0 tt κs' in let It = iter.the_row α (R E) in let Pair = Slices α (R E) in let Two_slices : Type 0 = MutBor (List (el_x E)) × MutBor (List (el_x E)) in
+    let α : NamedLft = named_lft 2 0 tt κs' in let It = loan.the_row α (R E) in let Pair = Slices α (R E) in let Two_slices : Type 0 = MutBor (List (el_x E)) × MutBor (List (el_x E)) in
     let Others = ‵ (flft κ₂ q₂) ⊛ ‵ (flft κ₃ q₃) ⊛ ‵ ftrue in
     qed 𝓛 (raw (on_entry 𝓛 ended.signature κs qs a y.0.4) ∷ (raw (fact 𝓤 (κ₁ ⊑ X.lives)) ⊛ raw (fact 𝓤 (κ₂ ⊑ [])) ⊛ raw (fact 𝓤 (κ₃ ⊑ B.lives)) ⊛ raw (fact 𝓤 (32 < 9223372036854775808)) ⊛ ‵ ftrue) ∷ []) ∵
     move ! (1 ∷ []) $ split ! $ heard ! (κ₁ ⊑ X.lives) (λ lives. use0 𝓛 (raw (fact 𝓤 (κ₁ ⊑ X.lives))) (fact_i 𝓤 (κ₁ ⊑ X.lives) (emp 𝓤) lives) $ join ! $ move ! (1 ∷ 0 ∷ []) $ use2 𝓛 (raw (G.pre y)) (id⊢ 𝓤 _) $
     enter ! 𝓣.C 𝓣.Λ here _ _ $ alloc_all ! (λ l. pass_all ! refl ((tt, tt), tt) $ sets ! (addr ! (through ! refl (stop !))) refl (tt, tt) $
     calls_at ! (framed 𝓤 𝓛.H 𝓜 𝓣) G (met 𝓤 𝓛 𝓜 𝓡 (code.calls-arraydeque::deque::ArrayDeque::lend 𝓡.env wired) X N B L fits LB members dict dict_met) y (and_then ! (get ! refl) (no_more !)) (λ v.
-    let Value : Loan (el_x E) → Type 0 = λ it. remaining it ≡ d.items in let Piece : Loan (el_x E) → Type 0 = λ it. d.start + length d.items ≤ N → it.second.now ≡ [] in
-    use1 𝓛 (later (some (λ (it : Loan (el_x E)). ((‵ (flft κ q) ⊛ ‵ (flft κ₁ q₁) ⊛ Others) ⊛ ‵ (It.own_val it (v ∷ []))) ⊛
+    let Value : LoanState (el_x E) → Type 0 = λ it. remaining it ≡ d.items in let Piece : LoanState (el_x E) → Type 0 = λ it. d.start + length d.items ≤ N → it.second.now ≡ [] in
+    use1 𝓛 (later (some (λ (it : LoanState (el_x E)). ((‵ (flft κ q) ⊛ ‵ (flft κ₁ q₁) ⊛ Others) ⊛ ‵ (It.own_val it (v ∷ []))) ⊛
     some (λ (ws : Lasts (g.ended X C B members dict) κs a). ‵ (lasts (g.ended X C B members dict) κs a ws) ⊛ (‵ (lends_loan (R E) (f.CAP-row X C B) (f.B-row X C B) a.0 it) ⊛ raw (fact 𝓤 (Value it)) ⊛ raw (fact 𝓤 (Piece it))))))) (id⊢ 𝓤 _) $
     await ! tt $ pick ! (λ it. split ! $ split ! $ split3 ! $
     -- [the token; that of T; the others; the loan; what `lend` says]
     nothing ! $ move ! (2 ∷ 0 ∷ []) $ join ! $ move ! (1 ∷ 0 ∷ []) $ join ! $ move ! (2 ∷ 0 ∷ 3 ∷ []) $
-    peeks ! It (Is It) (shows 𝓛 It) it (v ∷ []) (λ is_it. lands_as ! refl refl (((iter_laws.the_row_laws α (R E) (param_laws 0 X L)).lawful 𝓛).typed it (v ∷ []) is_it).0 $
+    peeks ! It (Is It) (shows 𝓛 It) it (v ∷ []) (λ is_it. lands_as ! refl refl (((loan_laws.the_row_laws α (R E) (param_laws 0 X L)).lawful 𝓛).typed it (v ∷ []) is_it).0 $
     -- [the loan; the tokens; what `lend` says; the other tokens]
     let z : G'.Ghost = ((κs', (q, (q₁, tt)), bounds', (it, tt), (v ∷ [], tt)), tt) in
     nothing ! $ move ! (1 ∷ 0 ∷ []) $ fjoin ! $ move ! (1 ∷ 0 ∷ []) $ join ! $ nothing ! $ use0 𝓛 (raw (fact 𝓤 (κ₁ ⊑ X.lives))) (fact_i 𝓤 (κ₁ ⊑ X.lives) (emp 𝓤) lives) $ join ! $ move ! (1 ∷ 0 ∷ []) $ use2 𝓛 (raw (G'.pre z)) (id⊢ 𝓤 _) $
-    calls_at ! (framed 𝓤 𝓛.H 𝓜 𝓣) G' (into_met 𝓤 𝓛 𝓜 𝓡 (code.calls-arraydeque_ring::iter_mut::IterMut::into_slices 𝓡.env wired) X L) z (and_then ! (get ! refl) (no_more !)) (λ u.
+    calls_at ! (framed 𝓤 𝓛.H 𝓜 𝓣) G' (into_met 𝓤 𝓛 𝓜 𝓡 (code.calls-arraydeque_ring::slots::loan::Loan::into_slices 𝓡.env wired) X L) z (and_then ! (get ! refl) (no_more !)) (λ u.
     use1 𝓛 (later (some (λ (two : Two_slices). ((‵ (flft κ q) ⊛ ‵ (flft κ₁ q₁) ⊛ ‵ ftrue) ⊛ ‵ (Pair.own_val two (u ∷ []))) ⊛ some (λ (ws : Lasts (h.ended X) κs' z.0.3). ‵ (lasts (h.ended X) κs' z.0.3 ws) ⊛ (raw (fact 𝓤 (two.0 ≡ it.first)) ⊛ raw (fact 𝓤 (two.1 ≡ it.second))))))) (id⊢ 𝓤 _) $
     await ! tt $ pick ! (λ two. split ! $ move ! (1 ∷ []) $ pick ! (λ ws. split ! $ drop ! $ split ! $ heard ! (two.0 ≡ it.first) (λ e. heard ! (two.1 ≡ it.second) (λ e'. split ! $ move ! (1 ∷ []) $
     peeks ! Pair (Is Pair) (shows 𝓛 Pair) two (u ∷ []) (λ is_pair. lands_as ! refl refl ((slices_lawful α (R E) 𝓛).typed two (u ∷ []) is_pair).0 $

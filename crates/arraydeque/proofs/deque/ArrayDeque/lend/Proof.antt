@@ -18,11 +18,11 @@ use denote.Signature.{mut_ref_to, named_lft}
 use denote.Triple.Clauses.{lasts, Lasts}
 use denote.Triple.Walked.{Goes-spent_ref}
 use mir.Syntax.{dcons, dnil, a_type, a_number}
-use Rattle.arraydeque_ring.specs.Loans.{Loan, remaining, as_many}
+use Rattle.arraydeque_ring.specs.Loans.{LoanState, remaining, as_many}
 use Rattle.arraydeque_ring.specs.Ring.{RingState}
 use Rattle.arraydeque_ring.specs.RingLends as ring
-use Rattle.arraydeque_ring.specs.contracts.iter_mut.IterMut as iter
-use Rattle.arraydeque_ring.proofs.iter_mut.IterMut.TheLaws as iter_laws
+use Rattle.arraydeque_ring.specs.contracts.slots.loan.Loan as loan
+use Rattle.arraydeque_ring.proofs.slots.loan.Loan.TheLaws as loan_laws
 use Rattle.arraydeque_ring.proofs.loans.Made.{renamed}
 use Rattle.arraydeque_ring.proofs.loans.Names.{hands_on, followed_both}
 use Rattle.arraydeque_ring.proofs.loans.Rings.{Rr}
@@ -75,9 +75,9 @@ lend_spec 𝓤 𝓛 𝓜 𝓡 wired X N B L fits LB members dict dict_met =
     nothing ! $ move ! (9 ∷ 0 ∷ []) $ join ! $ move ! (8 ∷ 0 ∷ []) $ join ! $ join ! $
     nothing ! $ use0 𝓛 (raw (fact 𝓤 (κ₁ ⊑ X.lives))) (fact_i 𝓤 (κ₁ ⊑ X.lives) (emp 𝓤) lives) $ join ! $ move ! (1 ∷ 0 ∷ []) $ use2 𝓛 (raw (G.pre z)) (id⊢ 𝓤 _) $
     calls_at ! (framed 𝓤 𝓛.H 𝓜 𝓣) G (met 𝓤 𝓛 𝓜 𝓡 (code.calls-arraydeque_ring::ring::Ring::lend 𝓡.env wired) X L) z (and_then ! (get ! refl) (no_more !)) (λ v.
-    let α : NamedLft = named_lft 2 0 tt κs' in let It = iter.the_row α (R E) in
-    let Value : Loan (el_x E) → Type 0 = λ it. remaining it ≡ x.ring.items in let Piece : Loan (el_x E) → Type 0 = λ it. x.ring.start + length x.ring.items ≤ x.ring.capacity → it.second.now ≡ [] in
-    use1 𝓛 (later (some (λ (it : Loan (el_x E)). ((‵ (flft κ r) ⊛ ‵ (flft κ₁ q₁) ⊛ ‵ ftrue) ⊛ ‵ (It.own_val it (v ∷ []))) ⊛
+    let α : NamedLft = named_lft 2 0 tt κs' in let It = loan.the_row α (R E) in
+    let Value : LoanState (el_x E) → Type 0 = λ it. remaining it ≡ x.ring.items in let Piece : LoanState (el_x E) → Type 0 = λ it. x.ring.start + length x.ring.items ≤ x.ring.capacity → it.second.now ≡ [] in
+    use1 𝓛 (later (some (λ (it : LoanState (el_x E)). ((‵ (flft κ r) ⊛ ‵ (flft κ₁ q₁) ⊛ ‵ ftrue) ⊛ ‵ (It.own_val it (v ∷ []))) ⊛
     some (λ (ws : Lasts (g.ended X) κs' z.0.3). ‵ (lasts (g.ended X) κs' z.0.3 ws) ⊛ (‵ (ring.lends_loan (R E) lent it) ⊛ raw (fact 𝓤 (Value it)) ⊛ raw (fact 𝓤 (Piece it))))))) (id⊢ 𝓤 _) $
     await ! tt $ pick ! (λ it. split ! $ move ! (1 ∷ []) $ pick ! (λ ws. split ! $ drop ! $ split3 ! $ move ! (1 ∷ 2 ∷ []) $ heard ! (Value it) (λ value. heard ! (Piece it) (λ piece. fsplit ! $
     -- [what δ follows; what the loan's name follows; the tokens and the loan; the right; the open borrow; the other field; the way back; obs γ; auth γ; the others]
@@ -91,9 +91,9 @@ lend_spec 𝓤 𝓛 𝓜 𝓡 wired X N B L fits LB members dict dict_met =
     move ! (2 ∷ 3 ∷ []) $ use2 𝓛 (‵ (after₂ (mem (Dr E N B)) Rows Rows ν it.first.ghost_name it.second.ghost_name (λ us vs. V (Put us vs)))) (followed_both 𝓛 (mem (Dr E N B)) (mem (Rr E)) Rows Rows V Put ν it.name it.first.ghost_name it.second.ghost_name) $
     rewrite ! 0 (λ (F : List (el_x E) → List (el_x E) → DequeState (el_x E)). ‵ (after₂ (mem (Dr E N B)) Rows Rows ν it.first.ghost_name it.second.ghost_name F)) (λ i us vs. written E N B x d seen kept (as_many it.first.now us ++ as_many it.second.now vs) i) refl $
     -- [what ν follows; half the token; what γ follows; the tokens and the loan; the others]
-    let out : Loan (el_x E) = record it { name = ν } in
+    let out : LoanState (el_x E) = record it { name = ν } in
     move ! (2 ∷ 0 ∷ []) $ fjoin ! $ move ! (2 ∷ []) $ split ! $ move ! (1 ∷ []) $ use1 𝓛 (‵ (It.own_val out (v ∷ []))) (renamed α (R E) 𝓛 it ν (v ∷ [])) $
-    peeks ! It (Is It) (shows 𝓛 It) out (v ∷ []) (λ is_it. lands_as ! refl refl (((iter_laws.the_row_laws α (R E) (param_laws 0 X L)).lawful 𝓛).typed out (v ∷ []) is_it).0 $
+    peeks ! It (Is It) (shows 𝓛 It) out (v ∷ []) (λ is_it. lands_as ! refl refl (((loan_laws.the_row_laws α (R E) (param_laws 0 X L)).lawful 𝓛).typed out (v ∷ []) is_it).0 $
     -- [the loan; the tokens; what the deque follows; half the token; the others]
     move ! (1 ∷ []) $ split ! $ move ! (4 ∷ 0 ∷ []) $ use2 𝓛 (‵ (flft κ q)) (𝓛.lfts.lft_join κ q) $
     -- [the token; that of T; the loan; what the deque follows; the others]

@@ -19,13 +19,13 @@ use denote.Signature.{mut_ref_to, named_lft}
 use denote.Triple.Clauses.{lasts, Lasts}
 use denote.Triple.Walked.{Goes-spent_ref}
 use Rattle.arraydeque_ring.specs.Lends as Lends
-use Rattle.arraydeque_ring.specs.Loans.{Loan, AreApart}
+use Rattle.arraydeque_ring.specs.Loans.{LoanState, AreApart}
 use Rattle.arraydeque_ring.specs.Places.{HoldsRun, IsFilledRun}
 use Rattle.arraydeque_ring.specs.Ring.{RingState}
 use Rattle.arraydeque_ring.specs.RingLends.{rewritten}
-use Rattle.arraydeque_ring.specs.contracts.iter_mut.IterMut as iter
+use Rattle.arraydeque_ring.specs.contracts.slots.loan.Loan as loan
 use Rattle.arraydeque_ring.specs.contracts.ring.Ring.TheInside as inside
-use Rattle.arraydeque_ring.proofs.iter_mut.IterMut.TheLaws as iter_laws
+use Rattle.arraydeque_ring.proofs.slots.loan.Loan.TheLaws as loan_laws
 use Rattle.arraydeque_ring.proofs.loans.Lending.{Cut, cut_at_end, ended, with_slots, kept_after, seen_after, both_written, lent_items, first_filled, rest_filled, apart}
 use Rattle.arraydeque_ring.proofs.loans.Made.{renamed}
 use Rattle.arraydeque_ring.proofs.loans.Placed.{run_length}
@@ -111,9 +111,9 @@ lend_spec 𝓤 𝓛 𝓜 𝓡 wired X L =
     use0 𝓛 (raw (fact 𝓤 Apart)) (fact_i 𝓤 Apart (emp 𝓤) (apart open_ring cut)) $ use0 𝓛 (raw (fact 𝓤 Two)) (fact_i 𝓤 Two (emp 𝓤) (rest_filled open_ring cut)) $ join ! $ use0 𝓛 (raw (fact 𝓤 One)) (fact_i 𝓤 One (emp 𝓤) (first_filled open_ring cut)) $ join ! $
     use0 𝓛 (raw (fact 𝓤 (κ₁ ⊑ X.lives))) (fact_i 𝓤 (κ₁ ⊑ X.lives) (emp 𝓤) lives) $ join ! $ move ! (1 ∷ 0 ∷ []) $ use2 𝓛 (raw (G.pre z)) (id⊢ 𝓤 _) $
     calls_at ! (framed 𝓤 𝓛.H 𝓜 𝓣) G (met 𝓤 𝓛 𝓜 𝓡 (code.calls-arraydeque_ring::slots::Slots::lend_two 𝓡.env wired) X L) z (and_then ! (get ! refl) (and_then ! (get ! refl) (and_then ! (get ! refl) (and_then ! (lit ! tt) (and_then ! (get ! refl) (no_more !)))))) (λ v.
-    let α : NamedLft = named_lft 2 0 tt κs in let It = iter.the_row α (R E) in
-    let First : Loan (el_x E) → Type 0 = λ it. HoldsRun x.slots.places x.start first it.first.now in let Second : Loan (el_x E) → Type 0 = λ it. HoldsRun x.slots.places 0 rest it.second.now in
-    use1 𝓛 (later (some (λ (it : Loan (el_x E)). ((‵ (flft κ r) ⊛ ‵ (flft κ₁ q₁) ⊛ ‵ ftrue) ⊛ ‵ (It.own_val it (v ∷ []))) ⊛
+    let α : NamedLft = named_lft 2 0 tt κs in let It = loan.the_row α (R E) in
+    let First : LoanState (el_x E) → Type 0 = λ it. HoldsRun x.slots.places x.start first it.first.now in let Second : LoanState (el_x E) → Type 0 = λ it. HoldsRun x.slots.places 0 rest it.second.now in
+    use1 𝓛 (later (some (λ (it : LoanState (el_x E)). ((‵ (flft κ r) ⊛ ‵ (flft κ₁ q₁) ⊛ ‵ ftrue) ⊛ ‵ (It.own_val it (v ∷ []))) ⊛
     some (λ (ws : Lasts (g.ended X) κs z.0.3). ‵ (lasts (g.ended X) κs z.0.3 ws) ⊛ (‵ (Lends.lends_loan (R E) lent x.start 0 it) ⊛ raw (fact 𝓤 (First it)) ⊛ raw (fact 𝓤 (Second it))))))) (id⊢ 𝓤 _) $
     await ! tt $ pick ! (λ it. split ! $ move ! (1 ∷ []) $ pick ! (λ ws. split ! $ drop ! $ split3 ! $ move ! (1 ∷ 2 ∷ []) $ heard ! (First it) (λ held. heard ! (Second it) (λ held'. fsplit ! $
     -- [what δ follows; what the loan's name follows; the tokens and the loan; the right; the open borrow; the other fields; the way back; obs γ; auth γ]
@@ -127,9 +127,9 @@ lend_spec 𝓤 𝓛 𝓜 𝓡 wired X L =
     move ! (2 ∷ 3 ∷ []) $ use2 𝓛 (‵ (after₂ (mem (Rr E)) Rows Rows ν it.first.ghost_name it.second.ghost_name (λ us vs. V (Put us vs)))) (followed_both 𝓛 (mem (Rr E)) (mem (Sr E)) Rows Rows V Put ν it.name it.first.ghost_name it.second.ghost_name) $
     rewrite ! 0 (λ (F : List (el_x E) → List (el_x E) → RingState (el_x E)). ‵ (after₂ (mem (Rr E)) Rows Rows ν it.first.ghost_name it.second.ghost_name F)) (λ i us vs. both_written x d seen kept first rest cut it.first.now it.second.now held held' us vs i) refl $
     -- [what ν follows; half the token; what γ follows; the tokens and the loan]
-    let out : Loan (el_x E) = record it { name = ν } in
+    let out : LoanState (el_x E) = record it { name = ν } in
     move ! (2 ∷ 0 ∷ []) $ fjoin ! $ move ! (2 ∷ []) $ split ! $ move ! (1 ∷ []) $ use1 𝓛 (‵ (It.own_val out (v ∷ []))) (renamed α (R E) 𝓛 it ν (v ∷ [])) $
-    peeks ! It (Is It) (shows 𝓛 It) out (v ∷ []) (λ is_it. lands_as ! refl refl (((iter_laws.the_row_laws α (R E) (param_laws 0 X L)).lawful 𝓛).typed out (v ∷ []) is_it).0 $
+    peeks ! It (Is It) (shows 𝓛 It) out (v ∷ []) (λ is_it. lands_as ! refl refl (((loan_laws.the_row_laws α (R E) (param_laws 0 X L)).lawful 𝓛).typed out (v ∷ []) is_it).0 $
     -- [the loan; the tokens; what the ring follows; half the token]
     move ! (1 ∷ []) $ split ! $ move ! (4 ∷ 0 ∷ []) $ use2 𝓛 (‵ (flft κ q)) (𝓛.lfts.lft_join κ q) $ move ! (0 ∷ 1 ∷ []) $ join ! $
     returns ! (look_at ! 0 refl) $ free_all ! refl $ suffices ! _ (ends_at 𝓛 f_ended (stayed E) c y v out (tt, tt) (tt, tt)) $

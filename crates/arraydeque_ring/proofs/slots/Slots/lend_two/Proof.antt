@@ -13,11 +13,11 @@ use denote.Signature.{mut_ref_to, named_lft}
 use denote.Slice.{MutSlice, slice_val}
 use denote.Triple.Walked.{Goes-spent_ref}
 use Rattle.std.specs.declared.alloc.Global.{Global}
-use Rattle.arraydeque_ring.specs.Loans.{Loan, as_many, with_run, written_over, AreApart}
+use Rattle.arraydeque_ring.specs.Loans.{LoanState, as_many, with_run, written_over, AreApart}
 use Rattle.arraydeque_ring.specs.Ownership.{places_owned, right_to_free}
 use Rattle.arraydeque_ring.specs.Places.{IsFilledRun, HoldsRun}
 use Rattle.arraydeque_ring.specs.Steps.{more_lends}
-use Rattle.arraydeque_ring.specs.contracts.iter_mut.IterMut as iter
+use Rattle.arraydeque_ring.specs.contracts.slots.loan.Loan as loan
 use Rattle.arraydeque_ring.proofs.loans.Made.{loan_val, loan_made}
 use Rattle.arraydeque_ring.proofs.loans.Names.{takes_named}
 use Rattle.arraydeque_ring.proofs.loans.Placed.{placed, apart_within, as_many-same, two_filled, length-written_over, written_over-same}
@@ -138,11 +138,11 @@ lend_two_spec 𝓤 𝓛 𝓜 𝓡 wired X L =
     let room : (m : ℕ) → m ≤ length r.places → (m < 2 ^ 64) × (m * s < 2 ^ 63) = λ m within. (let word = ok.word in let same = ok.capacity in omega arith, times_below m (length r.places) s (2 ^ 63) within small) in
     let bounded : length xs + length ys < 2 ^ 64 = let word = ok.word in let same = ok.capacity in omega (arith, apart_within a (length xs) b (length ys) (length r.places) clear in_a in_b) in
     let α : NamedLft = named_lft 2 0 tt κs in let v = loan_val (slice_val (p, pa) la) (slice_val (p, pb) lb) in
-    let seen : Loan (el_x E) = record { first = first_slice; second = second_slice; name = νs.0 } in
+    let seen : LoanState (el_x E) = record { first = first_slice; second = second_slice; name = νs.0 } in
     use1 𝓛 (‵ ((MutSlice (named 0) κ (R E)).own_val first_slice (slice_val (p, pa) (length xs) ∷ []))) (slice_of 𝓛 (R E) (named 0) κ p pa νs.1.0 xs (room (length xs) (omega arith))) $ move ! (1 ∷ []) $
     use1 𝓛 (‵ ((MutSlice (named 0) κ (R E)).own_val second_slice (slice_val (p, pb) (length ys) ∷ []))) (slice_of 𝓛 (R E) (named 0) κ p pb νs.1.1 ys (room (length ys) (omega arith))) $ move ! (1 ∷ 0 ∷ []) $
     rewrite ! 0 (λ (k : ℕ). ‵ ((MutSlice (named 0) κ (R E)).own_val first_slice (slice_val (p, pa) k ∷ []))) long refl $ rewrite ! 1 (λ (k : ℕ). ‵ ((MutSlice (named 0) κ (R E)).own_val second_slice (slice_val (p, pb) k ∷ []))) long' refl $
-    use2 𝓛 (‵ ((iter.the_row α (R E)).own_val seen (v ∷ []))) (loan_made α (R E) 𝓛 seen (slice_val (p, pa) la) (slice_val (p, pb) lb) bounded) $ move ! (1 ∷ []) $ split3 ! $
+    use2 𝓛 (‵ ((loan.the_row α (R E)).own_val seen (v ∷ []))) (loan_made α (R E) 𝓛 seen (slice_val (p, pa) la) (slice_val (p, pb) lb) bounded) $ move ! (1 ∷ []) $ split3 ! $
     returns ! (look_at ! 0 refl) $ free_all ! refl $
     -- [the token; what the region follows; what its name follows; the iterator; the other token]
     suffices ! _ (ends_at 𝓛 ended (stayed E) c y v seen (tt, (tt, (tt, (tt, (tt, tt))))) (tt, (tt, (tt, (tt, (tt, tt)))))) $

@@ -10,11 +10,11 @@ use denote.Triple.Clauses.{lasts, Lasts}
 use denote.Triple.Walked.{Goes-spent_ref}
 use denote.Triple.Entry.{on_entry}
 use Rattle.arraydeque_ring.specs.Lends.{lends_loan, lends_two_runs, two_written}
-use Rattle.arraydeque_ring.specs.Loans.{Loan, written_over, AreApart}
+use Rattle.arraydeque_ring.specs.Loans.{LoanState, written_over, AreApart}
 use Rattle.arraydeque_ring.specs.Places.{IsFilledRun, HoldsRun}
 use Rattle.arraydeque_ring.specs.Steps.{more_lends}
-use Rattle.arraydeque_ring.specs.contracts.iter_mut.IterMut as iter
-use Rattle.arraydeque_ring.proofs.iter_mut.IterMut.TheLaws as iter_laws
+use Rattle.arraydeque_ring.specs.contracts.slots.loan.Loan as loan
+use Rattle.arraydeque_ring.proofs.slots.loan.Loan.TheLaws as loan_laws
 use Rattle.arraydeque_ring.proofs.loans.Names.{followed_both}
 use Rattle.arraydeque_ring.proofs.loans.Slices.{Slices, slices_lawful}
 use Rattle.arraydeque_ring.proofs.loans.Placed.{two_alike}
@@ -22,8 +22,8 @@ use Rattle.arraydeque_ring.proofs.memory.Regions.{Sr, Seen}
 use Rattle.arraydeque_ring.proofs.memory.Owned.{Place}
 use Rattle.arraydeque_ring.specs.contracts.slots.Slots.lend_two as g
 use Rattle.arraydeque_ring.proofs.slots.Slots.lend_two.Met.{met}
-use Rattle.arraydeque_ring.specs.contracts.iter_mut.IterMut.into_slices as h
-use Rattle.arraydeque_ring.proofs.iter_mut.IterMut.into_slices.Met.{met as into_met}
+use Rattle.arraydeque_ring.specs.contracts.slots.loan.Loan.into_slices as h
+use Rattle.arraydeque_ring.proofs.slots.loan.Loan.into_slices.Met.{met as into_met}
 use Rattle.arraydeque_ring.specs.contracts.slots.Slots.two_slices_mut as f
 use Rattle.arraydeque_ring.proofs.slots.Slots.two_slices_mut.Statement as stated
 use Rattle.arraydeque_ring.proofs.slots.Slots.two_slices_mut.Code as code
@@ -57,16 +57,16 @@ two_slices_mut_spec 𝓤 𝓛 𝓜 𝓡 wired X L =
     sets ! (addr ! (through ! refl (stop !))) refl (tt, tt) $
     calls_at ! (framed 𝓤 𝓛.H 𝓜 𝓣) G (met 𝓤 𝓛 𝓜 𝓡 (code.calls-arraydeque_ring::slots::Slots::lend_two 𝓡.env wired) X L) y
     (and_then ! (get ! refl) (and_then ! (get ! refl) (and_then ! (get ! refl) (and_then ! (get ! refl) (and_then ! (get ! refl) (no_more !)))))) (λ v.
-    let α : NamedLft = named_lft 2 0 tt κs in let It = iter.the_row α (R E) in
-    let First : Loan (el_x E) → Type 0 = λ it. HoldsRun r.places a la it.first.now in let Second : Loan (el_x E) → Type 0 = λ it. HoldsRun r.places b lb it.second.now in
-    use1 𝓛 (later (some (λ (it : Loan (el_x E)). (Toks ⊛ ‵ (It.own_val it (v ∷ []))) ⊛ some (λ (ws : Lasts (g.ended X) κs arg). ‵ (lasts (g.ended X) κs arg ws) ⊛ (‵ (lends_loan (R E) arg.0 a b it) ⊛ raw (fact 𝓤 (First it)) ⊛ raw (fact 𝓤 (Second it))))))) (id⊢ 𝓤 _) $
+    let α : NamedLft = named_lft 2 0 tt κs in let It = loan.the_row α (R E) in
+    let First : LoanState (el_x E) → Type 0 = λ it. HoldsRun r.places a la it.first.now in let Second : LoanState (el_x E) → Type 0 = λ it. HoldsRun r.places b lb it.second.now in
+    use1 𝓛 (later (some (λ (it : LoanState (el_x E)). (Toks ⊛ ‵ (It.own_val it (v ∷ []))) ⊛ some (λ (ws : Lasts (g.ended X) κs arg). ‵ (lasts (g.ended X) κs arg ws) ⊛ (‵ (lends_loan (R E) arg.0 a b it) ⊛ raw (fact 𝓤 (First it)) ⊛ raw (fact 𝓤 (Second it))))))) (id⊢ 𝓤 _) $
     await ! tt $ pick ! (λ it. split ! $ split ! $ move ! (1 ∷ []) $
-    peeks ! It (Is It) (shows 𝓛 It) it (v ∷ []) (λ is_it. lands_as ! refl refl (((iter_laws.the_row_laws α (R E) (param_laws 0 X L)).lawful 𝓛).typed it (v ∷ []) is_it).0 $
+    peeks ! It (Is It) (shows 𝓛 It) it (v ∷ []) (λ is_it. lands_as ! refl refl (((loan_laws.the_row_laws α (R E) (param_laws 0 X L)).lawful 𝓛).typed it (v ∷ []) is_it).0 $
     -- [the iterator; the tokens; what the call says]
     nothing ! $ move ! (1 ∷ 0 ∷ []) $ fjoin ! $ move ! (1 ∷ 0 ∷ []) $ join ! $
     let z : G'.Ghost = ((κs, qs, bounds, (it, tt), (v ∷ [], tt)), tt) in
     nothing ! $ use0 𝓛 (raw (fact 𝓤 (κ₁ ⊑ X.lives))) (fact_i 𝓤 (κ₁ ⊑ X.lives) (emp 𝓤) lives) $ join ! $ move ! (1 ∷ 0 ∷ []) $ use2 𝓛 (raw (G'.pre z)) (id⊢ 𝓤 _) $
-    calls_at ! (framed 𝓤 𝓛.H 𝓜 𝓣) G' (into_met 𝓤 𝓛 𝓜 𝓡 (code.calls-arraydeque_ring::iter_mut::IterMut::into_slices 𝓡.env wired) X L) z (and_then ! (get ! refl) (no_more !)) (λ u.
+    calls_at ! (framed 𝓤 𝓛.H 𝓜 𝓣) G' (into_met 𝓤 𝓛 𝓜 𝓡 (code.calls-arraydeque_ring::slots::loan::Loan::into_slices 𝓡.env wired) X L) z (and_then ! (get ! refl) (no_more !)) (λ u.
     let Pair = Slices α (R E) in let Two_slices : Type 0 = MutBor (List (el_x E)) × MutBor (List (el_x E)) in
     use1 𝓛 (later (some (λ (two : Two_slices). (Toks ⊛ ‵ (Pair.own_val two (u ∷ []))) ⊛ some (λ (ws : Lasts (h.ended X) κs z.0.3). ‵ (lasts (h.ended X) κs z.0.3 ws) ⊛ (raw (fact 𝓤 (two.0 ≡ it.first)) ⊛ raw (fact 𝓤 (two.1 ≡ it.second))))))) (id⊢ 𝓤 _) $
     await ! tt $ pick ! (λ two. split ! $ move ! (1 ∷ []) $ pick ! (λ ws. split ! $ drop ! $ split ! $ heard ! (two.0 ≡ it.first) (λ e. heard ! (two.1 ≡ it.second) (λ e'. split ! $ move ! (1 ∷ []) $

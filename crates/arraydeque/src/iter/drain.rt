@@ -1,0 +1,71 @@
+//! The iterator that owns what a drain removed.
+ghost use Rattle.std.specs.Prelude.{◌≡◌, length, Some};
+ghost use Rattle.std.specs.Iterator.{YieldsFirst, YieldsLast, item_count};
+
+use arraydeque_ring::ring::{Ring, into_iter};
+use std::iter::FusedIterator;
+use std::marker::Model;
+
+/// An iterator that owns the items that a drain removed, from both ends. It drops those that are
+/// not taken, and doesn't borrow what they were taken out of.
+#[derive(Drop)]
+pub struct Drain<T> {
+    items: into_iter::IntoIter<T>,
+}
+
+impl<T> Model for Drain<T> {
+    ghost use Rattle.std.specs.Prelude.{List};
+
+    ghost Value = { List T };
+
+    ghost view = { λ drain. drain.items };
+}
+
+impl<T> Drain<T> {
+    /// The drain of the items of a ring.
+    #[inline]
+    pub(crate) fn of(ring: Ring<T>) -> Drain<T>
+        ensures { result ≡ ring.items }
+    {
+        Drain {
+            items: into_iter::IntoIter::of(ring),
+        }
+    }
+}
+
+impl<T: Drop> Iterator for Drain<T> {
+    type Item = T;
+
+    ghost next_gives = { YieldsFirst (λ remaining. remaining) };
+
+    ghost remaining = { item_count (λ remaining. remaining) };
+
+    #[inline]
+    fn next(&mut self) -> Option<T> {
+        self.items.next()
+    }
+
+    fn size_hint(&self) -> (usize, Option<usize>)
+        ensures exact { result ≡ (length self.now, Some (length self.now)) }
+    {
+        let len = self.len();
+        (len, Some(len))
+    }
+}
+
+impl<T: Drop> DoubleEndedIterator for Drain<T> {
+    ghost next_back_gives = { YieldsLast (λ remaining. remaining) };
+
+    #[inline]
+    fn next_back(&mut self) -> Option<T> {
+        self.items.next_back()
+    }
+}
+
+impl<T: Drop> ExactSizeIterator for Drain<T> {
+    fn len(&self) -> usize {
+        self.items.len()
+    }
+}
+
+impl<T: Drop> FusedIterator for Drain<T> {}

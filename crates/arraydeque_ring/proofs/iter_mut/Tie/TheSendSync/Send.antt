@@ -1,8 +1,0 @@
-use denote.RattleType.{RattleType}
-use denote.Ref.{NamedLft}
-use denote.Param.Send.{IsSend}
-use Rattle.arraydeque_ring.specs.contracts.iter_mut.Tie.{the_row}
-use Rattle.arraydeque_ring.proofs.memory.Crossing.{Tie-send}
-
-pub send : (κ : NamedLft) (R : RattleType) → IsSend R → IsSend (the_row κ R)
-send κ R s = Tie-send κ R

@@ -1,0 +1,85 @@
+//! The iterator that owns the items of a ring. A contract sees the list of those that remain.
+ghost use Rattle.std.specs.Prelude.{◌≡◌, length, Some, IfSome};
+ghost use Rattle.std.specs.Iterator.{YieldsFirst, YieldsLast, UpTo, item_count};
+ghost use Rattle.std.specs.Iterator.SizeHint.{IsWithinCount};
+
+use super::Ring;
+use std::iter::FusedIterator;
+use std::marker::Model;
+
+/// An iterator that owns the items of a ring, from both ends. It drops those that are not taken,
+/// front to back.
+#[derive(Drop)]
+pub struct IntoIter<T> {
+    ring: Ring<T>,
+    /// How many items at most stand in the region's last place and, round its end, behind it.
+    rest: usize,
+}
+
+impl<T> Model for IntoIter<T> {
+    ghost use Rattle.std.specs.Prelude.{◌≤◌, ◌-◌, List, length};
+
+    ghost Value = { List T };
+
+    ghost view = { λ it. it.ring.items };
+
+    ghost invariant = { λ it.
+        length it.ring.items - (it.ring.capacity - 1 - it.ring.start) ≤ it.rest };
+}
+
+impl<T> IntoIter<T> {
+    /// The iterator over the items of a ring.
+    #[inline]
+    pub fn of(ring: Ring<T>) -> IntoIter<T>
+        ensures { result ≡ ring.items }
+    {
+        let rest = ring.len_from_last_place();
+        IntoIter { ring, rest }
+    }
+}
+
+impl<T: Drop> Iterator for IntoIter<T> {
+    type Item = T;
+
+    ghost next_gives = { YieldsFirst (λ remaining. remaining) };
+
+    ghost remaining = { item_count (λ remaining. remaining) };
+
+    #[inline]
+    fn next(&mut self) -> Option<T> {
+        if self.ring.len() > self.rest {
+            return Some(self.ring.take_before_end());
+        }
+        let item = self.ring.pop_front();
+        self.rest = self.ring.len_from_last_place();
+        item
+    }
+
+    #[inline]
+    fn size_hint(&self) -> (usize, Option<usize>)
+        ensures exact { result ≡ (length self.now, Some (length self.now)) }
+        ensures lower { IsWithinCount result.0 (item_count (λ remaining. remaining) self.now) }
+        ensures upper { IfSome result.1 (UpTo (item_count (λ remaining. remaining) self.now)) }
+    {
+        let len = self.len();
+        (len, Some(len))
+    }
+}
+
+impl<T: Drop> DoubleEndedIterator for IntoIter<T> {
+    ghost next_back_gives = { YieldsLast (λ remaining. remaining) };
+
+    #[inline]
+    fn next_back(&mut self) -> Option<T> {
+        self.ring.pop_back()
+    }
+}
+
+impl<T: Drop> ExactSizeIterator for IntoIter<T> {
+    #[inline]
+    fn len(&self) -> usize {
+        self.ring.len()
+    }
+}
+
+impl<T: Drop> FusedIterator for IntoIter<T> {}

@@ -1,0 +1,115 @@
+//! Values that are lent for writing: a run of them in a slice, or two runs in two slices.
+//!
+//! A contract sees a [`Loan`] as its two slices and its name. What the lender ends as follows that
+//! name, so that a caller who only writes through the loan knows the lender afterwards.
+ghost use Rattle.std.specs.Prelude.{◌≡◌, ◌+◌, ◌^◌, ◌<◌, length};
+ghost use Rattle.std.specs.Borrow.{sem};
+ghost use Rattle.arraydeque_ring.specs.Lends.{lends_run, lends_two_runs};
+ghost use Rattle.arraydeque_ring.specs.Loans.{AreApart};
+ghost use Rattle.arraydeque_ring.specs.Places.{HoldsRun, IsFilledRun};
+ghost use base.Fml.{GName};
+
+use super::{Slots, StepKind};
+use std::marker::{Model, PhantomData, Send, Sync};
+
+/// The name of a loan, and nothing else. It takes no bytes.
+#[derive(Drop)]
+pub struct LoanName<'a, T> {
+    pub(super) mark: PhantomData<&'a mut T>,
+    ghost name: { GName },
+}
+
+impl<'a, T> Model for LoanName<'a, T> {
+    ghost use base.Fml.{ftrue};
+
+    ghost also_owns = { λ _. ftrue };
+}
+
+// A name owns nothing.
+unsafe impl<'a, T: Send> Send for LoanName<'a, T> {}
+
+unsafe impl<'a, T: Sync> Sync for LoanName<'a, T> {}
+
+/// Values for writing in two slices, one behind the other, under one name.
+#[derive(Drop)]
+pub struct Loan<'a, T> {
+    pub(super) first: &'a mut [T],
+    pub(super) second: &'a mut [T],
+    pub(super) name: LoanName<'a, T>,
+}
+
+impl<'a, T> Model for Loan<'a, T> {
+    ghost use Rattle.std.specs.Prelude.{◌+◌, ◌^◌, ◌<◌, length};
+    ghost use Rattle.arraydeque_ring.specs.Loans.{LoanState};
+
+    ghost Value = { LoanState T };
+
+    ghost view = { λ l. record { first = l.first; second = l.second; name = l.name.name } };
+
+    ghost invariant = { λ l. length l.first.now + length l.second.now < 2 ^ 64 };
+}
+
+impl<'a, T> Loan<'a, T> {
+    /// The two slices.
+    #[inline]
+    pub fn into_slices(self) -> (&'a mut [T], &'a mut [T])
+        ensures first { result.0 ≡ self.entry.first }
+        ensures second { result.1 ≡ self.entry.second }
+    {
+        let (first, second, _name) = self.into_parts();
+        (first, second)
+    }
+
+    /// The two slices, and the name that the lender follows.
+    #[inline]
+    pub fn into_parts(self) -> (&'a mut [T], &'a mut [T], LoanName<'a, T>)
+        ensures first { result.0 ≡ self.entry.first }
+        ensures second { result.1 ≡ self.entry.second }
+        ensures name { result.2.name ≡ self.entry.name }
+        ensures within { length result.0.now + length result.1.now < 2 ^ 64 }
+    {
+        let Loan {
+            first,
+            second,
+            name,
+        } = self;
+        (first, second, name)
+    }
+}
+
+impl<T> Slots<T> {
+    /// The values in the `len` places from the place `from` on, in order, for writing. An empty run
+    /// may start at the capacity.
+    ///
+    /// Whatever is written, no place is filled or emptied, and no place outside the run changes.
+    #[inline]
+    pub fn slice_mut(&mut self, from: usize, len: usize) -> &mut [T]
+        requires { IsFilledRun self.old.places from len }
+        ensures* writes_back { sem 𝓛 (lends_run T.row self.entry from result) }
+        ensures values { HoldsRun self.old.places from len result.now }
+    {
+        self.count(StepKind::Lend, 1);
+        self.lend_run(from, len)
+    }
+
+    /// The values of two runs that have no place in common, in order, for writing.
+    ///
+    /// Whatever is written, no place is filled or emptied, and no place outside the runs changes.
+    #[inline]
+    pub fn two_slices_mut(
+        &mut self,
+        a: usize,
+        a_len: usize,
+        b: usize,
+        b_len: usize,
+    ) -> (&mut [T], &mut [T])
+        requires a_filled { IsFilledRun self.old.places a a_len }
+        requires b_filled { IsFilledRun self.old.places b b_len }
+        requires apart { AreApart a a_len b b_len }
+        ensures* writes_back { sem 𝓛 (lends_two_runs T.row self.entry a b result) }
+        ensures first { HoldsRun self.old.places a a_len result.0.now }
+        ensures second { HoldsRun self.old.places b b_len result.1.now }
+    {
+        self.lend_two(a, a_len, b, b_len).into_slices()
+    }
+}
