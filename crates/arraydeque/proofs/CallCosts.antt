@@ -1,11 +1,11 @@
 -- What a call makes of a deque says what it costs.
-use Rattle.std.proofs.Common.{◌≡◌, ℕ, Option, Some, None, ◌+◌, ◌-◌, ◌<◌, ◌≤◌, List, length, slice_get, Bool, true, false, ◌&&◌, ◌==◌, nat_lt, nat_le, if◌then◌else◌, refl, ap, sym, subst, arith, inl, inr}
+use Rattle.std.proofs.Common.{◌≡◌, ℕ, Option, Some, None, ◌+◌, ◌≤◌, List, slice_get, true, false, ◌==◌, if◌then◌else◌, refl, ap, sym, subst, arith}
 use Rattle.std.proofs.lemmas.Bool.Decides.{nat_tests}
 use Rattle.std.proofs.lemmas.Option.{slice_get_within, slice_get_cases}
 use Rattle.arraydeque_ring.specs.Steps.{Steps, more_puts, more_takes}
 use Rattle.arraydeque.specs.Costs.{work_of, cost_of}
 use Rattle.arraydeque.specs.Deque.{DequeState, wrapped_back, wrapped_front}
-use Rattle.arraydeque.specs.Machine.{Answer, Answers, done, item, displaced, drained, split, out_of_range}
+use Rattle.arraydeque.specs.Machine.{Answer, done, item, displaced, drained, split}
 use Rattle.arraydeque.specs.Makes.{Makes, displacing, pushed_back, pushed_front}
 use Rattle.arraydeque.specs.Policy.{Policy, saturating, wrapping}
 use Rattle.arraydeque.specs.declared.run.Call.{Call}

@@ -11,8 +11,8 @@ use Rattle.arraydeque.specs.declared.run.Call.{Call}
 use Rattle.arraydeque.specs.declared.run.Call.TheVariants.{PushFront, PushBack, PopFront, PopBack, Insert, Remove, SwapRemoveBack, SwapRemoveFront, Swap, Replace, Clear, Linearize, ExtendBack, ExtendFront, Extend, Drain, SplitOff}
 
 module _ {X : Type 0} where
-  -- the deque of capacity n after xs were pushed one by one behind its last item: saturating takes
-  -- them while there is room, and wrapping all, for first items, but at capacity 0 none
+  -- the deque of capacity n after xs were pushed behind its last item, one by one: saturating stops
+  -- where there is no room, and wrapping gives up first items, but at capacity 0 leaves it as it is
   abbrev pub pushed_back : Policy → ℕ → List X → DequeState X → DequeState X
   pushed_back saturating n xs deque = with_back (take (n - length deque.items) xs) deque
   pushed_back wrapping n xs deque = if n == 0 then deque else wrapped_back n xs deque
@@ -77,8 +77,8 @@ module _ {X : Type 0} (p : Policy) (n : ℕ) where
   steps_after (Extend v) done old = (pushed_back p n v.items old).steps
   steps_after _ _ old = old.steps
 
-  -- the call leaves these steps: a Linearize at most a move or an exchange for each item more, none
-  -- where the list is in one piece, and any other call exactly those above
+  -- the call leaves these steps: a Linearize no more moves and exchanges than items, and none where
+  -- the list is in one piece, and any other call exactly those above
   abbrev pub StepsAre : Call X → Answer X → DequeState X → Steps → Type 0
   StepsAre Linearize answer old steps = Rearranges
       (if nat_le (old.start + length old.items) n then 0 else length old.items) old.steps steps

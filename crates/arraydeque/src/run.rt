@@ -130,7 +130,7 @@ impl<T: Drop, const CAP: usize, B: MachinePolicy<T, CAP>> ArrayDeque<T, CAP, B> 
     }
 }
 
-/// A policy whose deques answer every call.
+/// A policy of the list machine, whose deques answer every call.
 pub(crate) trait MachinePolicy<T, const CAP: usize>: Behavior {
     // What the list machine calls it.
     ghost policy: { Policy };

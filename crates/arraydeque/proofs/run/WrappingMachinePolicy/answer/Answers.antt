@@ -1,6 +1,5 @@
-use Rattle.std.proofs.Common.{ap, inl, inr}
+use Rattle.std.proofs.Common.{inl, inr}
 use Rattle.std.specs.Vec.Iter.{into_iter_items}
-use Rattle.arraydeque.specs.Deque.{DequeState}
 use Rattle.arraydeque.specs.Policy.{wrapping}
 use Rattle.arraydeque.proofs.Makes.{at_none, extended_back-makes, extended_front-makes}
 use Rattle.arraydeque.proofs.PolicyFree.{IsPolicyFree-rest}
