@@ -5,7 +5,7 @@ use Rattle.arraydeque_ring.specs.Steps.{Steps}
 use Rattle.arraydeque.specs.Deque.{DequeState}
 use Rattle.arraydeque.specs.Machine.{Answer, done, item, drained, answer_of}
 use Rattle.arraydeque.specs.Policy.{Policy}
-use Rattle.arraydeque.specs.Run.{Run}
+use Rattle.arraydeque.specs.Run.{MachineRun}
 use Rattle.arraydeque.specs.declared.run.Call.{Call}
 use Rattle.arraydeque.specs.declared.run.Call.TheVariants.{Insert, Remove, SwapRemoveBack, SwapRemoveFront, Swap, Linearize, Drain}
 use Rattle.arraydeque.specs.declared.run.Reply.{Reply}
@@ -17,46 +17,38 @@ work_of steps = steps.moves + steps.exchanges
 module _ {X : Type 0} where
   -- how many items of the list l a call so answered moves: those on the side with fewer of them of
   -- what comes in or goes out, or all where it lays them in one piece, though some by exchanges
-  abbrev pub cost_of : Call X → Answer X → List X → ℕ
-  cost_of (Insert i x) done l = moves_to_insert i (length l)
-  cost_of (Remove i) (item (Some x)) l = moves_to_remove i (length l)
-  cost_of (Drain from to) (drained xs) l = moves_to_drain from to (length l)
-  cost_of Linearize done l = length l
-  cost_of _ _ l = 0
+  abbrev pub moves_of : Call X → Answer X → List X → ℕ
+  moves_of (Insert i x) done l = moves_to_insert i (length l)
+  moves_of (Remove i) (item (Some x)) l = moves_to_remove i (length l)
+  moves_of (Drain from to) (drained xs) l = moves_to_drain from to (length l)
+  moves_of Linearize done l = length l
+  moves_of _ _ l = 0
 
   -- how many pairs of the list l a call exchanges: one, where two of its items change places
-  abbrev pub own_of : Call X → List X → ℕ
-  own_of (Swap i j) l =
+  abbrev pub exchanges_of : Call X → List X → ℕ
+  exchanges_of (Swap i j) l =
       if nat_lt i (length l) && (nat_lt j (length l) && not (i == j)) then 1 else 0
-  own_of (SwapRemoveBack i) l = if nat_lt (i + 1) (length l) then 1 else 0
-  own_of (SwapRemoveFront i) l = if nat_lt 0 i && nat_lt i (length l) then 1 else 0
-  own_of _ l = 0
+  exchanges_of (SwapRemoveBack i) l = if nat_lt (i + 1) (length l) then 1 else 0
+  exchanges_of (SwapRemoveFront i) l = if nat_lt 0 i && nat_lt i (length l) then 1 else 0
+  exchanges_of _ l = 0
 
   -- what a call so answered costs in all
-  abbrev pub price_of : Call X → Answer X → List X → ℕ
-  price_of call answer l = cost_of call answer l + own_of call l
+  abbrev pub cost_of : Call X → Answer X → List X → ℕ
+  cost_of call answer l = moves_of call answer l + exchanges_of call l
 
-  -- the call, so answered, made as many moves and exchanges as it costs, or fewer if it is a
-  -- Linearize
-  abbrev pub CallCosts : Call X → Answer X → DequeState X → DequeState X → Type 0
-  CallCosts Linearize answer old new =
-      work_of new.steps ≤ work_of old.steps + price_of Linearize answer old.items
-  CallCosts call answer old new =
-      work_of new.steps ≡ work_of old.steps + price_of call answer old.items
-
-  -- the prices of a run's calls, each with its answer and the list before it, added up
-  abbrev pub price_of_run : {B : Type 0} {n : ℕ} (p : Policy) (l : List X) (calls : List (Call X))
-      (replies : List (Reply X n B)) (last : List X) → Run p l calls replies last → ℕ
-  price_of_run p l (c ∷ cs) (r ∷ rs) last run =
-      price_of c (answer_of r) l + price_of_run p run.0 cs rs last run.2
-  price_of_run p l _ _ last run = 0
+  -- the costs of a run's calls, each with its answer and the list before it, added up
+  abbrev pub cost_of_run : {B : Type 0} {n : ℕ} (p : Policy) (l : List X) (calls : List (Call X))
+      (replies : List (Reply X n B)) (last : List X) → MachineRun p l calls replies last → ℕ
+  cost_of_run p l (c ∷ cs) (r ∷ rs) last run =
+      cost_of c (answer_of r) l + cost_of_run p run.0 cs rs last run.2
+  cost_of_run p l _ _ last run = 0
 
 -- the calls are a run from the old deque's list to the new one's, and no more moves and exchanges
 -- were made than it costs; just as many where none of the calls is a Linearize
 pub record RunCosts {X B : Type 0} {n : ℕ} (p : Policy) (old : DequeState X)
     (calls : List (Call X)) (replies : List (Reply X n B)) (new : DequeState X) : Type 0 where
-  pub run : Run p old.items calls replies new.items
+  pub run : MachineRun p old.items calls replies new.items
   pub at_most : work_of new.steps ≤
-      work_of old.steps + price_of_run p old.items calls replies new.items run
+      work_of old.steps + cost_of_run p old.items calls replies new.items run
   pub exactly : All (λ call. call ≢ Linearize) calls → work_of new.steps ≡
-      work_of old.steps + price_of_run p old.items calls replies new.items run
+      work_of old.steps + cost_of_run p old.items calls replies new.items run

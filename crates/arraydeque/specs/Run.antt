@@ -1,6 +1,8 @@
--- A run of the list machine over a list of calls: one reply a call, in order.
+-- A run over a list of calls: one reply a call, in order.
 use Rattle.std.specs.Prelude.{◌≡◌, ℕ, List, [], ◌∷◌}
+use Rattle.arraydeque.specs.Deque.{DequeState}
 use Rattle.arraydeque.specs.Machine.{Answers, answer_of}
+use Rattle.arraydeque.specs.Makes.{Makes}
 use Rattle.arraydeque.specs.Policy.{Policy}
 use Rattle.arraydeque.specs.declared.run.Call.{Call}
 use Rattle.arraydeque.specs.declared.run.Reply.{Reply}
@@ -8,9 +10,18 @@ use Rattle.arraydeque.specs.declared.run.Reply.{Reply}
 module _ {X B : Type 0} {n : ℕ} (p : Policy) where
   -- the calls, made one after another from the list l, are answered by the replies and leave the
   -- last list
-  abbrev pub Run : List X → List (Call X) → List (Reply X n B) → List X → Type 0
-  Run l [] [] last = last ≡ l
-  Run l [] (r ∷ rs) last = ⊥
-  Run l (c ∷ cs) [] last = ⊥
-  Run l (c ∷ cs) (r ∷ rs) last =
-      (next : List X) × Answers p n l c (answer_of r) next × Run next cs rs last
+  abbrev pub MachineRun : List X → List (Call X) → List (Reply X n B) → List X → Type 0
+  MachineRun l [] [] last = last ≡ l
+  MachineRun l [] (r ∷ rs) last = ⊥
+  MachineRun l (c ∷ cs) [] last = ⊥
+  MachineRun l (c ∷ cs) (r ∷ rs) last =
+      (next : List X) × Answers p n l c (answer_of r) next × MachineRun next cs rs last
+
+  -- the calls, made one after another from the old deque, are answered by the replies and leave the
+  -- new deque, and each makes of the deque before it the one after it
+  abbrev pub DequeRun : DequeState X → List (Call X) → List (Reply X n B) → DequeState X → Type 0
+  DequeRun old [] [] new = new ≡ old
+  DequeRun old [] (r ∷ rs) new = ⊥
+  DequeRun old (c ∷ cs) [] new = ⊥
+  DequeRun old (c ∷ cs) (r ∷ rs) new =
+      (next : DequeState X) × Makes p n c (answer_of r) old next × DequeRun next cs rs new

@@ -1,10 +1,10 @@
 //! A whole list of calls on a deque, as values, and a reply to each.
 ghost use Rattle.std.specs.Prelude.{◌≡◌, ◌<◌, length, IfOk, IfErr, OnErr};
-ghost use Rattle.arraydeque.specs.Costs.{CallCosts, RunCosts};
-ghost use Rattle.arraydeque.specs.Fewest.{CallMovesFewest, RunMovesFewest};
-ghost use Rattle.arraydeque.specs.Machine.{Answers, answer_of, IsAlike};
+ghost use Rattle.arraydeque.specs.Costs.{RunCosts};
+ghost use Rattle.arraydeque.specs.Machine.{answer_of, IsPolicyFree};
+ghost use Rattle.arraydeque.specs.Makes.{Makes};
 ghost use Rattle.arraydeque.specs.Policy.{Policy, saturating, wrapping};
-ghost use Rattle.arraydeque.specs.Run.{Run};
+ghost use Rattle.arraydeque.specs.Run.{MachineRun, DequeRun};
 ghost use Rattle.arraydeque.specs.declared.run.Call.TheVariants.{PushFront, PushBack, Insert, Swap, Replace, Drain, SplitOff};
 
 use crate::behavior::{Behavior, Saturating, Wrapping};
@@ -89,7 +89,7 @@ pub enum Reply<T, const CAP: usize, B: Behavior> {
     NotOffered(T),
 }
 
-impl<T: Drop, const CAP: usize, B: Answering<T, CAP>> ArrayDeque<T, CAP, B> {
+impl<T: Drop, const CAP: usize, B: MachinePolicy<T, CAP>> ArrayDeque<T, CAP, B> {
     /// Makes the calls in order, and returns a reply to each. A call that is refused doesn't stop
     /// the run: its reply says so, and the list is as it was.
     ///
@@ -108,15 +108,15 @@ impl<T: Drop, const CAP: usize, B: Answering<T, CAP>> ArrayDeque<T, CAP, B> {
         &mut self,
         calls: Vec<Call<T>>,
     ) -> Result<Vec<Reply<T, CAP, B>>, MakeError<Vec<Call<T>>>>
+        ensures whole { IfOk result (λ replies.
+            DequeRun B.policy self.old calls.items replies.items self.new) }
         ensures ok { IfOk result (λ replies.
-            Run B.policy self.old.items calls.items replies.items self.new.items) }
+            MachineRun B.policy self.old.items calls.items replies.items self.new.items) }
         ensures costs { IfOk result (λ replies.
             RunCosts B.policy self.old calls.items replies.items self.new) }
-        ensures fewest { IfOk result (λ replies.
-            RunMovesFewest B.policy self.old calls.items replies.items self.new) }
-        ensures calls_come_back { IfErr result (λ refusal. refusal.source ≡ calls) }
+        ensures source { IfErr result (λ refusal. refusal.source ≡ calls) }
         ensures unchanged { OnErr result (self.new ≡ self.old) }
-        ensures some_calls { OnErr result (0 < length calls.items) }
+        ensures refused { OnErr result (0 < length calls.items) }
     {
         let mut replies = match Vec::with_capacity(self.alloc(), calls.len()) {
             Ok(replies) => replies,
@@ -130,30 +130,24 @@ impl<T: Drop, const CAP: usize, B: Answering<T, CAP>> ArrayDeque<T, CAP, B> {
     }
 }
 
-/// A policy whose deques answer every call.
-pub(crate) trait Answering<T, const CAP: usize>: Behavior {
+/// A policy of the list machine, whose deques answer every call.
+pub(crate) trait MachinePolicy<T, const CAP: usize>: Behavior {
     // What the list machine calls it.
     ghost policy: { Policy };
 
     /// Makes one call of the deque and tells its answer. A refused call leaves the list as it was.
     fn answer(deque: &mut ArrayDeque<T, CAP, Self>, call: Call<T>) -> Reply<T, CAP, Self>
-        ensures answers { Answers policy CAP deque.old.items call (answer_of result)
-            deque.new.items }
-        ensures costs { CallCosts call (answer_of result) deque.old deque.new }
-        ensures fewest { CallMovesFewest CAP call (answer_of result) deque.old deque.new };
+        ensures makes { Makes policy CAP call (answer_of result) deque.old deque.new };
 }
 
-impl<T: Drop, const CAP: usize> Answering<T, CAP> for Saturating {
+impl<T: Drop, const CAP: usize> MachinePolicy<T, CAP> for Saturating {
     ghost policy = { saturating };
 
     fn answer(
         deque: &mut ArrayDeque<T, CAP, Saturating>,
         call: Call<T>,
     ) -> Reply<T, CAP, Saturating>
-        ensures answers { Answers saturating CAP deque.old.items call (answer_of result)
-            deque.new.items }
-        ensures costs { CallCosts call (answer_of result) deque.old deque.new }
-        ensures fewest { CallMovesFewest CAP call (answer_of result) deque.old deque.new }
+        ensures makes { Makes saturating CAP call (answer_of result) deque.old deque.new }
     {
         match call {
             Call::PushFront(element) => deque.answer_push_front(element),
@@ -167,7 +161,7 @@ impl<T: Drop, const CAP: usize> Answering<T, CAP> for Saturating {
                 deque.extend_front(elements);
                 Reply::Done
             }
-            call => deque.answer_alike(call),
+            call => deque.answer_policy_free(call),
         }
     }
 }
@@ -175,9 +169,8 @@ impl<T: Drop, const CAP: usize> Answering<T, CAP> for Saturating {
 impl<T: Drop, const CAP: usize> ArrayDeque<T, CAP, Saturating> {
     /// A push before the first item, where there is room.
     fn answer_push_front(&mut self, element: T) -> Reply<T, CAP, Saturating>
-        ensures answers { Answers saturating CAP self.old.items (PushFront element)
-            (answer_of result) self.new.items }
-        ensures costs { CallCosts (PushFront element) (answer_of result) self.old self.new }
+        ensures makes { Makes saturating CAP (PushFront element) (answer_of result)
+            self.old self.new }
     {
         match self.push_front(element) {
             Ok(()) => Reply::Done,
@@ -187,9 +180,8 @@ impl<T: Drop, const CAP: usize> ArrayDeque<T, CAP, Saturating> {
 
     /// A push behind the last item, where there is room.
     fn answer_push_back(&mut self, element: T) -> Reply<T, CAP, Saturating>
-        ensures answers { Answers saturating CAP self.old.items (PushBack element)
-            (answer_of result) self.new.items }
-        ensures costs { CallCosts (PushBack element) (answer_of result) self.old self.new }
+        ensures makes { Makes saturating CAP (PushBack element) (answer_of result)
+            self.old self.new }
     {
         match self.push_back(element) {
             Ok(()) => Reply::Done,
@@ -199,10 +191,7 @@ impl<T: Drop, const CAP: usize> ArrayDeque<T, CAP, Saturating> {
 
     /// An insert, where the index is in range and there is room.
     fn answer_insert(&mut self, index: usize, element: T) -> Reply<T, CAP, Saturating>
-        ensures answers { Answers saturating CAP self.old.items (Insert index element)
-            (answer_of result) self.new.items }
-        ensures costs { CallCosts (Insert index element) (answer_of result) self.old self.new }
-        ensures fewest { CallMovesFewest CAP (Insert index element) (answer_of result)
+        ensures makes { Makes saturating CAP (Insert index element) (answer_of result)
             self.old self.new }
     {
         if index > self.len() {
@@ -215,14 +204,11 @@ impl<T: Drop, const CAP: usize> ArrayDeque<T, CAP, Saturating> {
     }
 }
 
-impl<T: Drop, const CAP: usize> Answering<T, CAP> for Wrapping {
+impl<T: Drop, const CAP: usize> MachinePolicy<T, CAP> for Wrapping {
     ghost policy = { wrapping };
 
     fn answer(deque: &mut ArrayDeque<T, CAP, Wrapping>, call: Call<T>) -> Reply<T, CAP, Wrapping>
-        ensures answers { Answers wrapping CAP deque.old.items call (answer_of result)
-            deque.new.items }
-        ensures costs { CallCosts call (answer_of result) deque.old deque.new }
-        ensures fewest { CallMovesFewest CAP call (answer_of result) deque.old deque.new }
+        ensures makes { Makes wrapping CAP call (answer_of result) deque.old deque.new }
     {
         match call {
             Call::PushFront(element) => Reply::Displaced(deque.push_front(element)),
@@ -236,19 +222,17 @@ impl<T: Drop, const CAP: usize> Answering<T, CAP> for Wrapping {
                 deque.extend_front(elements);
                 Reply::Done
             }
-            call => deque.answer_alike(call),
+            call => deque.answer_policy_free(call),
         }
     }
 }
 
 impl<T: Drop, const CAP: usize, B: Behavior> ArrayDeque<T, CAP, B> {
-    /// The calls that mean the same under every policy.
-    fn answer_alike(&mut self, call: Call<T>) -> Reply<T, CAP, B>
-        requires { IsAlike call }
-        ensures answers { (p : Policy) →
-            Answers p CAP self.old.items call (answer_of result) self.new.items }
-        ensures costs { CallCosts call (answer_of result) self.old self.new }
-        ensures fewest { CallMovesFewest CAP call (answer_of result) self.old self.new }
+    /// A call whose meaning no policy changes.
+    fn answer_policy_free(&mut self, call: Call<T>) -> Reply<T, CAP, B>
+        requires { IsPolicyFree call }
+        ensures makes { (p : Policy) →
+            Makes p CAP call (answer_of result) self.old self.new }
     {
         match call {
             Call::PopFront => Reply::Item(self.pop_front()),
@@ -283,9 +267,8 @@ impl<T: Drop, const CAP: usize, B: Behavior> ArrayDeque<T, CAP, B> {
 
     /// An exchange of two items, where both are there.
     fn answer_swap(&mut self, i: usize, j: usize) -> Reply<T, CAP, B>
-        ensures answers { (p : Policy) →
-            Answers p CAP self.old.items (Swap i j) (answer_of result) self.new.items }
-        ensures costs { CallCosts (Swap i j) (answer_of result) self.old self.new }
+        ensures makes { (p : Policy) →
+            Makes p CAP (Swap i j) (answer_of result) self.old self.new }
     {
         let len = self.len();
         if i >= len || j >= len {
@@ -297,9 +280,8 @@ impl<T: Drop, const CAP: usize, B: Behavior> ArrayDeque<T, CAP, B> {
 
     /// Another item in the place of one, where it is there.
     fn answer_replace(&mut self, index: usize, element: T) -> Reply<T, CAP, B>
-        ensures answers { (p : Policy) →
-            Answers p CAP self.old.items (Replace index element) (answer_of result) self.new.items }
-        ensures costs { CallCosts (Replace index element) (answer_of result) self.old self.new }
+        ensures makes { (p : Policy) →
+            Makes p CAP (Replace index element) (answer_of result) self.old self.new }
     {
         match self.get_mut(index) {
             Some(item) => Reply::Item(Some(mem::replace(item, element))),
@@ -309,11 +291,8 @@ impl<T: Drop, const CAP: usize, B: Behavior> ArrayDeque<T, CAP, B> {
 
     /// The items of a range that is there, where memory is granted.
     fn answer_drain(&mut self, from: usize, to: usize) -> Reply<T, CAP, B>
-        ensures answers { (p : Policy) →
-            Answers p CAP self.old.items (Drain from to) (answer_of result) self.new.items }
-        ensures costs { CallCosts (Drain from to) (answer_of result) self.old self.new }
-        ensures fewest { CallMovesFewest CAP (Drain from to) (answer_of result)
-            self.old self.new }
+        ensures makes { (p : Policy) →
+            Makes p CAP (Drain from to) (answer_of result) self.old self.new }
     {
         if from > to || to > self.len() {
             return Reply::OutOfRange(None);
@@ -326,9 +305,8 @@ impl<T: Drop, const CAP: usize, B: Behavior> ArrayDeque<T, CAP, B> {
 
     /// The items from an index on, where it is in range and memory is granted.
     fn answer_split_off(&mut self, at: usize) -> Reply<T, CAP, B>
-        ensures answers { (p : Policy) →
-            Answers p CAP self.old.items (SplitOff at) (answer_of result) self.new.items }
-        ensures costs { CallCosts (SplitOff at) (answer_of result) self.old self.new }
+        ensures makes { (p : Policy) →
+            Makes p CAP (SplitOff at) (answer_of result) self.old self.new }
     {
         if at > self.len() {
             return Reply::OutOfRange(None);

@@ -1,0 +1,79 @@
+-- What a call makes of a deque says what it costs.
+use Rattle.std.proofs.Common.{◌≡◌, ℕ, Option, Some, None, ◌+◌, ◌≤◌, List, slice_get, true, false, ◌==◌, if◌then◌else◌, refl, ap, sym, subst, arith}
+use Rattle.std.proofs.lemmas.Bool.Decides.{nat_tests}
+use Rattle.std.proofs.lemmas.Option.{slice_get_within, slice_get_cases}
+use Rattle.arraydeque_ring.specs.Steps.{Steps, more_puts, more_takes}
+use Rattle.arraydeque.specs.Costs.{work_of, cost_of}
+use Rattle.arraydeque.specs.Deque.{DequeState, wrapped_back, wrapped_front}
+use Rattle.arraydeque.specs.Machine.{Answer, done, item, displaced, drained, split}
+use Rattle.arraydeque.specs.Makes.{Makes, displacing, pushed_back, pushed_front}
+use Rattle.arraydeque.specs.Policy.{Policy, saturating, wrapping}
+use Rattle.arraydeque.specs.declared.run.Call.{Call}
+use Rattle.arraydeque.specs.declared.run.Call.TheVariants.{PushFront, PushBack, PopFront, PopBack, Insert, Remove, SwapRemoveBack, SwapRemoveFront, Swap, Replace, Clear, Linearize, ExtendBack, ExtendFront, Extend, Drain, SplitOff}
+
+module _ {X : Type 0} where
+  -- the call, so answered, made as many moves and exchanges as it costs, or fewer if it is a Linearize
+  abbrev pub CallCosts : Call X → Answer X → DequeState X → DequeState X → Type 0
+  CallCosts Linearize a old new = work_of new.steps ≤ work_of old.steps + cost_of Linearize a old.items
+  CallCosts c a old new = work_of new.steps ≡ work_of old.steps + cost_of c a old.items
+
+  -- a push moves and exchanges nothing
+  displacing-work : (n : ℕ) (y : Option X) (s : Steps) → work_of (displacing n y s) ≡ work_of s
+  displacing-work n None s = refl
+  displacing-work n (Some x) s = elim (n == 0) as (λ b. work_of (if b then s else more_puts 1 (more_takes 1 s)) ≡ work_of s) [ true ↦ refl | false ↦ refl ]
+
+  pushed_back-work : (p : Policy) (n : ℕ) (xs : List X) (old : DequeState X) → work_of (pushed_back p n xs old).steps ≡ work_of old.steps
+  pushed_back-work saturating n xs old = refl
+  pushed_back-work wrapping n xs old = elim (n == 0) as (λ b. work_of (if b then old else wrapped_back n xs old).steps ≡ work_of old.steps) [ true ↦ refl | false ↦ refl ]
+
+  pushed_front-work : (p : Policy) (n : ℕ) (xs : List X) (old : DequeState X) → work_of (pushed_front p n xs old).steps ≡ work_of old.steps
+  pushed_front-work saturating n xs old = refl
+  pushed_front-work wrapping n xs old = elim (n == 0) as (λ b. work_of (if b then old else wrapped_front n xs old).steps ≡ work_of old.steps) [ true ↦ refl | false ↦ refl ]
+
+module _ {X : Type 0} (p : Policy) (n : ℕ) (old new : DequeState X) where
+  -- a removal by an exchange exchanges two items, unless the item stands at that end already
+  swap_remove_back-costs : (i : ℕ) (taken : Option X) → taken ≡ slice_get old.items i → Makes p n (SwapRemoveBack i) (item taken) old new → CallCosts (SwapRemoveBack i) (item taken) old new
+  swap_remove_back-costs i (Some x) at made =
+      let there = slice_get_within old.items i x (sym at) in
+      grind (arith, nat_tests, ap work_of made.steps)
+  swap_remove_back-costs i None at made = grind (arith, nat_tests, slice_get_cases old.items i, ap work_of made.steps)
+
+  swap_remove_front-costs : (i : ℕ) (taken : Option X) → taken ≡ slice_get old.items i → Makes p n (SwapRemoveFront i) (item taken) old new → CallCosts (SwapRemoveFront i) (item taken) old new
+  swap_remove_front-costs i (Some x) at made =
+      let there = slice_get_within old.items i x (sym at) in
+      grind (arith, nat_tests, ap work_of made.steps)
+  swap_remove_front-costs i None at made = grind (arith, nat_tests, slice_get_cases old.items i, ap work_of made.steps)
+
+  -- an exchange that is refused exchanges nothing
+  swap-costs : (i j : ℕ) (a : Answer X) → Makes p n (Swap i j) a old new → CallCosts (Swap i j) a old new
+  swap-costs i j done made = grind (arith, nat_tests, ap work_of made.steps, made.list)
+  swap-costs i j _ made = grind (arith, nat_tests, ap work_of made.steps, made.list)
+
+  linearize-costs : (a : Answer X) → a ≡ done → Makes p n Linearize a old new → CallCosts Linearize a old new
+  linearize-costs done is made =
+      let steps = made.steps in
+      grind (arith, nat_tests, ap work_of steps.3, steps.2)
+  linearize-costs _ is made = cc
+
+  -- each call costs what it makes
+  pub call_costs : (c : Call X) (a : Answer X) → Makes p n c a old new → CallCosts c a old new
+  call_costs (PushFront x) done made = omega (arith, ap work_of made.steps)
+  call_costs (PushFront x) (displaced y) made = omega (arith, ap work_of made.steps, displacing-work n y old.steps)
+  call_costs (PushBack x) done made = omega (arith, ap work_of made.steps)
+  call_costs (PushBack x) (displaced y) made = omega (arith, ap work_of made.steps, displacing-work n y old.steps)
+  call_costs (Insert i x) done made = omega (arith, ap work_of made.steps)
+  call_costs PopFront (item (Some x)) made = omega (arith, ap work_of made.steps)
+  call_costs PopBack (item (Some x)) made = omega (arith, ap work_of made.steps)
+  call_costs (Remove i) (item (Some x)) made = omega (arith, ap work_of made.steps)
+  call_costs (SwapRemoveBack i) a made = subst (λ b. Makes p n (SwapRemoveBack i) b old new → CallCosts (SwapRemoveBack i) b old new) (sym made.list.0) (swap_remove_back-costs i _ refl) made
+  call_costs (SwapRemoveFront i) a made = subst (λ b. Makes p n (SwapRemoveFront i) b old new → CallCosts (SwapRemoveFront i) b old new) (sym made.list.0) (swap_remove_front-costs i _ refl) made
+  call_costs (Swap i j) a made = swap-costs i j a made
+  call_costs (Replace i x) (item y) made = omega (arith, ap work_of made.steps)
+  call_costs Clear done made = omega (arith, ap work_of made.steps)
+  call_costs Linearize a made = linearize-costs a made.list.0 made
+  call_costs (Drain from to) (drained xs) made = omega (arith, ap work_of made.steps)
+  call_costs (SplitOff at) (split xs) made = omega (arith, ap work_of made.steps)
+  call_costs (ExtendBack v) done made = omega (arith, ap work_of made.steps, pushed_back-work p n v.items old)
+  call_costs (ExtendFront v) done made = omega (arith, ap work_of made.steps, pushed_front-work p n v.items old)
+  call_costs (Extend v) done made = omega (arith, ap work_of made.steps, pushed_back-work p n v.items old)
+  call_costs _ _ made = omega (arith, ap work_of made.steps)
