@@ -7,7 +7,8 @@ use Rattle.std.proofs.lemmas.List.{same_lists, length-take, get_or-take}
 use Rattle.std.specs.Option.{unwrap_or}
 use Rattle.std.specs.Iterator.{Yields, Drains}
 use Rattle.std.specs.Iterator.Runs.{Run, ItemsAre, YieldsInOrder}
-use Rattle.arraydeque.specs.Sources.{TakesFrom, TakesAll, Fills}
+use Rattle.arraydeque_ring.specs.Fills.{Fills, Ends}
+use Rattle.arraydeque.specs.Sources.{TakesFrom, TakesAll}
 
 -- a run over a list gives the first n of it, where it gives at most n items, and fewer only at its end
 pub items-first : {S A : Type 0} {gives : S → Option A → S → Type 0} (run : Run gives) (n : ℕ) (xs : List A)
@@ -20,18 +21,6 @@ items-first run n xs are at_most fewer =
     same_lists run.items (take n xs) (omega (arith, run.long, length-take n xs)) (λ k d below.
     let here : k < run.len = omega (arith, run.long) in
     ap (λ o. unwrap_or o d) (sym (run.reads k d here) ∙ are.2 k d here) ∙ sym (get_or-take n xs k d (omega arith)))
-
--- of a loop that took xs from an iterator, while there was room
-module _ {S A : Type 0} (gives : S → Option A → S → Type 0) (from last : S) (n : ℕ) (P : List A → Type 0) (xs : List A) (yielded : Yields gives from xs last) (holds : P xs) where
-  -- and then a None
-  pub Fills-ended : (to : S) → gives last None to → length xs ≤ n → Fills gives from to n true P
-  Fills-ended to ended at_most =
-      record { items = xs; last = last; yielded = yielded; at_most = at_most; none = λ _. ended; all = λ some. absurd (true≢false some); holds = holds }
-
-  -- until there was none
-  pub Fills-all : length xs ≡ n → Fills gives from last n false P
-  Fills-all long =
-      record { items = xs; last = last; yielded = yielded; at_most = omega arith; none = λ none. absurd (true≢false (sym none)); all = λ _. (refl, long); holds = holds }
 
 module _ {Source S A : Type 0} (becomes : Source → S → Type 0) (gives : S → Option A → S → Type 0) (source : Source) (P : List A → Type 0) where
   -- of a source whose iterator shows the list xs
@@ -65,7 +54,7 @@ module _ {Source S A : Type 0} (becomes : Source → S → Type 0) (gives : S �
         let ran = run_of_exit gives s xs last yielded end ended in
         record { iterator = s; became = became; run = ran.0; from_it = ran.1; to_end = ran.2; holds = subst P (sym ran.3.0) holds }
 
-  -- by a fill, and by a loop over what it left
+  -- by a fill, and by what takes all that it left
   module _ (s t : S) (became : becomes source s) (n : ℕ) (ended : Bool) (Q : List A → Type 0) (filled : Fills gives s t n ended Q) where
     pub TakesFrom-fills : ((xs : List A) → Q xs → P xs) → TakesFrom becomes gives source n P
     TakesFrom-fills holds = record {
@@ -81,9 +70,9 @@ module _ {Source S A : Type 0} (becomes : Source → S → Type 0) (gives : S �
     pub TakesAll-fills : ended ≡ true → ((xs : List A) → length xs ≤ n → Q xs → P xs) → TakesAll becomes gives source P
     TakesAll-fills none holds = TakesAll-loop s became filled.items (holds filled.items filled.at_most filled.holds) filled.last t filled.yielded (filled.none none)
 
-    pub TakesAll-filled : ended ≡ false → (ys : List A) (last end : S) → Yields gives t ys last → gives last None end
-        → ((xs : List A) → length xs ≡ n → Q xs → P (xs ++ ys)) → TakesAll becomes gives source P
-    TakesAll-filled some ys last end yielded none holds =
+    pub TakesAll-both : {R : List A → Type 0} → Ends gives t R → ended ≡ false → ((xs ys : List A) → length xs ≡ n → Q xs → R ys → P (xs ++ ys)) → TakesAll becomes gives source P
+    TakesAll-both rest some holds =
         let all = filled.all some in
-        TakesAll-loop s became (filled.items ++ ys) (holds filled.items all.1 filled.holds) last end
-        (Yields-both gives filled.items ys s t last (subst (Yields gives s filled.items) all.0 filled.yielded) yielded) none
+        let drained = rest.drains.1 in
+        TakesAll-loop s became (filled.items ++ rest.items) (holds filled.items rest.items all.1 filled.holds rest.holds) drained.0 rest.drains.0
+        (Yields-both gives filled.items rest.items s t drained.0 (subst (Yields gives s filled.items) all.0 filled.yielded) drained.1) drained.2

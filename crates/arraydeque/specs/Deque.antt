@@ -1,6 +1,6 @@
 -- What a contract sees of a deque.
-use Rattle.std.specs.Prelude.{◌≡◌, ℕ, ◌<◌, ◌+◌, ◌-◌, ◌*◌, List, [], ◌++◌, length, take, drop, reverse, slice_get, Option, nat_lt, if◌then◌else◌}
-use Rattle.arraydeque_ring.specs.Ring.{RingState, place_of}
+use Rattle.std.specs.Prelude.{◌≡◌, ℕ, ◌<◌, ◌+◌, ◌-◌, List, [], ◌++◌, length, take, drop, reverse, slice_get, Option, nat_lt, if◌then◌else◌}
+use Rattle.arraydeque_ring.specs.Ring.{RingState, place_of, back_by}
 use Rattle.arraydeque_ring.specs.Steps.{Steps, no_steps, more_puts, more_takes}
 
 -- a deque: its items from front to back, the place of the first in its region, and the steps of
@@ -9,10 +9,6 @@ pub record DequeState (X : Type 0) : Type 0 where
   pub items : List X
   pub start : ℕ
   pub steps : Steps
-
--- the start after it went k places back, one by one, in a region of n places
-abbrev pub back_by : ℕ → ℕ → ℕ → ℕ
-back_by k start n = if nat_lt 0 k then place_of start (k * (n - 1)) n else start
 
 module _ {X : Type 0} where
   abbrev pub empty_deque : DequeState X

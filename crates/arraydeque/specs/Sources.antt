@@ -1,6 +1,5 @@
 -- What a source of items gives, once it is turned into an iterator.
-use Rattle.std.specs.Prelude.{◌≡◌, ℕ, ◌<◌, ◌≤◌, List, length, Bool, Option, None, true, false}
-use Rattle.std.specs.Iterator.{Yields}
+use Rattle.std.specs.Prelude.{◌≡◌, ℕ, ◌<◌, ◌≤◌, List, Option, true}
 use Rattle.std.specs.Iterator.Runs.{Run}
 
 -- whatever iterator the source becomes may be called
@@ -29,15 +28,3 @@ module _ {Source S A : Type 0} (becomes : Source → S → Type 0)
     pub from_it : run.from ≡ iterator
     pub to_end : run.whole ≡ true
     pub holds : P run.items
-
--- calls took the iterator from `from` to `to` and gave at most n items, and fewer only where a None
--- came after them, which `ended` tells, and P holds of these items
-pub record Fills {S A : Type 0} (gives : S → Option A → S → Type 0) (from to : S) (n : ℕ)
-    (ended : Bool) (P : List A → Type 0) : Type 0 where
-  pub items : List A
-  pub last : S
-  pub yielded : Yields gives from items last
-  pub at_most : length items ≤ n
-  pub none : ended ≡ true → gives last None to
-  pub all : ended ≡ false → (last ≡ to) × (length items ≡ n)
-  pub holds : P items

@@ -1,6 +1,8 @@
 pub mod Changed
+pub mod Cloned
 pub mod Counted
 pub mod Exchanged
+pub mod Fills
 pub mod Gaps
 pub mod Lends
 pub mod Loans

@@ -1,5 +1,5 @@
 -- A list in the places of a region, round the region's end.
-use Rattle.std.specs.Prelude.{◌≡◌, ℕ, ◌+◌, ◌-◌, ◌%◌, ◌≤◌, List, [], ◌∷◌, ◌++◌, length, map, take, drop, replicate, Option, Some, None, Bool, true, false, is_some}
+use Rattle.std.specs.Prelude.{◌≡◌, ℕ, ◌+◌, ◌-◌, ◌*◌, ◌%◌, ◌≤◌, nat_lt, if◌then◌else◌, List, [], ◌∷◌, ◌++◌, length, map, take, drop, replicate, Option, Some, None, Bool, true, false, is_some}
 use Rattle.arraydeque_ring.specs.Steps.{Steps, no_steps}
 
 -- a ring: its items from front to back, how many there may be, the place of the first, and the
@@ -13,6 +13,14 @@ pub record RingState (X : Type 0) : Type 0 where
 -- the place of item k, where the first item stands at `start`
 abbrev pub place_of : ℕ → ℕ → ℕ → ℕ
 place_of start k capacity = (start + k) % capacity
+
+-- the start after it went k places on, one by one, in a region of n places
+abbrev pub on_by : ℕ → ℕ → ℕ → ℕ
+on_by k start n = if nat_lt 0 k then place_of start k n else start
+
+-- the start after it went k places back, one by one, in a region of n places
+abbrev pub back_by : ℕ → ℕ → ℕ → ℕ
+back_by k start n = if nat_lt 0 k then place_of start (k * (n - 1)) n else start
 
 module _ {X : Type 0} where
   abbrev pub empty_ring : ℕ → RingState X

@@ -2,13 +2,15 @@
 //!
 //! A contract sees a [`Ring`] as its items from front to back, its capacity, the place of its first
 //! item and the steps of its region. A ring knows no policy: a push asks for room.
-ghost use Rattle.std.specs.Prelude.{◌≡◌, ◌-◌, ◌*◌, ◌+◌, ◌^◌, ◌<◌, ◌≤◌, ◌==◌, [], ◌∷◌, ◌++◌, length, take, drop, slice_get, nat_lt, min, Some, if◌then◌else◌, option_copied, IfOk, OnErr, OnSome, IfNone};
+ghost use Rattle.std.specs.Prelude.{◌≡◌, ◌-◌, ◌*◌, ◌+◌, ◌^◌, ◌<◌, ◌≤◌, ◌==◌, [], ◌∷◌, ◌++◌, length, take, drop, slice_get, Some, if◌then◌else◌, option_copied, IfOk, OnErr, OnSome, IfNone};
 ghost use Rattle.std.specs.Borrow.{sem};
 ghost use Rattle.std.specs.Mem.{type_size};
 ghost use Rattle.std.specs.Option.{option_copied_mut};
 ghost use Rattle.arraydeque_ring.specs.Ring.{empty_ring, place_of, IsInOnePiece};
 ghost use Rattle.arraydeque_ring.specs.Steps.{more_puts, more_takes};
 
+mod copies;
+mod fill;
 pub mod into_iter;
 mod lends;
 mod linearize;
@@ -104,18 +106,10 @@ impl<T> Ring<T> {
         self.len += 1;
     }
 
-    /// Whether there is a place between the last item and the region's end, behind the last item.
-    #[inline(always)]
-    pub fn has_room_to_end(&self) -> bool
-        ensures { result ≡ nat_lt (self.now.start + length self.now.items) self.now.capacity }
-    {
-        self.len < self.slots.capacity() - self.start
-    }
-
     /// Adds an item behind the last one, in a place before the region's end. Many such in a row
     /// fill places in a row.
     #[inline(always)]
-    pub fn push_to_end(&mut self, item: T)
+    fn push_to_end(&mut self, item: T)
         requires { self.old.start + length self.old.items < self.old.capacity }
         ensures { self.new ≡ record self.old {
           items = self.old.items ++ item ∷ [];
@@ -125,22 +119,6 @@ impl<T> Ring<T> {
         // That no sum passes `usize::MAX` is known of the capacity.
         let _capacity = self.slots.capacity();
         self.slots.put(self.start + self.len, item);
-        self.len += 1;
-    }
-
-    /// Adds an item behind the last one, where no place is left between them and the region's end.
-    /// Many such in a row fill places in a row.
-    #[inline(always)]
-    pub fn push_past_end(&mut self, item: T)
-        requires room { length self.old.items < self.old.capacity }
-        requires no_room_to_end { self.old.capacity ≤ self.old.start + length self.old.items }
-        ensures { self.new ≡ record self.old {
-          items = self.old.items ++ item ∷ [];
-          steps = more_puts 1 self.old.steps;
-        } }
-    {
-        let to_end = self.slots.capacity() - self.start;
-        self.slots.put(self.len - to_end, item);
         self.len += 1;
     }
 
@@ -157,35 +135,6 @@ impl<T> Ring<T> {
         let before = self.place(self.slots.capacity() - 1);
         self.slots.put(before, item);
         self.start = before;
-        self.len += 1;
-    }
-
-    /// How long the list can get at its front before a place wraps. As long as it is shorter, items
-    /// can be put by [`Ring::push_before`].
-    #[inline(always)]
-    pub fn len_before_wrap(&self) -> usize
-        ensures { let len = length self.now.items in
-            result ≡ len + min self.now.start (self.now.capacity - len) }
-    {
-        self.len + self.start.min(self.slots.capacity() - self.len)
-    }
-
-    /// Adds an item before the first one, where the list doesn't start at the region's first place.
-    /// Many such in a row fill places in a row.
-    #[inline(always)]
-    pub fn push_before(&mut self, item: T)
-        requires room { length self.old.items < self.old.capacity }
-        requires place_before { 0 < self.old.start }
-        ensures { self.new ≡ record self.old {
-          items = item ∷ self.old.items;
-          start = self.old.start - 1;
-          steps = more_puts 1 self.old.steps;
-        } }
-    {
-        // That no sum passes `usize::MAX` is known of the capacity.
-        let _capacity = self.slots.capacity();
-        self.start -= 1;
-        self.slots.put(self.start, item);
         self.len += 1;
     }
 
@@ -213,7 +162,7 @@ impl<T> Ring<T> {
     /// How many items stand in the region's last place and, round its end, behind it. All others
     /// can be taken off by [`Ring::take_before_end`], one after the other.
     #[inline(always)]
-    pub fn len_from_last_place(&self) -> usize
+    fn len_from_last_place(&self) -> usize
         ensures { result ≡ length self.now.items - (self.now.capacity - 1 - self.now.start) }
     {
         let to_end = self.slots.capacity() - self.start;
@@ -223,7 +172,7 @@ impl<T> Ring<T> {
     /// Takes the first item off, as [`Ring::pop_front`] does, where the next place is before the
     /// region's end. Many such in a row empty places in a row.
     #[inline(always)]
-    pub fn take_before_end(&mut self) -> T
+    fn take_before_end(&mut self) -> T
         requires some { 0 < length self.old.items }
         requires before_end { self.old.start + 1 < self.old.capacity }
         ensures value { Some result ≡ slice_get self.old.items 0 }
@@ -257,26 +206,6 @@ impl<T> Ring<T> {
         let last = self.place(self.len - 1);
         self.len -= 1;
         Some(self.slots.take(last))
-    }
-
-    /// Takes the first item off a ring that is full, and puts another in its place, so that it
-    /// stands behind the last one. The start goes on to the next place, and no kept item moves.
-    #[inline(always)]
-    pub fn replace_first(&mut self, item: T) -> T
-        requires some { 0 < self.old.capacity }
-        requires full { length self.old.items ≡ self.old.capacity }
-        ensures value { Some result ≡ slice_get self.old.items 0 }
-        ensures replaced { self.new ≡ record self.old {
-          items = drop 1 self.old.items ++ item ∷ [];
-          start = place_of self.old.start 1 self.old.capacity;
-          steps = more_puts 1 (more_takes 1 self.old.steps);
-        } }
-    {
-        let next = self.place(1);
-        let first = self.slots.take(self.start);
-        self.slots.put(self.start, item);
-        self.start = next;
-        first
     }
 
     /// The item at an index, if there is one. Index 0 is the front.
@@ -324,7 +253,7 @@ impl<T> Ring<T> {
 
     /// The ring itself, in whose place one of no places is left.
     #[inline]
-    pub fn moved_out(&mut self) -> Ring<T>
+    fn moved_out(&mut self) -> Ring<T>
         ensures value { result ≡ self.old }
         ensures left { self.new ≡ empty_ring 0 }
     {
@@ -338,7 +267,7 @@ impl<T> Ring<T> {
 
     /// Becomes another ring. It must hold no item itself, and gives its own region back.
     #[inline]
-    pub fn move_in(&mut self, ring: Ring<T>)
+    fn move_in(&mut self, ring: Ring<T>)
         requires { self.old.items ≡ [] }
         ensures { self.new ≡ ring }
     {
@@ -346,7 +275,7 @@ impl<T> Ring<T> {
     }
 
     /// Gives the region of a ring that holds no item back.
-    pub fn give_back(self)
+    fn give_back(self)
         requires { self.items ≡ [] }
     {
         let Ring {

@@ -1,7 +1,7 @@
 //! A second deque of clones of the items.
-ghost use Rattle.std.specs.Prelude.{◌≡◌, ◌⊎◌, ◌<◌, ◌≤◌, ◌+◌, ◌*◌, length, Any, IfOk, OnOk, OnErr};
+ghost use Rattle.std.specs.Prelude.{◌≡◌, ◌⊎◌, ◌<◌, ◌*◌, Any, IfOk, OnErr};
 ghost use Rattle.std.specs.Mem.{type_size};
-ghost use Rattle.arraydeque.specs.Cloned.{ClonesAreSame};
+ghost use Rattle.arraydeque_ring.specs.Cloned.{ClonesAreSame};
 ghost use Rattle.arraydeque.specs.Deque.{empty_deque, with_back};
 
 use super::ArrayDeque;
@@ -29,28 +29,7 @@ impl<T: Clone, const CAP: usize, B: Behavior> ArrayDeque<T, CAP, B> {
         ensures refused { OnErr result
             ((0 < CAP * type_size T.row) ⊎ Any (λ x. ¬ T.is_infallible x) self.now.items) }
     {
-        let mut clones = Self::new(self.alloc())?;
-        // That the list is within the capacity is what `len` promises.
-        let _len = self.len();
-        let (front, back) = self.as_slices();
-        clones.clone_back(front)?;
-        clones.clone_back(back)?;
-        Ok(clones)
-    }
-
-    /// Puts a clone of each item behind the last one, where the list starts at the first place and
-    /// there is room.
-    #[inline]
-    fn clone_back(&mut self, items: &[T]) -> Result<(), AllocError>
-        requires first_place { self.old.start ≡ 0 }
-        requires room { length self.old.items + length items.now ≤ CAP }
-        requires same { ClonesAreSame T.is_clone items.now }
-        ensures ok { OnOk result (self.new ≡ with_back items.now self.old) }
-        ensures refused { OnErr result (Any (λ x. ¬ T.is_infallible x) items.now) }
-    {
-        for item in items {
-            self.ring.push_to_end(item.clone()?);
-        }
-        Ok(())
+        let ring = self.ring.clone()?;
+        Ok(Self::of(ring))
     }
 }

@@ -2,7 +2,8 @@
 ghost use Rattle.std.specs.Prelude.{◌≡◌, ◌<◌, ◌≤◌, ◌-◌, ◌++◌, length, reverse, take, false, IsOk};
 ghost use Rattle.std.specs.Iterator.{IsFinite, IsFiniteIterable, ExtendsWithItems};
 ghost use Rattle.arraydeque.specs.Deque.{keep_last, with_back, with_front, wrapped_back, wrapped_front, WrapsBack};
-ghost use Rattle.arraydeque.specs.Sources.{IsIterable, Fills, TakesFrom, TakesAll};
+ghost use Rattle.arraydeque.specs.Sources.{IsIterable, TakesFrom, TakesAll};
+ghost use Rattle.arraydeque_ring.specs.Fills.{Fills, Ends};
 
 use super::ArrayDeque;
 use crate::behavior::{Behavior, Saturating, Wrapping};
@@ -52,9 +53,8 @@ impl<T, const CAP: usize> ArrayDeque<T, CAP, Saturating> {
 }
 
 impl<T, const CAP: usize, B: Behavior> ArrayDeque<T, CAP, B> {
-    /// Puts what the iterator gives behind the last item while there is room: in a row up to the
-    /// region's end, and then in a row from the first place on. Returns whether the iterator ended
-    /// before that.
+    /// Puts what the iterator gives behind the last item while there is room. Returns whether the
+    /// iterator ended before that.
     #[inline(always)]
     fn fill_back<I: Iterator<Item = T>>(&mut self, elements: &mut I) -> bool
         requires { I.can_next elements.old }
@@ -64,28 +64,11 @@ impl<T, const CAP: usize, B: Behavior> ArrayDeque<T, CAP, B> {
         ensures goes { result ≡ false → I.can_next elements.new
             × (IsFinite (I.remaining elements.old) → IsFinite (I.remaining elements.new)) }
     {
-        let mut ring = self.ring.moved_out();
-        while ring.has_room_to_end() {
-            let Some(element) = elements.next() else {
-                self.ring.move_in(ring);
-                return true;
-            };
-            ring.push_to_end(element);
-        }
-        while ring.len() < CAP {
-            let Some(element) = elements.next() else {
-                self.ring.move_in(ring);
-                return true;
-            };
-            ring.push_past_end(element);
-        }
-        self.ring.move_in(ring);
-        false
+        self.ring.fill_back(elements)
     }
 
-    /// Puts what the iterator gives before the first item, one by one, while there is room: in a
-    /// row down to the region's first place, and then in a row from its end on. Returns whether the
-    /// iterator ended before that.
+    /// Puts what the iterator gives before the first item, one by one, while there is room. Returns
+    /// whether the iterator ended before that.
     #[inline(always)]
     fn fill_front<I: Iterator<Item = T>>(&mut self, elements: &mut I) -> bool
         requires { I.can_next elements.old }
@@ -95,22 +78,18 @@ impl<T, const CAP: usize, B: Behavior> ArrayDeque<T, CAP, B> {
         ensures goes { result ≡ false → I.can_next elements.new
             × (IsFinite (I.remaining elements.old) → IsFinite (I.remaining elements.new)) }
     {
-        let mut ring = self.ring.moved_out();
-        let mut reach = ring.len_before_wrap();
-        while ring.len() < CAP {
-            let Some(element) = elements.next() else {
-                self.ring.move_in(ring);
-                return true;
-            };
-            if ring.len() < reach {
-                ring.push_before(element);
-            } else {
-                ring.push_front(element);
-                reach = ring.len_before_wrap();
-            }
-        }
-        self.ring.move_in(ring);
-        false
+        self.ring.fill_front(elements)
+    }
+}
+
+/// Drops what the iterator gives, until it ends.
+fn drop_all<T: Drop, I: Iterator<Item = T>>(elements: I)
+    requires may { I.can_next elements }
+    requires ends { IsFinite (I.remaining elements) }
+    ensures { Ends I.next_gives elements (λ xs. Unit {0}) }
+{
+    for element in elements {
+        drop(element);
     }
 }
 
@@ -137,13 +116,11 @@ impl<T: Drop, const CAP: usize> ArrayDeque<T, CAP, Wrapping> {
         if self.fill_back(&mut elements) {
             return;
         }
-        let mut ring = self.ring.moved_out();
-        for element in elements {
-            if CAP > 0 {
-                drop(ring.replace_first(element));
-            }
+        if CAP == 0 {
+            drop_all(elements);
+            return;
         }
-        self.ring.move_in(ring);
+        self.ring.displace_first(elements);
     }
 
     /// Adds the items of an iterator at the front, one by one: the last one comes to stand first.
@@ -168,11 +145,11 @@ impl<T: Drop, const CAP: usize> ArrayDeque<T, CAP, Wrapping> {
         if self.fill_front(&mut elements) {
             return;
         }
-        let mut deque = Self::of(self.ring.moved_out());
-        for element in elements {
-            drop(deque.push_front(element));
+        if CAP == 0 {
+            drop_all(elements);
+            return;
         }
-        self.ring.move_in(deque.into_ring());
+        self.ring.displace_last(elements);
     }
 }
 
@@ -201,11 +178,10 @@ impl<T: Drop, const CAP: usize> Extend<T> for ArrayDeque<T, CAP, Saturating> {
         ensures ok { IsOk result }
     {
         let mut elements = iter.into_iter();
-        if !self.fill_back(&mut elements) {
-            for element in elements {
-                drop(element);
-            }
+        if self.fill_back(&mut elements) {
+            return Ok(());
         }
+        drop_all(elements);
         Ok(())
     }
 }

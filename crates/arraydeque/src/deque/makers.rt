@@ -1,5 +1,5 @@
 //! Deques made of other collections, and collections made of a deque.
-ghost use Rattle.std.specs.Prelude.{◌≡◌, ◌<◌, ◌*◌, ◌+◌, ◌≤◌, length, take, IfOk, IfErr, OnErr};
+ghost use Rattle.std.specs.Prelude.{◌≡◌, ◌<◌, ◌*◌, length, take, IfOk, IfErr, OnErr};
 ghost use Rattle.std.specs.Iterator.{IsFiniteIterable};
 ghost use Rattle.std.specs.Mem.{type_size};
 ghost use Rattle.arraydeque.specs.Deque.{empty_deque, keep_last, with_back, wrapped_back};
@@ -8,6 +8,7 @@ ghost use Rattle.arraydeque.specs.Sources.{IsIterable, TakesFrom, TakesAll};
 use super::ArrayDeque;
 use crate::behavior::{Behavior, Saturating, Wrapping};
 use crate::error::MakeError;
+use arraydeque_ring::ring::Ring;
 use std::alloc::Global;
 use std::marker::PhantomData;
 
@@ -77,12 +78,9 @@ impl<T, const CAP: usize> ArrayDeque<T, CAP, Saturating> {
         ensures source { IfErr result (λ refusal. refusal.source ≡ a) }
         ensures refused { OnErr result (0 < CAP * type_size T.row) }
     {
-        match Self::new(alloc) {
-            Ok(mut deque) => {
-                let items = &a[..];
-                deque.copy_back(&items[..N.min(CAP)]);
-                Ok(deque)
-            }
+        let items = &a[..];
+        match Ring::of_copies(alloc, CAP, &items[..N.min(CAP)]) {
+            Ok(ring) => Ok(Self::of(ring)),
             Err(_) => Err(MakeError { source: a }),
         }
     }
@@ -157,29 +155,10 @@ impl<T: Drop, const CAP: usize> ArrayDeque<T, CAP, Wrapping> {
         ensures source { IfErr result (λ refusal. refusal.source ≡ a) }
         ensures refused { OnErr result (0 < CAP * type_size T.row) }
     {
-        match Self::new(alloc) {
-            Ok(mut deque) => {
-                let items = &a[..];
-                deque.copy_back(&items[N.saturating_sub(CAP)..]);
-                Ok(deque)
-            }
+        let items = &a[..];
+        match Ring::of_copies(alloc, CAP, &items[N.saturating_sub(CAP)..]) {
+            Ok(ring) => Ok(Self::of(ring)),
             Err(_) => Err(MakeError { source: a }),
-        }
-    }
-}
-
-impl<T, const CAP: usize, B: Behavior> ArrayDeque<T, CAP, B> {
-    /// Copies items behind the last one, where the list starts at the first place and has room.
-    #[inline]
-    fn copy_back(&mut self, items: &[T])
-    where
-        T: Copy,
-        requires first_place { self.old.start ≡ 0 }
-        requires room { length self.old.items + length items.now ≤ CAP }
-        ensures { self.new ≡ with_back items.now self.old }
-    {
-        for item in items {
-            self.ring.push_to_end(*item);
         }
     }
 }
@@ -201,23 +180,13 @@ impl<T, const CAP: usize, B: Behavior> ArrayDeque<T, CAP, B> {
         ensures source { IfErr result (λ refusal. refusal.source ≡ self) }
         ensures refused { OnErr result (0 < length self.items) }
     {
-        let mut v = match Vec::with_capacity(self.alloc(), self.len()) {
-            Ok(v) => v,
-            Err(_) => return Err(MakeError { source: self }),
-        };
-        let ArrayDeque {
-            mut ring,
-            behavior: _,
-        } = self;
-        let rest = ring.len_from_last_place();
-        while ring.len() > rest {
-            v.push_reserved(ring.take_before_end());
+        let ArrayDeque { ring, behavior } = self;
+        match ring.into_vec() {
+            Ok(v) => Ok(v),
+            Err(ring) => Err(MakeError {
+                source: ArrayDeque { ring, behavior },
+            }),
         }
-        while let Some(item) = ring.pop_front() {
-            v.push_reserved(item);
-        }
-        ring.give_back();
-        Ok(v)
     }
 }
 

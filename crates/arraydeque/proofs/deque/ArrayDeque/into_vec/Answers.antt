@@ -1,15 +1,10 @@
-use Rattle.std.proofs.Common.{◌≡◌, List, [], ◌++◌, sym, ap, ◌∙◌, arith}
-use Rattle.std.proofs.lemmas.Grind.{common_steps}
-use Rattle.std.proofs.lemmas.List.{append-nil}
+use Rattle.std.proofs.Common.{ap, ◌∙◌}
+use Rattle.arraydeque.specs.Deque.{DequeState}
+use Rattle.arraydeque.proofs.Pushed.{of_ring}
 use Rattle.arraydeque.proofs.deque.ArrayDeque.into_vec.Goals as goal
 
-pub returns-clause-items : goal.returns-clause-items
-returns-clause-items g c =
-    let empty : c.loop-item.ring.items ≡ [] = grind (arith, common_steps) in
-    sym (append-nil _) ∙ ap (λ (xs : List g.row.T.Denot). c.loop-item.v.items ++ xs) (sym empty) ∙ c.loop-item.invariant.items
+pub returns-in-Ok-clause-items : goal.returns-in-Ok-clause-items
+returns-in-Ok-clause-items g c = c.in-Ok.ensures.items ∙ ap (λ (d : DequeState g.row.T.Denot). d.items) c.self.view_is
 
-pub loop-v-preserved : goal.loop-v-preserved
-loop-v-preserved g c = grind (arith, common_steps)
-
-pub loop-item-preserved : goal.loop-item-preserved
-loop-item-preserved g c = grind (arith, common_steps)
+pub returns-in-Err-clause-source : goal.returns-in-Err-clause-source
+returns-in-Err-clause-source g c = ap of_ring c.in-Err.ensures.source ∙ c.self.view_is

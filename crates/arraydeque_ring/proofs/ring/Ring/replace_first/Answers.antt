@@ -6,7 +6,7 @@ use Rattle.arraydeque_ring.specs.Places.{IsEmpty}
 use Rattle.arraydeque_ring.specs.Ring.{place_of}
 use Rattle.arraydeque_ring.specs.Steps.{more_puts, more_takes}
 use Rattle.arraydeque_ring.proofs.moved.Filled.{place_of-on}
-use Rattle.arraydeque_ring.proofs.places.LaidOut.{LaidOut, held_at-start, IsFilled-start, IsEmpty-place_of, LaidOut-take_front, LaidOut-put_back}
+use Rattle.arraydeque_ring.proofs.places.LaidOut.{LaidOut, IsFilled-start, IsEmpty-place_of, LaidOut-take_front, LaidOut-put_back}
 use Rattle.arraydeque_ring.proofs.places.Opened.{Opened, opened, closed, kept, placed}
 use Rattle.arraydeque_ring.proofs.ring.Ring.replace_first.Given.{Over}
 use Rattle.arraydeque_ring.proofs.ring.Ring.replace_first.Goals as goal
@@ -55,10 +55,5 @@ replaced g c =
 pub invariant_of-self : goal.invariant_of-self
 invariant_of-self g c = kept (replaced g c)
 
-pub returns-clause-value : goal.returns-clause-value
-returns-clause-value g c =
-    let ring = opened c.self.inside c.self.invariant c.self.view_is in
-    sym c.take-first.ensures.value ∙ held_at-start ring.laid c.requires.some
-
-pub returns-clause-replaced : goal.returns-clause-replaced
-returns-clause-replaced g c = closed (replaced g c)
+pub returns : goal.returns
+returns g c = closed (replaced g c)

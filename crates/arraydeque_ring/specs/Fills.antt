@@ -1,0 +1,21 @@
+-- What is taken of an iterator.
+use Rattle.std.specs.Prelude.{◌≡◌, ℕ, ◌≤◌, List, length, Bool, Option, None, true, false}
+use Rattle.std.specs.Iterator.{Yields, Drains}
+
+module _ {S A : Type 0} (gives : S → Option A → S → Type 0) (from : S) where
+  -- calls took the iterator from `from` to `to` and gave at most n items, and fewer only where a
+  -- None came after them, which `ended` tells, and P holds of these items
+  pub record Fills (to : S) (n : ℕ) (ended : Bool) (P : List A → Type 0) : Type 0 where
+    pub items : List A
+    pub last : S
+    pub yielded : Yields gives from items last
+    pub at_most : length items ≤ n
+    pub none : ended ≡ true → gives last None to
+    pub all : ended ≡ false → (last ≡ to) × (length items ≡ n)
+    pub holds : P items
+
+  -- calls gave items and then the first None, and P holds of these items
+  pub record Ends (P : List A → Type 0) : Type 0 where
+    pub items : List A
+    pub drains : Drains gives from items
+    pub holds : P items

@@ -1,0 +1,115 @@
+//! The items once more: a second ring of clones or copies, and a vector.
+ghost use Rattle.std.specs.Prelude.{◌≡◌, ◌⊎◌, ◌*◌, ◌+◌, ◌<◌, ◌≤◌, ◌++◌, length, Any, IfOk, IfErr, OnOk, OnErr};
+ghost use Rattle.std.specs.Mem.{type_size};
+ghost use Rattle.arraydeque_ring.specs.Cloned.{ClonesAreSame};
+ghost use Rattle.arraydeque_ring.specs.Steps.{no_steps, more_puts};
+
+use super::Ring;
+use crate::slots::Slots;
+use std::alloc::{AllocError, Global};
+
+impl<T> Ring<T> {
+    /// A ring of copies of items, in order from the first place on. It is refused where its region
+    /// is.
+    pub fn of_copies(alloc: Global, capacity: usize, items: &[T]) -> Result<Ring<T>, AllocError>
+    where
+        T: Copy,
+        requires { length items.now ≤ capacity }
+        ensures ok { IfOk result (λ ring. ring ≡ record {
+          items = items.now;
+          capacity = capacity;
+          start = 0;
+          steps = more_puts (length items.now) no_steps;
+        }) }
+        ensures refused { OnErr result (0 < capacity * type_size T.row) }
+    {
+        let mut slots = Slots::new(alloc, capacity)?;
+        let mut place = 0;
+        for item in items {
+            slots.put(place, *item);
+            place += 1;
+        }
+        Ok(Ring {
+            slots,
+            start: 0,
+            len: place,
+            alloc,
+        })
+    }
+
+    /// A ring of a clone of each item, of the same capacity, from the first place on. The region is
+    /// taken first, and then the items are cloned front to back. It is refused where its region or
+    /// the clone of an item is; the clones that were made are dropped then.
+    pub fn clone(&self) -> Result<Ring<T>, AllocError>
+    where
+        T: Clone,
+        requires { ClonesAreSame T.is_clone self.now.items }
+        ensures ok { IfOk result (λ ring. ring ≡ record {
+          items = self.now.items;
+          capacity = self.now.capacity;
+          start = 0;
+          steps = more_puts (length self.now.items) no_steps;
+        }) }
+        ensures refused { OnErr result ((0 < self.now.capacity * type_size T.row)
+            ⊎ Any (λ x. ¬ T.is_infallible x) self.now.items) }
+    {
+        let mut clones = Ring::new(self.alloc(), self.capacity())?;
+        let (front, back) = self.as_slices();
+        clones.clone_back(front)?;
+        clones.clone_back(back)?;
+        Ok(clones)
+    }
+
+    /// Puts a clone of each item behind the last one, where the list starts at the first place and
+    /// there is room.
+    #[inline]
+    fn clone_back(&mut self, items: &[T]) -> Result<(), AllocError>
+    where
+        T: Clone,
+        requires first_place { self.old.start ≡ 0 }
+        requires room { length self.old.items + length items.now ≤ self.old.capacity }
+        requires same { ClonesAreSame T.is_clone items.now }
+        ensures ok { OnOk result (self.new ≡ record self.old {
+          items = self.old.items ++ items.now;
+          steps = more_puts (length items.now) self.old.steps;
+        }) }
+        ensures refused { OnErr result (Any (λ x. ¬ T.is_infallible x) items.now) }
+    {
+        // That no sum passes `usize::MAX` is known of the capacity.
+        let _capacity = self.slots.capacity();
+        for item in items {
+            let clone = item.clone()?;
+            self.slots.put(self.len, clone);
+            self.len += 1;
+        }
+        Ok(())
+    }
+
+    /// A vector of the items, front to back. Where its memory is refused, which it never is for no
+    /// items, the ring comes back as it was.
+    pub fn into_vec(self) -> Result<Vec<T>, Ring<T>>
+        ensures items { IfOk result (λ v. v.items ≡ self.items) }
+        ensures source { IfErr result (λ ring. ring ≡ self) }
+        ensures refused { OnErr result (0 < length self.items) }
+    {
+        let mut v = match Vec::with_capacity(self.alloc(), self.len()) {
+            Ok(v) => v,
+            Err(_) => return Err(self),
+        };
+        let Ring {
+            slots,
+            start,
+            len,
+            alloc: _,
+        } = self;
+        let mut slots = slots;
+        let first = len.min(slots.capacity() - start);
+        for k in 0..first {
+            v.push_reserved(slots.take(start + k));
+        }
+        for k in first..len {
+            v.push_reserved(slots.take(k - first));
+        }
+        Ok(v)
+    }
+}

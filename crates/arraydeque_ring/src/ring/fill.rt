@@ -1,0 +1,293 @@
+//! The items of an iterator, put behind the last item or before the first, while there is room or
+//! in the places of others.
+ghost use Rattle.std.specs.Prelude.{◌≡◌, ◌-◌, ◌+◌, ◌<◌, ◌≤◌, ◌⊎◌, ◌∷◌, [], ◌++◌, length, take, drop, reverse, false};
+ghost use Rattle.std.specs.Iterator.{IsFinite, MakesProgress};
+ghost use Rattle.arraydeque_ring.specs.Fills.{Fills, Ends};
+ghost use Rattle.arraydeque_ring.specs.Ring.{place_of, on_by, back_by};
+ghost use Rattle.arraydeque_ring.specs.Steps.{more_puts, more_takes};
+
+use super::Ring;
+
+impl<T> Ring<T> {
+    /// Puts what the iterator gives behind the last item, one by one, while there is room. Returns
+    /// whether the iterator ended before that; else it wasn't asked for more.
+    #[inline(always)]
+    pub fn fill_back<I: Iterator<Item = T>>(&mut self, elements: &mut I) -> bool
+        requires { I.can_next elements.old }
+        ensures filled { Fills I.next_gives elements.old elements.new
+            (self.old.capacity - length self.old.items) result
+            (λ xs. self.new ≡ record self.old {
+              items = self.old.items ++ xs;
+              steps = more_puts (length xs) self.old.steps;
+            }) }
+        ensures within { length self.new.items ≤ self.new.capacity }
+        ensures goes { result ≡ false → I.can_next elements.new
+            × (IsFinite (I.remaining elements.old) → IsFinite (I.remaining elements.new)) }
+    {
+        let (start, len, capacity) = (self.start_place(), self.len(), self.capacity());
+        let to_end = capacity - start;
+        let ring = self.moved_out();
+        let (ring, ended) = ring.fill_up(start + len.min(to_end), capacity, elements);
+        if ended {
+            self.move_in(ring);
+            return true;
+        }
+        let from = ring.len() - to_end;
+        let (ring, ended) = ring.fill_up(from, start, elements);
+        self.move_in(ring);
+        ended
+    }
+
+    /// Puts what the iterator gives before the first item, one by one, while there is room: the
+    /// last one stands first then. Returns whether the iterator ended before that; else it wasn't
+    /// asked for more.
+    #[inline(always)]
+    pub fn fill_front<I: Iterator<Item = T>>(&mut self, elements: &mut I) -> bool
+        requires { I.can_next elements.old }
+        ensures filled { Fills I.next_gives elements.old elements.new
+            (self.old.capacity - length self.old.items) result
+            (λ xs. self.new ≡ record self.old {
+              items = reverse xs ++ self.old.items;
+              start = back_by (length xs) self.old.start self.old.capacity;
+              steps = more_puts (length xs) self.old.steps;
+            }) }
+        ensures within { length self.new.items ≤ self.new.capacity }
+        ensures goes { result ≡ false → I.can_next elements.new
+            × (IsFinite (I.remaining elements.old) → IsFinite (I.remaining elements.new)) }
+    {
+        let (start, len, capacity) = (self.start_place(), self.len(), self.capacity());
+        let ring = self.moved_out();
+        let (ring, ended) = ring.fill_down(start, start.saturating_sub(capacity - len), elements);
+        if ended {
+            self.move_in(ring);
+            return true;
+        }
+        let len = ring.len();
+        let (ring, ended) = ring.fill_down(capacity, len, elements);
+        self.move_in(ring);
+        ended
+    }
+
+    /// Puts what the iterator gives behind the last item of a full ring, one by one, each in the
+    /// place of the first item, which is dropped.
+    #[inline(always)]
+    pub fn displace_first<I: Iterator<Item = T>>(&mut self, elements: I)
+    where
+        T: Drop,
+        requires some { 0 < self.old.capacity }
+        requires full { length self.old.items ≡ self.old.capacity }
+        requires may { I.can_next elements }
+        requires ends { IsFinite (I.remaining elements) }
+        ensures { Ends I.next_gives elements (λ xs. self.new ≡ record self.old {
+          items = drop (length xs) (self.old.items ++ xs);
+          start = on_by (length xs) self.old.start self.old.capacity;
+          steps = more_puts (length xs) (more_takes (length xs) self.old.steps);
+        }) }
+    {
+        let mut ring = self.moved_out();
+        for element in elements {
+            drop(ring.replace_first(element));
+        }
+        self.move_in(ring);
+    }
+
+    /// Puts what the iterator gives before the first item of a full ring, one by one, each in the
+    /// place of the last item, which is dropped.
+    #[inline(always)]
+    pub fn displace_last<I: Iterator<Item = T>>(&mut self, elements: I)
+    where
+        T: Drop,
+        requires some { 0 < self.old.capacity }
+        requires full { length self.old.items ≡ self.old.capacity }
+        requires may { I.can_next elements }
+        requires ends { IsFinite (I.remaining elements) }
+        ensures { Ends I.next_gives elements (λ xs. self.new ≡ record self.old {
+          items = take (length self.old.items) (reverse xs ++ self.old.items);
+          start = back_by (length xs) self.old.start self.old.capacity;
+          steps = more_puts (length xs) (more_takes (length xs) self.old.steps);
+        }) }
+    {
+        let mut ring = self.moved_out();
+        for element in elements {
+            drop(ring.replace_last(element));
+        }
+        self.move_in(ring);
+    }
+
+    /// Takes the first item off a ring that is full, and puts another in its place, so that it
+    /// stands behind the last one. The start goes on to the next place, and no kept item moves.
+    #[inline(always)]
+    fn replace_first(&mut self, item: T) -> T
+        requires some { 0 < self.old.capacity }
+        requires full { length self.old.items ≡ self.old.capacity }
+        ensures { self.new ≡ record self.old {
+          items = drop 1 self.old.items ++ item ∷ [];
+          start = place_of self.old.start 1 self.old.capacity;
+          steps = more_puts 1 (more_takes 1 self.old.steps);
+        } }
+    {
+        let next = self.place(1);
+        let first = self.slots.take(self.start);
+        self.slots.put(self.start, item);
+        self.start = next;
+        first
+    }
+
+    /// Takes the last item off a ring that is full, and puts another in its place, so that it
+    /// stands before the first one. The start goes back to that place, and no kept item moves.
+    #[inline(always)]
+    fn replace_last(&mut self, item: T) -> T
+        requires some { 0 < self.old.capacity }
+        requires full { length self.old.items ≡ self.old.capacity }
+        ensures { self.new ≡ record self.old {
+          items = take self.old.capacity (item ∷ self.old.items);
+          start = place_of self.old.start (self.old.capacity - 1) self.old.capacity;
+          steps = more_puts 1 (more_takes 1 self.old.steps);
+        } }
+    {
+        let before = self.place(self.slots.capacity() - 1);
+        let last = self.slots.take(before);
+        self.slots.put(before, item);
+        self.start = before;
+        last
+    }
+
+    /// The place of the first item.
+    #[inline(always)]
+    fn start_place(&self) -> usize
+        ensures { result ≡ self.now.start }
+    {
+        self.start
+    }
+
+    /// Puts what the iterator gives behind the last item, into the places from `from` up to `end`,
+    /// as long as any is left. Returns whether the iterator ended before that.
+    #[inline(always)]
+    fn fill_up<I: Iterator<Item = T>>(
+        self,
+        from: usize,
+        end: usize,
+        elements: &mut I,
+    ) -> (Ring<T>, bool)
+        requires in_order { from ≤ end }
+        requires in_region { end ≤ self.capacity }
+        requires room { length self.items + (end - from) ≤ self.capacity }
+        requires behind { let next = self.start + length self.items in
+            from < end → (from ≡ next) ⊎ (from + self.capacity ≡ next) }
+        requires may { I.can_next elements.old }
+        ensures filled { Fills I.next_gives elements.old elements.new (end - from) result.1
+            (λ xs. result.0 ≡ record self {
+              items = self.items ++ xs;
+              steps = more_puts (length xs) self.steps;
+            }) }
+        ensures goes { result.1 ≡ false → I.can_next elements.new
+            × (IsFinite (I.remaining elements.old) → IsFinite (I.remaining elements.new)) }
+    {
+        let Ring {
+            slots,
+            start,
+            len,
+            alloc,
+        } = self;
+        let mut slots = slots;
+        // That no sum passes `usize::MAX` is known of the capacity.
+        let _capacity = slots.capacity();
+        for place in from..end {
+            let Some(element) = ask(elements) else {
+                let len = len + (place - from);
+                return (
+                    Ring {
+                        slots,
+                        start,
+                        len,
+                        alloc,
+                    },
+                    true,
+                );
+            };
+            slots.put(place, element);
+        }
+        let len = len + (end - from);
+        (
+            Ring {
+                slots,
+                start,
+                len,
+                alloc,
+            },
+            false,
+        )
+    }
+
+    /// Puts what the iterator gives before the first item, into the places below `from` down to
+    /// `end`, as long as any is left. Returns whether the iterator ended before that.
+    #[inline(always)]
+    fn fill_down<I: Iterator<Item = T>>(
+        self,
+        from: usize,
+        end: usize,
+        elements: &mut I,
+    ) -> (Ring<T>, bool)
+        requires in_order { end ≤ from }
+        requires in_region { from ≤ self.capacity }
+        requires room { length self.items + (from - end) ≤ self.capacity }
+        requires before { end < from → (from ≡ self.start) ⊎ (from ≡ self.start + self.capacity) }
+        requires may { I.can_next elements.old }
+        ensures filled { Fills I.next_gives elements.old elements.new (from - end) result.1
+            (λ xs. result.0 ≡ record self {
+              items = reverse xs ++ self.items;
+              start = back_by (length xs) self.start self.capacity;
+              steps = more_puts (length xs) self.steps;
+            }) }
+        ensures reached { result.1 ≡ false → from ≡ self.start → result.0.start ≡ end }
+        ensures goes { result.1 ≡ false → I.can_next elements.new
+            × (IsFinite (I.remaining elements.old) → IsFinite (I.remaining elements.new)) }
+    {
+        let Ring {
+            slots,
+            start,
+            len,
+            alloc,
+        } = self;
+        let mut slots = slots;
+        let mut start = start;
+        // That no sum passes `usize::MAX` is known of the capacity.
+        let _capacity = slots.capacity();
+        for k in 0..from - end {
+            let Some(element) = ask(elements) else {
+                let len = len + k;
+                return (
+                    Ring {
+                        slots,
+                        start,
+                        len,
+                        alloc,
+                    },
+                    true,
+                );
+            };
+            start = from - k - 1;
+            slots.put(start, element);
+        }
+        let len = len + (from - end);
+        (
+            Ring {
+                slots,
+                start,
+                len,
+                alloc,
+            },
+            false,
+        )
+    }
+}
+
+/// Asks an iterator once.
+#[inline(always)]
+fn ask<T, I: Iterator<Item = T>>(elements: &mut I) -> Option<T>
+    requires { I.can_next elements.old }
+    ensures steps { I.next_gives elements.old result elements.new }
+    ensures goes { MakesProgress I.can_next I.remaining elements.old result elements.new }
+{
+    elements.next()
+}
