@@ -1,13 +1,15 @@
 //! Runs of values that go to other places at once.
 //!
-//! A run that moves goes by plain copies, each of which passes the region's end on neither side and
-//! is made of blocks, the ones that lie ahead first. No move touches memory but by `move_block`.
-ghost use Rattle.std.specs.Prelude.{◌≡◌, ◌+◌, ◌-◌, ◌<◌, ◌≤◌, length, if◌then◌else◌, ◌==◌};
+//! To another region a run goes by one copy. Within one it moves by plain copies, each of which
+//! passes the region's end on neither side and is made of blocks, the ones that lie ahead first. No
+//! move touches memory but by `move_block`.
+ghost use Rattle.std.specs.Prelude.{◌≡◌, ◌+◌, ◌-◌, ◌<◌, ◌≤◌, ◌++◌, length, take, drop, if◌then◌else◌, ◌==◌};
 ghost use Rattle.arraydeque_ring.specs.Exchanged.{runs_exchanged};
+ghost use Rattle.arraydeque_ring.specs.Gaps.{IsEmptyRun, run_emptied};
 ghost use Rattle.arraydeque_ring.specs.Moved.{MeetAtOneEndAtMost, IsFilledRound, IsFreeRound, CanCopy, CanMove, run_moved};
 ghost use Rattle.arraydeque_ring.specs.Places.{IsFilledRun};
 ghost use Rattle.arraydeque_ring.specs.Ring.{place_of};
-ghost use Rattle.arraydeque_ring.specs.Steps.{more_moves, more_exchanges};
+ghost use Rattle.arraydeque_ring.specs.Steps.{more_puts, more_takes, more_moves, more_exchanges};
 
 use super::raw::size_of_item;
 use super::{Slots, StepKind};
@@ -18,6 +20,26 @@ use crate::wrap::wrap_add;
 const BLOCK_BYTES: usize = 32_768;
 
 impl<T> Slots<T> {
+    /// Hands the values in the `len` places from `from` on to another region, into its empty places
+    /// from `to` on. It is one copy of the run, in time that grows with `len` alone.
+    pub(crate) fn hand_over(&mut self, from: usize, other: &mut Slots<T>, to: usize, len: usize)
+        requires filled { IsFilledRun self.old.places from len }
+        requires empty { IsEmptyRun other.old.places to len }
+        ensures here { self.new ≡ record {
+          places = run_emptied from len self.old.places;
+          steps = more_takes len self.old.steps;
+        } }
+        ensures there { other.new ≡ record {
+          places = take to other.old.places
+              ++ (take len (drop from self.old.places) ++ drop (to + len) other.old.places);
+          steps = more_puts len other.old.steps;
+        } }
+    {
+        self.copy_over(from, other, to, len);
+        self.count(StepKind::Take, len);
+        other.count(StepKind::Put, len);
+    }
+
     /// Exchanges the values in the `len` places from `a` on with those in the `len` places from `b`
     /// on, which come later: the first with the first, and so on.
     ///
