@@ -6,6 +6,7 @@ pub mod Fewest
 pub mod Filled
 pub mod GapMoves
 pub mod Gapped
+pub mod Handed
 pub mod InRows
 pub mod LaidOut
 pub mod Opened

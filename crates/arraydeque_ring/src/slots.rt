@@ -8,7 +8,6 @@ ghost use Rattle.std.specs.Borrow.{sem};
 ghost use Rattle.std.specs.Mem.{type_size};
 ghost use Rattle.arraydeque_ring.specs.Places.{empty_region, held_at, IsFilled, IsEmpty, HoldsRun, IsFilledRun, AreAllEmpty};
 ghost use Rattle.arraydeque_ring.specs.Counted.{counted};
-ghost use Rattle.arraydeque_ring.specs.Exchanged.{runs_exchanged};
 ghost use Rattle.arraydeque_ring.specs.Steps.{Steps, more_puts, more_takes, more_moves, more_exchanges};
 
 pub mod loan;
@@ -147,24 +146,6 @@ impl<T> Slots<T> {
         self.write(a, right);
         self.write(b, left);
         self.count(StepKind::Exchange, 1);
-    }
-
-    /// Exchanges the values in the `len` places from `a` on with those in the `len` places from `b`
-    /// on, which come later: the first with the first, and so on.
-    ///
-    /// It takes the region by value, so that its memory need not be looked up anew for each pair.
-    pub(crate) fn exchange_runs(self, a: usize, b: usize, len: usize) -> Slots<T>
-        requires apart { a + len ≤ b }
-        requires a_filled { IsFilledRun self.places a len }
-        requires b_filled { IsFilledRun self.places b len }
-        ensures places { result.places ≡ runs_exchanged a b len self.places }
-        ensures steps { result.steps ≡ more_exchanges len self.steps }
-    {
-        let mut slots = self;
-        for k in 0..len {
-            slots.exchange(a + k, b + k);
-        }
-        slots
     }
 
     /// The region itself, in whose place one of no places is left.

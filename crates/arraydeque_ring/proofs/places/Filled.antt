@@ -22,11 +22,15 @@ module _ {X : Type 0} where
   pub is_filled_run : (ps : List (Option X)) (i : ℕ) → IsFilled ps i → IsFilledRun ps i 1
   is_filled_run ps i held = (omega (arith, filled_within ps i held.0 held.1), (held.0 ∷ [], run_of_one ps i held.0 held.1))
 
+  -- a filled run has as many values as places
+  pub length_filled : (ps : List (Option X)) (from len : ℕ) (run : IsFilledRun ps from len) → length run.1.0 ≡ len
+  length_filled ps from len run = omega (arith, run.0, ap length run.1.1, length-map run.1.0 Some, length-take-le len (drop from ps) (omega (arith, run.0, length-drop from ps)))
+
   -- and each place of a filled run is filled
   pub filled_in_run : (ps : List (Option X)) (from len k : ℕ) → IsFilledRun ps from len → k < len → IsFilled ps (from + k)
   filled_in_run ps from len k run lt =
       let xs = run.1.0 in
-      let many : length xs ≡ len = omega (arith, run.0, ap length run.1.1, length-map xs Some, length-take-le len (drop from ps) (omega (arith, run.0, length-drop from ps))) in
+      let many = length_filled ps from len run in
       elim (slice_get_cases xs k).1 [
         | inl at ↦ (at.0, sym (get_or-take len (drop from ps) k None lt ∙ get_or-drop from ps k None) ∙ ap (λ l. get_or l k None) run.1.1 ∙ get_or-map Some xs k at.0 None at.1 ∙ ap Some at.3)
         | inr past ↦ absurd (omega arith)

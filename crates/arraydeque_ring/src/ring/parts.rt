@@ -15,7 +15,6 @@ use super::moves::close_gap;
 use crate::slots::Slots;
 use crate::wrap::wrap_add;
 use std::alloc::AllocError;
-use std::mem::replace;
 
 impl<T> Ring<T> {
     /// Takes out the items from the index `from` up to `to`, which is not among them. The fewer
@@ -86,11 +85,30 @@ impl<T> Ring<T> {
         self.len = at;
         Ok(rest)
     }
+
+    /// Takes the values out of the `len` places from `from` on of a region, and adds them behind the
+    /// items, which start at the first place.
+    fn take_in(&mut self, slots: &mut Slots<T>, from: usize, len: usize)
+        requires filled { IsFilledRun slots.old.places from len }
+        requires room { length self.old.items + len ≤ self.old.capacity }
+        requires first_place { self.old.start ≡ 0 }
+        ensures places { slots.new.places ≡ run_emptied from len slots.old.places }
+        ensures steps { slots.new.steps ≡ more_takes len slots.old.steps }
+        ensures taken { self.new ≡ record self.old {
+          items = self.old.items ++ values (take len (drop from slots.old.places));
+          steps = more_puts len self.old.steps;
+        } }
+    {
+        // That no sum passes `usize::MAX` is known of the capacity.
+        let _capacity = self.slots.capacity();
+        slots.hand_over(from, &mut self.slots, self.len, len);
+        self.len += len;
+    }
 }
 
-/// Takes the `len` values from the index `at` on out of the region, the first value first, and adds
-/// them to the items of `taken`, which start at its first place. Indexes count from the place
-/// `start`, round the end: the values up to the region's end stand in a row, and so do the others.
+/// Takes the `len` values from the index `at` on out of the region, and adds them to the items of
+/// `taken`, which start at its first place. Indexes count from the place `start`, round the end: the
+/// values up to the region's end are handed over in one run, and the others in a second.
 fn take_run<T>(slots: &mut Slots<T>, start: usize, at: usize, len: usize, taken: &mut Ring<T>)
     requires in_region { start ≤ length slots.old.places - 1 }
     requires filled { IsFilledRun (turned start slots.old.places) at len }
@@ -110,14 +128,6 @@ fn take_run<T>(slots: &mut Slots<T>, start: usize, at: usize, len: usize, taken:
     let capacity = slots.capacity();
     let place = wrap_add(start, at, capacity);
     let first = len.min(capacity - place);
-    let mut here = slots.moved_out();
-    let mut there = taken.moved_out();
-    for k in 0..first {
-        there.push_to_end(here.take(place + k));
-    }
-    for k in first..len {
-        there.push_to_end(here.take(k - first));
-    }
-    let _nothing = replace(slots, here);
-    taken.move_in(there);
+    taken.take_in(slots, place, first);
+    taken.take_in(slots, 0, len - first);
 }

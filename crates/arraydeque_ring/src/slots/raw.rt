@@ -1,12 +1,13 @@
 //! The raw memory of a region: the one file with pointers.
 //!
 //! Each leaf changes what the places hold, or the memory that they lie in, and counts no step.
-ghost use Rattle.std.specs.Prelude.{◌≡◌, ◌+◌, ◌*◌, ◌^◌, ◌<◌, ◌≤◌, length, slice_set, Some, None, IfOk};
+ghost use Rattle.std.specs.Prelude.{◌≡◌, ◌+◌, ◌*◌, ◌^◌, ◌<◌, ◌≤◌, ◌++◌, length, take, drop, slice_set, Some, None, IfOk};
 ghost use Rattle.std.specs.Borrow.{sem};
 ghost use Rattle.std.specs.Mem.{type_size};
 ghost use prog.Memory.{capped};
 ghost use Rattle.arraydeque_ring.specs.Lends.{lends_value, lends_values, lends_loan};
 ghost use Rattle.arraydeque_ring.specs.Loans.{AreApart};
+ghost use Rattle.arraydeque_ring.specs.Gaps.{IsEmptyRun, run_emptied};
 ghost use Rattle.arraydeque_ring.specs.Moved.{run_moved};
 ghost use Rattle.arraydeque_ring.specs.Places.{empty_region, held_at, IsFilled, IsEmpty, HoldsRun, IsFilledRun, AreAllEmpty};
 
@@ -15,7 +16,7 @@ use super::loan::{Loan, LoanName};
 use std::alloc::{AllocError, Allocator, Global};
 use std::marker::PhantomData;
 use std::mem::{align_of, size_of};
-use std::slice;
+use std::{ptr, slice};
 
 impl<T> Slots<T> {
     /// Writes into an empty place.
@@ -54,6 +55,22 @@ impl<T> Slots<T> {
                 (self.ptr.add(src).add(at) as *mut [T; N]).read(),
             )
         }
+    }
+
+    /// Copies the values in the `len` places from `from` on to the empty places of another region
+    /// from `to` on, and leaves their own places empty.
+    pub(super) fn copy_over(&mut self, from: usize, other: &mut Slots<T>, to: usize, len: usize)
+        requires filled { IsFilledRun self.old.places from len }
+        requires empty { IsEmptyRun other.old.places to len }
+        ensures here { self.new ≡ record self.old {
+          places = run_emptied from len self.old.places;
+        } }
+        ensures there { other.new ≡ record other.old {
+          places = take to other.old.places
+              ++ (take len (drop from self.old.places) ++ drop (to + len) other.old.places);
+        } }
+    {
+        unsafe { ptr::copy_nonoverlapping(self.ptr.add(from), other.ptr.add(to), len) }
     }
 
     /// Lends a place for writing.

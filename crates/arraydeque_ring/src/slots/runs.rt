@@ -1,22 +1,63 @@
-//! Runs of values that move to other places at once.
+//! Runs of values that go to other places at once.
 //!
-//! A run goes by plain copies, each of which passes the region's end on neither side and is made
-//! of blocks, the ones that lie ahead first. No call here touches memory but by `move_block`.
-ghost use Rattle.std.specs.Prelude.{◌≡◌, ◌+◌, ◌-◌, ◌<◌, ◌≤◌, length, if◌then◌else◌, ◌==◌};
+//! To another region a run goes by one copy. Within one it moves by plain copies, each of which
+//! passes the region's end on neither side and is made of blocks, the ones that lie ahead first. No
+//! move touches memory but by `move_block`.
+ghost use Rattle.std.specs.Prelude.{◌≡◌, ◌+◌, ◌-◌, ◌<◌, ◌≤◌, ◌++◌, length, take, drop, if◌then◌else◌, ◌==◌};
+ghost use Rattle.arraydeque_ring.specs.Exchanged.{runs_exchanged};
+ghost use Rattle.arraydeque_ring.specs.Gaps.{IsEmptyRun, run_emptied};
 ghost use Rattle.arraydeque_ring.specs.Moved.{MeetAtOneEndAtMost, IsFilledRound, IsFreeRound, CanCopy, CanMove, run_moved};
+ghost use Rattle.arraydeque_ring.specs.Places.{IsFilledRun};
 ghost use Rattle.arraydeque_ring.specs.Ring.{place_of};
-ghost use Rattle.arraydeque_ring.specs.Steps.{more_moves};
+ghost use Rattle.arraydeque_ring.specs.Steps.{more_puts, more_takes, more_moves, more_exchanges};
 
 use super::raw::size_of_item;
 use super::{Slots, StepKind};
 use crate::wrap::wrap_add;
-use std::mem::replace;
 
 /// How many bytes a block takes at most: so many that the C library copies a large one its fastest
 /// way.
 const BLOCK_BYTES: usize = 32_768;
 
 impl<T> Slots<T> {
+    /// Hands the values in the `len` places from `from` on to another region, into its empty places
+    /// from `to` on. It is one copy of the run, in time that grows with `len` alone.
+    pub(crate) fn hand_over(&mut self, from: usize, other: &mut Slots<T>, to: usize, len: usize)
+        requires filled { IsFilledRun self.old.places from len }
+        requires empty { IsEmptyRun other.old.places to len }
+        ensures here { self.new ≡ record {
+          places = run_emptied from len self.old.places;
+          steps = more_takes len self.old.steps;
+        } }
+        ensures there { other.new ≡ record {
+          places = take to other.old.places
+              ++ (take len (drop from self.old.places) ++ drop (to + len) other.old.places);
+          steps = more_puts len other.old.steps;
+        } }
+    {
+        self.copy_over(from, other, to, len);
+        self.count(StepKind::Take, len);
+        other.count(StepKind::Put, len);
+    }
+
+    /// Exchanges the values in the `len` places from `a` on with those in the `len` places from `b`
+    /// on, which come later: the first with the first, and so on.
+    ///
+    /// It takes the region by value, so that its memory need not be looked up anew for each pair.
+    pub(crate) fn exchange_runs(self, a: usize, b: usize, len: usize) -> Slots<T>
+        requires apart { a + len ≤ b }
+        requires a_filled { IsFilledRun self.places a len }
+        requires b_filled { IsFilledRun self.places b len }
+        ensures places { result.places ≡ runs_exchanged a b len self.places }
+        ensures steps { result.steps ≡ more_exchanges len self.steps }
+    {
+        let mut slots = self;
+        for k in 0..len {
+            slots.exchange(a + k, b + k);
+        }
+        slots
+    }
+
     /// Moves the values in the `len` places from `src` on to those from `dst` on, all at once.
     /// Either run goes on at the first place after the last. The two may share places, as long as
     /// one doesn't meet the other at both its ends.
@@ -32,9 +73,7 @@ impl<T> Slots<T> {
         if dst == src {
             return;
         }
-        let alloc = self.alloc;
-        let slots = replace(self, Slots::without_memory(alloc, 0));
-        *self = slots.moved(dst, src, len);
+        *self = self.moved_out().moved(dst, src, len);
         self.count(StepKind::Move, len);
     }
 
@@ -49,13 +88,11 @@ impl<T> Slots<T> {
             slots.copy(dst, src, len);
             return slots;
         }
-        if size_of_item::<T>() <= 8 {
-            if dst == wrap_add(src, 1, capacity) {
-                return self.wrapped_on(src, len);
-            }
-            if src == wrap_add(dst, 1, capacity) {
-                return self.wrapped_back(dst, len);
-            }
+        if dst == wrap_add(src, 1, capacity) {
+            return self.wrapped_on(src, len);
+        }
+        if src == wrap_add(dst, 1, capacity) {
+            return self.wrapped_back(dst, len);
         }
         self.moved_in_parts(dst, src, len)
     }
@@ -133,20 +170,19 @@ impl<T> Slots<T> {
         slots
     }
 
-    /// Copies a run to where neither side passes the end. Small items that move by one place go one
-    /// by one, which becomes one `memmove`, and others go in blocks.
+    /// Copies a run to where neither side passes the end. Values that move by one place go one by
+    /// one, which becomes one `memmove`, and others go in blocks.
     fn copy(&mut self, dst: usize, src: usize, len: usize)
         requires { CanCopy dst src len self.old.places }
         ensures { self.new ≡ record self.old { places = run_moved dst src len self.old.places } }
     {
-        let small = size_of_item::<T>() <= 8;
         if dst < src {
-            if small && src - dst == 1 {
+            if src - dst == 1 {
                 self.slide_back(dst, dst + 1, len);
             } else {
                 self.copy_back(dst, src, len);
             }
-        } else if small && dst - src == 1 {
+        } else if dst - src == 1 {
             self.slide_on(src + 1, src, len);
         } else {
             self.copy_on(dst, src, len);

@@ -5,8 +5,8 @@ use Rattle.arraydeque_ring.proofs.slots.Slots.moved.Goals as goal
 pub wrapped_back-requires-clause-room : goal.wrapped_back-requires-clause-room
 wrapped_back-requires-clause-room g c =
     let n = length c.args.self.places in
-    let next = c.if-src-wrap_add.true ∙ c.wrap_add-then-size_of_item-le8.ensures ∙ ap (λ m. (c.args.dst + 1) % m) c.capacity-capacity.ensures in
+    let next = c.if-src-wrap_add.true ∙ c.wrap_add-2.ensures ∙ ap (λ m. (c.args.dst + 1) % m) c.capacity-capacity.ensures in
     grind (arith, c.requires.apart, next, c.capacity-capacity.ensures, place_of_cases c.args.dst 1 n (omega arith), place_of_cases c.args.dst (n - c.args.src) n (omega arith))
 
 pub wrapped_back-requires-clause-filled : goal.wrapped_back-requires-clause-filled
-wrapped_back-requires-clause-filled g c = rw (← c.capacity-capacity.ensures, ← c.wrap_add-then-size_of_item-le8.ensures, ← c.if-src-wrap_add.true, c.capacity-capacity.ensures) c.requires.filled
+wrapped_back-requires-clause-filled g c = rw (← c.capacity-capacity.ensures, ← c.wrap_add-2.ensures, ← c.if-src-wrap_add.true, c.capacity-capacity.ensures) c.requires.filled

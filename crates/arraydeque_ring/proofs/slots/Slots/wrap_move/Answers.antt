@@ -6,4 +6,4 @@ pub returns-then-dst-src-clause-places : goal.returns-then-dst-src-clause-places
 returns-then-dst-src-clause-places g c = rw (← c.if-dst-src.true) (sym (moved_nowhere c.args.dst c.args.len c.args.self.now.places c.requires.dst_in_region))
 
 pub moved-requires : goal.moved-requires
-moved-requires g c = let asked = c.requires in rw c.replace-slots.ensures.value (record { dst_in_region = asked.dst_in_region; src_in_region = asked.src_in_region; apart = asked.apart; filled = asked.filled })
+moved-requires g c = let asked = c.requires in rw c.moved_out.ensures.region (record { dst_in_region = asked.dst_in_region; src_in_region = asked.src_in_region; apart = asked.apart; filled = asked.filled })
