@@ -106,22 +106,6 @@ impl<T> Ring<T> {
         self.len += 1;
     }
 
-    /// Adds an item behind the last one, in a place before the region's end. Many such in a row
-    /// fill places in a row.
-    #[inline(always)]
-    fn push_to_end(&mut self, item: T)
-        requires { self.old.start + length self.old.items < self.old.capacity }
-        ensures { self.new ≡ record self.old {
-          items = self.old.items ++ item ∷ [];
-          steps = more_puts 1 self.old.steps;
-        } }
-    {
-        // That no sum passes `usize::MAX` is known of the capacity.
-        let _capacity = self.slots.capacity();
-        self.slots.put(self.start + self.len, item);
-        self.len += 1;
-    }
-
     /// Adds an item before the first one, whose place the start goes back to. No kept item moves.
     #[inline]
     pub fn push_front(&mut self, item: T)
