@@ -1,13 +1,13 @@
 -- What pushes leave, one and many.
-use Rattle.std.proofs.Common.{◌≡◌, ◌<◌, ◌≤◌, ℕ, zero, suc, ◌+◌, ◌-◌, ◌*◌, ◌%◌, List, [], ◌∷◌, ◌++◌, length, take, drop, reverse, nat_lt, if◌then◌else◌, refl, sym, ap, ap₂, ◌∙◌, arith, inl, inr}
+use Rattle.std.proofs.Common.{◌≡◌, ◌<◌, ◌≤◌, ℕ, ◌+◌, ◌-◌, List, [], ◌∷◌, ◌++◌, length, take, drop, reverse, nat_lt, if◌then◌else◌, refl, sym, ap, ap₂, ◌∙◌, arith, inl, inr}
 use Rattle.std.proofs.lemmas.Bool.{cases_lt, lt-ltb, le-ltb}
-use Rattle.std.proofs.lemmas.List.{append_assoc, append-nil, reverse-append, length-append, length-drop, length-take, length-reverse, take_all, nil_from_length}
+use Rattle.std.proofs.lemmas.List.{append_assoc, append-nil, reverse-append, length-append, length-drop, length-reverse, take_all, nil_from_length}
 use Rattle.arraydeque_ring.specs.Ring.{RingState, place_of, on_by, back_by}
-use Rattle.arraydeque_ring.specs.Steps.{Steps, more_puts, more_takes}
+use Rattle.arraydeque_ring.specs.Steps.{more_puts, more_takes}
 use Rattle.arraydeque.specs.Deque.{DequeState, keep_last, with_back, with_front, wrapped_back, wrapped_front, WrapsBack}
 use Rattle.arraydeque_ring.proofs.Displaced.{displaced_first, displaced_last}
 use Rattle.arraydeque_ring.proofs.places.InRows.{back_by-both}
-use Rattle.arraydeque.proofs.KeepLast.{keep_last-all, keep_last-append}
+use Rattle.arraydeque.proofs.KeepLast.{keep_last-all}
 
 -- what is seen of a deque over a ring
 abbrev pub of_ring : {X : Type 0} → RingState X → DequeState X

@@ -1,5 +1,5 @@
 -- What is taken of a source of items.
-use Rattle.std.proofs.Common.{◌≡◌, ℕ, ◌<◌, ◌≤◌, List, length, take, min, Option, None, Bool, true, false, ◌++◌, refl, sym, subst, ap, ◌∙◌, arith, inl, inr, true≢false}
+use Rattle.std.proofs.Common.{◌≡◌, ℕ, ◌<◌, ◌≤◌, List, length, take, min, Option, None, Bool, true, false, ◌++◌, refl, sym, subst, ap, ◌∙◌, arith, inl, inr}
 use Rattle.std.proofs.iter.runs.Lists.{Yields-both}
 use Rattle.std.proofs.iter.runs.Made.{run, run_of_exit, took}
 use Rattle.std.proofs.lemmas.Bool.{cases_lt, cases_Bool}

@@ -1,4 +1,4 @@
-use Rattle.std.proofs.Common.{◌≡◌, ◌+◌, inr, ◌++◌, length, reverse, sym, ap, ◌∙◌, arith}
+use Rattle.std.proofs.Common.{inr, ◌++◌, length, reverse, sym, ap, ◌∙◌, arith}
 use Rattle.std.proofs.lemmas.List.{append_assoc, length-append, length-reverse, reverse-append}
 use Rattle.arraydeque_ring.specs.Ring.{RingState, back_by}
 use Rattle.arraydeque_ring.specs.Steps.{more_puts}

@@ -1,4 +1,4 @@
-use Rattle.std.proofs.Common.{◌≡◌, ◌<◌, length, ◌++◌, refl, sym, ap, ◌∙◌, arith}
+use Rattle.std.proofs.Common.{◌≡◌, length, ◌++◌, refl, sym, ap, ◌∙◌, arith}
 use Rattle.std.proofs.lemmas.List.{length-append, length-drop}
 use Rattle.arraydeque_ring.specs.Ring.{RingState}
 use Rattle.arraydeque.proofs.Pushed.{of_ring, full_back, WrapsBack-none, WrapsBack-displaced, WrapsBack-room, WrapsBack-both}

@@ -1,4 +1,4 @@
-use Rattle.std.proofs.Common.{◌≡◌, ◌<◌, length, ◌++◌, reverse, refl, sym, ap, ◌∙◌, arith}
+use Rattle.std.proofs.Common.{◌≡◌, length, ◌++◌, reverse, refl, sym, ap, ◌∙◌, arith}
 use Rattle.std.proofs.lemmas.List.{length-take}
 use Rattle.arraydeque_ring.specs.Ring.{RingState}
 use Rattle.arraydeque.proofs.Pushed.{of_ring, full_front, WrapsFront-none, WrapsFront-displaced, WrapsFront-room, WrapsFront-both}
