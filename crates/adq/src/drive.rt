@@ -10,6 +10,9 @@ use arraydeque::{ArrayDeque, Saturating, Wrapping};
 use std::alloc::Global;
 use std::io::{BufWriter, Read, Write};
 
+#[cfg(test)]
+mod tests;
+
 /// How many bytes of the input are read into the room that was made for them.
 const PIECE: usize = 65_536;
 
