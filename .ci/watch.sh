@@ -1,5 +1,5 @@
-# What the scripts share that watch or refuse requests for memory, or have streams fail. It stands at the top of the
-# repository, and makes the folder "$scratch", which goes when the script ends.
+# What the scripts share that watch or refuse requests for memory. It stands at the top of the repository, and makes the
+# folder "$scratch", which goes when the script ends.
 cd "$(dirname "${BASH_SOURCE[0]}")/.." || exit 1
 scratch=$(mktemp -d) || exit 1
 trap 'rm -rf "$scratch"' EXIT

@@ -5,10 +5,16 @@ use crate::fault::Fault;
 use crate::line::calls;
 use crate::print::{print_deque, print_reply};
 use arraydeque::behavior::Behavior;
-use arraydeque::run::{Call, Reply};
+use arraydeque::run::Reply;
 use arraydeque::{ArrayDeque, Saturating, Wrapping};
 use std::alloc::Global;
 use std::io::{BufWriter, Read, Write};
+
+#[cfg(test)]
+mod tests;
+
+/// How many bytes of the input are read into the room that was made for them.
+const PIECE: usize = 65_536;
 
 /// Runs the program on the words after its name, and answers its status.
 ///
@@ -61,9 +67,9 @@ fn saturating<R: Read + Drop, W: Write + Drop, const CAP: usize>(
     input: R,
     output: W,
 ) -> Result<(), Fault> {
-    let calls = read(alloc, input)?;
     let mut deque = ArrayDeque::<i64, CAP, Saturating>::new(alloc)?;
-    let replies = deque.run(calls)?;
+    let text = read(alloc, input)?;
+    let replies = deque.run(calls(alloc, text.as_slice())?)?;
     print(alloc, output, replies, &deque)
 }
 
@@ -72,17 +78,24 @@ fn wrapping<R: Read + Drop, W: Write + Drop, const CAP: usize>(
     input: R,
     output: W,
 ) -> Result<(), Fault> {
-    let calls = read(alloc, input)?;
     let mut deque = ArrayDeque::<i64, CAP, Wrapping>::new(alloc)?;
-    let replies = deque.run(calls)?;
+    let text = read(alloc, input)?;
+    let replies = deque.run(calls(alloc, text.as_slice())?)?;
     print(alloc, output, replies, &deque)
 }
 
-/// Reads the input to its end, and only then its lines.
-fn read<R: Read + Drop>(alloc: Global, mut input: R) -> Result<Vec<Call<i64>>, Fault> {
+/// Reads the input to its end. Room is made before each read, so that a read that fails has not been
+/// refused memory of the program's own.
+fn read<R: Read + Drop>(alloc: Global, mut input: R) -> Result<Vec<u8>, Fault> {
     let mut text = Vec::new(alloc);
-    input.read_to_end(&mut text)?;
-    calls(alloc, text.as_slice())
+    for _ in 0..u64::MAX {
+        text.reserve(PIECE + 1)?;
+        let piece = input.by_ref().take(PIECE as u64).read_to_end(&mut text)?;
+        if piece < PIECE {
+            return Ok(text);
+        }
+    }
+    Err(Fault::Memory)
 }
 
 /// Prints the replies, and at last what the deque holds.
@@ -92,7 +105,9 @@ fn print<W: Write + Drop, const CAP: usize, B: Behavior>(
     replies: Vec<Reply<i64, CAP, B>>,
     deque: &ArrayDeque<i64, CAP, B>,
 ) -> Result<(), Fault> {
-    let mut output = BufWriter::new(alloc, output)?;
+    let Ok(mut output) = BufWriter::new(alloc, output) else {
+        return Err(Fault::Memory);
+    };
     for reply in replies {
         print_reply(&mut output, reply)?;
     }

@@ -1,13 +1,11 @@
 //! Why a run ends early, and how it says so.
-ghost use Rattle.std.specs.Prelude.{◌≡◌, ◌≢◌};
-ghost use Rattle.std.specs.IoError.{error_kind};
-ghost use Rattle.std.specs.declared.io.ErrorKind.TheVariants.{OutOfMemory};
+ghost use Rattle.std.specs.Prelude.{◌≡◌};
 ghost use Rattle.adq.specs.declared.fault.Fault.TheVariants.{Io, Memory};
 ghost use Rattle.adq.specs.Fault.{status_of};
 
 use arraydeque::MakeError;
 use std::alloc::{AllocError, AllocFailed};
-use std::io::{ErrorKind, Write};
+use std::io::Write;
 use std::{fmt, io};
 
 /// Why a run ends early.
@@ -74,15 +72,12 @@ impl<S: Drop> From<MakeError<S>> for Fault {
     }
 }
 
-/// A stream or a buffer that is refused memory tells it by an `io::Error` too.
+/// A stream that fails, whatever kind of failure it tells of: refused memory of the program's own is
+/// never told by an `io::Error` that comes here.
 impl From<io::Error> for Fault {
-    ghost from_gives = { λ error fault. (error_kind error ≡ OutOfMemory → fault ≡ Memory)
-        × (error_kind error ≢ OutOfMemory → fault ≡ Io) };
+    ghost from_gives = { λ _ fault. fault ≡ Io };
 
-    fn from(error: io::Error) -> Fault {
-        match error.kind() {
-            ErrorKind::OutOfMemory => Fault::Memory,
-            _ => Fault::Io,
-        }
+    fn from(_: io::Error) -> Fault {
+        Fault::Io
     }
 }
