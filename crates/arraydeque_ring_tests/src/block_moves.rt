@@ -125,26 +125,28 @@ fn is_among(capacity: usize, from: usize, len: usize, place: usize) -> bool {
     (place + (capacity - from)) % capacity < len
 }
 
-/// A region of `capacity` places: the sources hold their own numbers, the other targets nothing,
-/// and the places besides nothing or a number, as is asked.
+/// A region of `capacity` places: each source holds its own number, the other targets nothing, and
+/// each place outside source and target nothing, or a number of its own where these are filled.
 fn row_of(
     capacity: usize,
     dst: usize,
     src: usize,
     len: usize,
-    besides: Option<u8>,
+    are_filled: bool,
 ) -> [Option<u8>; 6] {
     let mut row = [None; 6];
     for place in 0..6 {
         if is_among(capacity, src, len, place) {
             row[place] = Some(place as u8);
-        } else if !is_among(capacity, dst, len, place) {
-            row[place] = besides;
+        } else if are_filled && !is_among(capacity, dst, len, place) {
+            row[place] = Some(place as u8 + 10);
         }
     }
     row
 }
 
+/// Every move that may be made in a region of 1 to 6 places, with the places outside source and
+/// target once all empty and once all filled.
 #[test]
 fn every_move_in_small_regions(rt: HostRuntime) -> Result<(), Fail> {
     for capacity in 1..=6usize {
@@ -153,8 +155,8 @@ fn every_move_in_small_regions(rt: HostRuntime) -> Result<(), Fail> {
                 let distance = (dst + (capacity - src)) % capacity;
                 for len in 0..=capacity {
                     if len <= distance || distance + len <= capacity {
-                        for besides in [None, Some(9)] {
-                            let row = row_of(capacity, dst, src, len, besides);
+                        for are_filled in [false, true] {
+                            let row = row_of(capacity, dst, src, len, are_filled);
                             move_beside(&rt, rt.alloc(), &row[..capacity], dst, src, len)?;
                         }
                     }

@@ -16,11 +16,15 @@ fn capacity_of_region<T>(alloc: Global, capacity: usize) -> Result<usize, AllocE
 }
 
 #[test]
-fn capacity_zero_has_no_items(rt: HostRuntime) -> Result<(), Fail> {
+fn capacity_zero_has_no_items_0_requests_0_bytes(rt: HostRuntime) -> Result<(), Fail> {
     let mut ring = Ring::<i64>::new(rt.alloc(), 0)?;
     assert!(rt; (ring.len(), ring.capacity(), ring.get(0)) == (0, 0, None));
     assert!(rt; (ring.pop_front(), ring.pop_back()) == (None, None));
-    assert!(rt; capacity_of_region::<i64>(rt.alloc(), 0)? == 0);
+    assert!(rt; (ring.drain(0, 0)?.capacity(), ring.split_off(0)?.capacity()) == (0, 0));
+    let mut slots = Slots::<i64>::new(rt.alloc(), 0)?;
+    let (first, second) = slots.two_slices_mut(0, 0, 0, 0);
+    assert!(rt; first.is_empty() && second.is_empty());
+    assert!(rt; slots.capacity() == 0);
     Ok(())
 }
 

@@ -33,6 +33,7 @@ fn ring_comes_to_one_piece<T: Numbered>(
     Ok(())
 }
 
+/// Capacities 1 to 8, every start and every length.
 #[test]
 fn every_list_of_few_items(rt: HostRuntime) -> Result<(), Fail> {
     for capacity in 1..=8 {

@@ -2,20 +2,72 @@
 use arraydeque_ring::ring::Ring;
 use std::test::Fail;
 
-#[test]
-fn a_ring_wraps(rt: HostRuntime) -> Result<(), Fail> {
-    let mut ring = Ring::<u8>::new(rt.alloc(), 3)?;
+/// Whether items go in and out at either end, and stand where the list wraps.
+fn pushes_and_pops(ring: &mut Ring<u8>) -> bool {
+    if ring.len() != 0 || ring.capacity() != 3 {
+        return false;
+    }
     ring.push_back(2);
     ring.push_back(3);
     ring.push_front(1);
-    assert!(rt; (ring.len(), ring.capacity()) == (3, 3));
-    assert!(rt; ring.as_slices() == ([1].as_slice(), [2, 3].as_slice()));
-    for (index, item) in [(0, Some(1)), (2, Some(3)), (3, None)] {
-        assert!(rt; ring.get(index).copied() == item, "index {index}");
+    ring.len() == 3
+        && ring.as_slices() == ([1].as_slice(), [2, 3].as_slice())
+        && (ring.get(0), ring.get(2), ring.get(3)) == (Some(&1), Some(&3), None)
+        && (ring.pop_front(), ring.pop_back()) == (Some(1), Some(3))
+        && (ring.pop_back(), ring.pop_back(), ring.pop_front()) == (Some(2), None, None)
+}
+
+/// Whether items go in between, are written over and exchanged, and go out but for one.
+fn edits(ring: &mut Ring<u8>) -> bool {
+    if ring.len() != 0 || ring.capacity() != 3 {
+        return false;
     }
-    assert!(rt; (ring.pop_front(), ring.pop_back()) == (Some(1), Some(3)));
-    let mut other = Ring::new(ring.alloc(), 1)?;
-    other.push_front(ring.pop_back());
-    assert!(rt; (ring.pop_front(), other.pop_back()) == (None, Some(Some(2))));
+    ring.insert(0, 1);
+    ring.insert(1, 3);
+    ring.insert(1, 2);
+    if let Some(item) = ring.get_mut(1) {
+        *item = 4;
+    }
+    if ring.len() != 3 {
+        return false;
+    }
+    ring.swap(0, 2);
+    let removed = ring.remove(1);
+    removed == 4 && ring.pop_front() == Some(3)
+}
+
+/// Whether the items are dropped, and two of three others are retained, after these were written
+/// over in two slices and laid in one piece.
+fn passes(ring: &mut Ring<u8>) -> bool {
+    ring.clear();
+    if ring.capacity() != 3 {
+        return false;
+    }
+    ring.push_back(1);
+    ring.push_back(2);
+    ring.push_front(4);
+    let (first, second) = ring.as_mut_slices();
+    if let Some(item) = first.first_mut() {
+        *item = 6;
+    }
+    if let Some(item) = second.first_mut() {
+        *item = 7;
+    }
+    ring.linearize();
+    let is_one_piece = ring.as_slices() == ([6, 7, 2].as_slice(), [].as_slice());
+    ring.retain(|item| *item % 2 == 0);
+    is_one_piece && ring.as_slices() == ([6, 2].as_slice(), [].as_slice())
+}
+
+/// Each call of a ring, of which only the first asks for memory.
+#[test]
+fn calls_of_a_ring_1_request_3_bytes(rt: HostRuntime) -> Result<(), Fail> {
+    let mut ring = Ring::<u8>::new(rt.alloc(), 3)?;
+    assert!(rt;
+        pushes_and_pops(&mut ring) && edits(&mut ring) && passes(&mut ring) && ring.len() == 2
+    );
+    let drained = ring.drain(1, 1)?;
+    let mut empty = Ring::<u8>::new(ring.alloc(), 0)?;
+    assert!(rt; drained.capacity() == 0 && empty.split_off(0)?.capacity() == 0);
     Ok(())
 }

@@ -1,9 +1,9 @@
 //! What comes back where memory is refused to a run, or to a call of it. The test holds where none
 //! is, and whichever request of the run is refused; where one is refused that its set-up makes, it
 //! ends there.
-use crate::replies::compare_list;
+use arraydeque::Saturating;
 use arraydeque::run::{Call, Reply};
-use arraydeque::{ArrayDeque, Saturating};
+use arraydeque_samples::build::{deque_at, holds};
 use std::process::Abort;
 use std::test::Fail;
 
@@ -38,12 +38,7 @@ fn compare_calls(rt: &impl Abort, calls: Vec<Call<i64>>) {
 
 #[test]
 fn a_run_goes_on_after_a_refused_drain(rt: HostRuntime) -> Result<(), Fail> {
-    let mut deque = ArrayDeque::<i64, 5, Saturating>::new(rt.alloc())?;
-    for _ in 0..4 {
-        deque.extend_back([9]);
-        deque.pop_front();
-    }
-    deque.extend_back([0, 1, 2, 3]);
+    let mut deque = deque_at::<5>(rt.alloc(), 4, &[0, 1, 2, 3])?;
     let calls = vec![in rt.alloc(); Call::PushBack(4), Call::Drain(1, 3), Call::PopFront]?;
     let left: &[i64] = match deque.run(calls) {
         Ok(replies) => compare_replies(&rt, replies),
@@ -52,6 +47,6 @@ fn a_run_goes_on_after_a_refused_drain(rt: HostRuntime) -> Result<(), Fail> {
             &[0, 1, 2, 3]
         }
     };
-    compare_list(&rt, deque, left);
+    assert!(rt; holds(&deque, left));
     Ok(())
 }

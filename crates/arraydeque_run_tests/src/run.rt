@@ -1,7 +1,10 @@
 //! Lists of calls and their replies.
-use crate::replies::{compare_list, saturating, wrapping};
-use arraydeque::run::Call;
-use arraydeque::{ArrayDeque, Saturating, Wrapping};
+use crate::replies::{saturating, wrapping};
+use arraydeque::behavior::Behavior;
+use arraydeque::run::{Call, Reply};
+use arraydeque::{ArrayDeque, CapacityError, Saturating};
+use arraydeque_samples::build::{deque_at, holds, made, numbers, wrapping_at};
+use std::alloc::Global;
 use std::test::Fail;
 
 #[test]
@@ -11,68 +14,34 @@ fn each_call_has_its_reply(rt: HostRuntime) -> Result<(), Fail> {
         (Call::PushFront(2), "done"),
         (Call::PushFront(3), "done"),
         (Call::PushFront(4), "full 4"),
-        (Call::PopBack, "item Some(1)"),
-        (Call::Len, "2"),
+        (Call::PopBack, "1"),
+        (Call::Len, "number 2"),
     ]?;
-    saturating::<3>(&rt, rt.alloc(), rows, &[3, 2])
+    let mut deque = deque_at::<3>(rt.alloc(), 0, &[])?;
+    saturating(&rt, rt.alloc(), &mut deque, rows)?;
+    assert!(rt; holds(&deque, &[3, 2]));
+    Ok(())
 }
 
 #[test]
 fn the_other_calls_have_theirs(rt: HostRuntime) -> Result<(), Fail> {
     let rows = vec![in rt.alloc();
         (Call::PushBack(0), "done"),
-        (Call::PopFront, "item Some(0)"),
+        (Call::PopFront, "0"),
         (Call::IsEmpty, "true"),
-        (Call::PopFront, "item None"),
-        (Call::PopBack, "item None"),
+        (Call::PopFront, "none"),
+        (Call::PopBack, "none"),
         (Call::PushBack(5), "done"),
         (Call::PushBack(6), "done"),
         (Call::PushBack(7), "full 7"),
         (Call::IsEmpty, "false"),
-        (Call::Capacity, "2"),
-        (Call::PopFront, "item Some(5)"),
+        (Call::Capacity, "number 2"),
+        (Call::PopFront, "5"),
     ]?;
-    saturating::<2>(&rt, rt.alloc(), rows, &[6])
-}
-
-#[test]
-fn no_calls_have_no_replies(rt: HostRuntime) -> Result<(), Fail> {
-    let mut deque = ArrayDeque::<i64, 3, Saturating>::new(rt.alloc())?;
-    deque.extend_back([1, 2]);
-    let replies = deque.run(Vec::new(rt.alloc())).ok().ok_or("refused")?;
-    assert!(rt; replies.is_empty());
-    compare_list(&rt, deque, &[1, 2]);
-    let mut deque = ArrayDeque::<i64, 3, Wrapping>::new(rt.alloc())?;
-    deque.extend_back([1, 2]);
-    let replies = deque.run(Vec::new(rt.alloc())).ok().ok_or("refused")?;
-    assert!(rt; replies.is_empty());
-    compare_list(&rt, deque, &[1, 2]);
+    let mut deque = deque_at::<2>(rt.alloc(), 0, &[])?;
+    saturating(&rt, rt.alloc(), &mut deque, rows)?;
+    assert!(rt; holds(&deque, &[6]));
     Ok(())
-}
-
-#[test]
-fn a_linearize_lays_the_list_in_one_piece(rt: HostRuntime) -> Result<(), Fail> {
-    let mut deque = ArrayDeque::<i64, 4, Wrapping>::new(rt.alloc())?;
-    deque.extend_back([0, 1, 2, 3, 4, 5]);
-    assert!(rt; deque.as_slices().1 == [4, 5].as_slice());
-    let calls = vec![in rt.alloc(); Call::Linearize]?;
-    let _replies = deque.run(calls).ok().ok_or("refused")?;
-    assert!(rt; deque.as_slices().0 == [2, 3, 4, 5].as_slice());
-    Ok(())
-}
-
-#[test]
-fn replaces_answer_the_old_item(rt: HostRuntime) -> Result<(), Fail> {
-    let rows = vec![in rt.alloc();
-        (Call::PushBack(0), "done"),
-        (Call::PushBack(7), "done"),
-        (Call::PopFront, "item Some(0)"),
-        (Call::PushBack(9), "done"),
-        (Call::PushBack(3), "done"),
-        (Call::Replace(2, 4), "item Some(3)"),
-        (Call::Replace(3, 4), "out of range Some(4)"),
-    ]?;
-    saturating::<3>(&rt, rt.alloc(), rows, &[7, 9, 4])
 }
 
 #[test]
@@ -82,93 +51,224 @@ fn edits_have_their_replies(rt: HostRuntime) -> Result<(), Fail> {
         (Call::Insert(0, 1), "done"),
         (Call::Insert(1, 2), "done"),
         (Call::Insert(1, 4), "full 4"),
-        (Call::Insert(4, 9), "out of range Some(9)"),
-        (Call::Swap(0, 3), "out of range None"),
-        (Call::Swap(3, 0), "out of range None"),
+        (Call::Insert(4, 9), "range 9"),
+        (Call::Swap(0, 3), "range"),
+        (Call::Swap(3, 0), "range"),
         (Call::Swap(0, 2), "done"),
-        (Call::Remove(3), "item None"),
-        (Call::Remove(1), "item Some(2)"),
-        (Call::SwapRemoveBack(0), "item Some(3)"),
-        (Call::SwapRemoveFront(1), "item None"),
-        (Call::SwapRemoveFront(0), "item Some(1)"),
+        (Call::Remove(3), "none"),
+        (Call::Remove(1), "2"),
+        (Call::SwapRemoveBack(0), "3"),
+        (Call::SwapRemoveFront(1), "none"),
+        (Call::SwapRemoveFront(0), "1"),
         (Call::Clear, "done"),
     ]?;
-    saturating::<3>(&rt, rt.alloc(), rows, &[])
+    let mut deque = deque_at::<3>(rt.alloc(), 0, &[])?;
+    saturating(&rt, rt.alloc(), &mut deque, rows)?;
+    assert!(rt; deque.is_empty());
+    Ok(())
 }
 
 #[test]
 fn parts_have_their_replies(rt: HostRuntime) -> Result<(), Fail> {
     let rows = vec![in rt.alloc();
-        (Call::PushBack(9), "done"),
-        (Call::PushBack(0), "done"),
-        (Call::PopFront, "item Some(9)"),
-        (Call::PushBack(1), "done"),
-        (Call::PushBack(2), "done"),
-        (Call::SplitOff(4), "out of range None"),
-        (Call::Drain(2, 1), "out of range None"),
-        (Call::Drain(1, 4), "out of range None"),
+        (Call::SplitOff(4), "range"),
+        (Call::Drain(2, 1), "range"),
+        (Call::Drain(1, 4), "range"),
         (Call::Drain(1, 1), "drained []"),
         (Call::Drain(0, 1), "drained [0]"),
-        (Call::SplitOff(1), "split [2] []"),
-        (Call::SplitOff(1), "split [] []"),
+        (Call::SplitOff(1), "split [2]"),
+        (Call::SplitOff(1), "split []"),
     ]?;
-    saturating::<3>(&rt, rt.alloc(), rows, &[1])
+    let mut deque = deque_at::<3>(rt.alloc(), 1, &[0, 1, 2])?;
+    saturating(&rt, rt.alloc(), &mut deque, rows)?;
+    assert!(rt; holds(&deque, &[1]));
+
+    let rows = vec![in rt.alloc();
+        (Call::PushBack(4), "done"),
+        (Call::Drain(1, 3), "drained [1, 2]"),
+        (Call::PopFront, "0"),
+    ]?;
+    let mut deque = deque_at::<5>(rt.alloc(), 0, &[0, 1, 2, 3])?;
+    saturating(&rt, rt.alloc(), &mut deque, rows)?;
+    assert!(rt; holds(&deque, &[3, 4]));
+
+    for (at, told, left) in [
+        (1, "split [1, 2]", [0].as_slice()),
+        (3, "split []", &[0, 1, 2]),
+        (4, "range", &[0, 1, 2]),
+    ] {
+        let mut deque = deque_at::<3>(rt.alloc(), 0, &[0, 1, 2])?;
+        let rows = vec![in rt.alloc(); (Call::SplitOff(at), told)]?;
+        saturating(&rt, rt.alloc(), &mut deque, rows)?;
+        assert!(rt; holds(&deque, left), "at {at}");
+    }
+    Ok(())
 }
 
 #[test]
 fn a_wrapping_deque_has_its_replies(rt: HostRuntime) -> Result<(), Fail> {
-    let four = vec![in rt.alloc(); 1, 2, 3, 4]?;
-    let two_more = vec![in rt.alloc(); 7, 8]?;
-    let two = vec![in rt.alloc(); 1, 0]?;
     let rows = vec![in rt.alloc();
-        (Call::ExtendBack(four), "done"),
-        (Call::Insert(0, 9), "not offered 9"),
-        (Call::Insert(9, 9), "not offered 9"),
-        (Call::PushBack(5), "displaced Some(2)"),
-        (Call::PushFront(2), "displaced Some(5)"),
+        (Call::ExtendBack(vec![in rt.alloc(); 1, 2, 3, 4]?), "done"),
+        (Call::Insert(0, 9), "unoffered 9"),
+        (Call::Insert(9, 9), "unoffered 9"),
+        (Call::PushBack(5), "displaced 2"),
+        (Call::PushFront(2), "displaced 5"),
         (Call::Drain(0, 1), "drained [2]"),
-        (Call::Drain(1, 9), "out of range None"),
-        (Call::PopFront, "item Some(3)"),
-        (Call::PushBack(6), "displaced None"),
-        (Call::Extend(two_more), "done"),
-        (Call::ExtendFront(two), "done"),
+        (Call::Drain(1, 9), "range"),
+        (Call::PopFront, "3"),
+        (Call::PushBack(6), "displaced none"),
+        (Call::Extend(vec![in rt.alloc(); 7, 8]?), "done"),
+        (Call::ExtendFront(vec![in rt.alloc(); 1, 0]?), "done"),
         (Call::IsFull, "true"),
     ]?;
-    wrapping::<3>(&rt, rt.alloc(), rows, &[0, 1, 6])
+    let mut deque = wrapping_at::<3>(rt.alloc(), 0, &[])?;
+    wrapping(&rt, rt.alloc(), &mut deque, rows)?;
+    assert!(rt; holds(&deque, &[0, 1, 6]));
+    Ok(())
 }
 
 #[test]
-fn no_places_have_their_replies(rt: HostRuntime) -> Result<(), Fail> {
-    let two = vec![in rt.alloc(); 1, 2]?;
-    let rows = vec![in rt.alloc();
-        (Call::Insert(0, 5), "full 5"),
-        (Call::Insert(1, 5), "out of range Some(5)"),
-        (Call::Remove(0), "item None"),
-        (Call::Swap(0, 0), "out of range None"),
-        (Call::Replace(0, 5), "out of range Some(5)"),
-        (Call::ExtendFront(two), "done"),
-        (Call::Drain(0, 0), "drained []"),
-        (Call::Drain(0, 1), "out of range None"),
-        (Call::SplitOff(0), "split [] []"),
-        (Call::Clear, "done"),
-        (Call::IsEmpty, "true"),
-        (Call::IsFull, "true"),
-    ]?;
-    saturating::<0>(&rt, rt.alloc(), rows, &[])
+fn a_linearize_lays_the_list_in_one_piece(rt: HostRuntime) -> Result<(), Fail> {
+    let mut deque = wrapping_at::<4>(rt.alloc(), 2, &[2, 3, 4, 5])?;
+    assert!(rt; deque.as_slices().1 == [4, 5].as_slice());
+    made(deque.run(vec![in rt.alloc(); Call::Linearize]?))?;
+    assert!(rt; deque.as_slices().0 == [2, 3, 4, 5].as_slice());
+    Ok(())
 }
 
 #[test]
-fn one_place_has_its_replies(rt: HostRuntime) -> Result<(), Fail> {
-    let (two, two_more) = (vec![in rt.alloc(); 4, 5]?, vec![in rt.alloc(); 6, 7]?);
+fn no_calls_have_no_replies(rt: HostRuntime) -> Result<(), Fail> {
+    let (mut none, mut two) = (
+        deque_at::<0>(rt.alloc(), 0, &[])?,
+        deque_at::<3>(rt.alloc(), 0, &[1, 2])?,
+    );
+    saturating(&rt, rt.alloc(), &mut none, Vec::new(rt.alloc()))?;
+    saturating(&rt, rt.alloc(), &mut two, Vec::new(rt.alloc()))?;
+    let mut full = wrapping_at::<3>(rt.alloc(), 2, &[1, 2, 3])?;
+    wrapping(&rt, rt.alloc(), &mut full, Vec::new(rt.alloc()))?;
+    assert!(rt; none.is_empty() && holds(&two, &[1, 2]) && holds(&full, &[1, 2, 3]));
+    Ok(())
+}
+
+#[test]
+fn a_long_list_of_calls_has_its_replies(rt: HostRuntime) -> Result<(), Fail> {
+    let mut rows = Vec::new(rt.alloc());
+    for _ in 0..500 {
+        rows.push((Call::PushBack(1), "done"))?;
+        rows.push((Call::Len, "number 1"))?;
+        rows.push((Call::PopFront, "1"))?;
+        rows.push((Call::PopFront, "none"))?;
+    }
+    let mut deque = deque_at::<3>(rt.alloc(), 0, &[])?;
+    saturating(&rt, rt.alloc(), &mut deque, rows)?;
+    assert!(rt; deque.is_empty());
+    Ok(())
+}
+
+/// Whether the replies hand out the items of a list from one index up to another, and then those
+/// behind, and a deque is left with those before.
+fn is_parted<const CAP: usize, B: Behavior>(
+    alloc: Global,
+    deque: &ArrayDeque<i64, CAP, B>,
+    replies: Vec<Reply<i64, CAP, B>>,
+    list: &[i64],
+    from: usize,
+    to: usize,
+) -> Result<bool, Fail> {
+    let mut replies = replies.into_iter();
+    let Some(Reply::Drained(drained)) = replies.next() else {
+        return Ok(false);
+    };
+    let drained: Vec<i64> = drained.collect(alloc)?;
+    let Some(Reply::Split(behind)) = replies.next() else {
+        return Ok(false);
+    };
+    Ok(
+        list.get(from..to) == Some(drained.as_slice())
+            && holds(&behind, list.get(to..).unwrap_or(&[]))
+            && holds(deque, list.get(..from).unwrap_or(&[])),
+    )
+}
+
+/// Whether a full deque of either policy is parted.
+fn parts<const CAP: usize>(alloc: Global, from: usize, to: usize) -> Result<bool, Fail> {
+    let list = numbers(alloc, CAP)?;
+    let mut deque = deque_at::<CAP>(alloc, 1, list.as_slice())?;
+    let replies = deque.run(vec![in alloc; Call::Drain(from, to), Call::SplitOff(from)]?);
+    let is_first = is_parted(alloc, &deque, made(replies)?, list.as_slice(), from, to)?;
+    let mut deque = wrapping_at::<CAP>(alloc, 1, list.as_slice())?;
+    let replies = deque.run(vec![in alloc; Call::Drain(from, to), Call::SplitOff(from)]?);
+    Ok(is_parted(alloc, &deque, made(replies)?, list.as_slice(), from, to)? && is_first)
+}
+
+#[test]
+fn long_lists_are_parted(rt: HostRuntime) -> Result<(), Fail> {
+    assert!(rt; parts::<16>(rt.alloc(), 3, 10)?);
+    for (from, to) in [(20, 120), (120, 120), (3, 4)] {
+        assert!(rt; parts::<128>(rt.alloc(), from, to)?, "from {from} to {to}");
+    }
+    Ok(())
+}
+
+/// Whether a deque of 1, 2 and 3 is made by inserts, and takes no fourth.
+fn inserts(deque: &mut ArrayDeque<i64, 3, Saturating>) -> bool {
+    deque.insert(0, 3).is_ok()
+        && deque.insert(0, 1).is_ok()
+        && deque.insert(1, 2).is_ok()
+        && deque.insert(1, 4) == Err(CapacityError { element: 4 })
+        && holds(deque, &[1, 2, 3])
+}
+
+/// Whether a deque of 7, 9 and 3 is made by pushes and writes.
+fn writes(deque: &mut ArrayDeque<i64, 3, Saturating>) -> bool {
+    let is_pushed = deque.push_back(2).is_ok()
+        && deque.push_back(3).is_ok()
+        && deque.push_front(1).is_ok();
+    if let Some(item) = deque.get_mut(1) {
+        *item = 9;
+    }
+    if deque.len() == 3 {
+        deque[0] = 7;
+    }
+    is_pushed
+        && holds(deque, &[7, 9, 3])
+        && deque.get_mut(3).is_none()
+        && deque.contains(&9)
+        && !deque.contains(&1)
+}
+
+/// Whether 0, 1 and 2 are turned round by swaps.
+fn swaps(deque: &mut ArrayDeque<i64, 3, Saturating>) -> bool {
+    if deque.len() != 3 {
+        return false;
+    }
+    deque.swap(0, 2);
+    let is_turned = holds(deque, &[2, 1, 0]);
+    deque.swap(1, 1);
+    is_turned && holds(deque, &[2, 1, 0])
+}
+
+#[test]
+fn a_run_goes_on_where_calls_left_off(rt: HostRuntime) -> Result<(), Fail> {
+    let mut deque = deque_at::<3>(rt.alloc(), 0, &[])?;
+    assert!(rt; inserts(&mut deque));
+    let rows = vec![in rt.alloc(); (Call::Insert(4, 9), "range 9")]?;
+    saturating(&rt, rt.alloc(), &mut deque, rows)?;
+    assert!(rt; holds(&deque, &[1, 2, 3]));
+
+    let mut deque = deque_at::<3>(rt.alloc(), 0, &[])?;
+    assert!(rt; writes(&mut deque));
     let rows = vec![in rt.alloc();
-        (Call::PushBack(1), "displaced None"),
-        (Call::PushFront(2), "displaced Some(1)"),
-        (Call::PushBack(3), "displaced Some(2)"),
-        (Call::ExtendBack(two), "done"),
-        (Call::ExtendFront(two_more), "done"),
-        (Call::SplitOff(0), "split [7] []"),
-        (Call::SplitOff(0), "split [] []"),
-        (Call::Len, "0"),
+        (Call::Replace(2, 4), "3"),
+        (Call::Replace(3, 4), "range 4"),
     ]?;
-    wrapping::<1>(&rt, rt.alloc(), rows, &[])
+    saturating(&rt, rt.alloc(), &mut deque, rows)?;
+    assert!(rt; holds(&deque, &[7, 9, 4]));
+
+    let mut deque = deque_at::<3>(rt.alloc(), 0, &[0, 1, 2])?;
+    assert!(rt; swaps(&mut deque));
+    let rows = vec![in rt.alloc(); (Call::Swap(0, 3), "range")]?;
+    saturating(&rt, rt.alloc(), &mut deque, rows)?;
+    assert!(rt; holds(&deque, &[2, 1, 0]));
+    Ok(())
 }

@@ -1,138 +1,175 @@
 //! Each call of a run at the capacities 0 and 1, under either policy.
-use crate::replies::{saturating, wrapping};
-use arraydeque::run::Call;
+use crate::replies::text_of;
+use arraydeque::ArrayDeque;
+use arraydeque::behavior::Behavior;
+use arraydeque::run::{Call, Reply};
+use arraydeque_samples::build::{deque_at, made, wrapping_at};
+use std::alloc::Global;
+use std::fmt::Write;
+use std::process::Abort;
 use std::test::Fail;
 
-#[test]
-fn pushes_and_pops_of_no_places(rt: HostRuntime) -> Result<(), Fail> {
-    let (two, one) = (vec![in rt.alloc(); 1, 2]?, vec![in rt.alloc(); 3]?);
-    let rows = vec![in rt.alloc();
-        (Call::PushFront(5), "full 5"),
-        (Call::PushBack(6), "full 6"),
-        (Call::PopFront, "item None"),
-        (Call::PopBack, "item None"),
-        (Call::SwapRemoveBack(0), "item None"),
-        (Call::SwapRemoveFront(0), "item None"),
-        (Call::ExtendBack(two), "done"),
-        (Call::Extend(one), "done"),
-        (Call::Linearize, "done"),
-        (Call::Len, "0"),
-        (Call::Capacity, "0"),
-    ]?;
-    saturating::<0>(&rt, rt.alloc(), rows, &[])
+/// A call, and what it comes to on a deque that refuses, and on one that displaces: its reply and
+/// the list that it leaves, at capacity 0, at capacity 1 with no item, and at capacity 1 with 7.
+type Row = (Call<i64>, [&'static str; 3], [&'static str; 3]);
+
+/// The row of a call that means the same under either policy.
+fn alike(call: Call<i64>, told: [&'static str; 3]) -> Row {
+    (call, told, told)
+}
+
+/// Each call, in the order of its declaration.
+fn rows(alloc: Global) -> Result<Vec<Row>, Fail> {
+    Ok(vec![in alloc;
+        (
+            Call::PushFront(5),
+            ["full 5 []", "done [5]", "full 5 [7]"],
+            ["displaced 5 []", "displaced none [5]", "displaced 7 [5]"]
+        ),
+        (
+            Call::PushBack(5),
+            ["full 5 []", "done [5]", "full 5 [7]"],
+            ["displaced 5 []", "displaced none [5]", "displaced 7 [5]"]
+        ),
+        alike(Call::PopFront, ["none []", "none []", "7 []"]),
+        alike(Call::PopBack, ["none []", "none []", "7 []"]),
+        (
+            Call::Insert(0, 5),
+            ["full 5 []", "done [5]", "full 5 [7]"],
+            ["unoffered 5 []", "unoffered 5 []", "unoffered 5 [7]"]
+        ),
+        (
+            Call::Insert(1, 5),
+            ["range 5 []", "range 5 []", "full 5 [7]"],
+            ["unoffered 5 []", "unoffered 5 []", "unoffered 5 [7]"]
+        ),
+        (
+            Call::Insert(2, 5),
+            ["range 5 []", "range 5 []", "range 5 [7]"],
+            ["unoffered 5 []", "unoffered 5 []", "unoffered 5 [7]"]
+        ),
+        alike(Call::Remove(0), ["none []", "none []", "7 []"]),
+        alike(Call::Remove(1), ["none []", "none []", "none [7]"]),
+        alike(Call::SwapRemoveBack(0), ["none []", "none []", "7 []"]),
+        alike(Call::SwapRemoveBack(1), ["none []", "none []", "none [7]"]),
+        alike(Call::SwapRemoveFront(0), ["none []", "none []", "7 []"]),
+        alike(Call::SwapRemoveFront(1), ["none []", "none []", "none [7]"]),
+        alike(Call::Swap(0, 0), ["range []", "range []", "done [7]"]),
+        alike(Call::Swap(0, 1), ["range []", "range []", "range [7]"]),
+        alike(Call::Swap(1, 0), ["range []", "range []", "range [7]"]),
+        alike(Call::Replace(0, 5), ["range 5 []", "range 5 []", "7 [5]"]),
+        alike(
+            Call::Replace(1, 5),
+            ["range 5 []", "range 5 []", "range 5 [7]"]
+        ),
+        alike(Call::Clear, ["done []", "done []", "done []"]),
+        alike(Call::Linearize, ["done []", "done []", "done [7]"]),
+        (
+            Call::ExtendBack(vec![in alloc; 1, 2]?),
+            ["done []", "done [1]", "done [7]"],
+            ["done []", "done [2]", "done [2]"]
+        ),
+        (
+            Call::ExtendFront(vec![in alloc; 1, 2]?),
+            ["done []", "done [1]", "done [7]"],
+            ["done []", "done [2]", "done [2]"]
+        ),
+        (
+            Call::Extend(vec![in alloc; 1, 2]?),
+            ["done []", "done [1]", "done [7]"],
+            ["done []", "done [2]", "done [2]"]
+        ),
+        alike(
+            Call::Drain(0, 0),
+            ["drained [] []", "drained [] []", "drained [] [7]"]
+        ),
+        alike(
+            Call::Drain(0, 1),
+            ["range []", "range []", "drained [7] []"]
+        ),
+        alike(Call::Drain(1, 0), ["range []", "range []", "range [7]"]),
+        alike(
+            Call::Drain(1, 1),
+            ["range []", "range []", "drained [] [7]"]
+        ),
+        alike(Call::Drain(0, 2), ["range []", "range []", "range [7]"]),
+        alike(
+            Call::SplitOff(0),
+            ["split [] []", "split [] []", "split [7] []"]
+        ),
+        alike(Call::SplitOff(1), ["range []", "range []", "split [] [7]"]),
+        alike(Call::SplitOff(2), ["range []", "range []", "range [7]"]),
+        alike(Call::Len, ["number 0 []", "number 0 []", "number 1 [7]"]),
+        alike(
+            Call::Capacity,
+            ["number 0 []", "number 1 []", "number 1 [7]"]
+        ),
+        alike(Call::IsEmpty, ["true []", "true []", "false [7]"]),
+        alike(Call::IsFull, ["true []", "false []", "true [7]"]),
+    ]?)
+}
+
+/// Compares the one reply to a call and the list that it left with the text.
+fn compare<const CAP: usize, B: Behavior>(
+    rt: &impl Abort,
+    alloc: Global,
+    replies: Vec<Reply<i64, CAP, B>>,
+    deque: &ArrayDeque<i64, CAP, B>,
+    told: &str,
+) -> Result<(), Fail> {
+    let mut text = String::new(alloc);
+    for reply in replies {
+        write!(text, "{} {deque:?}", text_of(alloc, reply)?)?;
+    }
+    assert!(rt; text.as_str() == told, "{text} for {told}");
+    Ok(())
+}
+
+/// Makes a call on a deque that refuses.
+fn refusing<const CAP: usize>(
+    rt: &impl Abort,
+    alloc: Global,
+    list: &[i64],
+    call: Call<i64>,
+    told: &str,
+) -> Result<(), Fail> {
+    let mut deque = deque_at::<CAP>(alloc, 0, list)?;
+    let replies = made(deque.run(vec![in alloc; call]?))?;
+    compare(rt, alloc, replies, &deque, told)
+}
+
+/// Makes a call on a deque that displaces.
+fn displacing<const CAP: usize>(
+    rt: &impl Abort,
+    alloc: Global,
+    list: &[i64],
+    call: Call<i64>,
+    told: &str,
+) -> Result<(), Fail> {
+    let mut deque = wrapping_at::<CAP>(alloc, 0, list)?;
+    let replies = made(deque.run(vec![in alloc; call]?))?;
+    compare(rt, alloc, replies, &deque, told)
 }
 
 #[test]
-fn displacing_at_no_places(rt: HostRuntime) -> Result<(), Fail> {
-    let (two, two_more) = (vec![in rt.alloc(); 1, 2]?, vec![in rt.alloc(); 3, 4]?);
-    let one = vec![in rt.alloc(); 5]?;
-    let rows = vec![in rt.alloc();
-        (Call::PushFront(5), "displaced Some(5)"),
-        (Call::PushBack(6), "displaced Some(6)"),
-        (Call::Insert(0, 9), "not offered 9"),
-        (Call::PopFront, "item None"),
-        (Call::PopBack, "item None"),
-        (Call::ExtendBack(two), "done"),
-        (Call::ExtendFront(two_more), "done"),
-        (Call::Extend(one), "done"),
-        (Call::Capacity, "0"),
-        (Call::IsEmpty, "true"),
-        (Call::IsFull, "true"),
-    ]?;
-    wrapping::<0>(&rt, rt.alloc(), rows, &[])
-}
-
-#[test]
-fn displacing_finds_no_index_at_no_places(rt: HostRuntime) -> Result<(), Fail> {
-    let rows = vec![in rt.alloc();
-        (Call::Remove(0), "item None"),
-        (Call::SwapRemoveBack(0), "item None"),
-        (Call::SwapRemoveFront(0), "item None"),
-        (Call::Swap(0, 0), "out of range None"),
-        (Call::Replace(0, 5), "out of range Some(5)"),
-        (Call::Drain(0, 0), "drained []"),
-        (Call::Drain(0, 1), "out of range None"),
-        (Call::SplitOff(0), "split [] []"),
-        (Call::SplitOff(1), "out of range None"),
-        (Call::Clear, "done"),
-        (Call::Linearize, "done"),
-        (Call::Len, "0"),
-    ]?;
-    wrapping::<0>(&rt, rt.alloc(), rows, &[])
-}
-
-#[test]
-fn one_place_refuses_a_second_item(rt: HostRuntime) -> Result<(), Fail> {
-    let rows = vec![in rt.alloc();
-        (Call::PushBack(1), "done"),
-        (Call::PushFront(2), "full 2"),
-        (Call::PushBack(2), "full 2"),
-        (Call::Insert(0, 3), "full 3"),
-        (Call::Insert(1, 3), "full 3"),
-        (Call::Insert(2, 3), "out of range Some(3)"),
-        (Call::Replace(0, 4), "item Some(1)"),
-        (Call::Replace(1, 5), "out of range Some(5)"),
-        (Call::Swap(0, 0), "done"),
-        (Call::Swap(0, 1), "out of range None"),
-        (Call::IsFull, "true"),
-        (Call::Len, "1"),
-    ]?;
-    saturating::<1>(&rt, rt.alloc(), rows, &[4])
-}
-
-#[test]
-fn the_item_of_one_place_goes_and_comes(rt: HostRuntime) -> Result<(), Fail> {
-    let rows = vec![in rt.alloc();
-        (Call::Insert(0, 1), "done"),
-        (Call::SwapRemoveBack(0), "item Some(1)"),
-        (Call::PushFront(2), "done"),
-        (Call::SwapRemoveFront(0), "item Some(2)"),
-        (Call::PushBack(3), "done"),
-        (Call::Remove(0), "item Some(3)"),
-        (Call::PushBack(4), "done"),
-        (Call::PopBack, "item Some(4)"),
-        (Call::PushBack(5), "done"),
-        (Call::Clear, "done"),
-        (Call::IsEmpty, "true"),
-        (Call::Capacity, "1"),
-    ]?;
-    saturating::<1>(&rt, rt.alloc(), rows, &[])
-}
-
-#[test]
-fn parts_and_extends_of_one_place(rt: HostRuntime) -> Result<(), Fail> {
-    let (back, front) = (vec![in rt.alloc(); 1, 2]?, vec![in rt.alloc(); 3, 4]?);
-    let last = vec![in rt.alloc(); 5, 6]?;
-    let rows = vec![in rt.alloc();
-        (Call::ExtendBack(back), "done"),
-        (Call::Linearize, "done"),
-        (Call::Drain(0, 1), "drained [1]"),
-        (Call::Drain(0, 1), "out of range None"),
-        (Call::ExtendFront(front), "done"),
-        (Call::SplitOff(1), "split [] []"),
-        (Call::SplitOff(0), "split [3] []"),
-        (Call::SplitOff(1), "out of range None"),
-        (Call::Extend(last), "done"),
-    ]?;
-    saturating::<1>(&rt, rt.alloc(), rows, &[5])
-}
-
-#[test]
-fn displacing_at_one_place(rt: HostRuntime) -> Result<(), Fail> {
-    let two = vec![in rt.alloc(); 8, 9]?;
-    let rows = vec![in rt.alloc();
-        (Call::PushBack(1), "displaced None"),
-        (Call::Insert(0, 9), "not offered 9"),
-        (Call::Replace(0, 4), "item Some(1)"),
-        (Call::Swap(0, 0), "done"),
-        (Call::SwapRemoveBack(0), "item Some(4)"),
-        (Call::PushFront(5), "displaced None"),
-        (Call::SwapRemoveFront(0), "item Some(5)"),
-        (Call::PushFront(6), "displaced None"),
-        (Call::Drain(0, 1), "drained [6]"),
-        (Call::Extend(two), "done"),
-        (Call::IsFull, "true"),
-        (Call::PopFront, "item Some(9)"),
-    ]?;
-    wrapping::<1>(&rt, rt.alloc(), rows, &[])
+fn each_call_at_the_smallest_capacities(rt: HostRuntime) -> Result<(), Fail> {
+    for (call, [told, _, _], _) in rows(rt.alloc())? {
+        refusing::<0>(&rt, rt.alloc(), &[], call, told)?;
+    }
+    for (call, [_, told, _], _) in rows(rt.alloc())? {
+        refusing::<1>(&rt, rt.alloc(), &[], call, told)?;
+    }
+    for (call, [_, _, told], _) in rows(rt.alloc())? {
+        refusing::<1>(&rt, rt.alloc(), &[7], call, told)?;
+    }
+    for (call, _, [told, _, _]) in rows(rt.alloc())? {
+        displacing::<0>(&rt, rt.alloc(), &[], call, told)?;
+    }
+    for (call, _, [_, told, _]) in rows(rt.alloc())? {
+        displacing::<1>(&rt, rt.alloc(), &[], call, told)?;
+    }
+    for (call, _, [_, _, told]) in rows(rt.alloc())? {
+        displacing::<1>(&rt, rt.alloc(), &[7], call, told)?;
+    }
+    Ok(())
 }

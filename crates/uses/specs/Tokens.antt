@@ -1,6 +1,6 @@
 -- What the tokens of an input are.
-use Rattle.std.specs.Prelude.{◌≡◌, ◌<◌, ℕ, List, length, All, if◌then◌else◌}
-use Rattle.std.specs.List.{flat_map}
+use Rattle.std.specs.Prelude.{◌≡◌, ◌<◌, ℕ, List, length, slice_get, All, IfSome, if◌then◌else◌}
+use Rattle.std.specs.List.{flat_map, AllAdjacentBelow}
 use Rattle.std.specs.Char.{is_ascii_alphabetic, is_ascii_digit}
 use Rattle.uses.specs.declared.tokens.Kind.{Kind}
 use Rattle.uses.specs.declared.tokens.Kind.TheVariants.{Letters, Digits, Sign}
@@ -25,3 +25,12 @@ IsOfOneKind token = (0 < length token.text.items)
 -- the token has one byte if it is a sign
 abbrev pub IsOneByteIfSign : Token → Type 0
 IsOneByteIfSign token = token.kind ≡ Sign → length token.text.items ≡ 1
+
+-- no byte of that kind comes next, or each such byte is a token of its own
+abbrev pub IsOver : Kind → List ℕ → Type 0
+IsOver kind rest = IfSome (slice_get rest 0) (λ byte. kind_of byte ≡ kind → kind ≡ Sign)
+
+-- no two tokens could be one: those side by side are of different kinds, or signs
+abbrev pub AreLongest : List Token → Type 0
+AreLongest tokens =
+    AllAdjacentBelow (λ token next. token.kind ≡ next.kind → token.kind ≡ Sign) tokens (length tokens)

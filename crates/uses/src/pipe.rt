@@ -3,6 +3,7 @@
 //! It stands on `arraydeque` under `Saturating`, and is proved from the deque's public contract
 //! alone: what was written comes out unchanged.
 ghost use Rattle.std.specs.Prelude.{◌≡◌, ◌<◌, ◌-◌, ◌++◌, [], length, take, min, IfOk, OnOk, OnErr};
+ghost use Rattle.std.specs.Io.{StartsWith};
 
 use arraydeque::{ArrayDeque, Saturating};
 use std::alloc::{AllocError, Global};
@@ -62,12 +63,16 @@ impl<const CAP: usize> Pipe<CAP> {
         Ok(())
     }
 
-    /// Sends a text through an empty pipe, piece by piece, onto the end of `into`.
+    /// Sends a text through an empty pipe, piece by piece, onto the end of `into`. Where memory is
+    /// refused, what was sent so far stands there, and some bytes that come next wait in the pipe.
     pub fn send(&mut self, text: &[u8], into: &mut Vec<u8>) -> Result<(), AllocError>
         requires room { 0 < CAP }
         requires empty { self.old ≡ [] }
         ensures whole { OnOk result (into.new.items ≡ into.old.items ++ text.now) }
         ensures empty { OnOk result (self.new ≡ []) }
+        ensures refused { OnErr result (0 < length self.new) }
+        ensures none_lost { OnErr result (StartsWith (into.old.items ++ text.now)
+            (into.new.items ++ self.new)) }
     {
         let mut rest = text;
         while !rest.is_empty() {

@@ -1,12 +1,12 @@
 //! A tokenizer with one byte of look-ahead.
 //!
 //! It stands on `arraydeque::lookahead::Scanner`, and is proved from the scanner's public contract
-//! alone: the tokens of an input, joined, are the input.
-ghost use Rattle.std.specs.Prelude.{◌≡◌, ◌≢◌, ◌<◌, [], IfOk, IfSome, IfNone, All, ⊤};
+//! alone: the tokens of an input, joined, are the input, and no two side by side could be one.
+ghost use Rattle.std.specs.Prelude.{◌≡◌, ◌≢◌, ◌<◌, ℕ, List, [], IfOk, IfSome, IfNone, All, ⊤};
 ghost use Rattle.std.specs.Iterator.{IsFinite, MakesProgress, UpTo, size};
 ghost use Rattle.std.specs.Option.{option_to_list};
 ghost use Rattle.arraydeque.specs.Lookahead.{HasRest, TakesOff, left_of};
-ghost use Rattle.uses.specs.Tokens.{kind_of, joined, IsOfOneKind, IsOneByteIfSign};
+ghost use Rattle.uses.specs.Tokens.{kind_of, joined, IsOfOneKind, IsOneByteIfSign, IsOver, AreLongest};
 ghost use Rattle.uses.specs.declared.tokens.Kind.TheVariants.{Sign};
 
 use arraydeque::lookahead::Scanner;
@@ -45,6 +45,7 @@ pub fn tokenize<I: Iterator<Item = u8>, const AHEAD: usize>(
         HasRest I.next_gives scanner.old (joined tokens.items)) }
     ensures one_kind { IfOk result (λ tokens. All IsOfOneKind tokens.items) }
     ensures signs { IfOk result (λ tokens. All IsOneByteIfSign tokens.items) }
+    ensures longest { IfOk result (λ tokens. AreLongest tokens.items) }
 {
     let mut tokens = Vec::new(alloc);
     while let Some(token) = next_token(alloc, scanner)? {
@@ -58,6 +59,7 @@ pub fn tokenize_text(alloc: Global, text: &[u8]) -> Result<Vec<Token>, AllocErro
     ensures joined { IfOk result (λ tokens. joined tokens.items ≡ text.now) }
     ensures one_kind { IfOk result (λ tokens. All IsOfOneKind tokens.items) }
     ensures signs { IfOk result (λ tokens. All IsOneByteIfSign tokens.items) }
+    ensures longest { IfOk result (λ tokens. AreLongest tokens.items) }
 {
     match Scanner::<_, 1>::new(alloc, text.iter().copied()) {
         Ok(mut scanner) => tokenize(alloc, &mut scanner),
@@ -77,6 +79,8 @@ fn next_token<I: Iterator<Item = u8>, const AHEAD: usize>(
     ensures over { IfOk result (λ token. IfNone token (HasRest I.next_gives scanner.old [])) }
     ensures one_kind { IfOk result (λ token. IfSome token IsOfOneKind) }
     ensures signs { IfOk result (λ token. IfSome token IsOneByteIfSign) }
+    ensures longest { IfOk result (λ token. IfSome token (λ token. (rest : List ℕ)
+        → HasRest I.next_gives scanner.new rest → IsOver token.kind rest)) }
     ensures goes { IfOk result (λ token.
         MakesProgress (λ _. ⊤) (left_of I.remaining) scanner.old token scanner.new) }
 {
@@ -101,6 +105,8 @@ fn next_of_kind<I: Iterator<Item = u8>, const AHEAD: usize>(
     ensures taken { TakesOff I.next_gives scanner.old (option_to_list result) scanner.new }
     ensures same_kind { IfSome result (λ byte. kind_of byte ≡ kind) }
     ensures no_sign { IfSome result (λ _. kind ≢ Sign) }
+    ensures over { IfNone result ((rest : List ℕ)
+        → HasRest I.next_gives scanner.new rest → IsOver kind rest) }
     ensures goes { MakesProgress (λ _. ⊤) (left_of I.remaining) scanner.old result scanner.new }
     ensures finite { IsFinite (left_of I.remaining scanner.old)
         → UpTo (left_of I.remaining scanner.new) (size (left_of I.remaining scanner.old)) }

@@ -49,7 +49,22 @@ fn what_was_written_is_pushed_behind(rt: HostRuntime) -> Result<(), Fail> {
     let mut deque: ArrayDeque<i64, 4, Wrapping> = deque_at(rt.alloc(), 3, &[1, 2, 3])?.into();
     let written = write_slices_and_push(&mut deque);
     assert!(rt; written == 3 && holds(&deque, &[1, 2, 3, 3]));
-    let popped = wipe_and_pop(&mut deque);
-    assert!(rt; popped == Some(0) && holds(&deque, &[0, 0, 0]));
+    Ok(())
+}
+
+#[test]
+fn wiped_items_are_zeros(rt: HostRuntime) -> Result<(), Fail> {
+    for start in 0..4 {
+        for (items, popped, left) in [
+            ([5, 6, 7].as_slice(), Some(0), [0, 0].as_slice()),
+            (&[], None, &[]),
+        ] {
+            let mut deque = deque_at::<4>(rt.alloc(), start, items)?;
+            assert!(rt;
+                wipe_and_pop(&mut deque) == popped && holds(&deque, left),
+                "start {start}"
+            );
+        }
+    }
     Ok(())
 }

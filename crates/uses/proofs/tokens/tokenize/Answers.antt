@@ -1,6 +1,7 @@
-use Rattle.std.proofs.Common.{[], ◌∷◌, append-nil, arith}
+use Rattle.std.proofs.Common.{[], ◌∷◌, ◌++◌, append-nil, arith}
 use Rattle.std.proofs.lemmas.Grind.{common_steps, flat_map-append}
 use Rattle.uses.specs.Tokens.{joined}
+use Rattle.uses.proofs.Cut.{AreCut-push}
 use Rattle.uses.proofs.Taken.{TakesOff-append}
 use Rattle.uses.proofs.tokens.tokenize.Goals as goal
 
@@ -11,6 +12,7 @@ loop-tokens-preserved g c =
       taken = rw (c.in_ok-push.ensures.items, flat_map-append) (TakesOff-append g.I.Iterator.next_gives c.args.scanner.now c.loop-tokens.scanner c.next_token.new.scanner (joined c.loop-tokens.tokens.items) (joined (c.in-Some.token ∷ [])) c.loop-tokens.invariant.taken token);
       one_kind = grind (arith, common_steps);
       signs = grind (arith, common_steps);
+      longest = λ rest has. rw c.in_ok-push.ensures.items (AreCut-push c.loop-tokens.tokens.items c.in-Some.token rest (c.loop-tokens.invariant.longest (joined (c.in-Some.token ∷ []) ++ rest) (token rest has)) (rw c.in-Some.is at c.in_ok-token.ensures.one_kind) ((rw c.in-Some.is at c.in_ok-token.ensures.longest) rest has));
       finite = grind (arith, common_steps);
     }
 
@@ -18,3 +20,8 @@ pub returns-clause-joined : goal.returns-clause-joined
 returns-clause-joined g c =
     let over = rw c.in_default.is at c.in_ok-token.ensures.over in
     rw append-nil at (c.loop-tokens.invariant.taken [] over)
+
+pub returns-clause-longest : goal.returns-clause-longest
+returns-clause-longest g c =
+    let over = rw c.in_default.is at c.in_ok-token.ensures.over in
+    (c.loop-tokens.invariant.longest [] over).0

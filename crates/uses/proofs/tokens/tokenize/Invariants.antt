@@ -1,7 +1,8 @@
-use Rattle.std.proofs.Common.{All}
+use Rattle.std.proofs.Common.{ℕ, List, All}
 use Rattle.std.specs.Iterator.{IsFinite, size}
-use Rattle.arraydeque.specs.Lookahead.{TakesOff, left_of}
+use Rattle.arraydeque.specs.Lookahead.{HasRest, TakesOff, left_of}
 use Rattle.uses.specs.Tokens.{joined, IsOfOneKind, IsOneByteIfSign}
+use Rattle.uses.proofs.Cut.{AreCut}
 use Rattle.uses.proofs.tokens.tokenize.Given as goal
 
 abbrev pub invariant-loop-tokens : goal.invariant-loop-tokens
@@ -9,6 +10,7 @@ invariant-loop-tokens g l = record {
   taken : TakesOff g.I.Iterator.next_gives l.fn.scanner (joined l.tokens.items) l.scanner;
   one_kind : All IsOfOneKind l.tokens.items;
   signs : All IsOneByteIfSign l.tokens.items;
+  longest : (rest : List ℕ) → HasRest g.I.Iterator.next_gives l.scanner rest → AreCut l.tokens.items rest;
   finite : IsFinite (left_of g.I.Iterator.remaining l.scanner);
 }
 
