@@ -2,6 +2,6 @@
 #![tactic(auto)]
 
 #[cfg(test)]
-mod clones;
+mod clone;
 #[cfg(test)]
-mod compared;
+mod compare;

@@ -2,6 +2,6 @@
 #![tactic(auto)]
 
 #[cfg(test)]
-mod iterators;
+mod lends;
 #[cfg(test)]
 mod lookahead;

@@ -1,4 +1,7 @@
-//! Extends at both ends, and how often they ask.
+//! Extends at both ends, how often they ask, and what they make of hints that aren't to be trusted.
+ghost use Rattle.std.specs.Prelude.{◌+◌, ◌^◌, length};
+ghost use Rattle.std.specs.Iterator.{at_most};
+
 use crate::asked::{Count, Script};
 use crate::build::{deque_at, holds, made, wrapping_at};
 use arraydeque::{ArrayDeque, Saturating, Wrapping};
@@ -46,19 +49,6 @@ fn extends<const CAP: usize>(
         are_left &= holds(&saturating, kept) && holds(&wrapping, displaced);
     }
     Ok(are_left)
-}
-
-/// Whether one list, added by each way to these items, leaves what it should.
-pub(crate) fn by_each_way<const CAP: usize>(
-    alloc: Global,
-    items: &[i64],
-    row: Row<'_>,
-) -> Result<bool, Fail> {
-    Ok(
-        extends::<CAP>(alloc, 0, items, Way::Back, &[row])?
-            && extends::<CAP>(alloc, 0, items, Way::Front, &[row])?
-            && extends::<CAP>(alloc, 0, items, Way::Trait, &[row])?,
-    )
 }
 
 #[test]
@@ -123,15 +113,66 @@ fn asks(
     Ok(count.asked == asked && holds(&deque, left))
 }
 
+/// Whether a deque that such a count has filled does not ask it again.
+fn asks_no_more(alloc: Global) -> Result<bool, Fail> {
+    let mut deque = deque_at::<3>(alloc, 0, &[1, 2])?;
+    let mut count = Count::from(10);
+    deque.extend_back(&mut count);
+    let is_filled = count.asked == 1 && holds(&deque, &[1, 2, 10]);
+    deque.extend_back(&mut count);
+    Ok(is_filled && count.asked == 1 && holds(&deque, &[1, 2, 10]))
+}
+
 #[test]
 fn an_extend_asks_for_what_it_has_room_for(rt: HostRuntime) -> Result<(), Fail> {
-    let asks_for_room = asks(rt.alloc(), &[1, 2], false, 1, &[1, 2, 10])?
-        && asks(rt.alloc(), &[1, 2, 10], false, 0, &[1, 2, 10])?
+    let asks_for_room = asks_no_more(rt.alloc())?
         && asks(rt.alloc(), &[1], true, 2, &[11, 10, 1])?
         && asks(rt.alloc(), &[1, 2, 3], true, 0, &[1, 2, 3])?;
     let mut count = Count::from(10);
     let deque = made(ArrayDeque::<i64, 3, Saturating>::from_iter(rt.alloc(), &mut count))?;
     assert!(rt; asks_for_room && count.asked == 3 && holds(&deque, &[10, 11, 12]));
+    Ok(())
+}
+
+/// Whether the trait's extend under either policy, and the others under the one that displaces, ask
+/// so often, and leave the list so.
+fn asks_to_the_end<const CAP: usize>(
+    alloc: Global,
+    items: &[i64],
+    answers: &[Option<i64>],
+    asked: usize,
+) -> Result<bool, Fail> {
+    let mut saturating = deque_at::<CAP>(alloc, 0, items)?;
+    let mut wrapping = wrapping_at::<CAP>(alloc, 0, items)?;
+    let mut added = Script::of(answers);
+    let mut displacing = Script::of(answers);
+    let mut back = Script::of(answers);
+    let mut front = Script::of(answers);
+    saturating.extend(&mut added)?;
+    wrapping.extend(&mut displacing)?;
+    wrapping.extend_back(&mut back);
+    wrapping.extend_front(&mut front);
+    Ok((added.asked, displacing.asked, back.asked, front.asked) == (asked, asked, asked, asked))
+}
+
+/// Each item is asked for, and then the end, also where the deque is full.
+#[test]
+fn an_iterator_is_asked_to_its_end(rt: HostRuntime) -> Result<(), Fail> {
+    let rows: [(&[i64], &[Option<i64>], usize); 6] = [
+        (&[], &[], 1),
+        (&[1, 2, 3], &[], 1),
+        (&[1], &[Some(5)], 2),
+        (&[1, 2, 3], &[Some(5)], 2),
+        (&[1, 2], &[Some(5), Some(6), Some(7), Some(8)], 5),
+        (&[1, 2, 3], &[Some(5), Some(6), Some(7), Some(8)], 5),
+    ];
+    for (items, answers, asked) in rows {
+        assert!(rt;
+            asks_to_the_end::<3>(rt.alloc(), items, answers, asked)?
+                && asks_to_the_end::<0>(rt.alloc(), &[], answers, asked)?,
+            "{items:?}, {asked}"
+        );
+    }
     Ok(())
 }
 
@@ -160,9 +201,78 @@ fn ends_at_none(alloc: Global, answers: &[Option<i64>]) -> Result<bool, Fail> {
 #[test]
 fn an_iterator_ends_at_its_first_none(rt: HostRuntime) -> Result<(), Fail> {
     let is_ended = ends_at_none(rt.alloc(), &[Some(1), None, Some(2)])?;
-    let mut deque = deque_at::<3>(rt.alloc(), 0, &[1])?;
+    let mut five = ArrayDeque::<i64, 5, Saturating>::new(rt.alloc())?;
+    five.extend_back(Script::of(&[Some(1), None, Some(2)]));
+    let mut three = deque_at::<3>(rt.alloc(), 0, &[1])?;
     let mut script = Script::of(&[Some(7)]);
-    deque.extend_back(&mut script);
-    assert!(rt; is_ended && script.asked == 2 && holds(&deque, &[1, 7]));
+    three.extend_back(&mut script);
+    assert!(rt; is_ended && holds(&five, &[1]) && script.asked == 2 && holds(&three, &[1, 7]));
+    Ok(())
+}
+
+/// Gives the items of a slice, and hints that at least so many come.
+#[derive(Drop)]
+struct Boast<'a> {
+    rest: &'a [i64],
+    told: usize,
+}
+
+impl Boast<'_> {
+    /// The items 1 and 2, and the hint that at least so many come.
+    fn of_two(told: usize) -> Boast<'static> {
+        Boast {
+            rest: &[1, 2],
+            told,
+        }
+    }
+}
+
+impl Iterator for Boast<'_> {
+    type Item = i64;
+
+    ghost remaining = { λ s. at_most (length s.rest.now + 2 ^ 64) };
+
+    fn next(&mut self) -> Option<i64> {
+        let (item, rest) = self.rest.split_first()?;
+        self.rest = rest;
+        Some(*item)
+    }
+
+    fn size_hint(&self) -> (usize, Option<usize>) {
+        (self.told, None)
+    }
+}
+
+/// Whether the extends at both ends take what comes, and no hint.
+fn extends_alike(alloc: Global, told: usize) -> Result<bool, Fail> {
+    let mut deque = deque_at::<3>(alloc, 2, &[0])?;
+    deque.extend_back(Boast::of_two(told));
+    let mut front = deque_at::<3>(alloc, 2, &[0])?;
+    front.extend_front(Boast::of_two(told));
+    let mut wrapping = wrapping_at::<3>(alloc, 2, &[8, 9])?;
+    wrapping.extend_back(Boast::of_two(told));
+    let mut by_trait = deque_at::<3>(alloc, 2, &[8, 9])?;
+    by_trait.extend(Boast::of_two(told))?;
+    Ok(
+        holds(&deque, &[0, 1, 2])
+            && holds(&front, &[2, 1, 0])
+            && holds(&wrapping, &[9, 1, 2])
+            && holds(&by_trait, &[8, 9, 1]),
+    )
+}
+
+/// Whether the makers of an iterator do.
+fn makers_alike(alloc: Global, told: usize) -> Result<bool, Fail> {
+    let first = made(ArrayDeque::<i64, 3, Saturating>::from_iter(alloc, Boast::of_two(told)))?;
+    let last = made(ArrayDeque::<i64, 1, Wrapping>::from_iter(alloc, Boast::of_two(told)))?;
+    Ok(holds(&first, &[1, 2]) && holds(&last, &[2]))
+}
+
+#[test]
+fn a_hint_has_no_say(rt: HostRuntime) -> Result<(), Fail> {
+    for told in [0, 1, 2, 3, 1000, usize::MAX] {
+        let are_alike = extends_alike(rt.alloc(), told)? && makers_alike(rt.alloc(), told)?;
+        assert!(rt; are_alike, "{told}");
+    }
     Ok(())
 }

@@ -8,11 +8,7 @@ use arraydeque_samples::{asked, build};
 #[cfg(test)]
 mod access;
 #[cfg(test)]
-mod capacities;
-#[cfg(test)]
 mod deque;
-#[cfg(test)]
-mod drops;
 #[cfg(test)]
 mod extend;
 #[cfg(test)]
@@ -25,10 +21,6 @@ mod moves;
 mod parts;
 #[cfg(test)]
 mod policies;
-#[cfg(test)]
-mod refusals;
-#[cfg(test)]
-mod requests;
 #[cfg(test)]
 mod retain;
 #[cfg(test)]

@@ -1,19 +1,30 @@
 //! Deques made of other collections, and collections made of a deque.
-use crate::build::{deque_at, holds, is_cut, made, numbers};
-use arraydeque::{ArrayDeque, CapacityError, Saturating, Wrapping};
+use crate::build::{deque_at, holds, is_cut, made, numbers, wrapping_at};
+use arraydeque::behavior::Behavior;
+use arraydeque::{ArrayDeque, CapacityError, MakeError, Saturating, Wrapping};
 use std::alloc::Global;
+use std::process::Abort;
 use std::test::Fail;
 
-/// Whether deques of the numbers from 1 to `last` keep the first three or the last.
+type Refusing<const CAP: usize> = ArrayDeque<i64, CAP, Saturating>;
+
+type Displacing<const CAP: usize> = ArrayDeque<i64, CAP, Wrapping>;
+
+/// Whether deques of an iterator are those of an array of its first three items and of its last.
 fn keeps_of_iterator(
     alloc: Global,
-    last: i64,
-    first_three: &[i64],
-    last_three: &[i64],
+    items: &[i64],
+    first_three: [i64; 3],
+    last_three: [i64; 3],
 ) -> Result<bool, Fail> {
-    let first = made(ArrayDeque::<i64, 3, Saturating>::from_iter(alloc, 1..=last))?;
-    let rest = made(ArrayDeque::<i64, 3, Wrapping>::from_iter(alloc, 1..=last))?;
-    Ok(holds(&first, first_three) && holds(&rest, last_three))
+    let first = made(Refusing::<3>::from_iter(alloc, items.iter().copied()))?;
+    let last = made(Displacing::<3>::from_iter(alloc, items.iter().copied()))?;
+    Ok(
+        first == made(Refusing::<3>::from_array(alloc, first_three))?
+            && last == made(Displacing::<3>::from_array(alloc, last_three))?
+            && holds(&first, &first_three)
+            && holds(&last, &last_three),
+    )
 }
 
 /// Whether deques of a vector of these items keep the first two or the last.
@@ -24,17 +35,17 @@ fn keeps_of_vector(
     last_two: &[i64],
 ) -> Result<bool, Fail> {
     let list = Vec::from_slice(alloc, items)?;
-    let first = made(ArrayDeque::<i64, 2, Saturating>::from_vec(alloc, list))?;
+    let first = made(Refusing::<2>::from_vec(alloc, list))?;
     let list = Vec::from_slice(alloc, items)?;
-    let rest = made(ArrayDeque::<i64, 2, Wrapping>::from_vec(alloc, list))?;
+    let rest = made(Displacing::<2>::from_vec(alloc, list))?;
     Ok(holds(&first, first_two) && holds(&rest, last_two))
 }
 
 /// Whether deques of an array keep the first items or the last, those of the largest alignment too.
 fn keeps_of_array(alloc: Global) -> Result<bool, Fail> {
     let array = [1, 2, 3, 4];
-    let first = made(ArrayDeque::<i64, 2, Saturating>::from_array(alloc, array))?;
-    let last = made(ArrayDeque::<i64, 2, Wrapping>::from_array(alloc, array))?;
+    let first = made(Refusing::<2>::from_array(alloc, array))?;
+    let last = made(Displacing::<2>::from_array(alloc, array))?;
     let aligned = made(ArrayDeque::<u128, 3, Wrapping>::from_array(alloc, [1, 2, 3, 4]))?;
     Ok(holds(&first, &[1, 2]) && holds(&last, &[3, 4]) && holds(&aligned, &[2, 3, 4]))
 }
@@ -42,8 +53,8 @@ fn keeps_of_array(alloc: Global) -> Result<bool, Fail> {
 #[test]
 fn deques_of_other_collections(rt: HostRuntime) -> Result<(), Fail> {
     assert!(rt;
-        keeps_of_iterator(rt.alloc(), 3, &[1, 2, 3], &[1, 2, 3])?
-            && keeps_of_iterator(rt.alloc(), 5, &[1, 2, 3], &[3, 4, 5])?
+        keeps_of_iterator(rt.alloc(), &[1, 2, 3], [1, 2, 3], [1, 2, 3])?
+            && keeps_of_iterator(rt.alloc(), &[1, 2, 3, 4, 5], [1, 2, 3], [3, 4, 5])?
             && keeps_of_array(rt.alloc())?
             && keeps_of_vector(rt.alloc(), &[], &[], &[])?
             && keeps_of_vector(rt.alloc(), &[1, 2], &[1, 2], &[1, 2])?
@@ -52,17 +63,105 @@ fn deques_of_other_collections(rt: HostRuntime) -> Result<(), Fail> {
     Ok(())
 }
 
+/// Whether a deque was made, and has these items.
+fn is_made<S: Drop, const CAP: usize, B: Behavior>(
+    deque: Result<ArrayDeque<i64, CAP, B>, MakeError<S>>,
+    items: &[i64],
+) -> Result<bool, Fail> {
+    Ok(holds(&made(deque)?, items))
+}
+
+/// Whether the deques of an iterator and of a vector, under either policy, have the first or the
+/// last items of it.
+fn made_alike<const CAP: usize>(alloc: Global, list: &[i64]) -> Result<bool, Fail> {
+    let (first, _) = list.split_at(list.len().min(CAP));
+    let (_, last) = list.split_at(list.len().saturating_sub(CAP));
+    Ok(
+        is_made(
+            Refusing::<CAP>::from_iter(alloc, list.iter().copied()),
+            first,
+        )? && is_made(
+            Displacing::<CAP>::from_iter(alloc, list.iter().copied()),
+            last,
+        )? && is_made(
+            Refusing::<CAP>::from_vec(alloc, Vec::from_slice(alloc, list)?),
+            first,
+        )? && is_made(
+            Displacing::<CAP>::from_vec(alloc, Vec::from_slice(alloc, list)?),
+            last,
+        )?,
+    )
+}
+
+/// Whether the deques of an array, under either policy, have the first or the last items of it.
+fn of_an_array<const CAP: usize>(alloc: Global) -> Result<bool, Fail> {
+    let array = [0, 1, 2, 3];
+    let (first, _) = array.as_slice().split_at(CAP.min(4));
+    let (_, last) = array.as_slice().split_at(4 - CAP.min(4));
+    Ok(
+        is_made(Refusing::<CAP>::from_array(alloc, array), first)?
+            && is_made(Displacing::<CAP>::from_array(alloc, array), last)?,
+    )
+}
+
+/// Makers of each length up to two items too many.
+fn make_all<const CAP: usize>(rt: &impl Abort, alloc: Global) -> Result<(), Fail> {
+    for len in 0..CAP.saturating_add(3) {
+        let list = numbers(alloc, len)?;
+        assert!(rt; made_alike::<CAP>(alloc, &list)?, "{len} of {CAP}");
+    }
+    assert!(rt; of_an_array::<CAP>(alloc)?, "{CAP}");
+    Ok(())
+}
+
 #[test]
-fn vectors_of_deques(rt: HostRuntime) -> Result<(), Fail> {
-    for start in 0..4 {
-        for len in 0..=4 {
-            let items = numbers(rt.alloc(), len)?;
-            let deque = deque_at::<4>(rt.alloc(), start, &items)?;
-            let list = made(deque.into_vec())?;
-            assert!(rt; list == items, "start {start}, length {len}");
+fn deques_of_every_length(rt: HostRuntime) -> Result<(), Fail> {
+    make_all::<0>(&rt, rt.alloc())?;
+    make_all::<1>(&rt, rt.alloc())?;
+    make_all::<2>(&rt, rt.alloc())?;
+    make_all::<3>(&rt, rt.alloc())?;
+    make_all::<4>(&rt, rt.alloc())?;
+    make_all::<5>(&rt, rt.alloc())?;
+    make_all::<6>(&rt, rt.alloc())?;
+    make_all::<7>(&rt, rt.alloc())?;
+    make_all::<8>(&rt, rt.alloc())
+}
+
+/// Whether the deques of a list from that start become vectors of it under either policy.
+fn vectors_alike<const CAP: usize>(
+    alloc: Global,
+    start: usize,
+    list: &[i64],
+) -> Result<bool, Fail> {
+    let refusing = made(deque_at::<CAP>(alloc, start, list)?.into_vec())?;
+    let displacing = made(wrapping_at::<CAP>(alloc, start, list)?.into_vec())?;
+    Ok((refusing.as_slice(), displacing.as_slice()) == (list, list))
+}
+
+/// Vectors of each start and length.
+fn list_all<const CAP: usize>(rt: &impl Abort, alloc: Global) -> Result<(), Fail> {
+    for start in 0..CAP {
+        for len in 0..=CAP {
+            let list = numbers(alloc, len)?;
+            assert!(rt;
+                vectors_alike::<CAP>(alloc, start, &list)?,
+                "{len} of {CAP}, start {start}"
+            );
         }
     }
     Ok(())
+}
+
+#[test]
+fn vectors_of_every_start_and_length(rt: HostRuntime) -> Result<(), Fail> {
+    list_all::<1>(&rt, rt.alloc())?;
+    list_all::<2>(&rt, rt.alloc())?;
+    list_all::<3>(&rt, rt.alloc())?;
+    list_all::<4>(&rt, rt.alloc())?;
+    list_all::<5>(&rt, rt.alloc())?;
+    list_all::<6>(&rt, rt.alloc())?;
+    list_all::<7>(&rt, rt.alloc())?;
+    list_all::<8>(&rt, rt.alloc())
 }
 
 #[test]

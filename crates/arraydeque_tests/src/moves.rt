@@ -12,7 +12,7 @@ enum Edit {
 }
 
 /// Makes edits in turn. Beside each stands its answer, the element that an insert hands back or the
-/// item that a removal gives, and the list that it leaves.
+/// item that a removal gives, and the list that it leaves, whose last item is the back.
 fn edit_in_turn<const CAP: usize>(
     rt: &impl Abort,
     mut deque: ArrayDeque<i64, CAP, Saturating>,
@@ -25,7 +25,10 @@ fn edit_in_turn<const CAP: usize>(
             }
             Edit::Remove(index) => deque.remove(index) == answer,
         };
-        assert!(rt; is_answered && holds(&deque, left), "{answer:?}, {left:?}");
+        assert!(rt;
+            is_answered && holds(&deque, left) && deque.back() == left.last(),
+            "{answer:?}, {left:?}"
+        );
     }
 }
 

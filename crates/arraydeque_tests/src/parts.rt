@@ -45,6 +45,18 @@ fn drains<const CAP: usize, R: RangeArgument<usize> + Drop>(
     Ok(deque.drain(range)?.eq(gone.iter().copied()) && holds(&deque, left))
 }
 
+/// Whether the last of three items, and then the other two, are drained from one deque.
+fn drains_in_turn(alloc: Global) -> Result<bool, Fail> {
+    let mut deque = deque_at::<3>(alloc, 0, &[0, 1, 2])?;
+    Ok(
+        deque.len() == 3
+            && deque.drain(2..)?.eq([2])
+            && deque.iter().eq([0, 1].iter())
+            && deque.drain(..)?.len() == 2
+            && deque.is_empty(),
+    )
+}
+
 #[test]
 fn each_kind_of_range(rt: HostRuntime) -> Result<(), Fail> {
     let alloc = rt.alloc();
@@ -56,13 +68,55 @@ fn each_kind_of_range(rt: HostRuntime) -> Result<(), Fail> {
             && drains::<3, _>(alloc, 0, &three, ..2, &[0, 1], &[2])?
             && drains::<3, _>(alloc, 0, &three, 1..2, &[1], &[0, 2])?
             && drains::<4, _>(alloc, 3, &[0, 1, 2, 3], TwoFrom(1), &[1, 2], &[0, 3])?
+            && drains_in_turn(alloc)?
     );
     Ok(())
 }
 
+/// Whether a split of 0, 1 and 2 at an index leaves these and gives those.
+fn splits(
+    alloc: Global,
+    start: usize,
+    at: usize,
+    left: &[i64],
+    gone: &[i64],
+) -> Result<bool, Fail> {
+    let mut deque = deque_at::<3>(alloc, start, &[0, 1, 2])?;
+    if at > deque.len() {
+        return Ok(false);
+    }
+    let rest = deque.split_off(at)?;
+    Ok(holds(&deque, left) && holds(&rest, gone))
+}
+
 #[test]
-fn a_drain_may_be_dropped_early(rt: HostRuntime) -> Result<(), Fail> {
+fn a_split_at_each_index(rt: HostRuntime) -> Result<(), Fail> {
+    for start in 0..3 {
+        assert!(rt;
+            splits(rt.alloc(), start, 1, &[0], &[1, 2])?
+                && splits(rt.alloc(), start, 3, &[0, 1, 2], &[])?
+                && splits(rt.alloc(), start, 0, &[], &[0, 1, 2])?,
+            "start {start}"
+        );
+    }
+    Ok(())
+}
+
+#[test]
+fn a_drain_of_three_may_be_dropped_early(rt: HostRuntime) -> Result<(), Fail> {
+    let eight = [0, 1, 2, 3, 4, 5, 6, 7];
     for start in 0..8 {
+        assert!(rt;
+            drains::<8, _>(
+                rt.alloc(),
+                start,
+                &eight,
+                2..5,
+                &[2, 3, 4],
+                &[0, 1, 5, 6, 7]
+            )? && drains::<8, _>(rt.alloc(), start, &eight, 3..3, &[], &eight)?,
+            "start {start}"
+        );
         let mut deque = deque_at::<8>(rt.alloc(), start, &[0, 1, 2, 3, 4, 5, 6, 7])?;
         assert!(rt; deque.len() == 8);
         let last = deque.drain(2..5)?.next_back();

@@ -57,7 +57,8 @@ pub(crate) fn pop<const CAP: usize, B: Behavior>(
     }
 }
 
-/// Makes the steps, after each of which all that speaks of the length says the row's.
+/// Makes the steps, after each of which all that speaks of the length says the row's. The ends of
+/// what is left are those of the list.
 pub(crate) fn walk<const CAP: usize, B: Policy<CAP>>(
     rt: &impl Abort,
     mut deque: ArrayDeque<i64, CAP, B>,
@@ -78,5 +79,7 @@ pub(crate) fn walk<const CAP: usize, B: Policy<CAP>>(
             "{given:?} where {answer:?} and the length {len} are due"
         );
     }
-    assert!(rt; holds(&deque, left));
+    assert!(rt;
+        holds(&deque, left) && (deque.front(), deque.back()) == (left.first(), left.last())
+    );
 }

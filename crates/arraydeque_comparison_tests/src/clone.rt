@@ -2,9 +2,10 @@
 ghost use Rattle.std.specs.Prelude.{◌≡◌};
 
 use arraydeque::{ArrayDeque, Saturating};
-use arraydeque_samples::build::{deque_at, holds, is_cut, made};
+use arraydeque_samples::build::{deque_at, holds, is_cut, made, numbers, wrapping_at};
 use std::alloc::{AllocError, Global};
 use std::cell::{Cell, RefCell};
+use std::process::Abort;
 use std::test::Fail;
 
 /// The names of the items that were dropped, in order, and how many clones may be made yet.
@@ -140,4 +141,42 @@ fn a_clone_is_a_deque_of_its_own(rt: HostRuntime) -> Result<(), Fail> {
     let deque = made(ArrayDeque::<i64, 16, Saturating>::from_iter(rt.alloc(), 0..16))?;
     assert!(rt; deque.clone()? == deque);
     Ok(())
+}
+
+/// Whether the deques of a list from that start have clones of it under either policy.
+fn are_cloned<const CAP: usize>(alloc: Global, start: usize, list: &[i64]) -> Result<bool, Fail> {
+    let refusing = deque_at::<CAP>(alloc, start, list)?;
+    let displacing = wrapping_at::<CAP>(alloc, start, list)?;
+    Ok(
+        holds(&refusing.clone()?, list)
+            && holds(&displacing.clone()?, list)
+            && holds(&refusing, list)
+            && holds(&displacing, list),
+    )
+}
+
+/// Clones of each start and length.
+fn clone_all<const CAP: usize>(rt: &impl Abort, alloc: Global) -> Result<(), Fail> {
+    for start in 0..CAP {
+        for len in 0..=CAP {
+            let list = numbers(alloc, len)?;
+            assert!(rt;
+                are_cloned::<CAP>(alloc, start, &list)?,
+                "{len} of {CAP}, start {start}"
+            );
+        }
+    }
+    Ok(())
+}
+
+#[test]
+fn clones_of_every_start_and_length(rt: HostRuntime) -> Result<(), Fail> {
+    clone_all::<1>(&rt, rt.alloc())?;
+    clone_all::<2>(&rt, rt.alloc())?;
+    clone_all::<3>(&rt, rt.alloc())?;
+    clone_all::<4>(&rt, rt.alloc())?;
+    clone_all::<5>(&rt, rt.alloc())?;
+    clone_all::<6>(&rt, rt.alloc())?;
+    clone_all::<7>(&rt, rt.alloc())?;
+    clone_all::<8>(&rt, rt.alloc())
 }

@@ -2,7 +2,7 @@
 //! the calls that it is of is refused; where one is refused that its set-up makes, it ends there.
 mod compared;
 
-use crate::asked::Script;
+use crate::asked::{Count, Script};
 use crate::build::{deque_at, holds};
 use arraydeque::behavior::Behavior;
 use arraydeque::lookahead::Scanner;
@@ -42,6 +42,24 @@ fn a_refused_source_comes_back(rt: HostRuntime) -> Result<(), Fail> {
             && comes_back(Refusing::from_array(alloc, array), &[1, 2, 3], &array)
             && comes_back(Displacing::from_array(alloc, array), &[2, 3, 4], &array)
     );
+    Ok(())
+}
+
+/// Whether a deque was made of the first three numbers of a count, or the count came back and was
+/// not asked.
+fn counts_on(made: Result<Refusing, MakeError<Count>>) -> bool {
+    match made {
+        Ok(deque) => holds(&deque, &[1, 2, 3]),
+        Err(refusal) => {
+            let mut count = refusal.source;
+            count.asked == 0 && count.next() == Some(1)
+        }
+    }
+}
+
+#[test]
+fn a_refused_count_comes_back(rt: HostRuntime) -> Result<(), Fail> {
+    assert!(rt; counts_on(Refusing::from_iter(rt.alloc(), Count::from(1))));
     Ok(())
 }
 

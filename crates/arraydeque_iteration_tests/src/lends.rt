@@ -23,6 +23,15 @@ fn lends_two_and_three(mut items: Iter<'_, i64>) -> Result<bool, AllocError> {
     )
 }
 
+/// Whether an iterator lends 1, 3 and 2 from the front, the back and the front, and from then on
+/// nothing at either end.
+fn lends_three(mut items: Iter<'_, i64>) -> bool {
+    items.next() == Some(&1)
+        && (items.next_back(), items.next()) == (Some(&3), Some(&2))
+        && (items.next(), items.next_back()) == (None, None)
+        && (items.next(), items.next_back()) == (None, None)
+}
+
 /// Whether both ends of an iterator of 1 to 5 meet, as those of a copy do that is made between.
 fn meets(mut items: Iter<'_, i64>) -> Result<bool, AllocError> {
     if (items.next(), items.next_back()) != (Some(&1), Some(&5))
@@ -46,7 +55,10 @@ fn items_are_lent_in_order(rt: HostRuntime) -> Result<(), Fail> {
     assert!(rt;
         is_lent && deque.push_back(3).is_ok() && lends_two_and_three((&deque).into_iter())?
     );
-    assert!(rt; meets(deque_at::<5>(rt.alloc(), 3, &[1, 2, 3, 4, 5])?.iter())?);
+    assert!(rt;
+        lends_three(deque_at::<3>(rt.alloc(), 0, &[1, 2, 3])?.iter())
+            && meets(deque_at::<5>(rt.alloc(), 3, &[1, 2, 3, 4, 5])?.iter())?
+    );
     Ok(())
 }
 
@@ -88,9 +100,20 @@ fn lends_slices(alloc: Global) -> Result<bool, Fail> {
     Ok(is_lent && is_pushed && is_cut && holds(&deque, &[2, 9, 1]))
 }
 
+/// Whether both iterators lend what those of an array do.
+fn lends_as_an_array(alloc: Global) -> Result<bool, Fail> {
+    let mut deque = deque_at::<3>(alloc, 0, &[0, 1, 2])?;
+    let mut expected = [0, 1, 2];
+    Ok(deque.iter().eq(expected.iter()) && deque.iter_mut().eq(expected.iter_mut()))
+}
+
 #[test]
 fn items_are_lent_for_writing(rt: HostRuntime) -> Result<(), Fail> {
-    assert!(rt; lends_for_writing(rt.alloc())? && lends_slices(rt.alloc())?);
+    assert!(rt;
+        lends_for_writing(rt.alloc())?
+            && lends_slices(rt.alloc())?
+            && lends_as_an_array(rt.alloc())?
+    );
     Ok(())
 }
 

@@ -1,0 +1,37 @@
+//! Tests of the smallest and the largest capacities; there is nothing here to call.
+//!
+//! Which function shows which calls on no items, at the capacities 0 and 1, and which on the one
+//! item of a deque of capacity 1. Those of `alike` and `iter` are called for either policy. Lists
+//! of calls for `run` are in `arraydeque_run_tests`.
+//!
+//! | Calls | on no items | on one item |
+//! |---|---|---|
+//! | | in `alike`: | |
+//! | lengths, `as_slices`, all of `access` | `reads_nothing` | `reads_one`, `writes_one` |
+//! | pops, `remove`, removals by exchange, `retain` | `takes_nothing_out` | `is_free_after` |
+//! | `swap` and `[i]`, which ask for an item | | `reads_one`, `writes_one` |
+//! | `linearize` | `takes_nothing_out` | `reads_one` |
+//! | `parts`, and a drain's both ends | `has_no_parts` | `has_two_parts`, `drains_one` |
+//! | `compare`, `clone` | `compares_as` | `compares_as` |
+//! | debug texts | `prints` | `prints` |
+//! | | in `iter`: | |
+//! | `lends`, both ends of `Iter`, `IterMut` | `lends_nothing` | `lends_one`, `writes_over_one` |
+//! | both ends of `IntoIter`, `into_vec` | `gives_nothing` | `gives_one` |
+//! | | in `policies`: | |
+//! | pushes and `insert` under `Saturating` | `refuses_all` | `refuses_at_one` |
+//! | pushes under `Wrapping` | `displaces_all` | `displaces_at_one` |
+//! | `extend` under `Saturating` | `refusing_extends` | `refusing_extends` |
+//! | `extend` under `Wrapping` | `displacing_extends` | `displacing_extends` |
+//! | makers under `Saturating` | `refusing_makers` | `refusing_makers` |
+//! | makers under `Wrapping` | `displacing_makers` | `displacing_makers` |
+//! | both conversions | `are_converted` | `are_converted` |
+#![tactic(auto)]
+
+#[cfg(test)]
+mod alike;
+#[cfg(test)]
+mod iter;
+#[cfg(test)]
+mod most;
+#[cfg(test)]
+mod policies;

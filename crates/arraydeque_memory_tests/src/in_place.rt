@@ -1,0 +1,311 @@
+//! Calls that ask for no memory, beyond the regions of the deques that they are made on. The name
+//! of each test ends in the requests that it makes and the bytes that it takes; it gives all of it
+//! back.
+use crate::asked::Script;
+use crate::build::{deque_at, holds, is_cut, made};
+use arraydeque::lookahead::Scanner;
+use arraydeque::{ArrayDeque, IterMut, RangeArgument, Saturating, Wrapping};
+use std::alloc::{AllocError, Global};
+use std::cmp::Ordering;
+use std::hash::{DefaultHasher, Hash, Hasher};
+use std::test::Fail;
+
+type Deque = ArrayDeque<i64, 4, Saturating>;
+
+/// Has a deque hold these items, the first of which stands at the place 2.
+pub(crate) fn refill(deque: &mut Deque, items: &[i64]) {
+    deque.clear();
+    deque.extend_back([0, 0]);
+    deque.pop_front();
+    deque.pop_front();
+    deque.extend_back(items.iter().copied());
+}
+
+/// Whether four items go in at the back, and two more have those at the other end given up.
+fn displaces(deque: &mut ArrayDeque<i64, 4, Wrapping>) -> bool {
+    deque.push_back(0).is_none()
+        && deque.push_back(1).is_none()
+        && deque.push_back(2).is_none()
+        && deque.push_back(3).is_none()
+        && deque.push_back(4) == Some(0)
+        && deque.push_front(0) == Some(4)
+        && deque.pop_front() == Some(0)
+        && deque.pop_back() == Some(3)
+}
+
+/// Whether an item goes in and out at either end.
+fn pushes_and_pops(deque: &mut ArrayDeque<i64, 4, Saturating>) -> bool {
+    deque.push_back(1).is_ok()
+        && deque.push_front(0).is_ok()
+        && deque.len() == 2
+        && deque.capacity() == 4
+        && !deque.is_empty()
+        && !deque.is_full()
+        && deque.pop_front() == Some(0)
+        && deque.pop_back() == Some(1)
+        && deque.pop_front().is_none()
+        && deque.pop_back().is_none()
+}
+
+/// Whether each read finds what it should in the items 0, 5 and 1.
+fn reads(deque: &ArrayDeque<i64, 4, Saturating>) -> bool {
+    deque.front() == Some(&0)
+        && deque.back() == Some(&1)
+        && deque.get(1) == Some(&5)
+        && deque.get(3).is_none()
+        && deque.contains(&5)
+        && !deque.contains(&6)
+        && deque.len() == 3
+        && deque[1] == 5
+        && holds(deque, &[0, 5, 1])
+}
+
+/// Whether four items are written over where they stand.
+fn writes(deque: &mut ArrayDeque<i64, 4, Saturating>) -> bool {
+    if let Some(first) = deque.front_mut() {
+        *first = 7;
+    }
+    if let Some(last) = deque.back_mut() {
+        *last = 8;
+    }
+    if let Some(second) = deque.get_mut(1) {
+        *second = 9;
+    }
+    if deque.len() == 4 {
+        deque[2] = 6;
+    }
+    holds(deque, &[7, 9, 6, 8])
+}
+
+/// Whether an item goes between 7, 6 and 8, and all four go out, by exchanges too.
+fn moves_and_swaps(deque: &mut ArrayDeque<i64, 4, Saturating>) -> bool {
+    let is_inserted = deque.len() == 3 && deque.insert(1, 9).is_ok();
+    if deque.len() == 4 {
+        deque.swap(0, 3);
+    }
+    is_inserted
+        && holds(deque, &[8, 9, 6, 7])
+        && deque.remove(1) == Some(9)
+        && deque.swap_remove_back(0) == Some(8)
+        && deque.swap_remove_front(1) == Some(6)
+        && deque.pop_front() == Some(7)
+}
+
+/// Whether the even ones of the items 8, 9, 6 and 7 are retained, and then cleared.
+fn retains_and_clears(deque: &mut ArrayDeque<i64, 4, Saturating>) -> bool {
+    deque.retain(|item| *item % 2 == 0);
+    let is_retained = holds(deque, &[8, 6]);
+    deque.clear();
+    is_retained && deque.is_empty()
+}
+
+/// Whether two items are left alone where nothing is to be handed out, and no list is made of none.
+fn hands_out_nothing(alloc: Global, mut deque: Deque) -> Result<bool, Fail> {
+    let is_left_alone = deque.len() == 2
+        && deque.drain(1..1)?.next().is_none()
+        && made(deque.run(Vec::new(alloc)))?.is_empty();
+    deque.clear();
+    Ok(made(deque.into_vec())?.is_empty() && is_left_alone)
+}
+
+#[test]
+fn both_ends_1_request_32_bytes(rt: HostRuntime) -> Result<(), Fail> {
+    let mut deque = ArrayDeque::<i64, 4, Wrapping>::new(rt.alloc())?;
+    let is_displaced = displaces(&mut deque);
+    deque.clear();
+    let mut deque: ArrayDeque<i64, 4, Saturating> = deque.into();
+    let is_popped = pushes_and_pops(&mut deque);
+    deque.extend_back([2, 3]);
+    deque.extend_front([4]);
+    deque.extend([5, 6])?;
+    let is_kept = holds(&deque, &[4, 2, 3, 5]);
+    let mut deque: ArrayDeque<i64, 4, Wrapping> = deque.into();
+    deque.extend_back([6]);
+    deque.extend_front([7]);
+    deque.extend([8])?;
+    let deque: ArrayDeque<i64, 4, Saturating> = deque.into();
+    assert!(rt; is_displaced && is_popped && is_kept && holds(&deque, &[2, 3, 5, 8]));
+    Ok(())
+}
+
+#[test]
+fn calls_in_place_1_request_32_bytes(rt: HostRuntime) -> Result<(), Fail> {
+    let mut deque = deque_at::<4>(rt.alloc(), 2, &[0, 5, 1])?;
+    let is_written = reads(&deque) && deque.push_back(2).is_ok() && writes(&mut deque);
+    refill(&mut deque, &[7, 6, 8]);
+    let is_moved = moves_and_swaps(&mut deque);
+    refill(&mut deque, &[8, 9, 6, 7]);
+    let is_retained = retains_and_clears(&mut deque);
+    refill(&mut deque, &[1, 2]);
+    assert!(rt; hands_out_nothing(rt.alloc(), deque)? && is_written && is_moved && is_retained);
+    Ok(())
+}
+
+/// Whether a list comes into one piece, and stays in it.
+fn comes_into_one_piece(mut deque: Deque) -> bool {
+    deque.linearize();
+    let is_one_piece = is_cut(&deque, &[1, 2, 3, 4], &[]);
+    deque.linearize();
+    is_cut(&deque, &[1, 2, 3, 4], &[]) && is_one_piece
+}
+
+/// Whether a lent iterator, its copy and a loop give the items 1, 2, 3.
+fn lends_three(deque: &Deque) -> Result<bool, AllocError> {
+    let mut iter = deque.iter();
+    let mut copy = iter.clone()?;
+    let mut sum = 0_i64;
+    for item in deque {
+        sum = sum.wrapping_add(*item);
+    }
+    Ok(
+        (iter.len(), iter.size_hint()) == (3, (3, Some(3)))
+            && (iter.next(), iter.next_back()) == (Some(&1), Some(&3))
+            && (copy.next_back(), copy.len()) == (Some(&3), 2)
+            && sum == 6,
+    )
+}
+
+/// Whether an owned iterator gives the items 1 and 3, with 2 between them.
+fn gives_three(deque: Deque) -> bool {
+    let mut iter = deque.into_iter();
+    (iter.len(), iter.size_hint()) == (3, (3, Some(3)))
+        && (iter.next(), iter.next_back()) == (Some(1), Some(3))
+}
+
+/// Whether an owned iterator gives all of the items 1 to 4, and then nothing.
+fn gives_all(deque: Deque) -> bool {
+    let mut items = deque.into_iter();
+    (items.next(), items.next()) == (Some(1), Some(2))
+        && (items.next(), items.next()) == (Some(3), Some(4))
+        && (items.next(), items.next_back(), items.len()) == (None, None, 0)
+}
+
+/// The same from the back.
+fn gives_all_from_the_back(deque: Deque) -> bool {
+    let mut items = deque.into_iter();
+    (items.next_back(), items.next_back()) == (Some(4), Some(3))
+        && (items.next_back(), items.next_back()) == (Some(2), Some(1))
+        && (items.next_back(), items.next(), items.len()) == (None, None, 0)
+}
+
+/// Whether an iterator lends the items 1 to 4 for writing, from the front, the back and the front,
+/// and then nothing. The first three that it lends become 5, 6 and 7.
+fn writes_three(mut items: IterMut<'_, i64>) -> bool {
+    let hint = (items.len(), items.size_hint());
+    if let Some(item) = items.next() {
+        *item = 5;
+    }
+    if let Some(item) = items.next_back() {
+        *item = 6;
+    }
+    if let Some(item) = items.next() {
+        *item = 7;
+    }
+    hint == (4, (4, Some(4)))
+        && (items.len(), items.next().copied()) == (1, Some(3))
+        && items.next().is_none()
+        && items.next_back().is_none()
+}
+
+/// Whether a list that wraps is lent for writing by an iterator, by a loop and in two slices.
+fn writes_in_every_way(mut deque: Deque) -> bool {
+    let by_iterator = writes_three(deque.iter_mut()) && holds(&deque, &[5, 7, 3, 6]);
+    for item in &mut deque {
+        *item = item.wrapping_add(1);
+    }
+    let by_loop = holds(&deque, &[6, 8, 4, 7]);
+    let (front, back) = deque.as_mut_slices();
+    if let (Some(first), Some(third)) = (front.first_mut(), back.first_mut()) {
+        *first = 0;
+        *third = 9;
+    }
+    by_iterator && by_loop && is_cut(&deque, &[0, 8], &[9, 7])
+}
+
+/// The regions of three deques, whose lists wrap.
+#[test]
+fn walks_of_lists_that_wrap_3_requests_96_bytes(rt: HostRuntime) -> Result<(), Fail> {
+    assert!(rt;
+        gives_all(deque_at::<4>(rt.alloc(), 2, &[1, 2, 3, 4])?)
+            && gives_all_from_the_back(deque_at::<4>(rt.alloc(), 2, &[1, 2, 3, 4])?)
+            && writes_in_every_way(deque_at::<4>(rt.alloc(), 2, &[1, 2, 3, 4])?)
+    );
+    Ok(())
+}
+
+/// The hash of a deque.
+fn hash_of(deque: &Deque) -> u64 {
+    let mut state = DefaultHasher::new();
+    deque.hash(&mut state);
+    state.finish()
+}
+
+/// Whether the first is less than the second, and differs in its hash.
+fn are_in_order(less: &Deque, more: &Deque) -> bool {
+    *less != *more
+        && less.cmp(more) == Ordering::Less
+        && more.partial_cmp(less) == Some(Ordering::Greater)
+        && hash_of(less) != hash_of(more)
+}
+
+/// Whether a range names these bounds.
+fn names<R: RangeArgument<usize>>(range: &R, start: Option<usize>, end: Option<usize>) -> bool {
+    (range.start(), range.end()) == (start, end)
+}
+
+/// Whether each kind of range has its bounds.
+fn have_bounds() -> bool {
+    names(&(..), None, None)
+        && names(&(2..), Some(2), None)
+        && names(&(..5), None, Some(5))
+        && names(&(2..5), Some(2), Some(5))
+}
+
+/// Whether two deques are compared, and the items of the first are lent and given.
+fn are_read(less: Deque, more: &Deque) -> Result<bool, Fail> {
+    let is_lent = are_in_order(&less, more) && lends_three(&less)?;
+    Ok(gives_three(less) && is_lent)
+}
+
+/// The regions of three deques.
+#[test]
+fn calls_that_ask_for_nothing_3_requests_96_bytes(rt: HostRuntime) -> Result<(), Fail> {
+    let less = deque_at::<4>(rt.alloc(), 2, &[1, 2, 3])?;
+    let more = deque_at::<4>(rt.alloc(), 1, &[1, 2, 4])?;
+    assert!(rt; are_read(less, &more)?);
+    assert!(rt;
+        have_bounds()
+            && ArrayDeque::<i64, 0, Wrapping>::new(rt.alloc())?
+                .clone()?
+                .len()
+                == 0
+            && comes_into_one_piece(deque_at::<4>(rt.alloc(), 2, &[1, 2, 3, 4])?)
+    );
+    Ok(())
+}
+
+/// Whether a scanner gives the input, and the one item that it has room for before the rest.
+fn scans(alloc: Global) -> Result<bool, Fail> {
+    let input = [Some(1), Some(2), Some(3)];
+    let mut scanner = made(Scanner::<_, 2>::new(alloc, Script::of(&input)))?;
+    Ok(
+        scanner.peek(1) == Some(&2)
+            && scanner.next() == Some(1)
+            && scanner.unread(9).is_ok()
+            && scanner.unread(8).is_err()
+            && (scanner.next(), scanner.next()) == (Some(9), Some(2)),
+    )
+}
+
+/// Whether a scanner with no room gives the input, and takes nothing back.
+fn scans_without_room(alloc: Global) -> Result<bool, Fail> {
+    let mut scanner = made(Scanner::<_, 0>::new(alloc, Script::of(&[Some(1)])))?;
+    Ok((scanner.next(), scanner.next()) == (Some(1), None) && scanner.unread(9).is_err())
+}
+
+/// The region of the first one's buffer.
+#[test]
+fn scanners_of_capacity_two_and_zero_1_request_16_bytes(rt: HostRuntime) -> Result<(), Fail> {
+    assert!(rt; scans(rt.alloc())? && scans_without_room(rt.alloc())?);
+    Ok(())
+}
