@@ -84,7 +84,7 @@ fn wrapping<R: Read + Drop, W: Write + Drop, const CAP: usize>(
     print(alloc, output, replies, &deque)
 }
 
-/// Reads the input to its end. Room is made before each read, so that a read that fails has not been
+/// Reads the input to its end. Room is made before each read, so that a read that fails was not
 /// refused memory of the program's own.
 fn read<R: Read + Drop>(alloc: Global, mut input: R) -> Result<Vec<u8>, Fault> {
     let mut text = Vec::new(alloc);

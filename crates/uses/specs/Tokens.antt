@@ -32,5 +32,5 @@ IsOver kind rest = IfSome (slice_get rest 0) (λ byte. kind_of byte ≡ kind →
 
 -- no two tokens could be one: those side by side are of different kinds, or signs
 abbrev pub AreLongest : List Token → Type 0
-AreLongest tokens =
-    AllAdjacentBelow (λ token next. token.kind ≡ next.kind → token.kind ≡ Sign) tokens (length tokens)
+AreLongest tokens = AllAdjacentBelow
+    (λ token next. token.kind ≡ next.kind → token.kind ≡ Sign) tokens (length tokens)

@@ -86,8 +86,8 @@ impl<T> Ring<T> {
         Ok(rest)
     }
 
-    /// Takes the values out of the `len` places from `from` on of a region, and adds them behind the
-    /// items, which start at the first place.
+    /// Takes the values out of the `len` places from `from` on of a region, and adds them behind
+    /// the items, which start at the first place.
     fn take_in(&mut self, slots: &mut Slots<T>, from: usize, len: usize)
         requires filled { IsFilledRun slots.old.places from len }
         requires room { length self.old.items + len ≤ self.old.capacity }
@@ -107,8 +107,8 @@ impl<T> Ring<T> {
 }
 
 /// Takes the `len` values from the index `at` on out of the region, and adds them to the items of
-/// `taken`, which start at its first place. Indexes count from the place `start`, round the end: the
-/// values up to the region's end are handed over in one run, and the others in a second.
+/// `taken`, which start at its first place. Indexes count from the place `start`, round the end.
+/// The values up to the region's end are handed over in one run, and the others in a second.
 fn take_run<T>(slots: &mut Slots<T>, start: usize, at: usize, len: usize, taken: &mut Ring<T>)
     requires in_region { start ≤ length slots.old.places - 1 }
     requires filled { IsFilledRun (turned start slots.old.places) at len }
