@@ -68,8 +68,8 @@ fn saturating<R: Read + Drop, W: Write + Drop, const CAP: usize>(
     output: W,
 ) -> Result<(), Fault> {
     let mut deque = ArrayDeque::<i64, CAP, Saturating>::new(alloc)?;
-    let text = read(alloc, input)?;
-    let replies = deque.run(calls(alloc, text.as_slice())?)?;
+    let calls = calls(alloc, read(alloc, input)?.as_slice())?;
+    let replies = deque.run(calls)?;
     print(alloc, output, replies, &deque)
 }
 
@@ -79,8 +79,8 @@ fn wrapping<R: Read + Drop, W: Write + Drop, const CAP: usize>(
     output: W,
 ) -> Result<(), Fault> {
     let mut deque = ArrayDeque::<i64, CAP, Wrapping>::new(alloc)?;
-    let text = read(alloc, input)?;
-    let replies = deque.run(calls(alloc, text.as_slice())?)?;
+    let calls = calls(alloc, read(alloc, input)?.as_slice())?;
+    let replies = deque.run(calls)?;
     print(alloc, output, replies, &deque)
 }
 
