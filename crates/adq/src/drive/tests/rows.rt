@@ -14,7 +14,7 @@ pub(crate) const CALLS: &str =
 pub(crate) const REPLIES: &str = "ok\nok\nok\nfull 4\n1\n2\nlist: [3, 2]\n";
 
 /// Runs that end well.
-pub(crate) const RUNS: [Row; 24] = [
+pub(crate) const RUNS: [Row; 25] = [
     ("sat 3", CALLS, REPLIES),
     (
         "sat 3",
@@ -92,6 +92,7 @@ pub(crate) const RUNS: [Row; 24] = [
     ("sat 3", "\r", "list: []\n"),
     ("sat 3", " ", "list: []\n"),
     ("sat 3", "push_back -0", "ok\nlist: [0]\n"),
+    ("sat 3", "push_back 007", "ok\nlist: [7]\n"),
     (
         "sat 3",
         "extend_back -9223372036854775808 -0009223372036854775808  9223372036854775807 ",
