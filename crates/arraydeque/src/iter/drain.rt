@@ -8,6 +8,14 @@ use std::marker::Model;
 
 /// An iterator that owns the items that a drain removed, from both ends. It drops those that are
 /// not taken, and doesn't borrow what they were taken out of.
+///
+/// ```
+/// let mut deque = ArrayDeque::<i64, 3, Saturating>::new(alloc)?;
+/// deque.extend_back([1, 2, 3]);
+/// let mut drained = deque.drain(..)?;
+/// assert!(rt; (drained.next(), drained.next_back()) == (Some(1), Some(3)));
+/// assert!(rt; (drained.len(), deque.len()) == (1, 0));
+/// ```
 #[derive(Drop)]
 pub struct Drain<T> {
     items: into_iter::IntoIter<T>,

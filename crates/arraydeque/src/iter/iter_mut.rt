@@ -50,7 +50,19 @@ impl<'a, T> IterMut<'a, T> {
         }
     }
 
-    /// What is left, as the two slices that it walks.
+    /// Returns what is left, as the two slices that it walks.
+    ///
+    /// ```
+    /// let mut deque = ArrayDeque::<i64, 3, Saturating>::new(alloc)?;
+    /// deque.extend_back([2, 3]);
+    /// deque.extend_front([1]);
+    /// let mut items = deque.iter_mut();
+    /// assert!(rt; items.next_back() == Some(&mut 3));
+    /// let (front, rest) = items.into_slices();
+    /// front.fill(0);
+    /// rest.fill(9);
+    /// assert!(rt; deque.into_vec()?.as_slice() == [0, 9, 3].as_slice());
+    /// ```
     #[inline]
     pub fn into_slices(self) -> (&'a mut [T], &'a mut [T])
         ensures first { result.0 ≡ self.entry.first }
