@@ -137,9 +137,9 @@ fn drains_7_requests_123_bytes(rt: HostRuntime) -> Result<(), Fail> {
     Ok(())
 }
 
-/// The deque's region, the list of four calls of 32 bytes each, and room for four replies of 40.
+/// The deque's region, the list of four calls of 32 bytes each, and room for four replies of 48.
 #[test]
-fn a_run_3_requests_320_bytes(rt: HostRuntime) -> Result<(), Fail> {
+fn a_run_3_requests_352_bytes(rt: HostRuntime) -> Result<(), Fail> {
     let mut deque = deque_at::<4>(rt.alloc(), 2, &[0, 1, 2])?;
     let calls = vec![in rt.alloc();
         Call::PushBack(3),
