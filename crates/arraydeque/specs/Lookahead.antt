@@ -1,5 +1,6 @@
 -- What a contract sees of a scanner, what its calls read and hand out, and what it has left.
 use Rattle.std.specs.Prelude.{◌≡◌, ℕ, ◌+◌, ◌<◌, ◌≤◌, max, List, [], ◌∷◌, ◌++◌, length, drop, slice_get, Option, None, IfNone, OnSome, Bool, true, false}
+use Rattle.std.specs.Option.{option_to_list}
 use Rattle.std.specs.Iterator.{Count, IsFinite, UpTo, size, count_map, count_unless, Yields, YieldsThen}
 
 -- a scanner: its iterator, the items read ahead, and whether the iterator has given its first None
@@ -44,6 +45,14 @@ module _ {S A : Type 0} (steps : S → Option A → S → Type 0) where
   abbrev pub PutsOn : ScannerState S A → A → ScannerState S A → Type 0
   PutsOn old x new =
       (rest : List A) → HasRest new rest → (rest ≡ x ∷ drop 1 rest) × HasRest old (drop 1 rest)
+
+  -- a call of `next` handed out an item, or none at the end
+  pub record Gives (old : ScannerState S A) (item : Option A) (new : ScannerState S A)
+      : Type 0 where
+    pub hands_out : HandsOut old (option_to_list item) new
+    pub rest : TakesOff old (option_to_list item) new
+    pub none : IfNone item (new.ended ≡ true)
+    pub over : IfNone item (HasRest old [])
 
   -- a look at the item k places ahead saw `seen`, and left new
   pub record Peeks (remaining : S → Count) (old : ScannerState S A) (k : ℕ) (seen : Option A)

@@ -183,6 +183,7 @@ impl<T, const CAP: usize, B: Behavior> ArrayDeque<T, CAP, B> {
         ensures value { result ≡ slice_get self.old.items 0 }
         ensures items { self.new.items ≡ drop 1 self.old.items }
         ensures conserved { option_to_list result ++ self.new.items ≡ self.old.items }
+        ensures room { OnSome result (length self.new.items < CAP) }
         ensures within { length self.new.items ≤ CAP }
         ensures start { OnSome result (self.new.start ≡ place_of self.old.start 1 CAP) }
         ensures steps { OnSome result (self.new.steps ≡ more_takes 1 self.old.steps) }
@@ -206,6 +207,7 @@ impl<T, const CAP: usize, B: Behavior> ArrayDeque<T, CAP, B> {
         ensures value { result ≡ last_item self.old.items }
         ensures items { self.new.items ≡ take (length self.old.items - 1) self.old.items }
         ensures conserved { self.new.items ++ option_to_list result ≡ self.old.items }
+        ensures room { OnSome result (length self.new.items < CAP) }
         ensures within { length self.new.items ≤ CAP }
         ensures start { self.new.start ≡ self.old.start }
         ensures steps { OnSome result (self.new.steps ≡ more_takes 1 self.old.steps) }

@@ -1,8 +1,11 @@
 //! What a refused call gives back.
 ghost use Rattle.std.specs.Prelude.{◌≡◌, Some, codes};
+ghost use Rattle.std.specs.IoError.{error_kind};
+ghost use Rattle.std.specs.declared.io.ErrorKind.TheVariants.{OutOfMemory};
 
+use std::alloc::AllocError;
 use std::error::Error;
-use std::fmt;
+use std::{fmt, io};
 
 /// The error of a call that found the deque full: the element comes back in it, and nothing has
 /// changed.
@@ -74,5 +77,26 @@ impl<S: Drop> fmt::Debug for MakeError<S> {
 
     fn fmt<W: fmt::Write>(&self, f: &mut fmt::Formatter<W>) -> fmt::Result {
         fmt::Display::fmt(self, f)
+    }
+}
+
+impl<S: Drop> From<MakeError<S>> for AllocError {
+    /// Lets what was handed in go, so that `?` serves where only the refusal counts.
+    ///
+    /// ```
+    /// let deque = ArrayDeque::<i64, 2, Saturating>::from_array(alloc, [1, 2])?;
+    /// assert!(rt; deque.len() == 2);
+    /// ```
+    fn from(_refusal: MakeError<S>) -> AllocError {
+        AllocError
+    }
+}
+
+impl<S: Drop> From<MakeError<S>> for io::Error {
+    ghost from_gives = { λ _ error. error_kind error ≡ OutOfMemory };
+
+    /// Lets what was handed in go: an error whose kind is that of memory that was refused.
+    fn from(_refusal: MakeError<S>) -> io::Error {
+        AllocError.into()
     }
 }

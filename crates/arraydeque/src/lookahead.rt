@@ -1,11 +1,11 @@
 //! Looking ahead in an iterator.
 ghost use Rattle.std.specs.Prelude.{◌≡◌, ◌<◌, ◌+◌, ◌-◌, ◌*◌, ◌∷◌, [], List, length, drop, slice_get, option_copied, ⊤, true, IfOk, IfErr, OnOk, OnErr, IsOk, OnSome, IfNone, ◌↔◌};
 ghost use Rattle.std.specs.Borrow.{sem};
-ghost use Rattle.std.specs.Iterator.{MakesProgress, count_map};
+ghost use Rattle.std.specs.Iterator.{IsFinite, MakesProgress, UpTo, count_map, size};
 ghost use Rattle.std.specs.Iterator.Runs.{WholeRun};
 ghost use Rattle.std.specs.Mem.{type_size};
 ghost use Rattle.std.specs.Option.{option_to_list};
-ghost use Rattle.arraydeque.specs.Lookahead.{fresh_scanner, left_of, Reads, HandsOut, HasRest, TakesOff, PutsOn, Peeks};
+ghost use Rattle.arraydeque.specs.Lookahead.{fresh_scanner, left_of, Reads, HandsOut, HasRest, TakesOff, PutsOn, Peeks, Gives};
 
 use crate::behavior::Saturating;
 use crate::deque::ArrayDeque;
@@ -81,6 +81,9 @@ impl<I: Iterator, const CAP: usize> Scanner<I, CAP> {
     /// item that `next` will return. Requires `k` below `CAP`. What is read for it stays in the
     /// buffer.
     ///
+    /// A function over any iterator has a const parameter for `CAP`, and requires that `k` is below
+    /// it: of a number in its place the prover doesn't see that.
+    ///
     /// ```
     /// let mut scanner = Scanner::<_, 3>::new(alloc, [1, 2].into_iter())?;
     /// assert!(rt; scanner.peek(1) == Some(&2));
@@ -118,6 +121,8 @@ impl<I: Iterator, const CAP: usize> Scanner<I, CAP> {
         ensures over { IfNone result (HasRest I.next_gives self.old []) }
         ensures some { OnSome result (self.new.ended ≡ self.old.ended) }
         ensures goes { MakesProgress (λ _. ⊤) (left_of I.remaining) self.old result self.new }
+        ensures left { IsFinite (left_of I.remaining self.old)
+            → UpTo (left_of I.remaining self.new) (size (left_of I.remaining self.old)) }
     {
         // That the buffer is within the capacity is what `len` promises.
         let _len = self.buffer.len();
@@ -187,5 +192,30 @@ impl<I: Iterator, const CAP: usize> Scanner<I, CAP> {
                 None
             }
         }
+    }
+}
+
+impl<I: Iterator<Item: Drop>, const CAP: usize> Iterator for Scanner<I, CAP> {
+    type Item = I::Item;
+
+    ghost next_gives = { Gives I.next_gives };
+
+    ghost remaining = { left_of I.remaining };
+
+    /// Goes by the scanner's own `next`, so that a `for` takes what is left, and what came before
+    /// it was left early stays taken.
+    ///
+    /// ```
+    /// let mut scanner = Scanner::<_, 1>::new(alloc, 1..6)?;
+    /// assert!(rt; scanner.peek(0) == Some(&1));
+    /// for item in &mut scanner {
+    ///     if item == 3 {
+    ///         break;
+    ///     }
+    /// }
+    /// assert!(rt; scanner.sum::<i32>() == 9);
+    /// ```
+    fn next(&mut self) -> Option<I::Item> {
+        Scanner::next(self)
     }
 }

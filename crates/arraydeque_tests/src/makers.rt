@@ -2,7 +2,8 @@
 use crate::build::{deque_at, holds, is_cut, made, numbers, wrapping_at};
 use arraydeque::behavior::Behavior;
 use arraydeque::{ArrayDeque, CapacityError, MakeError, Saturating, Wrapping};
-use std::alloc::Global;
+use std::alloc::{AllocError, Global};
+use std::io;
 use std::process::Abort;
 use std::test::Fail;
 
@@ -125,6 +126,26 @@ fn deques_of_every_length(rt: HostRuntime) -> Result<(), Fail> {
     make_all::<6>(&rt, rt.alloc())?;
     make_all::<7>(&rt, rt.alloc())?;
     make_all::<8>(&rt, rt.alloc())
+}
+
+/// Makes a deque of an array for a caller who gives up where it is refused.
+fn length_made<const CAP: usize>(alloc: Global) -> Result<usize, AllocError> {
+    Ok(Refusing::<CAP>::from_array(alloc, [1, 2])?.len())
+}
+
+/// The same for one that reads and writes.
+fn length_made_for_io<const CAP: usize>(alloc: Global) -> io::Result<usize> {
+    Ok(Refusing::<CAP>::from_array(alloc, [1, 2])?.len())
+}
+
+#[test]
+fn a_refusal_becomes_an_error_of_memory(rt: HostRuntime) -> Result<(), Fail> {
+    assert!(rt; length_made::<2>(rt.alloc()) == Ok(2));
+    assert!(rt; length_made::<{ usize::MAX }>(rt.alloc()) == Err(AllocError));
+    assert!(rt; length_made_for_io::<2>(rt.alloc()).is_ok_and(|length| length == 2));
+    let refused = length_made_for_io::<{ usize::MAX }>(rt.alloc()).map_err(|error| error.kind());
+    assert!(rt; refused == Err(io::ErrorKind::OutOfMemory));
+    Ok(())
 }
 
 /// Whether the deques of a list from that start become vectors of it under either policy.

@@ -2,7 +2,7 @@
 //!
 //! It stands on `arraydeque` under either policy, and is proved from the deque's public contract
 //! alone: no job is lost, and each comes out in its turn.
-ghost use Rattle.std.specs.Prelude.{◌≡◌, ◌<◌, ◌*◌, ◌++◌, ◌∷◌, [], ◌↔◌, length, IfOk, IfErr, OnErr, OnOk, IsOk, IsNone, option_to_list, slice_get};
+ghost use Rattle.std.specs.Prelude.{◌≡◌, ◌<◌, ◌*◌, ◌++◌, ◌∷◌, [], ◌↔◌, length, IfOk, IfErr, OnErr, OnOk, IsOk, IsNone, option_to_list, slice_get, take, drop};
 ghost use Rattle.std.specs.Mem.{type_size};
 
 use arraydeque::behavior::Behavior;
@@ -61,6 +61,18 @@ impl<T, const CAP: usize> Jobs<T, CAP, Saturating> {
         match self.waiting.push_back(job) {
             Ok(()) => Ok(()),
             Err(refusal) => Err(refusal.element),
+        }
+    }
+
+    /// Puts the job that has waited longest behind the others.
+    pub fn defer(&mut self)
+        ensures { self.new ≡ drop 1 self.old ++ take 1 self.old }
+    {
+        if let Some(job) = self.waiting.pop_front() {
+            match self.waiting.push_back(job) {
+                Ok(()) => {}
+                Err(_) => unreachable!(),
+            }
         }
     }
 }

@@ -5,6 +5,7 @@
 pub mod history;
 pub mod jobs;
 pub mod pipe;
+pub mod scanning;
 pub mod tokens;
 pub mod window;
 pub mod writing;

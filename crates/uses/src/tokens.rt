@@ -61,10 +61,8 @@ pub fn tokenize_text(alloc: Global, text: &[u8]) -> Result<Vec<Token>, AllocErro
     ensures signs { IfOk result (λ tokens. All IsOneByteIfSign tokens.items) }
     ensures longest { IfOk result (λ tokens. AreLongest tokens.items) }
 {
-    match Scanner::<_, 1>::new(alloc, text.iter().copied()) {
-        Ok(mut scanner) => tokenize(alloc, &mut scanner),
-        Err(_) => Err(AllocError),
-    }
+    let mut scanner = Scanner::<_, 1>::new(alloc, text.iter().copied())?;
+    tokenize(alloc, &mut scanner)
 }
 
 /// Takes the next token, of which only the first byte is sure to be there.

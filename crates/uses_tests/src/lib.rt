@@ -8,6 +8,8 @@ mod jobs;
 #[cfg(test)]
 mod pipe;
 #[cfg(test)]
+mod scanning;
+#[cfg(test)]
 mod tokens;
 #[cfg(test)]
 mod window;

@@ -23,6 +23,18 @@ impl<T: Clone, const CAP: usize, B: Behavior> ArrayDeque<T, CAP, B> {
     /// assert!(rt; deque.pop_front() == Some(1));
     /// assert!(rt; copy.into_vec()?.as_slice() == [1, 2].as_slice());
     /// ```
+    ///
+    /// Items that own memory are cloned one by one:
+    ///
+    /// ```
+    /// let mut names = ArrayDeque::<String, 2, Wrapping>::new(alloc)?;
+    /// names.push_back(format!(in alloc; "a")?);
+    /// let mut copies = ArrayDeque::<String, 2, Wrapping>::new(alloc)?;
+    /// for name in names.iter() {
+    ///     copies.push_back(name.clone()?);
+    /// }
+    /// assert!(rt; copies == names);
+    /// ```
     pub fn clone(&self) -> Result<Self, AllocError>
         requires { ClonesAreSame T.is_clone self.now.items }
         ensures items { IfOk result (λ deque. deque ≡ with_back self.now.items empty_deque) }

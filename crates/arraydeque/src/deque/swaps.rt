@@ -25,6 +25,7 @@ impl<T, const CAP: usize, B: Behavior> ArrayDeque<T, CAP, B> {
             then take (length self.old.items - 1)
             (swap self.old.items index (length self.old.items - 1))
             else self.old.items) }
+        ensures room { OnSome result (length self.new.items < CAP) }
         ensures start { self.new.start ≡ self.old.start }
         ensures steps { OnSome result (self.new.steps ≡ more_takes 1
             (more_exchanges (if index == length self.old.items - 1 then 0 else 1) self.old.steps)) }
@@ -49,6 +50,7 @@ impl<T, const CAP: usize, B: Behavior> ArrayDeque<T, CAP, B> {
             (if nat_lt index (length self.old.items)
             then drop 1 (swap self.old.items index 0)
             else self.old.items) }
+        ensures room { OnSome result (length self.new.items < CAP) }
         ensures start { OnSome result (self.new.start ≡ place_of self.old.start 1 CAP) }
         ensures steps { OnSome result (self.new.steps ≡ more_takes 1
             (more_exchanges (if index == 0 then 0 else 1) self.old.steps)) }

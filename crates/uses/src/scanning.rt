@@ -1,0 +1,32 @@
+//! What a caller of a scanner knows of what it has left, over its public contract alone.
+ghost use Rattle.std.specs.Prelude.{◌≡◌, ◌<◌, ◌⊎◌, ◌∷◌, []};
+ghost use Rattle.std.specs.Iterator.{IsFinite, UpTo, size};
+ghost use Rattle.arraydeque.specs.Lookahead.{HasRest, TakesOff, left_of};
+
+use arraydeque::lookahead::Scanner;
+
+/// Takes the next item, or answers another where none is left.
+pub fn next_or<I: Iterator<Item: Drop>, const AHEAD: usize>(
+    scanner: &mut Scanner<I, AHEAD>,
+    other: I::Item,
+) -> I::Item
+    requires finite { IsFinite (left_of I.remaining scanner.old) }
+    ensures answer { TakesOff I.next_gives scanner.old (result ∷ []) scanner.new
+        ⊎ (HasRest I.next_gives scanner.old [] × (result ≡ other)) }
+    ensures finite { UpTo (left_of I.remaining scanner.new) (size (left_of I.remaining scanner.old)) }
+{
+    match scanner.next() {
+        Some(item) => item,
+        None => other,
+    }
+}
+
+/// Looks at the next byte, in a scanner that can look at least one byte ahead.
+pub fn look<I: Iterator<Item = u8>, const AHEAD: usize>(
+    scanner: &mut Scanner<I, AHEAD>,
+) -> Option<u8>
+    requires ahead { 0 < AHEAD }
+    ensures rest { TakesOff I.next_gives scanner.old [] scanner.new }
+{
+    scanner.peek(0).copied()
+}
