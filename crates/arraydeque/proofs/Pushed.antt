@@ -2,11 +2,11 @@
 use Rattle.std.proofs.Common.{◌≡◌, ◌<◌, ◌≤◌, ℕ, ◌+◌, ◌-◌, List, [], ◌∷◌, ◌++◌, length, take, drop, reverse, nat_lt, if◌then◌else◌, refl, sym, ap, ap₂, ◌∙◌, arith, inl, inr}
 use Rattle.std.proofs.lemmas.Bool.{cases_lt, lt-ltb, le-ltb}
 use Rattle.std.proofs.lemmas.List.{append_assoc, append-nil, reverse-append, length-append, length-drop, length-reverse, take_all, nil_from_length}
-use Rattle.arraydeque_ring.specs.Ring.{RingState, place_of, on_by, back_by}
+use Rattle.arraydeque_ring.specs.Ring.{RingState, place_of, up_by, down_by}
 use Rattle.arraydeque_ring.specs.Steps.{more_puts, more_takes}
 use Rattle.arraydeque.specs.Deque.{DequeState, keep_last, with_back, with_front, wrapped_back, wrapped_front, WrapsBack}
-use Rattle.arraydeque_ring.proofs.Displaced.{displaced_first, displaced_last}
-use Rattle.arraydeque_ring.proofs.places.InRows.{back_by-both}
+use Rattle.arraydeque_ring.proofs.fills.Displaced.{displaced_first, displaced_last}
+use Rattle.arraydeque_ring.proofs.fills.InRows.{down_by-both}
 use Rattle.arraydeque.proofs.KeepLast.{keep_last-all}
 
 -- what is seen of a deque over a ring
@@ -77,7 +77,7 @@ module _ {X : Type 0} (n : ℕ) (old mid : DequeState X) (xs : List X) (within :
         let items = sym (take_all n (reverse xs ++ old.items) short_front) in
         let takes : old.steps.takes ≡ old.steps.takes + (length old.items + length xs - n) = omega (arith, short_front, length-append (reverse xs) old.items, length-reverse xs) in (
           ap (λ (d : DequeState X). d.items) same ∙ items,
-          (λ _. same ∙ (λ i. record { items = items i; start = back_by (length xs) old.start n; steps = more_puts (length xs) (record old.steps { takes = takes i }) })),
+          (λ _. same ∙ (λ i. record { items = items i; start = down_by (length xs) old.start n; steps = more_puts (length xs) (record old.steps { takes = takes i }) })),
           none_before,
         )
 
@@ -87,7 +87,7 @@ module _ {X : Type 0} (n : ℕ) (old mid : DequeState X) (xs : List X) (within :
         let total : length (reverse xs ++ old.items) + length ys ≡ length old.items + length (xs ++ ys) = omega (arith, length-append (reverse xs) old.items, length-reverse xs, length-append xs ys) in
         let puts : old.steps.puts + length xs + length ys ≡ old.steps.puts + length (xs ++ ys) = omega (arith, length-append xs ys) in
         let items = ap (take n) (sym (append_assoc (reverse ys) (reverse xs) old.items) ∙ ap (λ l. l ++ old.items) (sym (reverse-append xs ys))) in
-        let start = back_by-both (length xs) (length ys) old.start n ∙ ap (λ k. back_by k old.start n) (sym (length-append xs ys)) in
+        let start = down_by-both (length xs) (length ys) old.start n ∙ ap (λ k. down_by k old.start n) (sym (length-append xs ys)) in
         let both : wrapped_front n ys (with_front n xs old) ≡ wrapped_front n (xs ++ ys) old =
         λ i. record { items = items i; start = start i; steps = record old.steps { puts = puts i; takes = old.steps.takes + (total i - n) } } in (
           ap (λ (d : DequeState X). d.items) there ∙ wraps.0 ∙ ap (λ (d : DequeState X). take n (reverse ys ++ d.items)) first ∙ items,
@@ -133,7 +133,7 @@ module _ {X : Type 0} (n : ℕ) (old new : RingState X) (xs : List X) (some : 0 
   WrapsBack-displaced same =
       let many = length old.items + length xs in
       let items : drop (length xs) (old.items ++ xs) ≡ keep_last n (old.items ++ xs) = ap (λ m. drop m (old.items ++ xs)) (omega (arith, length-append old.items xs)) in
-      let start : on_by (length xs) old.start old.capacity ≡ (if nat_lt n many then place_of old.start (many - n) n else old.start) = elim (cases_lt 0 (length xs)) [
+      let start : up_by (length xs) old.start old.capacity ≡ (if nat_lt n many then place_of old.start (many - n) n else old.start) = elim (cases_lt 0 (length xs)) [
         | inl more ↦ ap (λ b. if b then place_of old.start (length xs) old.capacity else old.start) (lt-ltb 0 (length xs) more) ∙ ap₂ (λ k m. place_of old.start k m) (sym out) all
             ∙ sym (ap (λ b. if b then place_of old.start (many - n) n else old.start) (lt-ltb n many (omega arith)))
         | inr no_more ↦ ap (λ b. if b then place_of old.start (length xs) old.capacity else old.start) (le-ltb 0 (length xs) no_more)
@@ -148,6 +148,6 @@ module _ {X : Type 0} (n : ℕ) (old new : RingState X) (xs : List X) (some : 0 
   WrapsFront-displaced same =
       let items : take (length old.items) (reverse xs ++ old.items) ≡ take n (reverse xs ++ old.items) = ap (λ m. take m (reverse xs ++ old.items)) full in (
         ap (λ (r : RingState X). r.items) same ∙ items,
-        (λ _. ap of_ring same ∙ (λ i. record { items = items i; start = back_by (length xs) old.start (all i); steps = more_puts (length xs) (more_takes (sym out i) old.steps) })),
+        (λ _. ap of_ring same ∙ (λ i. record { items = items i; start = down_by (length xs) old.start (all i); steps = more_puts (length xs) (more_takes (sym out i) old.steps) })),
         λ none. absurd (omega arith),
       )

@@ -1,17 +1,17 @@
--- Two lists in three parts each, which stand beside each other in pairs.
+-- Two lists in three parts each, which face each other in pairs.
 use Rattle.std.specs.Prelude.{◌≡◌, ◌<◌, List, [], ◌++◌, length}
-use Rattle.arraydeque.specs.declared.deque.compare.Stretches.{Stretches}
+use Rattle.arraydeque.specs.declared.deque.compare.Sections.{Sections}
 
 module _ {X : Type 0} where
   -- two lists, cut behind xs and behind ys: both at one index, or the one that is cut earlier ends
   -- there
-  pub record CutAlike (xs xs-left ys ys-left : List X) : Type 0 where
+  pub record AreCutAlike (xs xs-left ys ys-left : List X) : Type 0 where
     pub first_ends : length xs < length ys → xs-left ≡ []
     pub second_ends : length ys < length xs → ys-left ≡ []
 
   -- the parts are those of xs and of ys, cut at the same two indexes as far as both lists go
-  pub record Beside (xs ys : List X) (cut : Stretches X) : Type 0 where
+  pub record AreSectionsOf (xs ys : List X) (cut : Sections X) : Type 0 where
     pub first : xs ≡ cut.front.0.now ++ (cut.middle.0.now ++ cut.rest.0.now)
     pub second : ys ≡ cut.front.1.now ++ (cut.middle.1.now ++ cut.rest.1.now)
     pub front : length cut.front.0.now ≡ length cut.front.1.now
-    pub middle : CutAlike cut.middle.0.now cut.rest.0.now cut.middle.1.now cut.rest.1.now
+    pub middle : AreCutAlike cut.middle.0.now cut.rest.0.now cut.middle.1.now cut.rest.1.now

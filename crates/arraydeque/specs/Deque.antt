@@ -1,6 +1,6 @@
 -- What a contract sees of a deque.
 use Rattle.std.specs.Prelude.{◌≡◌, ℕ, ◌<◌, ◌+◌, ◌-◌, List, [], ◌++◌, length, take, drop, reverse, slice_get, Option, nat_lt, if◌then◌else◌}
-use Rattle.arraydeque_ring.specs.Ring.{RingState, place_of, back_by}
+use Rattle.arraydeque_ring.specs.Ring.{RingState, place_of, down_by}
 use Rattle.arraydeque_ring.specs.Steps.{Steps, no_steps, more_puts, more_takes}
 
 -- a deque: its items from front to back, the place of the first in its region, and the steps of
@@ -37,7 +37,7 @@ module _ {X : Type 0} where
   with_front n xs deque =
       record {
         items = reverse xs ++ deque.items;
-        start = back_by (length xs) deque.start n;
+        start = down_by (length xs) deque.start n;
         steps = more_puts (length xs) deque.steps;
       }
 
@@ -64,6 +64,6 @@ module _ {X : Type 0} where
   wrapped_front n xs deque =
       record {
         items = take n (reverse xs ++ deque.items);
-        start = back_by (length xs) deque.start n;
+        start = down_by (length xs) deque.start n;
         steps = more_puts (length xs) (more_takes (length deque.items + length xs - n) deque.steps);
       }

@@ -1,6 +1,6 @@
 -- What a call makes of a deque: the list, where it starts, and the steps.
 use Rattle.std.specs.Prelude.{◌≡◌, ℕ, ◌+◌, ◌-◌, List, length, take, Option, Some, None, ◌==◌, nat_le, if◌then◌else◌}
-use Rattle.arraydeque_ring.specs.Changed.{IsFewest, changed_insert, changed_remove, changed_drain}
+use Rattle.arraydeque_ring.specs.Changed.{InsertMovesFewest, RemoveMovesFewest, DrainMovesFewest}
 use Rattle.arraydeque_ring.specs.Ring.{place_of}
 use Rattle.arraydeque_ring.specs.Sides.{moves_to_insert, moves_to_remove, moves_to_drain, start_opened, start_closed}
 use Rattle.arraydeque_ring.specs.Steps.{Steps, more_puts, more_takes, more_moves, more_exchanges, more_lends, Rearranges}
@@ -87,12 +87,12 @@ module _ {X : Type 0} (p : Policy) (n : ℕ) where
   -- a call that inserted, removed or drained moved the fewest items that any placement of the new
   -- list allows, and just so many where it starts at `start`
   abbrev pub MovesFewest : Call X → Answer X → DequeState X → ℕ → Type 0
-  MovesFewest (Insert i x) done old start = let len = length old.items in
-      IsFewest (moves_to_insert i len) n (changed_insert i len n old.start) start
-  MovesFewest (Remove i) (item (Some x)) old start = let len = length old.items in
-      IsFewest (moves_to_remove i len) n (changed_remove i len n old.start) start
-  MovesFewest (Drain from to) (drained xs) old start = let len = length old.items in
-      IsFewest (moves_to_drain from to len) n (changed_drain from to len n old.start) start
+  MovesFewest (Insert i x) done old start =
+      InsertMovesFewest i (length old.items) n old.start start
+  MovesFewest (Remove i) (item (Some x)) old start =
+      RemoveMovesFewest i (length old.items) n old.start start
+  MovesFewest (Drain from to) (drained xs) old start =
+      DrainMovesFewest from to (length old.items) n old.start start
   MovesFewest _ _ old start = Unit {0}
 
   -- under the policy and the capacity n the call is answered so, and makes the new deque of the old

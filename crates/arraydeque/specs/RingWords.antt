@@ -1,6 +1,7 @@
 -- The ring's words that contracts of the deque use, passed on to crates that list the deque alone.
-pub use Rattle.arraydeque_ring.specs.Changed.{IsFewest, changed_insert, changed_remove}
-pub use Rattle.arraydeque_ring.specs.Changed.{changed_drain}
+pub use Rattle.arraydeque_ring.specs.Changed.{InsertMovesFewest, RemoveMovesFewest}
+pub use Rattle.arraydeque_ring.specs.Changed.{DrainMovesFewest, IsFewest}
+pub use Rattle.arraydeque_ring.specs.Changed.{changed_insert, changed_remove, changed_drain}
 pub use Rattle.arraydeque_ring.specs.Loans.{LoanState, as_many, remaining}
 pub use Rattle.arraydeque_ring.specs.Retained.{Retains, count_moved}
 pub use Rattle.arraydeque_ring.specs.Ring.{RingState, place_of, IsInOnePiece}

@@ -50,7 +50,7 @@
 //! | `linearize` | in place, by no more moves and exchanges, taken together, than items |
 //! | a conversion to the other policy | no item |
 //!
-//! On a tie the items after the gap move. Each item that moves moves once, but in `linearize`.
+//! On a tie the items behind the gap move. Each item that moves moves once, but in `linearize`.
 #![tactic(auto)]
 
 pub mod behavior;

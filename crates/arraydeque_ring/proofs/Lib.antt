@@ -1,8 +1,9 @@
 pub mod Clones
-pub mod Displaced
 pub mod Ends
 mod Examples
-pub mod Filled
+pub mod fills
+pub mod gaps
+pub mod linearize
 pub mod loans
 pub mod memory
 pub mod moved

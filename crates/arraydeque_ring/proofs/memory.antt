@@ -1,5 +1,4 @@
 pub mod Blocks
-pub mod Crossing
 pub mod Heap
 pub mod Kit
 pub mod Lent
@@ -7,3 +6,4 @@ pub mod Owned
 pub mod Regions
 pub mod Rows
 pub mod Sharing
+pub mod Threads

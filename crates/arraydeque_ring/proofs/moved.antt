@@ -1,6 +1,5 @@
-pub mod Blocks
-pub mod Crossing
-pub mod Filled
 pub mod Flat
+pub mod InBlocks
 pub mod Parts
 pub mod Round
+pub mod Sources

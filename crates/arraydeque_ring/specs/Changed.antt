@@ -1,35 +1,60 @@
--- How many kept items have other places after an edit, wherever the new list starts. Items are told
--- apart by their indexes.
+-- How many kept items have other places after an edit, wherever the new list starts, and that an edit
+-- moves the fewest. Items are told apart by their indexes.
 use Rattle.std.specs.Prelude.{◌≡◌, ℕ, zero, suc, ◌+◌, ◌-◌, ◌<◌, ◌≤◌, Bool, false, not, nat_lt, ◌==◌, if◌then◌else◌}
 use Rattle.arraydeque_ring.specs.Ring.{place_of}
+use Rattle.arraydeque_ring.specs.Sides.{moves_to_insert, moves_to_remove, moves_to_drain}
 
 -- how many numbers below n pass the test
 abbrev pub count_below : (ℕ → Bool) → ℕ → ℕ
 count_below test zero = 0
 count_below test (suc n) = if test n then suc (count_below test n) else count_below test n
 
--- whether item k of a list that starts at t, and item j of one that starts at u, have two places
+-- whether the item at `index` of a list that starts at `start`, and that at `new_index` of one that
+-- starts at `new_start`, have two places
 abbrev pub is_elsewhere : ℕ → ℕ → ℕ → ℕ → ℕ → Bool
-is_elsewhere capacity t k u j = not (place_of t k capacity == place_of u j capacity)
+is_elsewhere capacity start index new_start new_index =
+    not (place_of start index capacity == place_of new_start new_index capacity)
 
--- of the n items of a list that starts at t, how many have another place once one is inserted at
--- the index i and the new list starts at u
+-- of the len items of a list that starts at `start`, how many have another place once one is
+-- inserted at the index and the new list starts at `new_start`
 abbrev pub changed_insert : ℕ → ℕ → ℕ → ℕ → ℕ → ℕ
-changed_insert i n capacity t u =
-    count_below (λ k. is_elsewhere capacity t k u (if nat_lt k i then k else k + 1)) n
+changed_insert index len capacity start new_start =
+    count_below (λ k. is_elsewhere capacity start k new_start (if nat_lt k index then k else k + 1))
+    len
 
--- how many of those that are kept, once the items from s up to e are out
+-- how many of those that are kept, once the items from `from` up to `to` are out
 abbrev pub changed_drain : ℕ → ℕ → ℕ → ℕ → ℕ → ℕ → ℕ
-changed_drain s e n capacity t u =
-    count_below (λ k. if nat_lt k s then is_elsewhere capacity t k u k
-    else (if nat_lt k e then false else is_elsewhere capacity t k u (k - (e - s)))) n
+changed_drain from to len capacity start new_start =
+    count_below (λ k. if nat_lt k from then is_elsewhere capacity start k new_start k
+    else (if nat_lt k to then false else is_elsewhere capacity start k new_start (k - (to - from))))
+    len
 
--- how many of those that are kept, once item i is out
+-- how many of those that are kept, once the item at the index is out
 abbrev pub changed_remove : ℕ → ℕ → ℕ → ℕ → ℕ → ℕ
-changed_remove i n capacity t u = changed_drain i (i + 1) n capacity t u
+changed_remove index len capacity start new_start =
+    changed_drain index (index + 1) len capacity start new_start
 
 -- wherever the new list starts, no fewer items change their places than `count`, and just so many
 -- do where it starts at `start`
 pub record IsFewest (count capacity : ℕ) (changed : ℕ → ℕ) (start : ℕ) : Type 0 where
   pub least : (u : ℕ) → u < capacity → count ≤ changed u
   pub met : changed start ≡ count
+
+-- an insert at the index into len items that start at `start` moves the fewest that any placement of
+-- the new list allows, and just so many where it starts at `new_start`
+abbrev pub InsertMovesFewest : ℕ → ℕ → ℕ → ℕ → ℕ → Type 0
+InsertMovesFewest index len capacity start new_start =
+    IsFewest (moves_to_insert index len) capacity (changed_insert index len capacity start)
+    new_start
+
+-- so does a removal at the index
+abbrev pub RemoveMovesFewest : ℕ → ℕ → ℕ → ℕ → ℕ → Type 0
+RemoveMovesFewest index len capacity start new_start =
+    IsFewest (moves_to_remove index len) capacity (changed_remove index len capacity start)
+    new_start
+
+-- so does a drain of the items from `from` up to `to`
+abbrev pub DrainMovesFewest : ℕ → ℕ → ℕ → ℕ → ℕ → ℕ → Type 0
+DrainMovesFewest from to len capacity start new_start =
+    IsFewest (moves_to_drain from to len) capacity (changed_drain from to len capacity start)
+    new_start

@@ -6,9 +6,9 @@ module _ {X : Type 0} where
   abbrev pub IsEmptyRun : List (Option X) → ℕ → ℕ → Type 0
   IsEmptyRun ps from len = (from + len ≤ length ps) × (take len (drop from ps) ≡ replicate len None)
 
-  -- the m elements from the index `at` on, and the n behind them, in each other's place
-  abbrev pub runs_swapped : ℕ → ℕ → ℕ → List X → List X
-  runs_swapped at m n xs = take at xs
+  -- the m items from the index `at` on, and the n behind them, in each other's place
+  abbrev pub run_rotated : ℕ → ℕ → ℕ → List X → List X
+  run_rotated at m n xs = take at xs
       ++ (take n (drop (at + m) xs) ++ (take m (drop at xs) ++ drop (at + m + n) xs))
 
   -- the places, with nothing in the len from the index `at` on

@@ -4,7 +4,7 @@ use Rattle.std.specs.List.{range_with_len}
 use Rattle.arraydeque_ring.specs.Places.{held_at, IsFilled, IsEmpty}
 use Rattle.arraydeque_ring.specs.Ring.{place_of}
 
--- how many places on from `from` the place `to` is, round the end of n places
+-- how many places up from `from` the place `to` is, round the end of n places
 abbrev pub distance : ℕ → ℕ → ℕ → ℕ
 distance from to n = place_of to (n - from) n
 

@@ -14,13 +14,13 @@ pub record RingState (X : Type 0) : Type 0 where
 abbrev pub place_of : ℕ → ℕ → ℕ → ℕ
 place_of start k capacity = (start + k) % capacity
 
--- the start after it went k places on, one by one, in a region of n places
-abbrev pub on_by : ℕ → ℕ → ℕ → ℕ
-on_by k start n = if nat_lt 0 k then place_of start k n else start
+-- the start after it went k places up, one by one, in a region of n places
+abbrev pub up_by : ℕ → ℕ → ℕ → ℕ
+up_by k start n = if nat_lt 0 k then place_of start k n else start
 
--- the start after it went k places back, one by one, in a region of n places
-abbrev pub back_by : ℕ → ℕ → ℕ → ℕ
-back_by k start n = if nat_lt 0 k then place_of start (k * (n - 1)) n else start
+-- the start after it went k places down, one by one, in a region of n places
+abbrev pub down_by : ℕ → ℕ → ℕ → ℕ
+down_by k start n = if nat_lt 0 k then place_of start (k * (n - 1)) n else start
 
 module _ {X : Type 0} where
   abbrev pub empty_ring : ℕ → RingState X
@@ -30,9 +30,9 @@ module _ {X : Type 0} where
   abbrev pub IsInOnePiece : RingState X → Type 0
   IsInOnePiece ring = ring.start + length ring.items ≤ ring.capacity
 
-  -- the list read from the index `start` on, and on from its first element at its end
-  abbrev pub turned : ℕ → List X → List X
-  turned start xs = drop start xs ++ take start xs
+  -- the list read from the index `start` on, and on from its first item at its end
+  abbrev pub rotated : ℕ → List X → List X
+  rotated start xs = drop start xs ++ take start xs
 
   -- the values that are there, in order
   abbrev pub values : List (Option X) → List X
@@ -47,4 +47,4 @@ module _ {X : Type 0} where
 -- of the places whose fillings are given, the len from `start` on, round the end, are filled, and
 -- no others
 abbrev pub FilledFrom : ℕ → ℕ → List Bool → Type 0
-FilledFrom start len fs = turned start fs ≡ replicate len true ++ replicate (length fs - len) false
+FilledFrom start len fs = rotated start fs ≡ replicate len true ++ replicate (length fs - len) false

@@ -1,4 +1,4 @@
--- Which side of a gap moves: the one with fewer items, and on a tie the items after the gap.
+-- Which side of a gap moves: the one with fewer items, and on a tie the items behind the gap.
 use Rattle.std.specs.Prelude.{ℕ, ◌-◌, min, nat_lt, if◌then◌else◌}
 use Rattle.arraydeque_ring.specs.Ring.{place_of}
 
@@ -14,12 +14,12 @@ moves_to_remove index len = min index (len - 1 - index)
 abbrev pub moves_to_drain : ℕ → ℕ → ℕ → ℕ
 moves_to_drain from to len = if nat_lt from to then min from (len - to) else 0
 
--- the start once a gap for one item is opened: one place back where the items before it move
+-- the start once a gap for one item is opened: one place down where the items before it move
 abbrev pub start_opened : ℕ → ℕ → ℕ → ℕ → ℕ
-start_opened before after capacity start =
-    if nat_lt before after then place_of start (capacity - 1) capacity else start
+start_opened before behind capacity start =
+    if nat_lt before behind then place_of start (capacity - 1) capacity else start
 
--- the start once a gap is closed: as many places on where the items before it move
+-- the start once a gap is closed: as many places up where the items before it move
 abbrev pub start_closed : ℕ → ℕ → ℕ → ℕ → ℕ → ℕ
-start_closed before gap after capacity start =
-    if nat_lt before after then place_of start gap capacity else start
+start_closed before gap behind capacity start =
+    if nat_lt before behind then place_of start gap capacity else start

@@ -35,12 +35,12 @@ pub struct Ring<T> {
 
 impl<T> Model for Ring<T> {
     ghost use Rattle.std.specs.Prelude.{◌≤◌, ◌-◌, length};
-    ghost use Rattle.arraydeque_ring.specs.Ring.{RingState, turned, values, filled, FilledFrom};
+    ghost use Rattle.arraydeque_ring.specs.Ring.{RingState, rotated, values, filled, FilledFrom};
 
     ghost Value = { RingState T };
 
     ghost view = { λ r. record {
-      items = values (turned r.start r.slots.places);
+      items = values (rotated r.start r.slots.places);
       capacity = length r.slots.places;
       start = r.start;
       steps = r.slots.steps;
@@ -92,37 +92,37 @@ impl<T> Ring<T> {
         self.alloc
     }
 
-    /// Adds an item behind the last one. No kept item moves.
+    /// Adds an element behind the last item. No kept item moves.
     #[inline]
-    pub fn push_back(&mut self, item: T)
+    pub fn push_back(&mut self, element: T)
         requires { length self.old.items < self.old.capacity }
         ensures { self.new ≡ record self.old {
-          items = self.old.items ++ item ∷ [];
+          items = self.old.items ++ element ∷ [];
           steps = more_puts 1 self.old.steps;
         } }
     {
         let behind = self.place(self.len);
-        self.slots.put(behind, item);
+        self.slots.put(behind, element);
         self.len += 1;
     }
 
-    /// Adds an item before the first one, whose place the start goes back to. No kept item moves.
+    /// Adds an element before the first item. The start goes down to its place. No kept item moves.
     #[inline]
-    pub fn push_front(&mut self, item: T)
+    pub fn push_front(&mut self, element: T)
         requires { length self.old.items < self.old.capacity }
         ensures { self.new ≡ record self.old {
-          items = item ∷ self.old.items;
+          items = element ∷ self.old.items;
           start = place_of self.old.start (self.old.capacity - 1) self.old.capacity;
           steps = more_puts 1 self.old.steps;
         } }
     {
         let before = self.place(self.slots.capacity() - 1);
-        self.slots.put(before, item);
+        self.slots.put(before, element);
         self.start = before;
         self.len += 1;
     }
 
-    /// Takes the first item off, if there is one. The start goes on to the next place, and no kept
+    /// Takes the first item off, if there is one. The start goes up to the next place, and no kept
     /// item moves.
     #[inline]
     pub fn pop_front(&mut self) -> Option<T>

@@ -5,7 +5,7 @@ ghost use Rattle.std.specs.Cmp.Lexicographic.{pointwise, slice_cmp, slice_partia
 ghost use Rattle.std.specs.Hash as fed;
 ghost use Rattle.std.specs.Hash.{items_Alike as alike};
 ghost use Rattle.std.specs.List.{flat_map};
-ghost use Rattle.arraydeque.specs.Compared.{Beside};
+ghost use Rattle.arraydeque.specs.Compared.{AreSectionsOf};
 
 use super::ArrayDeque;
 use crate::behavior::Behavior;
@@ -15,9 +15,9 @@ use std::hash::{Hash, Hasher};
 /// How many pairs are compared before the answers are looked at.
 const BLOCK: usize = 32;
 
-/// Two lists in three parts each, which stand beside each other in pairs.
+/// Two lists in three sections each, which face each other in pairs.
 #[derive(Drop)]
-struct Stretches<'a, T> {
+struct Sections<'a, T> {
     front: (&'a [T], &'a [T]),
     middle: (&'a [T], &'a [T]),
     rest: (&'a [T], &'a [T]),
@@ -25,8 +25,8 @@ struct Stretches<'a, T> {
 
 impl<T, const CAP: usize, B: Behavior> ArrayDeque<T, CAP, B> {
     /// Both lists, each cut wherever one of them is cut into its two slices.
-    fn beside<'a>(&'a self, other: &'a Self) -> Stretches<'a, T>
-        ensures { Beside self.now.items other.now.items result }
+    fn sections<'a>(&'a self, other: &'a Self) -> Sections<'a, T>
+        ensures { AreSectionsOf self.now.items other.now.items result }
     {
         let (left, left_rest) = self.as_slices();
         let (right, right_rest) = other.as_slices();
@@ -34,17 +34,17 @@ impl<T, const CAP: usize, B: Behavior> ArrayDeque<T, CAP, B> {
         let (left, left_over) = left.split_at(both);
         let (right, right_over) = right.split_at(both);
         if left_over.is_empty() {
-            let (beside, left_rest) = left_rest.split_at(right_over.len().min(left_rest.len()));
-            Stretches {
+            let (facing, left_rest) = left_rest.split_at(right_over.len().min(left_rest.len()));
+            Sections {
                 front: (left, right),
-                middle: (beside, right_over),
+                middle: (facing, right_over),
                 rest: (left_rest, right_rest),
             }
         } else {
-            let (beside, right_rest) = right_rest.split_at(left_over.len().min(right_rest.len()));
-            Stretches {
+            let (facing, right_rest) = right_rest.split_at(left_over.len().min(right_rest.len()));
+            Sections {
                 front: (left, right),
-                middle: (left_over, beside),
+                middle: (left_over, facing),
                 rest: (left_rest, right_rest),
             }
         }
@@ -70,7 +70,7 @@ impl<T: PartialEq, const CAP: usize, B: Behavior> PartialEq for ArrayDeque<T, CA
         if self.len() != other.len() {
             return false;
         }
-        let cut = self.beside(other);
+        let cut = self.sections(other);
         if !are_equal(cut.front.0, cut.front.1) {
             return false;
         }
@@ -100,7 +100,7 @@ impl<T: PartialOrd, const CAP: usize, B: Behavior> PartialOrd for ArrayDeque<T, 
     /// assert!(rt; deque.partial_cmp(&deque) == Some(Ordering::Equal));
     /// ```
     fn partial_cmp(&self, other: &Self) -> Option<Ordering> {
-        let cut = self.beside(other);
+        let cut = self.sections(other);
         let found = cut.front.0.partial_cmp(&cut.front.1);
         if found != Some(Ordering::Equal) {
             return found;
@@ -131,7 +131,7 @@ impl<T: Ord, const CAP: usize, B: Behavior> Ord for ArrayDeque<T, CAP, B> {
     /// assert!(rt; deque.cmp(&other) == Ordering::Less);
     /// ```
     fn cmp(&self, other: &Self) -> Ordering {
-        let cut = self.beside(other);
+        let cut = self.sections(other);
         let found = cut.front.0.cmp(&cut.front.1);
         if found.is_ne() {
             return found;

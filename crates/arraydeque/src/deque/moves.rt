@@ -2,7 +2,7 @@
 //! removal.
 ghost use Rattle.std.specs.Prelude.{◌≡◌, ◌<◌, ◌≤◌, ◌-◌, length, slice_get, IfErr, OnOk, OnErr, OnSome, IfNone, IsOk, ◌↔◌};
 ghost use Rattle.std.specs.List.{insert, remove};
-ghost use Rattle.arraydeque_ring.specs.Changed.{changed_insert, changed_remove, IsFewest};
+ghost use Rattle.arraydeque_ring.specs.Changed.{InsertMovesFewest, RemoveMovesFewest};
 ghost use Rattle.arraydeque_ring.specs.Sides.{moves_to_insert, moves_to_remove, start_opened, start_closed};
 ghost use Rattle.arraydeque_ring.specs.Steps.{more_moves, more_puts, more_takes};
 
@@ -34,9 +34,8 @@ impl<T, const CAP: usize> ArrayDeque<T, CAP, Saturating> {
             start_opened index (length self.old.items - index) CAP self.old.start) }
         ensures steps { OnOk result (self.new.steps ≡ more_puts 1
             (more_moves (moves_to_insert index (length self.old.items)) self.old.steps)) }
-        ensures fewest { let n = length self.old.items in OnOk result (IsFewest
-            (moves_to_insert index n) CAP (changed_insert index n CAP self.old.start)
-            self.new.start) }
+        ensures fewest { OnOk result (InsertMovesFewest
+            index (length self.old.items) CAP self.old.start self.new.start) }
         ensures full { IfErr result (λ refusal. refusal.element ≡ element) }
         ensures unchanged { OnErr result (self.new ≡ self.old) }
     {
@@ -71,9 +70,8 @@ impl<T, const CAP: usize, B: Behavior> ArrayDeque<T, CAP, B> {
         ensures steps { OnSome result (self.new.steps ≡
             more_moves (moves_to_remove index (length self.old.items))
             (more_takes 1 self.old.steps)) }
-        ensures fewest { let n = length self.old.items in OnSome result (IsFewest
-            (moves_to_remove index n) CAP (changed_remove index n CAP self.old.start)
-            self.new.start) }
+        ensures fewest { OnSome result (RemoveMovesFewest
+            index (length self.old.items) CAP self.old.start self.new.start) }
         ensures none { IfNone result (self.new ≡ self.old) }
     {
         if index >= self.len() {

@@ -2,7 +2,7 @@
 ghost use Rattle.std.specs.Prelude.{◌≡◌, ◌-◌, ◌*◌, ◌<◌, ◌≤◌, length, take, drop, slice_range, IfOk, OnOk, OnErr};
 ghost use Rattle.std.specs.List.{remove_range};
 ghost use Rattle.std.specs.Mem.{type_size};
-ghost use Rattle.arraydeque_ring.specs.Changed.{changed_drain, IsFewest};
+ghost use Rattle.arraydeque_ring.specs.Changed.{DrainMovesFewest};
 ghost use Rattle.arraydeque_ring.specs.Sides.{moves_to_drain, start_closed};
 ghost use Rattle.arraydeque_ring.specs.Steps.{no_steps, more_moves, more_puts, more_takes};
 ghost use Rattle.arraydeque.specs.Range.{span_of};
@@ -44,7 +44,7 @@ impl<T, const CAP: usize, B: Behavior> ArrayDeque<T, CAP, B> {
     pub fn drain<R: RangeArgument<usize>>(&mut self, range: R) -> Result<Drain<T>, AllocError>
     where
         R: Drop,
-        requires ordered { let span =
+        requires in_order { let span =
             span_of (R.names_start range) (R.names_end range) self.old.items in
             span.from ≤ span.to }
         requires in_bounds { let span =
@@ -58,9 +58,9 @@ impl<T, const CAP: usize, B: Behavior> ArrayDeque<T, CAP, B> {
             OnOk result (self.new.items ≡ remove_range self.old.items span.from span.to) }
         ensures start { let span =
             span_of (R.names_start range) (R.names_end range) self.old.items in
-            let after = length self.old.items - span.to in
+            let behind = length self.old.items - span.to in
             OnOk result (self.new.start ≡
-            start_closed span.from (span.to - span.from) after CAP self.old.start) }
+            start_closed span.from (span.to - span.from) behind CAP self.old.start) }
         ensures steps { let span =
             span_of (R.names_start range) (R.names_end range) self.old.items in
             OnOk result (self.new.steps ≡
@@ -68,9 +68,8 @@ impl<T, const CAP: usize, B: Behavior> ArrayDeque<T, CAP, B> {
             (more_takes (span.to - span.from) self.old.steps)) }
         ensures fewest { let span =
             span_of (R.names_start range) (R.names_end range) self.old.items in
-            let n = length self.old.items in
-            OnOk result (IsFewest (moves_to_drain span.from span.to n) CAP
-            (changed_drain span.from span.to n CAP self.old.start) self.new.start) }
+            let n = length self.old.items in OnOk result (DrainMovesFewest
+            span.from span.to n CAP self.old.start self.new.start) }
         ensures unchanged { OnErr result (self.new ≡ self.old) }
         ensures refused { let span =
             span_of (R.names_start range) (R.names_end range) self.old.items in

@@ -8,15 +8,15 @@ use Rattle.arraydeque_ring.specs.Places.{HoldsRun}
 use Rattle.arraydeque_ring.specs.Ring.{filled}
 
 module _ {Y : Type 0} where
-  -- the list, with ws in the stead of the n elements from the index i on
+  -- the list, with ws in the stead of the n items from the index i on
   abbrev pub placed : ℕ → ℕ → List Y → List Y → List Y
   placed i n ws ps = take i ps ++ (ws ++ drop (i + n) ps)
 
-  -- the elements that are there already
+  -- the items that are there already
   pub placed_same : (i n : ℕ) (ps : List Y) → placed i n (take n (drop i ps)) ps ≡ ps
   placed_same i n ps = ap (λ l. take i ps ++ (take n (drop i ps) ++ l)) (sym (drop-drop n i ps)) ∙ ap (λ l. take i ps ++ l) (take-append-drop n (drop i ps)) ∙ take-append-drop i ps
 
-  -- no element changes nothing
+  -- no item changes nothing
   pub placed_nothing : (i : ℕ) (ws ps : List Y) → length ws ≡ 0 → placed i 0 ws ps ≡ ps
   placed_nothing i ws ps e = ap (λ l. placed i 0 l ps) (nil_from_length ws e) ∙ placed_same i 0 ps
 
@@ -53,10 +53,10 @@ apart_cases a (suc m) b (suc n) apart = elim (cases_lt b (a + suc m)) [
   ]
 ]
 
--- so they have no more elements together than there are
+-- so they have no more items together than there are
 pub apart_within : (a m b n k : ℕ) → AreApart a m b n → a + m ≤ k → b + n ≤ k → m + n ≤ k
 apart_within a m b n k apart in_a in_b = elim (apart_cases a m b n apart) [
-  | inl ordered ↦ elim ordered [ inl low ↦ omega arith | inr low ↦ omega arith ]
+  | inl in_order ↦ elim in_order [ inl low ↦ omega arith | inr low ↦ omega arith ]
   | inr one ↦ elim one [ inl none ↦ omega arith | inr none ↦ omega arith ]
 ]
 
@@ -113,7 +113,7 @@ module _ {X : Type 0} where
   written_over-same (Some x ∷ ps) (None ∷ ws) e = cc
   written_over-same (Some x ∷ ps) (Some y ∷ ws) e = ap (λ l. Some y ∷ l) (written_over-same ps ws (ap (drop 1) e))
 
--- a run that ends before the j-th element
+-- a run that ends before the j-th item
 pub run_before : {Y : Type 0} (ps : List Y) (i m j : ℕ) → i + m ≤ j → take m (drop i (take j ps)) ≡ take m (drop i ps)
 run_before ps i m j le =
     let e : j ≡ i + (j - i) = omega arith in

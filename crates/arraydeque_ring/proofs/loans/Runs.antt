@@ -17,7 +17,7 @@ module _ (E : El) {M : Type 1} {𝓤 : Ura M} (𝓛 : Logic 𝓤) (b : ℕ) wher
   abbrev Row : ℕ → List (Place E) → Fml
   Row = places_owned (R E) b
 
-  -- filled places are the elements of a slice
+  -- filled places are the items of a slice
   pub to_cells : (xs : List (el_x E)) (o : ℕ) → ent 𝓤 (sem 𝓛 (Row o (map Some xs))) (sem 𝓛 (cells (mem (R E)) xs b o))
   to_cells [] o = id⊢ 𝓤 (emp 𝓤)
   to_cells (x ∷ xs) o = mono_r 𝓤 (sem 𝓛 (part_at (R E) full_share x b o)) (to_cells xs (o + s))
@@ -128,7 +128,7 @@ module _ (E : El) {M : Type 1} {𝓤 : Ura M} (𝓛 : Logic 𝓤) (b : ℕ) wher
 
       pub two_out : AreApart i m j n → ent 𝓤 (sem 𝓛 (Row o ps)) (Apart o ps i m j n)
       two_out apart = elim (apart_cases i m j n apart) [
-        | inl ordered ↦ elim ordered [ inl low ↦ first_low low | inr low ↦ second_low low ]
+        | inl in_order ↦ elim in_order [ inl low ↦ first_low low | inr low ↦ second_low low ]
         | inr one ↦ elim one [
           | inl none ↦ subst (λ k. ent 𝓤 (sem 𝓛 (Row o ps)) (Apart o ps i k j n)) (sym none) (first_none i j n in_j)
           | inr none ↦ subst (λ k. ent 𝓤 (sem 𝓛 (Row o ps)) (Apart o ps i m j k)) (sym none) (second_none i m j in_i)

@@ -8,7 +8,7 @@ use Rattle.arraydeque_ring.specs.Places.{Region}
 use Rattle.arraydeque_ring.specs.Steps.{Steps}
 use Rattle.arraydeque_ring.specs.Gaps.{run_emptied}
 use Rattle.arraydeque_ring.specs.Moved.{distance, held_after, run_moved}
-use Rattle.arraydeque_ring.proofs.places.Turned.{place_of_cases}
+use Rattle.arraydeque_ring.proofs.places.Rotated.{place_of_cases}
 
 -- the distance between two places, of which the first may be the end
 pub distance_is : (from to n : ℕ) → from ≤ n → to < n → distance from to n ≡ (if nat_lt to from then to + n - from else to - from)
@@ -41,9 +41,9 @@ module _ {X : Type 0} where
       let e = distance_is j x n (omega arith) lt in
       moved_at i j len ps x lt ∙ rw (d, e) (grind (arith, nat_tests, mod-eq_of_lt {n = j + (x - i)} {m = n}))
 
-  -- the first k values that move back, and then the m that follow them
-  pub flat_back : (i j k m : ℕ) (ps : List (Option X)) → i ≤ j → j + (k + m) ≤ length ps → run_moved (i + k) (j + k) m (run_moved i j k ps) ≡ run_moved i j (k + m) ps
-  flat_back i j k m ps le within =
+  -- the first k values that move down, and then the m that follow them
+  pub flat_down : (i j k m : ℕ) (ps : List (Option X)) → i ≤ j → j + (k + m) ≤ length ps → run_moved (i + k) (j + k) m (run_moved i j k ps) ≡ run_moved i j (k + m) ps
+  flat_down i j k m ps le within =
       let qs = run_moved i j k ps in
       let long = length-moved i j k ps in
       same_places _ _ (length-moved (i + k) (j + k) m qs ∙ long ∙ sym (length-moved i j (k + m) ps)) (λ x lt.
@@ -52,9 +52,9 @@ module _ {X : Type 0} where
       ∙ grind (arith, nat_tests, flat_at i j k ps x (omega arith) (omega arith) in_it, flat_at i j k ps (j + k + (x - (i + k))))
       ∙ sym (flat_at i j (k + m) ps x (omega arith) (omega arith) in_it))
 
-  -- the last m values that move on, and then the k before them
-  pub flat_on : (i j k m : ℕ) (ps : List (Option X)) → j ≤ i → i + (k + m) ≤ length ps → run_moved i j k (run_moved (i + k) (j + k) m ps) ≡ run_moved i j (k + m) ps
-  flat_on i j k m ps le within =
+  -- the last m values that move up, and then the k before them
+  pub flat_up : (i j k m : ℕ) (ps : List (Option X)) → j ≤ i → i + (k + m) ≤ length ps → run_moved i j k (run_moved (i + k) (j + k) m ps) ≡ run_moved i j (k + m) ps
+  flat_up i j k m ps le within =
       let qs = run_moved (i + k) (j + k) m ps in
       let long = length-moved (i + k) (j + k) m ps in
       same_places _ _ (length-moved i j k qs ∙ long ∙ sym (length-moved i j (k + m) ps)) (λ x lt.

@@ -1,28 +1,28 @@
--- A run that moves round the end in three parts: from its first on where it moves back, else from its last.
+-- A run that moves round the end in three parts: from its first on where it moves down, else from its last.
 use Rattle.std.proofs.Common.{◌≡◌, ℕ, zero, suc, ◌+◌, ◌-◌, ◌<◌, ◌≤◌, ◌⊎◌, inl, inr, List, length, Option, refl, sym, ap, ap₂, ◌∙◌, arith}
 use Rattle.std.proofs.lemmas.Bool.Decides.{nat_tests}
 use Rattle.arraydeque_ring.specs.Ring.{place_of}
 use Rattle.arraydeque_ring.specs.Moved.{distance, IsFilledRound, CanCopy, run_moved}
 use Rattle.arraydeque_ring.proofs.moved.Flat.{distance_is, length-moved, moved_at, moved_none, same_places}
-use Rattle.arraydeque_ring.proofs.moved.Filled.{place_of-on, rest_filled}
-use Rattle.arraydeque_ring.proofs.moved.Round.{back_by, on_by}
-use Rattle.arraydeque_ring.proofs.places.Turned.{place_of_cases, place_of-lt, place_of-zero}
+use Rattle.arraydeque_ring.proofs.moved.Sources.{place_of-sum, rest_filled}
+use Rattle.arraydeque_ring.proofs.moved.Round.{by_down, by_up}
+use Rattle.arraydeque_ring.proofs.places.Rotated.{place_of_cases, place_of-lt, place_of-zero}
 
--- from dst back by the distance to it is src, and from src on by it is dst
-back_from : (dst src n : ℕ) → dst < n → src < n → place_of dst (n - distance src dst n) n ≡ src
-back_from dst src n a b =
+-- from dst down by the distance to it is src, and from src up by it is dst
+down_from : (dst src n : ℕ) → dst < n → src < n → place_of dst (n - distance src dst n) n ≡ src
+down_from dst src n a b =
     let d = place_of-lt dst (n - src) n (omega arith) in
     grind (arith, place_of_cases dst (n - src) n (omega arith), place_of_cases dst (n - distance src dst n) n (omega arith))
 
-on_from : (dst src n : ℕ) → dst < n → src < n → place_of src (distance src dst n) n ≡ dst
-on_from dst src n a b =
+up_from : (dst src n : ℕ) → dst < n → src < n → place_of src (distance src dst n) n ≡ dst
+up_from dst src n a b =
     let d = place_of-lt dst (n - src) n (omega arith) in
     grind (arith, place_of_cases dst (n - src) n (omega arith), place_of_cases src (distance src dst n) n (omega arith))
 
 module _ {X : Type 0} where
   -- a run that moves to where it is
   pub moved_nowhere : (at len : ℕ) (ps : List (Option X)) → at < length ps → run_moved at at len ps ≡ ps
-  moved_nowhere at len ps lt = same_places _ _ (length-moved at at len ps) (λ x x_in. moved_at at at len ps x x_in ∙ grind (arith, nat_tests, on_from x at (length ps) x_in lt))
+  moved_nowhere at len ps lt = same_places _ _ (length-moved at at len ps) (λ x x_in. moved_at at at len ps x x_in ∙ grind (arith, nat_tests, up_from x at (length ps) x_in lt))
 
   -- the l values from s on can be copied to d, and then the places are `after`
   pub record Part (d s l : ℕ) (now after : List (Option X)) : Type 0 where
@@ -82,29 +82,29 @@ module _ {X : Type 0} (dst src len n : ℕ) (ps : List (Option X)) (long : lengt
       is = is;
     }
 
-    part_back : len ≤ distance src dst n → Goes from to (gone from) (gone to)
-    part_back far =
+    part_down : len ≤ distance src dst n → Goes from to (gone from) (gone to)
+    part_down far =
         let g = n - distance src dst n in
         let near = place_of-lt dst (n - src) n (omega arith) in
         let at = place_of-lt dst from n (omega arith) in
         let same = length-moved dst src from ps in
-        let is : run_moved d s (to - from) (gone from) ≡ gone to = back_by dst src g from (to - from) n ps (back_from dst src n dst_in src_in) long dst_in (omega arith) ∙ ap gone (omega arith) in
+        let is : run_moved d s (to - from) (gone from) ≡ gone to = by_down dst src g from (to - from) n ps (down_from dst src n dst_in src_in) long dst_in (omega arith) ∙ ap gone (omega arith) in
         part (gone from) (gone to) (omega arith) (same ∙ long)
-        (rest_filled d s (to - from) dst src to from ps (gone from) same is (λ x. rw long (place_of-on dst from x n)) (omega arith) (omega arith) (omega arith) (omega arith) (λ k lt. filled k (omega arith))) is
+        (rest_filled d s (to - from) dst src to from ps (gone from) same is (λ x. rw long (place_of-sum dst from x n)) (omega arith) (omega arith) (omega arith) (omega arith) (λ k lt. filled k (omega arith))) is
 
-    part_on : distance src dst n + len ≤ n → Goes from to (kept to) (kept from)
-    part_on near =
+    part_up : distance src dst n + len ≤ n → Goes from to (kept to) (kept from)
+    part_up near =
         let g = distance src dst n in
         let at_d = place_of-lt dst from n (omega arith) in
         let at_s = place_of-lt src from n (omega arith) in
         let same = length-moved (place_of dst to n) (place_of src to n) (len - to) ps in
-        let apart : place_of s g n ≡ d = place_of-on src from g n ∙ ap (λ k. place_of src k n) (omega arith) ∙ sym (place_of-on src g from n) ∙ ap (λ t. place_of t from n) (on_from dst src n dst_in src_in) in
-        let further : (t : ℕ) → place_of t to n ≡ place_of (place_of t from n) (to - from) n = λ t. ap (λ k. place_of t k n) (omega arith) ∙ sym (place_of-on t from (to - from) n) in
+        let apart : place_of s g n ≡ d = place_of-sum src from g n ∙ ap (λ k. place_of src k n) (omega arith) ∙ sym (place_of-sum src g from n) ∙ ap (λ t. place_of t from n) (up_from dst src n dst_in src_in) in
+        let further : (t : ℕ) → place_of t to n ≡ place_of (place_of t from n) (to - from) n = λ t. ap (λ k. place_of t k n) (omega arith) ∙ sym (place_of-sum t from (to - from) n) in
         let is : run_moved d s (to - from) (kept to) ≡ kept from =
-        ap₂ (λ a b. run_moved d s (to - from) (run_moved a b (len - to) ps)) (further dst) (further src) ∙ on_by d s g (to - from) (len - to) n ps apart long at_s (omega arith) ∙ ap (λ l. run_moved d s l ps) (omega arith) in
+        ap₂ (λ a b. run_moved d s (to - from) (run_moved a b (len - to) ps)) (further dst) (further src) ∙ by_up d s g (to - from) (len - to) n ps apart long at_s (omega arith) ∙ ap (λ l. run_moved d s l ps) (omega arith) in
         part (kept to) (kept from) (omega arith) (same ∙ long)
         (rest_filled d s (to - from) d s (len - from) 0 ps (kept to) same is (λ x. ap (λ k. place_of d k (length ps)) (omega arith)) (omega arith) (omega arith) (omega arith) (omega arith)
-        (λ k lt. rw (long, place_of-on src from k n, ← long) (filled (from + k) (omega arith)))) is
+        (λ k lt. rw (long, place_of-sum src from k n, ← long) (filled (from + k) (omega arith)))) is
 
   module _ (a b : ℕ) (before : Uncut 0 a) (between : Uncut a b) (behind : Uncut b len) where
     at_dst : place_of dst 0 n ≡ dst
@@ -113,18 +113,18 @@ module _ {X : Type 0} (dst src len n : ℕ) (ps : List (Option X)) (long : lengt
     at_src : place_of src 0 n ≡ src
     at_src = place_of-zero src n (omega arith)
 
-    pub three_back : len ≤ distance src dst n → Three dst src a (place_of dst a n) (place_of src a n) (b - a) (place_of dst b n) (place_of src b n) (len - b) ps (run_moved dst src len ps)
-    three_back far = record {
+    pub three_down : len ≤ distance src dst n → Three dst src a (place_of dst a n) (place_of src a n) (b - a) (place_of dst b n) (place_of src b n) (len - b) ps (run_moved dst src len ps)
+    three_down far = record {
       second = gone a;
       third = gone b;
       longs = (length-moved dst src a ps, length-moved dst src b ps);
-      one = renamed dst src a (omega arith) (omega arith) (omega arith) (λ lt. at_dst) (λ lt. at_src) (rw (moved_none dst src ps) at (part_back 0 a before far));
-      two = part_back a b between far;
-      three = part_back b len behind far;
+      one = renamed dst src a (omega arith) (omega arith) (omega arith) (λ lt. at_dst) (λ lt. at_src) (rw (moved_none dst src ps) at (part_down 0 a before far));
+      two = part_down a b between far;
+      three = part_down b len behind far;
     }
 
-    pub three_on : distance src dst n + len ≤ n → Three (place_of dst b n) (place_of src b n) (len - b) (place_of dst a n) (place_of src a n) (b - a) dst src a ps (run_moved dst src len ps)
-    three_on near =
+    pub three_up : distance src dst n + len ≤ n → Three (place_of dst b n) (place_of src b n) (len - b) (place_of dst a n) (place_of src a n) (b - a) dst src a ps (run_moved dst src len ps)
+    three_up near =
         let none : len - len ≡ 0 = omega arith in
         let all : len - 0 ≡ len = omega arith in
         let same = length-moved (place_of dst a n) (place_of src a n) (len - a) ps in
@@ -132,9 +132,9 @@ module _ {X : Type 0} (dst src len n : ℕ) (ps : List (Option X)) (long : lengt
           second = kept b;
           third = kept a;
           longs = (length-moved (place_of dst b n) (place_of src b n) (len - b) ps, same);
-          one = rw (none, moved_none (place_of dst len n) (place_of src len n) ps) at (part_on b len behind near);
-          two = part_on a b between near;
-          three = renamed dst src a (omega arith) (omega arith) (omega arith) (λ lt. refl) (λ lt. refl) (rw (at_dst, at_src, all) at (part_on 0 a before near));
+          one = rw (none, moved_none (place_of dst len n) (place_of src len n) ps) at (part_up b len behind near);
+          two = part_up a b between near;
+          three = renamed dst src a (omega arith) (omega arith) (omega arith) (λ lt. refl) (λ lt. refl) (rw (at_dst, at_src, all) at (part_up 0 a before near));
         }
 
 -- a run that passes the end and moves by one place: what lies past the end, the value that crosses it, and what lies before
@@ -145,11 +145,11 @@ module _ {X : Type 0} (t len n : ℕ) (ps : List (Option X)) (long : length ps �
   next_is : ((t + 1 < n) × (next ≡ t + 1)) ⊎ ((t + 1 ≡ n) × (next ≡ 0))
   next_is = elim (place_of_cases t 1 n (omega arith)) [ inl below ↦ inl (omega arith) | inr end ↦ inr (omega arith) ]
 
-  pub slides_on : IsFilledRound t len ps → Three 1 0 (len - (n - t)) 0 (n - 1) 1 (t + 1) t (n - t - 1) ps (run_moved next t len ps)
-  slides_on filled =
+  pub slides_up : IsFilledRound t len ps → Three 1 0 (len - (n - t)) 0 (n - 1) 1 (t + 1) t (n - t - 1) ps (run_moved next t len ps)
+  slides_up filled =
       let upper = n - t in
       let next_in = place_of-lt t 1 n (omega arith) in
-      let go = three_on next t len n ps long next_in t_in filled (upper - 1) upper (grind (arith, next_is)) (grind (arith, next_is)) (grind (arith, next_is)) (grind (arith, next_is, distance_is t next n (omega arith) next_in)) in
+      let go = three_up next t len n ps long next_in t_in filled (upper - 1) upper (grind (arith, next_is)) (grind (arith, next_is)) (grind (arith, next_is)) (grind (arith, next_is, distance_is t next n (omega arith) next_in)) in
       record {
         second = go.second;
         third = go.third;
@@ -159,11 +159,11 @@ module _ {X : Type 0} (t len n : ℕ) (ps : List (Option X)) (long : length ps �
         three = renamed (t + 1) t (upper - 1) (omega arith) (omega (arith, go.longs)) (omega (arith, go.longs)) (λ lt. grind (arith, next_is)) (λ lt. refl) go.three;
       }
 
-  pub slides_back : IsFilledRound next len ps → Three t (t + 1) (n - 1 - t) (n - 1) 0 1 0 1 (len - (n - 1 - t) - 1) ps (run_moved t next len ps)
-  slides_back filled =
+  pub slides_down : IsFilledRound next len ps → Three t (t + 1) (n - 1 - t) (n - 1) 0 1 0 1 (len - (n - 1 - t) - 1) ps (run_moved t next len ps)
+  slides_down filled =
       let upper = n - 1 - t in
       let next_in = place_of-lt t 1 n (omega arith) in
-      let go = three_back t next len n ps long t_in next_in filled upper (upper + 1) (grind (arith, next_is)) (grind (arith, next_is)) (grind (arith, next_is)) (grind (arith, nat_tests, next_is, distance_is next t n (omega arith) t_in)) in
+      let go = three_down t next len n ps long t_in next_in filled upper (upper + 1) (grind (arith, next_is)) (grind (arith, next_is)) (grind (arith, next_is)) (grind (arith, nat_tests, next_is, distance_is next t n (omega arith) t_in)) in
       record {
         second = go.second;
         third = go.third;

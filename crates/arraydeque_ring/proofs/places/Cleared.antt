@@ -5,9 +5,9 @@ use Rattle.std.proofs.lemmas.List.{length-drop}
 use Rattle.arraydeque_ring.specs.Places.{IsFilledRun}
 use Rattle.arraydeque_ring.specs.Ring.{place_of}
 use Rattle.arraydeque_ring.specs.Gaps.{run_emptied}
-use Rattle.arraydeque_ring.proofs.places.Gapped.{Gapped-run_emptied, LaidOut-gap_first}
+use Rattle.arraydeque_ring.proofs.gaps.Gapped.{Gapped-run_emptied, LaidOut-gap_first}
 use Rattle.arraydeque_ring.proofs.places.LaidOut.{LaidOut, length_within, IsFilledRun-LaidOut, LaidOut-restart}
-use Rattle.arraydeque_ring.proofs.places.Turned.{place_of_cases}
+use Rattle.arraydeque_ring.proofs.places.Rotated.{place_of_cases}
 
 -- the first m items are taken out
 first_out : {X : Type 0} {n t : ℕ} {xs : List X} {ps : List (Option X)} (m : ℕ) → LaidOut n t xs ps → m ≤ length xs → t + m ≤ n → LaidOut n (place_of t m n) (drop m xs) (run_emptied t m ps)

@@ -3,7 +3,7 @@ use Rattle.std.proofs.Common.{◌≡◌, ℕ, ◌+◌, ◌-◌, ◌<◌, ◌≤�
 use Rattle.std.proofs.lemmas.List.{length-append, length-replicate, length-take-le, length-drop, append_assoc, drop_more, replicate_more}
 use Rattle.arraydeque_ring.specs.Ring.{values}
 use Rattle.arraydeque_ring.specs.Gaps.{run_emptied}
-use Rattle.arraydeque_ring.proofs.places.Filled.{get_behind, set_behind}
+use Rattle.arraydeque_ring.proofs.places.Held.{get_behind, set_behind}
 
 module _ {X : Type 0} where
   pub values-append : (ps qs : List (Option X)) → values (ps ++ qs) ≡ values ps ++ values qs

@@ -3,13 +3,13 @@ use Rattle.std.proofs.Common.{◌≡◌, ℕ, ◌+◌, ◌-◌, ◌<◌, ◌≤�
 use Rattle.std.proofs.lemmas.List.{places, length-map, length-append, length-replicate, append-nil, replicate-append-replicate, same_lists, take_at, drop_at, drop-map, take-map}
 use Rattle.arraydeque_ring.specs.Gaps.{IsEmptyRun, run_emptied}
 use Rattle.arraydeque_ring.specs.Places.{IsFilledRun}
-use Rattle.arraydeque_ring.specs.Ring.{place_of, turned, values}
+use Rattle.arraydeque_ring.specs.Ring.{place_of, rotated, values}
 use Rattle.arraydeque_ring.proofs.places.AndEmpty.{and_empty, length-and_empty, and_empty-append, values-map_Some}
 use Rattle.arraydeque_ring.proofs.places.Emptied.{length-run_emptied, values-append}
-use Rattle.arraydeque_ring.proofs.places.Filled.{length_filled}
+use Rattle.arraydeque_ring.proofs.places.Held.{length_filled}
 use Rattle.arraydeque_ring.proofs.places.LaidOut.{LaidOut, LaidOut-from}
-use Rattle.arraydeque_ring.proofs.places.Swapped.{drop_two, empty_run}
-use Rattle.arraydeque_ring.proofs.places.Turned.{place_of_cases, place_of-lt, length-turned, get_or-turned}
+use Rattle.arraydeque_ring.proofs.places.InParts.{drop_two, empty_run}
+use Rattle.arraydeque_ring.proofs.places.Rotated.{place_of_cases, place_of-lt, length-rotated, get_or-rotated}
 
 module _ {X : Type 0} {n : ℕ} {xs : List X} {ps : List (Option X)} (m k : ℕ) (l : LaidOut n 0 xs ps) (behind : length xs ≡ m) (room : m + k ≤ n) where
   from_first : ps ≡ map Some xs ++ (replicate k None ++ replicate (n - length xs - k) None)
@@ -37,19 +37,19 @@ pub record Handed {X : Type 0} (t at len place first : ℕ) (ps : List (Option X
   pub here : IsFilledRun ps place first
   pub rest : IsFilledRun (run_emptied place first ps) 0 (len - first)
   pub many : length (values (take first (drop place ps))) ≡ first
-  pub places : turned t (run_emptied 0 (len - first) (run_emptied place first ps)) ≡ run_emptied at len (turned t ps)
-  pub all : values (take first (drop place ps)) ++ values (take (len - first) (run_emptied place first ps)) ≡ values (take len (drop at (turned t ps)))
+  pub places : rotated t (run_emptied 0 (len - first) (run_emptied place first ps)) ≡ run_emptied at len (rotated t ps)
+  pub all : values (take first (drop place ps)) ++ values (take (len - first) (run_emptied place first ps)) ≡ values (take len (drop at (rotated t ps)))
 
-pub handed : {X : Type 0} (t at len n place first : ℕ) (ps : List (Option X)) → length ps ≡ n → t ≤ n - 1 → 0 < len → IsFilledRun (turned t ps) at len → place ≡ place_of t at n → first ≡ min len (n - place) → Handed t at len place first ps
+pub handed : {X : Type 0} (t at len n place first : ℕ) (ps : List (Option X)) → length ps ≡ n → t ≤ n - 1 → 0 < len → IsFilledRun (rotated t ps) at len → place ≡ place_of t at n → first ≡ min len (n - place) → Handed t at len place first ps
 handed t at len n place first ps long in_region some run is cut =
-    let ts = turned t ps in
+    let ts = rotated t ps in
     let es = run_emptied place first ps in
     let r = len - first in
     let rs = run_emptied 0 r es in
     let firsts = take first (drop place ps) in
     let others = take r es in
     let zs = run.1.0 in
-    let wide : length ts ≡ n = length-turned t ps ∙ long in
+    let wide : length ts ≡ n = length-rotated t ps ∙ long in
     let fits : at + len ≤ n = omega (arith, run.0) in
     let end : place + first ≤ n = omega (arith, place_of-lt t at n (omega arith)) in
     let same : length es ≡ n = length-run_emptied place first ps (omega arith) ∙ long in
@@ -57,7 +57,7 @@ handed t at len n place first ps long in_region some run is cut =
     let many : length firsts ≡ first = search (rules, places) in
     let all : length (firsts ++ others) ≡ len = search (rules, places) in
     let joined : firsts ++ others ≡ take len (drop at ts) = same_lists (firsts ++ others) (take len (drop at ts)) (search (rules, places)) (λ j d lt.
-    let on = get_or-turned t (at + j) n ps d long (omega arith) (omega arith) in
+    let on = get_or-rotated t (at + j) n ps d long (omega arith) (omega arith) in
     grind (arith, places, on, place_of_cases t (at + j) n (omega arith), place_of_cases t at n (omega arith))) in
     let here : firsts ≡ map Some (take first zs) = sym (take_at firsts others first many) ∙ ap (take first) (joined ∙ run.1.1) ∙ take-map Some first zs in
     let there : others ≡ map Some (drop first zs) = sym (drop_at firsts others first many) ∙ ap (drop first) (joined ∙ run.1.1) ∙ drop-map Some first zs in
@@ -65,10 +65,10 @@ handed t at len n place first ps long in_region some run is cut =
       here = (omega arith, (take first zs, here));
       rest = (omega arith, (drop first zs, there));
       many = ap length (ap values here ∙ values-map_Some (take first zs)) ∙ length_filled ps place first (omega arith, (take first zs, here));
-      places = same_lists (turned t rs) (run_emptied at len ts) (search (rules, places)) (λ j d lt.
-          let within : j < n = omega (arith, lt, length-turned t rs) in
-          let read = get_or-turned t j n rs d same_rs (omega arith) within in
-          let was = get_or-turned t j n ps d long (omega arith) within in
+      places = same_lists (rotated t rs) (run_emptied at len ts) (search (rules, places)) (λ j d lt.
+          let within : j < n = omega (arith, lt, length-rotated t rs) in
+          let read = get_or-rotated t j n rs d same_rs (omega arith) within in
+          let was = get_or-rotated t j n ps d long (omega arith) within in
           grind (arith, places, read, was, place_of_cases t j n (omega arith), place_of_cases t at n (omega arith)));
       all = sym (values-append firsts others) ∙ ap values joined;
     }

@@ -1,7 +1,7 @@
 -- What the fields of an open ring say of the value that its contracts see.
 use Rattle.std.proofs.Common.{◌≡◌, ℕ, ◌+◌, ◌-◌, ◌%◌, ◌≤◌, length, refl, subst, sym, ap, ◌∙◌}
 use Rattle.arraydeque_ring.specs.declared.ring.Ring.TheInside.{Inside}
-use Rattle.arraydeque_ring.specs.Ring.{RingState, place_of, turned, values, filled, FilledFrom}
+use Rattle.arraydeque_ring.specs.Ring.{RingState, place_of, rotated, values, filled, FilledFrom}
 use Rattle.arraydeque_ring.proofs.places.LaidOut.{LaidOut, LaidOut-values, values-LaidOut, FilledFrom-LaidOut}
 
 module _ {X : Type 0} where
@@ -13,7 +13,7 @@ module _ {X : Type 0} where
     pub steps : r.slots.steps ≡ v.steps
 
   abbrev pub view : Inside X → RingState X
-  view r = record { items = values (turned r.start r.slots.places); capacity = length r.slots.places; start = r.start; steps = r.slots.steps }
+  view r = record { items = values (rotated r.start r.slots.places); capacity = length r.slots.places; start = r.start; steps = r.slots.steps }
 
   abbrev pub Kept : Inside X → Type 0
   Kept r = (r.start ≤ length r.slots.places - 1) × FilledFrom r.start r.len (filled r.slots.places)

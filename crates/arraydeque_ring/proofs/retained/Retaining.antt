@@ -10,9 +10,9 @@ use Rattle.arraydeque_ring.specs.Places.{held_at, IsFilled, IsEmpty}
 use Rattle.arraydeque_ring.specs.Retained.{count_moved}
 use Rattle.arraydeque_ring.specs.Ring.{place_of}
 use Rattle.arraydeque_ring.specs.Steps.{Steps, more_takes, more_moves}
-use Rattle.arraydeque_ring.proofs.places.Gapped.{Gapped, Gapped-none, Gapped-take, Gapped-move, IsEmpty-gap, held_behind, LaidOut-gap_last}
+use Rattle.arraydeque_ring.proofs.gaps.Gapped.{Gapped, Gapped-none, Gapped-take, Gapped-move, IsEmpty-gap, held_behind, LaidOut-gap_last}
 use Rattle.arraydeque_ring.proofs.places.LaidOut.{LaidOut}
-use Rattle.arraydeque_ring.proofs.places.Turned.{one_place}
+use Rattle.arraydeque_ring.proofs.places.Rotated.{one_place}
 use Rattle.arraydeque_ring.proofs.retained.Answered.{kept_and_gone, count_by-push, moved-push_true, moved-push_false, where_true-push_true, where_true-push_false, in_turn-push}
 
 -- all asked about stay just where none is gone

@@ -3,7 +3,7 @@
 ghost use Rattle.std.specs.Prelude.{◌≡◌, ◌-◌, ◌+◌, ◌<◌, ◌≤◌, ◌⊎◌, ◌∷◌, [], ◌++◌, length, take, drop, reverse, false};
 ghost use Rattle.std.specs.Iterator.{IsFinite, MakesProgress};
 ghost use Rattle.arraydeque_ring.specs.Fills.{Fills, Ends};
-ghost use Rattle.arraydeque_ring.specs.Ring.{place_of, on_by, back_by};
+ghost use Rattle.arraydeque_ring.specs.Ring.{place_of, up_by, down_by};
 ghost use Rattle.arraydeque_ring.specs.Steps.{more_puts, more_takes};
 
 use super::Ring;
@@ -48,7 +48,7 @@ impl<T> Ring<T> {
             (self.old.capacity - length self.old.items) result
             (λ xs. self.new ≡ record self.old {
               items = reverse xs ++ self.old.items;
-              start = back_by (length xs) self.old.start self.old.capacity;
+              start = down_by (length xs) self.old.start self.old.capacity;
               steps = more_puts (length xs) self.old.steps;
             }) }
         ensures within { length self.new.items ≤ self.new.capacity }
@@ -80,7 +80,7 @@ impl<T> Ring<T> {
         requires ends { IsFinite (I.remaining elements) }
         ensures { Ends I.next_gives elements (λ xs. self.new ≡ record self.old {
           items = drop (length xs) (self.old.items ++ xs);
-          start = on_by (length xs) self.old.start self.old.capacity;
+          start = up_by (length xs) self.old.start self.old.capacity;
           steps = more_puts (length xs) (more_takes (length xs) self.old.steps);
         }) }
     {
@@ -103,7 +103,7 @@ impl<T> Ring<T> {
         requires ends { IsFinite (I.remaining elements) }
         ensures { Ends I.next_gives elements (λ xs. self.new ≡ record self.old {
           items = take (length self.old.items) (reverse xs ++ self.old.items);
-          start = back_by (length xs) self.old.start self.old.capacity;
+          start = down_by (length xs) self.old.start self.old.capacity;
           steps = more_puts (length xs) (more_takes (length xs) self.old.steps);
         }) }
     {
@@ -115,39 +115,39 @@ impl<T> Ring<T> {
     }
 
     /// Takes the first item off a ring that is full, and puts another in its place, so that it
-    /// stands behind the last one. The start goes on to the next place, and no kept item moves.
+    /// stands behind the last one. The start goes up to the next place, and no kept item moves.
     #[inline(always)]
-    fn replace_first(&mut self, item: T) -> T
+    fn replace_first(&mut self, element: T) -> T
         requires some { 0 < self.old.capacity }
         requires full { length self.old.items ≡ self.old.capacity }
         ensures { self.new ≡ record self.old {
-          items = drop 1 self.old.items ++ item ∷ [];
+          items = drop 1 self.old.items ++ element ∷ [];
           start = place_of self.old.start 1 self.old.capacity;
           steps = more_puts 1 (more_takes 1 self.old.steps);
         } }
     {
         let next = self.place(1);
         let first = self.slots.take(self.start);
-        self.slots.put(self.start, item);
+        self.slots.put(self.start, element);
         self.start = next;
         first
     }
 
     /// Takes the last item off a ring that is full, and puts another in its place, so that it
-    /// stands before the first one. The start goes back to that place, and no kept item moves.
+    /// stands before the first one. The start goes down to that place, and no kept item moves.
     #[inline(always)]
-    fn replace_last(&mut self, item: T) -> T
+    fn replace_last(&mut self, element: T) -> T
         requires some { 0 < self.old.capacity }
         requires full { length self.old.items ≡ self.old.capacity }
         ensures { self.new ≡ record self.old {
-          items = take self.old.capacity (item ∷ self.old.items);
+          items = take self.old.capacity (element ∷ self.old.items);
           start = place_of self.old.start (self.old.capacity - 1) self.old.capacity;
           steps = more_puts 1 (more_takes 1 self.old.steps);
         } }
     {
         let before = self.place(self.slots.capacity() - 1);
         let last = self.slots.take(before);
-        self.slots.put(before, item);
+        self.slots.put(before, element);
         self.start = before;
         last
     }
@@ -236,7 +236,7 @@ impl<T> Ring<T> {
         ensures filled { Fills I.next_gives elements.old elements.new (from - end) result.1
             (λ xs. result.0 ≡ record self {
               items = reverse xs ++ self.items;
-              start = back_by (length xs) self.start self.capacity;
+              start = down_by (length xs) self.start self.capacity;
               steps = more_puts (length xs) self.steps;
             }) }
         ensures reached { result.1 ≡ false → from ≡ self.start → result.0.start ≡ end }

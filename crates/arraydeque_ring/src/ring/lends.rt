@@ -1,7 +1,8 @@
 //! All items of a ring, lent for writing.
-ghost use Rattle.std.specs.Prelude.{◌≡◌, ◌+◌, ◌-◌, ◌≤◌, [], ◌++◌, length, min};
+ghost use Rattle.std.specs.Prelude.{◌≡◌, ◌-◌, ◌≤◌, [], ◌++◌, min};
 ghost use Rattle.std.specs.Borrow.{sem};
 ghost use Rattle.arraydeque_ring.specs.Loans.{remaining};
+ghost use Rattle.arraydeque_ring.specs.Ring.{IsInOnePiece};
 ghost use Rattle.arraydeque_ring.specs.RingLends.{lends_slices, lends_loan};
 
 use super::Ring;
@@ -18,8 +19,7 @@ impl<T> Ring<T> {
     pub fn as_mut_slices(&mut self) -> (&mut [T], &mut [T])
         ensures* writes_back { sem 𝓛 (lends_slices T.row self.entry result) }
         ensures joined { result.0.now ++ result.1.now ≡ self.old.items }
-        ensures one_piece { self.old.start + length self.old.items ≤ self.old.capacity
-            → result.1.now ≡ [] }
+        ensures one_piece { IsInOnePiece self.old → result.1.now ≡ [] }
     {
         self.lend().into_slices()
     }
@@ -29,8 +29,7 @@ impl<T> Ring<T> {
     pub fn lend(&mut self) -> Loan<'_, T>
         ensures* writes_back { sem 𝓛 (lends_loan T.row self.entry result) }
         ensures value { remaining result ≡ self.old.items }
-        ensures one_piece { self.old.start + length self.old.items ≤ self.old.capacity
-            → result.second.now ≡ [] }
+        ensures one_piece { IsInOnePiece self.old → result.second.now ≡ [] }
     {
         let start = self.start;
         let len = self.len;

@@ -1,9 +1,9 @@
 //! Laying the list in one piece, in place.
 ghost use Rattle.std.specs.Prelude.{◌≡◌, ◌+◌, ◌-◌, ◌<◌, ◌≤◌, ◌⊎◌, ◌==◌, length, if◌then◌else◌};
-ghost use Rattle.arraydeque_ring.specs.Exchanged.{runs_exchanged};
-ghost use Rattle.arraydeque_ring.specs.Gaps.{IsEmptyRun, runs_swapped};
+ghost use Rattle.arraydeque_ring.specs.Swapped.{runs_swapped};
+ghost use Rattle.arraydeque_ring.specs.Gaps.{IsEmptyRun, run_rotated};
 ghost use Rattle.arraydeque_ring.specs.Places.{IsFilledRun};
-ghost use Rattle.arraydeque_ring.specs.Ring.{IsInOnePiece, turned, filled, FilledFrom};
+ghost use Rattle.arraydeque_ring.specs.Ring.{IsInOnePiece, rotated, filled, FilledFrom};
 ghost use Rattle.arraydeque_ring.specs.Steps.{more_moves, Rearranges};
 
 use super::Ring;
@@ -42,7 +42,7 @@ impl<T> Ring<T> {
 fn turn<T>(slots: Slots<T>, start: usize, len: usize) -> Slots<T>
     requires in_region { start < length slots.places }
     requires filled { FilledFrom start len (filled slots.places) }
-    ensures places { result.places ≡ turned start slots.places }
+    ensures places { result.places ≡ rotated start slots.places }
     ensures steps { Rearranges len slots.steps result.steps }
 {
     let capacity = slots.capacity();
@@ -73,9 +73,9 @@ fn place_rest<T>(slots: Slots<T>, dst: usize, next: usize, len: usize) -> Slots<
     requires some_left { dst ≤ len }
     requires room { (len - dst ≤ length slots.places - next) ⊎ (len ≤ next) }
     requires filled { let gap = next - dst in let behind = length slots.places - next in
-        FilledFrom 0 len (filled (runs_swapped dst gap behind slots.places)) }
+        FilledFrom 0 len (filled (run_rotated dst gap behind slots.places)) }
     ensures places { let gap = next - dst in let behind = length slots.places - next in
-        result.places ≡ runs_swapped dst gap behind slots.places }
+        result.places ≡ run_rotated dst gap behind slots.places }
     ensures steps { result.steps ≡
         more_moves (if dst == next then 0 else len - dst) slots.steps }
 {
@@ -99,7 +99,7 @@ fn move_run<T>(slots: Slots<T>, dst: usize, src: usize, len: usize) -> Slots<T>
     requires apart { dst + len ≤ src }
     requires empty { IsEmptyRun slots.places dst len }
     requires filled { IsFilledRun slots.places src len }
-    ensures places { result.places ≡ runs_exchanged dst src len slots.places }
+    ensures places { result.places ≡ runs_swapped dst src len slots.places }
     ensures steps { result.steps ≡ more_moves len slots.steps }
 {
     // That a sum of places fits a word is what `capacity` promises.

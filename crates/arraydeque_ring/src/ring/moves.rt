@@ -3,10 +3,10 @@
 ghost use Rattle.std.specs.Prelude.{◌≡◌, ◌-◌, ◌+◌, ◌<◌, ◌≤◌, length, slice_get, min, nat_lt, if◌then◌else◌};
 ghost use Rattle.std.specs.List.{insert, remove};
 ghost use Rattle.arraydeque_ring.specs.Places.{IsFilledRun};
-ghost use Rattle.arraydeque_ring.specs.Ring.{place_of, turned};
+ghost use Rattle.arraydeque_ring.specs.Ring.{place_of, rotated};
 ghost use Rattle.arraydeque_ring.specs.Sides.{moves_to_insert, moves_to_remove, start_opened, start_closed};
-ghost use Rattle.arraydeque_ring.specs.Changed.{changed_insert, changed_remove, IsFewest};
-ghost use Rattle.arraydeque_ring.specs.Gaps.{IsEmptyRun, runs_swapped};
+ghost use Rattle.arraydeque_ring.specs.Changed.{InsertMovesFewest, RemoveMovesFewest};
+ghost use Rattle.arraydeque_ring.specs.Gaps.{IsEmptyRun, run_rotated};
 ghost use Rattle.arraydeque_ring.specs.Steps.{more_puts, more_takes, more_moves};
 
 use super::Ring;
@@ -14,7 +14,7 @@ use crate::slots::Slots;
 use crate::wrap::wrap_add;
 
 impl<T> Ring<T> {
-    /// Adds an item before the one at an index, or behind the last one. The fewer items on either
+    /// Adds an element before the item at an index, or behind the last one. The fewer items on either
     /// side of it move: those before it where they are the fewer, and the start with them, else
     /// those behind it. In a ring of 8 places:
     ///
@@ -22,18 +22,17 @@ impl<T> Ring<T> {
     ///     before, from 5 on        d e . . . a b c
     ///     x at index 1, from 4 on  d e . . a x b c
     ///     x at index 4, from 5 on  d x e . . a b c
-    pub fn insert(&mut self, index: usize, item: T)
+    pub fn insert(&mut self, index: usize, element: T)
         requires in_bounds { index ≤ length self.old.items }
         requires room { length self.old.items < self.old.capacity }
-        ensures items { self.new.items ≡ insert self.old.items index item }
+        ensures items { self.new.items ≡ insert self.old.items index element }
         ensures capacity { self.new.capacity ≡ self.old.capacity }
         ensures start { self.new.start ≡
             start_opened index (length self.old.items - index) self.old.capacity self.old.start }
         ensures steps { self.new.steps ≡ more_puts 1
             (more_moves (moves_to_insert index (length self.old.items)) self.old.steps) }
-        ensures fewest { let old = self.old in let n = length old.items in
-            IsFewest (moves_to_insert index n) old.capacity
-            (changed_insert index n old.capacity old.start) self.new.start }
+        ensures fewest { InsertMovesFewest
+            index (length self.old.items) self.old.capacity self.old.start self.new.start }
     {
         let capacity = self.slots.capacity();
         let behind = self.len - index;
@@ -43,7 +42,8 @@ impl<T> Ring<T> {
         } else {
             move_later(&mut self.slots, self.start, index, behind, 1);
         }
-        self.slots.put(wrap_add(self.start, index, capacity), item);
+        self.slots
+            .put(wrap_add(self.start, index, capacity), element);
         self.len += 1;
     }
 
@@ -58,9 +58,8 @@ impl<T> Ring<T> {
             index 1 (length self.old.items - 1 - index) self.old.capacity self.old.start }
         ensures steps { self.new.steps ≡ more_moves
             (moves_to_remove index (length self.old.items)) (more_takes 1 self.old.steps) }
-        ensures fewest { let old = self.old in let n = length old.items in
-            IsFewest (moves_to_remove index n) old.capacity
-            (changed_remove index n old.capacity old.start) self.new.start }
+        ensures fewest { RemoveMovesFewest
+            index (length self.old.items) self.old.capacity self.old.start self.new.start }
     {
         let item = self
             .slots
@@ -83,14 +82,14 @@ pub(super) fn close_gap<T>(
 ) -> usize
     requires in_region { start < length slots.old.places }
     requires some { 0 < gap }
-    requires filled_before { IsFilledRun (turned start slots.old.places) 0 before }
-    requires empty { IsEmptyRun (turned start slots.old.places) before gap }
-    requires filled_behind { IsFilledRun (turned start slots.old.places) (before + gap) behind }
+    requires filled_before { IsFilledRun (rotated start slots.old.places) 0 before }
+    requires empty { IsEmptyRun (rotated start slots.old.places) before gap }
+    requires filled_behind { IsFilledRun (rotated start slots.old.places) (before + gap) behind }
     ensures start { result ≡ start_closed before gap behind (length slots.old.places) start }
-    ensures places { turned start slots.new.places ≡
+    ensures places { rotated start slots.new.places ≡
         (if nat_lt before behind
-        then runs_swapped 0 before gap (turned start slots.old.places)
-        else runs_swapped before gap behind (turned start slots.old.places)) }
+        then run_rotated 0 before gap (rotated start slots.old.places)
+        else run_rotated before gap behind (rotated start slots.old.places)) }
     ensures steps { slots.new.steps ≡ more_moves (min before behind) slots.old.steps }
 {
     let capacity = slots.capacity();
@@ -108,10 +107,10 @@ pub(super) fn close_gap<T>(
 pub(super) fn move_earlier<T>(slots: &mut Slots<T>, start: usize, at: usize, len: usize, gap: usize)
     requires in_region { start < length slots.old.places }
     requires some { 0 < gap }
-    requires empty { IsEmptyRun (turned start slots.old.places) at gap }
-    requires filled { IsFilledRun (turned start slots.old.places) (at + gap) len }
-    ensures places { turned start slots.new.places ≡
-        runs_swapped at gap len (turned start slots.old.places) }
+    requires empty { IsEmptyRun (rotated start slots.old.places) at gap }
+    requires filled { IsFilledRun (rotated start slots.old.places) (at + gap) len }
+    ensures places { rotated start slots.new.places ≡
+        run_rotated at gap len (rotated start slots.old.places) }
     ensures steps { slots.new.steps ≡ more_moves len slots.old.steps }
 {
     let capacity = slots.capacity();
@@ -125,10 +124,10 @@ pub(super) fn move_earlier<T>(slots: &mut Slots<T>, start: usize, at: usize, len
 pub(super) fn move_later<T>(slots: &mut Slots<T>, start: usize, at: usize, len: usize, gap: usize)
     requires in_region { start < length slots.old.places }
     requires some { 0 < gap }
-    requires filled { IsFilledRun (turned start slots.old.places) at len }
-    requires empty { IsEmptyRun (turned start slots.old.places) (at + len) gap }
-    ensures places { turned start slots.new.places ≡
-        runs_swapped at len gap (turned start slots.old.places) }
+    requires filled { IsFilledRun (rotated start slots.old.places) at len }
+    requires empty { IsEmptyRun (rotated start slots.old.places) (at + len) gap }
+    ensures places { rotated start slots.new.places ≡
+        run_rotated at len gap (rotated start slots.old.places) }
     ensures steps { slots.new.steps ≡ more_moves len slots.old.steps }
 {
     let capacity = slots.capacity();

@@ -4,9 +4,9 @@ ghost use Rattle.std.specs.Prelude.{◌≡◌, ◌-◌, ◌+◌, ◌*◌, ◌<�
 ghost use Rattle.std.specs.List.{remove_range};
 ghost use Rattle.std.specs.Mem.{type_size};
 ghost use Rattle.arraydeque_ring.specs.Places.{IsFilledRun};
-ghost use Rattle.arraydeque_ring.specs.Ring.{place_of, turned, values};
+ghost use Rattle.arraydeque_ring.specs.Ring.{place_of, rotated, values};
 ghost use Rattle.arraydeque_ring.specs.Sides.{moves_to_drain, start_closed};
-ghost use Rattle.arraydeque_ring.specs.Changed.{changed_drain, IsFewest};
+ghost use Rattle.arraydeque_ring.specs.Changed.{DrainMovesFewest};
 ghost use Rattle.arraydeque_ring.specs.Gaps.{run_emptied};
 ghost use Rattle.arraydeque_ring.specs.Steps.{no_steps, more_puts, more_takes, more_moves};
 
@@ -40,14 +40,13 @@ impl<T> Ring<T> {
         }) }
         ensures items { OnOk result (self.new.items ≡ remove_range self.old.items from to) }
         ensures capacity { OnOk result (self.new.capacity ≡ self.old.capacity) }
-        ensures start { let after = length self.old.items - to in OnOk result (self.new.start ≡
-            start_closed from (to - from) after self.old.capacity self.old.start) }
+        ensures start { let behind = length self.old.items - to in OnOk result (self.new.start ≡
+            start_closed from (to - from) behind self.old.capacity self.old.start) }
         ensures steps { OnOk result (self.new.steps ≡
             more_moves (moves_to_drain from to (length self.old.items))
             (more_takes (to - from) self.old.steps)) }
-        ensures fewest { let old = self.old in let n = length old.items in
-            OnOk result (IsFewest (moves_to_drain from to n) old.capacity
-            (changed_drain from to n old.capacity old.start) self.new.start) }
+        ensures fewest { OnOk result (DrainMovesFewest
+            from to (length self.old.items) self.old.capacity self.old.start self.new.start) }
         ensures unchanged { OnErr result (self.new ≡ self.old) }
         ensures refused { OnErr result (0 < (to - from) * type_size T.row) }
     {
@@ -111,14 +110,14 @@ impl<T> Ring<T> {
 /// The values up to the region's end are handed over in one run, and the others in a second.
 fn take_run<T>(slots: &mut Slots<T>, start: usize, at: usize, len: usize, taken: &mut Ring<T>)
     requires in_region { start ≤ length slots.old.places - 1 }
-    requires filled { IsFilledRun (turned start slots.old.places) at len }
+    requires filled { IsFilledRun (rotated start slots.old.places) at len }
     requires room { length taken.old.items + len ≤ taken.old.capacity }
     requires first_place { taken.old.start ≡ 0 }
-    ensures places { turned start slots.new.places ≡
-        run_emptied at len (turned start slots.old.places) }
+    ensures places { rotated start slots.new.places ≡
+        run_emptied at len (rotated start slots.old.places) }
     ensures steps { slots.new.steps ≡ more_takes len slots.old.steps }
     ensures taken { taken.new ≡ record taken.old {
-      items = taken.old.items ++ values (take len (drop at (turned start slots.old.places)));
+      items = taken.old.items ++ values (take len (drop at (rotated start slots.old.places)));
       steps = more_puts len taken.old.steps;
     } }
 {

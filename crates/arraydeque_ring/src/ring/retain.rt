@@ -58,7 +58,7 @@ impl<T> Ring<T> {
 
 /// Drops the values in the places from `from` up to `end`, in order.
 fn drop_run<T: Drop>(slots: &mut Slots<T>, from: usize, end: usize)
-    requires order { from ≤ end }
+    requires in_order { from ≤ end }
     requires filled { IsFilledRun slots.old.places from (end - from) }
     ensures places { slots.new.places ≡
         take from slots.old.places ++ replicate (end - from) None ++ drop end slots.old.places }

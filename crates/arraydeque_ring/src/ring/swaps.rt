@@ -42,7 +42,7 @@ impl<T> Ring<T> {
     }
 
     /// Takes the item at an index off, if there is one, and puts the first item in its place, by
-    /// one exchange at most. The start goes on to the next place.
+    /// one exchange at most. The start goes up to the next place.
     #[inline]
     pub fn swap_remove_front(&mut self, index: usize) -> Option<T>
         ensures value { result ≡ slice_get self.old.items index }

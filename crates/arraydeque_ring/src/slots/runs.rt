@@ -4,7 +4,7 @@
 //! passes the region's end on neither side and is made of blocks, the ones that lie ahead first. No
 //! move touches memory but by `move_block`.
 ghost use Rattle.std.specs.Prelude.{◌≡◌, ◌+◌, ◌-◌, ◌<◌, ◌≤◌, ◌++◌, length, take, drop, if◌then◌else◌, ◌==◌};
-ghost use Rattle.arraydeque_ring.specs.Exchanged.{runs_exchanged};
+ghost use Rattle.arraydeque_ring.specs.Swapped.{runs_swapped};
 ghost use Rattle.arraydeque_ring.specs.Gaps.{IsEmptyRun, run_emptied};
 ghost use Rattle.arraydeque_ring.specs.Moved.{MeetAtOneEndAtMost, IsFilledRound, IsFreeRound, CanCopy, CanMove, run_moved};
 ghost use Rattle.arraydeque_ring.specs.Places.{IsFilledRun};
@@ -48,7 +48,7 @@ impl<T> Slots<T> {
         requires apart { a + len ≤ b }
         requires a_filled { IsFilledRun self.places a len }
         requires b_filled { IsFilledRun self.places b len }
-        ensures places { result.places ≡ runs_exchanged a b len self.places }
+        ensures places { result.places ≡ runs_swapped a b len self.places }
         ensures steps { result.steps ≡ more_exchanges len self.steps }
     {
         let mut slots = self;
@@ -89,17 +89,17 @@ impl<T> Slots<T> {
             return slots;
         }
         if dst == wrap_add(src, 1, capacity) {
-            return self.wrapped_on(src, len);
+            return self.wrapped_up(src, len);
         }
         if src == wrap_add(dst, 1, capacity) {
-            return self.wrapped_back(dst, len);
+            return self.wrapped_down(dst, len);
         }
         self.moved_in_parts(dst, src, len)
     }
 
-    /// Moves a run that passes the end by one place on: what lies past the end, the value that
+    /// Moves a run that passes the end up by one place: what lies past the end, the value that
     /// crosses it, and what lies before.
-    fn wrapped_on(self, src: usize, len: usize) -> Slots<T>
+    fn wrapped_up(self, src: usize, len: usize) -> Slots<T>
         requires in_region { src < length self.places }
         requires wraps { length self.places ≤ src + len }
         requires room { len < length self.places }
@@ -111,15 +111,15 @@ impl<T> Slots<T> {
         let capacity = self.capacity();
         let upper = capacity - src;
         let mut slots = self;
-        slots.slide_on(1, 0, len - upper);
-        slots.slide_back(0, capacity - 1, 1);
-        slots.slide_on(src + 1, src, upper - 1);
+        slots.slide_up(1, 0, len - upper);
+        slots.slide_down(0, capacity - 1, 1);
+        slots.slide_up(src + 1, src, upper - 1);
         slots
     }
 
-    /// Moves a run that passes the end by one place back: what lies before the end, the value that
+    /// Moves a run that passes the end down by one place: what lies before the end, the value that
     /// crosses it, and what lies past it.
-    fn wrapped_back(self, dst: usize, len: usize) -> Slots<T>
+    fn wrapped_down(self, dst: usize, len: usize) -> Slots<T>
         requires in_region { dst < length self.places }
         requires wraps { length self.places ≤ dst + len }
         requires room { len < length self.places }
@@ -131,14 +131,14 @@ impl<T> Slots<T> {
         let last = self.capacity() - 1;
         let upper = last - dst;
         let mut slots = self;
-        slots.slide_back(dst, dst + 1, upper);
-        slots.slide_on(last, 0, 1);
-        slots.slide_back(0, 1, len - upper - 1);
+        slots.slide_down(dst, dst + 1, upper);
+        slots.slide_up(last, 0, 1);
+        slots.slide_down(0, 1, len - upper - 1);
         slots
     }
 
     /// Moves a run in three parts, cut where either side passes the region's end, by a plain copy
-    /// each: from the first on where the run moves back, by no more places than are free, else
+    /// each: from the first on where the run moves down, by no more places than are free, else
     /// from the last on. In a region of 8 places, six values from place 4 on to place 6:
     ///
     ///     place              0 1 2 3 4 5 6 7
@@ -178,42 +178,42 @@ impl<T> Slots<T> {
     {
         if dst < src {
             if src - dst == 1 {
-                self.slide_back(dst, dst + 1, len);
+                self.slide_down(dst, dst + 1, len);
             } else {
-                self.copy_back(dst, src, len);
+                self.copy_down(dst, src, len);
             }
         } else if dst - src == 1 {
-            self.slide_on(src + 1, src, len);
+            self.slide_up(src + 1, src, len);
         } else {
-            self.copy_on(dst, src, len);
+            self.copy_up(dst, src, len);
         }
     }
 
-    /// Copies a run on value by value, the last first. Where `dst` is `src + 1`, and is so written,
+    /// Copies a run up value by value, the last first. Where `dst` is `src + 1`, and is so written,
     /// this becomes `memmove`.
     #[inline(always)]
-    fn slide_on(&mut self, dst: usize, src: usize, len: usize)
-        requires on { src ≤ dst }
+    fn slide_up(&mut self, dst: usize, src: usize, len: usize)
+        requires up { src ≤ dst }
         requires can { CanCopy dst src len self.old.places }
         ensures { self.new ≡ record self.old { places = run_moved dst src len self.old.places } }
     {
         self.move_last::<1>(dst, src, len);
     }
 
-    /// Copies a run back value by value, the first first.
+    /// Copies a run down value by value, the first first.
     #[inline(always)]
-    fn slide_back(&mut self, dst: usize, src: usize, len: usize)
-        requires back { dst ≤ src }
+    fn slide_down(&mut self, dst: usize, src: usize, len: usize)
+        requires down { dst ≤ src }
         requires can { CanCopy dst src len self.old.places }
         ensures { self.new ≡ record self.old { places = run_moved dst src len self.old.places } }
     {
         self.move_first::<1>(dst, src, len, 0);
     }
 
-    /// Copies a run on in blocks, the largest first.
+    /// Copies a run up in blocks, the largest first.
     #[inline(never)]
-    fn copy_on(&mut self, dst: usize, src: usize, len: usize)
-        requires on { src ≤ dst }
+    fn copy_up(&mut self, dst: usize, src: usize, len: usize)
+        requires up { src ≤ dst }
         requires can { CanCopy dst src len self.old.places }
         ensures { self.new ≡ record self.old { places = run_moved dst src len self.old.places } }
     {
@@ -225,10 +225,10 @@ impl<T> Slots<T> {
         self.move_last::<1>(dst, src, left);
     }
 
-    /// Copies a run back in blocks, the largest first.
+    /// Copies a run down in blocks, the largest first.
     #[inline(never)]
-    fn copy_back(&mut self, dst: usize, src: usize, len: usize)
-        requires back { dst ≤ src }
+    fn copy_down(&mut self, dst: usize, src: usize, len: usize)
+        requires down { dst ≤ src }
         requires can { CanCopy dst src len self.old.places }
         ensures { self.new ≡ record self.old { places = run_moved dst src len self.old.places } }
     {
@@ -245,7 +245,7 @@ impl<T> Slots<T> {
     #[inline(always)]
     fn move_last<const N: usize>(&mut self, dst: usize, src: usize, len: usize) -> usize
         requires some { 0 < N }
-        requires on { src ≤ dst }
+        requires up { src ≤ dst }
         requires can { CanCopy dst src len self.old.places }
         ensures can { CanCopy dst src result self.new.places }
         ensures all { N ≡ 1 → result ≡ 0 }
@@ -274,7 +274,7 @@ impl<T> Slots<T> {
         from: usize,
     ) -> usize
         requires some { 0 < N }
-        requires back { dst ≤ src }
+        requires down { dst ≤ src }
         requires within { from ≤ len }
         requires can { CanCopy (dst + from) (src + from) (len - from) self.old.places }
         ensures within { result ≤ len }

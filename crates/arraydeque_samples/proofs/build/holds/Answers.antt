@@ -2,7 +2,7 @@ use Rattle.std.proofs.Common.{◌≡◌, ◌&&◌, Bool, true, false, List, ◌+
 use Rattle.std.proofs.lemmas.List.{take-append-drop}
 use Rattle.std.specs.Cmp.Lexicographic.{pointwise}
 use Rattle.std.specs.List.{IsSplitAt}
-use Rattle.arraydeque.proofs.Stretches.{pointwise-both}
+use Rattle.arraydeque.proofs.Sections.{pointwise-both}
 use Rattle.arraydeque_samples.proofs.build.holds.Goals as goal
 
 -- two slices of a list, beside another list that is cut where the first slice ends

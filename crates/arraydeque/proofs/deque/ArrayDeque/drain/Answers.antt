@@ -14,7 +14,7 @@ drain-requires-clause-in_order g c =
       | in-Some-end w ↦ rw (← w.in-Some-end.ensures, w.to-is)
       | in-None-end w ↦ rw (← w.in-None-end.ensures, w.to-is, w.len-to.ensures.len)
     ] in
-    rw (from, to) c.requires.ordered
+    rw (from, to) c.requires.in_order
 
 pub drain-requires-clause-in_bounds : goal.drain-requires-clause-in_bounds
 drain-requires-clause-in_bounds g c =

@@ -1,7 +1,7 @@
 use Rattle.std.proofs.Common.{◌≡◌, ◌+◌, ◌&&◌, length, take, [], ◌∷◌, ◌++◌, sym, ap, ap₂, ◌∙◌, arith}
 use Rattle.std.proofs.lemmas.List.{length-take-le, take_more}
 use Rattle.std.specs.Cmp.Lexicographic.{pointwise}
-use Rattle.arraydeque.proofs.Stretches.{pointwise-push}
+use Rattle.arraydeque.proofs.Sections.{pointwise-push}
 use Rattle.arraydeque.proofs.deque.compare.are_all_equal.Goals as goal
 
 pub loop-k-preserved : goal.loop-k-preserved

@@ -1,7 +1,7 @@
 use Rattle.std.proofs.Common.{◌&&◌, length, drop, sym, ap, ap₂, ◌∙◌, arith}
 use Rattle.std.proofs.lemmas.List.{length-drop}
 use Rattle.std.specs.Cmp.Lexicographic.{pointwise}
-use Rattle.arraydeque.proofs.Stretches.{pointwise-split}
+use Rattle.arraydeque.proofs.Sections.{pointwise-split}
 use Rattle.arraydeque.proofs.deque.compare.are_equal.Goals as goal
 
 pub returns-then-not-are_all_equal : goal.returns-then-not-are_all_equal

@@ -1,6 +1,6 @@
 use Rattle.std.proofs.Common.{◌≡◌, ◌<◌, drop, length, ap, ◌∙◌, rules, arith}
 use Rattle.std.proofs.lemmas.List.{length_push, length-drop}
-use Rattle.arraydeque_ring.proofs.Displaced.{displaced_first, displaced_first-none, displaced_first-more}
+use Rattle.arraydeque_ring.proofs.fills.Displaced.{displaced_first, displaced_first-none, displaced_first-more}
 use Rattle.arraydeque_ring.proofs.ring.Ring.displace_first.Goals as goal
 
 pub loop-element-init-derived : goal.loop-element-init-derived

@@ -1,5 +1,5 @@
 use Rattle.std.proofs.Common.{◌≡◌, ◌<◌, length}
-use Rattle.arraydeque_ring.proofs.Displaced.{displaced_first}
+use Rattle.arraydeque_ring.proofs.fills.Displaced.{displaced_first}
 use Rattle.arraydeque_ring.proofs.ring.Ring.displace_first.Given as goal
 
 abbrev pub invariant-loop-element : goal.invariant-loop-element

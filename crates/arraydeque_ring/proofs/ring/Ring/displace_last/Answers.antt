@@ -1,6 +1,6 @@
 use Rattle.std.proofs.Common.{◌≡◌, ◌<◌, ◌∷◌, length, ap, ◌∙◌, rules, arith}
 use Rattle.std.proofs.lemmas.List.{length-take-le}
-use Rattle.arraydeque_ring.proofs.Displaced.{displaced_last, displaced_last-none, displaced_last-more}
+use Rattle.arraydeque_ring.proofs.fills.Displaced.{displaced_last, displaced_last-none, displaced_last-more}
 use Rattle.arraydeque_ring.proofs.ring.Ring.displace_last.Goals as goal
 
 pub loop-element-init-derived : goal.loop-element-init-derived

@@ -5,12 +5,12 @@ use Rattle.std.proofs.lemmas.List.{length-append, length-take-le, length-drop}
 use Rattle.arraydeque_ring.specs.Changed.{IsFewest}
 use Rattle.arraydeque_ring.specs.Ring.{RingState, place_of}
 use Rattle.arraydeque_ring.specs.Steps.{more_takes, more_moves}
-use Rattle.arraydeque_ring.proofs.places.Fewest.{fewest_drain}
-use Rattle.arraydeque_ring.proofs.places.GapMoves.{Closes, closes}
-use Rattle.arraydeque_ring.proofs.places.Gapped.{Gapped, Gapped-taken, length_places}
-use Rattle.arraydeque_ring.proofs.places.LaidOut.{length_within, IsFilledRun-turned, values-run}
+use Rattle.arraydeque_ring.proofs.gaps.Fewest.{fewest_drain}
+use Rattle.arraydeque_ring.proofs.gaps.GapMoves.{Closes, closes}
+use Rattle.arraydeque_ring.proofs.gaps.Gapped.{Gapped, Gapped-taken, length_places}
+use Rattle.arraydeque_ring.proofs.places.LaidOut.{length_within, IsFilledRun-rotated, values-run}
 use Rattle.arraydeque_ring.proofs.places.Opened.{Opened, opened, closed, kept}
-use Rattle.arraydeque_ring.proofs.places.Turned.{place_of-zero}
+use Rattle.arraydeque_ring.proofs.places.Rotated.{place_of-zero}
 use Rattle.arraydeque_ring.proofs.ring.Ring.drain.Given.{Over}
 use Rattle.arraydeque_ring.proofs.ring.Ring.drain.Goals.{After-take_run}
 use Rattle.arraydeque_ring.proofs.ring.Ring.drain.Goals as goal
@@ -28,7 +28,7 @@ returns-then-count-eq0-clause-start g c =
 pub take_run-requires-clause-filled : goal.take_run-requires-clause-filled
 take_run-requires-clause-filled g c =
     let ring = opened c.self.inside c.self.invariant c.self.view_is in
-    IsFilledRun-turned ring.laid _ _ (omega arith)
+    IsFilledRun-rotated ring.laid _ _ (omega arith)
 
 pub take_run-requires-clause-room : goal.take_run-requires-clause-room
 take_run-requires-clause-room g c = rw c.in_ok-drained.ensures.ok (omega arith)

@@ -2,8 +2,8 @@ use Rattle.std.proofs.Common.{◌++◌, length, ap, ◌∙◌, arith}
 use Rattle.std.proofs.lemmas.List.{append_assoc, length-append}
 use Rattle.arraydeque_ring.specs.Ring.{RingState}
 use Rattle.arraydeque_ring.specs.Steps.{more_puts}
-use Rattle.arraydeque_ring.proofs.Filled.{Fills-both}
-use Rattle.arraydeque_ring.proofs.places.InRows.{more_twice}
+use Rattle.arraydeque_ring.proofs.fills.FromIterator.{Fills-both}
+use Rattle.arraydeque_ring.proofs.fills.InRows.{more_twice}
 use Rattle.arraydeque_ring.proofs.ring.Ring.fill_back.Goals as goal
 
 pub returns-clause-filled : goal.returns-clause-filled

@@ -3,10 +3,10 @@ use Rattle.std.proofs.iter.Next.{Yields-more}
 use Rattle.std.proofs.lemmas.List.{length-append, length-reverse}
 use Rattle.arraydeque_ring.specs.declared.ring.Ring.TheInside.{Inside}
 use Rattle.arraydeque_ring.specs.Places.{Region}
-use Rattle.arraydeque_ring.specs.Ring.{RingState, back_by}
+use Rattle.arraydeque_ring.specs.Ring.{RingState, down_by}
 use Rattle.arraydeque_ring.specs.Steps.{more_puts}
-use Rattle.arraydeque_ring.proofs.Filled.{Fills-ended, Fills-all}
-use Rattle.arraydeque_ring.proofs.places.InRows.{IsEmpty-before, LaidOut-before, back_more, more_twice, more_none}
+use Rattle.arraydeque_ring.proofs.fills.FromIterator.{Fills-ended, Fills-all}
+use Rattle.arraydeque_ring.proofs.fills.InRows.{IsEmpty-before, LaidOut-before, back_more, more_twice, more_none}
 use Rattle.arraydeque_ring.proofs.places.LaidOut.{LaidOut}
 use Rattle.arraydeque_ring.proofs.places.Opened.{Opened, opened, closed, kept}
 use Rattle.arraydeque_ring.proofs.ring.Ring.fill_down.Goals as goal
@@ -59,9 +59,9 @@ loop-k-preserved g c =
     )
 
 -- the fields, once xs came
-filled : {X : Type 0} {r : Inside X} {v : RingState X} → Opened r v → (xs : List X) (slots : Region X) (start len : ℕ) → start ≡ back_by (length xs) v.start v.capacity → LaidOut v.capacity start (reverse xs ++ v.items) slots.places
+filled : {X : Type 0} {r : Inside X} {v : RingState X} → Opened r v → (xs : List X) (slots : Region X) (start len : ℕ) → start ≡ down_by (length xs) v.start v.capacity → LaidOut v.capacity start (reverse xs ++ v.items) slots.places
     → slots.steps ≡ more_puts (length xs) v.steps → len ≡ r.len + length xs
-    → Opened record { slots = slots; start = start; len = len; alloc = r.alloc } record v { items = reverse xs ++ v.items; start = back_by (length xs) v.start v.capacity; steps = more_puts (length xs) v.steps }
+    → Opened record { slots = slots; start = start; len = len; alloc = r.alloc } record v { items = reverse xs ++ v.items; start = down_by (length xs) v.start v.capacity; steps = more_puts (length xs) v.steps }
 filled {v = v} ring xs slots start len back laid steps more =
     record { laid = laid; len = omega (arith, length-append (reverse xs) v.items, length-reverse xs, ring.len, more); start = back; steps = steps }
 

@@ -5,8 +5,8 @@ use Rattle.arraydeque_ring.specs.declared.ring.Ring.TheInside.{Inside}
 use Rattle.arraydeque_ring.specs.Places.{Region}
 use Rattle.arraydeque_ring.specs.Ring.{RingState}
 use Rattle.arraydeque_ring.specs.Steps.{more_puts}
-use Rattle.arraydeque_ring.proofs.Filled.{Fills-ended, Fills-all}
-use Rattle.arraydeque_ring.proofs.places.InRows.{IsEmpty-behind, LaidOut-behind, more_twice, more_none}
+use Rattle.arraydeque_ring.proofs.fills.FromIterator.{Fills-ended, Fills-all}
+use Rattle.arraydeque_ring.proofs.fills.InRows.{IsEmpty-behind, LaidOut-behind, more_twice, more_none}
 use Rattle.arraydeque_ring.proofs.places.LaidOut.{LaidOut}
 use Rattle.arraydeque_ring.proofs.places.Opened.{Opened, opened, closed, kept}
 use Rattle.arraydeque_ring.proofs.ring.Ring.fill_up.Goals as goal

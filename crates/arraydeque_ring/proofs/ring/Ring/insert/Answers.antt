@@ -5,9 +5,9 @@ use Rattle.std.proofs.lemmas.List.{length-take-le}
 use Rattle.std.proofs.lemmas.List.Edits.{length-insert}
 use Rattle.arraydeque_ring.specs.Ring.{RingState, place_of}
 use Rattle.arraydeque_ring.specs.Steps.{more_puts, more_moves}
-use Rattle.arraydeque_ring.proofs.places.Fewest.{fewest_insert}
-use Rattle.arraydeque_ring.proofs.places.GapMoves.{opens_before, opens_behind}
-use Rattle.arraydeque_ring.proofs.places.Gapped.{Gapped, IsEmpty-gap, LaidOut-put}
+use Rattle.arraydeque_ring.proofs.gaps.Fewest.{fewest_insert}
+use Rattle.arraydeque_ring.proofs.gaps.GapMoves.{opens_before, opens_behind}
+use Rattle.arraydeque_ring.proofs.gaps.Gapped.{Gapped, IsEmpty-gap, LaidOut-put}
 use Rattle.arraydeque_ring.proofs.places.Opened.{Opened, opened, closed, kept}
 use Rattle.arraydeque_ring.proofs.ring.Ring.insert.Given.{Over}
 use Rattle.arraydeque_ring.proofs.ring.Ring.insert.Goals.{After-wrap_add, then-index-behind, else-index-behind}
@@ -84,7 +84,7 @@ overflow_add-self g c =
 
 after : (g : Over) (c : goal.After-self-2-1 g) → let old = c.args.self.now in let behind = length old.items - c.args.index in
     Opened record { slots = c.put.new.self; start = c.if-index-behind.self-inside.start; len = c.if-index-behind.self-inside.len + 1; alloc = c.if-index-behind.self-inside.alloc } record {
-      items = insert old.items c.args.index c.args.item;
+      items = insert old.items c.args.index c.args.element;
       capacity = old.capacity;
       start = (if nat_lt c.args.index behind then place_of old.start (old.capacity - 1) old.capacity else old.start);
       steps = more_puts 1 (more_moves (min c.args.index behind) old.steps);
@@ -93,8 +93,8 @@ after g c =
     let at = (goal.at.invariant_of-self g c).After-wrap_add in
     let with_gap = gap g at in
     record {
-      laid = rw (c.put.ensures.places, place g at) (LaidOut-put c.args.index c.args.item with_gap.0 (front g at));
-      len = length-insert c.args.self.now.items c.args.index c.args.item c.requires.in_bounds ∙ ap (λ n. n + 1) (sym with_gap.3);
+      laid = rw (c.put.ensures.places, place g at) (LaidOut-put c.args.index c.args.element with_gap.0 (front g at));
+      len = length-insert c.args.self.now.items c.args.index c.args.element c.requires.in_bounds ∙ ap (λ n. n + 1) (sym with_gap.3);
       start = with_gap.1;
       steps = c.put.ensures.steps ∙ ap (more_puts 1) with_gap.2;
     }

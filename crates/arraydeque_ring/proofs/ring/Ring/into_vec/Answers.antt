@@ -5,10 +5,10 @@ use Rattle.std.proofs.lemmas.List.{length-drop, drop-drop, get_or-drop, take_all
 use Rattle.std.proofs.lemmas.Option.{get_or_from_slice_get}
 use Rattle.arraydeque_ring.specs.Places.{held_at, IsFilled}
 use Rattle.arraydeque_ring.specs.Ring.{place_of}
-use Rattle.arraydeque_ring.proofs.moved.Filled.{place_of-on}
+use Rattle.arraydeque_ring.proofs.moved.Sources.{place_of-sum}
 use Rattle.arraydeque_ring.proofs.places.LaidOut.{LaidOut, length_within, held_at-start, IsFilled-start, LaidOut-take_front, AreAllEmpty-LaidOut}
 use Rattle.arraydeque_ring.proofs.places.Opened.{opened}
-use Rattle.arraydeque_ring.proofs.places.Turned.{place_of-zero, place_of_cases}
+use Rattle.arraydeque_ring.proofs.places.Rotated.{place_of-zero, place_of_cases}
 use Rattle.arraydeque_ring.proofs.ring.Ring.into_vec.Goals as goal
 
 -- none is out yet
@@ -26,7 +26,7 @@ module _ {X : Type 0} {ps : List (Option X)} (n t : ℕ) (xs : List X) (k place 
   next_out : LaidOut n (place_of t (k + 1) n) (drop (k + 1) xs) (set ps place None)
   next_out =
       let out : LaidOut n (place_of (place_of t k n) 1 n) (drop 1 (drop k xs)) (set ps place None) = subst (λ p. LaidOut n (place_of (place_of t k n) 1 n) (drop 1 (drop k xs)) (set ps p None)) here (LaidOut-take_front l some) in
-      subst (λ p. LaidOut n p (drop (k + 1) xs) (set ps place None)) (place_of-on t k 1 n) (subst (λ ys. LaidOut n (place_of (place_of t k n) 1 n) ys (set ps place None)) (drop-drop 1 k xs) out)
+      subst (λ p. LaidOut n p (drop (k + 1) xs) (set ps place None)) (place_of-sum t k 1 n) (subst (λ ys. LaidOut n (place_of (place_of t k n) 1 n) ys (set ps place None)) (drop-drop 1 k xs) out)
 
   next_item : (x : X) (v : List X) → held_at ps place ≡ Some x → v ≡ take k xs → v ++ x ∷ [] ≡ take (k + 1) xs
   next_item x v held so_far =

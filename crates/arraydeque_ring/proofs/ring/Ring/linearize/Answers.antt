@@ -4,12 +4,12 @@ use Rattle.arraydeque_ring.specs.Places.{Region}
 use Rattle.arraydeque_ring.specs.Ring.{IsInOnePiece}
 use Rattle.arraydeque_ring.proofs.places.LaidOut.{length_within}
 use Rattle.arraydeque_ring.proofs.places.Opened.{Opened, opened, closed, kept}
-use Rattle.arraydeque_ring.proofs.places.Turned.{length-turned}
+use Rattle.arraydeque_ring.proofs.places.Rotated.{length-rotated}
 use Rattle.arraydeque_ring.proofs.ring.Ring.linearize.Given.{Over}
 use Rattle.arraydeque_ring.proofs.ring.Ring.linearize.Goals.{After-replace-nothing}
 use Rattle.arraydeque_ring.proofs.ring.Ring.linearize.Goals as goal
 
--- once the turned region is put back
+-- once the rotated region is put back
 after : (g : Over) (c : After-replace-nothing g) → Opened record { slots = c.replace-nothing.new.dest; start = 0; len = c.self.inside.len; alloc = c.self.inside.alloc }
     record c.args.self.now { start = 0; steps = c.replace-nothing.new.dest.steps }
 after g c =
@@ -18,7 +18,7 @@ after g c =
     let places = ap (λ (region : Region g.row.T.Denot). region.places) c.replace-nothing.ensures.after ∙ turns in
     record {
       laid = record {
-        long = ap length places ∙ length-turned c.self.inside.start c.self.inside.slots.places ∙ ring.laid.long;
+        long = ap length places ∙ length-rotated c.self.inside.start c.self.inside.slots.places ∙ ring.laid.long;
         in_region = omega arith;
         is = append-nil c.replace-nothing.new.dest.places ∙ places ∙ ring.laid.is;
       };

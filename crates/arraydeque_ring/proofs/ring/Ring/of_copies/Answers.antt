@@ -3,7 +3,7 @@ use Rattle.std.proofs.lemmas.List.{length-take-le, take_all, take_more}
 use Rattle.std.specs.declared.alloc.Global.{Global}
 use Rattle.arraydeque_ring.specs.Places.{Region}
 use Rattle.arraydeque_ring.specs.Steps.{no_steps, more_puts}
-use Rattle.arraydeque_ring.proofs.places.InRows.{LaidOut-behind}
+use Rattle.arraydeque_ring.proofs.fills.InRows.{LaidOut-behind}
 use Rattle.arraydeque_ring.proofs.places.LaidOut.{LaidOut}
 use Rattle.arraydeque_ring.proofs.places.Opened.{Opened, closed, kept}
 use Rattle.arraydeque_ring.proofs.ring.Ring.of_copies.Goals as goal

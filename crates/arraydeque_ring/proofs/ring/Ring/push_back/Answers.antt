@@ -15,12 +15,12 @@ pub overflow_add-self : goal.overflow_add-self
 overflow_add-self g c = let ring = opened c.self.inside c.self.invariant c.self.view_is in omega (arith, ring.laid.long)
 
 pushed : (g : Over) (c : goal.After-self-1 g) → Opened record { slots = c.put.new.self; start = c.self.inside.start; len = c.self.inside.len + 1; alloc = c.self.inside.alloc }
-    record c.args.self.now { items = c.args.self.now.items ++ c.args.item ∷ []; steps = more_puts 1 c.args.self.now.steps }
+    record c.args.self.now { items = c.args.self.now.items ++ c.args.element ∷ []; steps = more_puts 1 c.args.self.now.steps }
 pushed g c =
     let ring = opened c.self.inside c.self.invariant c.self.view_is in
     record {
-      laid = rw (c.put.ensures.places, placed ring _ c.place-behind.ensures.place, ← ring.len) (LaidOut-put_back ring.laid c.args.item c.requires);
-      len = length_push c.args.self.now.items c.args.item ∙ ap (λ n. n + 1) ring.len;
+      laid = rw (c.put.ensures.places, placed ring _ c.place-behind.ensures.place, ← ring.len) (LaidOut-put_back ring.laid c.args.element c.requires);
+      len = length_push c.args.self.now.items c.args.element ∙ ap (λ n. n + 1) ring.len;
       start = ring.start;
       steps = c.put.ensures.steps ∙ ap (more_puts 1) ring.steps;
     }

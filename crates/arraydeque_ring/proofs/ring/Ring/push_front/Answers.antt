@@ -16,7 +16,7 @@ overflow_add-self g c = let ring = opened c.self.inside c.self.invariant c.self.
 
 pushed : (g : Over) (c : goal.After-self-2-1 g) → Opened record { slots = c.put.new.self; start = c.place-before.result; len = c.self.inside.len + 1; alloc = c.self.inside.alloc }
     record c.args.self.now {
-      items = c.args.item ∷ c.args.self.now.items;
+      items = c.args.element ∷ c.args.self.now.items;
       start = place_of c.args.self.now.start (c.args.self.now.capacity - 1) c.args.self.now.capacity;
       steps = more_puts 1 c.args.self.now.steps;
     }
@@ -24,7 +24,7 @@ pushed g c =
     let ring = opened c.self.inside c.self.invariant c.self.view_is in
     let all = c.capacity.ensures ∙ ring.laid.long in
     record {
-      laid = rw (c.put.ensures.places, placed ring _ c.place-before.ensures.place, all) (LaidOut-put_front ring.laid c.args.item c.requires);
+      laid = rw (c.put.ensures.places, placed ring _ c.place-before.ensures.place, all) (LaidOut-put_front ring.laid c.args.element c.requires);
       len = omega arith;
       start = rw (c.place-before.ensures.place, all);
       steps = c.put.ensures.steps ∙ ap (more_puts 1) ring.steps;

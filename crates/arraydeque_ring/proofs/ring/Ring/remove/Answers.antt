@@ -4,9 +4,9 @@ use Rattle.std.proofs.lemmas.List.{length-take-le, length-drop}
 use Rattle.std.proofs.lemmas.List.Edits.{length-remove}
 use Rattle.arraydeque_ring.specs.Ring.{RingState, place_of}
 use Rattle.arraydeque_ring.specs.Steps.{more_takes, more_moves}
-use Rattle.arraydeque_ring.proofs.places.Fewest.{fewest_remove}
-use Rattle.arraydeque_ring.proofs.places.GapMoves.{Closes, closes}
-use Rattle.arraydeque_ring.proofs.places.Gapped.{Gapped, Gapped-taken_one, length_places}
+use Rattle.arraydeque_ring.proofs.gaps.Fewest.{fewest_remove}
+use Rattle.arraydeque_ring.proofs.gaps.GapMoves.{Closes, closes}
+use Rattle.arraydeque_ring.proofs.gaps.Gapped.{Gapped, Gapped-taken_one, length_places}
 use Rattle.arraydeque_ring.proofs.places.LaidOut.{length_within, held_at-place_of, IsFilled-place_of}
 use Rattle.arraydeque_ring.proofs.places.Opened.{Opened, opened, closed, kept, place_at}
 use Rattle.arraydeque_ring.proofs.ring.Ring.remove.Given.{Over}

@@ -26,7 +26,7 @@ put-requires g c =
 
 replaced : (g : Over) (c : goal.After-self-1 g) → Opened record { slots = c.put.new.self; start = c.place-before.result; len = c.self.inside.len; alloc = c.self.inside.alloc }
     record c.args.self.now {
-      items = take c.args.self.now.capacity (c.args.item ∷ c.args.self.now.items);
+      items = take c.args.self.now.capacity (c.args.element ∷ c.args.self.now.items);
       start = place_of c.args.self.now.start (c.args.self.now.capacity - 1) c.args.self.now.capacity;
       steps = more_puts 1 (more_takes 1 c.args.self.now.steps);
     }
@@ -36,9 +36,9 @@ replaced g c =
     let items = c.args.self.now.items in
     let all = c.capacity.ensures ∙ ring.laid.long in
     let left = length-take-le (n - 1) items (omega (arith, c.requires.full)) in
-    rw (← first_and_rest n c.args.item items c.requires.some) (record {
+    rw (← first_and_rest n c.args.element items c.requires.some) (record {
       laid = rw (c.put.ensures.places, c.take-last.ensures.places, placed ring _ c.place-before.ensures.place, all)
-          (LaidOut-put_front (LaidOut-take_back ring.laid (n - 1) (omega (arith, c.requires.full, c.requires.some))) c.args.item (omega (arith, left, c.requires.some)));
+          (LaidOut-put_front (LaidOut-take_back ring.laid (n - 1) (omega (arith, c.requires.full, c.requires.some))) c.args.element (omega (arith, left, c.requires.some)));
       len = omega (arith, left, ring.len, c.requires.full, c.requires.some);
       start = rw (c.place-before.ensures.place, all);
       steps = c.put.ensures.steps ∙ ap (more_puts 1) (c.take-last.ensures.steps ∙ ap (more_takes 1) ring.steps);

@@ -1,8 +1,8 @@
 use Rattle.std.proofs.Common.{◌+◌, ◌-◌, length, take, ap, ◌∙◌, arith}
 use Rattle.std.proofs.lemmas.List.{length-take-le, drop_all, take_rest}
 use Rattle.arraydeque_ring.specs.Steps.{more_takes}
-use Rattle.arraydeque_ring.proofs.places.Gapped.{Gapped-taken, LaidOut-gap_last}
-use Rattle.arraydeque_ring.proofs.places.LaidOut.{length_within, IsFilledRun-turned, values-run}
+use Rattle.arraydeque_ring.proofs.gaps.Gapped.{Gapped-taken, LaidOut-gap_last}
+use Rattle.arraydeque_ring.proofs.places.LaidOut.{length_within, IsFilledRun-rotated, values-run}
 use Rattle.arraydeque_ring.proofs.places.Opened.{Opened, opened, closed, kept}
 use Rattle.arraydeque_ring.proofs.ring.Ring.split_off.Given.{Over}
 use Rattle.arraydeque_ring.proofs.ring.Ring.split_off.Goals as goal
@@ -13,7 +13,7 @@ overflow_sub-self-inside g c = let ring = opened c.self.inside c.self.invariant 
 pub take_run-requires-clause-filled : goal.take_run-requires-clause-filled
 take_run-requires-clause-filled g c =
     let ring = opened c.self.inside c.self.invariant c.self.view_is in
-    IsFilledRun-turned ring.laid _ _ (omega arith)
+    IsFilledRun-rotated ring.laid _ _ (omega arith)
 
 pub take_run-requires-clause-room : goal.take_run-requires-clause-room
 take_run-requires-clause-room g c =

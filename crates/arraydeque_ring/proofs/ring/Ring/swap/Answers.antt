@@ -3,7 +3,7 @@ use Rattle.std.proofs.lemmas.List.Edits.{length-swap}
 use Rattle.arraydeque_ring.specs.Steps.{more_exchanges}
 use Rattle.arraydeque_ring.proofs.places.LaidOut.{length_within, IsFilled-place_of, LaidOut-swap}
 use Rattle.arraydeque_ring.proofs.places.Opened.{Opened, opened, closed, kept, placed}
-use Rattle.arraydeque_ring.proofs.places.Turned.{one_place}
+use Rattle.arraydeque_ring.proofs.places.Rotated.{one_place}
 use Rattle.arraydeque_ring.proofs.ring.Ring.swap.Given.{Over}
 use Rattle.arraydeque_ring.proofs.ring.Ring.swap.Goals as goal
 

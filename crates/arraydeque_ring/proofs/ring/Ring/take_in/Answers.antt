@@ -3,7 +3,7 @@ use Rattle.std.proofs.lemmas.List.{length-append}
 use Rattle.arraydeque_ring.specs.Ring.{values}
 use Rattle.arraydeque_ring.specs.Steps.{more_puts}
 use Rattle.arraydeque_ring.proofs.places.AndEmpty.{values-map_Some}
-use Rattle.arraydeque_ring.proofs.places.Filled.{length_filled}
+use Rattle.arraydeque_ring.proofs.places.Held.{length_filled}
 use Rattle.arraydeque_ring.proofs.places.Handed.{IsEmptyRun-behind, LaidOut-put_run}
 use Rattle.arraydeque_ring.proofs.places.LaidOut.{LaidOut}
 use Rattle.arraydeque_ring.proofs.places.Opened.{Opened, opened, closed, kept}

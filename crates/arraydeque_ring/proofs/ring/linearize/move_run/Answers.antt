@@ -1,10 +1,10 @@
 use Rattle.std.proofs.Common.{sym, arith}
-use Rattle.arraydeque_ring.proofs.places.Exchanged.{exchanged_none, moved_more, next_empty, next_second}
-use Rattle.arraydeque_ring.proofs.places.Filled.{filled_in_run, empty_in_run}
+use Rattle.arraydeque_ring.proofs.linearize.RunsSwapped.{runs_swapped_none, moved_more, next_empty, next_second}
+use Rattle.arraydeque_ring.proofs.places.Held.{filled_in_run, empty_in_run}
 use Rattle.arraydeque_ring.proofs.ring.linearize.move_run.Goals as goal
 
 pub loop-k-init : goal.loop-k-init
-loop-k-init g c = record { places = sym (exchanged_none c.args.dst c.args.src c.args.slots.places (omega arith) (omega arith)); steps = grind arith }
+loop-k-init g c = record { places = sym (runs_swapped_none c.args.dst c.args.src c.args.slots.places (omega arith) (omega arith)); steps = grind arith }
 
 pub shift-requires-clause-filled : goal.shift-requires-clause-filled
 shift-requires-clause-filled g c =

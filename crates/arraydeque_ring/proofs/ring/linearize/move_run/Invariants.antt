@@ -1,10 +1,10 @@
 use Rattle.std.proofs.Common.{◌≡◌}
-use Rattle.arraydeque_ring.specs.Exchanged.{runs_exchanged}
+use Rattle.arraydeque_ring.specs.Swapped.{runs_swapped}
 use Rattle.arraydeque_ring.specs.Steps.{more_moves}
 use Rattle.arraydeque_ring.proofs.ring.linearize.move_run.Given as goal
 
 abbrev pub invariant-loop-k : goal.invariant-loop-k
 invariant-loop-k g l = record {
-  places : l.slots.places ≡ runs_exchanged l.dst l.src l.k l.fn.slots.places;
+  places : l.slots.places ≡ runs_swapped l.dst l.src l.k l.fn.slots.places;
   steps : l.slots.steps ≡ more_moves l.k l.fn.slots.steps;
 }

@@ -1,8 +1,8 @@
 use Rattle.std.proofs.Common.{◌≡◌, ◌+◌, ◌-◌, ◌==◌, if◌then◌else◌, arith}
 use Rattle.std.proofs.lemmas.Bool.Decides.{nat_tests}
-use Rattle.arraydeque_ring.specs.Exchanged.{runs_exchanged}
+use Rattle.arraydeque_ring.specs.Swapped.{runs_swapped}
 use Rattle.arraydeque_ring.specs.Steps.{Rearranges}
-use Rattle.arraydeque_ring.proofs.places.Turning.{Pass, Turning-pass, Turning-behind, Turning-gap, Turning-fits, still_fills}
+use Rattle.arraydeque_ring.proofs.linearize.Turning.{Pass, Turning-pass, Turning-behind, Turning-gap, Turning-fits, still_fills}
 use Rattle.arraydeque_ring.proofs.ring.linearize.turn.Given.{Over}
 use Rattle.arraydeque_ring.proofs.ring.linearize.turn.Goals.{After-min-wrapped, After-move_run-slots}
 use Rattle.arraydeque_ring.proofs.ring.linearize.turn.Goals as goal
@@ -31,7 +31,7 @@ steps g c =
     let so_far = c.loop-next.invariant.steps in
     (so_far.0 + (c.min-run.result - c.min-wrapped.result), so_far.1 + c.min-wrapped.result, omega arith, rw (c.move_run-slots.ensures.steps, c.exchange_runs-slots.ensures.steps, so_far.3) (grind arith))
 
-after : (g : Over) (c : After-move_run-slots g) → c.move_run-slots.result.places ≡ runs_exchanged c.loop-next.dst c.loop-next.next c.min-run.result c.loop-next.slots.places
+after : (g : Over) (c : After-move_run-slots g) → c.move_run-slots.result.places ≡ runs_swapped c.loop-next.dst c.loop-next.next c.min-run.result c.loop-next.slots.places
 after g c = rw (c.move_run-slots.ensures.places, c.exchange_runs-slots.ensures.places) (Turning-pass c.requires.filled c.loop-next.invariant.walk c.min-run.result c.min-wrapped.result c.if-capacity-next.true c.min-run.ensures c.min-wrapped.ensures).all
 
 pub loop-next-preserved-then-run-first : goal.loop-next-preserved-then-run-first

@@ -1,13 +1,13 @@
 use Rattle.std.proofs.Common.{◌+◌, length, refl, ap}
-use Rattle.arraydeque_ring.specs.Ring.{turned}
-use Rattle.arraydeque_ring.specs.Gaps.{runs_swapped}
+use Rattle.arraydeque_ring.specs.Ring.{rotated}
+use Rattle.arraydeque_ring.specs.Gaps.{run_rotated}
 use Rattle.arraydeque_ring.specs.Steps.{more_moves}
-use Rattle.arraydeque_ring.proofs.moved.Crossing.{Moves, moves_later}
+use Rattle.arraydeque_ring.proofs.gaps.Crossing.{Moves, moves_later}
 use Rattle.arraydeque_ring.proofs.ring.moves.move_later.Given.{Over}
 use Rattle.arraydeque_ring.proofs.ring.moves.move_later.Goals.{After-wrap_add-src}
 use Rattle.arraydeque_ring.proofs.ring.moves.move_later.Goals as goal
 
-moves : (g : Over) (c : After-wrap_add-src g) → let ps = c.args.slots.now.places in Moves c.args.start (c.args.at + c.args.gap) c.args.at c.args.len (length ps) ps (runs_swapped c.args.at c.args.len c.args.gap (turned c.args.start ps))
+moves : (g : Over) (c : After-wrap_add-src g) → let ps = c.args.slots.now.places in Moves c.args.start (c.args.at + c.args.gap) c.args.at c.args.len (length ps) ps (run_rotated c.args.at c.args.len c.args.gap (rotated c.args.start ps))
 moves g c = moves_later c.args.start _ _ refl c.requires.in_region _ _ _ c.requires.some c.requires.filled c.requires.empty
 
 pub wrap_move-requires-clause-apart : goal.wrap_move-requires-clause-apart

@@ -1,6 +1,6 @@
 use Rattle.std.proofs.Common.{◌≡◌, ◌-◌, ◌++◌, length, take, drop, sym, ap, ap₂, ◌∙◌, arith}
 use Rattle.std.proofs.lemmas.List.{length-append, append_assoc}
-use Rattle.arraydeque_ring.specs.Ring.{RingState, turned, values}
+use Rattle.arraydeque_ring.specs.Ring.{RingState, rotated, values}
 use Rattle.arraydeque_ring.specs.Steps.{more_puts}
 use Rattle.arraydeque_ring.proofs.places.Handed.{Handed, handed}
 use Rattle.arraydeque_ring.proofs.ring.parts.take_run.Given.{Over}
@@ -33,7 +33,7 @@ returns-clause-taken g c =
     let old = c.args.taken.now in
     let first = values (take c.min-first.result (drop c.wrap_add-place.result c.args.slots.now.places)) in
     let rest = values (take (c.args.len - c.min-first.result) c.take_in.new.slots.places) in
-    let both : first ++ rest ≡ values (take c.args.len (drop c.args.at (turned c.args.start c.args.slots.now.places))) = rw c.take_in.ensures.places p.all in
+    let both : first ++ rest ≡ values (take c.args.len (drop c.args.at (rotated c.args.start c.args.slots.now.places))) = rw c.take_in.ensures.places p.all in
     c.take_in-2.ensures.taken
     ∙ ap (λ (r : RingState _). record r { items = r.items ++ rest; steps = more_puts (c.args.len - c.min-first.result) r.steps }) c.take_in.ensures.taken
     ∙ ap₂ (λ l n. record old { items = l; steps = record old.steps { puts = n } }) (append_assoc old.items first rest ∙ ap (λ l. old.items ++ l) both) (omega arith)

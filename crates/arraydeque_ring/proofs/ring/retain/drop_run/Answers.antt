@@ -2,7 +2,7 @@ use Rattle.std.proofs.Common.{◌≡◌, ◌-◌, ◌+◌, set, None, ap, sym, �
 use Rattle.arraydeque_ring.specs.Gaps.{run_emptied}
 use Rattle.arraydeque_ring.specs.Places.{held_at}
 use Rattle.arraydeque_ring.proofs.places.Emptied.{next_held, next_emptied, run_emptied-up_to}
-use Rattle.arraydeque_ring.proofs.places.Filled.{filled_in_run}
+use Rattle.arraydeque_ring.proofs.places.Held.{filled_in_run}
 use Rattle.arraydeque_ring.proofs.ring.retain.drop_run.Goals as goal
 
 pub take-requires : goal.take-requires

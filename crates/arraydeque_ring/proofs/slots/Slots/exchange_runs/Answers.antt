@@ -1,11 +1,11 @@
 use Rattle.std.proofs.Common.{◌+◌, sym, arith}
 use Rattle.std.proofs.lemmas.Bool.{ne_eqb}
-use Rattle.arraydeque_ring.proofs.places.Exchanged.{exchanged_none, exchanged_more, next_first, next_second}
-use Rattle.arraydeque_ring.proofs.places.Filled.{filled_in_run}
+use Rattle.arraydeque_ring.proofs.linearize.RunsSwapped.{runs_swapped_none, runs_swapped_more, next_first, next_second}
+use Rattle.arraydeque_ring.proofs.places.Held.{filled_in_run}
 use Rattle.arraydeque_ring.proofs.slots.Slots.exchange_runs.Goals as goal
 
 pub loop-k-init : goal.loop-k-init
-loop-k-init g c = record { places = sym (exchanged_none c.args.a c.args.b c.args.self.places (omega arith) (omega arith)); steps = grind arith }
+loop-k-init g c = record { places = sym (runs_swapped_none c.args.a c.args.b c.args.self.places (omega arith) (omega arith)); steps = grind arith }
 
 pub exchange-requires-clause-a_filled : goal.exchange-requires-clause-a_filled
 exchange-requires-clause-a_filled g c =
@@ -19,6 +19,6 @@ exchange-requires-clause-b_filled g c =
 
 pub loop-k-preserved : goal.loop-k-preserved
 loop-k-preserved g c = record {
-  places = rw (c.exchange.ensures.places, c.loop-k.invariant.places) (exchanged_more c.args.a c.args.b c.loop-k.k c.args.self.places (omega arith) (omega arith));
+  places = rw (c.exchange.ensures.places, c.loop-k.invariant.places) (runs_swapped_more c.args.a c.args.b c.loop-k.k c.args.self.places (omega arith) (omega arith));
   steps = rw (c.exchange.ensures.steps, ne_eqb (c.args.a + c.loop-k.k) (c.args.b + c.loop-k.k) (λ same. omega arith), c.loop-k.invariant.steps) (grind arith);
 }

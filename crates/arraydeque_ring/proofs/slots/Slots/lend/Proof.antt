@@ -11,7 +11,7 @@ use Rattle.arraydeque_ring.specs.Ownership.{place_owned, right_to_free}
 use Rattle.arraydeque_ring.specs.Places.{IsFilled}
 use Rattle.arraydeque_ring.proofs.memory.Owned.{item_size, Place, Others, place_out, place_in}
 use Rattle.arraydeque_ring.proofs.memory.Regions.{Sr, Seen, Fits, Fits-with_place, with_place, places, right, slots_val, slots_made, slots_open}
-use Rattle.arraydeque_ring.proofs.places.Filled.{filled_within}
+use Rattle.arraydeque_ring.proofs.places.Held.{filled_within}
 use Rattle.arraydeque_ring.specs.contracts.slots.Slots.lend as f
 use Rattle.arraydeque_ring.proofs.slots.Slots.lend.Statement as stated
 use Rattle.arraydeque_ring.proofs.slots.Slots.lend.Code as code

@@ -5,7 +5,7 @@ use Rattle.arraydeque_ring.specs.Ownership.{place_owned}
 use Rattle.arraydeque_ring.specs.Places.{IsFilled}
 use Rattle.arraydeque_ring.proofs.memory.Owned.{item_size, Place, Others, place_out, value_out}
 use Rattle.arraydeque_ring.proofs.memory.Regions.{Sr, Seen, with_place, slots_open, place_close}
-use Rattle.arraydeque_ring.proofs.places.Filled.{filled_within}
+use Rattle.arraydeque_ring.proofs.places.Held.{filled_within}
 use Rattle.arraydeque_ring.specs.contracts.slots.Slots.read as f
 use Rattle.arraydeque_ring.proofs.slots.Slots.read.Statement as stated
 use Rattle.arraydeque_ring.proofs.slots.Slots.read.Code as code

@@ -1,18 +1,18 @@
 use Rattle.std.proofs.Common.{arith}
-use Rattle.arraydeque.proofs.Stretches.{slice_cmp_beside}
+use Rattle.arraydeque.proofs.Sections.{slice_cmp_sections}
 use Rattle.arraydeque.proofs.deque.compare.ArrayDequeOrd.cmp.Goals as goal
 
 pub returns-then-is_ne : goal.returns-then-is_ne
 returns-then-is_ne g c =
-    let pairs = slice_cmp_beside c.beside-cut.ensures g.T.Ord.cmp in
+    let pairs = slice_cmp_sections c.sections-cut.ensures g.T.Ord.cmp in
     grind arith
 
 pub returns-then-is_ne-2 : goal.returns-then-is_ne-2
 returns-then-is_ne-2 g c =
-    let pairs = slice_cmp_beside c.beside-cut.ensures g.T.Ord.cmp in
+    let pairs = slice_cmp_sections c.sections-cut.ensures g.T.Ord.cmp in
     grind arith
 
 pub returns : goal.returns
 returns g c =
-    let pairs = slice_cmp_beside c.beside-cut.ensures g.T.Ord.cmp in
+    let pairs = slice_cmp_sections c.sections-cut.ensures g.T.Ord.cmp in
     grind arith

@@ -1,0 +1,3 @@
+pub mod Displaced
+pub mod FromIterator
+pub mod InRows

@@ -1,0 +1,4 @@
+pub mod Crossing
+pub mod Fewest
+pub mod GapMoves
+pub mod Gapped

@@ -1,0 +1,3 @@
+pub mod RunsSwapped
+pub mod Turning
+pub mod Underway
