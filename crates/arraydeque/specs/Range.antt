@@ -1,5 +1,10 @@
--- The part of a list that a range names.
-use Rattle.std.specs.Prelude.{ℕ, List, length, Option, unwrap_or}
+-- The part of a list that a range names, and what a drain of it makes of a deque.
+use Rattle.std.specs.Prelude.{◌≡◌, ◌-◌, ℕ, List, length, Option, slice_range, unwrap_or}
+use Rattle.std.specs.List.{remove_range}
+use Rattle.arraydeque_ring.specs.Changed.{DrainMovesFewest}
+use Rattle.arraydeque_ring.specs.Sides.{moves_to_drain, start_closed}
+use Rattle.arraydeque_ring.specs.Steps.{more_moves, more_takes}
+use Rattle.arraydeque.specs.Deque.{DequeState}
 
 -- the items from the index `from` up to the index `to`, which is not among them
 pub record Span : Type 0 where
@@ -9,3 +14,13 @@ pub record Span : Type 0 where
 -- the part of the list l between two bounds: one that is left open is the front of l, or its end
 abbrev pub span_of : {X : Type 0} → Option ℕ → Option ℕ → List X → Span
 span_of start end l = record { from = unwrap_or start 0; to = unwrap_or end (length l) }
+
+-- at the capacity n the items from one index up to another are drained, and the rest moves together
+pub record Drains {X : Type 0} (n from to : ℕ) (old : DequeState X) (xs : List X)
+    (new : DequeState X) : Type 0 where
+  pub drained : xs ≡ slice_range old.items from to
+  pub items : new.items ≡ remove_range old.items from to
+  pub start : new.start ≡ start_closed from (to - from) (length old.items - to) n old.start
+  pub steps : new.steps
+      ≡ more_moves (moves_to_drain from to (length old.items)) (more_takes (to - from) old.steps)
+  pub fewest : DrainMovesFewest from to (length old.items) n old.start new.start

@@ -1,11 +1,8 @@
 //! Taking a range out of a deque, and cutting one in two.
-ghost use Rattle.std.specs.Prelude.{◌≡◌, ◌-◌, ◌*◌, ◌<◌, ◌≤◌, length, take, drop, slice_range, IfOk, OnOk, OnErr};
-ghost use Rattle.std.specs.List.{remove_range};
+ghost use Rattle.std.specs.Prelude.{◌≡◌, ◌-◌, ◌*◌, ◌<◌, ◌≤◌, length, take, drop, IfOk, OnOk, OnErr};
 ghost use Rattle.std.specs.Mem.{type_size};
-ghost use Rattle.arraydeque_ring.specs.Changed.{DrainMovesFewest};
-ghost use Rattle.arraydeque_ring.specs.Sides.{moves_to_drain, start_closed};
-ghost use Rattle.arraydeque_ring.specs.Steps.{no_steps, more_moves, more_puts, more_takes};
-ghost use Rattle.arraydeque.specs.Range.{span_of};
+ghost use Rattle.arraydeque_ring.specs.Steps.{no_steps, more_puts, more_takes};
+ghost use Rattle.arraydeque.specs.Range.{Drains, span_of};
 
 use super::ArrayDeque;
 use crate::behavior::Behavior;
@@ -50,26 +47,9 @@ impl<T, const CAP: usize, B: Behavior> ArrayDeque<T, CAP, B> {
         requires in_bounds { let span =
             span_of (R.names_start range) (R.names_end range) self.old.items in
             span.to ≤ length self.old.items }
-        ensures drained { let span =
+        ensures drains { let span =
             span_of (R.names_start range) (R.names_end range) self.old.items in
-            IfOk result (λ drained. drained ≡ slice_range self.old.items span.from span.to) }
-        ensures items { let span =
-            span_of (R.names_start range) (R.names_end range) self.old.items in
-            OnOk result (self.new.items ≡ remove_range self.old.items span.from span.to) }
-        ensures start { let span =
-            span_of (R.names_start range) (R.names_end range) self.old.items in
-            let behind = length self.old.items - span.to in
-            OnOk result (self.new.start ≡
-            start_closed span.from (span.to - span.from) behind CAP self.old.start) }
-        ensures steps { let span =
-            span_of (R.names_start range) (R.names_end range) self.old.items in
-            OnOk result (self.new.steps ≡
-            more_moves (moves_to_drain span.from span.to (length self.old.items))
-            (more_takes (span.to - span.from) self.old.steps)) }
-        ensures fewest { let span =
-            span_of (R.names_start range) (R.names_end range) self.old.items in
-            let n = length self.old.items in OnOk result (DrainMovesFewest
-            span.from span.to n CAP self.old.start self.new.start) }
+            IfOk result (λ drained. Drains CAP span.from span.to self.old drained self.new) }
         ensures unchanged { OnErr result (self.new ≡ self.old) }
         ensures refused { let span =
             span_of (R.names_start range) (R.names_end range) self.old.items in

@@ -9,8 +9,8 @@ some_factor (suc n) size some = omega arith
 
 pub returns-in-Ok : goal.returns-in-Ok
 returns-in-Ok g c =
-    let done = c.in-Ok.ensures in
-    record { makes = λ p. record { list = grind (arith, nat_tests); start = done.start; steps = done.steps; fewest = done.fewest } }
+    let done = c.in-Ok.ensures.drains in
+    record { makes = λ p. record { list = grind (arith, nat_tests, done.drained, done.items); start = done.start; steps = done.steps; fewest = done.fewest } }
 
 pub returns-in-Err : goal.returns-in-Err
 returns-in-Err g c =

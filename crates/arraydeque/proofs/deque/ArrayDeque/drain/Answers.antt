@@ -29,20 +29,8 @@ returns-in_err-ring-clause-unchanged g c =
     let refused = err_from_is_err_and c.from_residual.result c.from_residual.ensures.1 in
     rw (refused.1, rw c.in_err-ring.was at c.drain.ensures.unchanged) c.self-2.view_is
 
-pub returns-in_err-ring-clause-drained : goal.returns-in_err-ring-clause-drained
-returns-in_err-ring-clause-drained g c = rw (err_from_is_err_and c.from_residual.result c.from_residual.ensures.1).1 tt
-
-pub returns-in_err-ring-clause-items : goal.returns-in_err-ring-clause-items
-returns-in_err-ring-clause-items g c = rw (err_from_is_err_and c.from_residual.result c.from_residual.ensures.1).1 tt
-
-pub returns-in_err-ring-clause-start : goal.returns-in_err-ring-clause-start
-returns-in_err-ring-clause-start g c = rw (err_from_is_err_and c.from_residual.result c.from_residual.ensures.1).1 tt
-
-pub returns-in_err-ring-clause-steps : goal.returns-in_err-ring-clause-steps
-returns-in_err-ring-clause-steps g c = rw (err_from_is_err_and c.from_residual.result c.from_residual.ensures.1).1 tt
-
-pub returns-in_err-ring-clause-fewest : goal.returns-in_err-ring-clause-fewest
-returns-in_err-ring-clause-fewest g c = rw (err_from_is_err_and c.from_residual.result c.from_residual.ensures.1).1 tt
+pub returns-in_err-ring-clause-drains : goal.returns-in_err-ring-clause-drains
+returns-in_err-ring-clause-drains g c = rw (err_from_is_err_and c.from_residual.result c.from_residual.ensures.1).1 tt
 
 pub returns : goal.returns
 returns g c =
@@ -56,11 +44,13 @@ returns g c =
     ] in
     let ring = c.in_ok-ring.ensures in
     rw (from, to, ← c.self-2.view_is) (record {
-      drained = rw (c.of.ensures, ring.drained);
-      items = ring.items;
-      start = rw c.self-2.invariant.0 at ring.start;
-      steps = ring.steps;
-      fewest = rw c.self-2.invariant.0 at ring.fewest;
+      drains = record {
+        drained = rw (c.of.ensures, ring.drained);
+        items = ring.items;
+        start = rw c.self-2.invariant.0 at ring.start;
+        steps = ring.steps;
+        fewest = rw c.self-2.invariant.0 at ring.fewest;
+      };
       unchanged = tt;
       refused = tt;
     })
