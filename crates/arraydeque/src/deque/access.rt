@@ -10,6 +10,9 @@ use super::ArrayDeque;
 use crate::behavior::Behavior;
 use std::ops::{Index, IndexMut};
 
+/// How many items are compared before the answers are looked at.
+const BLOCK: usize = 64;
+
 impl<T, const CAP: usize, B: Behavior> ArrayDeque<T, CAP, B> {
     /// Whether some item equals `x`, by the items' own equality.
     ///
@@ -25,7 +28,7 @@ impl<T, const CAP: usize, B: Behavior> ArrayDeque<T, CAP, B> {
         ensures { result ≡ list_any (λ y. T.eq y x.now) self.now.items }
     {
         let (front, back) = self.as_slices();
-        front.contains(x) || back.contains(x)
+        has_equal(front, x) || has_equal(back, x)
     }
 
     /// Returns a reference to the first item, or `None` if the deque is empty.
@@ -168,4 +171,31 @@ impl<T, const CAP: usize, B: Behavior> IndexMut<usize> for ArrayDeque<T, CAP, B>
     {
         self.get_mut(index).unwrap()
     }
+}
+
+/// Whether some item equals `x`, looked for block by block.
+fn has_equal<T: PartialEq>(items: &[T], x: &T) -> bool
+    ensures { result ≡ list_any (λ y. T.eq y x.now) items.now }
+{
+    let mut rest = items;
+    while BLOCK <= rest.len() {
+        let (block, next) = rest.split_at(BLOCK);
+        if is_any_equal(block, x) {
+            return true;
+        }
+        rest = next;
+    }
+    is_any_equal(rest, x)
+}
+
+/// Whether some item equals `x`. It looks at every item, so that several can be compared at once.
+#[inline(always)]
+fn is_any_equal<T: PartialEq>(items: &[T], x: &T) -> bool
+    ensures { result ≡ list_any (λ y. T.eq y x.now) items.now }
+{
+    let mut found = false;
+    for k in 0..items.len() {
+        found |= items[k] == *x;
+    }
+    found
 }

@@ -10,7 +10,7 @@ use std::iter::FusedIterator;
 use std::marker::Model;
 
 /// An iterator over references to the items of a deque, from both ends. It walks the two slices one
-/// after the other.
+/// after the other: when the nearer one is empty, the other takes its place.
 #[derive(Drop)]
 pub struct Iter<'a, T> {
     pub(crate) first: &'a [T],
@@ -40,8 +40,10 @@ impl<'a, T> Iterator for Iter<'a, T> {
             self.first = rest;
             return Some(item);
         }
-        let (item, rest) = self.second.split_first()?;
-        self.second = rest;
+        self.first = self.second;
+        self.second = &[];
+        let (item, rest) = self.first.split_first()?;
+        self.first = rest;
         Some(item)
     }
 
@@ -65,8 +67,10 @@ impl<'a, T> DoubleEndedIterator for Iter<'a, T> {
             self.second = rest;
             return Some(item);
         }
-        let (item, rest) = self.first.split_last()?;
-        self.first = rest;
+        self.second = self.first;
+        self.first = &[];
+        let (item, rest) = self.second.split_last()?;
+        self.second = rest;
         Some(item)
     }
 }

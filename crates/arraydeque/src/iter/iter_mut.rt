@@ -91,7 +91,7 @@ impl<'a, T> Iterator for IterMut<'a, T> {
             return Some(item);
         }
         let (item, rest) = mem::take(&mut self.second).split_first_mut()?;
-        self.second = rest;
+        self.first = rest;
         Some(item)
     }
 
@@ -116,7 +116,7 @@ impl<'a, T> DoubleEndedIterator for IterMut<'a, T> {
             return Some(item);
         }
         let (item, rest) = mem::take(&mut self.first).split_last_mut()?;
-        self.first = rest;
+        self.second = rest;
         Some(item)
     }
 }
