@@ -13,7 +13,8 @@ pub fn next_or<I: Iterator<Item: Drop>, const AHEAD: usize>(
     requires finite { IsFinite (left_of I.remaining scanner.old) }
     ensures answer { TakesOff I.next_gives scanner.old (result ∷ []) scanner.new
         ⊎ (HasRest I.next_gives scanner.old [] × (result ≡ other)) }
-    ensures finite { UpTo (left_of I.remaining scanner.new) (size (left_of I.remaining scanner.old)) }
+    ensures finite { UpTo (left_of I.remaining scanner.new)
+        (size (left_of I.remaining scanner.old)) }
 {
     match scanner.next() {
         Some(item) => item,
