@@ -1,5 +1,5 @@
-//! What a caller of a scanner knows of what it has left, over its public contract alone.
-ghost use Rattle.std.specs.Prelude.{◌≡◌, ◌<◌, ◌⊎◌, ◌∷◌, []};
+//! What a caller knows of what a scanner has left, also where it gave no item.
+ghost use Rattle.std.specs.Prelude.{◌≡◌, ◌⊎◌, ◌∷◌, []};
 ghost use Rattle.std.specs.Iterator.{IsFinite, UpTo, size};
 ghost use Rattle.arraydeque.specs.Lookahead.{HasRest, TakesOff, left_of};
 
@@ -20,14 +20,4 @@ pub fn next_or<I: Iterator<Item: Drop>, const AHEAD: usize>(
         Some(item) => item,
         None => other,
     }
-}
-
-/// Looks at the next byte, in a scanner that can look at least one byte ahead.
-pub fn look<I: Iterator<Item = u8>, const AHEAD: usize>(
-    scanner: &mut Scanner<I, AHEAD>,
-) -> Option<u8>
-    requires ahead { 0 < AHEAD }
-    ensures rest { TakesOff I.next_gives scanner.old [] scanner.new }
-{
-    scanner.peek(0).copied()
 }
