@@ -1,26 +1,26 @@
 use Rattle.std.proofs.Common.{◌-◌, ◌<◌, ◌≤◌, length, inl, inr, arith}
-use Rattle.arraydeque_ring.proofs.linearize.Underway.{underway, none_left, RestInOnePiece, rest_in_one_piece, RoomForFirst, room_for_first, rest_wraps}
+use Rattle.arraydeque_ring.proofs.linearize.Underway.{underway, none_left, RestInOnePiece, rest_in_one_piece, RoomForFirst, room_for_first}
 use Rattle.arraydeque_ring.proofs.ring.linearize.place_rest.Given.{Over}
 use Rattle.arraydeque_ring.proofs.ring.linearize.place_rest.Goals.{After-capacity}
 use Rattle.arraydeque_ring.proofs.ring.linearize.place_rest.Goals as goal
 
 pub returns-then-dst-next-clause-places : goal.returns-then-dst-next-clause-places
-returns-then-dst-next-clause-places g c = none_left (underway c.args.dst _ _ c.args.len c.args.slots.places (omega arith) c.requires.some_left c.requires.filled) (omega arith)
+returns-then-dst-next-clause-places g c = none_left c.args.next (underway c.args.dst _ _ c.args.len c.args.slots.places (omega arith) c.requires.filled) (omega arith) (omega arith)
 
 -- the others stand in one piece
 in_one_piece : (g : Over) (c : After-capacity g) → c.args.len - c.args.dst ≤ length c.args.slots.places - c.args.next
     → RestInOnePiece c.args.dst (c.args.next - c.args.dst) (length c.args.slots.places - c.args.next) (c.args.len - c.args.dst) c.args.slots.places
 in_one_piece g c fits =
-    rest_in_one_piece (c.args.len - c.args.dst) (underway c.args.dst _ _ c.args.len c.args.slots.places (omega arith) c.requires.some_left c.requires.filled) (omega arith) fits
+    rest_in_one_piece (c.args.len - c.args.dst) (underway c.args.dst _ _ c.args.len c.args.slots.places (omega arith) c.requires.filled) (omega arith) fits
 
 -- or there is room before them
 room : (g : Over) (c : After-capacity g) → length c.args.slots.places - c.args.next < c.args.len - c.args.dst → let behind = length c.args.slots.places - c.args.next in
     RoomForFirst c.args.dst (c.args.next - c.args.dst) c.args.next behind (c.args.len - c.args.dst - behind) c.args.slots.places
 room g c wraps =
-    let before = underway c.args.dst (c.args.next - c.args.dst) (length c.args.slots.places - c.args.next) c.args.len c.args.slots.places (omega arith) c.requires.some_left c.requires.filled in
+    let before = underway c.args.dst (c.args.next - c.args.dst) (length c.args.slots.places - c.args.next) c.args.len c.args.slots.places (omega arith) c.requires.filled in
     elim c.requires.room [
       | inl fits ↦ absurd (omega arith)
-      | inr fits ↦ room_for_first c.args.next (rest_wraps _ before (omega arith)) (omega arith) (omega arith)
+      | inr fits ↦ room_for_first c.args.next _ before (omega arith) (omega arith) (omega arith)
     ]
 
 pub move_earlier-requires-clause-empty : goal.move_earlier-requires-clause-empty

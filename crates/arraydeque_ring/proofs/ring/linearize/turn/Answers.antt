@@ -1,8 +1,8 @@
-use Rattle.std.proofs.Common.{◌≡◌, ◌+◌, ◌-◌, ◌==◌, if◌then◌else◌, arith}
+use Rattle.std.proofs.Common.{◌≡◌, ◌+◌, ◌-◌, inl, inr, ◌==◌, refl, if◌then◌else◌, arith}
 use Rattle.std.proofs.lemmas.Bool.Decides.{nat_tests}
 use Rattle.arraydeque_ring.specs.Swapped.{runs_swapped}
 use Rattle.arraydeque_ring.specs.Steps.{Rearranges}
-use Rattle.arraydeque_ring.proofs.linearize.Turning.{Pass, Turning-pass, Turning-behind, Turning-gap, Turning-fits, still_fills}
+use Rattle.arraydeque_ring.proofs.linearize.Turning.{Pass, Turning-pass, Turning-passed, Turning-fits, still_fills}
 use Rattle.arraydeque_ring.proofs.ring.linearize.turn.Given.{Over}
 use Rattle.arraydeque_ring.proofs.ring.linearize.turn.Goals.{After-min-wrapped, After-move_run-slots}
 use Rattle.arraydeque_ring.proofs.ring.linearize.turn.Goals as goal
@@ -38,7 +38,7 @@ pub loop-next-preserved-then-run-first : goal.loop-next-preserved-then-run-first
 loop-next-preserved-then-run-first g c =
     let moved = (goal.at.loop-next-preserved-then-run-first g c).After-move_run-slots in
     record {
-      walk = rw (after g moved) (Turning-gap c.requires.filled c.loop-next.invariant.walk c.min-run.result c.min-wrapped.result c.if-capacity-next.true c.min-run.ensures c.if-run-first.true);
+      walk = rw (after g moved) (Turning-passed c.requires.filled c.loop-next.invariant.walk c.min-run.result c.min-wrapped.result c.if-capacity-next.true c.min-run.ensures _ (inr (c.if-run-first.true, refl)));
       steps = steps g moved;
     }
 
@@ -46,7 +46,7 @@ pub loop-next-preserved : goal.loop-next-preserved
 loop-next-preserved g c =
     let moved = (goal.at.loop-next-preserved g c).After-move_run-slots in
     record {
-      walk = rw (after g moved) (Turning-behind c.requires.filled c.loop-next.invariant.walk c.min-run.result c.min-wrapped.result c.if-capacity-next.true c.min-run.ensures c.if-run-first.false);
+      walk = rw (after g moved) (Turning-passed c.requires.filled c.loop-next.invariant.walk c.min-run.result c.min-wrapped.result c.if-capacity-next.true c.min-run.ensures _ (inl (c.if-run-first.false, refl)));
       steps = steps g moved;
     }
 
