@@ -23,25 +23,18 @@ room g c wraps =
       | inr fits ↦ room_for_first c.args.next _ before (omega arith) (omega arith) (omega arith)
     ]
 
-pub move_earlier-requires-clause-empty : goal.move_earlier-requires-clause-empty
-move_earlier-requires-clause-empty g c = (in_one_piece g (goal.at.move_earlier-requires-clause-empty g c).After-capacity (omega arith)).empty
+pub move_earlier-requires : goal.move_earlier-requires
+move_earlier-requires g c =
+    let may = in_one_piece g (goal.at.move_earlier-requires g c).After-capacity (omega arith) in record { in_region = omega arith; some = omega arith; empty = may.empty; filled = may.filled }
 
-pub move_earlier-requires-clause-filled : goal.move_earlier-requires-clause-filled
-move_earlier-requires-clause-filled g c = (in_one_piece g (goal.at.move_earlier-requires-clause-filled g c).After-capacity (omega arith)).filled
+pub move_later-requires : goal.move_later-requires
+move_later-requires g c =
+    let may = room g (goal.at.move_later-requires g c).After-capacity (omega arith) in rw c.capacity.ensures (record { in_region = omega arith; some = omega arith; filled = may.filled; empty = may.empty })
 
-pub move_later-requires-clause-filled : goal.move_later-requires-clause-filled
-move_later-requires-clause-filled g c = rw c.capacity.ensures (room g (goal.at.move_later-requires-clause-filled g c).After-capacity (omega arith)).filled
-
-pub move_later-requires-clause-empty : goal.move_later-requires-clause-empty
-move_later-requires-clause-empty g c = rw c.capacity.ensures (room g (goal.at.move_later-requires-clause-empty g c).After-capacity (omega arith)).empty
-
-pub move_run-requires-clause-empty : goal.move_run-requires-clause-empty
-move_run-requires-clause-empty g c =
-    rw c.capacity.ensures ((room g (goal.at.move_run-requires-clause-empty g c).After-capacity (omega arith)).moved _ (rw c.capacity.ensures at c.move_later.ensures.places)).0
-
-pub move_run-requires-clause-filled : goal.move_run-requires-clause-filled
-move_run-requires-clause-filled g c =
-    rw c.capacity.ensures ((room g (goal.at.move_run-requires-clause-filled g c).After-capacity (omega arith)).moved _ (rw c.capacity.ensures at c.move_later.ensures.places)).1
+pub move_run-requires : goal.move_run-requires
+move_run-requires g c =
+    let moved = (room g (goal.at.move_run-requires g c).After-capacity (omega arith)).moved _ (rw c.capacity.ensures at c.move_later.ensures.places) in
+    rw c.capacity.ensures (record { apart = omega arith; empty = moved.0; filled = moved.1 })
 
 pub returns-then-left-first-clause-places : goal.returns-then-left-first-clause-places
 returns-then-left-first-clause-places g c = (in_one_piece g (goal.at.returns-then-left-first-clause-places g c).After-capacity (omega arith)).after _ c.move_earlier.ensures.places
