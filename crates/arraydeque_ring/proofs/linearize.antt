@@ -1,3 +1,2 @@
-pub mod RunsSwapped
 pub mod Turning
 pub mod Underway

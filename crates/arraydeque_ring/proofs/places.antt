@@ -6,4 +6,5 @@ pub mod Held
 pub mod InParts
 pub mod LaidOut
 pub mod Opened
+pub mod Reads
 pub mod Rotated

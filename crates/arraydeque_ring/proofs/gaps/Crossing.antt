@@ -1,9 +1,8 @@
 -- A run of values that moves across a run of empty places, read from a place from which on neither passes the end.
-use Rattle.std.proofs.Common.{◌≡◌, ◌≢◌, ◌==◌, ℕ, zero, suc, ◌+◌, ◌-◌, ◌<◌, ◌≤◌, ◌⊎◌, inl, inr, List, ◌++◌, length, take, drop, get_or, nat_lt, if◌then◌else◌, Option, None, sym, ap, ◌∙◌, arith}
+use Rattle.std.proofs.Common.{◌≡◌, ◌≢◌, ◌==◌, ℕ, zero, suc, ◌+◌, ◌-◌, ◌<◌, ◌≤◌, ◌⊎◌, inl, inr, List, length, take, drop, get_or, if◌then◌else◌, Option, None, sym, ap, ◌∙◌, arith}
 use Rattle.std.proofs.lemmas.Bool.{cases_lt}
 use Rattle.std.proofs.lemmas.Bool.Decides.{nat_tests}
 use Rattle.std.proofs.lemmas.Grind.{common_steps}
-use Rattle.std.proofs.lemmas.List.{get_or-append_right}
 use Rattle.arraydeque_ring.specs.Gaps.{IsEmptyRun, run_rotated}
 use Rattle.arraydeque_ring.specs.Moved.{MeetAtOneEndAtMost, IsFilledRound, IsFreeRound, run_moved}
 use Rattle.arraydeque_ring.specs.Places.{held_at, IsFilledRun}
@@ -11,27 +10,11 @@ use Rattle.arraydeque_ring.specs.Ring.{place_of, rotated}
 use Rattle.arraydeque_ring.proofs.moved.Sources.{place_of-sum}
 use Rattle.arraydeque_ring.proofs.moved.Flat.{distance_is, length-moved, flat_at, same_places}
 use Rattle.arraydeque_ring.proofs.moved.Round.{distance-rotated, rotated-moved}
+use Rattle.arraydeque_ring.proofs.places.Reads.{length-run_rotated, get_or-run_rotated}
 use Rattle.arraydeque_ring.proofs.places.Held.{filled_in_run}
 use Rattle.arraydeque_ring.proofs.places.Rotated.{place_of-lt, one_place, length-rotated, get_or-rotated}
 
 module _ {X : Type 0} where
-  -- two runs in each other's place, item by item
-  get_or-run_rotated : (at m k x : ℕ) (ps : List (Option X)) → at + m + k ≤ length ps
-      → get_or (run_rotated at m k ps) x None ≡ (if nat_lt x at then get_or ps x None else (if nat_lt x (at + k) then get_or ps (x + m) None else (if nat_lt x (at + k + m) then get_or ps (x - k) None else get_or ps x None)))
-  get_or-run_rotated at m k x ps within =
-      let second = take k (drop (at + m) ps) in
-      let others = take m (drop at ps) ++ drop (at + m + k) ps in
-      elim (cases_lt x at) [
-        | inl a ↦ grind (arith, nat_tests, common_steps)
-        | inr a ↦ elim (cases_lt x (at + k)) [
-          | inl b ↦ grind (arith, nat_tests, common_steps)
-          | inr b ↦ get_or-append_right (take at ps) (second ++ others) at x None (grind (arith, common_steps)) a ∙ get_or-append_right second others k (x - at) None (grind (arith, common_steps)) (omega arith) ∙ grind (arith, nat_tests, common_steps)
-        ]
-      ]
-
-  length-run_rotated : (at m k : ℕ) (ps : List (Option X)) → at + m + k ≤ length ps → length (run_rotated at m k ps) ≡ length ps
-  length-run_rotated at m k ps within = grind (arith, common_steps)
-
   nothing_at : (ps : List (Option X)) (at gap x : ℕ) → IsEmptyRun ps at gap → at ≤ x → x < at + gap → get_or ps x None ≡ None
   nothing_at ps at gap x empty a b =
       let here : get_or (take gap (drop at ps)) (x - at) None ≡ get_or ps x None = grind (arith, common_steps) in
@@ -42,14 +25,14 @@ module _ {X : Type 0} where
   earlier at gap len xs empty within =
       same_places _ _ (length-moved at (at + gap) len xs ∙ sym (length-run_rotated at gap len xs within)) (λ x lt.
       let in_it : x < length xs = omega (arith, length-run_rotated at gap len xs within) in
-      flat_at at (at + gap) len xs x (omega arith) within in_it ∙ grind (arith, nat_tests, nothing_at xs at gap x empty, nothing_at xs at gap (x - len) empty) ∙ sym (get_or-run_rotated at gap len x xs within))
+      flat_at at (at + gap) len xs x (omega arith) within in_it ∙ grind (arith, nat_tests, nothing_at xs at gap x empty, nothing_at xs at gap (x - len) empty) ∙ sym (get_or-run_rotated at gap len xs within x))
 
   pub later : (at gap len : ℕ) (xs : List (Option X)) → IsEmptyRun xs (at + len) gap → run_moved (at + gap) at len xs ≡ run_rotated at len gap xs
   later at gap len xs empty =
       let within = empty.0 in
       same_places _ _ (length-moved (at + gap) at len xs ∙ sym (length-run_rotated at len gap xs within)) (λ x lt.
       let in_it : x < length xs = omega (arith, length-run_rotated at len gap xs within) in
-      flat_at (at + gap) at len xs x (omega arith) (omega arith) in_it ∙ grind (arith, nat_tests, nothing_at xs (at + len) gap x empty, nothing_at xs (at + len) gap (x + len) empty) ∙ sym (get_or-run_rotated at len gap x xs within))
+      flat_at (at + gap) at len xs x (omega arith) (omega arith) in_it ∙ grind (arith, nat_tests, nothing_at xs (at + len) gap x empty, nothing_at xs (at + len) gap (x + len) empty) ∙ sym (get_or-run_rotated at len gap xs within x))
 
 -- what `wrap_move` asks, and what it leaves, of a run that moves from the index j on to the index i on
 pub record Moves {X : Type 0} (t i j len n : ℕ) (ps after : List (Option X)) : Type 0 where

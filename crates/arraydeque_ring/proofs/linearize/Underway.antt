@@ -1,81 +1,71 @@
--- A region while its list is laid in one piece: the first values are in their places, and two runs
--- behind them have still to change places.
-use Rattle.std.proofs.Common.{◌≡◌, ℕ, ◌+◌, ◌-◌, ◌≤◌, List, [], ◌++◌, map, length, take, drop, replicate, Option, Some, None, is_some, refl, sym, ap, ap₂, ◌∙◌, subst, arith}
-use Rattle.std.proofs.lemmas.List.{append_assoc, append-nil, length-append, length-map, length-replicate, length-take-le, length-drop, take_all, take_at, drop_at, take-append-drop, drop-drop, nil_from_length, replicate-append-replicate}
-use Rattle.arraydeque_ring.specs.Swapped.{runs_swapped}
+-- A region while its list is laid in one piece: the first values are in their places, and two runs behind them have
+-- still to change places.
+use Rattle.std.proofs.Common.{◌≡◌, ℕ, ◌+◌, ◌-◌, ◌<◌, ◌≤◌, inl, inr, List, length, drop, get_or, nat_lt, if◌then◌else◌, slice_get, Option, None, is_some, refl, sym, ap, ◌∙◌, subst, arith}
+use Rattle.std.proofs.Math.Nat.{mod-eq_of_lt}
+use Rattle.std.proofs.lemmas.Bool.{cases_lt}
+use Rattle.std.proofs.lemmas.Bool.Decides.{nat_tests}
+use Rattle.std.proofs.lemmas.Grind.{common_steps}
+use Rattle.std.proofs.lemmas.List.{append-nil, length-map, get_or-take, get_or-drop, get_or-replicate}
+use Rattle.std.proofs.lemmas.Option.{slice_get_cases}
 use Rattle.arraydeque_ring.specs.Gaps.{IsEmptyRun, run_rotated}
-use Rattle.arraydeque_ring.specs.Places.{IsFilledRun}
+use Rattle.arraydeque_ring.specs.Places.{held_at, IsFilled, IsFilledRun}
 use Rattle.arraydeque_ring.specs.Ring.{rotated, values, filled, FilledFrom}
-use Rattle.arraydeque_ring.proofs.places.AndEmpty.{and_empty, length-and_empty, and_empty_from, drop-and_empty, and_empty-append}
-use Rattle.arraydeque_ring.proofs.linearize.RunsSwapped.{runs_swapped_at}
-use Rattle.arraydeque_ring.proofs.places.InParts.{length_three, run_rotated_at, filled_run, empty_run}
+use Rattle.arraydeque_ring.specs.Swapped.{runs_swapped}
+use Rattle.arraydeque_ring.proofs.moved.Flat.{same_places}
+use Rattle.arraydeque_ring.proofs.moved.Sources.{round_run}
+use Rattle.arraydeque_ring.proofs.places.AndEmpty.{length-and_empty, get_or-and_empty, and_empty_from}
+use Rattle.arraydeque_ring.proofs.places.Reads.{rotated_from, length-run_rotated, get_or-run_rotated, swapped_from, length-runs_swapped, get_or-runs_swapped}
 
--- once the run of `gap` from the index dst on and the run of `behind` that follows it to the end
--- change places, there are len values and then k empty places
+module _ {X : Type 0} (ps : List (Option X)) (from len : ℕ) (le : from + len ≤ length ps) where
+  -- a run is filled, or empty, where each of its places is
+  pub filled_run_of : ((x : ℕ) → from ≤ x → x < from + len → IsFilled ps x) → IsFilledRun ps from len
+  filled_run_of each = round_run ps from len le (λ k lt. subst (IsFilled ps) (sym (mod-eq_of_lt {m = length ps} (omega arith))) (each (from + k) (omega arith) (omega arith)))
+
+  pub empty_run_of : ((x : ℕ) → from ≤ x → x < from + len → held_at ps x ≡ None) → IsEmptyRun ps from len
+  empty_run_of each = (
+    le,
+    same_places _ _ (grind (arith, common_steps)) (λ x lt.
+        let here : x < len = grind (arith, common_steps) in
+        get_or-take len (drop from ps) x None here ∙ get_or-drop from ps x None ∙ each (from + x) (omega arith) (omega arith) ∙ sym (get_or-replicate len x None None here)),
+  )
+
+-- once the run of `gap` from the index dst on and the run of `behind` that follows it to the end change places, the
+-- first len places are filled, and no others
 pub record Underway {X : Type 0} (dst gap behind len : ℕ) (ps : List (Option X)) : Type 0 where
-  pub placed : List (Option X)
-  pub wrapped : List (Option X)
-  pub first : List (Option X)
-  pub left : List X
-  pub room : ℕ
-  pub is : ps ≡ placed ++ (wrapped ++ first)
-  pub then : run_rotated dst gap behind ps ≡ placed ++ (first ++ wrapped)
-  pub rest : first ++ wrapped ≡ and_empty left room
-  pub placed_long : length placed ≡ dst
-  pub wrapped_long : length wrapped ≡ gap
-  pub first_long : length first ≡ behind
-  pub left_long : length left + dst ≡ len
-  pub all : len + room ≡ dst + gap + behind
+  pub whole : dst + gap + behind ≡ length ps
+  pub fits : len ≤ length ps
+  pub filled_at : (x y : ℕ) → y < len → rotated_from dst gap behind y ≡ x → IsFilled ps x
+  pub empty_at : (x y : ℕ) → len ≤ y → rotated_from dst gap behind y ≡ x → held_at ps x ≡ None
 
-pub underway : {X : Type 0} (dst gap behind len : ℕ) (ps : List (Option X)) → dst + gap + behind ≡ length ps → dst ≤ len → FilledFrom 0 len (filled (run_rotated dst gap behind ps)) → Underway dst gap behind len ps
-underway dst gap behind len ps whole some_left fills =
-    let placed = take dst ps in
-    let wrapped = take gap (drop dst ps) in
-    let first = drop (dst + gap) ps in
-    let all : take behind first ≡ first = take_all behind first (omega (arith, length-drop (dst + gap) ps)) in
-    let none : drop (dst + gap + behind) ps ≡ [] = nil_from_length (drop (dst + gap + behind) ps) (omega (arith, length-drop (dst + gap + behind) ps)) in
-    let then : run_rotated dst gap behind ps ≡ placed ++ (first ++ wrapped) = ap₂ (λ a b. placed ++ (a ++ (wrapped ++ b))) all none ∙ ap (λ l. placed ++ (first ++ l)) (append-nil wrapped) in
+pub underway : {X : Type 0} (dst gap behind len : ℕ) (ps : List (Option X)) → dst + gap + behind ≡ length ps → FilledFrom 0 len (filled (run_rotated dst gap behind ps)) → Underway dst gap behind len ps
+underway dst gap behind len ps whole fills =
     let after = run_rotated dst gap behind ps in
-    let from = and_empty_from after len (length (filled after) - len) (sym (append-nil (filled after)) ∙ fills) in
-    let placed_long : length placed ≡ dst = length-take-le dst ps (omega arith) in
-    let wrapped_long : length wrapped ≡ gap = length-take-le gap (drop dst ps) (omega (arith, length-drop dst ps)) in
-    let first_long : length first ≡ behind = omega (arith, length-drop (dst + gap) ps) in
-    let long : length after ≡ dst + gap + behind = ap length then ∙ length_three placed first wrapped ∙ omega arith in
+    let room = length (filled after) - len in
+    let from = and_empty_from after len room (sym (append-nil (filled after)) ∙ fills) in
+    let long = length-run_rotated dst gap behind ps (omega arith) in
+    let held : (y : ℕ) → held_at ps (rotated_from dst gap behind y) ≡ slice_get (values after) y =
+    λ y. sym (get_or-run_rotated dst gap behind ps (omega arith) y) ∙ ap (λ l. get_or l y None) from.0 ∙ get_or-and_empty (values after) room y in
     record {
-      placed = placed;
-      wrapped = wrapped;
-      first = first;
-      left = drop dst (values after);
-      room = length (filled after) - len;
-      is = sym (take-append-drop dst ps) ∙ ap (λ l. placed ++ l) (sym (take-append-drop gap (drop dst ps)) ∙ ap (λ l. wrapped ++ l) (drop-drop gap dst ps));
-      then = then;
-      rest = sym (drop_at placed (first ++ wrapped) dst placed_long) ∙ ap (drop dst) (sym then ∙ from.0) ∙ drop-and_empty dst (values after) (length (filled after) - len) (omega (arith, from.1));
-      placed_long = placed_long;
-      wrapped_long = wrapped_long;
-      first_long = first_long;
-      left_long = omega (arith, length-drop dst (values after), from.1);
-      all = omega (arith, length-map after is_some, long, from.1, ap length from.0, length-and_empty (values after) (length (filled after) - len));
+      whole = whole;
+      fits = omega (arith, long, from.1, ap length from.0, length-and_empty (values after) room, length-map after is_some);
+      filled_at = λ x y lt is. elim (slice_get_cases (values after) y).1 [
+        | inl at ↦ (at.0, ap (held_at ps) (sym is) ∙ held y ∙ at.2)
+        | inr past ↦ absurd (omega (arith, from.1))
+      ];
+      empty_at = λ x y le is. elim (slice_get_cases (values after) y).1 [
+        | inl at ↦ absurd (omega (arith, from.1))
+        | inr past ↦ ap (held_at ps) (sym is) ∙ held y ∙ past.1
+      ];
     }
 
--- with no gap all are in their places
-pub none_left : {X : Type 0} {dst gap behind len : ℕ} {ps : List (Option X)} → Underway dst gap behind len ps → gap ≡ 0 → ps ≡ run_rotated dst gap behind ps
-none_left u none =
-    let nil = nil_from_length u.wrapped (u.wrapped_long ∙ none) in
-    u.is ∙ ap (λ l. u.placed ++ (l ++ u.first)) nil ∙ ap (λ l. u.placed ++ l) (sym (append-nil u.first)) ∙ ap (λ l. u.placed ++ (u.first ++ l)) (sym nil) ∙ sym u.then
+module _ {X : Type 0} {dst gap behind len : ℕ} {ps : List (Option X)} (next : ℕ) (u : Underway dst gap behind len ps) (here : dst + gap ≡ next) where
+  -- a list that is laid out is all of the places
+  pub reads : (qs : List (Option X)) → length qs ≡ length ps → ((x : ℕ) → held_at qs x ≡ held_at ps (rotated_from dst gap behind x)) → qs ≡ run_rotated dst gap behind ps
+  reads qs long each = same_places _ _ (long ∙ sym (length-run_rotated dst gap behind ps (omega (arith, u.whole)))) (λ x lt. each x ∙ sym (get_or-run_rotated dst gap behind ps (omega (arith, u.whole)) x))
 
--- two lists in two parts, of which the first are as long
-same_parts : {X : Type 0} (xs ys zs ws : List X) → xs ++ ys ≡ zs ++ ws → length xs ≡ length zs → (xs ≡ zs) × (ys ≡ ws)
-same_parts xs ys zs ws same long =
-    let n = length zs in
-    (sym (take_at xs ys n long) ∙ ap (take n) same ∙ take_at zs ws n refl, sym (drop_at xs ys n long) ∙ ap (drop n) same ∙ drop_at zs ws n refl)
-
-module _ {X : Type 0} where
-  -- n places that hold nothing
-  abbrev pub nothing : ℕ → List (Option X)
-  nothing n = replicate n None
-
-  pub both_nothing : (m n k : ℕ) → m + n ≡ k → nothing m ++ nothing n ≡ nothing k
-  both_nothing m n k e = replicate-append-replicate m n None ∙ ap nothing e
+  -- with no gap all are in their places
+  pub none_left : gap ≡ 0 → ps ≡ run_rotated dst gap behind ps
+  none_left none = reads ps refl (λ x. ap (held_at ps) (grind (arith, nat_tests)))
 
 -- the n values that are left stand behind the gap, in one piece, and can be moved before it
 pub record RestInOnePiece {X : Type 0} (dst gap behind n : ℕ) (ps : List (Option X)) : Type 0 where
@@ -84,91 +74,45 @@ pub record RestInOnePiece {X : Type 0} (dst gap behind n : ℕ) (ps : List (Opti
   pub after : (qs : List (Option X)) → rotated 0 qs ≡ run_rotated dst gap n (rotated 0 ps) → qs ≡ run_rotated dst gap behind ps
 
 pub rest_in_one_piece : {X : Type 0} {dst gap behind len : ℕ} {ps : List (Option X)} (n : ℕ) → Underway dst gap behind len ps → n + dst ≡ len → n ≤ behind → RestInOnePiece dst gap behind n ps
-rest_in_one_piece {X} {dst} {gap} {behind} {len} {ps} n u many fits =
-    let values = map Some u.left in
-    let none : List (Option X) = nothing gap in
-    let spare : List (Option X) = nothing (behind - n) in
-    let n_long : length u.left ≡ n = omega (arith, u.left_long) in
-    let values_long : length values ≡ n = length-map u.left Some ∙ n_long in
-    let gap_long : length none ≡ gap = length-replicate gap None in
-    let front_long : length (u.placed ++ none) ≡ dst + gap = omega (arith, length-append u.placed none, u.placed_long) in
-    let empties : nothing u.room ≡ spare ++ none = sym (both_nothing (behind - n) gap u.room (omega (arith, u.all))) in
-    let parts = same_parts u.first u.wrapped (values ++ spare) none (u.rest ∙ ap (λ l. values ++ l) empties ∙ sym (append_assoc values spare none))
-    (omega (arith, u.first_long, length-append values spare, length-replicate {A = Option X} (behind - n) None)) in
-    let read : rotated 0 ps ≡ u.placed ++ (none ++ (values ++ spare)) = append-nil ps ∙ u.is ∙ ap₂ (λ a b. u.placed ++ (a ++ b)) parts.1 parts.0 in
-    let swap_empties : none ++ spare ≡ spare ++ none = both_nothing gap (behind - n) u.room (omega (arith, u.all)) ∙ empties in
+rest_in_one_piece {dst = dst} {gap = gap} {behind = behind} {len = len} {ps = ps} n u many fits =
+    let read = append-nil ps in
+    let within : dst + gap + n ≤ length ps = omega (arith, u.whole) in
     record {
-      empty = subst (λ qs. IsEmptyRun qs dst gap) (sym read) (empty_run u.placed (values ++ spare) dst gap u.placed_long);
-      filled = subst (λ qs. IsFilledRun qs (dst + gap) n) (append_assoc u.placed none (values ++ spare) ∙ sym read) (filled_run (u.placed ++ none) spare u.left (dst + gap) n front_long n_long);
-      after = λ qs moved. sym (append-nil qs) ∙ moved ∙ ap (run_rotated dst gap n) read ∙ run_rotated_at u.placed none values spare dst gap n u.placed_long gap_long values_long
-          ∙ ap (λ l. u.placed ++ (values ++ l)) swap_empties ∙ ap (λ l. u.placed ++ l) (sym (append_assoc values spare none)) ∙ sym (u.then ∙ ap₂ (λ a b. u.placed ++ (a ++ b)) parts.0 parts.1);
+      empty = rw read (empty_run_of ps dst gap (omega arith) (λ y a b. u.empty_at y (y + behind) (omega arith) (grind (arith, nat_tests))));
+      filled = rw read (filled_run_of ps (dst + gap) n within (λ y a b. u.filled_at y (y - gap) (omega arith) (grind (arith, nat_tests))));
+      after = λ qs moved.
+          let is : qs ≡ run_rotated dst gap n ps = sym (append-nil qs) ∙ moved ∙ ap (run_rotated dst gap n) read in
+          reads _ u refl qs (ap length is ∙ length-run_rotated dst gap n ps within) (λ x. ap (λ l. held_at l x) is ∙ get_or-run_rotated dst gap n ps within x ∙ elim (cases_lt x len) [
+            | inl lt ↦ ap (held_at ps) (grind (arith, nat_tests))
+            | inr le ↦ u.empty_at (rotated_from dst gap n x) (if nat_lt x (dst + gap + n) then x - n + behind else (if nat_lt x (dst + gap + behind) then x - gap else x)) (grind (arith, nat_tests)) (grind (arith, nat_tests))
+                ∙ sym (u.empty_at (rotated_from dst gap behind x) x le refl)
+          ]);
     }
 
--- or more values are left than stand behind the gap: the others are the m in front of it
-pub record RestWraps {X : Type 0} (dst gap behind m : ℕ) (ps : List (Option X)) : Type 0 where
-  pub placed : List (Option X)
-  pub others : List X
-  pub room : ℕ
-  pub firsts : List X
-  pub is : ps ≡ placed ++ (and_empty others room ++ map Some firsts)
-  pub then : run_rotated dst gap behind ps ≡ placed ++ (map Some firsts ++ and_empty others room)
-  pub placed_long : length placed ≡ dst
-  pub others_long : length others ≡ m
-  pub firsts_long : length firsts ≡ behind
-  pub all : m + room ≡ gap
-
-pub rest_wraps : {X : Type 0} {dst gap behind len : ℕ} {ps : List (Option X)} (m : ℕ) → Underway dst gap behind len ps → m + behind + dst ≡ len → RestWraps dst gap behind m ps
-rest_wraps {behind = behind} m u many =
-    let firsts = take behind u.left in
-    let others = drop behind u.left in
-    let firsts_long : length firsts ≡ behind = length-take-le behind u.left (omega (arith, u.left_long)) in
-    let parts = same_parts u.first u.wrapped (map Some firsts) (and_empty others u.room)
-    (u.rest ∙ ap (λ l. and_empty l u.room) (sym (take-append-drop behind u.left)) ∙ and_empty-append firsts others u.room) (omega (arith, u.first_long, firsts_long, length-map firsts Some)) in
-    record {
-      placed = u.placed;
-      others = others;
-      room = u.room;
-      firsts = firsts;
-      is = u.is ∙ ap₂ (λ a b. u.placed ++ (a ++ b)) parts.1 parts.0;
-      then = u.then ∙ ap₂ (λ a b. u.placed ++ (a ++ b)) parts.0 parts.1;
-      placed_long = u.placed_long;
-      others_long = omega (arith, length-drop behind u.left, u.left_long);
-      firsts_long = firsts_long;
-      all = omega (arith, u.all);
-    }
-
--- there is room for the values behind the gap: the m move up by as many places, and they take their place
+-- or there is room for the values behind the gap: the m in front of it move up by as many places, and they take their place
 pub record RoomForFirst {X : Type 0} (dst gap next behind m : ℕ) (ps : List (Option X)) : Type 0 where
   pub filled : IsFilledRun (rotated 0 ps) dst m
   pub empty : IsEmptyRun (rotated 0 ps) (dst + m) behind
   pub moved : (qs : List (Option X)) → rotated 0 qs ≡ run_rotated dst m behind (rotated 0 ps) → IsEmptyRun qs dst behind × IsFilledRun qs next behind × (runs_swapped dst next behind qs ≡ run_rotated dst gap behind ps)
 
-pub room_for_first : {X : Type 0} {dst gap behind m : ℕ} {ps : List (Option X)} (next : ℕ) → RestWraps dst gap behind m ps → dst + gap ≡ next → behind + m ≤ gap → RoomForFirst dst gap next behind m ps
-room_for_first {X} {dst} {gap} {behind} {m} {ps} next w here fits =
-    let fs = map Some w.firsts in
-    let ws = map Some w.others in
-    let none : List (Option X) = nothing behind in
-    let over : List (Option X) = nothing (w.room - behind) in
-    let fs_long : length fs ≡ behind = length-map w.firsts Some ∙ w.firsts_long in
-    let ws_long : length ws ≡ m = length-map w.others Some ∙ w.others_long in
-    let none_long : length none ≡ behind = length-replicate behind None in
-    let over_long : length over ≡ w.room - behind = length-replicate (w.room - behind) None in
-    let empties : none ++ over ≡ nothing w.room = both_nothing behind (w.room - behind) w.room (omega (arith, w.all)) in
-    let swap_empties : over ++ none ≡ nothing w.room = both_nothing (w.room - behind) behind w.room (omega (arith, w.all)) in
-    let read : rotated 0 ps ≡ w.placed ++ (ws ++ (none ++ (over ++ fs))) = append-nil ps ∙ w.is ∙ ap (λ l. w.placed ++ ((ws ++ l) ++ fs)) (sym empties) ∙ (simp append_assoc) in
-    let after : w.placed ++ (none ++ (ws ++ (over ++ fs))) ≡ w.placed ++ (none ++ ((ws ++ over) ++ (fs ++ []))) = ap (λ l. w.placed ++ (none ++ l)) (sym (append_assoc ws over fs) ∙ ap (λ l. (ws ++ over) ++ l) (sym (append-nil fs))) in
-    let last : w.placed ++ (fs ++ ((ws ++ over) ++ (none ++ []))) ≡ w.placed ++ (fs ++ (ws ++ (over ++ none))) = ap (λ l. w.placed ++ (fs ++ l)) (ap (λ l. (ws ++ over) ++ l) (append-nil none) ∙ append_assoc ws over none) in
-    let ahead = w.placed ++ (none ++ (ws ++ over)) in
-    let ahead_long : length ahead ≡ next = simp length-append (omega (arith, w.placed_long, w.all)) in
+pub room_for_first : {X : Type 0} {dst gap behind len : ℕ} {ps : List (Option X)} (next m : ℕ) → Underway dst gap behind len ps → dst + gap ≡ next → m + behind + dst ≡ len → len ≤ next → RoomForFirst dst gap next behind m ps
+room_for_first {dst = dst} {gap = gap} {behind = behind} {len = len} {ps = ps} next m u here many fits =
+    let read = append-nil ps in
+    let within : dst + m + behind ≤ length ps = omega (arith, u.whole) in
     record {
-      filled = subst (λ qs. IsFilledRun qs dst m) (sym read) (filled_run w.placed (none ++ (over ++ fs)) w.others dst m w.placed_long w.others_long);
-      empty = subst (λ qs. IsEmptyRun qs (dst + m) behind) (append_assoc w.placed ws (none ++ (over ++ fs)) ∙ sym read) (empty_run (w.placed ++ ws) (over ++ fs) (dst + m) behind (omega (arith, length-append w.placed ws, w.placed_long)));
+      filled = rw read (filled_run_of ps dst m (omega arith) (λ y a b. u.filled_at y (y + behind) (omega arith) (grind (arith, nat_tests))));
+      empty = rw read (empty_run_of ps (dst + m) behind within (λ y a b. u.empty_at y (y + behind) (omega arith) (grind (arith, nat_tests))));
       moved = λ qs e.
-          let is : qs ≡ w.placed ++ (none ++ ((ws ++ over) ++ (fs ++ []))) = sym (append-nil qs) ∙ e ∙ ap (run_rotated dst m behind) read ∙ run_rotated_at w.placed ws none (over ++ fs) dst m behind w.placed_long ws_long none_long ∙ after in
-          let again : ahead ++ (fs ++ []) ≡ qs = (simp append_assoc) ∙ sym is in (
-            subst (λ rs. IsEmptyRun rs dst behind) (sym is) (empty_run w.placed ((ws ++ over) ++ (fs ++ [])) dst behind w.placed_long),
-            subst (λ rs. IsFilledRun rs next behind) again (filled_run ahead [] w.firsts next behind ahead_long w.firsts_long),
-            ap (runs_swapped dst next behind) is ∙ runs_swapped_at w.placed none (ws ++ over) fs [] dst next behind w.placed_long none_long fs_long (omega (arith, length-append ws over, w.all))
-                ∙ last ∙ ap (λ l. w.placed ++ (fs ++ (ws ++ l))) swap_empties ∙ sym w.then,
+          let is : qs ≡ run_rotated dst m behind ps = sym (append-nil qs) ∙ e ∙ ap (run_rotated dst m behind) read in
+          let long : length qs ≡ length ps = ap length is ∙ length-run_rotated dst m behind ps within in
+          let held : (x z : ℕ) → rotated_from dst m behind x ≡ z → held_at qs x ≡ held_at ps z = λ x z same. ap (λ l. held_at l x) is ∙ get_or-run_rotated dst m behind ps within x ∙ ap (held_at ps) same in (
+            empty_run_of qs dst behind (omega (arith, long)) (λ y a b. held y (y + m) (grind (arith, nat_tests)) ∙ u.empty_at (y + m) (y + m + behind) (omega arith) (grind (arith, nat_tests))),
+            filled_run_of qs next behind (omega (arith, long, u.whole)) (λ y a b. let filled = u.filled_at y (y - gap) (omega arith) (grind (arith, nat_tests)) in (filled.0, held y y (grind (arith, nat_tests)) ∙ filled.1)),
+            reads _ u refl _ (length-runs_swapped dst next behind qs (omega arith) (omega (arith, long, u.whole)) ∙ long) (λ x. get_or-runs_swapped dst next behind qs (omega arith) (omega (arith, long, u.whole)) x ∙ elim (cases_lt x len) [
+              | inl lt ↦ held (swapped_from dst next behind x) (rotated_from dst gap behind x) (grind (arith, nat_tests))
+              | inr le ↦ let z = rotated_from dst m behind (swapped_from dst next behind x) in
+                  held (swapped_from dst next behind x) z refl ∙ u.empty_at z (if nat_lt x (next + behind) then z + behind else x) (grind (arith, nat_tests)) (grind (arith, nat_tests))
+                  ∙ sym (u.empty_at (rotated_from dst gap behind x) x le refl)
+            ]),
           );
     }

@@ -1,9 +1,9 @@
 -- A run that moves round the end in three parts: from its first on where it moves down, else from its last.
-use Rattle.std.proofs.Common.{◌≡◌, ℕ, zero, suc, ◌+◌, ◌-◌, ◌<◌, ◌≤◌, ◌⊎◌, inl, inr, List, length, Option, refl, sym, ap, ap₂, ◌∙◌, arith}
+use Rattle.std.proofs.Common.{◌≡◌, ℕ, zero, suc, ◌+◌, ◌-◌, ◌<◌, ◌≤◌, List, length, Option, refl, sym, ap, ap₂, ◌∙◌, arith}
 use Rattle.std.proofs.lemmas.Bool.Decides.{nat_tests}
 use Rattle.arraydeque_ring.specs.Ring.{place_of}
 use Rattle.arraydeque_ring.specs.Moved.{distance, IsFilledRound, CanCopy, run_moved}
-use Rattle.arraydeque_ring.proofs.moved.Flat.{distance_is, length-moved, moved_at, moved_none, same_places}
+use Rattle.arraydeque_ring.proofs.moved.Flat.{length-moved, moved_at, moved_none, same_places}
 use Rattle.arraydeque_ring.proofs.moved.Sources.{place_of-sum, rest_filled}
 use Rattle.arraydeque_ring.proofs.moved.Round.{by_down, by_up}
 use Rattle.arraydeque_ring.proofs.places.Rotated.{place_of_cases, place_of-lt, place_of-zero}
@@ -136,39 +136,3 @@ module _ {X : Type 0} (dst src len n : ℕ) (ps : List (Option X)) (long : lengt
           two = part_up a b between near;
           three = renamed dst src a (omega arith) (omega arith) (omega arith) (λ lt. refl) (λ lt. refl) (rw (at_dst, at_src, all) at (part_up 0 a before near));
         }
-
--- a run that passes the end and moves by one place: what lies past the end, the value that crosses it, and what lies before
-module _ {X : Type 0} (t len n : ℕ) (ps : List (Option X)) (long : length ps ≡ n) (t_in : t < n) (wraps : n ≤ t + len) (room : len < n) where
-  abbrev next : ℕ
-  next = place_of t 1 n
-
-  next_is : ((t + 1 < n) × (next ≡ t + 1)) ⊎ ((t + 1 ≡ n) × (next ≡ 0))
-  next_is = elim (place_of_cases t 1 n (omega arith)) [ inl below ↦ inl (omega arith) | inr end ↦ inr (omega arith) ]
-
-  pub slides_up : IsFilledRound t len ps → Three 1 0 (len - (n - t)) 0 (n - 1) 1 (t + 1) t (n - t - 1) ps (run_moved next t len ps)
-  slides_up filled =
-      let upper = n - t in
-      let next_in = place_of-lt t 1 n (omega arith) in
-      let go = three_up next t len n ps long next_in t_in filled (upper - 1) upper (grind (arith, next_is)) (grind (arith, next_is)) (grind (arith, next_is)) (grind (arith, next_is, distance_is t next n (omega arith) next_in)) in
-      record {
-        second = go.second;
-        third = go.third;
-        longs = go.longs;
-        one = renamed 1 0 (len - upper) (omega arith) (omega arith) (omega arith) (λ lt. grind (arith, next_is, place_of_cases next upper n (omega arith))) (λ lt. grind (arith, place_of_cases t upper n (omega arith))) go.one;
-        two = renamed 0 (n - 1) 1 (omega arith) (omega (arith, go.longs)) (omega (arith, go.longs)) (λ lt. grind (arith, next_is, place_of_cases next (upper - 1) n (omega arith))) (λ lt. grind (arith, place_of_cases t (upper - 1) n (omega arith))) go.two;
-        three = renamed (t + 1) t (upper - 1) (omega arith) (omega (arith, go.longs)) (omega (arith, go.longs)) (λ lt. grind (arith, next_is)) (λ lt. refl) go.three;
-      }
-
-  pub slides_down : IsFilledRound next len ps → Three t (t + 1) (n - 1 - t) (n - 1) 0 1 0 1 (len - (n - 1 - t) - 1) ps (run_moved t next len ps)
-  slides_down filled =
-      let upper = n - 1 - t in
-      let next_in = place_of-lt t 1 n (omega arith) in
-      let go = three_down t next len n ps long t_in next_in filled upper (upper + 1) (grind (arith, next_is)) (grind (arith, next_is)) (grind (arith, next_is)) (grind (arith, nat_tests, next_is, distance_is next t n (omega arith) t_in)) in
-      record {
-        second = go.second;
-        third = go.third;
-        longs = go.longs;
-        one = renamed t (t + 1) upper (omega arith) (omega arith) (omega arith) (λ lt. refl) (λ lt. grind (arith, next_is)) go.one;
-        two = renamed (n - 1) 0 1 (omega arith) (omega (arith, go.longs)) (omega (arith, go.longs)) (λ lt. grind (arith, place_of_cases t upper n (omega arith))) (λ lt. grind (arith, next_is, place_of_cases next upper n (omega arith))) go.two;
-        three = renamed 0 1 (len - upper - 1) (omega arith) (omega (arith, go.longs)) (omega (arith, go.longs)) (λ lt. grind (arith, place_of_cases t (upper + 1) n (omega arith))) (λ lt. grind (arith, next_is, place_of_cases next (upper + 1) n (omega arith))) go.three;
-      }

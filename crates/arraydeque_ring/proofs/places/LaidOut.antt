@@ -1,9 +1,7 @@
 -- What the places of a ring hold, read from its start on: first its items, then nothing.
 use Rattle.std.proofs.Common.{◌≡◌, ℕ, suc, ◌+◌, ◌-◌, ◌<◌, ◌≤◌, inl, inr, List, [], ◌∷◌, ◌++◌, length, take, drop, set, get_or, replicate, slice_get, Option, Some, None, is_some, true, false, refl, sym, ap, ap₂, ◌∙◌, subst, arith}
-use Rattle.std.specs.Prelude.{swap}
 use Rattle.std.proofs.lemmas.List.{length-map, length-replicate, length-set, append-nil, nil_from_length}
-use Rattle.std.proofs.lemmas.List.Edits.{swap_is}
-use Rattle.std.proofs.lemmas.Option.{slice_get_cases, slice_get_past, slice_get-get_or}
+use Rattle.std.proofs.lemmas.Option.{slice_get_cases, slice_get_past}
 use Rattle.arraydeque_ring.specs.Places.{held_at, IsFilled, IsEmpty, HoldsRun, IsFilledRun, AreAllEmpty}
 use Rattle.arraydeque_ring.specs.Ring.{place_of, rotated, values, filled, FilledFrom}
 use Rattle.arraydeque_ring.proofs.places.AndEmpty.{and_empty, length-and_empty, get_or-and_empty, values-and_empty, values-map_Some, filled-and_empty, and_empty_from, run-and_empty, set-and_empty, put_behind, taken_behind, taken_first, one_more_empty}
@@ -141,18 +139,3 @@ module _ {X : Type 0} {n t : ℕ} {xs : List X} {ps : List (Option X)} (l : Laid
   LaidOut-set k x lt =
       let left = n - length xs in
       LaidOut-from left (length-set ps (place_of t k n) (Some x) ∙ l.long) l.in_region (rotated-set_LaidOut k (Some x) (omega (arith, length_within)) ∙ set-and_empty xs left k x lt)
-
--- to exchange the places of two items is to exchange the items
-pub LaidOut-swap : {X : Type 0} {n t : ℕ} {ps : List (Option X)} (xs : List X) → LaidOut n t xs ps → (i j : ℕ) → i < length xs → j < length xs → LaidOut n t (swap xs i j) (swap ps (place_of t i n) (place_of t j n))
-LaidOut-swap [] l i j i_in j_in = absurd (omega arith)
-LaidOut-swap {n = n} {t = t} {ps = ps} (d ∷ rest) l i j i_in j_in =
-    let xs = d ∷ rest in
-    let p = place_of t i n in
-    let q = place_of t j n in
-    let within = length_within l in
-    let at_p : held_at ps p ≡ Some (get_or xs i d) = held_at-place_of l i (omega arith) ∙ slice_get-get_or xs i d i_in in
-    let at_q : held_at ps q ≡ Some (get_or xs j d) = held_at-place_of l j (omega arith) ∙ slice_get-get_or xs j d j_in in
-    let in_region : (k : ℕ) → k < length xs → place_of t k n < length ps = λ k lt. omega (arith, l.long, place_of-lt t k n (omega (arith, l.in_region))) in
-    let both = LaidOut-set (LaidOut-set l i (get_or xs j d) i_in) j (get_or xs i d) (omega (arith, length-set xs i (get_or xs j d))) in
-    let places : set (set ps p (Some (get_or xs j d))) q (Some (get_or xs i d)) ≡ swap ps p q = ap₂ (λ a b. set (set ps p a) q b) (sym at_q) (sym at_p) ∙ swap_is ps p q None (in_region i i_in) (in_region j j_in) in
-    subst (λ qs. LaidOut n t (swap xs i j) qs) places (subst (λ ys. LaidOut n t ys (set (set ps p (Some (get_or xs j d))) q (Some (get_or xs i d)))) (swap_is xs i j d i_in j_in) both)

@@ -1,8 +1,11 @@
 -- What the fields of an open ring say of the value that its contracts see.
-use Rattle.std.proofs.Common.{◌≡◌, ℕ, ◌+◌, ◌-◌, ◌%◌, ◌≤◌, length, refl, subst, sym, ap, ◌∙◌}
+use Rattle.std.proofs.Common.{◌≡◌, ℕ, suc, ◌+◌, ◌-◌, ◌%◌, ◌<◌, ◌≤◌, [], ◌∷◌, ◌++◌, length, take, drop, set, Some, None, refl, subst, sym, ap, ◌∙◌, arith}
+use Rattle.std.proofs.lemmas.List.{length_push, length-take-le, length-drop}
 use Rattle.arraydeque_ring.specs.declared.ring.Ring.TheInside.{Inside}
+use Rattle.arraydeque_ring.specs.Places.{Region}
+use Rattle.arraydeque_ring.specs.Steps.{more_puts, more_takes}
 use Rattle.arraydeque_ring.specs.Ring.{RingState, place_of, rotated, values, filled, FilledFrom}
-use Rattle.arraydeque_ring.proofs.places.LaidOut.{LaidOut, LaidOut-values, values-LaidOut, FilledFrom-LaidOut}
+use Rattle.arraydeque_ring.proofs.places.LaidOut.{LaidOut, LaidOut-values, values-LaidOut, FilledFrom-LaidOut, LaidOut-put_back, LaidOut-put_front, LaidOut-take_back, LaidOut-take_front}
 
 module _ {X : Type 0} where
   -- the fields r hold the ring v
@@ -38,3 +41,45 @@ module _ {X : Type 0} where
   -- and so is that of `Ring::place`
   pub placed : {r : Inside X} {v : RingState X} {place : ℕ} → Opened r v → (k : ℕ) → place ≡ place_of v.start k v.capacity → place ≡ place_of r.start k v.capacity
   placed {v = v} o k is = is ∙ ap (λ t. place_of t k v.capacity) (sym o.start)
+
+-- the length by another name
+pub with_len : {X : Type 0} {r : Inside X} {v : RingState X} {n : ℕ} → Opened r v → r.len ≡ n → Opened record r { len = n } v
+with_len o e = record { laid = o.laid; len = o.len ∙ e; start = o.start; steps = o.steps }
+
+-- what is put at an end of an open ring, or taken off there, is an item more, or less
+module _ {X : Type 0} {r : Inside X} {v : RingState X} (o : Opened r v) {slots : Region X} {place : ℕ} where
+  pub put_back : (x : X) → length v.items < v.capacity → place ≡ place_of v.start r.len v.capacity → slots.places ≡ set r.slots.places place (Some x) → slots.steps ≡ more_puts 1 r.slots.steps
+      → Opened record r { slots = slots; len = r.len + 1 } record v { items = v.items ++ x ∷ []; steps = more_puts 1 v.steps }
+  put_back x room is puts steps = record {
+    laid = rw (puts, placed o _ is, ← o.len) (LaidOut-put_back o.laid x room);
+    len = length_push v.items x ∙ ap (λ n. n + 1) o.len;
+    start = o.start;
+    steps = steps ∙ ap (more_puts 1) o.steps;
+  }
+
+  pub put_front : (x : X) → length v.items < v.capacity → place ≡ place_of v.start (v.capacity - 1) v.capacity → slots.places ≡ set r.slots.places place (Some x) → slots.steps ≡ more_puts 1 r.slots.steps
+      → Opened record r { slots = slots; start = place; len = r.len + 1 } record v { items = x ∷ v.items; start = place_of v.start (v.capacity - 1) v.capacity; steps = more_puts 1 v.steps }
+  put_front x room is puts steps = record {
+    laid = rw (puts, placed o _ is) (LaidOut-put_front o.laid x room);
+    len = ap suc o.len ∙ omega arith;
+    start = is;
+    steps = steps ∙ ap (more_puts 1) o.steps;
+  }
+
+  pub take_back : 0 < r.len → place ≡ place_of v.start (r.len - 1) v.capacity → slots.places ≡ set r.slots.places place None → slots.steps ≡ more_takes 1 r.slots.steps
+      → Opened record r { slots = slots; len = r.len - 1 } record v { items = take (length v.items - 1) v.items; steps = more_takes 1 v.steps }
+  take_back some is takes steps = record {
+    laid = rw (takes, placed o _ is, ← o.len) (LaidOut-take_back o.laid _ (omega (arith, o.len)));
+    len = length-take-le _ v.items (omega arith) ∙ ap (λ n. n - 1) o.len;
+    start = o.start;
+    steps = steps ∙ ap (more_takes 1) o.steps;
+  }
+
+  pub take_front : 0 < r.len → place ≡ place_of v.start 1 v.capacity → slots.places ≡ set r.slots.places r.start None → slots.steps ≡ more_takes 1 r.slots.steps
+      → Opened record r { slots = slots; start = place; len = r.len - 1 } record v { items = drop 1 v.items; start = place_of v.start 1 v.capacity; steps = more_takes 1 v.steps }
+  take_front some is takes steps = record {
+    laid = rw (takes, placed o _ is) (LaidOut-take_front o.laid (omega (arith, o.len)));
+    len = omega (arith, o.len, length-drop 1 v.items);
+    start = is;
+    steps = steps ∙ ap (more_takes 1) o.steps;
+  }

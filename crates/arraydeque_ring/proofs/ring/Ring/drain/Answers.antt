@@ -52,19 +52,12 @@ closing g c =
     let ring = opened c.self.inside c.self.invariant c.self.view_is in
     closes _ _ (gap g c) (length-take-le c.args.from c.args.self.now.items (omega arith)) (omega (arith, length-drop c.args.to c.args.self.now.items))
 
-pub close_gap-self-inside-requires-clause-in_region : goal.close_gap-self-inside-requires-clause-in_region
-close_gap-self-inside-requires-clause-in_region g c =
-    let gap = gap g (goal.at.close_gap-self-inside-requires-clause-in_region g c).After-take_run in
-    omega (arith, length_places gap, gap.all, gap.in_region)
-
-pub close_gap-self-inside-requires-clause-filled_before : goal.close_gap-self-inside-requires-clause-filled_before
-close_gap-self-inside-requires-clause-filled_before g c = (closing g (goal.at.close_gap-self-inside-requires-clause-filled_before g c).After-take_run).filled_before
-
-pub close_gap-self-inside-requires-clause-empty : goal.close_gap-self-inside-requires-clause-empty
-close_gap-self-inside-requires-clause-empty g c = (closing g (goal.at.close_gap-self-inside-requires-clause-empty g c).After-take_run).empty
-
-pub close_gap-self-inside-requires-clause-filled_behind : goal.close_gap-self-inside-requires-clause-filled_behind
-close_gap-self-inside-requires-clause-filled_behind g c = (closing g (goal.at.close_gap-self-inside-requires-clause-filled_behind g c).After-take_run).filled_behind
+pub close_gap-self-inside-requires : goal.close_gap-self-inside-requires
+close_gap-self-inside-requires g c =
+    let at = (goal.at.close_gap-self-inside-requires g c).After-take_run in
+    let gap = gap g at in
+    let may = closing g at in
+    record { in_region = omega (arith, length_places gap, gap.all, gap.in_region); some = omega arith; filled_before = may.filled_before; empty = may.empty; filled_behind = may.filled_behind }
 
 after : (g : Over) (c : goal.After-self-2-1 g) → let old = c.args.self.now in let count = c.args.to - c.args.from in let behind = length old.items - c.args.to in
     Opened record { slots = c.close_gap-self-inside.new.slots; start = c.close_gap-self-inside.result; len = c.self.inside.len - count; alloc = c.self.inside.alloc } record {

@@ -102,19 +102,14 @@ after g c =
 pub invariant_of-self : goal.invariant_of-self
 invariant_of-self g c = kept (after g c)
 
-pub returns-clause-items : goal.returns-clause-items
-returns-clause-items g c = ap (λ (r : RingState g.row.T.Denot). r.items) (closed (after g c))
-
-pub returns-clause-capacity : goal.returns-clause-capacity
-returns-clause-capacity g c = (after g c).laid.long
-
-pub returns-clause-start : goal.returns-clause-start
-returns-clause-start g c = (after g c).start
-
-pub returns-clause-steps : goal.returns-clause-steps
-returns-clause-steps g c = (after g c).steps
-
-pub returns-clause-fewest : goal.returns-clause-fewest
-returns-clause-fewest g c =
+pub returns : goal.returns
+returns g c =
     let ring = opened c.self.inside c.self.invariant c.self.view_is in
-    rw (after g c).start (fewest_insert c.args.index _ _ _ (omega (arith, ring.laid.in_region, ring.start)) c.requires.in_bounds c.requires.room)
+    let now = after g c in
+    record {
+      items = ap (λ (r : RingState g.row.T.Denot). r.items) (closed now);
+      capacity = now.laid.long;
+      start = now.start;
+      steps = now.steps;
+      fewest = rw now.start (fewest_insert c.args.index _ _ _ (omega (arith, ring.laid.in_region, ring.start)) c.requires.in_bounds c.requires.room);
+    }

@@ -39,14 +39,12 @@ closing g c =
     let ring = opened c.self.inside c.self.invariant c.self.view_is in
     closes _ _ (gap g c) (length-take-le c.args.index c.args.self.now.items (omega arith)) (omega (arith, length-drop (suc c.args.index) c.args.self.now.items))
 
-pub close_gap-self-inside-requires-clause-filled_before : goal.close_gap-self-inside-requires-clause-filled_before
-close_gap-self-inside-requires-clause-filled_before g c = (closing g (goal.at.close_gap-self-inside-requires-clause-filled_before g c).After-take-item).filled_before
-
-pub close_gap-self-inside-requires-clause-empty : goal.close_gap-self-inside-requires-clause-empty
-close_gap-self-inside-requires-clause-empty g c = (closing g (goal.at.close_gap-self-inside-requires-clause-empty g c).After-take-item).empty
-
-pub close_gap-self-inside-requires-clause-filled_behind : goal.close_gap-self-inside-requires-clause-filled_behind
-close_gap-self-inside-requires-clause-filled_behind g c = (closing g (goal.at.close_gap-self-inside-requires-clause-filled_behind g c).After-take-item).filled_behind
+pub close_gap-self-inside-requires : goal.close_gap-self-inside-requires
+close_gap-self-inside-requires g c =
+    let at = (goal.at.close_gap-self-inside-requires g c).After-take-item in
+    let gap = gap g at in
+    let may = closing g at in
+    record { in_region = omega (arith, length_places gap, gap.all, gap.in_region); some = omega arith; filled_before = may.filled_before; empty = may.empty; filled_behind = may.filled_behind }
 
 after : (g : Over) (c : goal.After-self-2-1 g) → let old = c.args.self.now in let behind = length old.items - 1 - c.args.index in
     Opened record { slots = c.close_gap-self-inside.new.slots; start = c.close_gap-self-inside.result; len = c.self.inside.len - 1; alloc = c.self.inside.alloc } record {
@@ -70,25 +68,16 @@ after g c =
 pub invariant_of-self : goal.invariant_of-self
 invariant_of-self g c = kept (after g c)
 
-pub returns-clause-value : goal.returns-clause-value
-returns-clause-value g c =
-    let ring = opened c.self.inside c.self.invariant c.self.view_is in
-    sym (held_at-place_of ring.laid c.args.index (omega (arith, length_within ring.laid))) ∙ rw (place_at ring _ c.capacity.ensures c.wrap_add.ensures) at c.take-item.ensures.value
-
-pub returns-clause-items : goal.returns-clause-items
-returns-clause-items g c = ap (λ (r : RingState g.row.T.Denot). r.items) (closed (after g c))
-
-pub returns-clause-capacity : goal.returns-clause-capacity
-returns-clause-capacity g c = (after g c).laid.long
-
-pub returns-clause-start : goal.returns-clause-start
-returns-clause-start g c = (after g c).start
-
-pub returns-clause-steps : goal.returns-clause-steps
-returns-clause-steps g c = (after g c).steps
-
-pub returns-clause-fewest : goal.returns-clause-fewest
-returns-clause-fewest g c =
+pub returns : goal.returns
+returns g c =
     let ring = opened c.self.inside c.self.invariant c.self.view_is in
     let within = length_within ring.laid in
-    rw (after g c).start (fewest_remove c.args.index _ _ _ (omega (arith, ring.laid.in_region, ring.start)) c.requires within)
+    let now = after g c in
+    record {
+      value = sym (held_at-place_of ring.laid c.args.index (omega arith)) ∙ rw (place_at ring _ c.capacity.ensures c.wrap_add.ensures) at c.take-item.ensures.value;
+      items = ap (λ (r : RingState g.row.T.Denot). r.items) (closed now);
+      capacity = now.laid.long;
+      start = now.start;
+      steps = now.steps;
+      fewest = rw now.start (fewest_remove c.args.index _ _ _ (omega (arith, ring.laid.in_region, ring.start)) c.requires within);
+    }

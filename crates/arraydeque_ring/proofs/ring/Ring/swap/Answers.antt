@@ -1,11 +1,31 @@
-use Rattle.std.proofs.Common.{swap, if◌then◌else◌, ◌==◌, ◌∙◌, arith}
-use Rattle.std.proofs.lemmas.List.Edits.{length-swap}
+use Rattle.std.proofs.Common.{◌≡◌, ℕ, ◌<◌, List, [], ◌∷◌, length, set, get_or, Option, Some, None, sym, ap₂, subst, swap, if◌then◌else◌, ◌==◌, ◌∙◌, arith}
+use Rattle.std.proofs.lemmas.List.{length-set}
+use Rattle.std.proofs.lemmas.List.Edits.{length-swap, swap_is}
+use Rattle.std.proofs.lemmas.Option.{slice_get-get_or}
+use Rattle.arraydeque_ring.specs.Places.{held_at}
+use Rattle.arraydeque_ring.specs.Ring.{place_of}
+use Rattle.arraydeque_ring.proofs.places.Rotated.{place_of-lt}
 use Rattle.arraydeque_ring.specs.Steps.{more_exchanges}
-use Rattle.arraydeque_ring.proofs.places.LaidOut.{length_within, IsFilled-place_of, LaidOut-swap}
+use Rattle.arraydeque_ring.proofs.places.LaidOut.{LaidOut, length_within, held_at-place_of, IsFilled-place_of, LaidOut-set}
 use Rattle.arraydeque_ring.proofs.places.Opened.{Opened, opened, closed, kept, placed}
 use Rattle.arraydeque_ring.proofs.places.Rotated.{one_place}
 use Rattle.arraydeque_ring.proofs.ring.Ring.swap.Given.{Over}
 use Rattle.arraydeque_ring.proofs.ring.Ring.swap.Goals as goal
+
+-- to exchange the places of two items is to exchange the items
+LaidOut-swap : {X : Type 0} {n t : ℕ} {ps : List (Option X)} (xs : List X) → LaidOut n t xs ps → (i j : ℕ) → i < length xs → j < length xs → LaidOut n t (swap xs i j) (swap ps (place_of t i n) (place_of t j n))
+LaidOut-swap [] l i j i_in j_in = absurd (omega arith)
+LaidOut-swap {n = n} {t = t} {ps = ps} (d ∷ rest) l i j i_in j_in =
+    let xs = d ∷ rest in
+    let p = place_of t i n in
+    let q = place_of t j n in
+    let within = length_within l in
+    let at_p : held_at ps p ≡ Some (get_or xs i d) = held_at-place_of l i (omega arith) ∙ slice_get-get_or xs i d i_in in
+    let at_q : held_at ps q ≡ Some (get_or xs j d) = held_at-place_of l j (omega arith) ∙ slice_get-get_or xs j d j_in in
+    let in_region : (k : ℕ) → k < length xs → place_of t k n < length ps = λ k lt. omega (arith, l.long, place_of-lt t k n (omega (arith, l.in_region))) in
+    let both = LaidOut-set (LaidOut-set l i (get_or xs j d) i_in) j (get_or xs i d) (omega (arith, length-set xs i (get_or xs j d))) in
+    let places : set (set ps p (Some (get_or xs j d))) q (Some (get_or xs i d)) ≡ swap ps p q = ap₂ (λ a b. set (set ps p a) q b) (sym at_q) (sym at_p) ∙ swap_is ps p q None (in_region i i_in) (in_region j j_in) in
+    subst (λ qs. LaidOut n t (swap xs i j) qs) places (subst (λ ys. LaidOut n t ys (set (set ps p (Some (get_or xs j d))) q (Some (get_or xs i d)))) (swap_is xs i j d i_in j_in) both)
 
 pub place-a-requires-clause-in_reach : goal.place-a-requires-clause-in_reach
 place-a-requires-clause-in_reach g c =

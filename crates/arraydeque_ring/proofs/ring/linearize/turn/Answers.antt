@@ -1,8 +1,8 @@
-use Rattle.std.proofs.Common.{◌≡◌, ◌+◌, ◌-◌, ◌==◌, if◌then◌else◌, arith}
+use Rattle.std.proofs.Common.{◌≡◌, ◌+◌, ◌-◌, inl, inr, ◌==◌, refl, if◌then◌else◌, arith}
 use Rattle.std.proofs.lemmas.Bool.Decides.{nat_tests}
 use Rattle.arraydeque_ring.specs.Swapped.{runs_swapped}
 use Rattle.arraydeque_ring.specs.Steps.{Rearranges}
-use Rattle.arraydeque_ring.proofs.linearize.Turning.{Pass, Turning-pass, Turning-behind, Turning-gap, Turning-fits, still_fills}
+use Rattle.arraydeque_ring.proofs.linearize.Turning.{Pass, Turning-pass, Turning-passed, Turning-fits, still_fills}
 use Rattle.arraydeque_ring.proofs.ring.linearize.turn.Given.{Over}
 use Rattle.arraydeque_ring.proofs.ring.linearize.turn.Goals.{After-min-wrapped, After-move_run-slots}
 use Rattle.arraydeque_ring.proofs.ring.linearize.turn.Goals as goal
@@ -10,17 +10,13 @@ use Rattle.arraydeque_ring.proofs.ring.linearize.turn.Goals as goal
 pass : (g : Over) (c : After-min-wrapped g) → Pass c.loop-next.dst c.loop-next.next c.min-run.result c.min-wrapped.result c.loop-next.slots.places
 pass g c = Turning-pass c.requires.filled c.loop-next.invariant.walk c.min-run.result c.min-wrapped.result c.if-capacity-next.true c.min-run.ensures c.min-wrapped.ensures
 
-pub exchange_runs-slots-requires-clause-a_filled : goal.exchange_runs-slots-requires-clause-a_filled
-exchange_runs-slots-requires-clause-a_filled g c = (pass g (goal.at.exchange_runs-slots-requires-clause-a_filled g c).After-min-wrapped).a_filled
+pub exchange_runs-slots-requires : goal.exchange_runs-slots-requires
+exchange_runs-slots-requires g c =
+    let may = pass g (goal.at.exchange_runs-slots-requires g c).After-min-wrapped in record { apart = omega arith; a_filled = may.a_filled; b_filled = may.b_filled }
 
-pub exchange_runs-slots-requires-clause-b_filled : goal.exchange_runs-slots-requires-clause-b_filled
-exchange_runs-slots-requires-clause-b_filled g c = (pass g (goal.at.exchange_runs-slots-requires-clause-b_filled g c).After-min-wrapped).b_filled
-
-pub move_run-slots-requires-clause-empty : goal.move_run-slots-requires-clause-empty
-move_run-slots-requires-clause-empty g c = rw c.exchange_runs-slots.ensures.places (pass g (goal.at.move_run-slots-requires-clause-empty g c).After-min-wrapped).empty
-
-pub move_run-slots-requires-clause-filled : goal.move_run-slots-requires-clause-filled
-move_run-slots-requires-clause-filled g c = rw c.exchange_runs-slots.ensures.places (pass g (goal.at.move_run-slots-requires-clause-filled g c).After-min-wrapped).filled
+pub move_run-slots-requires : goal.move_run-slots-requires
+move_run-slots-requires g c =
+    let may = pass g (goal.at.move_run-slots-requires g c).After-min-wrapped in rw c.exchange_runs-slots.ensures.places (record { apart = omega arith; empty = may.empty; filled = may.filled })
 
 pub loop-next-smaller-then-run-first : goal.loop-next-smaller-then-run-first
 loop-next-smaller-then-run-first g c = let fits = Turning-fits c.requires.filled c.loop-next.invariant.walk in omega arith
@@ -38,7 +34,7 @@ pub loop-next-preserved-then-run-first : goal.loop-next-preserved-then-run-first
 loop-next-preserved-then-run-first g c =
     let moved = (goal.at.loop-next-preserved-then-run-first g c).After-move_run-slots in
     record {
-      walk = rw (after g moved) (Turning-gap c.requires.filled c.loop-next.invariant.walk c.min-run.result c.min-wrapped.result c.if-capacity-next.true c.min-run.ensures c.if-run-first.true);
+      walk = rw (after g moved) (Turning-passed c.requires.filled c.loop-next.invariant.walk c.min-run.result c.min-wrapped.result c.if-capacity-next.true c.min-run.ensures _ (inr (c.if-run-first.true, refl)));
       steps = steps g moved;
     }
 
@@ -46,7 +42,7 @@ pub loop-next-preserved : goal.loop-next-preserved
 loop-next-preserved g c =
     let moved = (goal.at.loop-next-preserved g c).After-move_run-slots in
     record {
-      walk = rw (after g moved) (Turning-behind c.requires.filled c.loop-next.invariant.walk c.min-run.result c.min-wrapped.result c.if-capacity-next.true c.min-run.ensures c.if-run-first.false);
+      walk = rw (after g moved) (Turning-passed c.requires.filled c.loop-next.invariant.walk c.min-run.result c.min-wrapped.result c.if-capacity-next.true c.min-run.ensures _ (inl (c.if-run-first.false, refl)));
       steps = steps g moved;
     }
 

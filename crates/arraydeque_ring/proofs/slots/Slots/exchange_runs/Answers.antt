@@ -1,6 +1,6 @@
 use Rattle.std.proofs.Common.{◌+◌, sym, arith}
 use Rattle.std.proofs.lemmas.Bool.{ne_eqb}
-use Rattle.arraydeque_ring.proofs.linearize.RunsSwapped.{runs_swapped_none, runs_swapped_more, next_first, next_second}
+use Rattle.arraydeque_ring.proofs.places.Reads.{runs_swapped_none, runs_swapped_more, next_first, next_second}
 use Rattle.arraydeque_ring.proofs.places.Held.{filled_in_run}
 use Rattle.arraydeque_ring.proofs.slots.Slots.exchange_runs.Goals as goal
 

@@ -15,7 +15,8 @@ use Rattle.arraydeque_ring.specs.Loans.{as_many, with_run}
 use Rattle.arraydeque_ring.specs.Ownership.{places_owned, right_to_free}
 use Rattle.arraydeque_ring.specs.Places.{IsFilledRun}
 use Rattle.arraydeque_ring.proofs.loans.Placed.{placed, as_many-same, length-placed}
-use Rattle.arraydeque_ring.proofs.loans.Runs.{run, Around, run_out, run_in, to_cells, of_cells}
+use Rattle.arraydeque_ring.proofs.loans.Runs.{run, to_cells, of_cells}
+use Rattle.arraydeque_ring.proofs.memory.Rows.{Around, run_out, run_in}
 use Rattle.arraydeque_ring.proofs.memory.Blocks.{uncapped}
 use Rattle.arraydeque_ring.proofs.memory.Owned.{item_size, Place}
 use Rattle.arraydeque_ring.proofs.memory.Regions.{Sr, Seen, Fits, right, slots_val, slots_made, slots_open}
@@ -37,7 +38,7 @@ module _ (E : El) where
 module _ (E : El) {M : Type 1} {𝓤 : Ura M} (𝓛 : Logic 𝓤) (rb ro : ℕ) (r : Seen E) (from : ℕ) (xs : List (el_x E)) (g : Global) (b o n : ℕ) (within : from + length xs ≤ length r.places) where
   -- all but the run
   abbrev Rest : Fml
-  Rest = fsep (Around E 𝓛 b o r.places from (length xs) within) (fsep (right E g r b o) (cell_at full_share (Sr E).mir (slots_val b o n ∷ []) rb ro))
+  Rest = fsep (Around E 𝓛 b o r.places from (length xs)) (fsep (right E g r b o) (cell_at full_share (Sr E).mir (slots_val b o n ∷ []) rb ro))
 
   back : Fits E r o n → (ws : List (el_x E)) → length ws ≡ length xs
       → ent 𝓤 (sep 𝓤 (sem 𝓛 (cells (mem (R E)) ws b (from * item_size E + o))) (sem 𝓛 Rest)) (sem 𝓛 ((mem (Sr E)).own_at (Written E r from xs ws) rb ro))
@@ -49,7 +50,7 @@ module _ (E : El) {M : Type 1} {𝓤 : Ura M} (𝓛 : Logic 𝓤) (rb ro : ℕ) 
       let many : length (map Some ws) ≡ length xs = length-map ws Some ∙ same in
       let long : length r.places ≡ length new.places = sym (length-placed from (length xs) (map Some ws) r.places within many) ∙ ap length alike in
       qed 𝓛 (‵ (cells (mem (R E)) ws b (from * item_size E + o)) ∷ ‵ Rest ∷ []) ∵ use1 𝓛 (‵ (places_owned (R E) b (from * item_size E + o) (map Some ws))) (of_cells E 𝓛 b ws (from * item_size E + o)) $
-      move ! (1 ∷ []) $ fsplit3 ! $ move ! (3 ∷ 0 ∷ []) $ use2 𝓛 (‵ (places_owned (R E) b o put)) (run_in E 𝓛 b o r.places from (length xs) within (map Some ws) (sym many)) $
+      move ! (1 ∷ []) $ fsplit3 ! $ move ! (3 ∷ 0 ∷ []) $ use2 𝓛 (‵ (places_owned (R E) b o put)) (run_in E 𝓛 b o r.places from (length xs) within (map Some ws) many) $
       rewrite ! 0 (λ (ps : List (Place E)). ‵ (places_owned (R E) b o ps)) alike refl $ move ! (1 ∷ []) $
       rewrite ! 0 (λ (m : ℕ). ‵ (right_to_free (R E) g m (block_ptr b o))) long refl $ move ! (1 ∷ 0 ∷ []) $
       slots_made E ! g new b o n (record { capacity = ok.capacity ∙ long; word = ok.word; reach = subst (λ k. k * item_size E + o < 2 ^ 63) long ok.reach }) $ move ! (1 ∷ 0 ∷ []) $ fjoin ! $
@@ -86,7 +87,7 @@ lend_run_spec 𝓤 𝓛 𝓜 𝓡 wired X L =
     let at = from * s + o in let new = Written E r from xs in
     let Rest₀ = sem 𝓛 (Rest E 𝓛 rb ro r from xs g b o n within) in let way = back E 𝓛 rb ro r from xs g b o n within ok in
     let room : (length xs < 2 ^ 64) × (length xs * s < 2 ^ 63) = (omega arith, times_below (length xs) (length r.places) s (2 ^ 63) (omega arith) small) in
-    use1 𝓛 (‵ (places_owned (R E) b at (run E 𝓛 b o r.places from (length xs))) ⊛ ‵ (Around E 𝓛 b o r.places from (length xs) within)) (run_out E 𝓛 b o r.places from (length xs) within) $ split ! $
+    use1 𝓛 (‵ (places_owned (R E) b at (run E 𝓛 b o r.places from (length xs))) ⊛ ‵ (Around E 𝓛 b o r.places from (length xs))) (run_out E 𝓛 b o r.places from (length xs) within) $ split ! $
     rewrite ! 0 (λ (ps : List (Place E)). ‵ (places_owned (R E) b at ps)) (ap (λ k. take k (drop_list from r.places)) long ∙ held) refl $ use1 𝓛 (‵ (cells (mem (R E)) xs b at)) (to_cells E 𝓛 b xs at) $
     sets_last ! (agg ! (and_then ! (get ! refl) (and_then ! (get ! refl) (no_more !)))) refl (tt, (tt, (record { fits = fl }, tt))) $
     exec ! 𝓣.C 𝓣.Λ En (after 1 (here E).body) (at_ret En (W.post y)) $ sets ! (of_opd ! (get ! refl)) refl (tt, (tt, (record { fits = fl }, tt))) $

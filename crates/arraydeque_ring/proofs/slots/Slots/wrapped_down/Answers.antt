@@ -1,7 +1,8 @@
 use Rattle.std.proofs.Common.{◌+◌, ◌-◌, sym, refl, arith}
 use Rattle.arraydeque_ring.specs.Ring.{place_of}
 use Rattle.arraydeque_ring.specs.Moved.{run_moved}
-use Rattle.arraydeque_ring.proofs.moved.Parts.{Three, slides_down}
+use Rattle.arraydeque_ring.proofs.moved.Parts.{Three}
+use Rattle.arraydeque_ring.proofs.moved.Slides.{slides_down}
 use Rattle.arraydeque_ring.proofs.slots.Slots.wrapped_down.Given.{Over}
 use Rattle.arraydeque_ring.proofs.slots.Slots.wrapped_down.Goals.{After-capacity-last}
 use Rattle.arraydeque_ring.proofs.slots.Slots.wrapped_down.Goals as goal

@@ -1,0 +1,119 @@
+-- Two runs that change places, read place by place: where what a place holds came from.
+use Rattle.std.proofs.Common.{◌≡◌, ℕ, ◌+◌, ◌-◌, ◌≤◌, inl, inr, List, ◌++◌, length, take, drop, set, get_or, nat_lt, if◌then◌else◌, Option, None, sym, ap, ◌∙◌, arith}
+use Rattle.std.specs.Prelude.{swap}
+use Rattle.std.proofs.lemmas.Bool.{cases_lt, cases_eq}
+use Rattle.std.proofs.lemmas.Bool.Decides.{nat_tests}
+use Rattle.std.proofs.lemmas.Grind.{common_steps}
+use Rattle.std.proofs.lemmas.List.{get_or-append_right, length-set, get_or-set_same, get_or-set_other, set_comm}
+use Rattle.std.proofs.lemmas.List.Edits.{swap_is}
+use Rattle.arraydeque_ring.specs.Places.{held_at, IsFilled, IsEmpty}
+use Rattle.arraydeque_ring.specs.Gaps.{run_rotated}
+use Rattle.arraydeque_ring.specs.Swapped.{runs_swapped}
+use Rattle.arraydeque_ring.proofs.moved.Flat.{same_places}
+
+-- the place whose value the place x has, once m values from `at` on and the k behind them have changed places
+abbrev pub rotated_from : ℕ → ℕ → ℕ → ℕ → ℕ
+rotated_from at m k x = if nat_lt x at then x else (if nat_lt x (at + k) then x + m else (if nat_lt x (at + k + m) then x - k else x))
+
+module _ {X : Type 0} (at m k : ℕ) (ps : List (Option X)) (within : at + m + k ≤ length ps) where
+  pub length-run_rotated : length (run_rotated at m k ps) ≡ length ps
+  length-run_rotated = grind (arith, common_steps)
+
+  pub get_or-run_rotated : (x : ℕ) → get_or (run_rotated at m k ps) x None ≡ get_or ps (rotated_from at m k x) None
+  get_or-run_rotated x =
+      let second = take k (drop (at + m) ps) in
+      let others = take m (drop at ps) ++ drop (at + m + k) ps in
+      elim (cases_lt x at) [
+        | inl lt ↦ grind (arith, nat_tests, common_steps)
+        | inr past ↦ get_or-append_right (take at ps) (second ++ others) at x None (grind (arith, common_steps)) past ∙ elim (cases_lt x (at + k)) [
+          | inl lt ↦ grind (arith, nat_tests, common_steps)
+          | inr over ↦ get_or-append_right second others k (x - at) None (grind (arith, common_steps)) (omega arith) ∙ grind (arith, nat_tests, common_steps)
+        ]
+      ]
+
+-- the place whose value the place x has, once n values from a on have changed places with those from b on
+abbrev pub swapped_from : ℕ → ℕ → ℕ → ℕ → ℕ
+swapped_from a b n x = if nat_lt x a then x else (if nat_lt x (a + n) then x - a + b else (if nat_lt x b then x else (if nat_lt x (b + n) then x - b + a else x)))
+
+module _ {X : Type 0} (a b n : ℕ) (ps : List (Option X)) (before : a + n ≤ b) (within : b + n ≤ length ps) where
+  pub length-runs_swapped : length (runs_swapped a b n ps) ≡ length ps
+  length-runs_swapped = grind (arith, common_steps)
+
+  pub get_or-runs_swapped : (x : ℕ) → get_or (runs_swapped a b n ps) x None ≡ get_or ps (swapped_from a b n x) None
+  get_or-runs_swapped x =
+      let between = take (b - (a + n)) (drop (a + n) ps) in
+      let last = take n (drop a ps) ++ drop (b + n) ps in
+      let second = take n (drop b ps) in
+      elim (cases_lt x a) [
+        | inl lt ↦ grind (arith, nat_tests, common_steps)
+        | inr past ↦ get_or-append_right (take a ps) (second ++ (between ++ last)) a x None (grind (arith, common_steps)) past ∙ elim (cases_lt x (a + n)) [
+          | inl lt ↦ grind (arith, nat_tests, common_steps)
+          | inr over ↦ get_or-append_right second (between ++ last) n (x - a) None (grind (arith, common_steps)) (omega arith) ∙ elim (cases_lt x b) [
+            | inl lt ↦ grind (arith, nat_tests, common_steps)
+            | inr at ↦ get_or-append_right between last (b - (a + n)) (x - a - n) None (grind (arith, common_steps)) (omega arith) ∙ grind (arith, nat_tests, common_steps)
+          ]
+        ]
+      ]
+
+module _ {X : Type 0} (a b : ℕ) (ps : List (Option X)) where
+  -- no run is exchanged
+  pub runs_swapped_none : a + 0 ≤ b → b + 0 ≤ length ps → runs_swapped a b 0 ps ≡ ps
+  runs_swapped_none before within = same_places _ _ (length-runs_swapped a b 0 ps before within) (λ x lt. get_or-runs_swapped a b 0 ps before within x ∙ ap (λ i. get_or ps i None) (grind (arith, nat_tests)))
+
+  -- a run longer by m is exchanged in two steps
+  pub runs_swapped_both : (n m : ℕ) → a + (n + m) ≤ b → b + (n + m) ≤ length ps → runs_swapped (a + n) (b + n) m (runs_swapped a b n ps) ≡ runs_swapped a b (n + m) ps
+  runs_swapped_both n m before within =
+      let once = runs_swapped a b n ps in
+      let long = length-runs_swapped a b n ps (omega arith) (omega arith) in
+      same_places _ _ (length-runs_swapped (a + n) (b + n) m once (omega arith) (omega (arith, long)) ∙ long ∙ sym (length-runs_swapped a b (n + m) ps before within)) (λ x lt.
+      get_or-runs_swapped (a + n) (b + n) m once (omega arith) (omega (arith, long)) x
+      ∙ get_or-runs_swapped a b n ps (omega arith) (omega arith) (swapped_from (a + n) (b + n) m x)
+      ∙ ap (λ i. get_or ps i None) (grind (arith, nat_tests)) ∙ sym (get_or-runs_swapped a b (n + m) ps before within x))
+
+-- the pairs of two runs are exchanged one after another: the pair k comes next
+module _ {X : Type 0} (a b k : ℕ) (ps : List (Option X)) (before : a + (k + 1) ≤ b) (within : b + (k + 1) ≤ length ps) where
+  abbrev so_far : List (Option X)
+  so_far = runs_swapped a b k ps
+
+  long : length so_far ≡ length ps
+  long = length-runs_swapped a b k ps (omega arith) (omega arith)
+
+  held : (x i : ℕ) → swapped_from a b k x ≡ i → held_at so_far x ≡ held_at ps i
+  held x i same = get_or-runs_swapped a b k ps (omega arith) (omega arith) x ∙ ap (λ j. get_or ps j None) same
+
+  first_stays : held_at so_far (a + k) ≡ held_at ps (a + k)
+  first_stays = held (a + k) (a + k) (grind (arith, nat_tests))
+
+  second_stays : held_at so_far (b + k) ≡ held_at ps (b + k)
+  second_stays = held (b + k) (b + k) (grind (arith, nat_tests))
+
+  pub next_first : IsFilled ps (a + k) → IsFilled so_far (a + k)
+  next_first filled = (filled.0, first_stays ∙ filled.1)
+
+  pub next_second : IsFilled ps (b + k) → IsFilled so_far (b + k)
+  next_second filled = (filled.0, second_stays ∙ filled.1)
+
+  pub next_empty : held_at ps (a + k) ≡ None → IsEmpty so_far (a + k)
+  next_empty none = (omega (arith, long), first_stays ∙ none)
+
+  pub runs_swapped_more : swap so_far (a + k) (b + k) ≡ runs_swapped a b (k + 1) ps
+  runs_swapped_more =
+      let u = held_at so_far (a + k) in
+      let v = held_at so_far (b + k) in
+      let ones = set so_far (a + k) v in
+      sym (swap_is so_far (a + k) (b + k) None (omega (arith, long)) (omega (arith, long)))
+      ∙ same_places _ _ (length-set ones (b + k) u ∙ length-set so_far (a + k) v ∙ long ∙ sym (length-runs_swapped a b (k + 1) ps before within)) (λ x lt. elim (cases_eq x (b + k)) [
+        | inl is ↦ ap (λ i. get_or (set ones (b + k) u) i None) is ∙ get_or-set_same ones (b + k) u None (omega (arith, long, length-set so_far (a + k) v)) ∙ first_stays
+            ∙ ap (λ i. get_or ps i None) (grind (arith, nat_tests)) ∙ sym (get_or-runs_swapped a b (k + 1) ps before within x)
+        | inr other ↦ get_or-set_other ones (b + k) x u None other ∙ elim (cases_eq x (a + k)) [
+          | inl is ↦ ap (λ i. get_or ones i None) is ∙ get_or-set_same so_far (a + k) v None (omega (arith, long)) ∙ second_stays
+              ∙ ap (λ i. get_or ps i None) (grind (arith, nat_tests)) ∙ sym (get_or-runs_swapped a b (k + 1) ps before within x)
+          | inr apart ↦ get_or-set_other so_far (a + k) x v None apart ∙ held x (swapped_from a b (k + 1) x) (grind (arith, nat_tests)) ∙ sym (get_or-runs_swapped a b (k + 1) ps before within x)
+        ]
+      ])
+
+  -- to move a value to an empty place is to exchange it with nothing
+  pub moved_more : held_at ps (a + k) ≡ None → set (set so_far (b + k) None) (a + k) (held_at so_far (b + k)) ≡ runs_swapped a b (k + 1) ps
+  moved_more none =
+      set_comm so_far (b + k) (a + k) None (held_at so_far (b + k)) (λ same. omega arith) ∙ ap (λ q. set (set so_far (a + k) (held_at so_far (b + k))) (b + k) q) (sym (first_stays ∙ none))
+      ∙ swap_is so_far (a + k) (b + k) None (omega (arith, long)) (omega (arith, long)) ∙ runs_swapped_more
