@@ -1,5 +1,5 @@
--- How many kept items have other places after an edit, wherever the new list starts, and that an edit
--- moves the fewest. Items are told apart by their indexes.
+-- How many kept items have other places after an edit, wherever the new list starts, and that
+-- an edit moves the fewest. Items are told apart by their indexes.
 use Rattle.std.specs.Prelude.{◌≡◌, ℕ, zero, suc, ◌+◌, ◌-◌, ◌<◌, ◌≤◌, Bool, false, not, nat_lt, ◌==◌, if◌then◌else◌}
 use Rattle.arraydeque_ring.specs.Ring.{place_of}
 use Rattle.arraydeque_ring.specs.Sides.{moves_to_insert, moves_to_remove, moves_to_drain}
@@ -40,8 +40,8 @@ pub record IsFewest (count capacity : ℕ) (changed : ℕ → ℕ) (start : ℕ)
   pub least : (u : ℕ) → u < capacity → count ≤ changed u
   pub met : changed start ≡ count
 
--- an insert at the index into len items that start at `start` moves the fewest that any placement of
--- the new list allows, and just so many where it starts at `new_start`
+-- an insert at the index into len items that start at `start` moves the fewest that any placement
+-- of the new list allows, and just so many where it starts at `new_start`
 abbrev pub InsertMovesFewest : ℕ → ℕ → ℕ → ℕ → ℕ → Type 0
 InsertMovesFewest index len capacity start new_start =
     IsFewest (moves_to_insert index len) capacity (changed_insert index len capacity start)

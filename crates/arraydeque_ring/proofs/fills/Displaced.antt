@@ -27,7 +27,7 @@ module _ {X : Type 0} where
   pub displaced_last-none : (r : RingState X) → r ≡ displaced_last [] r
   displaced_last-none r = λ i. record r { items = sym (take_all (length r.items) r.items (omega arith)) i; steps = none r.steps i }
 
--- to go on by k places and then by one is to go on by one more
+-- to go on by k places and then by one is to go up by one more
 up_by-one : (k s n : ℕ) → place_of (up_by k s n) 1 n ≡ up_by (suc k) s n
 up_by-one zero s n = refl
 up_by-one (suc k) s n =

@@ -10,14 +10,14 @@ use Rattle.arraydeque_ring.proofs.moved.Sources.{place_of-sum}
 use Rattle.arraydeque_ring.proofs.places.LaidOut.{LaidOut, IsEmpty-place_of, LaidOut-put_back, LaidOut-put_front}
 use Rattle.arraydeque_ring.proofs.places.Rotated.{MayStartAt, place_of_cases, place_of-run}
 
--- to go back by k places and then by one is to go back by one more
+-- to go down by k places and then by one is to go down by one more
 down_by-one : (k s n : ℕ) → place_of (down_by k s n) (n - 1) n ≡ down_by (suc k) s n
 down_by-one zero s n = ap (λ m. place_of s m n) (omega arith)
 down_by-one (suc k) s n =
     let back : (j : ℕ) → down_by (suc j) s n ≡ place_of s (suc j * (n - 1)) n = λ j. ap (λ b. if b then place_of s (suc j * (n - 1)) n else s) (lt-ltb 0 (suc j) (omega arith)) in
     ap (λ t. place_of t (n - 1) n) (back k) ∙ place_of-sum s (suc k * (n - 1)) (n - 1) n ∙ ap (λ m. place_of s m n) (omega (arith, suc-mul (suc k) (n - 1))) ∙ sym (back (suc k))
 
--- to go back by j places and then by k is to go back by both
+-- to go down by j places and then by k is to go down by both
 pub down_by-both : (j k s n : ℕ) → down_by k (down_by j s n) n ≡ down_by (j + k) s n
 down_by-both j zero s n = ap (λ m. down_by m s n) (omega arith)
 down_by-both j (suc k) s n = sym (down_by-one k (down_by j s n) n) ∙ ap (λ t. place_of t (n - 1) n) (down_by-both j k s n) ∙ down_by-one (j + k) s n ∙ ap (λ m. down_by m s n) (omega arith)

@@ -14,7 +14,7 @@ count_sides : (p : ℕ → Bool) (f b : Bool) (s e n : ℕ) → s ≤ e → ((k 
 count_sides p f b s e zero le each = grind (arith, nat_tests)
 count_sides p f b s e (suc n) le each = let rest = count_sides p f b s e n le (λ k lt. each k (omega arith)) in grind (arith, nat_tests, each n, rest)
 
--- from two starts an item has one place only where they are one
+-- from two starts an item has one place uply where they are one
 one_start : (c t u k : ℕ) → t < c → u < c → k ≤ c → (place_of t k c == place_of u k c) ≡ (t == u)
 one_start c t u k a b le =
     let at_t : t + k ≡ k + t = omega arith in
@@ -22,7 +22,7 @@ one_start c t u k a b le =
     ap₂ (λ x y. (x % c) == (y % c)) at_t at_u ∙ one_place k t u c le a b
 
 module _ (i n c t : ℕ) (t_in : t < c) (i_in : i ≤ n) (room : n < c) where
-  -- the items before the index stay where the start stays, those behind it where the start goes one place back
+  -- the items before the index stay where the start stays, those behind it where the start goes one place down
   inserted : (u : ℕ) → u < c → changed_insert i n c t u ≡ (if not (t == u) then i else 0) + (if not (t == place_of u 1 c) then n - i else 0)
   inserted u u_in =
       let next = place_of-lt u 1 c (omega arith) in

@@ -84,11 +84,11 @@ closes {xs = xs} {gap = gap} {ys = ys} i m p front behind =
     }
 
 module _ {X : Type 0} {n t : ℕ} {xs : List X} {ps : List (Option X)} (l : LaidOut n t xs ps) (room : length xs < n) (i : ℕ) (within : i ≤ length xs) where
-  -- to open a gap at the index i, the items before it move to a start one place back
+  -- to open a gap at the index i, the items before it move to a start one place down
   pub opens_before : Earlier n (place_of t (n - 1) n) 0 1 i ps (take i xs) (drop i xs)
   opens_before = goes_earlier (Gapped-before l room) (take i xs) (drop i xs) (sym (take-append-drop i xs)) 0 i refl (length-take-le i xs within)
 
-  -- or the others move one place on
+  -- or the others move one place up
   pub opens_behind : (m : ℕ) → i + m ≡ length xs → Later n t i 1 m ps (take i xs) (drop i xs)
   opens_behind m rest =
       subst (Later n t i 1 m ps (take i xs)) (append-nil (drop i xs))

@@ -36,7 +36,7 @@ module _ {X : Type 0} {n t : ℕ} {xs : List X} {ps : List (Option X)} (l : Laid
       let one : n - length xs ≡ suc (n - length xs - 1) = omega arith in
       record { left = n - length xs - 1; all = omega arith; in_region = l.in_region; is = l.is ∙ ap (and_empty xs) one }
 
-  -- or before them, from a start one place back
+  -- or before them, from a start one place down
   pub Gapped-before : length xs < n → Gapped n (place_of t (n - 1) n) [] 1 xs ps
   Gapped-before room = record { left = n - length xs - 1; all = omega arith; in_region = omega (arith, place_of-lt t (n - 1) n (omega (arith, l.in_region))); is = rotated_before l room }
 

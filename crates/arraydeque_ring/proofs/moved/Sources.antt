@@ -9,7 +9,7 @@ use Rattle.arraydeque_ring.specs.Moved.{distance, IsFilledRound, run_moved}
 use Rattle.arraydeque_ring.proofs.moved.Flat.{distance_is, moved_at}
 use Rattle.arraydeque_ring.proofs.places.Rotated.{place_of_cases, place_of-lt}
 
--- to go on by i and then by x is to go on by both
+-- to go on by i and then by x is to go up by both
 pub place_of-sum : (t i x n : ℕ) → place_of (place_of t i n) x n ≡ place_of t (i + x) n
 place_of-sum t i x n = mod-add-mod (t + i) n x ∙ ap (λ m. m % n) (add_assoc t i x)
 

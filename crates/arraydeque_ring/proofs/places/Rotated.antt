@@ -21,7 +21,7 @@ pub place_of-zero : (t n : ℕ) → t ≤ n - 1 → place_of t 0 n ≡ t
 place_of-zero t zero le = let none : t ≡ 0 = omega arith in ap (λ m. place_of m 0 0) none ∙ sym none
 place_of-zero t (suc n) le = mod-eq_of_lt (omega arith) ∙ omega arith
 
--- to go on by k and then by i is to go on by both, round the end
+-- to go on by k and then by i is to go up by both, round the end
 place_of-place_of : (t k i n : ℕ) → place_of (place_of t k n) i n ≡ place_of t (place_of k i n) n
 place_of-place_of t k i n = mod-add-mod (t + k) n i ∙ ap (λ m. m % n) (add_assoc t k i) ∙ sym (add-mod-mod t (k + i) n)
 

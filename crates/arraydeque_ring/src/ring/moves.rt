@@ -14,9 +14,9 @@ use crate::slots::Slots;
 use crate::wrap::wrap_add;
 
 impl<T> Ring<T> {
-    /// Adds an element before the item at an index, or behind the last one. The fewer items on either
-    /// side of it move: those before it where they are the fewer, and the start with them, else
-    /// those behind it. In a ring of 8 places:
+    /// Adds an element before the item at an index, or behind the last one. The fewer items on
+    /// either side of it move: those before it where they are the fewer, and the start with them,
+    /// else those behind it. In a ring of 8 places:
     ///
     ///     place                    0 1 2 3 4 5 6 7
     ///     before, from 5 on        d e . . . a b c
