@@ -1,0 +1,3 @@
+pub mod FirstWord
+pub mod LinesRead
+pub mod Numbers
