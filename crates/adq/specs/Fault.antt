@@ -1,5 +1,5 @@
 -- The statuses of runs that end early.
-use Rattle.std.specs.Prelude.{◌≡◌, ℕ, ◌⊎◌}
+use Rattle.std.specs.Prelude.{◌≡◌, ℕ, ◌⊎◌, Option, Some, None, Result, Ok, Err}
 use Rattle.adq.specs.declared.fault.Fault.{Fault}
 use Rattle.adq.specs.declared.fault.Fault.TheVariants.{Arguments, Line, Memory, Io}
 
@@ -10,6 +10,8 @@ status_of (Line _) = 2
 status_of Memory = 3
 status_of Io = 1
 
--- a line is blamed by its number, or memory was refused
-abbrev pub IsLineOrMemory : ℕ → Fault → Type 0
-IsLineOrMemory number fault = (fault ≡ Line number) ⊎ (fault ≡ Memory)
+-- P holds of what was read, or of nothing, where the line of this number is blamed; or memory was
+-- refused
+abbrev pub Tells : {X : Type 0} → ℕ → (Option X → Type 0) → Result X Fault → Type 0
+Tells number P (Ok x) = P (Some x)
+Tells number P (Err fault) = (fault ≡ Memory) ⊎ ((fault ≡ Line number) × P None)

@@ -1,1 +1,3 @@
 pub mod Fault
+pub mod Line
+pub mod Text

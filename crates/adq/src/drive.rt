@@ -8,7 +8,7 @@ use arraydeque::behavior::Behavior;
 use arraydeque::run::Reply;
 use arraydeque::{ArrayDeque, Saturating, Wrapping};
 use std::alloc::Global;
-use std::io::{BufWriter, Read, Write};
+use std::io::{Read, Write};
 
 #[cfg(test)]
 mod tests;
@@ -101,18 +101,17 @@ fn read<R: Read + Drop>(alloc: Global, mut input: R) -> Result<Vec<u8>, Fault> {
 /// Prints the replies, and at last what the deque holds.
 fn print<W: Write + Drop, const CAP: usize, B: Behavior>(
     alloc: Global,
-    output: W,
+    mut output: W,
     replies: Vec<Reply<i64, CAP, B>>,
     deque: &ArrayDeque<i64, CAP, B>,
 ) -> Result<(), Fault> {
-    let Ok(mut output) = BufWriter::new(alloc, output) else {
-        return Err(Fault::Memory);
-    };
+    let mut text = String::new(alloc);
     for reply in replies {
-        print_reply(&mut output, reply)?;
+        print_reply(&mut text, reply)?;
     }
-    write!(output, "list: ")?;
-    print_deque(&mut output, deque)?;
+    text.push_str("list: ")?;
+    print_deque(&mut text, deque)?;
+    output.write_all(text.as_bytes())?;
     output.flush()?;
     Ok(())
 }

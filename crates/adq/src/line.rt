@@ -1,25 +1,52 @@
 //! Lines of text as calls of a deque.
-ghost use Rattle.std.specs.Prelude.{◌≡◌, ◌<◌, length, IfOk, IfErr, IfSome};
-ghost use Rattle.adq.specs.Fault.{IsLineOrMemory};
+ghost use Rattle.std.specs.Prelude.{◌≡◌, ◌<◌, ℕ, ◌+◌, ◌∷◌, ◌⊎◌, [], length, IfOk, IfErr, IfSome, MatchOption, option_map};
+ghost use Rattle.adq.specs.Fault.{Tells};
+ghost use Rattle.std.specs.Str.Lines.{strip_carriage_return};
+ghost use Rattle.adq.specs.declared.fault.Fault.TheVariants.{Memory};
+ghost use Rattle.adq.specs.Line.{lines_of, LineNames, LinesName, WordsName, IsFirstBad, words_of, index_of, value_of, one, two, values_of, plain, Names};
 
 use crate::fault::Fault;
 use arraydeque::run::Call;
 use std::alloc::Global;
 use std::str;
-use std::str::FromStr;
 
 /// The calls that the lines of `text` name, in order.
 ///
 /// A line ends at a line feed or at the end of the text, and one carriage return before that end is
 /// no part of it. A line without words names no call.
-pub fn calls(alloc: Global, text: &[u8]) -> Result<Vec<Call<i64>>, Fault> {
+pub fn calls(alloc: Global, text: &[u8]) -> Result<Vec<Call<i64>>, Fault>
+    ensures ok { IfOk result (λ calls. LinesName (lines_of text.now) calls.items) }
+    ensures bad { IfErr result (λ fault. (fault ≡ Memory)
+        ⊎ ((k : ℕ) × (fault ≡ Fault.Line (k + 1)) × IsFirstBad (lines_of text.now) k)) }
+{
     let mut calls = Vec::new(alloc);
     for (index, line) in text.split(|byte| *byte == b'\n').enumerate() {
-        if let Some(call) = Line::new(index + 1, line)?.call(alloc)? {
+        if let Some(call) = call_of(alloc, index + 1, line)? {
             calls.push(call)?;
         }
     }
     Ok(calls)
+}
+
+/// The call that the line of this number names, if it has words.
+fn call_of(alloc: Global, number: usize, bytes: &[u8]) -> Result<Option<Call<i64>>, Fault>
+    ensures { Tells number (LineNames (strip_carriage_return bytes.now)) result }
+{
+    let Ok(rest) = str::from_utf8(stripped(bytes)) else {
+        return Err(Fault::Line(number));
+    };
+    let mut line = Line { number, rest };
+    let Some(name) = line.word() else {
+        return Ok(None);
+    };
+    Ok(Some(line.call(name, alloc)?))
+}
+
+/// A line without the carriage return at its end.
+fn stripped(line: &[u8]) -> &[u8]
+    ensures { result.now ≡ strip_carriage_return line.now }
+{
+    line.strip_suffix(b"\r").unwrap_or(line)
 }
 
 /// A line that is read word by word. Words are parted by spaces.
@@ -30,86 +57,11 @@ struct Line<'a> {
 }
 
 impl<'a> Line<'a> {
-    fn new(number: usize, bytes: &'a [u8]) -> Result<Self, Fault>
-        ensures number { IfOk result (λ line. line.number ≡ number) }
-        ensures blamed { IfErr result (λ fault. fault ≡ Fault.Line number) }
-    {
-        let bytes = bytes.strip_suffix(b"\r").unwrap_or(bytes);
-        match str::from_utf8(bytes) {
-            Ok(rest) => Ok(Line { number, rest }),
-            Err(_) => Err(Fault::Line(number)),
-        }
-    }
-
-    /// The call that the whole line names, if it has words.
-    fn call(&mut self, alloc: Global) -> Result<Option<Call<i64>>, Fault>
-        ensures { IfErr result (IsLineOrMemory self.old.number) }
-    {
-        let Some(name) = self.word() else {
-            return Ok(None);
-        };
-        let call = self.call_named(name, alloc)?;
-        match self.word() {
-            Some(_) => Err(self.bad()),
-            None => Ok(Some(call)),
-        }
-    }
-
-    /// The call of this name, whose arguments are the words that follow.
-    fn call_named(&mut self, name: &str, alloc: Global) -> Result<Call<i64>, Fault>
-        ensures number { self.new.number ≡ self.old.number }
-        ensures blamed { IfErr result (IsLineOrMemory self.old.number) }
-    {
-        match name {
-            "push_front" => Ok(Call::PushFront(self.number()?)),
-            "push_back" => Ok(Call::PushBack(self.number()?)),
-            "pop_front" => Ok(Call::PopFront),
-            "pop_back" => Ok(Call::PopBack),
-            "insert" => Ok(Call::Insert(self.number()?, self.number()?)),
-            "remove" => Ok(Call::Remove(self.number()?)),
-            "swap_remove_back" => Ok(Call::SwapRemoveBack(self.number()?)),
-            "swap_remove_front" => Ok(Call::SwapRemoveFront(self.number()?)),
-            "swap" => Ok(Call::Swap(self.number()?, self.number()?)),
-            "replace" => Ok(Call::Replace(self.number()?, self.number()?)),
-            "clear" => Ok(Call::Clear),
-            "linearize" => Ok(Call::Linearize),
-            "extend_back" => Ok(Call::ExtendBack(self.numbers(alloc)?)),
-            "extend_front" => Ok(Call::ExtendFront(self.numbers(alloc)?)),
-            "extend" => Ok(Call::Extend(self.numbers(alloc)?)),
-            "drain" => Ok(Call::Drain(self.number()?, self.number()?)),
-            "split_off" => Ok(Call::SplitOff(self.number()?)),
-            "len" => Ok(Call::Len),
-            "capacity" => Ok(Call::Capacity),
-            "is_empty" => Ok(Call::IsEmpty),
-            "is_full" => Ok(Call::IsFull),
-            _ => Err(self.bad()),
-        }
-    }
-
-    /// Takes the words that are left, each of which must be a number.
-    fn numbers(&mut self, alloc: Global) -> Result<Vec<i64>, Fault>
-        ensures number { self.new.number ≡ self.old.number }
-        ensures blamed { IfErr result (IsLineOrMemory self.old.number) }
-    {
-        let mut numbers = Vec::new(alloc);
-        let rest = self.rest;
-        self.rest = "";
-        for word in rest.split(' ') {
-            if word.is_empty() {
-                continue;
-            }
-            match number_of(word) {
-                Some(number) => numbers.push(number)?,
-                None => return Err(self.bad()),
-            }
-        }
-        Ok(numbers)
-    }
-
     /// Takes the next word, if there is one.
     fn word(&mut self) -> Option<&'a str>
         ensures number { self.new.number ≡ self.old.number }
-        ensures some { IfSome result (λ word. 0 < length word.now) }
+        ensures words { MatchOption result (words_of self.old.rest.now ≡ [])
+            (λ word. words_of self.old.rest.now ≡ word.now ∷ words_of self.new.rest.now) }
     {
         let text = self.rest.trim_start_matches(' ');
         let (word, rest) = text.split_once(' ').unwrap_or((text, ""));
@@ -117,19 +69,129 @@ impl<'a> Line<'a> {
         if word.is_empty() { None } else { Some(word) }
     }
 
-    /// Takes the next word, which must be a number.
-    fn number<N: FromStr>(&mut self) -> Result<N, Fault>
-    where
-        N::Err: Drop,
-        ensures number { self.new.number ≡ self.old.number }
-        ensures blamed { IfErr result (λ fault. fault ≡ Fault.Line self.old.number) }
+    /// The call of this name, whose operands are the words that are left.
+    fn call(&mut self, name: &str, alloc: Global) -> Result<Call<i64>, Fault>
+        ensures { Tells self.old.number (Names name.now (words_of self.old.rest.now)) result }
+    {
+        match name {
+            "push_front" => Ok(Call::PushFront(self.value()?)),
+            "push_back" => Ok(Call::PushBack(self.value()?)),
+            "pop_front" => self.end(Call::PopFront),
+            "pop_back" => self.end(Call::PopBack),
+            "insert" => {
+                let (index, element) = self.index_and_value()?;
+                Ok(Call::Insert(index, element))
+            }
+            "remove" => Ok(Call::Remove(self.index()?)),
+            "swap_remove_back" => Ok(Call::SwapRemoveBack(self.index()?)),
+            "swap_remove_front" => Ok(Call::SwapRemoveFront(self.index()?)),
+            "swap" => {
+                let (i, j) = self.indexes()?;
+                Ok(Call::Swap(i, j))
+            }
+            "replace" => {
+                let (index, element) = self.index_and_value()?;
+                Ok(Call::Replace(index, element))
+            }
+            "clear" => self.end(Call::Clear),
+            "linearize" => self.end(Call::Linearize),
+            "extend_back" => Ok(Call::ExtendBack(self.values(alloc)?)),
+            "extend_front" => Ok(Call::ExtendFront(self.values(alloc)?)),
+            "extend" => Ok(Call::Extend(self.values(alloc)?)),
+            "drain" => {
+                let (from, to) = self.indexes()?;
+                Ok(Call::Drain(from, to))
+            }
+            "split_off" => Ok(Call::SplitOff(self.index()?)),
+            "len" => self.end(Call::Len),
+            "capacity" => self.end(Call::Capacity),
+            "is_empty" => self.end(Call::IsEmpty),
+            "is_full" => self.end(Call::IsFull),
+            _ => Err(self.bad()),
+        }
+    }
+
+    /// The call, if no word is left.
+    fn end(&mut self, call: Call<i64>) -> Result<Call<i64>, Fault>
+        ensures { Tells self.old.number (λ o. o ≡ plain call (words_of self.old.rest.now)) result }
+    {
+        match self.word() {
+            None => Ok(call),
+            Some(_) => Err(self.bad()),
+        }
+    }
+
+    /// The value that is the one word left.
+    fn value(&mut self) -> Result<i64, Fault>
+        ensures { Tells self.old.number (λ o. o ≡ one value_of (words_of self.old.rest.now)) result }
     {
         if let Some(word) = self.word()
-            && let Some(number) = number_of(word)
+            && let Some(value) = value_of(word)
+            && self.word().is_none()
         {
-            return Ok(number);
+            return Ok(value);
         }
         Err(self.bad())
+    }
+
+    /// The index that is the one word left.
+    fn index(&mut self) -> Result<usize, Fault>
+        ensures { Tells self.old.number (λ o. o ≡ one index_of (words_of self.old.rest.now)) result }
+    {
+        if let Some(word) = self.word()
+            && let Some(index) = index_of(word)
+            && self.word().is_none()
+        {
+            return Ok(index);
+        }
+        Err(self.bad())
+    }
+
+    /// The two indexes that are the words left.
+    fn indexes(&mut self) -> Result<(usize, usize), Fault>
+        ensures { Tells self.old.number
+            (λ o. o ≡ two index_of index_of (words_of self.old.rest.now)) result }
+    {
+        if let Some(first) = self.word()
+            && let Some(second) = self.word()
+            && let Some(i) = index_of(first)
+            && let Some(j) = index_of(second)
+            && self.word().is_none()
+        {
+            return Ok((i, j));
+        }
+        Err(self.bad())
+    }
+
+    /// The index and the value that are the words left.
+    fn index_and_value(&mut self) -> Result<(usize, i64), Fault>
+        ensures { Tells self.old.number
+            (λ o. o ≡ two index_of value_of (words_of self.old.rest.now)) result }
+    {
+        if let Some(first) = self.word()
+            && let Some(second) = self.word()
+            && let Some(index) = index_of(first)
+            && let Some(value) = value_of(second)
+            && self.word().is_none()
+        {
+            return Ok((index, value));
+        }
+        Err(self.bad())
+    }
+
+    /// The values that are the words left.
+    fn values(&mut self, alloc: Global) -> Result<Vec<i64>, Fault>
+        ensures { Tells self.old.number (λ o.
+            option_map (λ v. v.items) o ≡ values_of (words_of self.old.rest.now)) result }
+    {
+        let mut values = Vec::new(alloc);
+        while let Some(word) = self.word() {
+            match value_of(word) {
+                Some(value) => values.push(value)?,
+                None => return Err(self.bad()),
+            }
+        }
+        Ok(values)
     }
 
     fn bad(&self) -> Fault
@@ -139,11 +201,19 @@ impl<'a> Line<'a> {
     }
 }
 
-/// The decimal number that a word is, if it is within the range of its type. `parse` alone would
-/// take a `+` before it.
-fn number_of<N: FromStr>(word: &str) -> Option<N>
-where
-    N::Err: Drop,
+/// The value that a word writes. `parse` alone would take a `+` before it.
+fn value_of(word: &str) -> Option<i64>
+    ensures { result ≡ value_of word.now }
+{
+    if word.starts_with('+') {
+        return None;
+    }
+    word.parse().ok()
+}
+
+/// The index that a word writes.
+fn index_of(word: &str) -> Option<usize>
+    ensures { result ≡ index_of word.now }
 {
     if word.starts_with('+') {
         return None;

@@ -1,56 +1,90 @@
 //! Replies and lists as lines of text.
-ghost use Rattle.std.specs.Iterator.{IsFinite};
+ghost use Rattle.std.specs.Prelude.{◌≡◌, [], ◌++◌, OnOk, codes, string_bytes, if◌then◌else◌};
+ghost use Rattle.std.specs.Fmt.{signed_decimal};
+ghost use Rattle.arraydeque.specs.Machine.{answer_of};
+ghost use Rattle.adq.specs.Text.{text_of, list_text, item_text, line_of};
 
-use arraydeque::ArrayDeque;
 use arraydeque::behavior::Behavior;
 use arraydeque::run::Reply;
-use std::io;
-use std::io::Write;
+use arraydeque::{ArrayDeque, Drain};
+use std::alloc::AllocError;
+use std::fmt::Write;
 
-/// Writes one reply as a line.
-pub fn print_reply<W: Write, const CAP: usize, B: Behavior>(
-    output: &mut W,
+/// Appends one reply as a line.
+pub fn print_reply<const CAP: usize, B: Behavior>(
+    text: &mut String,
     reply: Reply<i64, CAP, B>,
-) -> io::Result<()> {
+) -> Result<(), AllocError>
+    ensures { OnOk result (string_bytes text.new
+        ≡ string_bytes text.old ++ line_of (text_of (answer_of reply))) }
+{
     match reply {
-        Reply::Done => writeln!(output, "ok"),
-        Reply::Item(Some(item)) | Reply::Displaced(Some(item)) => writeln!(output, "{item}"),
-        Reply::Item(None) | Reply::Displaced(None) => writeln!(output, "none"),
-        Reply::Number(number) => writeln!(output, "{number}"),
-        Reply::Truth(truth) => writeln!(output, "{truth}"),
-        Reply::Drained(items) => print_list(output, items),
-        Reply::Split(deque) => print_deque(output, &deque),
+        Reply::Done => writeln!(text, "ok"),
+        Reply::Item(item) | Reply::Displaced(item) => print_item(text, item),
+        Reply::Number(number) => writeln!(text, "{number}"),
+        Reply::Truth(truth) => writeln!(text, "{truth}"),
+        Reply::Drained(items) => print_drained(text, items),
+        Reply::Split(deque) => print_deque(text, &deque),
         Reply::Full(refusal) => {
             let element = refusal.element;
-            writeln!(output, "full {element}")
+            writeln!(text, "full {element}")
         }
-        Reply::OutOfRange(_) => writeln!(output, "range"),
-        Reply::NoMemory => writeln!(output, "memory"),
-        Reply::NotOffered(_) => writeln!(output, "unoffered"),
+        Reply::OutOfRange(_) => writeln!(text, "range"),
+        Reply::NoMemory => writeln!(text, "memory"),
+        Reply::NotOffered(_) => writeln!(text, "unoffered"),
     }
 }
 
-/// Writes the items of a deque as a line, like `[1, 2, 3]`.
-pub fn print_deque<W: Write, const CAP: usize, B: Behavior>(
-    output: &mut W,
-    deque: &ArrayDeque<i64, CAP, B>,
-) -> io::Result<()> {
-    let (front, back) = deque.as_slices();
-    print_list(output, front.iter().chain(back).copied())
+/// Appends an item, if there is one.
+fn print_item(text: &mut String, item: Option<i64>) -> Result<(), AllocError>
+    ensures { OnOk result (string_bytes text.new
+        ≡ string_bytes text.old ++ line_of (item_text item)) }
+{
+    match item {
+        Some(item) => writeln!(text, "{item}"),
+        None => writeln!(text, "none"),
+    }
 }
 
-fn print_list<W: Write, I: Iterator<Item = i64>>(output: &mut W, items: I) -> io::Result<()>
-    requires can { I.can_next items }
-    requires ends { IsFinite (I.remaining items) }
+/// Appends the items of a deque as a line, like `[1, 2, 3]`.
+pub fn print_deque<const CAP: usize, B: Behavior>(
+    text: &mut String,
+    deque: &ArrayDeque<i64, CAP, B>,
+) -> Result<(), AllocError>
+    ensures { OnOk result (string_bytes text.new
+        ≡ string_bytes text.old ++ line_of (list_text deque.now.items)) }
 {
-    write!(output, "[")?;
+    write!(text, "[")?;
+    let mut is_first = true;
+    for item in deque.iter() {
+        print_next(text, is_first, *item)?;
+        is_first = false;
+    }
+    writeln!(text, "]")
+}
+
+/// Appends the items that a drain removed, likewise.
+fn print_drained(text: &mut String, items: Drain<i64>) -> Result<(), AllocError>
+    ensures { OnOk result (string_bytes text.new
+        ≡ string_bytes text.old ++ line_of (list_text items)) }
+{
+    write!(text, "[")?;
     let mut is_first = true;
     for item in items {
-        if !is_first {
-            write!(output, ", ")?;
-        }
+        print_next(text, is_first, item)?;
         is_first = false;
-        write!(output, "{item}")?;
     }
-    writeln!(output, "]")
+    writeln!(text, "]")
+}
+
+/// Appends an item of a list, parted from the one before.
+fn print_next(text: &mut String, is_first: bool, item: i64) -> Result<(), AllocError>
+    ensures { OnOk result (string_bytes text.new ≡ string_bytes text.old
+        ++ ((if is_first then [] else codes ", ") ++ signed_decimal item)) }
+{
+    if is_first {
+        write!(text, "{item}")
+    } else {
+        write!(text, ", {item}")
+    }
 }

@@ -1,0 +1,4 @@
+pub mod FirstWord
+pub mod LinesRead
+pub mod ListText
+pub mod Numbers

@@ -1,0 +1,7 @@
+use Rattle.std.proofs.Common.{lit<, ◌∙◌}
+use Rattle.std.proofs.lemmas.Str.Pattern.{starts_char}
+use Rattle.adq.proofs.Numbers.{value_read}
+use Rattle.adq.proofs.line.value_of.Goals as goal
+
+pub returns : goal.returns
+returns c = c.ok.ensures.value ∙ value_read c.args.word.now _ _ (starts_char 43 _ _ c.starts_with.ensures.cases (lit< tt) (lit< tt)) c.if-starts_with.false c.parse.ensures.value.0
