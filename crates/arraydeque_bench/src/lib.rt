@@ -4,8 +4,14 @@
 #![tactic(auto)]
 
 mod ends;
+mod exchanges;
 mod exports;
 mod items;
+mod lent;
 mod lists;
 mod middle;
+mod owned;
 mod parts;
+mod tasks;
+mod turns;
+mod walks;
