@@ -29,7 +29,7 @@ impl Item for u64 {
 }
 
 /// Sixty-four bytes.
-#[derive(Clone, Copy, PartialEq, Eq, Hash)]
+#[derive(Clone, Copy, PartialEq, Eq, PartialOrd, Ord, Hash)]
 pub struct Block([u64; 8]);
 
 impl Item for Block {
@@ -41,6 +41,43 @@ impl Item for Block {
     fn number(&self) -> u64 {
         self.0[0]
     }
+}
+
+/// An item that owns memory.
+pub trait Owned: Clone + 'static {
+    fn make(number: u64) -> Self;
+    fn told(&self) -> u64;
+}
+
+impl Owned for Box<u64> {
+    fn make(number: u64) -> Box<u64> {
+        Box::new(number)
+    }
+    #[inline]
+    fn told(&self) -> u64 {
+        **self
+    }
+}
+
+impl Owned for String {
+    fn make(number: u64) -> String {
+        String::from(if number % 2 == 0 { "an even number's text" } else { "a text of an odd number" })
+    }
+    #[inline]
+    fn told(&self) -> u64 {
+        self.len() as u64
+    }
+}
+
+/// How many bytes go through a pipe at a time.
+pub trait Piece {
+    const LEN: usize;
+}
+
+pub struct Bytes<const LEN: usize>;
+
+impl<const LEN: usize> Piece for Bytes<LEN> {
+    const LEN: usize = LEN;
 }
 
 /// The next of a row of numbers that look random.

@@ -4,7 +4,7 @@ mod items;
 mod peers;
 mod works;
 
-use items::Block;
+use items::{Block, Bytes};
 use peers::{Bounded, Crate};
 use std::hint::black_box;
 use std::io::Write;
@@ -35,8 +35,14 @@ impl Figures {
     }
 }
 
+/// The items of a workload, unless it names another kind to go by.
+macro_rules! kind_or {
+    ($item:ty) => { $item };
+    ($item:ty, $kind:ty) => { $kind };
+}
+
 macro_rules! workloads {
-    ($list:ident, $work:ident, $export:ident, $agrees:literal, $(($bytes:literal, $item:ty, $capacity:literal)),+) => {{
+    ($list:ident, $work:ident, $export:ident, $agrees:literal, $(($bytes:literal, $item:ty, $capacity:literal $(, $kind:ty)?)),+) => {{
         unsafe extern "C" {
             fn $export(bytes: usize, capacity: usize, rounds: usize) -> u64;
         }
@@ -45,8 +51,8 @@ macro_rules! workloads {
             // SAFETY: the declaration fits the export, which asks for nothing.
             ours: Box::new(|rounds| unsafe { $export($bytes, $capacity, rounds) }),
             peers: [
-                works::$work::<$item, Crate<$item, $capacity>, $capacity>,
-                works::$work::<$item, Bounded<$item, $capacity>, $capacity>,
+                works::$work::<kind_or!($item $(, $kind)?), Crate<$item, $capacity>, $capacity>,
+                works::$work::<kind_or!($item $(, $kind)?), Bounded<$item, $capacity>, $capacity>,
             ],
             agrees: $agrees,
         });)+
@@ -63,7 +69,8 @@ macro_rules! of_all_items {
     };
 }
 
-fn workloads() -> Vec<Workload> {
+/// Those that make the first mean.
+fn first_workloads() -> Vec<Workload> {
     let mut list = Vec::new();
     of_all_items!(list, queue, arraydeque_bench_queue, (8, u64, 64), (8, u64, 1000000));
     of_all_items!(list, ends, arraydeque_bench_ends);
@@ -92,6 +99,103 @@ fn workloads() -> Vec<Workload> {
     list
 }
 
+/// At a small and a very small capacity.
+macro_rules! of_few_items {
+    ($list:ident, $work:ident, $export:ident $(, $more:tt)*) => {
+        workloads!($list, $work, $export, true, (8, u64, 64), (8, u64, 16) $(, $more)*)
+    };
+}
+
+/// At all sizes and capacities.
+macro_rules! of_all_lists {
+    ($list:ident, $work:ident, $export:ident $(, $more:tt)*) => {
+        of_all_items!($list, $work, $export, (8, u64, 64), (8, u64, 16) $(, $more)*)
+    };
+}
+
+/// Boxes and texts.
+macro_rules! of_owned_items {
+    ($list:ident, $work:ident, $export:ident) => {
+        workloads!(
+            $list, $work, $export, true,
+            (100, Box<u64>, 64), (100, Box<u64>, 1024), (101, String, 64), (101, String, 1024)
+        )
+    };
+}
+
+/// Pieces of bytes.
+macro_rules! of_pieces {
+    ($list:ident, $work:ident, $export:ident) => {
+        workloads!(
+            $list, $work, $export, true,
+            (16, u8, 8192, Bytes<16>), (256, u8, 8192, Bytes<256>), (4096, u8, 8192, Bytes<4096>)
+        )
+    };
+}
+
+/// The first workloads again at other capacities, and what else users do.
+fn further_workloads() -> Vec<Workload> {
+    let mut list = Vec::new();
+    workloads!(list, queue, arraydeque_bench_queue, true, (8, u64, 16));
+    workloads!(list, get, arraydeque_bench_get, true, (8, u64, 16));
+    of_few_items!(list, history, arraydeque_bench_history, (8, u64, 1000000));
+    of_few_items!(list, index, arraydeque_bench_index);
+    of_few_items!(list, iterate, arraydeque_bench_iterate, (8, u64, 1000000));
+    of_few_items!(list, iterate_mut, arraydeque_bench_iterate_mut, (8, u64, 1000000));
+    of_few_items!(list, middle, arraydeque_bench_middle);
+    of_few_items!(list, random, arraydeque_bench_random);
+    of_few_items!(list, extend_slice, arraydeque_bench_extend_slice);
+    of_few_items!(list, extend_front, arraydeque_bench_extend_front);
+    of_few_items!(list, drain_middle, arraydeque_bench_drain_middle);
+    of_few_items!(list, drain_all, arraydeque_bench_drain_all);
+    of_few_items!(list, split_off, arraydeque_bench_split_off);
+    of_few_items!(list, retain, arraydeque_bench_retain);
+    of_few_items!(list, linearize, arraydeque_bench_linearize);
+    of_few_items!(list, clone, arraydeque_bench_clone);
+    of_few_items!(list, equal, arraydeque_bench_equal);
+    workloads!(list, hash, arraydeque_bench_hash, false, (8, u64, 64), (8, u64, 16));
+    of_all_lists!(list, fold, arraydeque_bench_fold, (8, u64, 1000000));
+    of_all_lists!(list, reversed, arraydeque_bench_reversed);
+    of_all_lists!(list, zipped, arraydeque_bench_zipped);
+    of_all_lists!(list, add_each, arraydeque_bench_add_each, (8, u64, 1000000));
+    of_all_lists!(list, contains, arraydeque_bench_contains, (8, u64, 1000000));
+    workloads!(
+        list, compare, arraydeque_bench_compare, true,
+        (1, u8, 1024), (8, u64, 1024), (8, u64, 1000), (8, u64, 64), (8, u64, 16)
+    );
+    of_all_lists!(list, swap, arraydeque_bench_swap, (8, u64, 1000000));
+    of_all_lists!(list, swap_remove_back, arraydeque_bench_swap_remove_back, (8, u64, 1000000));
+    of_all_lists!(list, swap_remove_front, arraydeque_bench_swap_remove_front, (8, u64, 1000000));
+    of_all_lists!(list, index_mut, arraydeque_bench_index_mut, (8, u64, 1000000));
+    of_all_lists!(list, get_mut, arraydeque_bench_get_mut, (8, u64, 1000000));
+    of_all_lists!(list, from_vec, arraydeque_bench_from_vec);
+    of_all_lists!(list, into_vec, arraydeque_bench_into_vec);
+    of_all_lists!(list, vec_and_back, arraydeque_bench_vec_and_back);
+    of_all_lists!(list, into_items, arraydeque_bench_into_items);
+    of_all_lists!(list, into_ends, arraydeque_bench_into_ends);
+    of_few_items!(list, from_array, arraydeque_bench_from_array, (8, u64, 1000), (8, u64, 1024));
+    of_all_lists!(list, lent_queue, arraydeque_bench_lent_queue);
+    of_all_lists!(list, lent_history, arraydeque_bench_lent_history);
+    of_all_lists!(list, drain_four, arraydeque_bench_drain_four);
+    of_all_lists!(list, split_append, arraydeque_bench_split_append);
+    of_owned_items!(list, owned_queue, arraydeque_bench_owned_queue);
+    of_owned_items!(list, owned_clone, arraydeque_bench_owned_clone);
+    of_owned_items!(list, owned_clear, arraydeque_bench_owned_clear);
+    of_owned_items!(list, owned_insert, arraydeque_bench_owned_insert);
+    of_owned_items!(list, owned_retain, arraydeque_bench_owned_retain);
+    of_owned_items!(list, owned_drain, arraydeque_bench_owned_drain);
+    of_pieces!(list, pipe, arraydeque_bench_pipe);
+    of_pieces!(list, pipe_popping, arraydeque_bench_pipe_popping);
+    of_pieces!(list, pipe_wrapping, arraydeque_bench_pipe_wrapping);
+    workloads!(list, linearize_1, arraydeque_bench_linearize_1, true, (1, u8, 1024), (8, u64, 1024), (64, Block, 1024));
+    workloads!(list, linearize_8, arraydeque_bench_linearize_8, true, (1, u8, 1024), (8, u64, 1024), (64, Block, 1024));
+    workloads!(list, linearize_64, arraydeque_bench_linearize_64, true, (1, u8, 1024), (8, u64, 1024), (64, Block, 1024));
+    workloads!(list, window, arraydeque_bench_window, true, (8, u64, 64), (8, u64, 1000), (8, u64, 1024));
+    workloads!(list, run, arraydeque_bench_run, true, (8, u64, 64), (8, u64, 1000), (8, u64, 1024));
+    workloads!(list, scan, arraydeque_bench_scan, true, (1, u8, 1));
+    list
+}
+
 fn timed(work: &dyn Fn(usize) -> u64, rounds: usize) -> Duration {
     let start = Instant::now();
     black_box(work(black_box(rounds)));
@@ -114,7 +218,8 @@ fn rounds_of(work: &dyn Fn(usize) -> u64) -> usize {
 
 fn measured(workload: &Workload, repetitions: usize) -> Figures {
     let works: [&dyn Fn(usize) -> u64; 3] = [&workload.ours, &workload.peers[0], &workload.peers[1]];
-    for rounds in [0, 1, 2, 7, 1000] {
+    let long = timed(works[0], 1) > RUN / 8;
+    for &rounds in if long { &[0, 1, 2, 7][..] } else { &[0, 1, 2, 7, 1000] } {
         let sums = works.map(|work| work(rounds));
         assert!(
             !workload.agrees || sums == [sums[0]; 3],
@@ -142,11 +247,26 @@ fn geometric_mean(ratios: impl Iterator<Item = f64>) -> f64 {
     (logarithms.iter().sum::<f64>() / logarithms.len() as f64).exp()
 }
 
-fn measure(wanted: &str, repetitions: usize) -> std::io::Result<()> {
-    let workloads: Vec<Workload> =
-        workloads().into_iter().filter(|workload| workload.name.contains(wanted)).collect();
-    println!("| Workload | ours, ns | crate, ns | `VecDeque`, ns | ours / crate | ours / `VecDeque` |");
-    println!("|---|---|---|---|---|---|");
+/// A line that goes to the terminal and into the table.
+fn put(table: &mut String, line: &str) {
+    println!("{line}");
+    table.push_str(line);
+    table.push('\n');
+}
+
+fn mean_line(what: &str, figures: &[Figures]) -> String {
+    let means = [0, 1].map(|peer| geometric_mean(figures.iter().map(|figures| figures.ratio(peer))));
+    format!("| geometric mean of {what} {} | | | | {:.2} | {:.2} |", figures.len(), means[0], means[1])
+}
+
+fn measure(wanted: &str, repetitions: usize, writes: bool) -> std::io::Result<()> {
+    let (first, further) = (first_workloads(), further_workloads());
+    let fits = |workload: &Workload| workload.name.contains(wanted);
+    let count_first = first.iter().filter(|workload| fits(workload)).count();
+    let workloads: Vec<Workload> = first.into_iter().chain(further).filter(fits).collect();
+    let mut table = String::new();
+    put(&mut table, "| Workload | ours, ns | crate, ns | `VecDeque`, ns | ours / crate | ours / `VecDeque` |");
+    put(&mut table, "|---|---|---|---|---|---|");
     let mut all = Vec::new();
     for (done, workload) in workloads.iter().enumerate() {
         eprint!("\r{}/{} {:<60}", done + 1, workloads.len(), workload.name);
@@ -154,25 +274,72 @@ fn measure(wanted: &str, repetitions: usize) -> std::io::Result<()> {
         let [ours, rust, std] = figures.nanoseconds;
         let (to_rust, to_std) = (figures.ratio(0), figures.ratio(1));
         eprint!("\r{:<70}\r", "");
-        println!("| {} | {ours:.2} | {rust:.2} | {std:.2} | {to_rust:.2} | {to_std:.2} |", figures.name);
+        put(
+            &mut table,
+            &format!("| {} | {ours:.2} | {rust:.2} | {std:.2} | {to_rust:.2} | {to_std:.2} |", figures.name),
+        );
         all.push(figures);
     }
-    let means = [0, 1].map(|peer| geometric_mean(all.iter().map(|figures| figures.ratio(peer))));
-    println!("| geometric mean of {} | | | | {:.2} | {:.2} |", all.len(), means[0], means[1]);
+    if count_first > 0 && count_first < all.len() {
+        put(&mut table, &mean_line("the first", &all[..count_first]));
+    }
+    put(&mut table, &mean_line("all", &all));
+    if !writes || !wanted.is_empty() {
+        return Ok(());
+    }
     let mut csv = std::fs::File::create("figures.csv")?;
     writeln!(csv, "workload;ours ns;crate ns;VecDeque ns")?;
     for Figures { name, nanoseconds: [ours, rust, std] } in &all {
         writeln!(csv, "{name};{ours:.3};{rust:.3};{std:.3}")?;
     }
+    std::fs::write("figures.md", format!("# The figures\n\nWritten by `bench/run`; [README.md](README.md) says what they mean.\n\n{table}"))?;
     std::fs::write("chart.svg", chart::drawn(&all))
+}
+
+/// Makes rounds of one workload by ours alone, for another program to count its instructions.
+fn once(name: &str, rounds: usize) {
+    let scaled = scale_workloads();
+    let work = scaled.iter().find(|(known, _)| known == name).expect("a workload of the scale");
+    black_box((work.1)(black_box(rounds)));
+}
+
+type Ours = Box<dyn Fn(usize) -> u64>;
+
+/// Work whose cost is not to grow with the capacity.
+fn scale_workloads() -> Vec<(String, Ours)> {
+    let mut list: Vec<(String, Ours)> = Vec::new();
+    macro_rules! scaled {
+        ($export:ident) => {
+            unsafe extern "C" {
+                fn $export(capacity: usize, rounds: usize) -> u64;
+            }
+            for capacity in [64, 1024, 65536, 1048576] {
+                let name = format!("{}_{capacity}", stringify!($export).trim_start_matches("arraydeque_scale_"));
+                // SAFETY: the declaration fits the export, which asks for nothing.
+                list.push((name, Box::new(move |rounds| unsafe { $export(capacity, rounds) })));
+            }
+        };
+    }
+    scaled!(arraydeque_scale_push);
+    scaled!(arraydeque_scale_pop);
+    scaled!(arraydeque_scale_get);
+    scaled!(arraydeque_scale_insert);
+    list
 }
 
 fn main() {
     let words: Vec<String> = std::env::args().skip(1).collect();
+    if let [word, name, rounds] = &words[..]
+        && word == "--once"
+    {
+        return once(name, rounds.parse().expect("a number of rounds"));
+    }
+    let writes = std::env::var_os("ARRAYDEQUE_BENCH_CPU").is_none();
     let wanted = words.first().cloned().unwrap_or_default();
     let repetitions = words.get(1).and_then(|word| word.parse().ok()).unwrap_or(51);
     // A peer lies on the stack whole, and the largest has a million items.
-    let measuring = std::thread::Builder::new().stack_size(1 << 28).spawn(move || measure(&wanted, repetitions));
+    let measuring =
+        std::thread::Builder::new().stack_size(1 << 28).spawn(move || measure(&wanted, repetitions, writes));
     let ended = measuring.expect("a thread").join().expect("all sums agree");
     ended.expect("the figures can be written");
 }

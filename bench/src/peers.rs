@@ -19,6 +19,17 @@ pub trait Peer<T>: Sized {
     fn at(&self, index: usize) -> &T;
     fn back(&self) -> Option<&T>;
     fn back_mut(&mut self) -> Option<&mut T>;
+    fn get_mut(&mut self, index: usize) -> Option<&mut T>;
+    fn at_mut(&mut self, index: usize) -> &mut T;
+    fn contains(&self, item: &T) -> bool
+    where
+        T: PartialEq;
+    fn swap(&mut self, i: usize, j: usize);
+    fn swap_remove_back(&mut self, index: usize) -> Option<T>;
+    fn swap_remove_front(&mut self, index: usize) -> Option<T>;
+    fn from_vec(items: Vec<T>) -> Self;
+    fn from_array<const N: usize>(items: [T; N]) -> Self;
+    fn into_vec(self) -> Vec<T>;
     fn insert(&mut self, index: usize, item: T) -> bool;
     fn remove(&mut self, index: usize) -> Option<T>;
     fn extend_back(&mut self, items: impl IntoIterator<Item = T>);
@@ -26,9 +37,9 @@ pub trait Peer<T>: Sized {
     fn clear(&mut self);
     fn drain(&mut self, range: Range<usize>) -> impl Iterator<Item = T>;
     fn split_off(&mut self, at: usize) -> Self;
-    fn into_items(self) -> impl Iterator<Item = T>;
+    fn into_items(self) -> impl DoubleEndedIterator<Item = T>;
     fn retain(&mut self, keeps: impl FnMut(&T) -> bool);
-    fn iter<'a>(&'a self) -> impl Iterator<Item = &'a T>
+    fn iter<'a>(&'a self) -> impl DoubleEndedIterator<Item = &'a T>
     where
         T: 'a;
     fn iter_mut<'a>(&'a mut self) -> impl Iterator<Item = &'a mut T>
@@ -79,6 +90,45 @@ macro_rules! shared {
             self.0.back_mut()
         }
         #[inline]
+        fn get_mut(&mut self, index: usize) -> Option<&mut T> {
+            self.0.get_mut(index)
+        }
+        #[inline]
+        fn at_mut(&mut self, index: usize) -> &mut T {
+            &mut self.0[index]
+        }
+        #[inline]
+        fn contains(&self, item: &T) -> bool
+        where
+            T: PartialEq,
+        {
+            self.0.contains(item)
+        }
+        #[inline]
+        fn swap(&mut self, i: usize, j: usize) {
+            self.0.swap(i, j);
+        }
+        #[inline]
+        fn swap_remove_back(&mut self, index: usize) -> Option<T> {
+            self.0.swap_remove_back(index)
+        }
+        #[inline]
+        fn swap_remove_front(&mut self, index: usize) -> Option<T> {
+            self.0.swap_remove_front(index)
+        }
+        #[inline]
+        fn from_vec(items: Vec<T>) -> Self {
+            Self(items.into())
+        }
+        #[inline]
+        fn from_array<const N: usize>(items: [T; N]) -> Self {
+            Self(items.into())
+        }
+        #[inline]
+        fn into_vec(self) -> Vec<T> {
+            self.0.into()
+        }
+        #[inline]
         fn remove(&mut self, index: usize) -> Option<T> {
             self.0.remove(index)
         }
@@ -95,7 +145,7 @@ macro_rules! shared {
             Self(self.0.split_off(at))
         }
         #[inline]
-        fn into_items(self) -> impl Iterator<Item = T> {
+        fn into_items(self) -> impl DoubleEndedIterator<Item = T> {
             self.0.into_iter()
         }
         #[inline]
@@ -103,7 +153,7 @@ macro_rules! shared {
             self.0.retain(keeps);
         }
         #[inline]
-        fn iter<'a>(&'a self) -> impl Iterator<Item = &'a T>
+        fn iter<'a>(&'a self) -> impl DoubleEndedIterator<Item = &'a T>
         where
             T: 'a,
         {
@@ -128,7 +178,7 @@ macro_rules! shared {
 }
 
 /// The Rust crate arraydeque.
-#[derive(Clone, PartialEq, Eq, Hash)]
+#[derive(Clone, PartialEq, Eq, PartialOrd, Ord, Hash)]
 pub struct Crate<T, const CAP: usize>(ArrayDeque<T, CAP, Saturating>);
 
 impl<T, const CAP: usize> Peer<T> for Crate<T, CAP> {
@@ -184,7 +234,7 @@ impl<T, const CAP: usize> History<T> for ArrayDeque<T, CAP, Wrapping> {
 }
 
 /// std's `VecDeque`, bounded by hand.
-#[derive(Clone, PartialEq, Eq, Hash)]
+#[derive(Clone, PartialEq, Eq, PartialOrd, Ord, Hash)]
 pub struct Bounded<T, const CAP: usize>(VecDeque<T>);
 
 impl<T, const CAP: usize> Peer<T> for Bounded<T, CAP> {

@@ -1,7 +1,8 @@
 //! The workloads, each as in the proved crate, over a peer.
-use crate::items::{Item, counted, scrambled};
+use crate::items::{Item, Owned, Piece, counted, scrambled};
 use crate::peers::{History, Peer};
 use std::hash::{DefaultHasher, Hash, Hasher};
+use std::hint::black_box;
 
 fn peer_at<T: Item, D: Peer<T>>(start: usize, len: usize) -> D {
     let mut deque = D::new();
@@ -323,6 +324,549 @@ pub fn clone<T: Item, D: Peer<T> + Clone, const CAP: usize>(rounds: usize) -> u6
         sum = sum.wrapping_add(clone.second_slice().len() as u64);
         if let Some(item) = clone.back() {
             sum = sum.wrapping_add(item.number());
+        }
+    }
+    sum
+}
+
+pub fn fold<T: Item, D: Peer<T>, const CAP: usize>(rounds: usize) -> u64 {
+    let deque: D = peer_at(CAP / 2, CAP);
+    let mut sum = 0u64;
+    for round in 0..rounds as u64 {
+        sum = deque.iter().fold(sum, |sum, item| sum.wrapping_add(item.number() ^ round));
+    }
+    sum
+}
+
+pub fn reversed<T: Item, D: Peer<T>, const CAP: usize>(rounds: usize) -> u64 {
+    let deque: D = peer_at(CAP / 2, CAP);
+    let mut sum = 0u64;
+    for round in 0..rounds as u64 {
+        for item in deque.iter().rev() {
+            sum = sum.wrapping_add(item.number() ^ round);
+        }
+    }
+    sum
+}
+
+pub fn zipped<T: Item, D: Peer<T>, const CAP: usize>(rounds: usize) -> u64 {
+    let deque: D = peer_at(CAP / 2, CAP);
+    let other: D = peer_at(CAP / 3, CAP);
+    let mut sum = 0u64;
+    for round in 0..rounds as u64 {
+        for (left, right) in deque.iter().zip(other.iter()) {
+            sum = sum.wrapping_add(left.number() ^ right.number() ^ round);
+        }
+    }
+    sum
+}
+
+pub fn add_each<T: Item, D: Peer<T>, const CAP: usize>(rounds: usize) -> u64 {
+    let mut deque: D = peer_at(CAP / 2, CAP);
+    let mut sum = 0u64;
+    for _ in 0..rounds {
+        for item in deque.iter_mut() {
+            *item = T::of(item.number().wrapping_add(1));
+        }
+        sum = sum.wrapping_add(last_number(&deque));
+    }
+    sum
+}
+
+pub fn contains<T: Item + PartialEq, D: Peer<T>, const CAP: usize>(rounds: usize) -> u64 {
+    let mut deque: D = peer_at(CAP / 2, CAP);
+    for item in deque.iter_mut() {
+        *item = T::of(item.number() & 127);
+    }
+    let mut sum = 0u64;
+    for round in 0..rounds as u64 {
+        let sought = T::of(128 | (round & 63));
+        sum = sum.wrapping_add(if deque.contains(&sought) { 1 } else { 2 });
+    }
+    sum
+}
+
+pub fn compare<T: Item + Ord, D: Peer<T> + Ord, const CAP: usize>(rounds: usize) -> u64 {
+    let mut deque: D = peer_at(0, CAP);
+    let other: D = peer_at(CAP / 3, CAP);
+    let mut sum = 0u64;
+    for round in 0..rounds as u64 {
+        if let Some(item) = deque.back_mut() {
+            *item = T::of((CAP as u64).wrapping_sub(1 + round % 2));
+        }
+        sum = sum.wrapping_add(if deque.cmp(&other).is_lt() { 1 } else { 2 });
+    }
+    sum
+}
+
+fn place_of<const CAP: usize>(state: u64) -> usize {
+    (state >> 32) as usize % CAP
+}
+
+fn sum_of<T: Item, D: Peer<T>>(deque: &D) -> u64 {
+    deque.iter().fold(0u64, |sum, item| sum.wrapping_mul(3).wrapping_add(item.number()))
+}
+
+pub fn swap<T: Item, D: Peer<T>, const CAP: usize>(rounds: usize) -> u64 {
+    let mut deque: D = peer_at(CAP / 2, CAP);
+    let mut state = 1u64;
+    for _ in 0..rounds {
+        state = scrambled(state);
+        let (i, j) = (place_of::<CAP>(state), place_of::<CAP>(state << 20));
+        if i < deque.len() && j < deque.len() {
+            deque.swap(i, j);
+        }
+    }
+    sum_of(&deque)
+}
+
+pub fn swap_remove_back<T: Item, D: Peer<T>, const CAP: usize>(rounds: usize) -> u64 {
+    let mut deque: D = peer_at(CAP / 2, CAP);
+    let mut state = 1u64;
+    for _ in 0..rounds {
+        state = scrambled(state);
+        if let Some(item) = deque.swap_remove_back(place_of::<CAP>(state)) {
+            deque.push_back(item);
+        }
+    }
+    sum_of(&deque)
+}
+
+pub fn swap_remove_front<T: Item, D: Peer<T>, const CAP: usize>(rounds: usize) -> u64 {
+    let mut deque: D = peer_at(CAP / 2, CAP);
+    let mut state = 1u64;
+    for _ in 0..rounds {
+        state = scrambled(state);
+        if let Some(item) = deque.swap_remove_front(place_of::<CAP>(state)) {
+            deque.push_front(item);
+        }
+    }
+    sum_of(&deque)
+}
+
+pub fn index_mut<T: Item, D: Peer<T>, const CAP: usize>(rounds: usize) -> u64 {
+    let mut deque: D = peer_at(CAP / 2, CAP);
+    let mut state = 1u64;
+    for _ in 0..rounds {
+        state = scrambled(state);
+        let i = place_of::<CAP>(state);
+        if i < deque.len() {
+            let number = deque.at(i).number();
+            *deque.at_mut(i) = T::of(number.wrapping_add(1));
+        }
+    }
+    sum_of(&deque)
+}
+
+pub fn get_mut<T: Item, D: Peer<T>, const CAP: usize>(rounds: usize) -> u64 {
+    let mut deque: D = peer_at(CAP / 2, CAP);
+    let mut state = 1u64;
+    for _ in 0..rounds {
+        state = scrambled(state);
+        if let Some(item) = deque.get_mut(place_of::<CAP>(state)) {
+            *item = T::of(item.number().wrapping_add(1));
+        }
+    }
+    sum_of(&deque)
+}
+
+pub fn from_vec<T: Item, D: Peer<T>, const CAP: usize>(rounds: usize) -> u64 {
+    let mut sum = 0u64;
+    for _ in 0..rounds {
+        let deque = D::from_vec(counted::<T>(CAP / 2));
+        // Else the compiler leaves out the making of a `VecDeque`.
+        black_box(&deque);
+        sum = sum.wrapping_add(last_number(&deque));
+    }
+    sum
+}
+
+pub fn into_vec<T: Item, D: Peer<T>, const CAP: usize>(rounds: usize) -> u64 {
+    let items = counted::<T>(CAP / 2);
+    let mut sum = 0u64;
+    for _ in 0..rounds {
+        let mut deque = D::new();
+        deque.extend_back(items.iter().copied());
+        sum = sum.wrapping_add(deque.into_vec().last().map_or(0, Item::number));
+    }
+    sum
+}
+
+pub fn vec_and_back<T: Item, D: Peer<T>, const CAP: usize>(rounds: usize) -> u64 {
+    let mut deque: D = peer_at(CAP / 2, CAP);
+    let mut sum = 0u64;
+    for _ in 0..rounds {
+        deque = D::from_vec(deque.into_vec());
+        sum = sum.wrapping_add(last_number(&deque));
+    }
+    sum
+}
+
+pub fn from_array<T: Item, D: Peer<T>, const CAP: usize>(rounds: usize) -> u64 {
+    let mut sum = 0u64;
+    for round in 0..rounds as u64 {
+        let deque = D::from_array([T::of(round); 16]);
+        black_box(&deque);
+        sum = sum.wrapping_add(last_number(&deque));
+    }
+    sum
+}
+
+pub fn into_items<T: Item, D: Peer<T>, const CAP: usize>(rounds: usize) -> u64 {
+    let items = counted::<T>(CAP / 2);
+    let mut sum = 0u64;
+    for _ in 0..rounds {
+        let mut deque = D::new();
+        deque.extend_back(items.iter().copied());
+        for item in deque.into_items() {
+            sum = sum.wrapping_add(item.number());
+        }
+    }
+    sum
+}
+
+pub fn into_ends<T: Item, D: Peer<T>, const CAP: usize>(rounds: usize) -> u64 {
+    let items = counted::<T>(CAP / 2);
+    let mut sum = 0u64;
+    for _ in 0..rounds {
+        let mut deque = D::new();
+        deque.extend_back(items.iter().copied());
+        let mut rest = deque.into_items();
+        for _ in 0..CAP / 4 {
+            if let Some(item) = rest.next() {
+                sum = sum.wrapping_add(item.number());
+            }
+            if let Some(item) = rest.next_back() {
+                sum = sum.wrapping_add(item.number());
+            }
+        }
+    }
+    sum
+}
+
+pub fn lent_queue<T: Item, D: Peer<T>, const CAP: usize>(rounds: usize) -> u64 {
+    #[inline(never)]
+    fn turn<T: Item, D: Peer<T>>(deque: &mut D, number: u64) -> u64 {
+        deque.push_back(T::of(number));
+        deque.pop_front().map_or(0, |item| item.number())
+    }
+    let mut deque: D = peer_at(0, CAP / 2);
+    let mut sum = 0u64;
+    for round in 0..rounds as u64 {
+        sum = sum.wrapping_add(turn(&mut deque, round));
+    }
+    sum
+}
+
+pub fn lent_history<T: Item, D: Peer<T>, const CAP: usize>(rounds: usize) -> u64 {
+    #[inline(never)]
+    fn displaced<T: Item, H: History<T>>(deque: &mut H, number: u64) -> u64 {
+        deque.push_back(T::of(number)).map_or(0, |item| item.number())
+    }
+    let mut deque = D::History::new();
+    for number in 0..CAP as u64 {
+        deque.push_back(T::of(number));
+    }
+    let mut sum = 0u64;
+    for round in 0..rounds as u64 {
+        sum = sum.wrapping_add(displaced(&mut deque, round));
+    }
+    sum
+}
+
+fn filled<T: Owned, D: Peer<T>>(len: usize) -> D {
+    let mut deque = D::new();
+    for number in 0..len as u64 {
+        deque.push_back(T::make(number));
+    }
+    deque
+}
+
+pub fn owned_queue<T: Owned, D: Peer<T>, const CAP: usize>(rounds: usize) -> u64 {
+    let mut deque: D = filled(CAP / 2);
+    let mut sum = 0u64;
+    for round in 0..rounds as u64 {
+        deque.push_back(T::make(round));
+        if let Some(item) = deque.pop_front() {
+            sum = sum.wrapping_add(item.told());
+        }
+    }
+    sum
+}
+
+pub fn owned_clone<T: Owned, D: Peer<T> + Clone, const CAP: usize>(rounds: usize) -> u64 {
+    let deque: D = filled(CAP / 2);
+    let mut sum = 0u64;
+    for _ in 0..rounds {
+        let clone = deque.clone();
+        sum = sum.wrapping_add(clone.back().map_or(0, Owned::told));
+    }
+    sum
+}
+
+pub fn owned_clear<T: Owned, D: Peer<T>, const CAP: usize>(rounds: usize) -> u64 {
+    let mut deque = D::new();
+    let mut sum = 0u64;
+    for round in 0..rounds {
+        for number in 0..CAP / 2 {
+            deque.push_back(T::make((number ^ round) as u64));
+        }
+        sum = sum.wrapping_add(deque.back().map_or(0, Owned::told));
+        deque.clear();
+    }
+    sum
+}
+
+pub fn owned_insert<T: Owned, D: Peer<T>, const CAP: usize>(rounds: usize) -> u64 {
+    let mut deque: D = filled(CAP);
+    let mut sum = 0u64;
+    for _ in 0..rounds {
+        if let Some(item) = deque.remove(CAP / 2) {
+            sum = sum.wrapping_add(item.told());
+            deque.insert(CAP / 4, item);
+        }
+    }
+    sum
+}
+
+pub fn owned_retain<T: Owned, D: Peer<T>, const CAP: usize>(rounds: usize) -> u64 {
+    let mut deque = D::new();
+    let mut sum = 0u64;
+    for round in 0..rounds {
+        for number in deque.len()..CAP {
+            deque.push_back(T::make((number ^ round) as u64));
+        }
+        deque.retain(|item| item.told() % 4 == 1);
+        sum = sum.wrapping_add(deque.len() as u64);
+    }
+    sum
+}
+
+pub fn owned_drain<T: Owned, D: Peer<T>, const CAP: usize>(rounds: usize) -> u64 {
+    let mut deque = D::new();
+    let mut sum = 0u64;
+    for round in 0..rounds {
+        for number in 0..CAP / 2 {
+            deque.push_back(T::make((number ^ round) as u64));
+        }
+        let len = deque.len();
+        for item in deque.drain(0..len) {
+            sum = sum.wrapping_add(item.told());
+        }
+    }
+    sum
+}
+
+pub fn drain_four<T: Item, D: Peer<T>, const CAP: usize>(rounds: usize) -> u64 {
+    let items = counted::<T>(4);
+    let mut deque: D = peer_at(CAP / 2, CAP);
+    let mut sum = 0u64;
+    for _ in 0..rounds {
+        let from = deque.len() / 4;
+        if from + 4 <= deque.len() {
+            for item in deque.drain(from..from + 4) {
+                sum = sum.wrapping_add(item.number());
+            }
+        }
+        deque.extend_back(items.iter().copied());
+    }
+    sum
+}
+
+pub fn split_append<T: Item, D: Peer<T>, const CAP: usize>(rounds: usize) -> u64 {
+    let mut deque: D = peer_at(CAP / 2, CAP);
+    let mut sum = 0u64;
+    for _ in 0..rounds {
+        let middle = deque.len() / 2;
+        let tail = deque.split_off(middle);
+        deque.extend_back(tail.into_items());
+        sum = sum.wrapping_add(last_number(&deque));
+    }
+    sum
+}
+
+fn linearize_some<T: Item, D: Peer<T>, const CAP: usize>(rounds: usize, turned: usize) -> u64 {
+    let mut deque: D = peer_at(0, CAP - CAP / 4);
+    let mut sum = 0u64;
+    for _ in 0..rounds {
+        for _ in 0..turned {
+            if let Some(item) = deque.pop_back() {
+                deque.push_front(item);
+            }
+        }
+        deque.linearize();
+        sum = sum.wrapping_add(deque.first_slice().len() as u64);
+    }
+    sum
+}
+
+pub fn linearize_1<T: Item, D: Peer<T>, const CAP: usize>(rounds: usize) -> u64 {
+    linearize_some::<T, D, CAP>(rounds, 1)
+}
+
+pub fn linearize_8<T: Item, D: Peer<T>, const CAP: usize>(rounds: usize) -> u64 {
+    linearize_some::<T, D, CAP>(rounds, 8)
+}
+
+pub fn linearize_64<T: Item, D: Peer<T>, const CAP: usize>(rounds: usize) -> u64 {
+    linearize_some::<T, D, CAP>(rounds, 64)
+}
+
+pub fn pipe<T: Piece, D: Peer<u8>, const CAP: usize>(rounds: usize) -> u64 {
+    let piece = counted::<u8>(T::LEN);
+    let mut deque: D = peer_at(0, 100);
+    let mut sum = 0u64;
+    for _ in 0..rounds {
+        deque.extend_back(piece.iter().copied());
+        for byte in deque.first_slice() {
+            sum = sum.wrapping_add(u64::from(*byte));
+        }
+        for byte in deque.second_slice() {
+            sum = sum.wrapping_add(u64::from(*byte));
+        }
+        drop(deque.drain(0..T::LEN));
+    }
+    sum
+}
+
+pub fn pipe_popping<T: Piece, D: Peer<u8>, const CAP: usize>(rounds: usize) -> u64 {
+    let piece = counted::<u8>(T::LEN);
+    let mut deque: D = peer_at(0, 100);
+    let mut sum = 0u64;
+    for _ in 0..rounds {
+        deque.extend_back(piece.iter().copied());
+        for _ in 0..T::LEN {
+            if let Some(byte) = deque.pop_front() {
+                sum = sum.wrapping_add(u64::from(byte));
+            }
+        }
+    }
+    sum
+}
+
+pub fn pipe_wrapping<T: Piece, D: Peer<u8>, const CAP: usize>(rounds: usize) -> u64 {
+    let piece = counted::<u8>(T::LEN);
+    let mut deque = D::History::new();
+    deque.extend_back(counted::<u8>(CAP));
+    let mut sum = 0u64;
+    for _ in 0..rounds {
+        deque.extend_back(piece.iter().copied());
+        sum = sum.wrapping_add(deque.front().map_or(0, |byte| u64::from(*byte)));
+    }
+    sum
+}
+
+pub fn window<T: Item, D: Peer<T>, const CAP: usize>(rounds: usize) -> u64 {
+    let samples = counted::<T>(1_000_000);
+    let mut recent = D::History::new();
+    for number in 0..CAP as u64 {
+        recent.push_back(T::of(number));
+    }
+    let (mut total, mut sum) = (0u64, 0u64);
+    for _ in 0..rounds {
+        for sample in &samples {
+            total = total.wrapping_add(sample.number());
+            if let Some(oldest) = recent.push_back(*sample) {
+                total = total.wrapping_sub(oldest.number());
+            }
+            sum ^= total;
+        }
+    }
+    sum
+}
+
+/// Neither peer can look ahead: both columns are std's `Peekable`.
+pub fn scan<T: Item, D: Peer<T>, const CAP: usize>(rounds: usize) -> u64 {
+    let mut state = 1u64;
+    let text: Vec<u8> = (0..1_000_000)
+        .map(|_| {
+            state = scrambled(state);
+            if (state >> 32) % 6 == 0 { b' ' } else { b'a' }
+        })
+        .collect();
+    let mut sum = 0u64;
+    for _ in 0..rounds {
+        let mut scanner = text.iter().copied().peekable();
+        let mut runs = 0u64;
+        while let Some(byte) = scanner.next() {
+            runs += u64::from(scanner.peek() != Some(&byte));
+        }
+        sum = sum.wrapping_add(runs);
+    }
+    sum
+}
+
+enum Call {
+    PushBack(u64),
+    PushFront(u64),
+    PopBack,
+    PopFront,
+    Swap(usize, usize),
+    Replace(usize, u64),
+    Len,
+}
+
+enum Reply {
+    Done,
+    Item(Option<u64>),
+    Number(usize),
+    Full,
+    OutOfRange,
+}
+
+fn mixed_calls(capacity: usize, seed: u64) -> Vec<Call> {
+    let mut state = seed.wrapping_add(1);
+    let call = |_| {
+        state = scrambled(state);
+        let index = (state >> 40) as usize % capacity;
+        match (state >> 32) % 8 {
+            0 | 1 => Call::PushBack(state),
+            2 => Call::PushFront(state),
+            3 => Call::PopBack,
+            4 => Call::PopFront,
+            5 => Call::Swap(index, index / 2),
+            6 => Call::Replace(index, state),
+            _ => Call::Len,
+        }
+    };
+    (0..100_000).map(call).collect()
+}
+
+fn answered<D: Peer<u64>>(deque: &mut D, call: Call) -> Reply {
+    match call {
+        Call::PushBack(item) => if deque.push_back(item) { Reply::Done } else { Reply::Full },
+        Call::PushFront(item) => if deque.push_front(item) { Reply::Done } else { Reply::Full },
+        Call::PopBack => Reply::Item(deque.pop_back()),
+        Call::PopFront => Reply::Item(deque.pop_front()),
+        Call::Swap(i, j) if i < deque.len() && j < deque.len() => {
+            deque.swap(i, j);
+            Reply::Done
+        }
+        Call::Swap(..) => Reply::OutOfRange,
+        Call::Replace(index, item) => match deque.get_mut(index) {
+            Some(old) => Reply::Item(Some(std::mem::replace(old, item))),
+            None => Reply::OutOfRange,
+        },
+        Call::Len => Reply::Number(deque.len()),
+    }
+}
+
+pub fn run<T: Item, D: Peer<u64>, const CAP: usize>(rounds: usize) -> u64 {
+    let mut deque: D = peer_at(0, CAP / 2);
+    let mut sum = 0u64;
+    for round in 0..rounds as u64 {
+        let mut replies = Vec::with_capacity(100_000);
+        for call in mixed_calls(CAP, round) {
+            replies.push(answered(&mut deque, call));
+        }
+        for reply in replies {
+            sum = sum.wrapping_mul(3).wrapping_add(match reply {
+                Reply::Item(Some(number)) => number,
+                Reply::Number(number) => number as u64,
+                Reply::Full => 1,
+                Reply::OutOfRange => 2,
+                Reply::Item(None) | Reply::Done => 3,
+            });
         }
     }
     sum

@@ -36,7 +36,7 @@ impl Item for u64 {
 }
 
 /// Sixty-four bytes.
-#[derive(Clone, Copy)]
+#[derive(Clone, Copy, PartialEq)]
 pub(crate) struct Block([u64; 8]);
 
 impl Item for Block {

@@ -4,8 +4,15 @@
 #![tactic(auto)]
 
 mod ends;
+mod exchanges;
 mod exports;
 mod items;
+mod lent;
 mod lists;
 mod middle;
+mod owned;
 mod parts;
+mod scale;
+mod tasks;
+mod turns;
+mod walks;

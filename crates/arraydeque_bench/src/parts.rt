@@ -95,7 +95,9 @@ pub(crate) fn extend_history<T: Item, const CAP: usize>(
 }
 
 /// The last item's number.
-fn last_number<T: Item, const CAP: usize>(deque: &ArrayDeque<T, CAP, Saturating>) -> u64 {
+pub(crate) fn last_number<T: Item, const CAP: usize>(
+    deque: &ArrayDeque<T, CAP, Saturating>,
+) -> u64 {
     match deque.back() {
         Some(item) => item.number(),
         None => 0,
