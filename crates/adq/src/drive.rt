@@ -1,8 +1,9 @@
 //! The whole program, over any streams.
-ghost use Rattle.std.specs.Prelude.{◌≡◌, ◌≤◌, IfOk, IfErr, Some, map, option_map, string_bytes};
+ghost use Rattle.std.specs.Prelude.{◌≡◌, ◌≤◌, IfOk, IfErr, OnOk, Some, map, option_map, string_bytes};
+ghost use Rattle.std.specs.Io.KnownBytes.{Appends};
 ghost use Rattle.arraydeque.specs.Policy.{saturating, wrapping};
 ghost use Rattle.adq.specs.Run.{settings_of, capacity_of, output_of, Ends, IsRefusal};
-ghost use Rattle.adq.specs.declared.fault.Fault.TheVariants.{Memory};
+ghost use Rattle.adq.specs.declared.fault.Fault.TheVariants.{Memory, Io};
 
 use crate::fault::Fault;
 use crate::line::calls;
@@ -26,14 +27,14 @@ pub fn drive<R: Read + Drop, W: Write + Drop, F: Write + Drop>(
     alloc: Global,
     args: &[String],
     mut input: R,
-    output: W,
+    mut output: W,
     faults: F,
 ) -> u8
     ensures { result ≤ 3 }
 {
     let mut text = Vec::new(alloc);
     let printed = dispatch(alloc, args, &mut input, &mut text);
-    match printed.and_then(|printed| write(output, printed.as_bytes())) {
+    match printed.and_then(|printed| write(&mut output, printed.as_bytes())) {
         Ok(()) => 0,
         Err(fault) => fault.report(faults),
     }
@@ -166,7 +167,10 @@ fn print<const CAP: usize, B: Behavior>(
 }
 
 /// Writes all of the output.
-fn write<W: Write + Drop>(mut output: W, printed: &[u8]) -> Result<(), Fault> {
+fn write<W: Write>(output: &mut W, printed: &[u8]) -> Result<(), Fault>
+    ensures bytes { OnOk result (Appends (W.contents output.old) (W.contents output.new) printed.now) }
+    ensures failed { IfErr result (λ fault. fault ≡ Io) }
+{
     output.write_all(printed)?;
     output.flush()?;
     Ok(())
