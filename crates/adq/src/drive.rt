@@ -168,7 +168,8 @@ fn print<const CAP: usize, B: Behavior>(
 
 /// Writes all of the output.
 fn write<W: Write>(output: &mut W, printed: &[u8]) -> Result<(), Fault>
-    ensures bytes { OnOk result (Appends (W.contents output.old) (W.contents output.new) printed.now) }
+    ensures bytes { OnOk result
+        (Appends (W.contents output.old) (W.contents output.new) printed.now) }
     ensures failed { IfErr result (λ fault. fault ≡ Io) }
 {
     output.write_all(printed)?;
