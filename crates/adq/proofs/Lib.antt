@@ -1,3 +1,4 @@
+pub mod Ended
 pub mod FirstWord
 pub mod LinesRead
 pub mod ListText

@@ -1,3 +1,4 @@
 pub mod Fault
 pub mod Line
+pub mod Run
 pub mod Text

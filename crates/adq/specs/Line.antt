@@ -22,7 +22,7 @@ number_upto most word =
     if all_ascii_digits word && nat_lt 0 (length word) && nat_le (digits_value 10 word) most
     then Some (digits_value 10 word) else None
 
--- the index, and the value, before which a minus may stand
+-- the index that a word writes, and the value, before which a minus may stand
 abbrev pub index_of : List ℕ → Option ℕ
 index_of word = number_upto 18446744073709551615 word
 
@@ -32,12 +32,13 @@ value_of word =
     then option_map (λ n. neg_ℤ (pos n)) (number_upto 9223372036854775808 (drop 1 word))
     else option_map pos (number_upto 9223372036854775807 word)
 
--- what one operand is, what two are, and what all are
+-- what the word is, where there is one, what the two are, and what all are, if each can be read
 abbrev pub one : {X : Type 0} → (List ℕ → Option X) → List (List ℕ) → Option X
 one read (word ∷ []) = read word
 one read _ = None
 
-abbrev pub two : {X Y : Type 0} → (List ℕ → Option X) → (List ℕ → Option Y) → List (List ℕ) → Option (X × Y)
+abbrev pub two : {X Y : Type 0} → (List ℕ → Option X) → (List ℕ → Option Y)
+    → List (List ℕ) → Option (X × Y)
 two read reads (v ∷ w ∷ []) = option_and_then (λ x. option_map (λ y. (x, y)) (reads w)) (read v)
 two read reads _ = None
 

@@ -1,5 +1,9 @@
 //! The whole program, over any streams.
-ghost use Rattle.std.specs.Prelude.{◌≤◌};
+ghost use Rattle.std.specs.Prelude.{◌≡◌, ◌≤◌, IfOk, IfErr, OnOk, Some, map, option_map, string_bytes};
+ghost use Rattle.std.specs.Io.KnownBytes.{Appends};
+ghost use Rattle.arraydeque.specs.Policy.{saturating, wrapping};
+ghost use Rattle.adq.specs.Run.{settings_of, capacity_of, output_of, Ends, IsRefusal};
+ghost use Rattle.adq.specs.declared.fault.Fault.TheVariants.{Memory, Io};
 
 use crate::fault::Fault;
 use crate::line::calls;
@@ -22,96 +26,153 @@ const PIECE: usize = 65_536;
 pub fn drive<R: Read + Drop, W: Write + Drop, F: Write + Drop>(
     alloc: Global,
     args: &[String],
-    input: R,
-    output: W,
+    mut input: R,
+    mut output: W,
     faults: F,
 ) -> u8
     ensures { result ≤ 3 }
 {
-    match dispatch(alloc, args, input, output) {
+    let mut text = Vec::new(alloc);
+    let printed = dispatch(alloc, args, &mut input, &mut text);
+    match printed.and_then(|printed| write(&mut output, printed.as_bytes())) {
         Ok(()) => 0,
         Err(fault) => fault.report(faults),
     }
 }
 
-fn dispatch<R: Read + Drop, W: Write + Drop>(
+/// What is to be printed on the text that is read, which is left in `text`.
+fn dispatch<R: Read>(
     alloc: Global,
     args: &[String],
-    input: R,
-    output: W,
-) -> Result<(), Fault> {
+    input: &mut R,
+    text: &mut Vec<u8>,
+) -> Result<String, Fault>
+    ensures { Ends (settings_of (map (λ word. string_bytes word) args.now)) text.new.items result }
+{
     let [policy, capacity] = args else {
         return Err(Fault::Arguments);
     };
-    match (policy.as_str(), capacity.as_str()) {
-        ("sat", "0") => saturating::<R, W, 0>(alloc, input, output),
-        ("sat", "1") => saturating::<R, W, 1>(alloc, input, output),
-        ("sat", "2") => saturating::<R, W, 2>(alloc, input, output),
-        ("sat", "3") => saturating::<R, W, 3>(alloc, input, output),
-        ("sat", "5") => saturating::<R, W, 5>(alloc, input, output),
-        ("sat", "7") => saturating::<R, W, 7>(alloc, input, output),
-        ("sat", "8") => saturating::<R, W, 8>(alloc, input, output),
-        ("wrap", "0") => wrapping::<R, W, 0>(alloc, input, output),
-        ("wrap", "1") => wrapping::<R, W, 1>(alloc, input, output),
-        ("wrap", "2") => wrapping::<R, W, 2>(alloc, input, output),
-        ("wrap", "3") => wrapping::<R, W, 3>(alloc, input, output),
-        ("wrap", "5") => wrapping::<R, W, 5>(alloc, input, output),
-        ("wrap", "7") => wrapping::<R, W, 7>(alloc, input, output),
-        ("wrap", "8") => wrapping::<R, W, 8>(alloc, input, output),
+    match policy.as_str() {
+        "sat" => saturating(alloc, capacity.as_str(), input, text),
+        "wrap" => wrapping(alloc, capacity.as_str(), input, text),
         _ => Err(Fault::Arguments),
     }
 }
 
-fn saturating<R: Read + Drop, W: Write + Drop, const CAP: usize>(
+/// The same on a `Saturating` deque of the capacity that the word names.
+fn saturating<R: Read>(
     alloc: Global,
-    input: R,
-    output: W,
-) -> Result<(), Fault> {
-    let mut deque = ArrayDeque::<i64, CAP, Saturating>::new(alloc)?;
-    let calls = calls(alloc, read(alloc, input)?.as_slice())?;
-    let replies = deque.run(calls)?;
-    print(alloc, output, replies, &deque)
+    capacity: &str,
+    input: &mut R,
+    text: &mut Vec<u8>,
+) -> Result<String, Fault>
+    ensures { Ends (option_map (λ n. (saturating, n)) (capacity_of capacity.now)) text.new.items
+        result }
+{
+    match capacity {
+        "0" => saturating_of::<R, 0>(alloc, input, text),
+        "1" => saturating_of::<R, 1>(alloc, input, text),
+        "2" => saturating_of::<R, 2>(alloc, input, text),
+        "3" => saturating_of::<R, 3>(alloc, input, text),
+        "5" => saturating_of::<R, 5>(alloc, input, text),
+        "7" => saturating_of::<R, 7>(alloc, input, text),
+        "8" => saturating_of::<R, 8>(alloc, input, text),
+        _ => Err(Fault::Arguments),
+    }
 }
 
-fn wrapping<R: Read + Drop, W: Write + Drop, const CAP: usize>(
+/// The same on a `Wrapping` one.
+fn wrapping<R: Read>(
     alloc: Global,
-    input: R,
-    output: W,
-) -> Result<(), Fault> {
-    let mut deque = ArrayDeque::<i64, CAP, Wrapping>::new(alloc)?;
-    let calls = calls(alloc, read(alloc, input)?.as_slice())?;
+    capacity: &str,
+    input: &mut R,
+    text: &mut Vec<u8>,
+) -> Result<String, Fault>
+    ensures { Ends (option_map (λ n. (wrapping, n)) (capacity_of capacity.now)) text.new.items
+        result }
+{
+    match capacity {
+        "0" => wrapping_of::<R, 0>(alloc, input, text),
+        "1" => wrapping_of::<R, 1>(alloc, input, text),
+        "2" => wrapping_of::<R, 2>(alloc, input, text),
+        "3" => wrapping_of::<R, 3>(alloc, input, text),
+        "5" => wrapping_of::<R, 5>(alloc, input, text),
+        "7" => wrapping_of::<R, 7>(alloc, input, text),
+        "8" => wrapping_of::<R, 8>(alloc, input, text),
+        _ => Err(Fault::Arguments),
+    }
+}
+
+/// The deque is made first, then all input is read, and then every line of it.
+fn saturating_of<R: Read, const CAP: usize>(
+    alloc: Global,
+    input: &mut R,
+    text: &mut Vec<u8>,
+) -> Result<String, Fault>
+    ensures { Ends (Some (saturating, CAP)) text.new.items result }
+{
+    let mut deque = ArrayDeque::<i64, CAP, Saturating>::new(alloc)?;
+    read(input, text)?;
+    let calls = calls(alloc, text.as_slice())?;
     let replies = deque.run(calls)?;
-    print(alloc, output, replies, &deque)
+    print(alloc, replies, &deque)
+}
+
+fn wrapping_of<R: Read, const CAP: usize>(
+    alloc: Global,
+    input: &mut R,
+    text: &mut Vec<u8>,
+) -> Result<String, Fault>
+    ensures { Ends (Some (wrapping, CAP)) text.new.items result }
+{
+    let mut deque = ArrayDeque::<i64, CAP, Wrapping>::new(alloc)?;
+    read(input, text)?;
+    let calls = calls(alloc, text.as_slice())?;
+    let replies = deque.run(calls)?;
+    print(alloc, replies, &deque)
 }
 
 /// Reads the input to its end. Room is made before each read, so that a read that fails was not
 /// refused memory of the program's own.
-fn read<R: Read + Drop>(alloc: Global, mut input: R) -> Result<Vec<u8>, Fault> {
-    let mut text = Vec::new(alloc);
+fn read<R: Read>(input: &mut R, text: &mut Vec<u8>) -> Result<(), Fault>
+    ensures { IfErr result IsRefusal }
+{
     for _ in 0..u64::MAX {
         text.reserve(PIECE + 1)?;
-        let piece = input.by_ref().take(PIECE as u64).read_to_end(&mut text)?;
+        let piece = input.by_ref().take(PIECE as u64).read_to_end(text)?;
         if piece < PIECE {
-            return Ok(text);
+            return Ok(());
         }
     }
     Err(Fault::Memory)
 }
 
-/// Prints the replies, and at last what the deque holds.
-fn print<W: Write + Drop, const CAP: usize, B: Behavior>(
+/// The text of the replies, and at last of what the deque holds.
+fn print<const CAP: usize, B: Behavior>(
     alloc: Global,
-    mut output: W,
     replies: Vec<Reply<i64, CAP, B>>,
     deque: &ArrayDeque<i64, CAP, B>,
-) -> Result<(), Fault> {
+) -> Result<String, Fault>
+    ensures ok { IfOk result (λ text.
+        string_bytes text ≡ output_of replies.items deque.now.items) }
+    ensures refused { IfErr result (λ fault. fault ≡ Memory) }
+{
     let mut text = String::new(alloc);
     for reply in replies {
         print_reply(&mut text, reply)?;
     }
     text.push_str("list: ")?;
     print_deque(&mut text, deque)?;
-    output.write_all(text.as_bytes())?;
+    Ok(text)
+}
+
+/// Writes all of the output.
+fn write<W: Write>(output: &mut W, printed: &[u8]) -> Result<(), Fault>
+    ensures bytes { OnOk result
+        (Appends (W.contents output.old) (W.contents output.new) printed.now) }
+    ensures failed { IfErr result (λ fault. fault ≡ Io) }
+{
+    output.write_all(printed)?;
     output.flush()?;
     Ok(())
 }

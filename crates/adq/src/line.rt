@@ -123,7 +123,8 @@ impl<'a> Line<'a> {
 
     /// The value that is the one word left.
     fn value(&mut self) -> Result<i64, Fault>
-        ensures { Tells self.old.number (λ o. o ≡ one value_of (words_of self.old.rest.now)) result }
+        ensures { Tells self.old.number
+            (λ o. o ≡ one value_of (words_of self.old.rest.now)) result }
     {
         if let Some(word) = self.word()
             && let Some(value) = value_of(word)
@@ -136,7 +137,8 @@ impl<'a> Line<'a> {
 
     /// The index that is the one word left.
     fn index(&mut self) -> Result<usize, Fault>
-        ensures { Tells self.old.number (λ o. o ≡ one index_of (words_of self.old.rest.now)) result }
+        ensures { Tells self.old.number
+            (λ o. o ≡ one index_of (words_of self.old.rest.now)) result }
     {
         if let Some(word) = self.word()
             && let Some(index) = index_of(word)

@@ -2,7 +2,7 @@
 mod rows;
 mod streams;
 
-use self::rows::{BAD, BAD_ARGUMENTS, CALLS, FAILED, NOT_TEXT, REPLIES, RUNS, WORDS};
+use self::rows::{BAD, BAD_ARGUMENTS, CALLS, FAILED, NOT_TEXT, REPLIES, RUNS};
 use self::streams::{Calls, Input, Output};
 use super::drive;
 use std::alloc::{AllocError, Global};
@@ -72,54 +72,7 @@ fn runs_have_their_outputs(rt: HostRuntime) -> Result<(), Fail> {
             "{words}: {input}"
         );
     }
-    for capacity in [0, 1, 2, 3, 5, 7, 8] {
-        for (policy, reply) in [("sat", "range"), ("wrap", "unoffered")] {
-            let words = format!(in rt.alloc(); "{policy} {capacity}")?;
-            let text = format!(in rt.alloc(); "{reply}\n{capacity}\nlist: []\n")?;
-            let input = b"insert 9 9\ncapacity\n";
-            assert!(rt;
-                prints(rt.alloc(), words.as_str(), input, text.as_str())?,
-                "{words}"
-            );
-        }
-    }
     Ok(())
-}
-
-#[test]
-fn each_word_stands_for_its_call_alone(rt: HostRuntime) -> Result<(), Fail> {
-    for (word, numbers, text) in WORDS {
-        let line = format!(in rt.alloc(); "{word}{numbers}")?;
-        assert!(rt;
-            prints(rt.alloc(), "sat 3", line.as_bytes(), text)?
-                && is_blamed_when_changed(rt.alloc(), word, numbers)?,
-            "{line}"
-        );
-    }
-    Ok(())
-}
-
-/// Whether a line is bad where its word is in capitals, or is cut at either end, and where a number
-/// follows that is one too many.
-fn is_blamed_when_changed(alloc: Global, word: &str, numbers: &str) -> Result<bool, AllocError> {
-    let capitals = word.to_ascii_uppercase(alloc)?;
-    let more = format!(in alloc; "{numbers} 1")?;
-    let is_extend = word.starts_with("extend");
-    let letters = word.as_bytes();
-    let mut is_blamed = blames_word(alloc, capitals.as_bytes(), numbers)?
-        && (is_extend || blames_word(alloc, letters, more.as_str())?);
-    for count in 1..letters.len() {
-        let (head, tail) = letters.split_at(count);
-        is_blamed &= blames_word(alloc, tail, numbers)?
-            && (head == b"extend".as_slice() || blames_word(alloc, head, numbers)?);
-    }
-    Ok(is_blamed)
-}
-
-fn blames_word(alloc: Global, word: &[u8], numbers: &str) -> Result<bool, AllocError> {
-    let mut line = Vec::from_slice(alloc, word)?;
-    line.extend_from_slice(numbers.as_bytes())?;
-    blames(alloc, "sat 3", line.as_slice(), 1)
 }
 
 #[test]

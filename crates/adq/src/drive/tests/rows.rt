@@ -14,7 +14,7 @@ pub(crate) const CALLS: &str =
 pub(crate) const REPLIES: &str = "ok\nok\nok\nfull 4\n1\n2\nlist: [3, 2]\n";
 
 /// Runs that end well.
-pub(crate) const RUNS: [Row; 25] = [
+pub(crate) const RUNS: [Row; 14] = [
     ("sat 3", CALLS, REPLIES),
     (
         "sat 3",
@@ -58,22 +58,6 @@ pub(crate) const RUNS: [Row; 25] = [
         "none\n1\n2\nok\nok\n[7]\n[]\n0\nlist: []\n",
     ),
     (
-        "wrap 3",
-        "extend_back 1 2\nextend 3 4 5\n",
-        "ok\nok\nlist: [3, 4, 5]\n",
-    ),
-    (
-        "sat 3",
-        "extend_back 1 2\nextend 3 4 5\n",
-        "ok\nok\nlist: [1, 2, 3]\n",
-    ),
-    ("wrap 0", "extend 1 2\n", "ok\nlist: []\n"),
-    (
-        "sat 0",
-        "push_back -5\npush_front -6\npop_front\n",
-        "full -5\nfull -6\nnone\nlist: []\n",
-    ),
-    (
         "sat 8",
         "extend_back 0 1 2 3 4 5 6 7\ndrain 0 8\nextend_front 0 1 2 3 4 5 6 7\nsplit_off 0\n\
          extend 0 1 2 3 4 5 6 7\n",
@@ -85,14 +69,7 @@ pub(crate) const RUNS: [Row; 25] = [
         "\n  \npush_back 1\r\npush_back 007\n",
         "ok\nok\nlist: [1, 7]\n",
     ),
-    ("sat 3", "\r\n\npush_back 1\n\n \n", "ok\nlist: [1]\n"),
     ("sat 3", "  push_back   1  \r\n", "ok\nlist: [1]\n"),
-    ("sat 3", "push_back 1\r", "ok\nlist: [1]\n"),
-    ("sat 3", "\n", "list: []\n"),
-    ("sat 3", "\r", "list: []\n"),
-    ("sat 3", " ", "list: []\n"),
-    ("sat 3", "push_back -0", "ok\nlist: [0]\n"),
-    ("sat 3", "push_back 007", "ok\nlist: [7]\n"),
     (
         "sat 3",
         "extend_back -9223372036854775808 -0009223372036854775808  9223372036854775807 ",
@@ -105,102 +82,33 @@ pub(crate) const RUNS: [Row; 25] = [
     ),
 ];
 
-/// Each word that a line begins with, numbers that follow it, and what the line prints on an empty
-/// `sat 3`.
-pub(crate) const WORDS: [Row; 21] = [
-    ("push_front", " 1", "ok\nlist: [1]\n"),
-    ("push_back", " 1", "ok\nlist: [1]\n"),
-    ("pop_front", "", "none\nlist: []\n"),
-    ("pop_back", "", "none\nlist: []\n"),
-    ("insert", " 0 1", "ok\nlist: [1]\n"),
-    ("remove", " 0", "none\nlist: []\n"),
-    ("swap_remove_back", " 0", "none\nlist: []\n"),
-    ("swap_remove_front", " 0", "none\nlist: []\n"),
-    ("swap", " 0 1", "range\nlist: []\n"),
-    ("replace", " 0 1", "range\nlist: []\n"),
-    ("clear", "", "ok\nlist: []\n"),
-    ("linearize", "", "ok\nlist: []\n"),
-    ("extend_back", "", "ok\nlist: []\n"),
-    ("extend_front", "", "ok\nlist: []\n"),
-    ("extend", "", "ok\nlist: []\n"),
-    ("drain", " 0 0", "[]\nlist: []\n"),
-    ("split_off", " 0", "[]\nlist: []\n"),
-    ("len", "", "0\nlist: []\n"),
-    ("capacity", "", "3\nlist: []\n"),
-    ("is_empty", "", "true\nlist: []\n"),
-    ("is_full", "", "false\nlist: []\n"),
-];
-
 /// Inputs that have a bad line, and the number of that line.
-pub(crate) const BAD: [(&str, usize); 41] = [
+pub(crate) const BAD: [(&str, usize); 16] = [
     ("push_back 1\npush_back x\n", 2),
-    ("push_back 9223372036854775808\n", 1),
     ("\n  \npush_back 1\r\npush_back 007\nremove x", 5),
-    ("len\nx\nlen\ny\n", 2),
     ("push_back", 1),
+    ("LEN", 1),
+    ("extend_", 1),
+    ("len 1", 1),
     ("insert -1 2", 1),
-    ("insert 1", 1),
-    ("swap 1", 1),
-    ("drain 0", 1),
-    ("remove -0", 1),
-    ("remove 18446744073709551616", 1),
-    ("extend 1 2 x", 1),
-    ("extend 1 +2", 1),
     ("push_back +1", 1),
-    ("push_back -+1", 1),
-    ("push_back --1", 1),
     ("push_back -", 1),
-    ("push_back +", 1),
     ("push_back 1.0", 1),
-    ("push_back 1e0", 1),
-    ("push_back 1_0", 1),
-    ("push_back 0x1", 1),
-    ("push_back -9223372036854775809", 1),
-    ("push_back 99999999999999999999", 1),
+    ("push_back 9223372036854775808\n", 1),
+    ("remove 18446744073709551616", 1),
     ("push_back\t1", 1),
-    ("push_back 1\t", 1),
-    ("\tpush_back 1", 1),
-    ("\t", 1),
     ("push_back 1\r\r", 1),
-    ("push_back 1\r ", 1),
-    ("len\rlen", 1),
-    ("\r\r", 1),
-    ("push_back 1\0", 1),
-    ("\u{feff}len", 1),
-    ("\u{a0}len", 1),
     ("push_back \u{661}", 1),
     ("len;len", 1),
-    ("len;", 1),
-    ("push_back 1;push_back 2", 1),
-    ("push_back 1; push_back 2", 1),
-    ("1", 1),
 ];
 
 /// Inputs that aren't UTF-8 in the line of this number.
-pub(crate) const NOT_TEXT: [(&[u8], usize); 5] = [
-    (b"push_back \xff", 1),
+pub(crate) const NOT_TEXT: [(&[u8], usize); 2] = [
     (b"push_back 1 \xff", 1),
-    (b"\xff", 1),
-    (b"\xc3", 1),
     (b"len\n\n\xff\nx\n", 3),
 ];
 
 /// Words after the program's name that it takes for nothing.
-pub(crate) const BAD_ARGUMENTS: [&str; 16] = [
-    "",
-    "sat",
-    "wrap",
-    "sat 4",
-    "sat 6",
-    "sat 9",
-    "sat 03",
-    "sat +3",
-    "sat -0",
-    "sat 3 3",
-    "Sat 3",
-    "SAT 3",
-    "3 sat",
-    "wrap 4",
-    "wrap 3 3",
-    "saturating 3",
+pub(crate) const BAD_ARGUMENTS: [&str; 8] = [
+    "", "sat", "sat 4", "wrap 4", "sat 03", "sat 3 3", "Sat 3", "3 sat",
 ];
