@@ -137,7 +137,8 @@ fn leaves_the_rest_of_a_walk(alloc: Global) -> Result<bool, Fail> {
             break;
         }
     }
-    Ok((seen, scanner.next(), scanner.last()) == (Some(3), Some(3), Some(4)))
+    let rest = (scanner.next(), scanner.next(), scanner.next());
+    Ok((seen, rest) == (Some(3), (Some(3), Some(4), None)))
 }
 
 #[test]
