@@ -3,8 +3,8 @@ ghost use Rattle.std.specs.Prelude.{◌≡◌, ◌+◌, ◌%◌, ◌<◌, ◌≤
 
 /// The place `offset` places after `place` in a region of `capacity` places, round its end.
 ///
-/// No sum of places passes `usize::MAX`, whatever the capacity, and a power of two takes no branch
-/// on the places.
+/// No branch hangs on the places, which may be at random: of the sum and the sum less the capacity
+/// the place is the lesser, since what would be below 0 wraps round to the largest numbers.
 #[inline(always)]
 pub(crate) fn wrap_add(place: usize, offset: usize, capacity: usize) -> usize
     requires in_region { place < capacity }
@@ -14,6 +14,19 @@ pub(crate) fn wrap_add(place: usize, offset: usize, capacity: usize) -> usize
     if capacity & (capacity - 1) == 0 {
         return (place + offset) % capacity;
     }
+    if capacity > isize::MAX as usize {
+        return wrap_add_large(place, offset, capacity);
+    }
+    let sum = place + offset;
+    sum.min(sum.wrapping_sub(capacity))
+}
+
+/// The same where a sum of places may pass `usize::MAX`, as it may for items of size zero.
+fn wrap_add_large(place: usize, offset: usize, capacity: usize) -> usize
+    requires in_region { place < capacity }
+    requires in_reach { offset ≤ capacity }
+    ensures { result ≡ (place + offset) % capacity }
+{
     let to_end = capacity - place;
     if offset < to_end {
         place + offset
