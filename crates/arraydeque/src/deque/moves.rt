@@ -50,7 +50,7 @@ impl<T, const CAP: usize> ArrayDeque<T, CAP, Saturating> {
 impl<T, const CAP: usize, B: Behavior> ArrayDeque<T, CAP, B> {
     /// Removes the item at an index and returns it, or returns `None` if there is none.
     ///
-    /// The items before it or those after it move by one place, whichever are fewer, and on a tie
+    /// The items before it or those behind it move by one place, whichever are fewer, and on a tie
     /// the latter: fewer than half of the items.
     ///
     /// ```

@@ -15,7 +15,7 @@ impl<T, const CAP: usize, B: Behavior> ArrayDeque<T, CAP, B> {
     /// Removes the items of a range, and returns them in a [`Drain`], which owns them in a region
     /// of its own. Requires a range that is in order and ends within the list.
     ///
-    /// The deque is whole when the call returns: the items before the range or those after it have
+    /// The deque is whole when the call returns: the items before the range or those behind it have
     /// moved, whichever are fewer, and none for an empty range. Fails only if memory is refused;
     /// then nothing has changed. An empty range, or items of size zero, take none.
     ///

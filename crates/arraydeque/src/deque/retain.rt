@@ -35,7 +35,7 @@ impl<T, const CAP: usize, B: Behavior> ArrayDeque<T, CAP, B> {
     /// Keeps the items for which `f` returns true, in order, and drops the others. `f` is called
     /// once on each item, front to back.
     ///
-    /// It works in place and takes no memory: each kept item after the first that goes moves once.
+    /// It works in place and takes no memory: each kept item behind the first that goes moves once.
     ///
     /// ```
     /// let mut deque = ArrayDeque::<i64, 5, Saturating>::new(alloc)?;
