@@ -14,23 +14,15 @@ pub(crate) fn wrap_add(place: usize, offset: usize, capacity: usize) -> usize
     if capacity & (capacity - 1) == 0 {
         return (place + offset) % capacity;
     }
+    // A sum may pass `usize::MAX` here, in a region of items of size zero.
     if capacity > isize::MAX as usize {
-        return wrap_add_large(place, offset, capacity);
+        let to_end = capacity - place;
+        return if offset < to_end {
+            place + offset
+        } else {
+            offset - to_end
+        };
     }
     let sum = place + offset;
     sum.min(sum.wrapping_sub(capacity))
-}
-
-/// The same where a sum of places may pass `usize::MAX`, as it may for items of size zero.
-fn wrap_add_large(place: usize, offset: usize, capacity: usize) -> usize
-    requires in_region { place < capacity }
-    requires in_reach { offset ≤ capacity }
-    ensures { result ≡ (place + offset) % capacity }
-{
-    let to_end = capacity - place;
-    if offset < to_end {
-        place + offset
-    } else {
-        offset - to_end
-    }
 }
