@@ -1,8 +1,9 @@
 //! The whole program, over any streams.
-ghost use Rattle.std.specs.Prelude.{◌≡◌, ◌≤◌, IfOk, IfErr, OnOk, Some, map, option_map, string_bytes};
+ghost use Rattle.std.specs.Prelude.{◌≡◌, ◌≤◌, ◌⊎◌, ◌∷◌, [], ◌++◌, IfOk, IfErr, OnOk, Some, codes, flat_map, map, string_bytes};
 ghost use Rattle.std.specs.Io.KnownBytes.{Appends};
 ghost use Rattle.arraydeque.specs.Policy.{saturating, wrapping};
-ghost use Rattle.adq.specs.Run.{settings_of, capacity_of, output_of, Ends, IsRefusal};
+ghost use Rattle.arraydeque.specs.Machine.{answer_of};
+ghost use Rattle.adq.specs.Run.{settings_of, text_of, list_text, Ends};
 ghost use Rattle.adq.specs.declared.fault.Fault.TheVariants.{Memory, Io};
 
 use crate::fault::Fault;
@@ -66,8 +67,7 @@ fn saturating<R: Read>(
     input: &mut R,
     text: &mut Vec<u8>,
 ) -> Result<String, Fault>
-    ensures { Ends (option_map (λ n. (saturating, n)) (capacity_of capacity.now)) text.new.items
-        result }
+    ensures { Ends (settings_of (codes "sat" ∷ capacity.now ∷ [])) text.new.items result }
 {
     match capacity {
         "0" => saturating_of::<R, 0>(alloc, input, text),
@@ -88,8 +88,7 @@ fn wrapping<R: Read>(
     input: &mut R,
     text: &mut Vec<u8>,
 ) -> Result<String, Fault>
-    ensures { Ends (option_map (λ n. (wrapping, n)) (capacity_of capacity.now)) text.new.items
-        result }
+    ensures { Ends (settings_of (codes "wrap" ∷ capacity.now ∷ [])) text.new.items result }
 {
     match capacity {
         "0" => wrapping_of::<R, 0>(alloc, input, text),
@@ -135,7 +134,7 @@ fn wrapping_of<R: Read, const CAP: usize>(
 /// Reads the input to its end. Room is made before each read, so that a read that fails was not
 /// refused memory of the program's own.
 fn read<R: Read>(input: &mut R, text: &mut Vec<u8>) -> Result<(), Fault>
-    ensures { IfErr result IsRefusal }
+    ensures { IfErr result (λ fault. (fault ≡ Memory) ⊎ (fault ≡ Io)) }
 {
     for _ in 0..u64::MAX {
         text.reserve(PIECE + 1)?;
@@ -153,8 +152,9 @@ fn print<const CAP: usize, B: Behavior>(
     replies: Vec<Reply<i64, CAP, B>>,
     deque: &ArrayDeque<i64, CAP, B>,
 ) -> Result<String, Fault>
-    ensures ok { IfOk result (λ text.
-        string_bytes text ≡ output_of replies.items deque.now.items) }
+    ensures ok { IfOk result (λ text. string_bytes text
+        ≡ flat_map (λ reply. text_of (answer_of reply) ++ 10 ∷ []) replies.items
+        ++ codes "list: " ++ list_text deque.now.items ++ 10 ∷ []) }
     ensures refused { IfErr result (λ fault. fault ≡ Memory) }
 {
     let mut text = String::new(alloc);

@@ -1,7 +1,7 @@
 //! Why a run ends early, and how it says so.
 ghost use Rattle.std.specs.Prelude.{◌≡◌};
 ghost use Rattle.adq.specs.declared.fault.Fault.TheVariants.{Io, Memory};
-ghost use Rattle.adq.specs.Fault.{status_of};
+ghost use Rattle.adq.specs.Run.{status_of};
 
 use arraydeque::MakeError;
 use std::alloc::{AllocError, AllocFailed};
