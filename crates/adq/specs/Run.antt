@@ -33,9 +33,8 @@ text_of (Answer.not_offered x) = codes "unoffered"
 -- the calls, made one after another from the list l, print their answers, and the last list
 abbrev pub Prints : Policy → ℕ → List ℤ → List (Call ℤ) → List ℕ → Type 0
 Prints p n l [] text = text ≡ codes "list: " ++ list_text l ++ 10 ∷ []
-Prints p n l (call ∷ calls) text = (answer : Answer ℤ) × (next : List ℤ) × (rest : List ℕ)
-    × Answers p n l call answer next × Prints p n next calls rest
-    × (text ≡ text_of answer ++ 10 ∷ rest)
+Prints p n l (call ∷ calls) text = (a : Answer ℤ) × (next : List ℤ) × (rest : List ℕ)
+    × Answers p n l call a next × Prints p n next calls rest × (text ≡ text_of a ++ 10 ∷ rest)
 
 -- the text's lines name calls that print this; or a fault has its cause, if it isn't a refusal
 abbrev pub Ends : {A : Type 0} → Option (Policy × ℕ) → List ℕ → Result (String A) Fault → Type 0
@@ -45,9 +44,3 @@ Ends (Some s) text (Ok printed) = (calls : List (Call ℤ)) × LinesName (lines_
 Ends (Some s) text (Err Fault.Arguments) = ⊥
 Ends (Some s) text (Err (Fault.Line n)) = (k : ℕ) × (n ≡ k + 1) × IsFirstBad (lines_of text) k
 Ends (Some s) text (Err _) = ⊤
-
--- the status that a fault ends the program with
-abbrev pub status_of : Fault → ℕ
-status_of Fault.Io = 1
-status_of Fault.Memory = 3
-status_of _ = 2

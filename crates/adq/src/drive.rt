@@ -1,5 +1,5 @@
 //! The whole program, over any streams.
-ghost use Rattle.std.specs.Prelude.{◌≡◌, ◌≤◌, ◌⊎◌, ◌∷◌, [], ◌++◌, IfOk, IfErr, OnOk, Some, codes, flat_map, map, string_bytes};
+ghost use Rattle.std.specs.Prelude.{◌≡◌, ◌≤◌, ◌⊎◌, ◌∷◌, [], ◌++◌, IfOk, IfErr, OnOk, Some, None, codes, flat_map, map, string_bytes};
 ghost use Rattle.std.specs.Io.KnownBytes.{Appends};
 ghost use Rattle.arraydeque.specs.Policy.{saturating, wrapping};
 ghost use Rattle.arraydeque.specs.Machine.{answer_of};
@@ -31,7 +31,9 @@ pub fn drive<R: Read + Drop, W: Write + Drop, F: Write + Drop>(
     mut output: W,
     faults: F,
 ) -> u8
-    ensures { result ≤ 3 }
+    ensures bound { result ≤ 3 }
+    ensures arguments { settings_of (map (λ word. string_bytes word) args.now) ≡ None
+        → result ≡ 2 }
 {
     let mut text = Vec::new(alloc);
     let printed = dispatch(alloc, args, &mut input, &mut text);

@@ -1,5 +1,5 @@
 //! Lines of text as calls of a deque.
-ghost use Rattle.std.specs.Prelude.{◌≡◌, ℕ, ℤ, ◌+◌, ◌∷◌, [], ◌⊎◌, map, IfOk, IfErr, MatchOption};
+ghost use Rattle.std.specs.Prelude.{◌≡◌, ℕ, ℤ, ◌+◌, ◌∷◌, [], ◌++◌, ◌⊎◌, map, IfOk, IfErr, MatchOption, OnOk, option_to_list};
 ghost use Rattle.std.specs.List.{AllZip};
 ghost use Rattle.std.specs.Str.Lines.{strip_carriage_return};
 ghost use Rattle.adq.specs.declared.fault.Fault.TheVariants.{Memory};
@@ -7,7 +7,7 @@ ghost use Rattle.adq.specs.Line.{lines_of, words_of, index, value, Spells, token
 
 use crate::fault::Fault;
 use arraydeque::run::Call;
-use std::alloc::Global;
+use std::alloc::{AllocError, Global};
 use std::str;
 
 /// The calls that the lines of `text` name, in order.
@@ -21,11 +21,20 @@ pub fn calls(alloc: Global, text: &[u8]) -> Result<Vec<Call<i64>>, Fault>
 {
     let mut calls = Vec::new(alloc);
     for (index, line) in text.split(|byte| *byte == b'\n').enumerate() {
-        if let Some(call) = call_of(alloc, index + 1, line)? {
-            calls.push(call)?;
-        }
+        let call = call_of(alloc, index + 1, line)?;
+        append(&mut calls, call)?;
     }
     Ok(calls)
+}
+
+/// Puts the call behind the others, if there is one.
+fn append(calls: &mut Vec<Call<i64>>, call: Option<Call<i64>>) -> Result<(), AllocError>
+    ensures { OnOk result (calls.new.items ≡ calls.old.items ++ option_to_list call) }
+{
+    if let Some(call) = call {
+        calls.push(call)?;
+    }
+    Ok(())
 }
 
 /// The call that the line of this number names, if it has words.
