@@ -36,7 +36,8 @@ Prints p n l [] text = text ≡ codes "list: " ++ list_text l ++ 10 ∷ []
 Prints p n l (call ∷ calls) text = (a : Answer ℤ) × (next : List ℤ) × (rest : List ℕ)
     × Answers p n l call a next × Prints p n next calls rest × (text ≡ text_of a ++ 10 ∷ rest)
 
--- the text's lines name calls that print this; or a fault has its cause, if it isn't a refusal
+-- what is printed, or why nothing is: the arguments are bad, this line is the first bad one,
+-- memory was refused, or a stream failed
 abbrev pub Ends : {A : Type 0} → Option (Policy × ℕ) → List ℕ → Result (String A) Fault → Type 0
 Ends None text result = result ≡ Err Fault.Arguments
 Ends (Some s) text (Ok printed) = (calls : List (Call ℤ)) × LinesName (lines_of text) calls
