@@ -7,7 +7,8 @@ use Rattle.arraydeque.specs.Run.{MachineRun}
 use Rattle.arraydeque.specs.declared.run.Call.{Call}
 use Rattle.arraydeque.specs.declared.run.Reply.{Reply}
 use Rattle.adq.specs.Line.{lines_of, LinesName}
-use Rattle.adq.specs.Run.{Ends, Prints, list_text, text_of, settings_of}
+use Rattle.adq.specs.Run.{Ends, Prints, settings_of}
+use Rattle.adq.specs.Text.{list_text, text_of}
 use Rattle.adq.specs.declared.fault.Fault.{Fault}
 use Rattle.adq.specs.declared.fault.Fault.TheVariants.{Memory}
 

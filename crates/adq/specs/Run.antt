@@ -1,8 +1,6 @@
 -- What a run of the program prints, and why another prints nothing.
-use Rattle.std.specs.Prelude.{◌≡◌, ℕ, ℤ, List, [], ◌∷◌, ◌++◌, Option, Some, None, Result, Ok, Err, String, string_bytes, codes, bytes_eq, decimal, if◌then◌else◌, ◌+◌, ⊤}
-use Rattle.std.specs.{Fmt.signed_decimal, List.join_by, Map.lookup, Option.option_map_or, Option.option_zip}
-use Rattle.arraydeque.specs.{Machine.Answer, Machine.Answers, Policy.Policy, declared.run.Call.Call}
-use Rattle.adq.specs.{Line.lines_of, Line.LinesName, Line.IsFirstBad, declared.fault.Fault.Fault}
+use Rattle.std.specs.Prelude.{◌≡◌, ℕ, ℤ, List, [], ◌∷◌, ◌++◌, Option, Some, None, Result, Ok, Err, String, string_bytes, codes, bytes_eq, ◌+◌, ⊤}
+use Rattle.{std.specs.Map.lookup, std.specs.Option.option_zip, arraydeque.specs.Machine.Answer, arraydeque.specs.Machine.Answers, arraydeque.specs.Policy.Policy, arraydeque.specs.declared.run.Call.Call, adq.specs.Line.lines_of, adq.specs.Line.LinesName, adq.specs.Line.IsFirstBad, adq.specs.Text.text_of, adq.specs.Text.list_text, adq.specs.declared.fault.Fault.Fault}
 
 -- the policy and the capacity that the arguments name
 abbrev pub settings_of : List (List ℕ) → Option (Policy × ℕ)
@@ -11,24 +9,6 @@ settings_of (policy ∷ capacity ∷ []) = option_zip (lookup (bytes_eq policy)
     (lookup (bytes_eq capacity) ((codes "0", 0) ∷ (codes "1", 1) ∷ (codes "2", 2) ∷ (codes "3", 3)
     ∷ (codes "5", 5) ∷ (codes "7", 7) ∷ (codes "8", 8) ∷ []))
 settings_of _ = None
-
--- the text of a list
-abbrev pub list_text : List ℤ → List ℕ
-list_text items = codes "[" ++ join_by signed_decimal (codes ", ") items ++ codes "]"
-
--- the text of an answer
-abbrev pub text_of : Answer ℤ → List ℕ
-text_of Answer.done = codes "ok"
-text_of (Answer.item o) = option_map_or signed_decimal o (codes "none")
-text_of (Answer.displaced o) = option_map_or signed_decimal o (codes "none")
-text_of (Answer.number n) = decimal n
-text_of (Answer.truth b) = if b then codes "true" else codes "false"
-text_of (Answer.drained items) = list_text items
-text_of (Answer.split items) = list_text items
-text_of (Answer.full x) = codes "full " ++ signed_decimal x
-text_of (Answer.out_of_range o) = codes "range"
-text_of Answer.no_memory = codes "memory"
-text_of (Answer.not_offered x) = codes "unoffered"
 
 -- the calls, made one after another from the list l, print their answers, and the last list
 abbrev pub Prints : Policy → ℕ → List ℤ → List (Call ℤ) → List ℕ → Type 0

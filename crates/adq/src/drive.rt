@@ -3,7 +3,8 @@ ghost use Rattle.std.specs.Prelude.{◌≡◌, ◌≤◌, ◌⊎◌, ◌∷◌, 
 ghost use Rattle.std.specs.Io.KnownBytes.{Appends};
 ghost use Rattle.arraydeque.specs.Policy.{saturating, wrapping};
 ghost use Rattle.arraydeque.specs.Machine.{answer_of};
-ghost use Rattle.adq.specs.Run.{settings_of, text_of, list_text, Ends};
+ghost use Rattle.adq.specs.Run.{settings_of, Ends};
+ghost use Rattle.adq.specs.Text.{text_of, list_text};
 ghost use Rattle.adq.specs.declared.fault.Fault.TheVariants.{Memory, Io};
 
 use crate::fault::Fault;

@@ -3,7 +3,7 @@ ghost use Rattle.std.specs.Prelude.{◌≡◌, [], ◌∷◌, ◌++◌, OnOk, co
 ghost use Rattle.std.specs.Fmt.{signed_decimal};
 ghost use Rattle.std.specs.Option.{option_map_or};
 ghost use Rattle.arraydeque.specs.Machine.{answer_of};
-ghost use Rattle.adq.specs.Run.{text_of, list_text};
+ghost use Rattle.adq.specs.Text.{text_of, list_text};
 
 use arraydeque::behavior::Behavior;
 use arraydeque::run::Reply;

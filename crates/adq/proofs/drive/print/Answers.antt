@@ -1,6 +1,6 @@
 use Rattle.std.proofs.Common.{◌≡◌, ◌++◌, ◌∷◌, [], ◌∙◌, ap, sym, flat_map, string_bytes, refl}
 use Rattle.arraydeque.specs.Machine.{answer_of}
-use Rattle.adq.specs.Run.{text_of}
+use Rattle.adq.specs.Text.{text_of}
 use Rattle.std.proofs.lemmas.Iterator.Adapters.{YieldsList-from_vec}
 use Rattle.std.proofs.lemmas.Iterator.Consumers.{YieldsList-end}
 use Rattle.std.proofs.lemmas.List.{map-id}

@@ -1,6 +1,6 @@
 use Rattle.std.proofs.Common.{◌≡◌, ◌∷◌, ◌++◌, [], flat_map, string_bytes}
 use Rattle.arraydeque.specs.Machine.{answer_of}
-use Rattle.adq.specs.Run.{text_of}
+use Rattle.adq.specs.Text.{text_of}
 use Rattle.adq.proofs.drive.print.Given as goal
 
 -- the replies so far are printed

@@ -1,0 +1,21 @@
+-- What answers and lists print.
+use Rattle.std.specs.Prelude.{ℕ, ℤ, List, ◌++◌, codes, decimal, if◌then◌else◌}
+use Rattle.{std.specs.Fmt.signed_decimal, std.specs.List.join_by, std.specs.Option.option_map_or, arraydeque.specs.Machine.Answer}
+
+-- the text of a list
+abbrev pub list_text : List ℤ → List ℕ
+list_text items = codes "[" ++ join_by signed_decimal (codes ", ") items ++ codes "]"
+
+-- the text of an answer
+abbrev pub text_of : Answer ℤ → List ℕ
+text_of Answer.done = codes "ok"
+text_of (Answer.item o) = option_map_or signed_decimal o (codes "none")
+text_of (Answer.displaced o) = option_map_or signed_decimal o (codes "none")
+text_of (Answer.number n) = decimal n
+text_of (Answer.truth b) = if b then codes "true" else codes "false"
+text_of (Answer.drained items) = list_text items
+text_of (Answer.split items) = list_text items
+text_of (Answer.full x) = codes "full " ++ signed_decimal x
+text_of (Answer.out_of_range o) = codes "range"
+text_of Answer.no_memory = codes "memory"
+text_of (Answer.not_offered x) = codes "unoffered"
