@@ -1,5 +1,5 @@
 -- The words of a text: what taking the first one off it leaves.
-use Rattle.std.proofs.Common.{◌≡◌, ◌≢◌, ℕ, ◌<◌, List, [], ◌∷◌, length, get_or, filter, nat_lt, eqb, Option, Some, None, MatchOption, unwrap_or, Bor, ℤ, Vec, Global, subst, refl, ap, sym, ◌∙◌, lit<, arith}
+use Rattle.std.proofs.Common.{◌≡◌, ◌≢◌, ℕ, ◌<◌, List, [], ◌∷◌, length, get_or, filter, nat_lt, eqb, Option, Some, None, unwrap_or, Bor, ap, sym, ◌∙◌, lit<, arith}
 use Rattle.std.proofs.lemmas.Bool.Decides.{nat_tests}
 use Rattle.std.proofs.lemmas.Grind.{common_steps}
 use Rattle.std.proofs.lemmas.List.{nil_from_length}
@@ -9,8 +9,7 @@ use lib.Utf8.{encode}
 use Rattle.std.proofs.lemmas.Str.Pattern.{drop_at_char, split_once_first, IsSplitOnceResult}
 use Rattle.std.specs.List.{position_or_len, before_first, after_first}
 use Rattle.std.specs.Str.Pattern.{FindsCharPrefix, CutsPrefixes, IsFullyTrimmed}
-use Rattle.arraydeque.specs.declared.run.Call.{Call}
-use Rattle.adq.specs.Line.{words_of, values_of, IsExtend}
+use Rattle.adq.specs.Line.{words_of}
 
 -- spaces cut off the front of a text part no words
 pub words_of-cut : (s : List ℕ) (ns : List ℕ) (r : List ℕ) → CutsPrefixes (FindsCharPrefix 32) s ns r → words_of s ≡ words_of r
@@ -55,7 +54,3 @@ first_word text (Some x) p d e same empty first split =
       λ z. let k = some_before text (omega arith) first in absurd (grind (arith, common_steps)),
       λ some. words_of-first text h.0 first ∙ ap (λ x. x ∷ words_of (after_first (λ b. eqb b 32) text)) (sym a) ∙ ap (λ x. p.0.now ∷ words_of x) (sym b),
     )
-
--- a vector of the values that the words write is what an extend is of
-pub extends : (extend : Vec ℤ Global → Call ℤ) (words : List (List ℕ)) (v : Vec ℤ Global) → Some v.items ≡ values_of words → IsExtend extend words (Some (extend v))
-extends extend words v e = subst (λ o. MatchOption o (Some (extend v) ≡ None) (λ xs. (u : Vec ℤ Global) × (u.items ≡ xs) × (Some (extend v) ≡ Some (extend u)))) e (v, refl, refl)

@@ -3,3 +3,5 @@ pub mod FirstWord
 pub mod LinesRead
 pub mod ListText
 pub mod Numbers
+pub mod Spelling
+pub mod ValuesRead

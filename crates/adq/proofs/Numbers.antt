@@ -1,49 +1,48 @@
--- What `parse` reads, in the words of a line.
-use Rattle.std.proofs.Common.{◌≡◌, ◌≢◌, ℕ, ℤ, pos, neg_ℤ, ◌<◌, ◌≤◌, ◌&&◌, List, length, drop, get_or, Bool, true, false, cond, nat_lt, nat_le, eqb, suc, Some, None, option_map, Result, Ok, Err, OkIff, Decides, refl, ap, sym, ◌∙◌, arith}
+-- What `parse` reads, as a word spells it.
+use Rattle.std.proofs.Common.{◌≡◌, ◌≢◌, ℕ, ℤ, pos, negsuc, neg_ℤ, ◌^◌, ◌<◌, ◌≤ℤ◌, ◌<ℤ◌, ◌==◌, List, drop, get_or, true, false, cond, Option, MatchOption, Result, Ok, Err, refl, subst, sym, arith}
 use Rattle.std.specs.Result.{result_ok}
-use Rattle.std.proofs.lemmas.Bool.{false≢true, and_parts, and_from}
-use Rattle.std.proofs.lemmas.Bool.Decides.{nat_tests}
-use Rattle.std.specs.Str.{all_ascii_digits}
-use Rattle.std.specs.Str.Parse.{digits_value, ParsesUnsigned, ParsesSigned}
-use Rattle.std.proofs.lemmas.Str.Parse.{IsNumeralModel, numerals_by_value, tells_all_ascii_digits, parse_plain, parse_signed_minus, parse_signed_plain}
-use Rattle.std.proofs.lemmas.Iterator.Adapters.{option_map_id}
+use Rattle.std.specs.Int.RustNames.{FitsSigned}
+use Rattle.std.specs.Str.Parse.{IsNumeral, digits_value, starts_with_minus, without_leading_plus, without_leading_sign, ParsesUnsigned, ParsesSigned}
+use Rattle.std.proofs.lemmas.Int.{ints}
+use Rattle.std.proofs.lemmas.Str.Parse.{digit_at, without_leading_plus_none}
 use mir.Syntax.{w64}
-use Rattle.adq.specs.Line.{number_upto, index_of, value_of}
+use Rattle.adq.specs.Line.{Token, Spells, index, value}
 
--- `parse` knows the digits by the words of a line
-own : IsNumeralModel (λ ds. all_ascii_digits ds ≡ true) (digits_value 10)
-own = numerals_by_value _ tells_all_ascii_digits
+-- r is what the word spells under f, and nothing where it spells nothing
+abbrev pub Reads : {X : Type 0} → (X → Token) → List ℕ → Option X → Type 0
+Reads {X} f word o = MatchOption o ((x : X) → ¬ (Spells word (f x))) (λ x. Spells word (f x))
 
--- the test of a word of digits, where its number is within some bound
-decided : {B : Type 0} (most : ℕ) (word : List ℕ) → Decides (nat_le (digits_value 10 word) most) B → Decides (all_ascii_digits word && nat_lt 0 (length word) && nat_le (digits_value 10 word) most) ((all_ascii_digits word ≡ true) × (0 < length word) × B)
-decided most word d = (
-  λ e. let p = and_parts _ _ e in let q = and_parts _ _ p.0 in (q.0, grind (arith, nat_tests), d.0 p.1),
-  λ p. and_from _ _ (and_from _ _ p.0 (grind (arith, nat_tests))) (d.1 p.2),
-)
+-- the numbers of 64 bits with a sign
+bounded : (x : ℤ) → FitsSigned w64 x → (neg_ℤ (pos (2 ^ 63)) ≤ℤ x) × (x <ℤ pos (2 ^ 63))
+bounded (pos n) f = let h : n < 2 ^ 63 = f.sfits in (omega (arith, ints), omega (arith, ints))
+bounded (negsuc n) f = let h : n < 2 ^ 63 = f.sfits in (omega (arith, ints), omega (arith, ints))
 
-at_most : (n most : ℕ) → Decides (nat_le n most) (n ≤ most)
-at_most n most = (λ e. grind (arith, nat_tests), λ h. grind (arith, nat_tests))
+pub fits : (x : ℤ) → neg_ℤ (pos (2 ^ 63)) ≤ℤ x → x <ℤ pos (2 ^ 63) → FitsSigned w64 x
+fits (pos n) low high = record { sfits = omega (arith, ints) }
+fits (negsuc n) low high = record { sfits = omega (arith, ints) }
 
-below : (n most top : ℕ) → suc most ≡ top → Decides (nat_le n most) (n < top)
-below n most top e = (λ h. grind (arith, nat_tests), λ h. grind (arith, nat_tests))
+-- a word without a plus is digits behind its minus
+behind : (word : List ℕ) → get_or word 0 0 ≢ 43 → without_leading_sign word ≡ drop (cond (starts_with_minus word) 1 0) word
+behind word n = elim (starts_with_minus word) as (λ b. cond b (drop 1 word) (without_leading_plus word) ≡ drop (cond b 1 0) word) [ true ↦ refl | false ↦ without_leading_plus_none word n ]
 
--- what the result of `parse` has is what the word writes
-parsed : {X E : Type 0} (f : ℕ → X) (b : Bool) (P : Type 0) (d : Decides b P) (n : ℕ) (r : Result X E) → OkIff r P (f n) → result_ok r ≡ option_map f (cond b (Some n) None)
-parsed f true P d n (Ok x) h = ap Some h.1
-parsed f true P d n (Err e) h = absurd (h (d.0 refl))
-parsed f false P d n (Ok x) h = absurd (false≢true (d.1 h.0))
-parsed f false P d n (Err e) h = refl
+pub index_read : {E : Type 0} (word : List ℕ) (r : Result ℕ E) → get_or word 0 0 ≢ 43 → ParsesUnsigned 64 10 word r → Reads index word (result_ok r)
+index_read word (Ok i) n h =
+    let p = subst (λ ds. (IsNumeral 10 ds × (digits_value 10 ds < 2 ^ 64)) × (i ≡ digits_value 10 ds)) (without_leading_plus_none word n) h in
+    (p.0.0, sym p.1, subst (λ m. m < 2 ^ 64) (sym p.1) p.0.1)
+index_read word (Err e) n h = λ i s. h (subst (λ ds. IsNumeral 10 ds × (digits_value 10 ds < 2 ^ 64)) (sym (without_leading_plus_none word n)) (s.0, subst (λ m. m < 2 ^ 64) (sym s.1) s.2))
 
--- a `+` would be read, so it must not stand first
-first_not : (word : List ℕ) (b : Bool) → Decides b (get_or word 0 0 ≡ 43) → b ≡ false → get_or word 0 0 ≢ 43
-first_not word b d e h = false≢true (sym e ∙ d.1 h)
+pub value_read : {E : Type 0} (word : List ℕ) (r : Result ℤ E) → get_or word 0 0 ≢ 43 → ParsesSigned w64 10 word r → Reads value word (result_ok r)
+value_read word (Ok x) n h =
+    let p = bounded x (subst (FitsSigned w64) (sym h.1) h.0.1) in
+    (subst (IsNumeral 10) (behind word n) h.0.0, sym h.1, p.0, p.1)
+value_read word (Err e) n h = λ x s. h (subst (IsNumeral 10) (sym (behind word n)) s.0, subst (FitsSigned w64) (sym s.1) (fits x s.2 s.3))
 
-pub index_read : {E : Type 0} (word : List ℕ) (r : Result ℕ E) (b : Bool) → Decides b (get_or word 0 0 ≡ 43) → b ≡ false → ParsesUnsigned 64 10 word r → result_ok r ≡ index_of word
-index_read word r b d e h =
-    parsed (λ n. n) _ _ (decided _ word (below _ 18446744073709551615 _ refl)) _ r (parse_plain own 64 word r h (first_not word b d e)) ∙ option_map_id _
+-- one with a plus spells no number
+plus_bad : (word : List ℕ) → get_or word 0 0 ≡ 43 → ¬ (IsNumeral 10 word)
+plus_bad word e h = let digit = digit_at word 0 h.1 h.0 in absurd (omega (arith, digit.0, digit.1))
 
-pub value_read : {E : Type 0} (word : List ℕ) (r : Result ℤ E) (b : Bool) → Decides b (get_or word 0 0 ≡ 43) → b ≡ false → ParsesSigned w64 10 word r → result_ok r ≡ value_of word
-value_read word r b d e h = elim (eqb (get_or word 0 0) 45) as (λ b. eqb (get_or word 0 0) 45 ≡ b → result_ok r ≡ cond b (option_map (λ n. neg_ℤ (pos n)) (number_upto 9223372036854775808 (drop 1 word))) (option_map pos (number_upto 9223372036854775807 word))) [
-  | true ↦ λ t. parsed (λ n. neg_ℤ (pos n)) _ _ (decided _ (drop 1 word) (at_most _ 9223372036854775808)) _ r (parse_signed_minus own w64 word r h (grind (arith, nat_tests)))
-  | false ↦ λ t. parsed pos _ _ (decided _ word (below _ 9223372036854775807 _ refl)) _ r (parse_signed_plain own w64 word r h (first_not word b d e) (grind (arith, nat_tests)))
-] refl
+pub plus_no_index : (word : List ℕ) → get_or word 0 0 ≡ 43 → (i : ℕ) → ¬ (Spells word (index i))
+plus_no_index word e i s = plus_bad word e s.0
+
+pub plus_no_value : (word : List ℕ) → get_or word 0 0 ≡ 43 → (x : ℤ) → ¬ (Spells word (value x))
+plus_no_value word e x s = plus_bad word e (subst (λ c. IsNumeral 10 (drop (cond (c == 45) 1 0) word)) e s.0)

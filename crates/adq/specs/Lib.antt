@@ -1,4 +1,3 @@
-pub mod Fault
 pub mod Line
 pub mod Run
 pub mod Text

@@ -1,8 +1,10 @@
 //! The whole program, over any streams.
-ghost use Rattle.std.specs.Prelude.{◌≡◌, ◌≤◌, IfOk, IfErr, OnOk, Some, map, option_map, string_bytes};
+ghost use Rattle.std.specs.Prelude.{◌≡◌, ◌≤◌, ◌⊎◌, ◌∷◌, [], ◌++◌, IfOk, IfErr, OnOk, Some, None, codes, flat_map, map, string_bytes};
 ghost use Rattle.std.specs.Io.KnownBytes.{Appends};
 ghost use Rattle.arraydeque.specs.Policy.{saturating, wrapping};
-ghost use Rattle.adq.specs.Run.{settings_of, capacity_of, output_of, Ends, IsRefusal};
+ghost use Rattle.arraydeque.specs.Machine.{answer_of};
+ghost use Rattle.adq.specs.Run.{settings_of, Ends};
+ghost use Rattle.adq.specs.Text.{text_of, list_text};
 ghost use Rattle.adq.specs.declared.fault.Fault.TheVariants.{Memory, Io};
 
 use crate::fault::Fault;
@@ -30,7 +32,9 @@ pub fn drive<R: Read + Drop, W: Write + Drop, F: Write + Drop>(
     mut output: W,
     faults: F,
 ) -> u8
-    ensures { result ≤ 3 }
+    ensures bound { result ≤ 3 }
+    ensures arguments { settings_of (map (λ word. string_bytes word) args.now) ≡ None
+        → result ≡ 2 }
 {
     let mut text = Vec::new(alloc);
     let printed = dispatch(alloc, args, &mut input, &mut text);
@@ -66,8 +70,7 @@ fn saturating<R: Read>(
     input: &mut R,
     text: &mut Vec<u8>,
 ) -> Result<String, Fault>
-    ensures { Ends (option_map (λ n. (saturating, n)) (capacity_of capacity.now)) text.new.items
-        result }
+    ensures { Ends (settings_of (codes "sat" ∷ capacity.now ∷ [])) text.new.items result }
 {
     match capacity {
         "0" => saturating_of::<R, 0>(alloc, input, text),
@@ -88,8 +91,7 @@ fn wrapping<R: Read>(
     input: &mut R,
     text: &mut Vec<u8>,
 ) -> Result<String, Fault>
-    ensures { Ends (option_map (λ n. (wrapping, n)) (capacity_of capacity.now)) text.new.items
-        result }
+    ensures { Ends (settings_of (codes "wrap" ∷ capacity.now ∷ [])) text.new.items result }
 {
     match capacity {
         "0" => wrapping_of::<R, 0>(alloc, input, text),
@@ -135,7 +137,7 @@ fn wrapping_of<R: Read, const CAP: usize>(
 /// Reads the input to its end. Room is made before each read, so that a read that fails was not
 /// refused memory of the program's own.
 fn read<R: Read>(input: &mut R, text: &mut Vec<u8>) -> Result<(), Fault>
-    ensures { IfErr result IsRefusal }
+    ensures { IfErr result (λ fault. (fault ≡ Memory) ⊎ (fault ≡ Io)) }
 {
     for _ in 0..u64::MAX {
         text.reserve(PIECE + 1)?;
@@ -153,8 +155,9 @@ fn print<const CAP: usize, B: Behavior>(
     replies: Vec<Reply<i64, CAP, B>>,
     deque: &ArrayDeque<i64, CAP, B>,
 ) -> Result<String, Fault>
-    ensures ok { IfOk result (λ text.
-        string_bytes text ≡ output_of replies.items deque.now.items) }
+    ensures ok { IfOk result (λ text. string_bytes text
+        ≡ flat_map (λ reply. text_of (answer_of reply) ++ 10 ∷ []) replies.items
+        ++ codes "list: " ++ list_text deque.now.items ++ 10 ∷ []) }
     ensures refused { IfErr result (λ fault. fault ≡ Memory) }
 {
     let mut text = String::new(alloc);

@@ -1,7 +1,6 @@
 //! Why a run ends early, and how it says so.
-ghost use Rattle.std.specs.Prelude.{◌≡◌};
+ghost use Rattle.std.specs.Prelude.{◌≡◌, ◌≤◌, ℕ};
 ghost use Rattle.adq.specs.declared.fault.Fault.TheVariants.{Io, Memory};
-ghost use Rattle.adq.specs.Fault.{status_of};
 
 use arraydeque::MakeError;
 use std::alloc::{AllocError, AllocFailed};
@@ -25,7 +24,11 @@ impl Fault {
     /// Says on `faults` why the run ends, and answers its status, which is the same where that
     /// can't be said.
     pub fn report<F: Write + Drop>(self, mut faults: F) -> u8
-        ensures { result ≡ status_of self }
+        ensures arguments { self ≡ Fault.Arguments → result ≡ 2 }
+        ensures line { (number : ℕ) → self ≡ Fault.Line number → result ≡ 2 }
+        ensures memory { self ≡ Fault.Memory → result ≡ 3 }
+        ensures io { self ≡ Fault.Io → result ≡ 1 }
+        ensures bound { result ≤ 3 }
     {
         let _ = writeln!(faults, "adq: {self}");
         let _ = faults.flush();

@@ -1,13 +1,13 @@
 //! Lines of text as calls of a deque.
-ghost use Rattle.std.specs.Prelude.{◌≡◌, ◌<◌, ℕ, ◌+◌, ◌∷◌, ◌⊎◌, [], length, IfOk, IfErr, IfSome, MatchOption, option_map};
-ghost use Rattle.adq.specs.Fault.{Tells};
+ghost use Rattle.std.specs.Prelude.{◌≡◌, ℕ, ℤ, ◌+◌, ◌∷◌, [], ◌++◌, ◌⊎◌, map, IfOk, IfErr, MatchOption, OnOk, option_to_list};
+ghost use Rattle.std.specs.List.{AllZip};
 ghost use Rattle.std.specs.Str.Lines.{strip_carriage_return};
 ghost use Rattle.adq.specs.declared.fault.Fault.TheVariants.{Memory};
-ghost use Rattle.adq.specs.Line.{lines_of, LineNames, LinesName, WordsName, IsFirstBad, words_of, index_of, value_of, one, two, values_of, plain, Names};
+ghost use Rattle.adq.specs.Line.{lines_of, words_of, index, value, Spells, tokens_of, LineNames, LinesName, IsFirstBad, Tells};
 
 use crate::fault::Fault;
 use arraydeque::run::Call;
-use std::alloc::Global;
+use std::alloc::{AllocError, Global};
 use std::str;
 
 /// The calls that the lines of `text` name, in order.
@@ -21,11 +21,20 @@ pub fn calls(alloc: Global, text: &[u8]) -> Result<Vec<Call<i64>>, Fault>
 {
     let mut calls = Vec::new(alloc);
     for (index, line) in text.split(|byte| *byte == b'\n').enumerate() {
-        if let Some(call) = call_of(alloc, index + 1, line)? {
-            calls.push(call)?;
-        }
+        let call = call_of(alloc, index + 1, line)?;
+        append(&mut calls, call)?;
     }
     Ok(calls)
+}
+
+/// Puts the call behind the others, if there is one.
+fn append(calls: &mut Vec<Call<i64>>, call: Option<Call<i64>>) -> Result<(), AllocError>
+    ensures { OnOk result (calls.new.items ≡ calls.old.items ++ option_to_list call) }
+{
+    if let Some(call) = call {
+        calls.push(call)?;
+    }
+    Ok(())
 }
 
 /// The call that the line of this number names, if it has words.
@@ -71,7 +80,8 @@ impl<'a> Line<'a> {
 
     /// The call of this name, whose operands are the words that are left.
     fn call(&mut self, name: &str, alloc: Global) -> Result<Call<i64>, Fault>
-        ensures { Tells self.old.number (Names name.now (words_of self.old.rest.now)) result }
+        ensures { Tells self.old.number (λ call.
+            AllZip Spells (name.now ∷ words_of self.old.rest.now) (tokens_of call)) result }
     {
         match name {
             "push_front" => Ok(Call::PushFront(self.value()?)),
@@ -113,7 +123,8 @@ impl<'a> Line<'a> {
 
     /// The call, if no word is left.
     fn end(&mut self, call: Call<i64>) -> Result<Call<i64>, Fault>
-        ensures { Tells self.old.number (λ o. o ≡ plain call (words_of self.old.rest.now)) result }
+        ensures { Tells self.old.number
+            (λ made. (made ≡ call) × (words_of self.old.rest.now ≡ [])) result }
     {
         match self.word() {
             None => Ok(call),
@@ -124,7 +135,7 @@ impl<'a> Line<'a> {
     /// The value that is the one word left.
     fn value(&mut self) -> Result<i64, Fault>
         ensures { Tells self.old.number
-            (λ o. o ≡ one value_of (words_of self.old.rest.now)) result }
+            (λ x. AllZip Spells (words_of self.old.rest.now) (value x ∷ [])) result }
     {
         if let Some(word) = self.word()
             && let Some(value) = value_of(word)
@@ -138,7 +149,7 @@ impl<'a> Line<'a> {
     /// The index that is the one word left.
     fn index(&mut self) -> Result<usize, Fault>
         ensures { Tells self.old.number
-            (λ o. o ≡ one index_of (words_of self.old.rest.now)) result }
+            (λ i. AllZip Spells (words_of self.old.rest.now) (index i ∷ [])) result }
     {
         if let Some(word) = self.word()
             && let Some(index) = index_of(word)
@@ -151,8 +162,8 @@ impl<'a> Line<'a> {
 
     /// The two indexes that are the words left.
     fn indexes(&mut self) -> Result<(usize, usize), Fault>
-        ensures { Tells self.old.number
-            (λ o. o ≡ two index_of index_of (words_of self.old.rest.now)) result }
+        ensures { Tells self.old.number (λ both.
+            AllZip Spells (words_of self.old.rest.now) (index both.0 ∷ index both.1 ∷ [])) result }
     {
         if let Some(first) = self.word()
             && let Some(second) = self.word()
@@ -167,8 +178,8 @@ impl<'a> Line<'a> {
 
     /// The index and the value that are the words left.
     fn index_and_value(&mut self) -> Result<(usize, i64), Fault>
-        ensures { Tells self.old.number
-            (λ o. o ≡ two index_of value_of (words_of self.old.rest.now)) result }
+        ensures { Tells self.old.number (λ both.
+            AllZip Spells (words_of self.old.rest.now) (index both.0 ∷ value both.1 ∷ [])) result }
     {
         if let Some(first) = self.word()
             && let Some(second) = self.word()
@@ -183,8 +194,8 @@ impl<'a> Line<'a> {
 
     /// The values that are the words left.
     fn values(&mut self, alloc: Global) -> Result<Vec<i64>, Fault>
-        ensures { Tells self.old.number (λ o.
-            option_map (λ v. v.items) o ≡ values_of (words_of self.old.rest.now)) result }
+        ensures { Tells self.old.number (λ values.
+            AllZip Spells (words_of self.old.rest.now) (map value values.items)) result }
     {
         let mut values = Vec::new(alloc);
         while let Some(word) = self.word() {
@@ -205,7 +216,8 @@ impl<'a> Line<'a> {
 
 /// The value that a word writes. `parse` alone would take a `+` before it.
 fn value_of(word: &str) -> Option<i64>
-    ensures { result ≡ value_of word.now }
+    ensures { MatchOption result ((x : ℤ) → ¬ (Spells word.now (value x)))
+        (λ x. Spells word.now (value x)) }
 {
     if word.starts_with('+') {
         return None;
@@ -215,7 +227,8 @@ fn value_of(word: &str) -> Option<i64>
 
 /// The index that a word writes.
 fn index_of(word: &str) -> Option<usize>
-    ensures { result ≡ index_of word.now }
+    ensures { MatchOption result ((i : ℕ) → ¬ (Spells word.now (index i)))
+        (λ i. Spells word.now (index i)) }
 {
     if word.starts_with('+') {
         return None;

@@ -1,8 +1,9 @@
 //! Replies and lists as lines of text.
-ghost use Rattle.std.specs.Prelude.{◌≡◌, [], ◌++◌, OnOk, codes, string_bytes, if◌then◌else◌};
+ghost use Rattle.std.specs.Prelude.{◌≡◌, [], ◌∷◌, ◌++◌, OnOk, codes, string_bytes, if◌then◌else◌};
 ghost use Rattle.std.specs.Fmt.{signed_decimal};
+ghost use Rattle.std.specs.Option.{option_map_or};
 ghost use Rattle.arraydeque.specs.Machine.{answer_of};
-ghost use Rattle.adq.specs.Text.{text_of, list_text, item_text, line_of};
+ghost use Rattle.adq.specs.Text.{text_of, list_text};
 
 use arraydeque::behavior::Behavior;
 use arraydeque::run::Reply;
@@ -16,7 +17,7 @@ pub fn print_reply<const CAP: usize, B: Behavior>(
     reply: Reply<i64, CAP, B>,
 ) -> Result<(), AllocError>
     ensures { OnOk result (string_bytes text.new
-        ≡ string_bytes text.old ++ line_of (text_of (answer_of reply))) }
+        ≡ string_bytes text.old ++ text_of (answer_of reply) ++ 10 ∷ []) }
 {
     match reply {
         Reply::Done => writeln!(text, "ok"),
@@ -38,7 +39,7 @@ pub fn print_reply<const CAP: usize, B: Behavior>(
 /// Appends an item, if there is one.
 fn print_item(text: &mut String, item: Option<i64>) -> Result<(), AllocError>
     ensures { OnOk result (string_bytes text.new
-        ≡ string_bytes text.old ++ line_of (item_text item)) }
+        ≡ string_bytes text.old ++ option_map_or signed_decimal item (codes "none") ++ 10 ∷ []) }
 {
     match item {
         Some(item) => writeln!(text, "{item}"),
@@ -52,7 +53,7 @@ pub fn print_deque<const CAP: usize, B: Behavior>(
     deque: &ArrayDeque<i64, CAP, B>,
 ) -> Result<(), AllocError>
     ensures { OnOk result (string_bytes text.new
-        ≡ string_bytes text.old ++ line_of (list_text deque.now.items)) }
+        ≡ string_bytes text.old ++ list_text deque.now.items ++ 10 ∷ []) }
 {
     write!(text, "[")?;
     let mut is_first = true;
@@ -66,7 +67,7 @@ pub fn print_deque<const CAP: usize, B: Behavior>(
 /// Appends the items that a drain removed, likewise.
 fn print_drained(text: &mut String, items: Drain<i64>) -> Result<(), AllocError>
     ensures { OnOk result (string_bytes text.new
-        ≡ string_bytes text.old ++ line_of (list_text items)) }
+        ≡ string_bytes text.old ++ list_text items ++ 10 ∷ []) }
 {
     write!(text, "[")?;
     let mut is_first = true;
