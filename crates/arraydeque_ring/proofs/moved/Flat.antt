@@ -64,7 +64,7 @@ module _ {X : Type 0} where
       ∙ sym (flat_at i j (k + m) ps x (omega arith) (omega arith) in_it))
 
   -- what a list holds with other places in the stead of m of its own
-  spliced : (ps qs : List (Option X)) (i m x : ℕ) → length qs ≡ m → i + m ≤ length ps
+  pub spliced : (ps qs : List (Option X)) (i m x : ℕ) → length qs ≡ m → i + m ≤ length ps
       → get_or (take i ps ++ (qs ++ drop (i + m) ps)) x None ≡ (if nat_lt x i then get_or ps x None else (if nat_lt x (i + m) then get_or qs (x - i) None else get_or ps x None))
   spliced ps qs i m x many within = grind (arith, nat_tests, common_steps)
 

@@ -21,12 +21,20 @@ pub place_of-zero : (t n : ℕ) → t ≤ n - 1 → place_of t 0 n ≡ t
 place_of-zero t zero le = let none : t ≡ 0 = omega arith in ap (λ m. place_of m 0 0) none ∙ sym none
 place_of-zero t (suc n) le = mod-eq_of_lt (omega arith) ∙ omega arith
 
--- to go on by k and then by i is to go up by both, round the end
-place_of-place_of : (t k i n : ℕ) → place_of (place_of t k n) i n ≡ place_of t (place_of k i n) n
-place_of-place_of t k i n = mod-add-mod (t + k) n i ∙ ap (λ m. m % n) (add_assoc t k i) ∙ sym (add-mod-mod t (k + i) n)
+-- from the first place on an index is a place
+pub place_of-first : (k n : ℕ) → k < n → place_of 0 k n ≡ k
+place_of-first k n lt = mod-eq_of_lt (omega arith) ∙ omega arith
+
+-- to go on by i and then by x is to go up by both
+pub place_of-sum : (t i x n : ℕ) → place_of (place_of t i n) x n ≡ place_of t (i + x) n
+place_of-sum t i x n = mod-add-mod (t + i) n x ∙ ap (λ m. m % n) (add_assoc t i x)
+
+-- round the end
+pub place_of-place_of : (t i x n : ℕ) → place_of (place_of t i n) x n ≡ place_of t (place_of i x n) n
+place_of-place_of t i x n = place_of-sum t i x n ∙ sym (add-mod-mod t (i + x) n)
 
 -- two indexes have two places
-same_index : (t i j n : ℕ) → t ≤ n → i < n → j < n → place_of t i n ≡ place_of t j n → i ≡ j
+pub same_index : (t i j n : ℕ) → t ≤ n → i < n → j < n → place_of t i n ≡ place_of t j n → i ≡ j
 same_index t i j n a b c e = elim (place_of_cases t i n (omega arith)) [
   | inl x ↦ elim (place_of_cases t j n (omega arith)) [ inl y ↦ omega arith | inr y ↦ omega arith ]
   | inr x ↦ elim (place_of_cases t j n (omega arith)) [ inl y ↦ omega arith | inr y ↦ omega arith ]

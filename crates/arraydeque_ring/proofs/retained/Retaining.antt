@@ -45,7 +45,7 @@ module _ {F X : Type 0} {R : F → X → Bool → F → Type 0} {f : F} {items :
 
   -- no more stay than were asked about, and all lie in the region
   pub all_within : index ≤ length items → (kept ≤ index) × (length items ≤ n)
-  all_within le = (omega (arith, counted le), omega (arith, s.places.all, counted le, s.many, length-drop index items))
+  all_within le = (omega (arith, counted le), omega (arith, s.places.within, counted le, s.many, length-drop index items))
 
   -- all have been asked about
   pub all_asked : length items ≤ index → LaidOut n t (items_where_true s.answers items) ps
@@ -102,7 +102,7 @@ module _ {F X : Type 0} {R : F → X → Bool → F → Type 0} {f : F} {items :
         let moved : ℕ = if place_of t kept n == place_of t index n then 0 else 1 in
         let all = counted s (omega arith) in
         let within = (all_within s (omega arith)).1 in
-        let test : (place_of t kept n == place_of t index n) ≡ (gap == 0) = one_place t kept index n (omega (arith, s.places.in_region)) (omega arith) (omega arith) ∙ same_test kept gap index all in
+        let test : (place_of t kept n == place_of t index n) ≡ (gap == 0) = one_place t kept index n (omega (arith, s.places.reads.in_region)) (omega arith) (omega arith) ∙ same_test kept gap index all in
         let moves : before.moves + count_moved bs + moved ≡ before.moves + count_moved (bs ++ true ∷ []) =
         ap (λ b. before.moves + count_moved bs + (if b then 0 else 1)) test ∙ add_assoc before.moves (count_moved bs) (if gap == 0 then 0 else 1) ∙ ap (λ k. before.moves + k) (sym (moved-push_true bs gap refl)) in
         record {

@@ -2,7 +2,7 @@ use Rattle.std.proofs.Common.{length, refl, sym, ap, subst, ◌∙◌, arith}
 use Rattle.std.proofs.lemmas.List.{append-nil}
 use Rattle.arraydeque_ring.specs.Places.{Region}
 use Rattle.arraydeque_ring.specs.Ring.{IsInOnePiece}
-use Rattle.arraydeque_ring.proofs.places.LaidOut.{length_within}
+use Rattle.arraydeque_ring.proofs.places.LaidOut.{length_within, rotated-LaidOut, LaidOut-from}
 use Rattle.arraydeque_ring.proofs.places.Opened.{Opened, opened, closed, kept}
 use Rattle.arraydeque_ring.proofs.places.Rotated.{length-rotated}
 use Rattle.arraydeque_ring.proofs.ring.Ring.linearize.Given.{Over}
@@ -17,11 +17,7 @@ after g c =
     let turns = rw c.moved_out.ensures.region at c.turn-slots.ensures.places in
     let places = ap (λ (region : Region g.row.T.Denot). region.places) c.replace-nothing.ensures.after ∙ turns in
     record {
-      laid = record {
-        long = ap length places ∙ length-rotated c.self.inside.start c.self.inside.slots.places ∙ ring.laid.long;
-        in_region = omega arith;
-        is = append-nil c.replace-nothing.new.dest.places ∙ places ∙ ring.laid.is;
-      };
+      laid = LaidOut-from _ (ap length places ∙ length-rotated c.self.inside.start c.self.inside.slots.places ∙ ring.laid.long) (omega arith) (append-nil c.replace-nothing.new.dest.places ∙ places ∙ rotated-LaidOut ring.laid);
       len = ring.len;
       start = refl;
       steps = refl;

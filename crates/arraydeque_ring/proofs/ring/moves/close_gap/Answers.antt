@@ -1,14 +1,26 @@
-use Rattle.std.proofs.Common.{◌≡◌, min, refl, ap, ◌∙◌, arith}
+use Rattle.std.proofs.Common.{◌≡◌, ◌+◌, length, min, refl, ap, ◌∙◌, arith}
 use Rattle.std.proofs.lemmas.Bool.{cond_below, cond_above}
 use Rattle.arraydeque_ring.specs.Ring.{place_of}
 use Rattle.arraydeque_ring.specs.Steps.{more_moves}
+use Rattle.arraydeque_ring.proofs.places.Rotated.{place_of-zero}
 use Rattle.arraydeque_ring.proofs.ring.moves.close_gap.Goals as goal
+
+pub move_later-requires-clause-within : goal.move_later-requires-clause-within
+move_later-requires-clause-within g c = omega (arith, c.requires.within)
+
+pub move_later-requires-clause-filled : goal.move_later-requires-clause-filled
+move_later-requires-clause-filled g c = rw (place_of-zero c.args.start (length c.args.slots.now.places) (omega (arith, c.requires.in_region))) c.requires.filled_before
+
+pub move_later-requires-clause-empty : goal.move_later-requires-clause-empty
+move_later-requires-clause-empty g c = let zero : 0 + c.args.before ≡ c.args.before = omega arith in rw zero c.requires.empty
 
 pub returns-then-before-behind-clause-start : goal.returns-then-before-behind-clause-start
 returns-then-before-behind-clause-start g c = c.wrap_add.ensures ∙ ap (place_of c.args.start c.args.gap) c.capacity-capacity.ensures ∙ cond_below c.args.before c.args.behind _ _ c.if-before-behind.true
 
 pub returns-then-before-behind-clause-places : goal.returns-then-before-behind-clause-places
-returns-then-before-behind-clause-places g c = c.move_later.ensures.places ∙ cond_below c.args.before c.args.behind _ _ c.if-before-behind.true
+returns-then-before-behind-clause-places g c =
+    let zero : 0 + c.args.gap ≡ c.args.gap = omega arith in
+    rw (zero, place_of-zero c.args.start (length c.args.slots.now.places) (omega (arith, c.requires.in_region))) at c.move_later.ensures.places ∙ cond_below c.args.before c.args.behind _ _ c.if-before-behind.true
 
 pub returns-else-before-behind-clause-start : goal.returns-else-before-behind-clause-start
 returns-else-before-behind-clause-start g c = cond_above c.args.before c.args.behind _ _ _ c.if-before-behind.false refl
