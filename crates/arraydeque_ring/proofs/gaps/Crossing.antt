@@ -1,22 +1,13 @@
 -- A run of values that moves across a run of empty places, round the region's end.
-use Rattle.std.proofs.Common.{◌≡◌, ◌≢◌, ◌==◌, ℕ, zero, suc, ◌+◌, ◌-◌, ◌<◌, ◌≤◌, ◌⊎◌, inl, inr, List, length, get_or, if◌then◌else◌, Option, None, sym, ap, ◌∙◌, subst, arith}
+use Rattle.std.proofs.Common.{◌≡◌, ◌≢◌, ◌==◌, ℕ, zero, suc, ◌+◌, ◌-◌, ◌<◌, ◌≤◌, ◌⊎◌, inl, inr, List, length, if◌then◌else◌, Option, ap, ◌∙◌, subst, arith}
 use Rattle.std.proofs.lemmas.Bool.{cases_lt}
 use Rattle.std.proofs.lemmas.Bool.Decides.{nat_tests}
-use Rattle.arraydeque_ring.specs.Moved.{MeetAtOneEndAtMost, IsEmptyRound, IsFreeRound, run_moved}
+use Rattle.arraydeque_ring.specs.Moved.{MeetAtOneEndAtMost, IsEmptyRound, IsFreeRound}
 use Rattle.arraydeque_ring.specs.Places.{IsEmpty}
-use Rattle.arraydeque_ring.specs.Ring.{place_of, rotated}
-use Rattle.arraydeque_ring.proofs.moved.Flat.{distance_is, look, length-moved, flat_at}
-use Rattle.arraydeque_ring.proofs.moved.Round.{distance-rotated, rotated-moved}
-use Rattle.arraydeque_ring.proofs.places.Holds.{Holds, Holds-of_rotated, Holds-rotated}
-use Rattle.arraydeque_ring.proofs.places.Rotated.{place_of-sum, one_place, length-rotated}
-
--- what is read once a run has moved from the index j on to the index i on
-pub Holds-moved : {X : Type 0} {n t : ℕ} {f : ℕ → Option X} {ps : List (Option X)} → Holds n t f ps → (i j len : ℕ) → t < n → i + len ≤ n → j + len ≤ n → Holds n t (look f i j len) (run_moved (place_of t i (length ps)) (place_of t j (length ps)) len ps)
-Holds-moved {n = n} {t = t} {f = f} {ps = ps} h i j len t_in a b =
-    let long : length (rotated t ps) ≡ n = length-rotated t ps ∙ h.long in
-    subst (λ c. Holds n t (look f i j len) (run_moved (place_of t i c) (place_of t j c) len ps)) (sym h.long) (Holds-of_rotated (length-moved _ _ len ps ∙ h.long) h.in_region (λ k lt.
-    ap (λ l. get_or l k None) (rotated-moved t i j len n ps h.long t_in (omega arith) (omega arith)) ∙ flat_at i j len (rotated t ps) k (omega arith) (omega arith) (omega arith)
-    ∙ grind (arith, nat_tests, Holds-rotated h k lt, Holds-rotated h (j + (k - i)))))
+use Rattle.arraydeque_ring.specs.Ring.{place_of}
+use Rattle.arraydeque_ring.proofs.moved.Flat.{distance_is}
+use Rattle.arraydeque_ring.proofs.moved.Round.{distance-rotated}
+use Rattle.arraydeque_ring.proofs.places.Rotated.{place_of-sum, one_place}
 
 -- what `wrap_move` asks of such a move besides its values, and how many it moves
 pub record Moves {X : Type 0} (t i j len n : ℕ) (ps : List (Option X)) : Type 0 where

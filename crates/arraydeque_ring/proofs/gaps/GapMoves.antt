@@ -5,7 +5,7 @@ use Rattle.std.proofs.lemmas.Bool.Decides.{nat_tests}
 use Rattle.std.proofs.lemmas.List.{length-append, length-take-le, length-drop, take_all, drop_all}
 use Rattle.arraydeque_ring.specs.Moved.{IsFilledRound, IsEmptyRound, run_moved}
 use Rattle.arraydeque_ring.specs.Ring.{place_of}
-use Rattle.arraydeque_ring.proofs.gaps.Crossing.{Holds-moved}
+use Rattle.arraydeque_ring.proofs.moved.Round.{Holds-moved}
 use Rattle.arraydeque_ring.proofs.gaps.Gapped.{Gapped, LaidOut-gap_first, LaidOut-gap_last}
 use Rattle.arraydeque_ring.proofs.places.Holds.{Holds-same, Holds-filled, Holds-empty}
 use Rattle.arraydeque_ring.proofs.places.Items.{items, slice_get_some}

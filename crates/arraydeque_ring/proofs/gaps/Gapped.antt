@@ -52,17 +52,6 @@ module _ {X : Type 0} {n t : ℕ} {xs : List X} {ps : List (Option X)} (l : Laid
       let front = length-take-le i xs (omega arith) in
       record { within = omega (arith, length-drop (suc i) xs); reads = Holds-set (holds l) i None (omega arith) (grind (arith, nat_tests)) (λ k k_in other. grind (arith, nat_tests, items)) }
 
-  -- where the first m are, from the places from the start on
-  pub Gapped-run_emptied : (m : ℕ) → m ≤ length xs → t + m ≤ n → Gapped n t [] m (drop m xs) (run_emptied t m ps)
-  Gapped-run_emptied m le fits = let within = l.within in record {
-    within = omega (arith, length-drop m xs);
-    reads = record {
-      long = length-run_emptied t m ps (omega (arith, l.long)) ∙ l.long;
-      in_region = l.in_region;
-      at = λ k lt. get_or-run_emptied t m ps (place_of t k n) (omega (arith, l.long)) ∙ grind (arith, nat_tests, items, l.at k lt, place_of_cases t k n (omega (arith, l.in_region)));
-    };
-  }
-
 module _ {X : Type 0} {n t : ℕ} {xs : List X} {ps : List (Option X)} where
   -- a gap behind all items is none
   pub LaidOut-gap_last : {gap : ℕ} → Gapped n t xs gap [] ps → LaidOut n t xs ps

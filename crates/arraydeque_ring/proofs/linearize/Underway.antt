@@ -10,7 +10,7 @@ use Rattle.arraydeque_ring.specs.Moved.{IsFilledRound, IsEmptyRound, run_moved}
 use Rattle.arraydeque_ring.specs.Places.{held_at, IsFilled, IsFilledRun}
 use Rattle.arraydeque_ring.specs.Ring.{place_of, rotated, values, filled, FilledFrom}
 use Rattle.arraydeque_ring.specs.Swapped.{runs_swapped}
-use Rattle.arraydeque_ring.proofs.gaps.Crossing.{Holds-moved}
+use Rattle.arraydeque_ring.proofs.moved.Round.{Holds-moved}
 use Rattle.arraydeque_ring.proofs.moved.Flat.{look, length-moved, same_places}
 use Rattle.arraydeque_ring.proofs.places.Held.{filled_run_of, empty_run_of}
 use Rattle.arraydeque_ring.proofs.places.Holds.{Holds-plain, Holds-first, Holds-filled, Holds-empty}

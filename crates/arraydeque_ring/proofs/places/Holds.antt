@@ -2,9 +2,10 @@
 use Rattle.std.proofs.Common.{◌≡◌, ◌≢◌, ℕ, ◌+◌, ◌-◌, ◌<◌, ◌≤◌, inl, inr, List, length, set, get_or, Option, Some, None, refl, sym, ap, ◌∙◌, arith}
 use Rattle.std.proofs.lemmas.Bool.{cases_eq}
 use Rattle.std.proofs.lemmas.List.{length-set, get_or-set_same, get_or-set_other}
-use Rattle.arraydeque_ring.specs.Moved.{IsFilledRound, IsEmptyRound}
+use Rattle.arraydeque_ring.specs.Moved.{distance, IsFilledRound, IsEmptyRound}
 use Rattle.arraydeque_ring.specs.Places.{held_at}
 use Rattle.arraydeque_ring.specs.Ring.{place_of, rotated}
+use Rattle.arraydeque_ring.proofs.moved.Flat.{same_places, up_from}
 use Rattle.arraydeque_ring.proofs.places.Rotated.{place_of-first, place_of-lt, place_of-sum, place_of-place_of, same_index, get_or-rotated}
 
 -- the n places hold, from the place t on, what f says of each index
@@ -49,6 +50,13 @@ module _ {X : Type 0} {n t : ℕ} {f : ℕ → Option X} {ps : List (Option X)} 
 
   pub Holds-empty : (i len : ℕ) → i + len ≤ n → ((k : ℕ) → k < len → f (i + k) ≡ None) → IsEmptyRound (place_of t i (length ps)) len ps
   Holds-empty i len within each k lt = rw (h.long, place_of-sum t i k n) (omega (arith, place_of-lt t (i + k) n (omega (arith, h.in_region))), h.at (i + k) (omega arith) ∙ each k lt)
+
+-- what is read says what the places are
+pub Holds-once : {X : Type 0} {n t : ℕ} {f : ℕ → Option X} {ps qs : List (Option X)} → Holds n t f ps → Holds n t f qs → ps ≡ qs
+Holds-once {n = n} {t = t} {ps = ps} {qs = qs} h k = same_places ps qs (h.long ∙ sym k.long) (λ x lt.
+    let here = up_from x t n (omega (arith, k.long)) (omega (arith, h.in_region, k.long)) in
+    let within : distance t x n < n = place_of-lt x (n - t) n (omega (arith, h.in_region, k.long)) in
+    ap (held_at ps) (sym here) ∙ h.at (distance t x n) within ∙ sym (ap (held_at qs) (sym here) ∙ k.at (distance t x n) within))
 
 -- from the first place on an index is its own place
 pub Holds-plain : {X : Type 0} (ps : List (Option X)) → Holds (length ps) 0 (held_at ps) ps

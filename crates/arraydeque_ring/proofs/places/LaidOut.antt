@@ -2,15 +2,16 @@
 use Rattle.std.proofs.Common.{◌≡◌, ◌≢◌, ℕ, ◌+◌, ◌-◌, ◌<◌, ◌≤◌, List, [], ◌∷◌, ◌++◌, length, take, drop, set, get_or, replicate, slice_get, nat_lt, if◌then◌else◌, Option, Some, None, is_some, true, false, refl, sym, ap, ap₂, ◌∙◌, subst, arith}
 use Rattle.std.proofs.lemmas.Bool.Decides.{nat_tests}
 use Rattle.std.proofs.lemmas.Grind.{common_steps}
-use Rattle.std.proofs.lemmas.List.{length-append, length-take, length-drop, length-map, length-replicate, length-set, nil_from_length}
+use Rattle.std.proofs.lemmas.List.{length-append, length-take, length-drop, length-map, length-replicate, length-set}
+use Rattle.std.proofs.lemmas.Option.{slice_get_past}
 use Rattle.arraydeque_ring.specs.Places.{held_at, IsFilled, IsEmpty, HoldsRun, IsFilledRun, AreAllEmpty}
 use Rattle.arraydeque_ring.specs.Ring.{place_of, rotated, values, filled, FilledFrom}
 use Rattle.arraydeque_ring.proofs.moved.Flat.{same_places}
 use Rattle.arraydeque_ring.proofs.places.AndEmpty.{and_empty, length-and_empty, get_or-and_empty, values-and_empty, values-map_Some, filled-and_empty, and_empty_from}
 use Rattle.arraydeque_ring.proofs.places.Held.{holds_run_of}
-use Rattle.arraydeque_ring.proofs.places.Holds.{Holds, Holds-of_rotated, Holds-rotated, Holds-from, Holds-set}
+use Rattle.arraydeque_ring.proofs.places.Holds.{Holds, Holds-once, Holds-of_rotated, Holds-rotated, Holds-from, Holds-set}
 use Rattle.arraydeque_ring.proofs.places.Items.{items, slice_get_some, slice_get-cons, slice_get-drop}
-use Rattle.arraydeque_ring.proofs.places.Rotated.{MayStartAt, place_of-lt, place_of-zero, place_of_cases, length-rotated, rotated-run, rotated-map, rotated_back, rotated-replicate}
+use Rattle.arraydeque_ring.proofs.places.Rotated.{MayStartAt, place_of-lt, place_of-run, place_of-zero, place_of_cases, length-rotated, rotated-map}
 
 -- the n places hold the items from the place t on, round the end, and nothing else
 pub record LaidOut {X : Type 0} (n t : ℕ) (xs : List X) (ps : List (Option X)) : Type 0 where
@@ -92,7 +93,10 @@ module _ {X : Type 0} {n t : ℕ} {xs : List X} {ps : List (Option X)} (l : Laid
 
   -- they stand from the place p on
   HoldsRun-LaidOut : (i p len : ℕ) → MayStartAt t i n p → i + len ≤ length xs → p + len ≤ n → HoldsRun ps p len (take len (drop i xs))
-  HoldsRun-LaidOut i p len at within fits = sym (rotated-run t i n p len ps l.long (omega (arith, l.in_region)) at (omega (arith, length_within)) fits) ∙ HoldsRun-rotated i len within
+  HoldsRun-LaidOut i p len at within fits =
+      let all = l.within in
+      holds_run_of ps p len (take len (drop i xs)) (omega (arith, length-take len (drop i xs), length-drop i xs)) (omega (arith, l.long))
+      (λ k lt. ap (held_at ps) (sym (place_of-run t i k n p at (omega arith) (omega (arith, l.in_region)) (omega arith))) ∙ l.at (i + k) (omega arith) ∙ grind (arith, nat_tests, items))
 
   pub IsFilledRun-LaidOut : (i p len : ℕ) → MayStartAt t i n p → i + len ≤ length xs → p + len ≤ n → IsFilledRun ps p len
   IsFilledRun-LaidOut i p len at within fits = (omega (arith, l.long), (take len (drop i xs), HoldsRun-LaidOut i p len at within fits))
@@ -104,10 +108,11 @@ module _ {X : Type 0} {n t : ℕ} {xs : List X} {ps : List (Option X)} (l : Laid
 
   -- with no items every place is empty
   pub AreAllEmpty-LaidOut : length xs ≡ 0 → AreAllEmpty ps
-  AreAllEmpty-LaidOut none =
-      let left = length ps - t in
-      let nothing : rotated t ps ≡ replicate (length ps) None = rotated-LaidOut ∙ ap₂ and_empty (nil_from_length xs none) (omega (arith, l.long)) in
-      sym (rotated_back t ps) ∙ ap (rotated left) nothing ∙ rotated-replicate left (length ps) None (omega (arith, l.long))
+  AreAllEmpty-LaidOut none = Holds-once (holds l) (record {
+    long = length-replicate (length ps) None ∙ l.long;
+    in_region = l.in_region;
+    at = λ k lt. let past = slice_get_past xs k (omega arith) in grind (arith, common_steps);
+  })
 
   -- and the list may start at the first place as well
   pub LaidOut-restart : length xs ≡ 0 → LaidOut {X = X} n 0 [] ps
