@@ -30,15 +30,6 @@ take_run-requires-clause-filled g c =
     let ring = opened c.self.inside c.self.invariant c.self.view_is in
     IsFilledRun-rotated ring.laid _ _ (omega arith)
 
-pub take_run-requires-clause-room : goal.take_run-requires-clause-room
-take_run-requires-clause-room g c = rw c.in_ok-drained.ensures.ok (omega arith)
-
-pub overflow_sub-self : goal.overflow_sub-self
-overflow_sub-self g c = let ring = opened c.self.inside c.self.invariant c.self.view_is in omega arith
-
-pub overflow_sub-self-inside : goal.overflow_sub-self-inside
-overflow_sub-self-inside g c = let ring = opened c.self.inside c.self.invariant c.self.view_is in omega arith
-
 gap : (g : Over) (c : After-take_run g) → let old = c.args.self.now in
     Gapped old.capacity c.self.inside.start (take c.args.from old.items) (c.args.to - c.args.from) (drop c.args.to old.items) c.take_run.new.slots.places
 gap g c =

@@ -14,19 +14,6 @@ use Rattle.arraydeque_ring.proofs.ring.Ring.insert.Given.{Over}
 use Rattle.arraydeque_ring.proofs.ring.Ring.insert.Goals.{After-wrap_add, then-index-behind, else-index-behind}
 use Rattle.arraydeque_ring.proofs.ring.Ring.insert.Goals as goal
 
-pub overflow_sub-behind : goal.overflow_sub-behind
-overflow_sub-behind g c = omega (arith, (opened c.self.inside c.self.invariant c.self.view_is).len)
-
-pub move_earlier-requires-clause-within : goal.move_earlier-requires-clause-within
-move_earlier-requires-clause-within g c =
-    let ring = opened c.self.inside c.self.invariant c.self.view_is in
-    omega (arith, ring.laid.long, c.requires.room, c.requires.in_bounds)
-
-pub move_later-requires-clause-within : goal.move_later-requires-clause-within
-move_later-requires-clause-within g c =
-    let ring = opened c.self.inside c.self.invariant c.self.view_is in
-    omega (arith, ring.laid.long, c.requires.room)
-
 pub move_earlier-requires-clause-empty : goal.move_earlier-requires-clause-empty
 move_earlier-requires-clause-empty g c =
     let ring = opened c.self.inside c.self.invariant c.self.view_is in
@@ -88,11 +75,6 @@ front g c = length-take-le c.args.index c.args.self.now.items c.requires.in_boun
 
 pub put-requires : goal.put-requires
 put-requires g c = rw (place g c) (IsEmpty-gap 1 c.args.index (gap g c).0 (front g c) (omega arith))
-
-pub overflow_add-self : goal.overflow_add-self
-overflow_add-self g c =
-    let ring = opened c.self.inside c.self.invariant c.self.view_is in
-    omega (arith, ring.laid.long, (gap g (goal.at.overflow_add-self g c).After-wrap_add).3)
 
 after : (g : Over) (c : goal.After-self-2-1 g) → let old = c.args.self.now in let behind = length old.items - c.args.index in
     Opened record { slots = c.put.new.self; start = c.if-index-behind.self-inside.start; len = c.if-index-behind.self-inside.len + 1; alloc = c.if-index-behind.self-inside.alloc } record {

@@ -51,9 +51,6 @@ take-requires g c =
     let ring = opened c.self.inside c.self.invariant c.self.view_is in
     next_filled c.args.self.capacity c.args.self.start c.args.self.items c.loop-k.k (c.self.inside.start + c.loop-k.k) (omega (arith, ring.len)) (before_end c.args.self.start c.self.inside.start c.loop-k.k c.args.self.capacity ring.start (omega (arith, ring.laid.long, ring.laid.in_region, c.capacity.ensures, c.min-first.ensures))) c.loop-k.invariant.laid
 
-pub push_reserved-requires : goal.push_reserved-requires
-push_reserved-requires g c = let ring = opened c.self.inside c.self.invariant c.self.view_is in omega (arith, c.loop-k.invariant.room, ring.len)
-
 pub loop-k-preserved : goal.loop-k-preserved
 loop-k-preserved g c =
     let ring = opened c.self.inside c.self.invariant c.self.view_is in
@@ -68,9 +65,6 @@ pub take-requires-in-loop-k-2 : goal.take-requires-in-loop-k-2
 take-requires-in-loop-k-2 g c =
     let ring = opened c.self.inside c.self.invariant c.self.view_is in
     next_filled c.args.self.capacity c.args.self.start c.args.self.items c.loop-k-2.k (c.loop-k-2.k - c.min-first.result) (omega (arith, ring.len)) (past_end c.args.self.start c.self.inside.start c.min-first.result c.loop-k-2.k c.args.self.capacity ring.start (omega (arith, ring.laid.in_region, ring.start)) (omega (arith, ring.laid.long, ring.len, length_within ring.laid, c.capacity.ensures, c.min-first.ensures)) (omega arith) (omega (arith, ring.len, length_within ring.laid))) c.loop-k-2.invariant.laid
-
-pub push_reserved-requires-in-loop-k-2 : goal.push_reserved-requires-in-loop-k-2
-push_reserved-requires-in-loop-k-2 g c = let ring = opened c.self.inside c.self.invariant c.self.view_is in omega (arith, c.loop-k-2.invariant.room, ring.len)
 
 pub loop-k-2-preserved : goal.loop-k-2-preserved
 loop-k-2-preserved g c =

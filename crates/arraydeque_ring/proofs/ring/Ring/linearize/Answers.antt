@@ -23,21 +23,6 @@ after g c =
       steps = refl;
     }
 
-pub returns-then-self-capacity-clause-one_piece : goal.returns-then-self-capacity-clause-one_piece
-returns-then-self-capacity-clause-one_piece g c =
-    let ring = opened c.self.inside c.self.invariant c.self.view_is in
-    omega (arith, ring.laid.long, ring.laid.in_region, length_within ring.laid, ring.len, ring.start)
-
-pub returns-then-self-capacity-clause-start : goal.returns-then-self-capacity-clause-start
-returns-then-self-capacity-clause-start g c =
-    let ring = opened c.self.inside c.self.invariant c.self.view_is in
-    λ wraps. absurd (wraps (omega (arith, ring.laid.long, ring.laid.in_region, length_within ring.laid, ring.len, ring.start)))
-
-pub turn-slots-requires-clause-in_region : goal.turn-slots-requires-clause-in_region
-turn-slots-requires-clause-in_region g c =
-    let ring = opened c.self.inside c.self.invariant c.self.view_is in
-    rw c.moved_out.ensures.region (omega (arith, ring.laid.long, ring.laid.in_region, length_within ring.laid, ring.len))
-
 pub invariant_of-self : goal.invariant_of-self
 invariant_of-self g c = kept (after g (goal.at.invariant_of-self g c).After-replace-nothing)
 
@@ -45,13 +30,3 @@ pub returns-clause-one_piece : goal.returns-clause-one_piece
 returns-clause-one_piece g c =
     let ring = opened c.self.inside c.self.invariant c.self.view_is in
     subst IsInOnePiece (sym (closed (after g (goal.at.returns-clause-one_piece g c).After-replace-nothing))) (omega (arith, length_within ring.laid))
-
-pub returns-clause-steps : goal.returns-clause-steps
-returns-clause-steps g c =
-    let ring = opened c.self.inside c.self.invariant c.self.view_is in
-    rw (ring.len, ← ring.steps, c.replace-nothing.ensures.after) (rw c.moved_out.ensures.region at c.turn-slots.ensures.steps)
-
-pub returns-clause-unchanged : goal.returns-clause-unchanged
-returns-clause-unchanged g c =
-    let ring = opened c.self.inside c.self.invariant c.self.view_is in
-    λ in_one_piece. absurd (omega (arith, ring.laid.long, ring.len, ring.start))

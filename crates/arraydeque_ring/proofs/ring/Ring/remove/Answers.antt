@@ -13,21 +13,10 @@ use Rattle.arraydeque_ring.proofs.ring.Ring.remove.Given.{Over}
 use Rattle.arraydeque_ring.proofs.ring.Ring.remove.Goals.{After-take-item}
 use Rattle.arraydeque_ring.proofs.ring.Ring.remove.Goals as goal
 
-pub wrap_add-requires-clause-in_reach : goal.wrap_add-requires-clause-in_reach
-wrap_add-requires-clause-in_reach g c =
-    let ring = opened c.self.inside c.self.invariant c.self.view_is in
-    omega (arith, ring.laid.long, length_within ring.laid)
-
 pub take-item-requires : goal.take-item-requires
 take-item-requires g c =
     let ring = opened c.self.inside c.self.invariant c.self.view_is in
     rw (place_at ring _ c.capacity.ensures c.wrap_add.ensures) (IsFilled-place_of ring.laid _ c.requires)
-
-pub overflow_sub-self : goal.overflow_sub-self
-overflow_sub-self g c = let ring = opened c.self.inside c.self.invariant c.self.view_is in omega arith
-
-pub overflow_sub-self-inside : goal.overflow_sub-self-inside
-overflow_sub-self-inside g c = let ring = opened c.self.inside c.self.invariant c.self.view_is in omega arith
 
 gap : (g : Over) (c : After-take-item g) → let old = c.args.self.now in Gapped old.capacity c.self.inside.start (take c.args.index old.items) 1 (drop (suc c.args.index) old.items) c.take-item.new.self.places
 gap g c =

@@ -27,16 +27,6 @@ LaidOut-swap {n = n} {t = t} {ps = ps} (d ∷ rest) l i j i_in j_in =
     let places : set (set ps p (Some (get_or xs j d))) q (Some (get_or xs i d)) ≡ swap ps p q = ap₂ (λ a b. set (set ps p a) q b) (sym at_q) (sym at_p) ∙ swap_is ps p q None (in_region i i_in) (in_region j j_in) in
     subst (λ qs. LaidOut n t (swap xs i j) qs) places (subst (λ ys. LaidOut n t ys (set (set ps p (Some (get_or xs j d))) q (Some (get_or xs i d)))) (swap_is xs i j d i_in j_in) both)
 
-pub place-a-requires-clause-in_reach : goal.place-a-requires-clause-in_reach
-place-a-requires-clause-in_reach g c =
-    let ring = opened c.self.inside c.self.invariant c.self.view_is in
-    omega (arith, ring.laid.long, length_within ring.laid)
-
-pub place-b-requires-clause-in_reach : goal.place-b-requires-clause-in_reach
-place-b-requires-clause-in_reach g c =
-    let ring = opened c.self.inside c.self.invariant c.self.view_is in
-    omega (arith, ring.laid.long, length_within ring.laid)
-
 pub exchange-requires-clause-a_filled : goal.exchange-requires-clause-a_filled
 exchange-requires-clause-a_filled g c =
     let ring = opened c.self.inside c.self.invariant c.self.view_is in
