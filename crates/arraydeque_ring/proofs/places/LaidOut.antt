@@ -62,10 +62,7 @@ module _ {X : Type 0} {n t : ℕ} {xs : List X} {ps : List (Option X)} (l : Laid
       let left : n - length xs ≡ length (filled ps) - m = omega (arith, l.long, length-map ps is_some) in
       rotated-map is_some t ps ∙ ap filled rotated-LaidOut ∙ filled-and_empty xs (n - length xs) ∙ ap₂ (λ a b. replicate a true ++ replicate b false) e left
 
-  -- the place of the index k holds the item k, and nothing past the last one
-  pub held_at-place_of : (k : ℕ) → k < n → held_at ps (place_of t k n) ≡ slice_get xs k
-  held_at-place_of = l.at
-
+  -- the place of an item is filled, and that of an index past the last one is empty
   pub IsFilled-place_of : (k : ℕ) → k < length xs → IsFilled ps (place_of t k n)
   IsFilled-place_of k lt = let some = slice_get_some xs k lt in (some.0, l.at k (omega (arith, l.within)) ∙ some.1)
 

@@ -14,25 +14,31 @@ use Rattle.arraydeque_ring.proofs.ring.Ring.insert.Given.{Over}
 use Rattle.arraydeque_ring.proofs.ring.Ring.insert.Goals.{After-wrap_add, then-index-behind, else-index-behind}
 use Rattle.arraydeque_ring.proofs.ring.Ring.insert.Goals as goal
 
-pub move_earlier-requires-clause-empty : goal.move_earlier-requires-clause-empty
-move_earlier-requires-clause-empty g c =
+pub move_earlier-requires : goal.move_earlier-requires
+move_earlier-requires g c =
     let ring = opened c.self.inside c.self.invariant c.self.view_is in
-    rw (rw (c.capacity-capacity.ensures ∙ ring.laid.long) at c.wrap_add-self-inside.ensures) (gap_empty (Gapped-before ring.laid c.requires.room) 0 refl)
+    let gap = Gapped-before ring.laid c.requires.room in
+    let room = gap.within in
+    rw (rw (c.capacity-capacity.ensures ∙ ring.laid.long) at c.wrap_add-self-inside.ensures) (record {
+      in_region = omega (arith, gap.reads.in_region, ring.laid.long);
+      some = omega arith;
+      within = omega (arith, ring.laid.long, c.requires.in_bounds);
+      empty = gap_empty gap 0 refl;
+      filled = filled_behind gap (0 + 1) c.args.index refl c.requires.in_bounds;
+    })
 
-pub move_earlier-requires-clause-filled : goal.move_earlier-requires-clause-filled
-move_earlier-requires-clause-filled g c =
+pub move_later-requires : goal.move_later-requires
+move_later-requires g c =
     let ring = opened c.self.inside c.self.invariant c.self.view_is in
-    rw (rw (c.capacity-capacity.ensures ∙ ring.laid.long) at c.wrap_add-self-inside.ensures) (filled_behind (Gapped-before ring.laid c.requires.room) (0 + 1) c.args.index refl c.requires.in_bounds)
-
-pub move_later-requires-clause-filled : goal.move_later-requires-clause-filled
-move_later-requires-clause-filled g c =
-    let ring = opened c.self.inside c.self.invariant c.self.view_is in
-    filled_before (Gapped-behind ring.laid c.requires.room) c.args.index (c.self.inside.len - c.args.index) (omega arith)
-
-pub move_later-requires-clause-empty : goal.move_later-requires-clause-empty
-move_later-requires-clause-empty g c =
-    let ring = opened c.self.inside c.self.invariant c.self.view_is in
-    gap_empty (Gapped-behind ring.laid c.requires.room) (c.args.index + (c.self.inside.len - c.args.index)) (omega arith)
+    let gap = Gapped-behind ring.laid c.requires.room in
+    let room = gap.within in
+    record {
+      in_region = omega (arith, ring.laid.in_region, ring.laid.long);
+      some = omega arith;
+      within = omega (arith, ring.laid.long);
+      filled = filled_before gap c.args.index (c.self.inside.len - c.args.index) (omega arith);
+      empty = gap_empty gap (c.args.index + (c.self.inside.len - c.args.index)) (omega arith);
+    }
 
 -- with the gap open
 gap : (g : Over) (c : After-wrap_add g) → let old = c.args.self.now in let behind = length old.items - c.args.index in let now = c.if-index-behind.self-inside in

@@ -7,7 +7,7 @@ use Rattle.arraydeque_ring.specs.Steps.{more_takes, more_moves}
 use Rattle.arraydeque_ring.proofs.gaps.Fewest.{fewest_remove}
 use Rattle.arraydeque_ring.proofs.gaps.GapMoves.{may_close, LaidOut-closed}
 use Rattle.arraydeque_ring.proofs.gaps.Gapped.{Gapped, Gapped-taken_one}
-use Rattle.arraydeque_ring.proofs.places.LaidOut.{length_within, held_at-place_of, IsFilled-place_of}
+use Rattle.arraydeque_ring.proofs.places.LaidOut.{length_within, IsFilled-place_of}
 use Rattle.arraydeque_ring.proofs.places.Opened.{Opened, opened, closed, kept, place_at}
 use Rattle.arraydeque_ring.proofs.ring.Ring.remove.Given.{Over}
 use Rattle.arraydeque_ring.proofs.ring.Ring.remove.Goals.{After-take-item}
@@ -57,7 +57,7 @@ returns g c =
     let within = length_within ring.laid in
     let now = after g c in
     record {
-      value = sym (held_at-place_of ring.laid c.args.index (omega arith)) ∙ rw (place_at ring _ c.capacity.ensures c.wrap_add.ensures) at c.take-item.ensures.value;
+      value = sym (ring.laid.at c.args.index (omega arith)) ∙ rw (place_at ring _ c.capacity.ensures c.wrap_add.ensures) at c.take-item.ensures.value;
       items = ap (λ (r : RingState g.row.T.Denot). r.items) (closed now);
       capacity = now.laid.long;
       start = now.start;
