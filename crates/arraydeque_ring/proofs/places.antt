@@ -1,5 +1,4 @@
 pub mod AndEmpty
-pub mod Cleared
 pub mod Emptied
 pub mod Handed
 pub mod Held

@@ -82,18 +82,18 @@ module _ {X : Type 0} {n t : ℕ} {xs ys : List X} {ps : List (Option X)} where
   pub LaidOut-put : (i : ℕ) (x : X) → Gapped n t xs 1 ys ps → length xs ≡ i → LaidOut n t (xs ++ x ∷ ys) (set ps (place_of t i n) (Some x))
   LaidOut-put i x p front = let qs = set ps (place_of t i n) (Some x) in subst (λ l. LaidOut n t l qs) (append_assoc xs (x ∷ []) ys) (LaidOut-no_gap (Gapped-put i x p front))
 
-module _ {X : Type 0} {n t : ℕ} {xs : List X} {gap : ℕ} {y : X} {ys : List X} {ps : List (Option X)} (p : Gapped n t xs gap (y ∷ ys) ps) (i : ℕ) (here : length xs + gap ≡ i) where
+module _ {X : Type 0} {n t : ℕ} {xs : List X} {gap : ℕ} {ps : List (Option X)} (ys : List X) (j i : ℕ) (p : Gapped n t xs gap (drop j ys) ps) (here : length xs + gap ≡ i) (some : j < length ys) where
   -- the first item behind the gap, in its place
-  pub held_behind : held_at ps (place_of t i n) ≡ Some y
-  held_behind = let within = p.within in p.reads.at i (omega arith) ∙ grind (arith, nat_tests, slice_get-cons y ys 0)
+  pub held_behind : held_at ps (place_of t i n) ≡ slice_get ys j
+  held_behind = let within = p.within in p.reads.at i (omega (arith, length-drop j ys)) ∙ grind (arith, nat_tests, items)
 
   -- taken out of it
-  pub Gapped-take : Gapped n t xs (suc gap) ys (set ps (place_of t i n) None)
-  Gapped-take = let within = p.within in record {
-    within = omega arith;
-    reads = Holds-set p.reads i None (omega arith) (grind (arith, nat_tests)) (λ k lt other. grind (arith, nat_tests, slice_get-cons y ys (k - i)));
+  pub Gapped-take : Gapped n t xs (suc gap) (drop (j + 1) ys) (set ps (place_of t i n) None)
+  Gapped-take = let within = p.within in let long = length-drop j ys in record {
+    within = omega (arith, length-drop (j + 1) ys);
+    reads = Holds-set p.reads i None (omega arith) (grind (arith, nat_tests)) (λ k lt other. grind (arith, nat_tests, items));
   }
 
   -- and moved to the gap's first place, which may be its own
-  pub Gapped-move : (j : ℕ) → length xs ≡ j → Gapped n t (xs ++ y ∷ []) gap ys (set (set ps (place_of t i n) None) (place_of t j n) (held_at ps (place_of t i n)))
-  Gapped-move j front = rw held_behind (Gapped-put j y Gapped-take front)
+  pub Gapped-move : (x : X) (k : ℕ) → slice_get ys j ≡ Some x → length xs ≡ k → Gapped n t (xs ++ x ∷ []) gap (drop (j + 1) ys) (set (set ps (place_of t i n) None) (place_of t k n) (held_at ps (place_of t i n)))
+  Gapped-move x k is front = rw (held_behind, is) (Gapped-put k x Gapped-take front)

@@ -1,9 +1,9 @@
 -- A run of places that is emptied, one place after another.
-use Rattle.std.proofs.Common.{◌≡◌, ℕ, ◌+◌, ◌-◌, ◌<◌, ◌≤◌, ◌==◌, inl, inr, List, [], ◌∷◌, ◌++◌, length, take, drop, set, get_or, replicate, nat_lt, if◌then◌else◌, Option, Some, None, refl, sym, ap, ◌∙◌, arith}
+use Rattle.std.proofs.Common.{◌≡◌, ℕ, ◌+◌, ◌<◌, ◌≤◌, ◌==◌, inl, inr, List, [], ◌∷◌, ◌++◌, length, set, get_or, nat_lt, if◌then◌else◌, Option, Some, None, refl, sym, ap, ◌∙◌, arith}
 use Rattle.std.proofs.lemmas.Bool.{cases_eq, eq-eqb, ne_eqb}
 use Rattle.std.proofs.lemmas.Bool.Decides.{nat_tests}
 use Rattle.std.proofs.lemmas.Grind.{common_steps}
-use Rattle.std.proofs.lemmas.List.{append_assoc, length-set, get_or-set_same, get_or-set_other}
+use Rattle.std.proofs.lemmas.List.{length-set, get_or-set_same, get_or-set_other}
 use Rattle.arraydeque_ring.specs.Ring.{values}
 use Rattle.arraydeque_ring.specs.Gaps.{run_emptied}
 use Rattle.arraydeque_ring.proofs.moved.Flat.{same_places}
@@ -20,10 +20,6 @@ module _ {X : Type 0} where
     | inl same ↦ rw (eq-eqb x i same, same) (get_or-set_same ps i c None lt)
     | inr other ↦ rw (ne_eqb x i other) (get_or-set_other ps i x c None other)
   ]
-
-  -- the same run, said by its end
-  pub run_emptied-up_to : (ps : List (Option X)) (from end : ℕ) → from ≤ end → take from ps ++ replicate (end - from) None ++ drop end ps ≡ run_emptied from (end - from) ps
-  run_emptied-up_to ps from end le = append_assoc (take from ps) (replicate (end - from) None) (drop end ps) ∙ ap (λ i. take from ps ++ (replicate (end - from) None ++ drop i ps)) (omega arith)
 
   module _ (at k : ℕ) (ps : List (Option X)) where
     pub length-run_emptied : at + k ≤ length ps → length (run_emptied at k ps) ≡ length ps

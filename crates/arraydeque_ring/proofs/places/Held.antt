@@ -1,13 +1,12 @@
 -- Places and runs of them: what is filled, empty, and exchanged.
-use Rattle.std.proofs.Common.{◌≡◌, ◌≢◌, ℕ, zero, suc, ◌+◌, ◌<◌, ◌≤◌, inl, inr, List, [], ◌∷◌, ◌++◌, length, take, drop, set, get_or, slice_get, swap, Option, Some, None, refl, sym, ap, ap₂, ◌∙◌, add-one, arith}
+use Rattle.std.proofs.Common.{◌≡◌, ◌≢◌, ℕ, zero, suc, ◌+◌, ◌<◌, ◌≤◌, List, [], ◌∷◌, ◌++◌, length, take, drop, set, get_or, slice_get, swap, Option, Some, None, refl, sym, ap, ap₂, ◌∙◌, subst, add-one, arith}
 use Rattle.std.proofs.lemmas.Grind.{common_steps}
-use Rattle.std.proofs.lemmas.List.{length-map, length-take-le, length-drop, map-append, take_more, get_or-take, get_or-drop, get_or-map, get_or-replicate, get_or-set_other, set-set, set_comm}
+use Rattle.std.proofs.lemmas.List.{length-map, length-take-le, length-drop, map-append, take_more, get_or-take, get_or-drop, get_or-replicate, get_or-set_other, set-set, set_comm}
 use Rattle.std.proofs.lemmas.List.Edits.{swap_is}
-use Rattle.std.proofs.lemmas.Option.{slice_get_cases}
 use Rattle.arraydeque_ring.specs.Places.{held_at, IsFilled, HoldsRun, IsFilledRun}
 use Rattle.arraydeque_ring.specs.Gaps.{IsEmptyRun}
 use Rattle.arraydeque_ring.proofs.moved.Flat.{same_places}
-use Rattle.arraydeque_ring.proofs.places.Items.{get_or-map_Some}
+use Rattle.arraydeque_ring.proofs.places.Items.{get_or-map_Some, slice_get_some}
 
 module _ {X : Type 0} where
   -- a filled place is one of the region's
@@ -16,15 +15,6 @@ module _ {X : Type 0} where
   filled_within (p ∷ ps) zero x e = omega arith
   filled_within (p ∷ ps) (suc i) x e = omega (arith, filled_within ps i x e)
 
-  run_of_one : (ps : List (Option X)) (i : ℕ) (x : X) → get_or ps i None ≡ Some x → HoldsRun ps i 1 (x ∷ [])
-  run_of_one [] i x e = cc
-  run_of_one (p ∷ ps) zero x e = ap (λ q. q ∷ []) e
-  run_of_one (p ∷ ps) (suc i) x e = run_of_one ps i x e
-
-  -- a filled place is a filled run of one
-  pub is_filled_run : (ps : List (Option X)) (i : ℕ) → IsFilled ps i → IsFilledRun ps i 1
-  is_filled_run ps i held = (omega (arith, filled_within ps i held.0 held.1), (held.0 ∷ [], run_of_one ps i held.0 held.1))
-
   -- a filled run has as many values as places
   pub length_filled : (ps : List (Option X)) (from len : ℕ) (run : IsFilledRun ps from len) → length run.1.0 ≡ len
   length_filled ps from len run = omega (arith, run.0, ap length run.1.1, length-map run.1.0 Some, length-take-le len (drop from ps) (omega (arith, run.0, length-drop from ps)))
@@ -32,12 +22,8 @@ module _ {X : Type 0} where
   -- and each place of a filled run is filled
   pub filled_in_run : (ps : List (Option X)) (from len k : ℕ) → IsFilledRun ps from len → k < len → IsFilled ps (from + k)
   filled_in_run ps from len k run lt =
-      let xs = run.1.0 in
-      let many = length_filled ps from len run in
-      elim (slice_get_cases xs k).1 [
-        | inl at ↦ (at.0, sym (get_or-take len (drop from ps) k None lt ∙ get_or-drop from ps k None) ∙ ap (λ l. get_or l k None) run.1.1 ∙ get_or-map Some xs k at.0 None at.1 ∙ ap Some at.3)
-        | inr past ↦ absurd (omega arith)
-      ]
+      let some = slice_get_some run.1.0 k (omega (arith, length_filled ps from len run)) in
+      (some.0, sym (get_or-take len (drop from ps) k None lt ∙ get_or-drop from ps k None) ∙ ap (λ l. get_or l k None) run.1.1 ∙ get_or-map_Some run.1.0 k ∙ some.1)
 
   -- each place of an empty run is empty
   pub empty_in_run : (ps : List (Option X)) (from len k : ℕ) → IsEmptyRun ps from len → k < len → get_or ps (from + k) None ≡ None
@@ -66,6 +52,10 @@ module _ {X : Type 0} where
           ap (λ m. take m (drop from ps)) (sym (add-one len)) ∙ take_more (drop from ps) len None (omega (arith, length-drop from ps)) ∙ ap₂ (λ l q. l ++ q ∷ []) front.1.1 (get_or-drop from ps len None ∙ last.1) ∙ sym (map-append Some front.1.0 (last.0 ∷ [])),
         ),
       )
+
+  -- a filled place is a filled run of one
+  pub is_filled_run : (ps : List (Option X)) (i : ℕ) → IsFilled ps i → IsFilledRun ps i 1
+  is_filled_run ps i held = filled_run_of ps i 1 (omega (arith, filled_within ps i held.0 held.1)) (λ x a b. subst (IsFilled ps) (omega arith) held)
 
   pub empty_run_of : (ps : List (Option X)) (from len : ℕ) → from + len ≤ length ps → ((x : ℕ) → from ≤ x → x < from + len → held_at ps x ≡ None) → IsEmptyRun ps from len
   empty_run_of ps from len le each = (le, same_places _ _ (grind (arith, common_steps)) (λ x lt. grind (arith, common_steps, each (from + x))))

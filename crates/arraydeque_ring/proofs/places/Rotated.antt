@@ -50,6 +50,9 @@ one_place t i j n a b c = elim (cases_eq i j) [
 abbrev pub MayStartAt : ℕ → ℕ → ℕ → ℕ → Type 0
 MayStartAt t i n p = (p ≡ t + i) ⊎ (p + n ≡ t + i)
 
+pub MayStartAt-place_of : (t i n : ℕ) → t + i < n + n → MayStartAt t i n (place_of t i n)
+MayStartAt-place_of t i n within = elim (place_of_cases t i n within) [ inl below ↦ inl below.1 | inr past ↦ inr past.1 ]
+
 -- and its items stand side by side, as far as the end
 pub place_of-run : (t i j n p : ℕ) → MayStartAt t i n p → p + j < n → t ≤ n → i + j < n → place_of t (i + j) n ≡ p + j
 place_of-run t i j n p at a b c = elim (place_of_cases t (i + j) n (omega arith)) [

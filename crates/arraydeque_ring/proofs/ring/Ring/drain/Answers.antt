@@ -68,24 +68,21 @@ after g c =
 pub invariant_of-self : goal.invariant_of-self
 invariant_of-self g c = kept (after g c)
 
-pub returns-clause-drained : goal.returns-clause-drained
-returns-clause-drained g c =
+pub returns : goal.returns
+returns g c =
     let ring = opened c.self.inside c.self.invariant c.self.view_is in
-    rw (c.take_run.ensures.taken, c.in_ok-drained.ensures.ok, values-run ring.laid c.args.from (c.args.to - c.args.from) (omega arith))
-
-pub returns-clause-items : goal.returns-clause-items
-returns-clause-items g c = ap (λ (r : RingState g.row.T.Denot). r.items) (closed (after g c))
-
-pub returns-clause-capacity : goal.returns-clause-capacity
-returns-clause-capacity g c = (after g c).laid.long
-
-pub returns-clause-start : goal.returns-clause-start
-returns-clause-start g c = (after g c).start
-
-pub returns-clause-steps : goal.returns-clause-steps
-returns-clause-steps g c =
+    let now = after g c in
     let some : c.args.from < c.args.to = omega arith in
-    (after g c).steps ∙ ap (λ n. more_moves n (more_takes (c.args.to - c.args.from) c.args.self.now.steps)) (cond_below c.args.from c.args.to _ _ some)
+    record {
+      drained = rw (c.take_run.ensures.taken, c.in_ok-drained.ensures.ok, values-run ring.laid c.args.from (c.args.to - c.args.from) (omega arith)) refl;
+      items = ap (λ (r : RingState g.row.T.Denot). r.items) (closed now);
+      capacity = now.laid.long;
+      start = now.start;
+      steps = now.steps ∙ ap (λ n. more_moves n (more_takes (c.args.to - c.args.from) c.args.self.now.steps)) (cond_below c.args.from c.args.to _ _ some);
+      fewest = rw now.start (fewest_drain _ _ _ _ _ (omega (arith, ring.laid.in_region, ring.start)) c.requires.in_order c.requires.in_bounds (length_within ring.laid));
+      unchanged = tt;
+      refused = tt;
+    }
 
 pub returns-then-count-eq0-clause-fewest : goal.returns-then-count-eq0-clause-fewest
 returns-then-count-eq0-clause-fewest g c =
@@ -93,8 +90,3 @@ returns-then-count-eq0-clause-fewest g c =
     let ring = opened c.self.inside c.self.invariant c.self.view_is in
     subst (IsFewest _ old.capacity _) (sym (returns-then-count-eq0-clause-start g c))
     (fewest_drain c.args.from c.args.to (length old.items) old.capacity old.start (omega (arith, ring.laid.in_region, ring.start)) c.requires.in_order c.requires.in_bounds (length_within ring.laid))
-
-pub returns-clause-fewest : goal.returns-clause-fewest
-returns-clause-fewest g c =
-    let ring = opened c.self.inside c.self.invariant c.self.view_is in
-    rw (after g c).start (fewest_drain _ _ _ _ _ (omega (arith, ring.laid.in_region, ring.start)) c.requires.in_order c.requires.in_bounds (length_within ring.laid))
