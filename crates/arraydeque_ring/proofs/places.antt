@@ -1,9 +1,9 @@
 pub mod AndEmpty
-pub mod Cleared
 pub mod Emptied
 pub mod Handed
 pub mod Held
-pub mod InParts
+pub mod Holds
+pub mod Items
 pub mod LaidOut
 pub mod Opened
 pub mod Reads

@@ -2,6 +2,8 @@
 //!
 //! A contract sees a [`Ring`] as its items from front to back, its capacity, the place of its first
 //! item and the steps of its region. A ring knows no policy: a push asks for room.
+#![tactic(auto, using(crate::proofs::places::Opened::ring_facts))]
+
 ghost use Rattle.std.specs.Prelude.{◌≡◌, ◌-◌, ◌*◌, ◌+◌, ◌^◌, ◌<◌, ◌≤◌, ◌==◌, [], ◌∷◌, ◌++◌, length, take, drop, slice_get, Some, if◌then◌else◌, option_copied, IfOk, OnErr, OnSome, IfNone};
 ghost use Rattle.std.specs.Borrow.{sem};
 ghost use Rattle.std.specs.Mem.{type_size};

@@ -8,7 +8,8 @@ use Rattle.arraydeque_ring.specs.Ring.{rotated, filled, FilledFrom}
 use Rattle.arraydeque_ring.specs.Swapped.{runs_swapped}
 use Rattle.arraydeque_ring.proofs.places.Reads.{rotated_from, length-run_rotated, get_or-run_rotated, swapped_from, length-runs_swapped, get_or-runs_swapped, runs_swapped_both}
 use Rattle.arraydeque_ring.proofs.places.Rotated.{length-rotated, rotated-map}
-use Rattle.arraydeque_ring.proofs.linearize.Underway.{Underway, underway, reads, filled_run_of, empty_run_of}
+use Rattle.arraydeque_ring.proofs.linearize.Underway.{Underway, underway, reads}
+use Rattle.arraydeque_ring.proofs.places.Held.{filled_run_of, empty_run_of}
 
 module _ {X : Type 0} {dst gap behind len : ℕ} {ps : List (Option X)} (next : ℕ) (u : Underway dst gap behind len ps) (here : dst + gap ≡ next) where
   -- after a pass of `run` values to their places, two runs have still to change places
@@ -18,9 +19,9 @@ module _ {X : Type 0} {dst gap behind len : ℕ} {ps : List (Option X)} (next : 
       let long = length-runs_swapped dst next run ps (elim ways [ inl w ↦ omega arith | inr w ↦ omega arith ]) (elim ways [ inl w ↦ omega (arith, u.whole) | inr w ↦ omega (arith, u.whole) ]) in
       let rs = runs_swapped dst next run ps in
       elim ways [
-        | inl w ↦ reads next u here _ (length-run_rotated (dst + run) left last rs (omega (arith, long, u.whole)) ∙ long) (λ x. get_or-run_rotated (dst + run) left last rs (omega (arith, long, u.whole)) x
+        | inl w ↦ reads next u here _ (length-run_rotated (dst + run) left last rs (omega (arith, long, u.whole)) ∙ long) (λ x lt. get_or-run_rotated (dst + run) left last rs (omega (arith, long, u.whole)) x
             ∙ get_or-runs_swapped dst next run ps (omega arith) (omega (arith, u.whole)) (rotated_from (dst + run) left last x) ∙ ap (held_at ps) (grind (arith, nat_tests)))
-        | inr w ↦ reads next u here _ (length-run_rotated (dst + run) left last rs (omega (arith, long, u.whole)) ∙ long) (λ x. get_or-run_rotated (dst + run) left last rs (omega (arith, long, u.whole)) x
+        | inr w ↦ reads next u here _ (length-run_rotated (dst + run) left last rs (omega (arith, long, u.whole)) ∙ long) (λ x lt. get_or-run_rotated (dst + run) left last rs (omega (arith, long, u.whole)) x
             ∙ get_or-runs_swapped dst next run ps (omega arith) (omega (arith, u.whole)) (rotated_from (dst + run) left last x) ∙ ap (held_at ps) (grind (arith, nat_tests)))
       ]
 

@@ -1,33 +1,22 @@
 -- A region while its list is laid in one piece: the first values are in their places, and two runs behind them have
 -- still to change places.
-use Rattle.std.proofs.Common.{◌≡◌, ℕ, ◌+◌, ◌-◌, ◌<◌, ◌≤◌, inl, inr, List, length, drop, get_or, nat_lt, if◌then◌else◌, slice_get, Option, None, is_some, refl, sym, ap, ◌∙◌, subst, arith}
-use Rattle.std.proofs.Math.Nat.{mod-eq_of_lt}
+use Rattle.std.proofs.Common.{◌≡◌, ℕ, ◌+◌, ◌-◌, ◌<◌, ◌≤◌, inl, inr, List, length, Option, None, refl, sym, ap, ◌∙◌, arith}
 use Rattle.std.proofs.lemmas.Bool.{cases_lt}
 use Rattle.std.proofs.lemmas.Bool.Decides.{nat_tests}
-use Rattle.std.proofs.lemmas.Grind.{common_steps}
-use Rattle.std.proofs.lemmas.List.{append-nil, length-map, get_or-take, get_or-drop, get_or-replicate}
-use Rattle.std.proofs.lemmas.Option.{slice_get_cases}
+use Rattle.std.proofs.lemmas.List.{get_or_past}
+use Rattle.std.proofs.lemmas.Option.{slice_get_past}
 use Rattle.arraydeque_ring.specs.Gaps.{IsEmptyRun, run_rotated}
+use Rattle.arraydeque_ring.specs.Moved.{IsFilledRound, IsEmptyRound, run_moved}
 use Rattle.arraydeque_ring.specs.Places.{held_at, IsFilled, IsFilledRun}
-use Rattle.arraydeque_ring.specs.Ring.{rotated, values, filled, FilledFrom}
+use Rattle.arraydeque_ring.specs.Ring.{place_of, rotated, values, filled, FilledFrom}
 use Rattle.arraydeque_ring.specs.Swapped.{runs_swapped}
-use Rattle.arraydeque_ring.proofs.moved.Flat.{same_places}
-use Rattle.arraydeque_ring.proofs.moved.Sources.{round_run}
-use Rattle.arraydeque_ring.proofs.places.AndEmpty.{length-and_empty, get_or-and_empty, and_empty_from}
+use Rattle.arraydeque_ring.proofs.moved.Round.{Holds-moved}
+use Rattle.arraydeque_ring.proofs.moved.Flat.{look, length-moved, same_places}
+use Rattle.arraydeque_ring.proofs.places.Held.{filled_run_of, empty_run_of}
+use Rattle.arraydeque_ring.proofs.places.Holds.{Holds-plain, Holds-first, Holds-filled, Holds-empty}
+use Rattle.arraydeque_ring.proofs.places.Items.{slice_get_some}
+use Rattle.arraydeque_ring.proofs.places.LaidOut.{holds, LaidOut-values}
 use Rattle.arraydeque_ring.proofs.places.Reads.{rotated_from, length-run_rotated, get_or-run_rotated, swapped_from, length-runs_swapped, get_or-runs_swapped}
-
-module _ {X : Type 0} (ps : List (Option X)) (from len : ℕ) (le : from + len ≤ length ps) where
-  -- a run is filled, or empty, where each of its places is
-  pub filled_run_of : ((x : ℕ) → from ≤ x → x < from + len → IsFilled ps x) → IsFilledRun ps from len
-  filled_run_of each = round_run ps from len le (λ k lt. subst (IsFilled ps) (sym (mod-eq_of_lt {m = length ps} (omega arith))) (each (from + k) (omega arith) (omega arith)))
-
-  pub empty_run_of : ((x : ℕ) → from ≤ x → x < from + len → held_at ps x ≡ None) → IsEmptyRun ps from len
-  empty_run_of each = (
-    le,
-    same_places _ _ (grind (arith, common_steps)) (λ x lt.
-        let here : x < len = grind (arith, common_steps) in
-        get_or-take len (drop from ps) x None here ∙ get_or-drop from ps x None ∙ each (from + x) (omega arith) (omega arith) ∙ sym (get_or-replicate len x None None here)),
-  )
 
 -- once the run of `gap` from the index dst on and the run of `behind` that follows it to the end change places, the
 -- first len places are filled, and no others
@@ -40,79 +29,94 @@ pub record Underway {X : Type 0} (dst gap behind len : ℕ) (ps : List (Option X
 pub underway : {X : Type 0} (dst gap behind len : ℕ) (ps : List (Option X)) → dst + gap + behind ≡ length ps → FilledFrom 0 len (filled (run_rotated dst gap behind ps)) → Underway dst gap behind len ps
 underway dst gap behind len ps whole fills =
     let after = run_rotated dst gap behind ps in
-    let room = length (filled after) - len in
-    let from = and_empty_from after len room (sym (append-nil (filled after)) ∙ fills) in
+    let laid = LaidOut-values 0 len after (omega arith) fills in
     let long = length-run_rotated dst gap behind ps (omega arith) in
-    let held : (y : ℕ) → held_at ps (rotated_from dst gap behind y) ≡ slice_get (values after) y =
-    λ y. sym (get_or-run_rotated dst gap behind ps (omega arith) y) ∙ ap (λ l. get_or l y None) from.0 ∙ get_or-and_empty (values after) room y in
+    let within = laid.0.within in
+    let many = laid.1 in
+    let held : (y : ℕ) → held_at ps (rotated_from dst gap behind y) ≡ held_at after y = λ y. sym (get_or-run_rotated dst gap behind ps (omega arith) y) in
     record {
       whole = whole;
-      fits = omega (arith, long, from.1, ap length from.0, length-and_empty (values after) room, length-map after is_some);
-      filled_at = λ x y lt is. elim (slice_get_cases (values after) y).1 [
-        | inl at ↦ (at.0, ap (held_at ps) (sym is) ∙ held y ∙ at.2)
-        | inr past ↦ absurd (omega (arith, from.1))
-      ];
-      empty_at = λ x y le is. elim (slice_get_cases (values after) y).1 [
-        | inl at ↦ absurd (omega (arith, from.1))
-        | inr past ↦ ap (held_at ps) (sym is) ∙ held y ∙ past.1
+      fits = omega arith;
+      filled_at = λ x y lt is. let some = slice_get_some (values (rotated 0 after)) y (omega arith) in (some.0, ap (held_at ps) (sym is) ∙ held y ∙ Holds-first (holds laid.0) y (omega arith) ∙ some.1);
+      empty_at = λ x y le is. ap (held_at ps) (sym is) ∙ held y ∙ elim (cases_lt y (length after)) [
+        | inl lt ↦ Holds-first (holds laid.0) y lt ∙ slice_get_past (values (rotated 0 after)) y (omega arith)
+        | inr past ↦ get_or_past after y None past
       ];
     }
 
 module _ {X : Type 0} {dst gap behind len : ℕ} {ps : List (Option X)} (next : ℕ) (u : Underway dst gap behind len ps) (here : dst + gap ≡ next) where
   -- a list that is laid out is all of the places
-  pub reads : (qs : List (Option X)) → length qs ≡ length ps → ((x : ℕ) → held_at qs x ≡ held_at ps (rotated_from dst gap behind x)) → qs ≡ run_rotated dst gap behind ps
-  reads qs long each = same_places _ _ (long ∙ sym (length-run_rotated dst gap behind ps (omega (arith, u.whole)))) (λ x lt. each x ∙ sym (get_or-run_rotated dst gap behind ps (omega (arith, u.whole)) x))
+  pub reads : (qs : List (Option X)) → length qs ≡ length ps → ((x : ℕ) → x < length ps → held_at qs x ≡ held_at ps (rotated_from dst gap behind x)) → qs ≡ run_rotated dst gap behind ps
+  reads qs long each =
+      let same = length-run_rotated dst gap behind ps (omega (arith, u.whole)) in
+      same_places _ _ (long ∙ sym same) (λ x lt. each x (omega arith) ∙ sym (get_or-run_rotated dst gap behind ps (omega (arith, u.whole)) x))
 
   -- with no gap all are in their places
   pub none_left : gap ≡ 0 → ps ≡ run_rotated dst gap behind ps
-  none_left none = reads ps refl (λ x. ap (held_at ps) (grind (arith, nat_tests)))
+  none_left none = reads ps refl (λ x lt. ap (held_at ps) (grind (arith, nat_tests)))
 
 -- the n values that are left stand behind the gap, in one piece, and can be moved before it
 pub record RestInOnePiece {X : Type 0} (dst gap behind n : ℕ) (ps : List (Option X)) : Type 0 where
-  pub empty : IsEmptyRun (rotated 0 ps) dst gap
-  pub filled : IsFilledRun (rotated 0 ps) (dst + gap) n
-  pub after : (qs : List (Option X)) → rotated 0 qs ≡ run_rotated dst gap n (rotated 0 ps) → qs ≡ run_rotated dst gap behind ps
+  pub within : dst + gap + n ≤ length ps
+  pub empty : IsEmptyRound (place_of 0 dst (length ps)) gap ps
+  pub filled : IsFilledRound (place_of 0 (dst + gap) (length ps)) n ps
+  pub after : run_moved (place_of 0 dst (length ps)) (place_of 0 (dst + gap) (length ps)) n ps ≡ run_rotated dst gap behind ps
 
-pub rest_in_one_piece : {X : Type 0} {dst gap behind len : ℕ} {ps : List (Option X)} (n : ℕ) → Underway dst gap behind len ps → n + dst ≡ len → n ≤ behind → RestInOnePiece dst gap behind n ps
-rest_in_one_piece {dst = dst} {gap = gap} {behind = behind} {len = len} {ps = ps} n u many fits =
-    let read = append-nil ps in
-    let within : dst + gap + n ≤ length ps = omega (arith, u.whole) in
+pub rest_in_one_piece : {X : Type 0} {dst gap behind len : ℕ} {ps : List (Option X)} (n : ℕ) → Underway dst gap behind len ps → n + dst ≡ len → n ≤ behind → dst < length ps → RestInOnePiece dst gap behind n ps
+rest_in_one_piece {dst = dst} {gap = gap} {behind = behind} {len = len} {ps = ps} n u many fits some =
+    let whole = u.whole in
+    let in_gap : (z : ℕ) → dst ≤ z → z < dst + gap → held_at ps z ≡ None = λ z a b. u.empty_at z (z + behind) (omega arith) (grind (arith, nat_tests)) in
+    let past : (z : ℕ) → dst + gap + n ≤ z → z < length ps → held_at ps z ≡ None = λ z a b. u.empty_at z (z - gap) (omega arith) (grind (arith, nat_tests)) in
     record {
-      empty = rw read (empty_run_of ps dst gap (omega arith) (λ y a b. u.empty_at y (y + behind) (omega arith) (grind (arith, nat_tests))));
-      filled = rw read (filled_run_of ps (dst + gap) n within (λ y a b. u.filled_at y (y - gap) (omega arith) (grind (arith, nat_tests))));
-      after = λ qs moved.
-          let is : qs ≡ run_rotated dst gap n ps = sym (append-nil qs) ∙ moved ∙ ap (run_rotated dst gap n) read in
-          reads _ u refl qs (ap length is ∙ length-run_rotated dst gap n ps within) (λ x. ap (λ l. held_at l x) is ∙ get_or-run_rotated dst gap n ps within x ∙ elim (cases_lt x len) [
-            | inl lt ↦ ap (held_at ps) (grind (arith, nat_tests))
-            | inr le ↦ u.empty_at (rotated_from dst gap n x) (if nat_lt x (dst + gap + n) then x - n + behind else (if nat_lt x (dst + gap + behind) then x - gap else x)) (grind (arith, nat_tests)) (grind (arith, nat_tests))
-                ∙ sym (u.empty_at (rotated_from dst gap behind x) x le refl)
-          ]);
+      within = omega arith;
+      empty = Holds-empty (Holds-plain ps) dst gap (omega arith) (λ k lt. in_gap (dst + k) (omega arith) (omega arith));
+      filled = Holds-filled (Holds-plain ps) (dst + gap) n (omega arith) (λ k lt. u.filled_at (dst + gap + k) (dst + k) (omega arith) (grind (arith, nat_tests)));
+      after = reads _ u refl _ (length-moved _ _ n ps) (λ x x_in. Holds-first (Holds-moved (Holds-plain ps) dst (dst + gap) n (omega arith) (omega arith) (omega arith)) x x_in ∙ elim (cases_lt x len) [
+        | inl lt ↦ grind (arith, nat_tests)
+        | inr le ↦ grind (arith, nat_tests, in_gap x, past x) ∙ sym (u.empty_at (rotated_from dst gap behind x) x le refl)
+      ]);
     }
+
+-- what m values that move b places up leave at their targets
+moved_up : {X : Type 0} (f : ℕ → Option X) (dst b m x : ℕ) → dst + b ≤ x → x < dst + b + m → look f (dst + b) dst m x ≡ f (x - b)
+moved_up f dst b m x above below = let same : dst + (x - (dst + b)) ≡ x - b = omega arith in grind (arith, nat_tests, same)
 
 -- or there is room for the values behind the gap: the m in front of it move up by as many places, and they take their place
 pub record RoomForFirst {X : Type 0} (dst gap next behind m : ℕ) (ps : List (Option X)) : Type 0 where
-  pub filled : IsFilledRun (rotated 0 ps) dst m
-  pub empty : IsEmptyRun (rotated 0 ps) (dst + m) behind
-  pub moved : (qs : List (Option X)) → rotated 0 qs ≡ run_rotated dst m behind (rotated 0 ps) → IsEmptyRun qs dst behind × IsFilledRun qs next behind × (runs_swapped dst next behind qs ≡ run_rotated dst gap behind ps)
+  pub within : dst + m + behind ≤ length ps
+  pub filled : IsFilledRound (place_of 0 dst (length ps)) m ps
+  pub empty : IsEmptyRound (place_of 0 (dst + m) (length ps)) behind ps
+  pub moved : (qs : List (Option X)) → qs ≡ run_moved (place_of 0 (dst + behind) (length ps)) (place_of 0 dst (length ps)) m ps → IsEmptyRun qs dst behind × IsFilledRun qs next behind × (runs_swapped dst next behind qs ≡ run_rotated dst gap behind ps)
 
-pub room_for_first : {X : Type 0} {dst gap behind len : ℕ} {ps : List (Option X)} (next m : ℕ) → Underway dst gap behind len ps → dst + gap ≡ next → m + behind + dst ≡ len → len ≤ next → RoomForFirst dst gap next behind m ps
-room_for_first {dst = dst} {gap = gap} {behind = behind} {len = len} {ps = ps} next m u here many fits =
-    let read = append-nil ps in
-    let within : dst + m + behind ≤ length ps = omega (arith, u.whole) in
+pub room_for_first : {X : Type 0} {dst gap behind len : ℕ} {ps : List (Option X)} (next m : ℕ) → Underway dst gap behind len ps → dst + gap ≡ next → m + behind + dst ≡ len → len ≤ next → next < length ps → RoomForFirst dst gap next behind m ps
+room_for_first {dst = dst} {gap = gap} {behind = behind} {len = len} {ps = ps} next m u here many fits some =
+    let whole = u.whole in
+    let in_gap : (z : ℕ) → dst + m ≤ z → z < next → held_at ps z ≡ None = λ z a b. u.empty_at z (z + behind) (omega arith) (grind (arith, nat_tests)) in
     record {
-      filled = rw read (filled_run_of ps dst m (omega arith) (λ y a b. u.filled_at y (y + behind) (omega arith) (grind (arith, nat_tests))));
-      empty = rw read (empty_run_of ps (dst + m) behind within (λ y a b. u.empty_at y (y + behind) (omega arith) (grind (arith, nat_tests))));
-      moved = λ qs e.
-          let is : qs ≡ run_rotated dst m behind ps = sym (append-nil qs) ∙ e ∙ ap (run_rotated dst m behind) read in
-          let long : length qs ≡ length ps = ap length is ∙ length-run_rotated dst m behind ps within in
-          let held : (x z : ℕ) → rotated_from dst m behind x ≡ z → held_at qs x ≡ held_at ps z = λ x z same. ap (λ l. held_at l x) is ∙ get_or-run_rotated dst m behind ps within x ∙ ap (held_at ps) same in (
-            empty_run_of qs dst behind (omega (arith, long)) (λ y a b. held y (y + m) (grind (arith, nat_tests)) ∙ u.empty_at (y + m) (y + m + behind) (omega arith) (grind (arith, nat_tests))),
-            filled_run_of qs next behind (omega (arith, long, u.whole)) (λ y a b. let filled = u.filled_at y (y - gap) (omega arith) (grind (arith, nat_tests)) in (filled.0, held y y (grind (arith, nat_tests)) ∙ filled.1)),
-            reads _ u refl _ (length-runs_swapped dst next behind qs (omega arith) (omega (arith, long, u.whole)) ∙ long) (λ x. get_or-runs_swapped dst next behind qs (omega arith) (omega (arith, long, u.whole)) x ∙ elim (cases_lt x len) [
-              | inl lt ↦ held (swapped_from dst next behind x) (rotated_from dst gap behind x) (grind (arith, nat_tests))
-              | inr le ↦ let z = rotated_from dst m behind (swapped_from dst next behind x) in
-                  held (swapped_from dst next behind x) z refl ∙ u.empty_at z (if nat_lt x (next + behind) then z + behind else x) (grind (arith, nat_tests)) (grind (arith, nat_tests))
-                  ∙ sym (u.empty_at (rotated_from dst gap behind x) x le refl)
-            ]),
+      within = omega arith;
+      filled = Holds-filled (Holds-plain ps) dst m (omega arith) (λ k lt. u.filled_at (dst + k) (dst + k + behind) (omega arith) (grind (arith, nat_tests)));
+      empty = Holds-empty (Holds-plain ps) (dst + m) behind (omega arith) (λ k lt. in_gap (dst + m + k) (omega arith) (omega arith));
+      moved = λ qs is.
+          let long : length qs ≡ length ps = ap length is ∙ length-moved _ _ m ps in
+          let held : (x : ℕ) → x < length ps → held_at qs x ≡ look (held_at ps) (dst + behind) dst m x =
+          λ x lt. ap (λ l. held_at l x) is ∙ Holds-first (Holds-moved (Holds-plain ps) (dst + behind) dst m (omega arith) (omega arith) (omega arith)) x lt in (
+            empty_run_of qs dst behind (omega arith) (λ y a b. held y (omega arith) ∙ grind (arith, nat_tests, in_gap y)),
+            filled_run_of qs next behind (omega arith) (λ y a b. let filled = u.filled_at y (y - gap) (omega arith) (grind (arith, nat_tests)) in (filled.0, held y (omega arith) ∙ grind (arith, nat_tests, filled.1))),
+            reads _ u refl _ (length-runs_swapped dst next behind qs (omega arith) (omega arith) ∙ long) (λ x lt.
+                let from : (w : ℕ) → swapped_from dst next behind x ≡ w → w < length ps → held_at (runs_swapped dst next behind qs) x ≡ look (held_at ps) (dst + behind) dst m w =
+                λ w same within. get_or-runs_swapped dst next behind qs (omega arith) (omega arith) x ∙ ap (held_at qs) same ∙ held w within in
+                elim (cases_lt x len) [
+                  | inl below ↦ elim (cases_lt x (dst + behind)) [
+                    | inl first ↦ elim (cases_lt x dst) [
+                      | inl stays ↦ from x (grind (arith, nat_tests)) lt ∙ grind (arith, nat_tests)
+                      | inr comes ↦ from (x - dst + next) (grind (arith, nat_tests)) (omega arith) ∙ grind (arith, nat_tests)
+                    ]
+                    | inr second ↦ from x (grind (arith, nat_tests)) lt ∙ moved_up (held_at ps) dst behind m x second (omega arith) ∙ ap (held_at ps) (grind (arith, nat_tests))
+                  ]
+                  | inr le ↦ elim (cases_lt x next) [
+                    | inl stays ↦ from x (grind (arith, nat_tests)) lt ∙ grind (arith, nat_tests, in_gap x)
+                    | inr goes ↦ from (x - next + dst) (grind (arith, nat_tests)) (omega arith) ∙ grind (arith, nat_tests, in_gap (x - next + dst))
+                  ] ∙ sym (u.empty_at (rotated_from dst gap behind x) x le refl)
+                ]),
           );
     }

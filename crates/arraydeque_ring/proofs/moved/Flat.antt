@@ -7,12 +7,19 @@ use Rattle.std.proofs.lemmas.List.FromFn.{fill_by_all, length-map-range_with_len
 use Rattle.arraydeque_ring.specs.Places.{Region}
 use Rattle.arraydeque_ring.specs.Steps.{Steps}
 use Rattle.arraydeque_ring.specs.Gaps.{run_emptied}
+use Rattle.arraydeque_ring.specs.Ring.{place_of}
 use Rattle.arraydeque_ring.specs.Moved.{distance, held_after, run_moved}
-use Rattle.arraydeque_ring.proofs.places.Rotated.{place_of_cases}
+use Rattle.arraydeque_ring.proofs.places.Rotated.{place_of_cases, place_of-lt}
 
 -- the distance between two places, of which the first may be the end
 pub distance_is : (from to n : ℕ) → from ≤ n → to < n → distance from to n ≡ (if nat_lt to from then to + n - from else to - from)
 distance_is from to n a b = grind (arith, nat_tests, place_of_cases to (n - from) n (omega arith))
+
+-- to go up from src by the distance to dst is to come there
+pub up_from : (dst src n : ℕ) → dst < n → src < n → place_of src (distance src dst n) n ≡ dst
+up_from dst src n a b =
+    let d = place_of-lt dst (n - src) n (omega arith) in
+    grind (arith, place_of_cases dst (n - src) n (omega arith), place_of_cases src (distance src dst n) n (omega arith))
 
 module _ {X : Type 0} where
   pub length-moved : (dst src len : ℕ) (ps : List (Option X)) → length (run_moved dst src len ps) ≡ length ps
@@ -41,30 +48,8 @@ module _ {X : Type 0} where
       let e = distance_is j x n (omega arith) lt in
       moved_at i j len ps x lt ∙ rw (d, e) (grind (arith, nat_tests, mod-eq_of_lt {n = j + (x - i)} {m = n}))
 
-  -- the first k values that move down, and then the m that follow them
-  pub flat_down : (i j k m : ℕ) (ps : List (Option X)) → i ≤ j → j + (k + m) ≤ length ps → run_moved (i + k) (j + k) m (run_moved i j k ps) ≡ run_moved i j (k + m) ps
-  flat_down i j k m ps le within =
-      let qs = run_moved i j k ps in
-      let long = length-moved i j k ps in
-      same_places _ _ (length-moved (i + k) (j + k) m qs ∙ long ∙ sym (length-moved i j (k + m) ps)) (λ x lt.
-      let in_it : x < length ps = omega (arith, length-moved i j (k + m) ps) in
-      flat_at (i + k) (j + k) m qs x (omega arith) (omega arith) (omega arith)
-      ∙ grind (arith, nat_tests, flat_at i j k ps x (omega arith) (omega arith) in_it, flat_at i j k ps (j + k + (x - (i + k))))
-      ∙ sym (flat_at i j (k + m) ps x (omega arith) (omega arith) in_it))
-
-  -- the last m values that move up, and then the k before them
-  pub flat_up : (i j k m : ℕ) (ps : List (Option X)) → j ≤ i → i + (k + m) ≤ length ps → run_moved i j k (run_moved (i + k) (j + k) m ps) ≡ run_moved i j (k + m) ps
-  flat_up i j k m ps le within =
-      let qs = run_moved (i + k) (j + k) m ps in
-      let long = length-moved (i + k) (j + k) m ps in
-      same_places _ _ (length-moved i j k qs ∙ long ∙ sym (length-moved i j (k + m) ps)) (λ x lt.
-      let in_it : x < length ps = omega (arith, length-moved i j (k + m) ps) in
-      flat_at i j k qs x (omega arith) (omega arith) (omega arith)
-      ∙ grind (arith, nat_tests, flat_at (i + k) (j + k) m ps x (omega arith) (omega arith) in_it, flat_at (i + k) (j + k) m ps (j + (x - i)))
-      ∙ sym (flat_at i j (k + m) ps x (omega arith) (omega arith) in_it))
-
   -- what a list holds with other places in the stead of m of its own
-  spliced : (ps qs : List (Option X)) (i m x : ℕ) → length qs ≡ m → i + m ≤ length ps
+  pub spliced : (ps qs : List (Option X)) (i m x : ℕ) → length qs ≡ m → i + m ≤ length ps
       → get_or (take i ps ++ (qs ++ drop (i + m) ps)) x None ≡ (if nat_lt x i then get_or ps x None else (if nat_lt x (i + m) then get_or qs (x - i) None else get_or ps x None))
   spliced ps qs i m x many within = grind (arith, nat_tests, common_steps)
 

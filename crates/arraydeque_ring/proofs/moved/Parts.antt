@@ -1,23 +1,18 @@
 -- A run that moves round the end in three parts: from its first on where it moves down, else from its last.
-use Rattle.std.proofs.Common.{◌≡◌, ℕ, zero, suc, ◌+◌, ◌-◌, ◌<◌, ◌≤◌, List, length, Option, refl, sym, ap, ap₂, ◌∙◌, arith}
+use Rattle.std.proofs.Common.{◌≡◌, ℕ, zero, suc, ◌+◌, ◌-◌, ◌<◌, ◌≤◌, List, length, Option, refl, sym, ap, ◌∙◌, arith}
 use Rattle.std.proofs.lemmas.Bool.Decides.{nat_tests}
 use Rattle.arraydeque_ring.specs.Ring.{place_of}
 use Rattle.arraydeque_ring.specs.Moved.{distance, IsFilledRound, CanCopy, run_moved}
-use Rattle.arraydeque_ring.proofs.moved.Flat.{length-moved, moved_at, moved_none, same_places}
+use Rattle.arraydeque_ring.proofs.moved.Flat.{up_from, length-moved, moved_at, moved_none, same_places}
 use Rattle.arraydeque_ring.proofs.moved.Sources.{place_of-sum, rest_filled}
-use Rattle.arraydeque_ring.proofs.moved.Round.{by_down, by_up}
+use Rattle.arraydeque_ring.proofs.moved.Round.{first_then_rest, last_then_rest}
 use Rattle.arraydeque_ring.proofs.places.Rotated.{place_of_cases, place_of-lt, place_of-zero}
 
--- from dst down by the distance to it is src, and from src up by it is dst
+-- from dst down by the distance to it is src
 down_from : (dst src n : ℕ) → dst < n → src < n → place_of dst (n - distance src dst n) n ≡ src
 down_from dst src n a b =
     let d = place_of-lt dst (n - src) n (omega arith) in
     grind (arith, place_of_cases dst (n - src) n (omega arith), place_of_cases dst (n - distance src dst n) n (omega arith))
-
-up_from : (dst src n : ℕ) → dst < n → src < n → place_of src (distance src dst n) n ≡ dst
-up_from dst src n a b =
-    let d = place_of-lt dst (n - src) n (omega arith) in
-    grind (arith, place_of_cases dst (n - src) n (omega arith), place_of_cases src (distance src dst n) n (omega arith))
 
 module _ {X : Type 0} where
   -- a run that moves to where it is
@@ -88,7 +83,9 @@ module _ {X : Type 0} (dst src len n : ℕ) (ps : List (Option X)) (long : lengt
         let near = place_of-lt dst (n - src) n (omega arith) in
         let at = place_of-lt dst from n (omega arith) in
         let same = length-moved dst src from ps in
-        let is : run_moved d s (to - from) (gone from) ≡ gone to = by_down dst src g from (to - from) n ps (down_from dst src n dst_in src_in) long dst_in (omega arith) ∙ ap gone (omega arith) in
+        let source = down_from dst src n dst_in src_in in
+        let is : run_moved d s (to - from) (gone from) ≡ gone to =
+        first_then_rest dst 0 g from (to - from) n ps long dst_in dst src d s (sym (place_of-zero dst n (omega arith))) (sym source) (ap (λ k. place_of dst k n) (omega arith)) (ap (λ t. place_of t from n) (sym source) ∙ place_of-sum dst g from n) (omega arith) (omega arith) ∙ ap gone (omega arith) in
         part (gone from) (gone to) (omega arith) (same ∙ long)
         (rest_filled d s (to - from) dst src to from ps (gone from) same is (λ x. rw long (place_of-sum dst from x n)) (omega arith) (omega arith) (omega arith) (omega arith) (λ k lt. filled k (omega arith))) is
 
@@ -98,10 +95,9 @@ module _ {X : Type 0} (dst src len n : ℕ) (ps : List (Option X)) (long : lengt
         let at_d = place_of-lt dst from n (omega arith) in
         let at_s = place_of-lt src from n (omega arith) in
         let same = length-moved (place_of dst to n) (place_of src to n) (len - to) ps in
-        let apart : place_of s g n ≡ d = place_of-sum src from g n ∙ ap (λ k. place_of src k n) (omega arith) ∙ sym (place_of-sum src g from n) ∙ ap (λ t. place_of t from n) (up_from dst src n dst_in src_in) in
-        let further : (t : ℕ) → place_of t to n ≡ place_of (place_of t from n) (to - from) n = λ t. ap (λ k. place_of t k n) (omega arith) ∙ sym (place_of-sum t from (to - from) n) in
+        let target : (k : ℕ) → place_of dst k n ≡ place_of src (g + k) n = λ k. ap (λ t. place_of t k n) (sym (up_from dst src n dst_in src_in)) ∙ place_of-sum src g k n in
         let is : run_moved d s (to - from) (kept to) ≡ kept from =
-        ap₂ (λ a b. run_moved d s (to - from) (run_moved a b (len - to) ps)) (further dst) (further src) ∙ by_up d s g (to - from) (len - to) n ps apart long at_s (omega arith) ∙ ap (λ l. run_moved d s l ps) (omega arith) in
+        last_then_rest src (g + from) from (to - from) (len - to) n ps long src_in d s _ _ (target from) refl (target to ∙ ap (λ k. place_of src k n) (omega arith)) (ap (λ k. place_of src k n) (omega arith)) (omega arith) (omega arith) ∙ ap (λ l. run_moved d s l ps) (omega arith) in
         part (kept to) (kept from) (omega arith) (same ∙ long)
         (rest_filled d s (to - from) d s (len - from) 0 ps (kept to) same is (λ x. ap (λ k. place_of d k (length ps)) (omega arith)) (omega arith) (omega arith) (omega arith) (omega arith)
         (λ k lt. rw (long, place_of-sum src from k n, ← long) (filled (from + k) (omega arith)))) is

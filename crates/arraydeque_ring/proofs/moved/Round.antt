@@ -1,13 +1,13 @@
--- Runs that move round the end: read from a place from which on neither side passes it, such a move is one that passes no end.
-use Rattle.std.proofs.Common.{◌≡◌, ℕ, ◌+◌, ◌-◌, ◌<◌, ◌≤◌, List, length, Option, None, refl, sym, ap, ap₂, subst, ◌∙◌, arith}
-use Rattle.std.proofs.Math.Nat.{mod-lt, add-mod-mod}
+-- Runs that move round the end: what is read afterwards, from a place from which on neither side passes it.
+use Rattle.std.proofs.Common.{◌≡◌, ℕ, ◌+◌, ◌-◌, ◌<◌, ◌≤◌, inl, inr, List, length, Option, refl, ap, ◌∙◌, arith}
+use Rattle.std.proofs.lemmas.Bool.{cases_lt}
 use Rattle.std.proofs.lemmas.Bool.Decides.{nat_tests}
 use Rattle.arraydeque_ring.specs.Places.{held_at}
-use Rattle.arraydeque_ring.specs.Ring.{place_of, rotated}
-use Rattle.arraydeque_ring.specs.Moved.{distance, held_after, run_moved}
-use Rattle.arraydeque_ring.proofs.moved.Flat.{distance_is, length-moved, moved_at, same_places, flat_down, flat_up}
-use Rattle.arraydeque_ring.proofs.moved.Sources.{place_of-sum}
-use Rattle.arraydeque_ring.proofs.places.Rotated.{place_of_cases, place_of-lt, place_of-zero, length-rotated, get_or-rotated, rotated_back}
+use Rattle.arraydeque_ring.specs.Ring.{place_of}
+use Rattle.arraydeque_ring.specs.Moved.{distance, run_moved}
+use Rattle.arraydeque_ring.proofs.moved.Flat.{distance_is, length-moved, look, moved_at}
+use Rattle.arraydeque_ring.proofs.places.Holds.{Holds, Holds-once, Holds-same}
+use Rattle.arraydeque_ring.proofs.places.Rotated.{place_of_cases, place_of-lt, place_of-sum}
 
 -- a distance is the same, wherever places are counted from
 pub distance-rotated : (t i x n : ℕ) → t < n → i ≤ n → x < n → distance (place_of t i n) (place_of t x n) n ≡ distance i x n
@@ -16,68 +16,47 @@ distance-rotated t i x n a b c =
     let q = place_of-lt t x n (omega arith) in
     grind (arith, nat_tests, distance_is i x n b c, distance_is (place_of t i n) (place_of t x n) n (omega arith) q, place_of_cases t i n (omega arith), place_of_cases t x n (omega arith))
 
-module _ {X : Type 0} where
-  held-rotated : (t i j len x n : ℕ) (ps : List (Option X)) → length ps ≡ n → t < n → i ≤ n → j ≤ n → x < n → held_after (place_of t i n) (place_of t j n) len ps (place_of t x n) ≡ held_after i j len (rotated t ps) x
-  held-rotated t i j len x n ps long a b c lt =
-      let k = distance i x n in
-      let there : held_at ps (place_of (place_of t j n) k n) ≡ held_at (rotated t ps) (place_of j k n) =
-      ap (held_at ps) (place_of-sum t j k n ∙ sym (add-mod-mod t (j + k) n)) ∙ sym (get_or-rotated t (place_of j k n) n ps None long (omega arith) (mod-lt (j + k) (omega arith))) in
-      let here : held_at ps (place_of t x n) ≡ held_at (rotated t ps) x = sym (get_or-rotated t x n ps None long (omega arith) lt) in
-      rw (length-rotated t ps, long, distance-rotated t i x n a b lt, distance-rotated t j x n a c lt, there, here) refl
+-- what is read once a run has moved from the index j on to the index i on
+module _ {X : Type 0} {n t : ℕ} {f : ℕ → Option X} {ps : List (Option X)} (h : Holds n t f ps) (i j len : ℕ) (t_in : t < n) (i_in : i + len ≤ n) (j_in : j + len ≤ n) where
+  pub Holds-moved_to : (d s : ℕ) → d ≡ place_of t i n → s ≡ place_of t j n → Holds n t (look f i j len) (run_moved d s len ps)
+  Holds-moved_to d s at_d at_s = record {
+    long = length-moved d s len ps ∙ h.long;
+    in_region = h.in_region;
+    at = λ x lt.
+        let there = place_of-sum t j (distance i x n) n in
+        moved_at d s len ps (place_of t x n) (omega (arith, h.long, place_of-lt t x n (omega arith)))
+        ∙ rw (at_d, at_s, h.long, distance-rotated t i x n t_in (omega arith) lt, distance-rotated t j x n t_in (omega arith) lt, there, distance_is i x n (omega arith) lt, distance_is j x n (omega arith) lt) (grind (arith, nat_tests, h.at x lt, h.at (j + (x - i))));
+  }
 
-  -- a move, of the places read from t on
-  pub rotated-moved : (t i j len n : ℕ) (ps : List (Option X)) → length ps ≡ n → t < n → i ≤ n → j ≤ n → rotated t (run_moved (place_of t i n) (place_of t j n) len ps) ≡ run_moved i j len (rotated t ps)
-  rotated-moved t i j len n ps is a b c =
-      let moved = run_moved (place_of t i n) (place_of t j n) len ps in
-      let long = length-moved (place_of t i n) (place_of t j n) len ps ∙ is in
-      let read = length-rotated t ps ∙ is in
-      same_places _ _ (length-rotated t moved ∙ long ∙ sym (length-moved i j len (rotated t ps) ∙ read)) (λ x lt.
-      let within : x < n = omega (arith, length-moved i j len (rotated t ps)) in
-      get_or-rotated t x n moved None long (omega arith) within ∙ moved_at _ _ len ps (place_of t x n) (omega (arith, place_of-lt t x n (omega arith)))
-      ∙ held-rotated t i j len x n ps is a b c within ∙ sym (moved_at i j len (rotated t ps) x (omega arith)))
+  pub Holds-moved : Holds n t (look f i j len) (run_moved (place_of t i (length ps)) (place_of t j (length ps)) len ps)
+  Holds-moved = Holds-moved_to _ _ (ap (place_of t i) h.long) (ap (place_of t j) h.long)
 
-  same_rotated : (t : ℕ) (ps qs : List (Option X)) → length ps ≡ length qs → rotated t ps ≡ rotated t qs → ps ≡ qs
-  same_rotated t ps qs long same = sym (rotated_back t ps) ∙ ap₂ (λ n l. rotated (n - t) l) long same ∙ rotated_back t qs
+module _ {X : Type 0} (f : ℕ → Option X) (i j k m x : ℕ) where
+  look_down : i ≤ j → look (look f i j k) (i + k) (j + k) m x ≡ look f i j (k + m) x
+  look_down le = elim (cases_lt x (i + k)) [
+    | inl first ↦ elim (cases_lt x i) [ inl low ↦ grind (arith, nat_tests) | inr in_it ↦ grind (arith, nat_tests) ]
+    | inr past ↦ elim (cases_lt x (i + k + m)) [ inl second ↦ let same : j + k + (x - (i + k)) ≡ j + (x - i) = omega arith in grind (arith, nat_tests, same) | inr high ↦ grind (arith, nat_tests) ]
+  ]
 
-  module _ (t g a m n : ℕ) (ps : List (Option X)) (long : length ps ≡ n) (t_in : t < n) (apart : g + (a + m) ≤ n) where
-    abbrev far : ℕ
-    far = place_of t g n
+  look_up : j ≤ i → look (look f (i + k) (j + k) m) i j k x ≡ look f i j (k + m) x
+  look_up le = elim (cases_lt x (i + k)) [
+    | inl first ↦ elim (cases_lt x i) [ inl low ↦ grind (arith, nat_tests) | inr in_it ↦ grind (arith, nat_tests) ]
+    | inr past ↦ elim (cases_lt x (i + k + m)) [ inl second ↦ let same : j + k + (x - (i + k)) ≡ j + (x - i) = omega arith in grind (arith, nat_tests, same) | inr high ↦ grind (arith, nat_tests) ]
+  ]
 
-    same_place : t ≡ place_of t 0 n
-    same_place = sym (place_of-zero t n (omega arith))
+-- a run whose first k values move, and then the m behind them, or the last m first, is one run that moves, wherever its places are read from
+module _ {X : Type 0} (t i j k m n : ℕ) (ps : List (Option X)) (long : length ps ≡ n) (t_in : t < n) (d s d' s' : ℕ) (at_d : d ≡ place_of t i n) (at_s : s ≡ place_of t j n) (at_d' : d' ≡ place_of t (i + k) n) (at_s' : s' ≡ place_of t (j + k) n) where
+  start : Holds n t (λ x. held_at ps (place_of t x n)) ps
+  start = record { long = long; in_region = omega arith; at = λ x lt. refl }
 
-    none : a ≡ 0 + a
-    none = omega arith
+  pub first_then_rest : i ≤ j → j + (k + m) ≤ n → run_moved d' s' m (run_moved d s k ps) ≡ run_moved d s (k + m) ps
+  first_then_rest down within =
+      let once = Holds-moved_to start i j k t_in (omega arith) (omega arith) d s at_d at_s in
+      let twice = Holds-moved_to once (i + k) (j + k) m t_in (omega arith) (omega arith) d' s' at_d' at_s' in
+      Holds-once (Holds-same twice (λ x lt. look_down (λ y. held_at ps (place_of t y n)) i j k m x down)) (Holds-moved_to start i j (k + m) t_in (omega arith) (omega arith) d s at_d at_s)
 
-    -- of a run that moves g places down, to t, the first a values and then the m behind them
-    back_far : run_moved (place_of t a n) (place_of far a n) m (run_moved t far a ps) ≡ run_moved t far (a + m) ps
-    back_far =
-        let once = run_moved t far a ps in
-        let once_long = length-moved t far a ps ∙ long in
-        let all = run_moved t far (a + m) ps in
-        same_rotated t _ all (length-moved _ _ m once ∙ length-moved t far a ps ∙ sym (length-moved t far (a + m) ps))
-        (ap (λ s. rotated t (run_moved (place_of t a n) s m once)) (place_of-sum t g a n) ∙ rotated-moved t a (g + a) m n once once_long t_in (omega arith) (omega arith)
-        ∙ ap (run_moved a (g + a) m) (ap (λ d. rotated t (run_moved d far a ps)) same_place ∙ rotated-moved t 0 g a n ps long t_in (omega arith) (omega arith))
-        ∙ ap (λ d. run_moved d (g + a) m (run_moved 0 g a (rotated t ps))) none ∙ flat_down 0 g a m (rotated t ps) (omega arith) (omega (arith, length-rotated t ps))
-        ∙ sym (ap (λ d. rotated t (run_moved d far (a + m) ps)) same_place ∙ rotated-moved t 0 g (a + m) n ps long t_in (omega arith) (omega arith)))
-
-    -- of one that moves g places up, from t, the last m values and then the a before them
-    on_far : run_moved far t a (run_moved (place_of far a n) (place_of t a n) m ps) ≡ run_moved far t (a + m) ps
-    on_far =
-        let once = run_moved (place_of far a n) (place_of t a n) m ps in
-        let once_long = length-moved (place_of far a n) (place_of t a n) m ps ∙ long in
-        let all = run_moved far t (a + m) ps in
-        same_rotated t _ all (length-moved far t a once ∙ length-moved _ _ m ps ∙ sym (length-moved far t (a + m) ps))
-        (ap (λ s. rotated t (run_moved far s a once)) same_place ∙ rotated-moved t g 0 a n once once_long t_in (omega arith) (omega arith)
-        ∙ ap (run_moved g 0 a) (ap (λ d. rotated t (run_moved d (place_of t a n) m ps)) (place_of-sum t g a n) ∙ rotated-moved t (g + a) a m n ps long t_in (omega arith) (omega arith))
-        ∙ ap (λ s. run_moved g 0 a (run_moved (g + a) s m (rotated t ps))) none ∙ flat_up g 0 a m (rotated t ps) (omega arith) (omega (arith, length-rotated t ps))
-        ∙ sym (ap (λ s. rotated t (run_moved far s (a + m) ps)) same_place ∙ rotated-moved t g 0 (a + m) n ps long t_in (omega arith) (omega arith)))
-
-  -- the same, of a run that is said to lie there
-  pub by_down : (dst src g a m n : ℕ) (ps : List (Option X)) → place_of dst g n ≡ src → length ps ≡ n → dst < n → g + (a + m) ≤ n
-      → run_moved (place_of dst a n) (place_of src a n) m (run_moved dst src a ps) ≡ run_moved dst src (a + m) ps
-  by_down dst src g a m n ps is long lt apart = subst (λ s. run_moved (place_of dst a n) (place_of s a n) m (run_moved dst s a ps) ≡ run_moved dst s (a + m) ps) is (back_far dst g a m n ps long lt apart)
-
-  pub by_up : (dst src g a m n : ℕ) (ps : List (Option X)) → place_of src g n ≡ dst → length ps ≡ n → src < n → g + (a + m) ≤ n
-      → run_moved dst src a (run_moved (place_of dst a n) (place_of src a n) m ps) ≡ run_moved dst src (a + m) ps
-  by_up dst src g a m n ps is long lt apart = subst (λ d. run_moved d src a (run_moved (place_of d a n) (place_of src a n) m ps) ≡ run_moved d src (a + m) ps) is (on_far src g a m n ps long lt apart)
+  pub last_then_rest : j ≤ i → i + (k + m) ≤ n → run_moved d s k (run_moved d' s' m ps) ≡ run_moved d s (k + m) ps
+  last_then_rest up within =
+      let once = Holds-moved_to start (i + k) (j + k) m t_in (omega arith) (omega arith) d' s' at_d' at_s' in
+      let twice = Holds-moved_to once i j k t_in (omega arith) (omega arith) d s at_d at_s in
+      Holds-once (Holds-same twice (λ x lt. look_up (λ y. held_at ps (place_of t y n)) i j k m x up)) (Holds-moved_to start i j (k + m) t_in (omega arith) (omega arith) d s at_d at_s)

@@ -1,19 +1,16 @@
 -- Which places are filled while a run of values moves.
-use Rattle.std.proofs.Common.{◌≡◌, ℕ, zero, suc, ◌+◌, ◌%◌, ◌<◌, ◌≤◌, List, [], ◌∷◌, ◌++◌, length, take, drop, get_or, Option, Some, None, refl, sym, ap, ap₂, ◌∙◌, add-one, arith}
-use Rattle.std.proofs.Math.Nat.{mod-eq_of_lt, mod-add-mod, add_assoc}
+use Rattle.std.proofs.Common.{◌≡◌, ℕ, ◌+◌, ◌-◌, ◌<◌, ◌≤◌, List, length, Option, sym, ap, ap₂, ◌∙◌, subst, arith}
+use Rattle.std.proofs.Math.Nat.{mod-eq_of_lt}
 use Rattle.std.proofs.lemmas.Bool.Decides.{nat_tests}
-use Rattle.std.proofs.lemmas.List.{map-append, take_more, length-drop, get_or-drop}
-use Rattle.arraydeque_ring.specs.Places.{held_at, IsFilledRun}
+use Rattle.arraydeque_ring.specs.Places.{held_at, IsFilled, IsFilledRun}
 use Rattle.arraydeque_ring.specs.Ring.{place_of}
 use Rattle.arraydeque_ring.specs.Moved.{distance, IsFilledRound, run_moved}
 use Rattle.arraydeque_ring.proofs.moved.Flat.{distance_is, moved_at}
+use Rattle.arraydeque_ring.proofs.places.Held.{filled_run_of}
 use Rattle.arraydeque_ring.proofs.places.Rotated.{place_of_cases, place_of-lt}
+pub use Rattle.arraydeque_ring.proofs.places.Rotated.{place_of-sum}
 
--- to go on by i and then by x is to go up by both
-pub place_of-sum : (t i x n : ℕ) → place_of (place_of t i n) x n ≡ place_of t (i + x) n
-place_of-sum t i x n = mod-add-mod (t + i) n x ∙ ap (λ m. m % n) (add_assoc t i x)
-
--- and the place k on is at the distance k
+-- the place k on is at the distance k
 distance-up : (i k n : ℕ) → i ≤ n → k < n → distance i (place_of i k n) n ≡ k
 distance-up i k n a b = let at = place_of-lt i k n (omega arith) in grind (arith, nat_tests, distance_is i (place_of i k n) n a at, place_of_cases i k n (omega arith))
 
@@ -35,14 +32,4 @@ module _ {X : Type 0} where
 
   -- a run that doesn't pass the end
   pub round_run : (ps : List (Option X)) (from len : ℕ) → from + len ≤ length ps → IsFilledRound from len ps → IsFilledRun ps from len
-  round_run ps from zero le filled = (omega arith, ([], refl))
-  round_run ps from (suc len) le filled =
-      let front = round_run ps from len (omega arith) (λ k lt. filled k (omega arith)) in
-      let last = filled len (omega arith) in
-      let here : get_or ps (from + len) None ≡ Some last.0 = ap (λ p. get_or ps p None) (sym (mod-eq_of_lt {m = length ps} (omega arith))) ∙ last.1 in (
-        omega arith,
-        (
-          front.1.0 ++ last.0 ∷ [],
-          ap (λ m. take m (drop from ps)) (sym (add-one len)) ∙ take_more (drop from ps) len None (omega (arith, length-drop from ps)) ∙ ap₂ (λ l q. l ++ q ∷ []) front.1.1 (get_or-drop from ps len None ∙ here) ∙ sym (map-append Some front.1.0 (last.0 ∷ [])),
-        ),
-      )
+  round_run ps from len le filled = filled_run_of ps from len le (λ x a b. subst (IsFilled ps) (mod-eq_of_lt {m = length ps} (omega arith) ∙ omega arith) (filled (x - from) (omega arith)))

@@ -1,9 +1,12 @@
 -- A run of places that is emptied, one place after another.
-use Rattle.std.proofs.Common.{◌≡◌, ℕ, ◌+◌, ◌-◌, ◌<◌, ◌≤◌, List, [], ◌∷◌, ◌++◌, length, take, drop, set, get_or, replicate, Option, Some, None, refl, sym, ap, ap₂, ◌∙◌, arith}
-use Rattle.std.proofs.lemmas.List.{length-append, length-replicate, length-take-le, length-drop, append_assoc, drop_more, replicate_more}
+use Rattle.std.proofs.Common.{◌≡◌, ℕ, ◌+◌, ◌<◌, ◌≤◌, ◌==◌, inl, inr, List, [], ◌∷◌, ◌++◌, length, set, get_or, nat_lt, if◌then◌else◌, Option, Some, None, refl, sym, ap, ◌∙◌, arith}
+use Rattle.std.proofs.lemmas.Bool.{cases_eq, eq-eqb, ne_eqb}
+use Rattle.std.proofs.lemmas.Bool.Decides.{nat_tests}
+use Rattle.std.proofs.lemmas.Grind.{common_steps}
+use Rattle.std.proofs.lemmas.List.{length-set, get_or-set_same, get_or-set_other}
 use Rattle.arraydeque_ring.specs.Ring.{values}
 use Rattle.arraydeque_ring.specs.Gaps.{run_emptied}
-use Rattle.arraydeque_ring.proofs.places.Held.{get_behind, set_behind}
+use Rattle.arraydeque_ring.proofs.moved.Flat.{same_places}
 
 module _ {X : Type 0} where
   pub values-append : (ps qs : List (Option X)) → values (ps ++ qs) ≡ values ps ++ values qs
@@ -11,27 +14,28 @@ module _ {X : Type 0} where
   values-append (None ∷ ps) qs = values-append ps qs
   values-append (Some x ∷ ps) qs = ap (λ l. x ∷ l) (values-append ps qs)
 
-  -- the same run, said by its end
-  pub run_emptied-up_to : (ps : List (Option X)) (from end : ℕ) → from ≤ end → take from ps ++ replicate (end - from) None ++ drop end ps ≡ run_emptied from (end - from) ps
-  run_emptied-up_to ps from end le = append_assoc (take from ps) (replicate (end - from) None) (drop end ps) ∙ ap (λ i. take from ps ++ (replicate (end - from) None ++ drop i ps)) (omega arith)
+  -- what a place holds once c is written to the place i
+  pub get_or-written : (ps : List (Option X)) (i x : ℕ) (c : Option X) → i < length ps → get_or (set ps i c) x None ≡ (if x == i then c else get_or ps x None)
+  get_or-written ps i x c lt = elim (cases_eq x i) [
+    | inl same ↦ rw (eq-eqb x i same, same) (get_or-set_same ps i c None lt)
+    | inr other ↦ rw (ne_eqb x i other) (get_or-set_other ps i x c None other)
+  ]
 
-  pub length-run_emptied : (at k : ℕ) (ps : List (Option X)) → at + k ≤ length ps → length (run_emptied at k ps) ≡ length ps
-  length-run_emptied at k ps le =
-      omega (arith, length-append (take at ps) (replicate k None ++ drop (at + k) ps), length-append (replicate k None) (drop (at + k) ps), length-take-le at ps (omega arith), length-replicate {A = Option X} k None, length-drop (at + k) ps)
+  module _ (at k : ℕ) (ps : List (Option X)) where
+    pub length-run_emptied : at + k ≤ length ps → length (run_emptied at k ps) ≡ length ps
+    length-run_emptied le = grind (arith, common_steps)
+
+    pub get_or-run_emptied : (x : ℕ) → at + k ≤ length ps → get_or (run_emptied at k ps) x None ≡ (if nat_lt x at then get_or ps x None else (if nat_lt x (at + k) then None else get_or ps x None))
+    get_or-run_emptied x le = grind (arith, nat_tests, common_steps)
 
   module _ (ps : List (Option X)) (at k i : ℕ) (here : at + k ≡ i) (lt : i < length ps) where
-    next_split : run_emptied at k ps ≡ take at ps ++ (replicate k None ++ get_or ps i None ∷ drop (i + 1) ps)
-    next_split = ap (λ l. take at ps ++ (replicate k None ++ l)) (ap (λ j. drop j ps) here ∙ drop_more ps i None lt)
-
-    long : length (take at ps) + k ≡ i
-    long = omega (arith, length-take-le at ps (omega arith))
-
     -- the next place is as it was, and the run is longer with it
     pub next_held : get_or (run_emptied at k ps) i None ≡ get_or ps i None
-    next_held = ap (λ l. get_or l i None) next_split ∙ get_behind (take at ps) (drop (i + 1) ps) k i (get_or ps i None) long
+    next_held = get_or-run_emptied at k ps i (omega arith) ∙ grind (arith, nat_tests)
 
     pub next_emptied : set (run_emptied at k ps) i None ≡ run_emptied at (k + 1) ps
     next_emptied =
-        let rest = drop (i + 1) ps in
-        ap (λ l. set l i None) next_split ∙ set_behind (take at ps) rest k i (get_or ps i None) None long
-        ∙ ap (λ l. take at ps ++ l) (sym (append_assoc (replicate k None) (None ∷ []) rest) ∙ ap₂ (λ a j. a ++ drop j ps) (replicate_more k None) (omega arith))
+        let long = length-run_emptied at k ps (omega arith) in
+        let longer = length-run_emptied at (k + 1) ps (omega arith) in
+        same_places _ _ (length-set (run_emptied at k ps) i None ∙ long ∙ sym longer)
+        (λ x x_in. get_or-written (run_emptied at k ps) i x None (omega (arith, long)) ∙ grind (arith, nat_tests, get_or-run_emptied at k ps x) ∙ sym (get_or-run_emptied at (k + 1) ps x (omega arith)))

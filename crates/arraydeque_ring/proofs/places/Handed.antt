@@ -1,36 +1,37 @@
 -- A run of values that is handed to another region: behind the items that it has, and out of places that go round the region's end.
-use Rattle.std.proofs.Common.{◌≡◌, ℕ, ◌+◌, ◌-◌, ◌<◌, ◌≤◌, min, List, ◌++◌, map, length, take, drop, replicate, Option, Some, None, sym, ap, ap₂, ◌∙◌, arith, rules}
-use Rattle.std.proofs.lemmas.List.{places, length-map, length-append, length-replicate, append-nil, replicate-append-replicate, same_lists, take_at, drop_at, drop-map, take-map}
+use Rattle.std.proofs.Common.{◌≡◌, ℕ, ◌+◌, ◌-◌, ◌<◌, ◌≤◌, min, List, ◌++◌, map, length, take, drop, slice_get, Option, Some, sym, ap, ◌∙◌, arith, rules}
+use Rattle.std.proofs.lemmas.Bool.Decides.{nat_tests}
+use Rattle.std.proofs.lemmas.Grind.{common_steps}
+use Rattle.std.proofs.lemmas.List.{places, length-map, length-append, same_lists, take_at, drop_at, drop-map, take-map}
 use Rattle.arraydeque_ring.specs.Gaps.{IsEmptyRun, run_emptied}
-use Rattle.arraydeque_ring.specs.Places.{IsFilledRun}
-use Rattle.arraydeque_ring.specs.Ring.{place_of, rotated, values}
-use Rattle.arraydeque_ring.proofs.places.AndEmpty.{and_empty, length-and_empty, and_empty-append, values-map_Some}
+use Rattle.arraydeque_ring.specs.Places.{held_at, IsFilledRun}
+use Rattle.arraydeque_ring.specs.Ring.{rotated, values}
+use Rattle.arraydeque_ring.proofs.moved.Flat.{spliced}
+use Rattle.arraydeque_ring.proofs.places.AndEmpty.{values-map_Some}
 use Rattle.arraydeque_ring.proofs.places.Emptied.{length-run_emptied, values-append}
-use Rattle.arraydeque_ring.proofs.places.Held.{length_filled}
-use Rattle.arraydeque_ring.proofs.places.LaidOut.{LaidOut, LaidOut-from}
-use Rattle.arraydeque_ring.proofs.places.InParts.{drop_two, empty_run}
-use Rattle.arraydeque_ring.proofs.places.Rotated.{place_of_cases, place_of-lt, length-rotated, get_or-rotated}
+use Rattle.arraydeque_ring.proofs.places.Held.{length_filled, empty_run_of}
+use Rattle.arraydeque_ring.proofs.places.Items.{items, get_or-map_Some}
+use Rattle.arraydeque_ring.proofs.places.LaidOut.{LaidOut}
+use Rattle.arraydeque_ring.proofs.places.Rotated.{place_of-first, MayStartAt, place_of_cases, length-rotated, get_or-rotated}
 
 module _ {X : Type 0} {n : ℕ} {xs : List X} {ps : List (Option X)} (m k : ℕ) (l : LaidOut n 0 xs ps) (behind : length xs ≡ m) (room : m + k ≤ n) where
-  from_first : ps ≡ map Some xs ++ (replicate k None ++ replicate (n - length xs - k) None)
-  from_first = sym (append-nil ps) ∙ l.is ∙ ap (λ qs. map Some xs ++ qs) (ap (λ i. replicate i None) (omega arith) ∙ sym (replicate-append-replicate k (n - length xs - k) None))
-
-  wide : length (map Some xs) ≡ m
-  wide = length-map xs Some ∙ behind
+  from_first : (x : ℕ) → x < n → held_at ps x ≡ slice_get xs x
+  from_first x lt = ap (held_at ps) (sym (place_of-first x n lt)) ∙ l.at x lt
 
   -- items that start at the first place have empty places behind them
   pub IsEmptyRun-behind : IsEmptyRun ps m k
-  IsEmptyRun-behind = rw from_first (empty_run (map Some xs) (replicate (n - length xs - k) None) m k wide)
+  IsEmptyRun-behind = empty_run_of ps m k (omega (arith, l.long)) (λ x from to. from_first x (omega arith) ∙ grind (arith, items))
 
   -- and values that are put there are items too
   pub LaidOut-put_run : (ys : List X) → length ys ≡ k → LaidOut n 0 (xs ++ ys) (take m ps ++ (map Some ys ++ drop (m + k) ps))
-  LaidOut-put_run ys long =
-      let left = n - length xs - k in
-      let new = take m ps ++ (map Some ys ++ drop (m + k) ps) in
-      let is : new ≡ and_empty (xs ++ ys) left =
-      ap₂ (λ a b. a ++ (map Some ys ++ b)) (ap (take m) from_first ∙ take_at (map Some xs) _ m wide)
-      (ap (drop (m + k)) from_first ∙ drop_two (map Some xs) (replicate k None) (replicate left None) m k wide (length-replicate k None)) ∙ sym (and_empty-append xs ys left) in
-      LaidOut-from left (ap length is ∙ length-and_empty (xs ++ ys) left ∙ omega (arith, length-append xs ys)) (omega arith) (append-nil new ∙ is)
+  LaidOut-put_run ys many =
+      let long = l.long in
+      record {
+        long = grind (arith, common_steps);
+        in_region = omega arith;
+        within = omega (arith, length-append xs ys);
+        at = λ x lt. ap (held_at (take m ps ++ (map Some ys ++ drop (m + k) ps))) (place_of-first x n lt) ∙ spliced ps (map Some ys) m k x (length-map ys Some ∙ many) (omega arith) ∙ grind (arith, nat_tests, items, get_or-map_Some ys (x - m), from_first x lt);
+      }
 
 -- the len values from the index `at` on can be handed over in two parts, the first of them as far as the region's end, and what that comes to
 pub record Handed {X : Type 0} (t at len place first : ℕ) (ps : List (Option X)) : Type 0 where
@@ -40,8 +41,8 @@ pub record Handed {X : Type 0} (t at len place first : ℕ) (ps : List (Option X
   pub places : rotated t (run_emptied 0 (len - first) (run_emptied place first ps)) ≡ run_emptied at len (rotated t ps)
   pub all : values (take first (drop place ps)) ++ values (take (len - first) (run_emptied place first ps)) ≡ values (take len (drop at (rotated t ps)))
 
-pub handed : {X : Type 0} (t at len n place first : ℕ) (ps : List (Option X)) → length ps ≡ n → t ≤ n - 1 → 0 < len → IsFilledRun (rotated t ps) at len → place ≡ place_of t at n → first ≡ min len (n - place) → Handed t at len place first ps
-handed t at len n place first ps long in_region some run is cut =
+pub handed : {X : Type 0} (t at len n place first : ℕ) (ps : List (Option X)) → length ps ≡ n → t ≤ n - 1 → IsFilledRun (rotated t ps) at len → MayStartAt t at n place → place ≤ n → first ≡ min len (n - place) → Handed t at len place first ps
+handed t at len n place first ps long in_region run lies before_end cut =
     let ts = rotated t ps in
     let es = run_emptied place first ps in
     let r = len - first in
@@ -51,24 +52,24 @@ handed t at len n place first ps long in_region some run is cut =
     let zs = run.1.0 in
     let wide : length ts ≡ n = length-rotated t ps ∙ long in
     let fits : at + len ≤ n = omega (arith, run.0) in
-    let end : place + first ≤ n = omega (arith, place_of-lt t at n (omega arith)) in
+    let end : place + first ≤ length ps = omega arith in
     let same : length es ≡ n = length-run_emptied place first ps (omega arith) ∙ long in
     let same_rs : length rs ≡ n = length-run_emptied 0 r es (omega arith) ∙ same in
     let many : length firsts ≡ first = search (rules, places) in
     let all : length (firsts ++ others) ≡ len = search (rules, places) in
     let joined : firsts ++ others ≡ take len (drop at ts) = same_lists (firsts ++ others) (take len (drop at ts)) (search (rules, places)) (λ j d lt.
     let on = get_or-rotated t (at + j) n ps d long (omega arith) (omega arith) in
-    grind (arith, places, on, place_of_cases t (at + j) n (omega arith), place_of_cases t at n (omega arith))) in
+    grind (arith, places, on, place_of_cases t (at + j) n (omega arith), lies)) in
     let here : firsts ≡ map Some (take first zs) = sym (take_at firsts others first many) ∙ ap (take first) (joined ∙ run.1.1) ∙ take-map Some first zs in
     let there : others ≡ map Some (drop first zs) = sym (drop_at firsts others first many) ∙ ap (drop first) (joined ∙ run.1.1) ∙ drop-map Some first zs in
     record {
-      here = (omega arith, (take first zs, here));
+      here = (end, (take first zs, here));
       rest = (omega arith, (drop first zs, there));
-      many = ap length (ap values here ∙ values-map_Some (take first zs)) ∙ length_filled ps place first (omega arith, (take first zs, here));
+      many = ap length (ap values here ∙ values-map_Some (take first zs)) ∙ length_filled ps place first (end, (take first zs, here));
       places = same_lists (rotated t rs) (run_emptied at len ts) (search (rules, places)) (λ j d lt.
           let within : j < n = omega (arith, lt, length-rotated t rs) in
           let read = get_or-rotated t j n rs d same_rs (omega arith) within in
           let was = get_or-rotated t j n ps d long (omega arith) within in
-          grind (arith, places, read, was, place_of_cases t j n (omega arith), place_of_cases t at n (omega arith)));
+          grind (arith, places, read, was, place_of_cases t j n (omega arith), lies));
       all = sym (values-append firsts others) ∙ ap values joined;
     }

@@ -1,10 +1,12 @@
--- Places as a list: what is filled, and what a run of empty places has behind it.
-use Rattle.std.proofs.Common.{◌≡◌, ◌≢◌, ℕ, zero, suc, ◌+◌, ◌<◌, inl, inr, List, [], ◌∷◌, ◌++◌, length, drop, set, get_or, replicate, swap, Option, Some, None, refl, sym, ap, ◌∙◌, arith}
-use Rattle.std.proofs.lemmas.List.{length-append, length-replicate, length-map, length-take-le, length-drop, append_assoc, get_or_at, get_or-take, get_or-drop, get_or-map, get_or-replicate, get_or-set_other, set_at, set-set, set_comm}
+-- Places and runs of them: what is filled, empty, and exchanged.
+use Rattle.std.proofs.Common.{◌≡◌, ◌≢◌, ℕ, zero, suc, ◌+◌, ◌<◌, ◌≤◌, List, [], ◌∷◌, ◌++◌, length, take, drop, set, get_or, slice_get, swap, Option, Some, None, refl, sym, ap, ap₂, ◌∙◌, subst, add-one, arith}
+use Rattle.std.proofs.lemmas.Grind.{common_steps}
+use Rattle.std.proofs.lemmas.List.{length-map, length-take-le, length-drop, map-append, take_more, get_or-take, get_or-drop, get_or-replicate, get_or-set_other, set-set, set_comm}
 use Rattle.std.proofs.lemmas.List.Edits.{swap_is}
-use Rattle.std.proofs.lemmas.Option.{slice_get_cases}
-use Rattle.arraydeque_ring.specs.Places.{IsFilled, HoldsRun, IsFilledRun}
+use Rattle.arraydeque_ring.specs.Places.{held_at, IsFilled, HoldsRun, IsFilledRun}
 use Rattle.arraydeque_ring.specs.Gaps.{IsEmptyRun}
+use Rattle.arraydeque_ring.proofs.moved.Flat.{same_places}
+use Rattle.arraydeque_ring.proofs.places.Items.{get_or-map_Some, slice_get_some}
 
 module _ {X : Type 0} where
   -- a filled place is one of the region's
@@ -13,15 +15,6 @@ module _ {X : Type 0} where
   filled_within (p ∷ ps) zero x e = omega arith
   filled_within (p ∷ ps) (suc i) x e = omega (arith, filled_within ps i x e)
 
-  run_of_one : (ps : List (Option X)) (i : ℕ) (x : X) → get_or ps i None ≡ Some x → HoldsRun ps i 1 (x ∷ [])
-  run_of_one [] i x e = cc
-  run_of_one (p ∷ ps) zero x e = ap (λ q. q ∷ []) e
-  run_of_one (p ∷ ps) (suc i) x e = run_of_one ps i x e
-
-  -- a filled place is a filled run of one
-  pub is_filled_run : (ps : List (Option X)) (i : ℕ) → IsFilled ps i → IsFilledRun ps i 1
-  is_filled_run ps i held = (omega (arith, filled_within ps i held.0 held.1), (held.0 ∷ [], run_of_one ps i held.0 held.1))
-
   -- a filled run has as many values as places
   pub length_filled : (ps : List (Option X)) (from len : ℕ) (run : IsFilledRun ps from len) → length run.1.0 ≡ len
   length_filled ps from len run = omega (arith, run.0, ap length run.1.1, length-map run.1.0 Some, length-take-le len (drop from ps) (omega (arith, run.0, length-drop from ps)))
@@ -29,12 +22,8 @@ module _ {X : Type 0} where
   -- and each place of a filled run is filled
   pub filled_in_run : (ps : List (Option X)) (from len k : ℕ) → IsFilledRun ps from len → k < len → IsFilled ps (from + k)
   filled_in_run ps from len k run lt =
-      let xs = run.1.0 in
-      let many = length_filled ps from len run in
-      elim (slice_get_cases xs k).1 [
-        | inl at ↦ (at.0, sym (get_or-take len (drop from ps) k None lt ∙ get_or-drop from ps k None) ∙ ap (λ l. get_or l k None) run.1.1 ∙ get_or-map Some xs k at.0 None at.1 ∙ ap Some at.3)
-        | inr past ↦ absurd (omega arith)
-      ]
+      let some = slice_get_some run.1.0 k (omega (arith, length_filled ps from len run)) in
+      (some.0, sym (get_or-take len (drop from ps) k None lt ∙ get_or-drop from ps k None) ∙ ap (λ l. get_or l k None) run.1.1 ∙ get_or-map_Some run.1.0 k ∙ some.1)
 
   -- each place of an empty run is empty
   pub empty_in_run : (ps : List (Option X)) (from len k : ℕ) → IsEmptyRun ps from len → k < len → get_or ps (from + k) None ≡ None
@@ -51,19 +40,27 @@ module _ {X : Type 0} where
       ∙ ap (λ p. set (set ps i p) j (Some x)) (sym y_was) ∙ ap (λ p. set (set ps i (get_or ps j None)) j p) (sym at_i)
       ∙ swap_is ps i j None (filled_within ps i x at_i) (filled_within ps j y y_was)
 
-  -- the place i behind n empty places is read and written
-  pub get_behind : (front rest : List (Option X)) (n i : ℕ) (v : Option X) → length front + n ≡ i → get_or (front ++ (replicate n None ++ v ∷ rest)) i None ≡ v
-  get_behind front rest n i v e =
-      ap (λ l. get_or l i None) (sym (append_assoc front (replicate n None) (v ∷ rest)))
-      ∙ get_or_at (front ++ replicate n None) v rest None i (omega (arith, length-append front (replicate n None), length-replicate {A = Option X} n None))
+  -- a run is filled, or empty, where each of its places is
+  pub filled_run_of : (ps : List (Option X)) (from len : ℕ) → from + len ≤ length ps → ((x : ℕ) → from ≤ x → x < from + len → IsFilled ps x) → IsFilledRun ps from len
+  filled_run_of ps from zero le each = (omega arith, ([], refl))
+  filled_run_of ps from (suc len) le each =
+      let front = filled_run_of ps from len (omega arith) (λ x a b. each x a (omega arith)) in
+      let last = each (from + len) (omega arith) (omega arith) in (
+        le,
+        (
+          front.1.0 ++ last.0 ∷ [],
+          ap (λ m. take m (drop from ps)) (sym (add-one len)) ∙ take_more (drop from ps) len None (omega (arith, length-drop from ps)) ∙ ap₂ (λ l q. l ++ q ∷ []) front.1.1 (get_or-drop from ps len None ∙ last.1) ∙ sym (map-append Some front.1.0 (last.0 ∷ [])),
+        ),
+      )
 
-  pub set_behind : (front rest : List (Option X)) (n i : ℕ) (v c : Option X) → length front + n ≡ i → set (front ++ (replicate n None ++ v ∷ rest)) i c ≡ front ++ (replicate n None ++ c ∷ rest)
-  set_behind front rest n i v c e =
-      ap (λ l. set l i c) (sym (append_assoc front (replicate n None) (v ∷ rest)))
-      ∙ set_at (front ++ replicate n None) v rest c i (omega (arith, length-append front (replicate n None), length-replicate {A = Option X} n None))
-      ∙ append_assoc front (replicate n None) (c ∷ rest)
+  -- a filled place is a filled run of one
+  pub is_filled_run : (ps : List (Option X)) (i : ℕ) → IsFilled ps i → IsFilledRun ps i 1
+  is_filled_run ps i held = filled_run_of ps i 1 (omega (arith, filled_within ps i held.0 held.1)) (λ x a b. subst (IsFilled ps) (omega arith) held)
 
--- one more of the same, in front or behind
-pub repeated : {X : Type 0} (n : ℕ) (y : X) (ys : List X) → replicate n y ++ y ∷ ys ≡ y ∷ (replicate n y ++ ys)
-repeated zero y ys = refl
-repeated (suc n) y ys = ap (λ l. y ∷ l) (repeated n y ys)
+  pub empty_run_of : (ps : List (Option X)) (from len : ℕ) → from + len ≤ length ps → ((x : ℕ) → from ≤ x → x < from + len → held_at ps x ≡ None) → IsEmptyRun ps from len
+  empty_run_of ps from len le each = (le, same_places _ _ (grind (arith, common_steps)) (λ x lt. grind (arith, common_steps, each (from + x))))
+
+  -- and holds those values that its places hold
+  pub holds_run_of : (ps : List (Option X)) (from len : ℕ) (xs : List X) → length xs ≡ len → from + len ≤ length ps → ((k : ℕ) → k < len → held_at ps (from + k) ≡ slice_get xs k) → HoldsRun ps from len xs
+  holds_run_of ps from len xs many le each =
+      let long = length-map xs Some in same_places _ _ (grind (arith, common_steps)) (λ k lt. grind (arith, common_steps, each k) ∙ sym (get_or-map_Some xs k))

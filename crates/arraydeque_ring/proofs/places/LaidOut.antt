@@ -1,27 +1,40 @@
 -- What the places of a ring hold, read from its start on: first its items, then nothing.
-use Rattle.std.proofs.Common.{◌≡◌, ℕ, suc, ◌+◌, ◌-◌, ◌<◌, ◌≤◌, inl, inr, List, [], ◌∷◌, ◌++◌, length, take, drop, set, get_or, replicate, slice_get, Option, Some, None, is_some, true, false, refl, sym, ap, ap₂, ◌∙◌, subst, arith}
-use Rattle.std.proofs.lemmas.List.{length-map, length-replicate, length-set, append-nil, nil_from_length}
-use Rattle.std.proofs.lemmas.Option.{slice_get_cases, slice_get_past}
+use Rattle.std.proofs.Common.{◌≡◌, ◌≢◌, ℕ, ◌+◌, ◌-◌, ◌<◌, ◌≤◌, List, [], ◌∷◌, ◌++◌, length, take, drop, set, get_or, replicate, slice_get, nat_lt, if◌then◌else◌, Option, Some, None, is_some, true, false, refl, sym, ap, ap₂, ◌∙◌, subst, arith}
+use Rattle.std.proofs.lemmas.Bool.Decides.{nat_tests}
+use Rattle.std.proofs.lemmas.Grind.{common_steps}
+use Rattle.std.proofs.lemmas.List.{length-append, length-take, length-drop, length-map, length-replicate, length-set}
+use Rattle.std.proofs.lemmas.Option.{slice_get_past}
 use Rattle.arraydeque_ring.specs.Places.{held_at, IsFilled, IsEmpty, HoldsRun, IsFilledRun, AreAllEmpty}
 use Rattle.arraydeque_ring.specs.Ring.{place_of, rotated, values, filled, FilledFrom}
-use Rattle.arraydeque_ring.proofs.places.AndEmpty.{and_empty, length-and_empty, get_or-and_empty, values-and_empty, values-map_Some, filled-and_empty, and_empty_from, run-and_empty, set-and_empty, put_behind, taken_behind, taken_first, one_more_empty}
-use Rattle.arraydeque_ring.proofs.places.Rotated.{MayStartAt, place_of-lt, place_of-zero, length-rotated, rotated-run, rotated-map, rotated-rotated, rotated-set, rotated-set_start, rotated_at, rotated_back, rotated-replicate, get_or-rotated}
+use Rattle.arraydeque_ring.proofs.moved.Flat.{same_places}
+use Rattle.arraydeque_ring.proofs.places.AndEmpty.{and_empty, length-and_empty, get_or-and_empty, values-and_empty, values-map_Some, filled-and_empty, and_empty_from}
+use Rattle.arraydeque_ring.proofs.places.Held.{holds_run_of}
+use Rattle.arraydeque_ring.proofs.places.Holds.{Holds, Holds-once, Holds-of_rotated, Holds-rotated, Holds-from, Holds-set}
+use Rattle.arraydeque_ring.proofs.places.Items.{items, slice_get_some, slice_get-cons, slice_get-drop}
+use Rattle.arraydeque_ring.proofs.places.Rotated.{MayStartAt, place_of-lt, place_of-run, place_of-zero, place_of_cases, length-rotated, rotated-map}
 
 -- the n places hold the items from the place t on, round the end, and nothing else
 pub record LaidOut {X : Type 0} (n t : ℕ) (xs : List X) (ps : List (Option X)) : Type 0 where
   pub long : length ps ≡ n
   pub in_region : t ≤ n - 1
-  pub is : rotated t ps ≡ and_empty xs (n - length xs)
+  pub within : length xs ≤ n
+  pub at : (k : ℕ) → k < n → held_at ps (place_of t k n) ≡ slice_get xs k
 
--- how many places are left over follows
-pub LaidOut-from : {X : Type 0} {n t : ℕ} {xs : List X} {ps : List (Option X)} (k : ℕ) → length ps ≡ n → t ≤ n - 1 → rotated t ps ≡ and_empty xs k → LaidOut n t xs ps
-LaidOut-from {n = n} {t = t} {xs = xs} {ps = ps} k long within e =
-    let left : k ≡ n - length xs = omega (arith, length-rotated t ps, ap length e, length-and_empty xs k) in
-    record { long = long; in_region = within; is = e ∙ ap (and_empty xs) left }
+module _ {X : Type 0} {n t : ℕ} {xs : List X} {ps : List (Option X)} where
+  pub holds : LaidOut n t xs ps → Holds n t (slice_get xs) ps
+  holds l = record { long = l.long; in_region = l.in_region; at = l.at }
+
+  pub LaidOut-by : length xs ≤ n → Holds n t (slice_get xs) ps → LaidOut n t xs ps
+  LaidOut-by within h = record { long = h.long; in_region = h.in_region; within = within; at = h.at }
+
+  -- where the list that begins at t has the items and then k empty places
+  pub LaidOut-from : (k : ℕ) → length ps ≡ n → t ≤ n - 1 → rotated t ps ≡ and_empty xs k → LaidOut n t xs ps
+  LaidOut-from k long within e =
+      LaidOut-by (omega (arith, length-rotated t ps, ap length e, length-and_empty xs k)) (Holds-of_rotated long within (λ i lt. ap (λ l. get_or l i None) e ∙ get_or-and_empty xs k i))
 
 -- empty places hold the empty list
 pub LaidOut-nothing : {X : Type 0} (n : ℕ) → LaidOut {X = X} n 0 [] (replicate n None)
-LaidOut-nothing n = LaidOut-from n (length-replicate n None) (omega arith) (append-nil (replicate n None))
+LaidOut-nothing n = record { long = length-replicate n None; in_region = omega arith; within = omega arith; at = λ k lt. grind (arith, common_steps) }
 
 -- places of which len from the start on are filled hold the values in them
 pub LaidOut-values : {X : Type 0} (t len : ℕ) (ps : List (Option X)) → t ≤ length ps - 1 → FilledFrom t len (filled ps) → LaidOut (length ps) t (values (rotated t ps)) ps × (length (values (rotated t ps)) ≡ len)
@@ -31,40 +44,43 @@ LaidOut-values t len ps within e =
 
 module _ {X : Type 0} {n t : ℕ} {xs : List X} {ps : List (Option X)} (l : LaidOut n t xs ps) where
   pub length_within : length xs ≤ n
-  length_within = omega (arith, l.long, length-rotated t ps, ap length l.is, length-and_empty xs (n - length xs))
+  length_within = l.within
+
+  pub rotated-LaidOut : rotated t ps ≡ and_empty xs (n - length xs)
+  rotated-LaidOut =
+      let within = l.within in
+      same_places _ _ (length-rotated t ps ∙ l.long ∙ omega (arith, length-and_empty xs (n - length xs)))
+      (λ k lt. Holds-rotated (holds l) k (omega (arith, length-and_empty xs (n - length xs))) ∙ sym (get_or-and_empty xs (n - length xs) k))
 
   -- the values that are there are the items
   pub values-LaidOut : values (rotated t ps) ≡ xs
-  values-LaidOut = ap values l.is ∙ values-and_empty xs (n - length xs)
+  values-LaidOut = ap values rotated-LaidOut ∙ values-and_empty xs (n - length xs)
 
   -- and as many places from the start on are filled
   pub FilledFrom-LaidOut : (m : ℕ) → length xs ≡ m → FilledFrom t m (filled ps)
   FilledFrom-LaidOut m e =
       let left : n - length xs ≡ length (filled ps) - m = omega (arith, l.long, length-map ps is_some) in
-      rotated-map is_some t ps ∙ ap filled l.is ∙ filled-and_empty xs (n - length xs) ∙ ap₂ (λ a b. replicate a true ++ replicate b false) e left
+      rotated-map is_some t ps ∙ ap filled rotated-LaidOut ∙ filled-and_empty xs (n - length xs) ∙ ap₂ (λ a b. replicate a true ++ replicate b false) e left
 
-  -- the place of the index k holds the item k, and nothing past the last one
-  pub held_at-place_of : (k : ℕ) → k < n → held_at ps (place_of t k n) ≡ slice_get xs k
-  held_at-place_of k lt = sym (get_or-rotated t k n ps None l.long (omega (arith, l.in_region)) lt) ∙ ap (λ qs. get_or qs k None) l.is ∙ get_or-and_empty xs (n - length xs) k
-
+  -- the place of an item is filled, and that of an index past the last one is empty
   pub IsFilled-place_of : (k : ℕ) → k < length xs → IsFilled ps (place_of t k n)
-  IsFilled-place_of k lt =
-      elim (slice_get_cases xs k).1 [ inl at ↦ (at.0, held_at-place_of k (omega (arith, length_within)) ∙ at.2) | inr past ↦ absurd (omega arith) ]
+  IsFilled-place_of k lt = let some = slice_get_some xs k lt in (some.0, l.at k (omega (arith, l.within)) ∙ some.1)
 
   pub IsEmpty-place_of : (k : ℕ) → length xs ≤ k → k < n → IsEmpty ps (place_of t k n)
-  IsEmpty-place_of k past lt = (omega (arith, l.long, place_of-lt t k n (omega (arith, l.in_region))), held_at-place_of k lt ∙ slice_get_past xs k past)
+  IsEmpty-place_of k past lt = (omega (arith, l.long, place_of-lt t k n (omega (arith, l.in_region))), l.at k lt ∙ grind (arith, items))
 
   -- the start holds the first item
   pub held_at-start : 0 < n → held_at ps t ≡ slice_get xs 0
-  held_at-start lt = ap (held_at ps) (sym (place_of-zero t n (omega (arith, l.in_region)))) ∙ held_at-place_of 0 lt
+  held_at-start lt = rw (place_of-zero t n l.in_region) at (l.at 0 lt)
 
   pub IsFilled-start : 0 < length xs → IsFilled ps t
-  IsFilled-start some =
-      elim (slice_get_cases xs 0).1 [ inl at ↦ (at.0, held_at-start (omega (arith, length_within)) ∙ at.2) | inr past ↦ absurd (omega arith) ]
+  IsFilled-start some = rw (place_of-zero t n l.in_region) at (IsFilled-place_of 0 some)
 
   -- read from the start on, the len items from the index i on are a run
   HoldsRun-rotated : (i len : ℕ) → i + len ≤ length xs → HoldsRun (rotated t ps) i len (take len (drop i xs))
-  HoldsRun-rotated i len le = ap (λ qs. take len (drop i qs)) l.is ∙ run-and_empty i len xs (n - length xs) le
+  HoldsRun-rotated i len le =
+      let within = l.within in
+      holds_run_of (rotated t ps) i len (take len (drop i xs)) (omega (arith, length-take len (drop i xs), length-drop i xs)) (omega (arith, length-rotated t ps, l.long)) (λ k lt. Holds-rotated (holds l) (i + k) (omega arith) ∙ grind (arith, nat_tests, items))
 
   pub IsFilledRun-rotated : (i len : ℕ) → i + len ≤ length xs → IsFilledRun (rotated t ps) i len
   IsFilledRun-rotated i len le = (omega (arith, l.long, length-rotated t ps, length_within), (take len (drop i xs), HoldsRun-rotated i len le))
@@ -74,7 +90,10 @@ module _ {X : Type 0} {n t : ℕ} {xs : List X} {ps : List (Option X)} (l : Laid
 
   -- they stand from the place p on
   HoldsRun-LaidOut : (i p len : ℕ) → MayStartAt t i n p → i + len ≤ length xs → p + len ≤ n → HoldsRun ps p len (take len (drop i xs))
-  HoldsRun-LaidOut i p len at within fits = sym (rotated-run t i n p len ps l.long (omega (arith, l.in_region)) at (omega (arith, length_within)) fits) ∙ HoldsRun-rotated i len within
+  HoldsRun-LaidOut i p len at within fits =
+      let all = l.within in
+      holds_run_of ps p len (take len (drop i xs)) (omega (arith, length-take len (drop i xs), length-drop i xs)) (omega (arith, l.long))
+      (λ k lt. ap (held_at ps) (sym (place_of-run t i k n p at (omega arith) (omega (arith, l.in_region)) (omega arith))) ∙ l.at (i + k) (omega arith) ∙ grind (arith, nat_tests, items))
 
   pub IsFilledRun-LaidOut : (i p len : ℕ) → MayStartAt t i n p → i + len ≤ length xs → p + len ≤ n → IsFilledRun ps p len
   IsFilledRun-LaidOut i p len at within fits = (omega (arith, l.long), (take len (drop i xs), HoldsRun-LaidOut i p len at within fits))
@@ -86,56 +105,39 @@ module _ {X : Type 0} {n t : ℕ} {xs : List X} {ps : List (Option X)} (l : Laid
 
   -- with no items every place is empty
   pub AreAllEmpty-LaidOut : length xs ≡ 0 → AreAllEmpty ps
-  AreAllEmpty-LaidOut none =
-      let left = length ps - t in
-      let nothing : rotated t ps ≡ replicate (length ps) None = l.is ∙ ap₂ and_empty (nil_from_length xs none) (omega (arith, l.long)) in
-      sym (rotated_back t ps) ∙ ap (rotated left) nothing ∙ rotated-replicate left (length ps) None (omega arith)
+  AreAllEmpty-LaidOut none = Holds-once (holds l) (record {
+    long = length-replicate (length ps) None ∙ l.long;
+    in_region = l.in_region;
+    at = λ k lt. let past = slice_get_past xs k (omega arith) in grind (arith, common_steps);
+  })
 
   -- and the list may start at the first place as well
   pub LaidOut-restart : length xs ≡ 0 → LaidOut {X = X} n 0 [] ps
   LaidOut-restart none = let empty : replicate n None ≡ ps = ap (λ m. replicate m None) (sym l.long) ∙ sym (AreAllEmpty-LaidOut none) in subst (LaidOut {X = X} n 0 []) empty (LaidOut-nothing n)
 
-  -- what stands in ring order after a write at the place of the index k
-  pub rotated-set_LaidOut : (k : ℕ) (c : Option X) → k < n → rotated t (set ps (place_of t k n) c) ≡ set (and_empty xs (n - length xs)) k c
-  rotated-set_LaidOut k c lt = rotated-set t k n ps c l.long (omega (arith, l.in_region)) lt ∙ ap (λ qs. set qs k c) l.is
+  -- c is written at the place of the index k
+  pub LaidOut-write : {ys : List X} (k : ℕ) (c : Option X) → k < n → length ys ≤ n → c ≡ slice_get ys k → ((i : ℕ) → i < n → i ≢ k → slice_get xs i ≡ slice_get ys i) → LaidOut n t ys (set ps (place_of t k n) c)
+  LaidOut-write k c lt within here others = LaidOut-by within (Holds-set (holds l) k c lt here others)
 
   pub LaidOut-put_back : (x : X) → length xs < n → LaidOut n t (xs ++ x ∷ []) (set ps (place_of t (length xs) n) (Some x))
   LaidOut-put_back x room =
-      let k = n - length xs - 1 in
-      let left : n - length xs ≡ suc k = omega arith in
-      LaidOut-from k (length-set ps (place_of t (length xs) n) (Some x) ∙ l.long) l.in_region
-      (rotated-set_LaidOut (length xs) (Some x) room ∙ ap (λ m. set (and_empty xs m) (length xs) (Some x)) left ∙ put_behind xs k x)
+      LaidOut-write (length xs) (Some x) room (omega (arith, length-append xs (x ∷ []))) (grind (arith, nat_tests, items, slice_get-cons)) (λ i lt other. grind (arith, nat_tests, items, slice_get-cons))
 
   pub LaidOut-take_back : (m : ℕ) → length xs ≡ m + 1 → LaidOut n t (take m xs) (set ps (place_of t m n) None)
-  LaidOut-take_back m e =
-      LaidOut-from (suc (n - length xs)) (length-set ps (place_of t m n) None ∙ l.long) l.in_region
-      (rotated-set_LaidOut m None (omega (arith, length_within)) ∙ taken_behind xs m (n - length xs) (omega arith))
-
-  -- read from one place before the start, an empty place comes first
-  pub rotated_before : length xs < n → rotated (place_of t (n - 1) n) ps ≡ None ∷ and_empty xs (n - length xs - 1)
-  rotated_before room =
-      let k = n - length xs - 1 in
-      let left : n - length xs ≡ suc k = omega arith in
-      sym (rotated-rotated t (n - 1) n ps l.long (omega (arith, l.in_region)) (omega arith)) ∙ ap (rotated (n - 1)) (l.is ∙ ap (and_empty xs) left ∙ sym (one_more_empty xs k))
-      ∙ rotated_at (n - 1) (and_empty xs k) (None ∷ []) (omega (arith, length-and_empty xs k))
+  LaidOut-take_back m e = let within = l.within in LaidOut-write m None (omega arith) (omega (arith, length-take m xs)) (grind (arith, nat_tests, items)) (λ i lt other. grind (arith, nat_tests, items))
 
   pub LaidOut-put_front : (x : X) → length xs < n → LaidOut n (place_of t (n - 1) n) (x ∷ xs) (set ps (place_of t (n - 1) n) (Some x))
   LaidOut-put_front x room =
       let before = place_of t (n - 1) n in
-      let lt = place_of-lt t (n - 1) n (omega (arith, l.in_region)) in
-      LaidOut-from (n - length xs - 1) (length-set ps before (Some x) ∙ l.long) (omega arith) (rotated-set_start before n ps (Some x) l.long lt ∙ ap (λ qs. set qs 0 (Some x)) (rotated_before room))
+      let turned : Holds n before (λ k. if nat_lt 0 k then slice_get xs (k - 1) else None) ps = Holds-from (holds l) (n - 1) (omega arith) (omega arith) (λ k lt. grind (arith, nat_tests, items, place_of_cases (n - 1) k n)) in
+      rw (place_of-zero before n turned.in_region) at (LaidOut-by {xs = x ∷ xs} (omega arith) (Holds-set turned 0 (Some x) (omega arith) refl (λ i lt other. grind (arith, nat_tests, slice_get-cons))))
 
   pub LaidOut-take_front : 0 < length xs → LaidOut n (place_of t 1 n) (drop 1 xs) (set ps t None)
   LaidOut-take_front some =
-      let k = n - length xs in
-      let lt : t < n = omega (arith, length_within, l.in_region) in
-      let long = length-set ps t None ∙ l.long in
-      let emptied : rotated t (set ps t None) ≡ None ∷ and_empty (drop 1 xs) k = rotated-set_start t n ps None l.long lt ∙ ap (λ qs. set qs 0 None) l.is ∙ taken_first xs k some in
-      LaidOut-from (suc k) long (omega (arith, place_of-lt t 1 n (omega arith)))
-      (sym (rotated-rotated t 1 n (set ps t None) long lt (omega arith)) ∙ ap (rotated 1) emptied ∙ one_more_empty (drop 1 xs) k)
+      let within = l.within in
+      let out = Holds-set (holds l) {g = λ k. if nat_lt 0 k then slice_get xs k else None} 0 None (omega arith) refl (λ i lt other. grind (arith, nat_tests)) in
+      rw (place_of-zero t n l.in_region) at (LaidOut-by {xs = drop 1 xs} (omega (arith, length-drop 1 xs)) (Holds-from out 1 (omega arith) (omega arith) (λ k lt. grind (arith, nat_tests, slice_get-drop 1 xs k, items, place_of_cases 1 k n))))
 
   -- another value in the place of an item is another item
   pub LaidOut-set : (k : ℕ) (x : X) → k < length xs → LaidOut n t (set xs k x) (set ps (place_of t k n) (Some x))
-  LaidOut-set k x lt =
-      let left = n - length xs in
-      LaidOut-from left (length-set ps (place_of t k n) (Some x) ∙ l.long) l.in_region (rotated-set_LaidOut k (Some x) (omega (arith, length_within)) ∙ set-and_empty xs left k x lt)
+  LaidOut-set k x lt = let within = l.within in LaidOut-write k (Some x) (omega arith) (omega (arith, length-set xs k x)) (grind (arith, nat_tests, items)) (λ i i_in other. grind (arith, nat_tests, items))

@@ -1,10 +1,12 @@
 -- What the fields of an open ring say of the value that its contracts see.
-use Rattle.std.proofs.Common.{◌≡◌, ℕ, suc, ◌+◌, ◌-◌, ◌%◌, ◌<◌, ◌≤◌, [], ◌∷◌, ◌++◌, length, take, drop, set, Some, None, refl, subst, sym, ap, ◌∙◌, arith}
+use Rattle.std.proofs.Common.{◌≡◌, ℕ, suc, ◌+◌, ◌-◌, ◌%◌, ◌<◌, ◌≤◌, [], ◌∷◌, ◌++◌, length, take, drop, set, slice_get, Some, None, refl, subst, sym, ap, ◌∙◌, arith}
 use Rattle.std.proofs.lemmas.List.{length_push, length-take-le, length-drop}
+use Rattle.std.proofs.lemmas.Option.{slice_get_past}
 use Rattle.arraydeque_ring.specs.declared.ring.Ring.TheInside.{Inside}
-use Rattle.arraydeque_ring.specs.Places.{Region}
+use Rattle.arraydeque_ring.specs.Places.{held_at, Region}
 use Rattle.arraydeque_ring.specs.Steps.{more_puts, more_takes}
 use Rattle.arraydeque_ring.specs.Ring.{RingState, place_of, rotated, values, filled, FilledFrom}
+use Rattle.arraydeque_ring.proofs.places.Rotated.{place_of-lt}
 use Rattle.arraydeque_ring.proofs.places.LaidOut.{LaidOut, LaidOut-values, values-LaidOut, FilledFrom-LaidOut, LaidOut-put_back, LaidOut-put_front, LaidOut-take_back, LaidOut-take_front}
 
 module _ {X : Type 0} where
@@ -33,6 +35,13 @@ module _ {X : Type 0} where
 
   pub kept : {r : Inside X} {v : RingState X} → Opened r v → Kept r
   kept {r = r} o = (rw o.laid.long o.laid.in_region, FilledFrom-LaidOut o.laid r.len o.len)
+
+  -- what is known of the numbers, for every goal of the ring
+  pub bounds : (r : Inside X) (v : RingState X) → Kept r → view r ≡ v → (view r ≡ v) × (length v.items ≡ r.len) × (r.len ≤ length r.slots.places) × (v.capacity ≡ length r.slots.places) × (v.start ≡ r.start)
+  bounds r v kept is = let o = opened r kept is in (is, o.len, omega (arith, o.laid.within, o.laid.long, o.len), omega (arith, o.laid.long), omega (arith, o.start))
+
+  pub item_held : (r : Inside X) (v : RingState X) (k : ℕ) → Kept r → view r ≡ v → k < v.capacity → held_at r.slots.places (place_of v.start k v.capacity) ≡ slice_get v.items k
+  item_held r v k kept is lt = let o = opened r kept is in rw o.start at (o.laid.at k lt)
 
   -- the place that `wrap_add` counts is that of the index
   pub place_at : {r : Inside X} {v : RingState X} {place capacity : ℕ} → Opened r v → (k : ℕ) → capacity ≡ length r.slots.places → place ≡ (r.start + k) % capacity → place ≡ place_of r.start k v.capacity
@@ -83,3 +92,6 @@ module _ {X : Type 0} {r : Inside X} {v : RingState X} (o : Opened r v) {slots :
     start = is;
     steps = steps ∙ ap (more_takes 1) o.steps;
   }
+
+-- for the goals of the ring that have no answer by hand
+pub ruleset ring_facts = (bounds, item_held, slice_get_past, place_of-lt)

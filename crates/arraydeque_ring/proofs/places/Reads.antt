@@ -1,15 +1,16 @@
 -- Two runs that change places, read place by place: where what a place holds came from.
 use Rattle.std.proofs.Common.{◌≡◌, ℕ, ◌+◌, ◌-◌, ◌≤◌, inl, inr, List, ◌++◌, length, take, drop, set, get_or, nat_lt, if◌then◌else◌, Option, None, sym, ap, ◌∙◌, arith}
 use Rattle.std.specs.Prelude.{swap}
-use Rattle.std.proofs.lemmas.Bool.{cases_lt, cases_eq}
+use Rattle.std.proofs.lemmas.Bool.{cases_lt}
 use Rattle.std.proofs.lemmas.Bool.Decides.{nat_tests}
 use Rattle.std.proofs.lemmas.Grind.{common_steps}
-use Rattle.std.proofs.lemmas.List.{get_or-append_right, length-set, get_or-set_same, get_or-set_other, set_comm}
+use Rattle.std.proofs.lemmas.List.{get_or-append_right, length-set, set_comm}
 use Rattle.std.proofs.lemmas.List.Edits.{swap_is}
 use Rattle.arraydeque_ring.specs.Places.{held_at, IsFilled, IsEmpty}
 use Rattle.arraydeque_ring.specs.Gaps.{run_rotated}
 use Rattle.arraydeque_ring.specs.Swapped.{runs_swapped}
 use Rattle.arraydeque_ring.proofs.moved.Flat.{same_places}
+use Rattle.arraydeque_ring.proofs.places.Emptied.{get_or-written}
 
 -- the place whose value the place x has, once m values from `at` on and the k behind them have changed places
 abbrev pub rotated_from : ℕ → ℕ → ℕ → ℕ → ℕ
@@ -98,19 +99,12 @@ module _ {X : Type 0} (a b k : ℕ) (ps : List (Option X)) (before : a + (k + 1)
 
   pub runs_swapped_more : swap so_far (a + k) (b + k) ≡ runs_swapped a b (k + 1) ps
   runs_swapped_more =
-      let u = held_at so_far (a + k) in
-      let v = held_at so_far (b + k) in
-      let ones = set so_far (a + k) v in
+      let ones = set so_far (a + k) (held_at so_far (b + k)) in
+      let longer = length-set so_far (a + k) (held_at so_far (b + k)) in
       sym (swap_is so_far (a + k) (b + k) None (omega (arith, long)) (omega (arith, long)))
-      ∙ same_places _ _ (length-set ones (b + k) u ∙ length-set so_far (a + k) v ∙ long ∙ sym (length-runs_swapped a b (k + 1) ps before within)) (λ x lt. elim (cases_eq x (b + k)) [
-        | inl is ↦ ap (λ i. get_or (set ones (b + k) u) i None) is ∙ get_or-set_same ones (b + k) u None (omega (arith, long, length-set so_far (a + k) v)) ∙ first_stays
-            ∙ ap (λ i. get_or ps i None) (grind (arith, nat_tests)) ∙ sym (get_or-runs_swapped a b (k + 1) ps before within x)
-        | inr other ↦ get_or-set_other ones (b + k) x u None other ∙ elim (cases_eq x (a + k)) [
-          | inl is ↦ ap (λ i. get_or ones i None) is ∙ get_or-set_same so_far (a + k) v None (omega (arith, long)) ∙ second_stays
-              ∙ ap (λ i. get_or ps i None) (grind (arith, nat_tests)) ∙ sym (get_or-runs_swapped a b (k + 1) ps before within x)
-          | inr apart ↦ get_or-set_other so_far (a + k) x v None apart ∙ held x (swapped_from a b (k + 1) x) (grind (arith, nat_tests)) ∙ sym (get_or-runs_swapped a b (k + 1) ps before within x)
-        ]
-      ])
+      ∙ same_places _ _ (length-set ones (b + k) (held_at so_far (a + k)) ∙ longer ∙ long ∙ sym (length-runs_swapped a b (k + 1) ps before within)) (λ x lt.
+      get_or-written ones (b + k) x (held_at so_far (a + k)) (omega (arith, long, longer)) ∙ rw (get_or-written so_far (a + k) x (held_at so_far (b + k)) (omega (arith, long)), first_stays, second_stays, get_or-runs_swapped a b k ps (omega arith) (omega arith) x) (grind (arith, nat_tests))
+      ∙ sym (get_or-runs_swapped a b (k + 1) ps before within x))
 
   -- to move a value to an empty place is to exchange it with nothing
   pub moved_more : held_at ps (a + k) ≡ None → set (set so_far (b + k) None) (a + k) (held_at so_far (b + k)) ≡ runs_swapped a b (k + 1) ps

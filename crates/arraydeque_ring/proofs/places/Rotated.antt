@@ -1,8 +1,8 @@
 -- A list read from an index on, round its end.
-use Rattle.std.proofs.Common.{◌≡◌, ℕ, zero, suc, ◌+◌, ◌-◌, ◌%◌, ◌<◌, ◌≤◌, ◌⊎◌, ◌==◌, inl, inr, List, ◌++◌, map, length, take, drop, set, get_or, replicate, sym, ap, ap₂, ◌∙◌, arith}
+use Rattle.std.proofs.Common.{◌≡◌, ℕ, zero, suc, ◌+◌, ◌-◌, ◌%◌, ◌<◌, ◌≤◌, ◌⊎◌, ◌==◌, inl, inr, List, ◌++◌, map, length, take, drop, get_or, sym, ap, ap₂, ◌∙◌, arith}
 use Rattle.std.proofs.Math.Nat.{mod-eq_of_lt, mod-eq-sub-mod, add-mod-mod, mod-add-mod, add_assoc}
 use Rattle.std.proofs.lemmas.Bool.{cases_lt, cases_eq, eq-eqb, ne_eqb}
-use Rattle.std.proofs.lemmas.List.{length-append, length-take, length-drop, length-set, get_or_append_left, get_or-append_right, get_or-drop, get_or-take, get_or-set_same, get_or-set_other, same_lists, take_at, drop_at, map-append, drop-map, take-map, take-append-drop, take-replicate, drop-replicate, replicate-append-replicate}
+use Rattle.std.proofs.lemmas.List.{length-append, length-take, length-drop, get_or_append_left, get_or-append_right, get_or-drop, get_or-take, map-append, drop-map, take-map}
 use Rattle.arraydeque_ring.specs.Ring.{place_of, rotated}
 
 -- a place is the sum itself below the end, and the sum less the capacity past it
@@ -21,12 +21,20 @@ pub place_of-zero : (t n : ℕ) → t ≤ n - 1 → place_of t 0 n ≡ t
 place_of-zero t zero le = let none : t ≡ 0 = omega arith in ap (λ m. place_of m 0 0) none ∙ sym none
 place_of-zero t (suc n) le = mod-eq_of_lt (omega arith) ∙ omega arith
 
--- to go on by k and then by i is to go up by both, round the end
-place_of-place_of : (t k i n : ℕ) → place_of (place_of t k n) i n ≡ place_of t (place_of k i n) n
-place_of-place_of t k i n = mod-add-mod (t + k) n i ∙ ap (λ m. m % n) (add_assoc t k i) ∙ sym (add-mod-mod t (k + i) n)
+-- from the first place on an index is a place
+pub place_of-first : (k n : ℕ) → k < n → place_of 0 k n ≡ k
+place_of-first k n lt = mod-eq_of_lt (omega arith) ∙ omega arith
+
+-- to go on by i and then by x is to go up by both
+pub place_of-sum : (t i x n : ℕ) → place_of (place_of t i n) x n ≡ place_of t (i + x) n
+place_of-sum t i x n = mod-add-mod (t + i) n x ∙ ap (λ m. m % n) (add_assoc t i x)
+
+-- round the end
+pub place_of-place_of : (t i x n : ℕ) → place_of (place_of t i n) x n ≡ place_of t (place_of i x n) n
+place_of-place_of t i x n = place_of-sum t i x n ∙ sym (add-mod-mod t (i + x) n)
 
 -- two indexes have two places
-same_index : (t i j n : ℕ) → t ≤ n → i < n → j < n → place_of t i n ≡ place_of t j n → i ≡ j
+pub same_index : (t i j n : ℕ) → t ≤ n → i < n → j < n → place_of t i n ≡ place_of t j n → i ≡ j
 same_index t i j n a b c e = elim (place_of_cases t i n (omega arith)) [
   | inl x ↦ elim (place_of_cases t j n (omega arith)) [ inl y ↦ omega arith | inr y ↦ omega arith ]
   | inr x ↦ elim (place_of_cases t j n (omega arith)) [ inl y ↦ omega arith | inr y ↦ omega arith ]
@@ -41,6 +49,9 @@ one_place t i j n a b c = elim (cases_eq i j) [
 -- a run from the index i on may start at the place p: the place of i, or the region's end in its stead
 abbrev pub MayStartAt : ℕ → ℕ → ℕ → ℕ → Type 0
 MayStartAt t i n p = (p ≡ t + i) ⊎ (p + n ≡ t + i)
+
+pub MayStartAt-place_of : (t i n : ℕ) → t + i < n + n → MayStartAt t i n (place_of t i n)
+MayStartAt-place_of t i n within = elim (place_of_cases t i n within) [ inl below ↦ inl below.1 | inr past ↦ inr past.1 ]
 
 -- and its items stand side by side, as far as the end
 pub place_of-run : (t i j n p : ℕ) → MayStartAt t i n p → p + j < n → t ≤ n → i + j < n → place_of t (i + j) n ≡ p + j
@@ -62,58 +73,6 @@ module _ {X : Type 0} where
         | inr w ↦ let is : k - (n - t) ≡ place_of t k n = omega arith in
             get_or-append_right (drop t xs) (take t xs) (n - t) k d to_end (omega arith) ∙ get_or-take t xs (k - (n - t)) d (omega arith) ∙ ap (λ i. get_or xs i d) is
       ]
-
-  -- to turn by t and then by k is to turn by both, round the end
-  pub rotated-rotated : (t k n : ℕ) (xs : List X) → length xs ≡ n → t < n → k ≤ n → rotated k (rotated t xs) ≡ rotated (place_of t k n) xs
-  rotated-rotated t k n xs long a b =
-      let same = length-rotated t xs ∙ long in
-      let all = length-rotated k (rotated t xs) in
-      same_lists (rotated k (rotated t xs)) (rotated (place_of t k n) xs) (all ∙ length-rotated t xs ∙ sym (length-rotated (place_of t k n) xs)) (λ i d lt.
-      get_or-rotated k i n (rotated t xs) d same b (omega arith) ∙ get_or-rotated t (place_of k i n) n xs d long (omega arith) (place_of-lt k i n (omega arith))
-      ∙ ap (λ m. get_or xs m d) (sym (place_of-place_of t k i n)) ∙ sym (get_or-rotated (place_of t k n) i n xs d long (omega (arith, place_of-lt t k n (omega arith))) (omega arith)))
-
-  -- to write at the place of k is to write at the index k
-  pub rotated-set : (t k n : ℕ) (xs : List X) (c : X) → length xs ≡ n → t < n → k < n → rotated t (set xs (place_of t k n) c) ≡ set (rotated t xs) k c
-  rotated-set t k n xs c long a b =
-      let p = place_of t k n in
-      let ys = set xs p c in
-      let zs = set (rotated t xs) k c in
-      let at = place_of-lt t k n (omega arith) in
-      let same = length-set xs p c ∙ long in
-      let turn = length-rotated t xs in
-      same_lists (rotated t ys) zs (length-rotated t ys ∙ length-set xs p c ∙ sym (length-set (rotated t xs) k c ∙ turn)) (λ i d lt.
-      let within : i < n = omega (arith, lt, length-rotated t ys) in
-      let moved = get_or-rotated t i n ys d same (omega arith) within in
-      elim (cases_eq i k) [
-        | inl is ↦ moved ∙ ap (λ j. get_or ys (place_of t j n) d) is ∙ get_or-set_same xs p c d (omega arith)
-            ∙ sym (ap (λ j. get_or zs j d) is ∙ get_or-set_same (rotated t xs) k c d (omega arith))
-        | inr other ↦ moved ∙ get_or-set_other xs p (place_of t i n) c d (λ e. other (same_index t i k n (omega arith) within b e))
-            ∙ sym (get_or-set_other (rotated t xs) k i c d other ∙ get_or-rotated t i n xs d long (omega arith) within)
-      ])
-
-  -- to write at the start is to write the first item
-  pub rotated-set_start : (t n : ℕ) (xs : List X) (c : X) → length xs ≡ n → t < n → rotated t (set xs t c) ≡ set (rotated t xs) 0 c
-  rotated-set_start t n xs c long lt = ap (λ p. rotated t (set xs p c)) (sym (place_of-zero t n (omega arith))) ∙ rotated-set t 0 n xs c long lt (omega arith)
-
-  -- the len items from the index i on are those from the place p on
-  pub rotated-run : (t i n p len : ℕ) (xs : List X) → length xs ≡ n → t ≤ n → MayStartAt t i n p → i + len ≤ n → p + len ≤ n → take len (drop i (rotated t xs)) ≡ take len (drop p xs)
-  rotated-run t i n p len xs long a at b c =
-      let ys = rotated t xs in
-      let many : length (take len (drop i ys)) ≡ len = omega (arith, length-rotated t xs, length-take len (drop i ys), length-drop i ys) in
-      same_lists (take len (drop i ys)) (take len (drop p xs)) (omega (arith, length-take len (drop p xs), length-drop p xs)) (λ j d lt.
-      get_or-take len (drop i ys) j d (omega arith) ∙ get_or-drop i ys j d ∙ get_or-rotated t (i + j) n xs d long a (omega arith)
-      ∙ ap (λ m. get_or xs m d) (place_of-run t i j n p at (omega arith) a (omega arith)) ∙ sym (get_or-take len (drop p xs) j d (omega arith) ∙ get_or-drop p xs j d))
-
-  -- two parts change their order
-  pub rotated_at : (k : ℕ) (xs ys : List X) → length xs ≡ k → rotated k (xs ++ ys) ≡ ys ++ xs
-  rotated_at k xs ys e = ap₂ (λ l r. l ++ r) (drop_at xs ys k e) (take_at xs ys k e)
-
-  -- to turn on by what is left gives the list back
-  pub rotated_back : (t : ℕ) (xs : List X) → rotated (length xs - t) (rotated t xs) ≡ xs
-  rotated_back t xs = rotated_at (length xs - t) (drop t xs) (take t xs) (length-drop t xs) ∙ take-append-drop t xs
-
-  pub rotated-replicate : (t n : ℕ) (x : X) → t ≤ n → rotated t (replicate n x) ≡ replicate n x
-  rotated-replicate t n x le = ap₂ (λ l r. l ++ r) (drop-replicate t n x) (take-replicate t n x le) ∙ replicate-append-replicate (n - t) t x ∙ ap (λ m. replicate m x) (omega arith)
 
 pub rotated-map : {X Y : Type 0} (f : X → Y) (t : ℕ) (xs : List X) → rotated t (map f xs) ≡ map f (rotated t xs)
 rotated-map f t xs = ap₂ (λ l r. l ++ r) (drop-map f t xs) (take-map f t xs) ∙ sym (map-append f (drop t xs) (take t xs))

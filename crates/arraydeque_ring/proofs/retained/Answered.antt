@@ -1,7 +1,6 @@
 -- The answers of a closure on the first items of a list: which items stay and go by them, with one answer more.
-use Rattle.std.proofs.Common.{◌≡◌, ℕ, ◌+◌, ◌≤◌, List, [], ◌∷◌, ◌++◌, length, drop, get_or, Bool, true, false, cond, not, count_by, ◌==◌, if◌then◌else◌, refl, sym, ap, ◌∙◌, subst, arith}
+use Rattle.std.proofs.Common.{◌≡◌, ℕ, ◌+◌, ◌≤◌, List, [], ◌∷◌, ◌++◌, length, Bool, true, false, cond, not, count_by, ◌==◌, if◌then◌else◌, refl, sym, ap, ◌∙◌, arith}
 use Rattle.std.specs.List.{items_where_true}
-use Rattle.std.specs.List.Retain.{ReturnsInTurn}
 use Rattle.std.proofs.lemmas.Bool.{ne_eqb}
 use Rattle.std.proofs.lemmas.List.Sums.{sum_by-append, sum_by-cons}
 use Rattle.arraydeque_ring.specs.Retained.{count_moved}
@@ -28,29 +27,3 @@ pub moved-push_false : (bs : List Bool) → count_moved (bs ++ false ∷ []) ≡
 moved-push_false [] = refl
 moved-push_false (true ∷ bs) = moved-push_false bs
 moved-push_false (false ∷ bs) = let same = count_by-push (λ b. b) bs false in omega arith
-
-module _ {X : Type 0} where
-  -- one more item stays
-  pub where_true-push_true : (bs : List Bool) (xs : List X) (x : X) (rest : List X) → drop (length bs) xs ≡ x ∷ rest → items_where_true (bs ++ true ∷ []) xs ≡ items_where_true bs xs ++ x ∷ []
-  where_true-push_true [] [] x rest e = cc
-  where_true-push_true [] (y ∷ xs) x rest e = ap (λ l. get_or l 0 x ∷ []) e
-  where_true-push_true (b ∷ bs) [] x rest e = cc
-  where_true-push_true (true ∷ bs) (y ∷ xs) x rest e = ap (λ l. y ∷ l) (where_true-push_true bs xs x rest e)
-  where_true-push_true (false ∷ bs) (y ∷ xs) x rest e = where_true-push_true bs xs x rest e
-
-  -- one more item goes
-  pub where_true-push_false : (bs : List Bool) (xs : List X) → items_where_true (bs ++ false ∷ []) xs ≡ items_where_true bs xs
-  where_true-push_false [] [] = refl
-  where_true-push_false [] (y ∷ xs) = refl
-  where_true-push_false (b ∷ bs) [] = refl
-  where_true-push_false (true ∷ bs) (y ∷ xs) = ap (λ l. y ∷ l) (where_true-push_false bs xs)
-  where_true-push_false (false ∷ bs) (y ∷ xs) = where_true-push_false bs xs
-
-  -- one more item is asked about
-  pub in_turn-push : {F : Type 0} (R : F → X → Bool → F → Type 0) (f g h : F) (bs : List Bool) (xs : List X) (x : X) (rest : List X) (b : Bool) → ReturnsInTurn R f bs xs g → drop (length bs) xs ≡ x ∷ rest → R g x b h → ReturnsInTurn R f (bs ++ b ∷ []) xs h
-  in_turn-push R f g h [] [] x rest b told e last = cc
-  in_turn-push R f g h [] (y ∷ xs) x rest b told e last =
-      let here : x ≡ y = sym (ap (λ l. get_or l 0 x) e) in
-      (h, subst (λ z. R f z b h) here (subst (λ s. R s x b h) (sym told) last), refl)
-  in_turn-push R f g h (a ∷ bs) [] x rest b told e last = cc
-  in_turn-push R f g h (a ∷ bs) (y ∷ xs) x rest b told e last = (told.0, told.1, in_turn-push R told.0 g h bs xs x rest b told.2 e last)

@@ -1,19 +1,21 @@
 -- How far a retain has come: the answers so far, what the places hold by them, and what it has cost.
-use Rattle.std.proofs.Common.{◌≡◌, ◌≢◌, ℕ, suc, ◌+◌, ◌<◌, ◌≤◌, inl, inr, List, [], ◌∷◌, ◌++◌, length, drop, set, slice_get, Option, Some, None, Bool, true, false, not, count_by, ◌==◌, if◌then◌else◌, refl, sym, ap, ap₂, ◌∙◌, subst, arith}
+use Rattle.std.proofs.Common.{◌≡◌, ◌≢◌, ℕ, suc, ◌+◌, ◌<◌, ◌≤◌, inl, inr, List, [], ◌∷◌, ◌++◌, length, drop, set, get_or, slice_get, Option, Some, None, Bool, true, false, not, count_by, ◌==◌, if◌then◌else◌, refl, sym, ap, ap₂, ◌∙◌, subst, arith}
 use Rattle.std.specs.List.{items_where_true}
 use Rattle.std.specs.List.Retain.{ReturnsInTurn}
+use Rattle.std.proofs.Retain.{picked_push_true, picked_push_false, answers_push}
 use Rattle.std.proofs.lemmas.Bool.{cases_eq, ne_eqb, eq-eqb}
-use Rattle.std.proofs.lemmas.List.{length_push, length-drop, drop_more, drop_all}
-use Rattle.std.proofs.lemmas.Option.{slice_get_cases, same_Some}
+use Rattle.std.proofs.lemmas.List.{length_push, length-drop, drop_all}
+use Rattle.std.proofs.lemmas.Option.{get_or_from_slice_get}
 use Rattle.std.proofs.Math.Nat.{add_assoc}
 use Rattle.arraydeque_ring.specs.Places.{held_at, IsFilled, IsEmpty}
 use Rattle.arraydeque_ring.specs.Retained.{count_moved}
 use Rattle.arraydeque_ring.specs.Ring.{place_of}
 use Rattle.arraydeque_ring.specs.Steps.{Steps, more_takes, more_moves}
 use Rattle.arraydeque_ring.proofs.gaps.Gapped.{Gapped, Gapped-none, Gapped-take, Gapped-move, IsEmpty-gap, held_behind, LaidOut-gap_last}
+use Rattle.arraydeque_ring.proofs.places.Items.{slice_get_some}
 use Rattle.arraydeque_ring.proofs.places.LaidOut.{LaidOut}
 use Rattle.arraydeque_ring.proofs.places.Rotated.{one_place}
-use Rattle.arraydeque_ring.proofs.retained.Answered.{kept_and_gone, count_by-push, moved-push_true, moved-push_false, where_true-push_true, where_true-push_false, in_turn-push}
+use Rattle.arraydeque_ring.proofs.retained.Answered.{kept_and_gone, count_by-push, moved-push_true, moved-push_false}
 
 -- all asked about stay just where none is gone
 same_test : (kept gone index : ℕ) → kept + gone ≡ index → (kept == index) ≡ (gone == 0)
@@ -45,28 +47,21 @@ module _ {F X : Type 0} {R : F → X → Bool → F → Type 0} {f : F} {items :
 
   -- no more stay than were asked about, and all lie in the region
   pub all_within : index ≤ length items → (kept ≤ index) × (length items ≤ n)
-  all_within le = (omega (arith, counted le), omega (arith, s.places.all, counted le, s.many, length-drop index items))
+  all_within le = (omega (arith, counted le), omega (arith, s.places.within, counted le, s.many, length-drop index items))
 
   -- all have been asked about
   pub all_asked : length items ≤ index → LaidOut n t (items_where_true s.answers items) ps
   all_asked past = LaidOut-gap_last (subst (λ l. Gapped n t (items_where_true s.answers items) (count_by not s.answers) l ps) (drop_all index items past) s.places)
 
 module _ {F X : Type 0} {R : F → X → Bool → F → Type 0} {f : F} {items : List X} {before : Steps} {n t index kept : ℕ} {ps : List (Option X)} {steps : Steps} {g : F} (s : SoFar R f items before n t index kept ps steps g) (lt : index < length items) where
-  -- the next item, and the others behind it
-  next_is : (x : X) × (drop index items ≡ x ∷ drop (index + 1) items) × (slice_get items index ≡ Some x)
-  next_is = elim (slice_get_cases items index).1 [ inl at ↦ (at.0, drop_more items index at.0 lt ∙ ap (λ z. z ∷ drop (index + 1) items) at.3, at.2) | inr past ↦ absurd (omega arith) ]
-
   here : length (items_where_true s.answers items) + count_by not s.answers ≡ index
   here = omega (arith, counted s (omega arith), s.many)
 
-  next_places : Gapped n t (items_where_true s.answers items) (count_by not s.answers) (next_is.0 ∷ drop (index + 1) items) ps
-  next_places = subst (λ l. Gapped n t (items_where_true s.answers items) (count_by not s.answers) l ps) next_is.1 s.places
-
-  next_held : held_at ps (place_of t index n) ≡ Some next_is.0
-  next_held = held_behind next_places index here
+  next_held : held_at ps (place_of t index n) ≡ slice_get items index
+  next_held = held_behind items index index s.places here lt
 
   pub next_filled : IsFilled ps (place_of t index n)
-  next_filled = (next_is.0, next_held)
+  next_filled = let some = slice_get_some items index lt in (some.0, next_held ∙ some.1)
 
   -- the place behind those that stay is empty, or holds that very item
   pub room_for_next : place_of t kept n ≢ place_of t index n → IsEmpty ps (place_of t kept n)
@@ -77,18 +72,15 @@ module _ {F X : Type 0} {R : F → X → Bool → F → Type 0} {f : F} {items :
 
   -- what stands there is the item in turn
   pub next_asked : (x : X) → held_at ps (place_of t index n) ≡ Some x → slice_get items (length s.answers) ≡ Some x
-  next_asked x held = ap (slice_get items) s.asked ∙ next_is.2 ∙ sym next_held ∙ held
+  next_asked x held = ap (slice_get items) s.asked ∙ sym next_held ∙ held
 
   -- the item x is answered
   module _ (x : X) (h : F) (held : held_at ps (place_of t index n) ≡ Some x) where
-    split : drop index items ≡ x ∷ drop (index + 1) items
-    split = next_is.1 ∙ ap (λ y. y ∷ drop (index + 1) items) (same_Some next_is.0 x (sym next_held ∙ held))
+    in_list : length s.answers < length items
+    in_list = omega (arith, s.asked)
 
-    split_at : drop (length s.answers) items ≡ x ∷ drop (index + 1) items
-    split_at = ap (λ k. drop k items) s.asked ∙ split
-
-    x_places : Gapped n t (items_where_true s.answers items) (count_by not s.answers) (x ∷ drop (index + 1) items) ps
-    x_places = subst (λ l. Gapped n t (items_where_true s.answers items) (count_by not s.answers) l ps) split s.places
+    x_is : x ≡ get_or items (length s.answers) x
+    x_is = sym (get_or_from_slice_get items (length s.answers) x x (next_asked x held))
 
     -- the next item stays, and is moved up if one before it has gone
     pub one_stays : R g x true h → let src = place_of t index n in let dst = place_of t kept n in
@@ -97,20 +89,20 @@ module _ {F X : Type 0} {R : F → X → Bool → F → Type 0} {f : F} {items :
         let bs = s.answers in
         let ks = items_where_true bs items in
         let gap = count_by not bs in
-        let more : items_where_true (bs ++ true ∷ []) items ≡ ks ++ x ∷ [] = where_true-push_true bs items x (drop (index + 1) items) split_at in
+        let more : items_where_true (bs ++ true ∷ []) items ≡ ks ++ x ∷ [] = picked_push_true bs items x in_list ∙ ap (λ y. ks ++ y ∷ []) (sym x_is) in
         let gone : count_by not (bs ++ true ∷ []) ≡ gap = let push = count_by-push not bs true in omega arith in
         let moved : ℕ = if place_of t kept n == place_of t index n then 0 else 1 in
         let all = counted s (omega arith) in
         let within = (all_within s (omega arith)).1 in
-        let test : (place_of t kept n == place_of t index n) ≡ (gap == 0) = one_place t kept index n (omega (arith, s.places.in_region)) (omega arith) (omega arith) ∙ same_test kept gap index all in
+        let test : (place_of t kept n == place_of t index n) ≡ (gap == 0) = one_place t kept index n (omega (arith, s.places.reads.in_region)) (omega arith) (omega arith) ∙ same_test kept gap index all in
         let moves : before.moves + count_moved bs + moved ≡ before.moves + count_moved (bs ++ true ∷ []) =
         ap (λ b. before.moves + count_moved bs + (if b then 0 else 1)) test ∙ add_assoc before.moves (count_moved bs) (if gap == 0 then 0 else 1) ∙ ap (λ k. before.moves + k) (sym (moved-push_true bs gap refl)) in
         record {
           answers = bs ++ true ∷ [];
           asked = length_push bs true ∙ ap (λ k. k + 1) s.asked;
-          in_turn = in_turn-push R f g h bs items x (drop (index + 1) items) true s.in_turn split_at called;
+          in_turn = answers_push R f g h bs items x true in_list x_is s.in_turn called;
           many = ap length more ∙ length_push ks x ∙ ap (λ k. k + 1) s.many;
-          places = rw (more, gone) (Gapped-move x_places index here kept s.many);
+          places = rw (more, gone) (Gapped-move items index index s.places here lt x kept (sym next_held ∙ held) s.many);
           cost = ap (more_moves moved) s.cost ∙ ap₂ (λ a b. record before { takes = before.takes + a; moves = b }) (sym gone) moves;
         }
 
@@ -124,8 +116,8 @@ module _ {F X : Type 0} {R : F → X → Bool → F → Type 0} {f : F} {items :
         record {
           answers = bs ++ false ∷ [];
           asked = length_push bs false ∙ ap (λ k. k + 1) s.asked;
-          in_turn = in_turn-push R f g h bs items x (drop (index + 1) items) false s.in_turn split_at called;
-          many = ap length (where_true-push_false bs items) ∙ s.many;
-          places = rw (where_true-push_false, ← gone) (Gapped-take x_places index here);
+          in_turn = answers_push R f g h bs items x false in_list x_is s.in_turn called;
+          many = ap length (picked_push_false bs items) ∙ s.many;
+          places = rw (picked_push_false, ← gone) (Gapped-take items index index s.places here lt);
           cost = ap (more_takes 1) s.cost ∙ ap₂ (λ a b. record before { takes = a; moves = before.moves + b }) takes (sym (moved-push_false bs));
         }

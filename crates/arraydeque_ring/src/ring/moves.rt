@@ -2,11 +2,10 @@
 //! of it.
 ghost use Rattle.std.specs.Prelude.{◌≡◌, ◌-◌, ◌+◌, ◌<◌, ◌≤◌, length, slice_get, min, nat_lt, if◌then◌else◌};
 ghost use Rattle.std.specs.List.{insert, remove};
-ghost use Rattle.arraydeque_ring.specs.Places.{IsFilledRun};
-ghost use Rattle.arraydeque_ring.specs.Ring.{place_of, rotated};
+ghost use Rattle.arraydeque_ring.specs.Moved.{IsFilledRound, IsEmptyRound, run_moved};
+ghost use Rattle.arraydeque_ring.specs.Ring.{place_of};
 ghost use Rattle.arraydeque_ring.specs.Sides.{moves_to_insert, moves_to_remove, start_opened, start_closed};
 ghost use Rattle.arraydeque_ring.specs.Changed.{InsertMovesFewest, RemoveMovesFewest};
-ghost use Rattle.arraydeque_ring.specs.Gaps.{IsEmptyRun, run_rotated};
 ghost use Rattle.arraydeque_ring.specs.Steps.{more_puts, more_takes, more_moves};
 
 use super::Ring;
@@ -82,14 +81,18 @@ pub(super) fn close_gap<T>(
 ) -> usize
     requires in_region { start < length slots.old.places }
     requires some { 0 < gap }
-    requires filled_before { IsFilledRun (rotated start slots.old.places) 0 before }
-    requires empty { IsEmptyRun (rotated start slots.old.places) before gap }
-    requires filled_behind { IsFilledRun (rotated start slots.old.places) (before + gap) behind }
+    requires within { before + gap + behind ≤ length slots.old.places }
+    requires filled_before { IsFilledRound start before slots.old.places }
+    requires empty { let n = length slots.old.places in
+        IsEmptyRound (place_of start before n) gap slots.old.places }
+    requires filled_behind { let n = length slots.old.places in
+        IsFilledRound (place_of start (before + gap) n) behind slots.old.places }
     ensures start { result ≡ start_closed before gap behind (length slots.old.places) start }
-    ensures places { rotated start slots.new.places ≡
+    ensures places { let n = length slots.old.places in slots.new.places ≡
         (if nat_lt before behind
-        then run_rotated 0 before gap (rotated start slots.old.places)
-        else run_rotated before gap behind (rotated start slots.old.places)) }
+        then run_moved (place_of start gap n) start before slots.old.places
+        else run_moved (place_of start before n) (place_of start (before + gap) n) behind
+        slots.old.places) }
     ensures steps { slots.new.steps ≡ more_moves (min before behind) slots.old.steps }
 {
     let capacity = slots.capacity();
@@ -107,10 +110,13 @@ pub(super) fn close_gap<T>(
 pub(super) fn move_earlier<T>(slots: &mut Slots<T>, start: usize, at: usize, len: usize, gap: usize)
     requires in_region { start < length slots.old.places }
     requires some { 0 < gap }
-    requires empty { IsEmptyRun (rotated start slots.old.places) at gap }
-    requires filled { IsFilledRun (rotated start slots.old.places) (at + gap) len }
-    ensures places { rotated start slots.new.places ≡
-        run_rotated at gap len (rotated start slots.old.places) }
+    requires within { at + gap + len ≤ length slots.old.places }
+    requires empty { let n = length slots.old.places in
+        IsEmptyRound (place_of start at n) gap slots.old.places }
+    requires filled { let n = length slots.old.places in
+        IsFilledRound (place_of start (at + gap) n) len slots.old.places }
+    ensures places { let n = length slots.old.places in slots.new.places ≡
+        run_moved (place_of start at n) (place_of start (at + gap) n) len slots.old.places }
     ensures steps { slots.new.steps ≡ more_moves len slots.old.steps }
 {
     let capacity = slots.capacity();
@@ -124,10 +130,13 @@ pub(super) fn move_earlier<T>(slots: &mut Slots<T>, start: usize, at: usize, len
 pub(super) fn move_later<T>(slots: &mut Slots<T>, start: usize, at: usize, len: usize, gap: usize)
     requires in_region { start < length slots.old.places }
     requires some { 0 < gap }
-    requires filled { IsFilledRun (rotated start slots.old.places) at len }
-    requires empty { IsEmptyRun (rotated start slots.old.places) (at + len) gap }
-    ensures places { rotated start slots.new.places ≡
-        run_rotated at len gap (rotated start slots.old.places) }
+    requires within { at + len + gap ≤ length slots.old.places }
+    requires filled { let n = length slots.old.places in
+        IsFilledRound (place_of start at n) len slots.old.places }
+    requires empty { let n = length slots.old.places in
+        IsEmptyRound (place_of start (at + len) n) gap slots.old.places }
+    ensures places { let n = length slots.old.places in slots.new.places ≡
+        run_moved (place_of start (at + gap) n) (place_of start at n) len slots.old.places }
     ensures steps { slots.new.steps ≡ more_moves len slots.old.steps }
 {
     let capacity = slots.capacity();

@@ -1,6 +1,7 @@
 //! One pass over all items: dropping each, and keeping some.
-ghost use Rattle.std.specs.Prelude.{◌≡◌, ◌≢◌, ◌+◌, ◌-◌, ◌≤◌, [], ◌++◌, length, take, drop, replicate, slice_set, None, if◌then◌else◌, ◌==◌};
+ghost use Rattle.std.specs.Prelude.{◌≡◌, ◌≢◌, ◌+◌, ◌-◌, ◌≤◌, [], length, slice_set, None, if◌then◌else◌, ◌==◌};
 ghost use Rattle.std.specs.Fn.{CalledAt};
+ghost use Rattle.arraydeque_ring.specs.Gaps.{run_emptied};
 ghost use Rattle.arraydeque_ring.specs.Places.{held_at, IsFilled, IsEmpty, IsFilledRun};
 ghost use Rattle.arraydeque_ring.specs.Retained.{Retains, MayBeAsked};
 ghost use Rattle.arraydeque_ring.specs.Steps.{more_takes, more_moves};
@@ -60,8 +61,7 @@ impl<T> Ring<T> {
 fn drop_run<T: Drop>(slots: &mut Slots<T>, from: usize, end: usize)
     requires in_order { from ≤ end }
     requires filled { IsFilledRun slots.old.places from (end - from) }
-    ensures places { slots.new.places ≡
-        take from slots.old.places ++ replicate (end - from) None ++ drop end slots.old.places }
+    ensures places { slots.new.places ≡ run_emptied from (end - from) slots.old.places }
     ensures steps { slots.new.steps ≡ more_takes (end - from) slots.old.steps }
 {
     for place in from..end {

@@ -35,8 +35,3 @@ returns-else-self-to_end-clause-joined g c =
     let first = same_run ring.laid 0 _ to_end _ (inl (omega arith)) (omega arith) (omega (arith, ring.laid.long, ring.laid.in_region)) c.slice-else-self-to_end.ensures in
     let rest = same_run ring.laid to_end 0 left _ (inr (omega (arith, ring.laid.long, ring.laid.in_region))) (omega arith) (omega (arith, length_within ring.laid)) c.slice-else-self-to_end-2.ensures in
     ap₂ (λ l r. l ++ r) first (rest ∙ take_all left (drop to_end items) (omega (arith, length-drop to_end items))) ∙ take-append-drop to_end items
-
-pub returns-else-self-to_end-clause-one_piece : goal.returns-else-self-to_end-clause-one_piece
-returns-else-self-to_end-clause-one_piece g c =
-    let ring = opened c.self.inside c.self.invariant c.self.view_is in
-    λ in_one_piece. absurd (omega (arith, ring.laid.long))

@@ -25,13 +25,6 @@ put-requires g c =
     let here : c.loop-item.self-inside.len ≡ length items + length so_far = omega (arith, was.len, length-append items so_far) in
     IsEmpty-behind items so_far (length items) c.loop-item.self-inside.len here (omega (arith, here, many, c.requires.room)) (omega (arith, many, c.requires.room)) (inl (omega (arith, was.start, c.requires.first_place))) was.laid
 
-pub overflow_add-self : goal.overflow_add-self
-overflow_add-self g c =
-    let was = c.loop-item.invariant in
-    let ring = opened c.self.inside c.self.invariant c.self.view_is in
-    let so_far = take c.loop-item.item-index c.args.items.now in
-    omega (arith, was.len, length-append c.args.self.now.items so_far, length-take-le c.loop-item.item-index c.args.items.now (omega arith), c.requires.room, ring.laid.long, c.capacity-capacity.ensures)
-
 pub loop-item-preserved : goal.loop-item-preserved
 loop-item-preserved g c =
     let was = c.loop-item.invariant in

@@ -6,8 +6,8 @@ use Rattle.arraydeque_ring.specs.Changed.{IsFewest}
 use Rattle.arraydeque_ring.specs.Ring.{RingState, place_of}
 use Rattle.arraydeque_ring.specs.Steps.{more_takes, more_moves}
 use Rattle.arraydeque_ring.proofs.gaps.Fewest.{fewest_drain}
-use Rattle.arraydeque_ring.proofs.gaps.GapMoves.{Closes, closes}
-use Rattle.arraydeque_ring.proofs.gaps.Gapped.{Gapped, Gapped-taken, length_places}
+use Rattle.arraydeque_ring.proofs.gaps.GapMoves.{may_close, LaidOut-closed}
+use Rattle.arraydeque_ring.proofs.gaps.Gapped.{Gapped, Gapped-taken}
 use Rattle.arraydeque_ring.proofs.places.LaidOut.{length_within, IsFilledRun-rotated, values-run}
 use Rattle.arraydeque_ring.proofs.places.Opened.{Opened, opened, closed, kept}
 use Rattle.arraydeque_ring.proofs.places.Rotated.{place_of-zero}
@@ -30,15 +30,6 @@ take_run-requires-clause-filled g c =
     let ring = opened c.self.inside c.self.invariant c.self.view_is in
     IsFilledRun-rotated ring.laid _ _ (omega arith)
 
-pub take_run-requires-clause-room : goal.take_run-requires-clause-room
-take_run-requires-clause-room g c = rw c.in_ok-drained.ensures.ok (omega arith)
-
-pub overflow_sub-self : goal.overflow_sub-self
-overflow_sub-self g c = let ring = opened c.self.inside c.self.invariant c.self.view_is in omega arith
-
-pub overflow_sub-self-inside : goal.overflow_sub-self-inside
-overflow_sub-self-inside g c = let ring = opened c.self.inside c.self.invariant c.self.view_is in omega arith
-
 gap : (g : Over) (c : After-take_run g) → let old = c.args.self.now in
     Gapped old.capacity c.self.inside.start (take c.args.from old.items) (c.args.to - c.args.from) (drop c.args.to old.items) c.take_run.new.slots.places
 gap g c =
@@ -46,18 +37,11 @@ gap g c =
     let up_to : c.args.from + (c.args.to - c.args.from) ≡ c.args.to = omega arith in
     rw up_to at (Gapped-taken ring.laid c.args.from (c.args.to - c.args.from) _ (omega arith) c.take_run.ensures.places)
 
-closing : (g : Over) (c : After-take_run g) → let old = c.args.self.now in let count = c.args.to - c.args.from in
-    Closes old.capacity c.self.inside.start c.args.from count (c.self.inside.len - count - c.args.from) c.take_run.new.slots.places (remove_range old.items c.args.from c.args.to)
-closing g c =
-    let ring = opened c.self.inside c.self.invariant c.self.view_is in
-    closes _ _ (gap g c) (length-take-le c.args.from c.args.self.now.items (omega arith)) (omega (arith, length-drop c.args.to c.args.self.now.items))
-
 pub close_gap-self-inside-requires : goal.close_gap-self-inside-requires
 close_gap-self-inside-requires g c =
-    let at = (goal.at.close_gap-self-inside-requires g c).After-take_run in
-    let gap = gap g at in
-    let may = closing g at in
-    record { in_region = omega (arith, length_places gap, gap.all, gap.in_region); some = omega arith; filled_before = may.filled_before; empty = may.empty; filled_behind = may.filled_behind }
+    let ring = opened c.self.inside c.self.invariant c.self.view_is in
+    let may = may_close _ _ (gap g (goal.at.close_gap-self-inside-requires g c).After-take_run) (omega arith) (length-take-le c.args.from c.args.self.now.items (omega arith)) (omega (arith, length-drop c.args.to c.args.self.now.items)) in
+    record { in_region = may.in_region; some = omega arith; within = may.within; filled_before = may.before; empty = may.empty; filled_behind = may.behind }
 
 after : (g : Over) (c : goal.After-self-2-1 g) → let old = c.args.self.now in let count = c.args.to - c.args.from in let behind = length old.items - c.args.to in
     Opened record { slots = c.close_gap-self-inside.new.slots; start = c.close_gap-self-inside.result; len = c.self.inside.len - count; alloc = c.self.inside.alloc } record {
@@ -70,12 +54,12 @@ after g c =
     let items = c.args.self.now.items in
     let count = c.args.to - c.args.from in
     let ring = opened c.self.inside c.self.invariant c.self.view_is in
-    let at = (goal.at.invariant_of-self g c).After-take_run in
+    let gap = gap g (goal.at.invariant_of-self g c).After-take_run in
     let moved = c.close_gap-self-inside in
-    let start = rw (length_places (gap g at)) at moved.ensures.start in
+    let start = rw gap.reads.long at moved.ensures.start in
     let rest : length items - c.args.to ≡ c.self.inside.len - count - c.args.from = omega arith in
     rw (rest, ← ring.start) (record {
-      laid = (closing g at).after _ _ start moved.ensures.places;
+      laid = rw (start, moved.ensures.places) (LaidOut-closed gap _ _ (omega (arith, length_within ring.laid, ring.laid.in_region)) (length-take-le c.args.from items (omega arith)) (omega (arith, length-drop c.args.to items)));
       len = omega (arith, length-append (take c.args.from items) (drop c.args.to items), length-take-le c.args.from items (omega arith), length-drop c.args.to items);
       start = start;
       steps = moved.ensures.steps ∙ ap (more_moves (min c.args.from (c.self.inside.len - count - c.args.from))) (c.take_run.ensures.steps ∙ ap (more_takes count) ring.steps);
@@ -84,24 +68,21 @@ after g c =
 pub invariant_of-self : goal.invariant_of-self
 invariant_of-self g c = kept (after g c)
 
-pub returns-clause-drained : goal.returns-clause-drained
-returns-clause-drained g c =
+pub returns : goal.returns
+returns g c =
     let ring = opened c.self.inside c.self.invariant c.self.view_is in
-    rw (c.take_run.ensures.taken, c.in_ok-drained.ensures.ok, values-run ring.laid c.args.from (c.args.to - c.args.from) (omega arith))
-
-pub returns-clause-items : goal.returns-clause-items
-returns-clause-items g c = ap (λ (r : RingState g.row.T.Denot). r.items) (closed (after g c))
-
-pub returns-clause-capacity : goal.returns-clause-capacity
-returns-clause-capacity g c = (after g c).laid.long
-
-pub returns-clause-start : goal.returns-clause-start
-returns-clause-start g c = (after g c).start
-
-pub returns-clause-steps : goal.returns-clause-steps
-returns-clause-steps g c =
+    let now = after g c in
     let some : c.args.from < c.args.to = omega arith in
-    (after g c).steps ∙ ap (λ n. more_moves n (more_takes (c.args.to - c.args.from) c.args.self.now.steps)) (cond_below c.args.from c.args.to _ _ some)
+    record {
+      drained = rw (c.take_run.ensures.taken, c.in_ok-drained.ensures.ok, values-run ring.laid c.args.from (c.args.to - c.args.from) (omega arith)) refl;
+      items = ap (λ (r : RingState g.row.T.Denot). r.items) (closed now);
+      capacity = now.laid.long;
+      start = now.start;
+      steps = now.steps ∙ ap (λ n. more_moves n (more_takes (c.args.to - c.args.from) c.args.self.now.steps)) (cond_below c.args.from c.args.to _ _ some);
+      fewest = rw now.start (fewest_drain _ _ _ _ _ (omega (arith, ring.laid.in_region, ring.start)) c.requires.in_order c.requires.in_bounds (length_within ring.laid));
+      unchanged = tt;
+      refused = tt;
+    }
 
 pub returns-then-count-eq0-clause-fewest : goal.returns-then-count-eq0-clause-fewest
 returns-then-count-eq0-clause-fewest g c =
@@ -109,8 +90,3 @@ returns-then-count-eq0-clause-fewest g c =
     let ring = opened c.self.inside c.self.invariant c.self.view_is in
     subst (IsFewest _ old.capacity _) (sym (returns-then-count-eq0-clause-start g c))
     (fewest_drain c.args.from c.args.to (length old.items) old.capacity old.start (omega (arith, ring.laid.in_region, ring.start)) c.requires.in_order c.requires.in_bounds (length_within ring.laid))
-
-pub returns-clause-fewest : goal.returns-clause-fewest
-returns-clause-fewest g c =
-    let ring = opened c.self.inside c.self.invariant c.self.view_is in
-    rw (after g c).start (fewest_drain _ _ _ _ _ (omega (arith, ring.laid.in_region, ring.start)) c.requires.in_order c.requires.in_bounds (length_within ring.laid))

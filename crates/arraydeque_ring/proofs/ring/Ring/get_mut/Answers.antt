@@ -3,7 +3,7 @@ use Rattle.std.proofs.Common.{inl, inr, set, Some, refl, sym, ap, ◌∙◌, ari
 use Rattle.std.proofs.lemmas.List.{length-set}
 use Rattle.std.proofs.lemmas.Option.{slice_get_past}
 use Rattle.arraydeque_ring.specs.Steps.{more_lends}
-use Rattle.arraydeque_ring.proofs.places.LaidOut.{length_within, held_at-place_of, IsFilled-place_of, LaidOut-set}
+use Rattle.arraydeque_ring.proofs.places.LaidOut.{length_within, IsFilled-place_of, LaidOut-set}
 use Rattle.arraydeque_ring.proofs.places.Opened.{Opened, opened, closed, kept, place_at}
 use Rattle.arraydeque_ring.proofs.ring.Ring.get_mut.Given.{Over}
 use Rattle.arraydeque_ring.proofs.ring.Ring.get_mut.Goals as goal
@@ -41,7 +41,7 @@ invariant_of-self-lent g c w = kept (after g c w)
 pub returns : goal.returns
 returns g c =
     let ring = opened c.self.inside c.self.invariant c.self.view_is in
-    let lent = held_at-place_of ring.laid c.args.index (omega (arith, length_within ring.laid)) in (
+    let lent = ring.laid.at c.args.index (omega (arith, length_within ring.laid)) in (
       ap (λ ends. inl (c.get_mut.result.ghost_name, ends)) (fun_ext (λ w. closed (after g (goal.at.returns g c).After-get_mut w))),
       record { writes_back = tt; value = sym c.get_mut.ensures.value ∙ rw (place_at ring _ refl c.place-place.ensures.place) lent },
     )

@@ -1,40 +1,44 @@
 use Rattle.std.proofs.Common.{◌≡◌, ◌+◌, ◌-◌, length, take, drop, min, nat_lt, if◌then◌else◌, sym, refl, ap, ◌∙◌, arith}
 use Rattle.std.specs.List.{insert}
 use Rattle.std.proofs.lemmas.Bool.{cond_below, cond_above}
-use Rattle.std.proofs.lemmas.List.{length-take-le}
+use Rattle.std.proofs.lemmas.List.{length-take-le, append-nil}
 use Rattle.std.proofs.lemmas.List.Edits.{length-insert}
 use Rattle.arraydeque_ring.specs.Ring.{RingState, place_of}
 use Rattle.arraydeque_ring.specs.Steps.{more_puts, more_moves}
 use Rattle.arraydeque_ring.proofs.gaps.Fewest.{fewest_insert}
-use Rattle.arraydeque_ring.proofs.gaps.GapMoves.{opens_before, opens_behind}
-use Rattle.arraydeque_ring.proofs.gaps.Gapped.{Gapped, IsEmpty-gap, LaidOut-put}
+use Rattle.arraydeque_ring.proofs.gaps.GapMoves.{gap_empty, filled_before, filled_behind, Gapped-earlier, Gapped-later}
+use Rattle.arraydeque_ring.proofs.gaps.Gapped.{Gapped, Gapped-before, Gapped-behind, IsEmpty-gap, LaidOut-put}
 use Rattle.arraydeque_ring.proofs.places.Opened.{Opened, opened, closed, kept}
+use Rattle.arraydeque_ring.proofs.places.Rotated.{place_of-lt}
 use Rattle.arraydeque_ring.proofs.ring.Ring.insert.Given.{Over}
 use Rattle.arraydeque_ring.proofs.ring.Ring.insert.Goals.{After-wrap_add, then-index-behind, else-index-behind}
 use Rattle.arraydeque_ring.proofs.ring.Ring.insert.Goals as goal
 
-pub overflow_sub-behind : goal.overflow_sub-behind
-overflow_sub-behind g c = omega (arith, (opened c.self.inside c.self.invariant c.self.view_is).len)
-
-pub move_earlier-requires-clause-empty : goal.move_earlier-requires-clause-empty
-move_earlier-requires-clause-empty g c =
+pub move_earlier-requires : goal.move_earlier-requires
+move_earlier-requires g c =
     let ring = opened c.self.inside c.self.invariant c.self.view_is in
-    rw (c.wrap_add-self-inside.ensures, c.capacity-capacity.ensures, ring.laid.long) (opens_before ring.laid c.requires.room c.args.index c.requires.in_bounds).empty
+    let gap = Gapped-before ring.laid c.requires.room in
+    let room = gap.within in
+    rw (rw (c.capacity-capacity.ensures ∙ ring.laid.long) at c.wrap_add-self-inside.ensures) (record {
+      in_region = omega (arith, gap.reads.in_region, ring.laid.long);
+      some = omega arith;
+      within = omega (arith, ring.laid.long, c.requires.in_bounds);
+      empty = gap_empty gap 0 refl;
+      filled = filled_behind gap (0 + 1) c.args.index refl c.requires.in_bounds;
+    })
 
-pub move_earlier-requires-clause-filled : goal.move_earlier-requires-clause-filled
-move_earlier-requires-clause-filled g c =
+pub move_later-requires : goal.move_later-requires
+move_later-requires g c =
     let ring = opened c.self.inside c.self.invariant c.self.view_is in
-    rw (c.wrap_add-self-inside.ensures, c.capacity-capacity.ensures, ring.laid.long) (opens_before ring.laid c.requires.room c.args.index c.requires.in_bounds).filled
-
-pub move_later-requires-clause-filled : goal.move_later-requires-clause-filled
-move_later-requires-clause-filled g c =
-    let ring = opened c.self.inside c.self.invariant c.self.view_is in
-    (opens_behind ring.laid c.requires.room c.args.index c.requires.in_bounds _ (omega arith)).filled
-
-pub move_later-requires-clause-empty : goal.move_later-requires-clause-empty
-move_later-requires-clause-empty g c =
-    let ring = opened c.self.inside c.self.invariant c.self.view_is in
-    (opens_behind ring.laid c.requires.room c.args.index c.requires.in_bounds _ (omega arith)).empty
+    let gap = Gapped-behind ring.laid c.requires.room in
+    let room = gap.within in
+    record {
+      in_region = omega (arith, ring.laid.in_region, ring.laid.long);
+      some = omega arith;
+      within = omega (arith, ring.laid.long);
+      filled = filled_before gap c.args.index (c.self.inside.len - c.args.index) (omega arith);
+      empty = gap_empty gap (c.args.index + (c.self.inside.len - c.args.index)) (omega arith);
+    }
 
 -- with the gap open
 gap : (g : Over) (c : After-wrap_add g) → let old = c.args.self.now in let behind = length old.items - c.args.index in let now = c.if-index-behind.self-inside in
@@ -50,9 +54,10 @@ gap g c =
     elim c.if-index-behind.branch [
       | then-index-behind w ↦
           let start = rw all at w.wrap_add-self-inside.ensures in
+          let in_region = place_of-lt c.self.inside.start (old.capacity - 1) old.capacity (omega (arith, ring.laid.in_region)) in
           let fewer : min c.args.index behind ≡ c.args.index = omega arith in
           rw w.self-inside-is (
-            rw start ((opens_before ring.laid c.requires.room c.args.index c.requires.in_bounds).after _ (rw start at w.move_earlier.ensures.places)),
+            rw (w.move_earlier.ensures.places, start) (Gapped-earlier (Gapped-before ring.laid c.requires.room) 0 c.args.index in_region refl c.requires.in_bounds),
             start ∙ ap (λ s. place_of s (old.capacity - 1) old.capacity) ring.start ∙ cond_below c.args.index behind _ _ (omega arith),
             w.move_earlier.ensures.steps ∙ ap (more_moves c.args.index) ring.steps ∙ ap (λ n. more_moves n old.steps) (sym fewer),
             sym ring.len,
@@ -61,7 +66,7 @@ gap g c =
           let many = c.self.inside.len - c.args.index in
           let fewer : min c.args.index behind ≡ many = omega arith in
           rw w.self-inside-is (
-            (opens_behind ring.laid c.requires.room c.args.index c.requires.in_bounds many (omega arith)).after _ w.move_later.ensures.places,
+            rw w.move_later.ensures.places (rw append-nil at (Gapped-later (Gapped-behind ring.laid c.requires.room) c.args.index many (omega (arith, ring.laid.in_region)) (omega arith))),
             ring.start ∙ cond_above c.args.index behind _ _ _ (omega arith) refl,
             w.move_later.ensures.steps ∙ ap (more_moves many) ring.steps ∙ ap (λ n. more_moves n old.steps) (sym fewer),
             sym ring.len,
@@ -76,11 +81,6 @@ front g c = length-take-le c.args.index c.args.self.now.items c.requires.in_boun
 
 pub put-requires : goal.put-requires
 put-requires g c = rw (place g c) (IsEmpty-gap 1 c.args.index (gap g c).0 (front g c) (omega arith))
-
-pub overflow_add-self : goal.overflow_add-self
-overflow_add-self g c =
-    let ring = opened c.self.inside c.self.invariant c.self.view_is in
-    omega (arith, ring.laid.long, (gap g (goal.at.overflow_add-self g c).After-wrap_add).3)
 
 after : (g : Over) (c : goal.After-self-2-1 g) → let old = c.args.self.now in let behind = length old.items - c.args.index in
     Opened record { slots = c.put.new.self; start = c.if-index-behind.self-inside.start; len = c.if-index-behind.self-inside.len + 1; alloc = c.if-index-behind.self-inside.alloc } record {

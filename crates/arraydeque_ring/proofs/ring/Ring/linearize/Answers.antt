@@ -2,7 +2,7 @@ use Rattle.std.proofs.Common.{length, refl, sym, ap, subst, ◌∙◌, arith}
 use Rattle.std.proofs.lemmas.List.{append-nil}
 use Rattle.arraydeque_ring.specs.Places.{Region}
 use Rattle.arraydeque_ring.specs.Ring.{IsInOnePiece}
-use Rattle.arraydeque_ring.proofs.places.LaidOut.{length_within}
+use Rattle.arraydeque_ring.proofs.places.LaidOut.{length_within, rotated-LaidOut, LaidOut-from}
 use Rattle.arraydeque_ring.proofs.places.Opened.{Opened, opened, closed, kept}
 use Rattle.arraydeque_ring.proofs.places.Rotated.{length-rotated}
 use Rattle.arraydeque_ring.proofs.ring.Ring.linearize.Given.{Over}
@@ -17,30 +17,11 @@ after g c =
     let turns = rw c.moved_out.ensures.region at c.turn-slots.ensures.places in
     let places = ap (λ (region : Region g.row.T.Denot). region.places) c.replace-nothing.ensures.after ∙ turns in
     record {
-      laid = record {
-        long = ap length places ∙ length-rotated c.self.inside.start c.self.inside.slots.places ∙ ring.laid.long;
-        in_region = omega arith;
-        is = append-nil c.replace-nothing.new.dest.places ∙ places ∙ ring.laid.is;
-      };
+      laid = LaidOut-from _ (ap length places ∙ length-rotated c.self.inside.start c.self.inside.slots.places ∙ ring.laid.long) (omega arith) (append-nil c.replace-nothing.new.dest.places ∙ places ∙ rotated-LaidOut ring.laid);
       len = ring.len;
       start = refl;
       steps = refl;
     }
-
-pub returns-then-self-capacity-clause-one_piece : goal.returns-then-self-capacity-clause-one_piece
-returns-then-self-capacity-clause-one_piece g c =
-    let ring = opened c.self.inside c.self.invariant c.self.view_is in
-    omega (arith, ring.laid.long, ring.laid.in_region, length_within ring.laid, ring.len, ring.start)
-
-pub returns-then-self-capacity-clause-start : goal.returns-then-self-capacity-clause-start
-returns-then-self-capacity-clause-start g c =
-    let ring = opened c.self.inside c.self.invariant c.self.view_is in
-    λ wraps. absurd (wraps (omega (arith, ring.laid.long, ring.laid.in_region, length_within ring.laid, ring.len, ring.start)))
-
-pub turn-slots-requires-clause-in_region : goal.turn-slots-requires-clause-in_region
-turn-slots-requires-clause-in_region g c =
-    let ring = opened c.self.inside c.self.invariant c.self.view_is in
-    rw c.moved_out.ensures.region (omega (arith, ring.laid.long, ring.laid.in_region, length_within ring.laid, ring.len))
 
 pub invariant_of-self : goal.invariant_of-self
 invariant_of-self g c = kept (after g (goal.at.invariant_of-self g c).After-replace-nothing)
@@ -49,13 +30,3 @@ pub returns-clause-one_piece : goal.returns-clause-one_piece
 returns-clause-one_piece g c =
     let ring = opened c.self.inside c.self.invariant c.self.view_is in
     subst IsInOnePiece (sym (closed (after g (goal.at.returns-clause-one_piece g c).After-replace-nothing))) (omega (arith, length_within ring.laid))
-
-pub returns-clause-steps : goal.returns-clause-steps
-returns-clause-steps g c =
-    let ring = opened c.self.inside c.self.invariant c.self.view_is in
-    rw (ring.len, ← ring.steps, c.replace-nothing.ensures.after) (rw c.moved_out.ensures.region at c.turn-slots.ensures.steps)
-
-pub returns-clause-unchanged : goal.returns-clause-unchanged
-returns-clause-unchanged g c =
-    let ring = opened c.self.inside c.self.invariant c.self.view_is in
-    λ in_one_piece. absurd (omega (arith, ring.laid.long, ring.len, ring.start))

@@ -3,10 +3,16 @@ use Rattle.std.proofs.lemmas.List.{length-take-le, take_all, take_more}
 use Rattle.std.specs.declared.alloc.Global.{Global}
 use Rattle.arraydeque_ring.specs.Places.{Region}
 use Rattle.arraydeque_ring.specs.Steps.{no_steps, more_puts}
-use Rattle.arraydeque_ring.proofs.fills.InRows.{LaidOut-behind}
+use Rattle.arraydeque_ring.proofs.fills.InRows.{IsEmpty-behind, LaidOut-behind}
 use Rattle.arraydeque_ring.proofs.places.LaidOut.{LaidOut}
 use Rattle.arraydeque_ring.proofs.places.Opened.{Opened, closed, kept}
 use Rattle.arraydeque_ring.proofs.ring.Ring.of_copies.Goals as goal
+
+pub put-requires : goal.put-requires
+put-requires g c =
+    let was = c.loop-item.invariant in
+    let many = length-take-le c.loop-item.item-index c.args.items.now (omega arith) in
+    IsEmpty-behind [] _ 0 c.loop-item.place (omega (arith, was.place, many)) (omega (arith, was.place, c.requires)) (omega (arith, many, c.requires)) (inl refl) was.laid
 
 pub loop-item-preserved : goal.loop-item-preserved
 loop-item-preserved g c =

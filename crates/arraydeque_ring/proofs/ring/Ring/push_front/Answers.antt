@@ -1,21 +1,12 @@
-use Rattle.std.proofs.Common.{◌≡◌, ◌-◌, ◌∙◌, ap, arith}
+use Rattle.std.proofs.Common.{◌≡◌, ◌-◌, ◌∙◌, ap}
 use Rattle.arraydeque_ring.specs.Ring.{place_of}
-use Rattle.arraydeque_ring.proofs.places.LaidOut.{IsEmpty-place_of}
-use Rattle.arraydeque_ring.proofs.places.Opened.{opened, closed, kept, placed, put_front}
+use Rattle.arraydeque_ring.proofs.places.Opened.{opened, closed, kept, put_front}
 use Rattle.arraydeque_ring.proofs.ring.Ring.push_front.Given.{Over}
 use Rattle.arraydeque_ring.proofs.ring.Ring.push_front.Goals.{After-place-before}
 use Rattle.arraydeque_ring.proofs.ring.Ring.push_front.Goals as goal
 
 before : (g : Over) (c : After-place-before g) → let old = c.args.self.now in c.place-before.result ≡ place_of old.start (old.capacity - 1) old.capacity
 before g c = let ring = opened c.self.inside c.self.invariant c.self.view_is in c.place-before.ensures.place ∙ ap (λ n. place_of c.args.self.now.start (n - 1) c.args.self.now.capacity) (c.capacity.ensures ∙ ring.laid.long)
-
-pub put-requires : goal.put-requires
-put-requires g c =
-    let ring = opened c.self.inside c.self.invariant c.self.view_is in
-    rw (placed ring _ (before g (goal.at.put-requires g c).After-place-before)) (IsEmpty-place_of ring.laid _ (omega (arith, c.requires)) (omega (arith, c.requires)))
-
-pub overflow_add-self : goal.overflow_add-self
-overflow_add-self g c = let ring = opened c.self.inside c.self.invariant c.self.view_is in omega (arith, ring.laid.long)
 
 pub invariant_of-self : goal.invariant_of-self
 invariant_of-self g c =

@@ -5,46 +5,29 @@ use Rattle.std.proofs.lemmas.List.Edits.{length-remove}
 use Rattle.arraydeque_ring.specs.Ring.{RingState, place_of}
 use Rattle.arraydeque_ring.specs.Steps.{more_takes, more_moves}
 use Rattle.arraydeque_ring.proofs.gaps.Fewest.{fewest_remove}
-use Rattle.arraydeque_ring.proofs.gaps.GapMoves.{Closes, closes}
-use Rattle.arraydeque_ring.proofs.gaps.Gapped.{Gapped, Gapped-taken_one, length_places}
-use Rattle.arraydeque_ring.proofs.places.LaidOut.{length_within, held_at-place_of, IsFilled-place_of}
+use Rattle.arraydeque_ring.proofs.gaps.GapMoves.{may_close, LaidOut-closed}
+use Rattle.arraydeque_ring.proofs.gaps.Gapped.{Gapped, Gapped-taken_one}
+use Rattle.arraydeque_ring.proofs.places.LaidOut.{length_within, IsFilled-place_of}
 use Rattle.arraydeque_ring.proofs.places.Opened.{Opened, opened, closed, kept, place_at}
 use Rattle.arraydeque_ring.proofs.ring.Ring.remove.Given.{Over}
 use Rattle.arraydeque_ring.proofs.ring.Ring.remove.Goals.{After-take-item}
 use Rattle.arraydeque_ring.proofs.ring.Ring.remove.Goals as goal
-
-pub wrap_add-requires-clause-in_reach : goal.wrap_add-requires-clause-in_reach
-wrap_add-requires-clause-in_reach g c =
-    let ring = opened c.self.inside c.self.invariant c.self.view_is in
-    omega (arith, ring.laid.long, length_within ring.laid)
 
 pub take-item-requires : goal.take-item-requires
 take-item-requires g c =
     let ring = opened c.self.inside c.self.invariant c.self.view_is in
     rw (place_at ring _ c.capacity.ensures c.wrap_add.ensures) (IsFilled-place_of ring.laid _ c.requires)
 
-pub overflow_sub-self : goal.overflow_sub-self
-overflow_sub-self g c = let ring = opened c.self.inside c.self.invariant c.self.view_is in omega arith
-
-pub overflow_sub-self-inside : goal.overflow_sub-self-inside
-overflow_sub-self-inside g c = let ring = opened c.self.inside c.self.invariant c.self.view_is in omega arith
-
 gap : (g : Over) (c : After-take-item g) → let old = c.args.self.now in Gapped old.capacity c.self.inside.start (take c.args.index old.items) 1 (drop (suc c.args.index) old.items) c.take-item.new.self.places
 gap g c =
     let ring = opened c.self.inside c.self.invariant c.self.view_is in
     rw (c.take-item.ensures.places, place_at ring _ c.capacity.ensures c.wrap_add.ensures) (Gapped-taken_one ring.laid c.args.index c.requires)
 
-closing : (g : Over) (c : After-take-item g) → let old = c.args.self.now in Closes old.capacity c.self.inside.start c.args.index 1 (c.self.inside.len - 1 - c.args.index) c.take-item.new.self.places (remove old.items c.args.index)
-closing g c =
-    let ring = opened c.self.inside c.self.invariant c.self.view_is in
-    closes _ _ (gap g c) (length-take-le c.args.index c.args.self.now.items (omega arith)) (omega (arith, length-drop (suc c.args.index) c.args.self.now.items))
-
 pub close_gap-self-inside-requires : goal.close_gap-self-inside-requires
 close_gap-self-inside-requires g c =
-    let at = (goal.at.close_gap-self-inside-requires g c).After-take-item in
-    let gap = gap g at in
-    let may = closing g at in
-    record { in_region = omega (arith, length_places gap, gap.all, gap.in_region); some = omega arith; filled_before = may.filled_before; empty = may.empty; filled_behind = may.filled_behind }
+    let ring = opened c.self.inside c.self.invariant c.self.view_is in
+    let may = may_close _ _ (gap g (goal.at.close_gap-self-inside-requires g c).After-take-item) (omega arith) (length-take-le c.args.index c.args.self.now.items (omega arith)) (omega (arith, length-drop (suc c.args.index) c.args.self.now.items)) in
+    record { in_region = may.in_region; some = omega arith; within = may.within; filled_before = may.before; empty = may.empty; filled_behind = may.behind }
 
 after : (g : Over) (c : goal.After-self-2-1 g) → let old = c.args.self.now in let behind = length old.items - 1 - c.args.index in
     Opened record { slots = c.close_gap-self-inside.new.slots; start = c.close_gap-self-inside.result; len = c.self.inside.len - 1; alloc = c.self.inside.alloc } record {
@@ -55,11 +38,11 @@ after : (g : Over) (c : goal.After-self-2-1 g) → let old = c.args.self.now in 
     }
 after g c =
     let ring = opened c.self.inside c.self.invariant c.self.view_is in
-    let at = (goal.at.invariant_of-self g c).After-take-item in
+    let gap = gap g (goal.at.invariant_of-self g c).After-take-item in
     let moved = c.close_gap-self-inside in
-    let start = rw (length_places (gap g at)) at moved.ensures.start in
+    let start = rw gap.reads.long at moved.ensures.start in
     rw (ring.len, ← ring.start) (record {
-      laid = (closing g at).after _ _ start moved.ensures.places;
+      laid = rw (start, moved.ensures.places) (LaidOut-closed gap _ _ (omega (arith, length_within ring.laid, ring.laid.in_region)) (length-take-le c.args.index c.args.self.now.items (omega arith)) (omega (arith, length-drop (suc c.args.index) c.args.self.now.items)));
       len = omega (arith, length-remove c.args.self.now.items c.args.index c.requires);
       start = start;
       steps = moved.ensures.steps ∙ ap (more_moves (min c.args.index (c.self.inside.len - 1 - c.args.index))) (c.take-item.ensures.steps ∙ ap (more_takes 1) ring.steps);
@@ -74,7 +57,7 @@ returns g c =
     let within = length_within ring.laid in
     let now = after g c in
     record {
-      value = sym (held_at-place_of ring.laid c.args.index (omega arith)) ∙ rw (place_at ring _ c.capacity.ensures c.wrap_add.ensures) at c.take-item.ensures.value;
+      value = sym (ring.laid.at c.args.index (omega arith)) ∙ rw (place_at ring _ c.capacity.ensures c.wrap_add.ensures) at c.take-item.ensures.value;
       items = ap (λ (r : RingState g.row.T.Denot). r.items) (closed now);
       capacity = now.laid.long;
       start = now.start;

@@ -16,12 +16,6 @@ loop-index-init g c =
     let ring = opened c.self.inside c.self.invariant c.self.view_is in
     record { so_far = rw (← ring.steps, c.capacity-capacity.ensures, ring.laid.long) (none_asked _ _ _ ring.laid) }
 
-pub wrap_add-place-requires-clause-in_reach : goal.wrap_add-place-requires-clause-in_reach
-wrap_add-place-requires-clause-in_reach g c =
-    let ring = opened c.self.inside c.self.invariant c.self.view_is in
-    let within = all_within c.loop-index.invariant.so_far (omega arith) in
-    omega arith
-
 pub get-requires : goal.get-requires
 get-requires g c =
     let ring = opened c.self.inside c.self.invariant c.self.view_is in
@@ -33,22 +27,13 @@ f-keeps-requires g c =
     let so_far = c.loop-index.invariant.so_far in
     c.requires so_far.answers c.loop-index.f _ (next_asked so_far (omega arith) _ (rw c.wrap_add-place.ensures at c.get.ensures)) so_far.in_turn
 
-pub wrap_add-requires-clause-in_reach : goal.wrap_add-requires-clause-in_reach
-wrap_add-requires-clause-in_reach g c =
-    let ring = opened c.self.inside c.self.invariant c.self.view_is in
-    let within = all_within c.loop-index.invariant.so_far (omega arith) in
-    omega arith
-
 pub settle-requires-clause-empty : goal.settle-requires-clause-empty
 settle-requires-clause-empty g c =
     let ring = opened c.self.inside c.self.invariant c.self.view_is in
     rw (c.wrap_add.ensures, c.wrap_add-place.ensures) (room_for_next c.loop-index.invariant.so_far (omega arith))
 
 pub overflow_add-kept : goal.overflow_add-kept
-overflow_add-kept g c =
-    let ring = opened c.self.inside c.self.invariant c.self.view_is in
-    let within = all_within c.loop-index.invariant.so_far (omega arith) in
-    omega arith
+overflow_add-kept g c = let ring = opened c.self.inside c.self.invariant c.self.view_is in let within = all_within c.loop-index.invariant.so_far (omega arith) in omega arith
 
 pub loop-index-preserved : goal.loop-index-preserved
 loop-index-preserved g c =

@@ -2,23 +2,15 @@ use Rattle.std.proofs.Common.{◌+◌, ◌-◌, length, take, ap, ◌∙◌, ari
 use Rattle.std.proofs.lemmas.List.{length-take-le, drop_all, take_rest}
 use Rattle.arraydeque_ring.specs.Steps.{more_takes}
 use Rattle.arraydeque_ring.proofs.gaps.Gapped.{Gapped-taken, LaidOut-gap_last}
-use Rattle.arraydeque_ring.proofs.places.LaidOut.{length_within, IsFilledRun-rotated, values-run}
+use Rattle.arraydeque_ring.proofs.places.LaidOut.{IsFilledRun-rotated, values-run}
 use Rattle.arraydeque_ring.proofs.places.Opened.{Opened, opened, closed, kept}
 use Rattle.arraydeque_ring.proofs.ring.Ring.split_off.Given.{Over}
 use Rattle.arraydeque_ring.proofs.ring.Ring.split_off.Goals as goal
-
-pub overflow_sub-self-inside : goal.overflow_sub-self-inside
-overflow_sub-self-inside g c = let ring = opened c.self.inside c.self.invariant c.self.view_is in omega arith
 
 pub take_run-requires-clause-filled : goal.take_run-requires-clause-filled
 take_run-requires-clause-filled g c =
     let ring = opened c.self.inside c.self.invariant c.self.view_is in
     IsFilledRun-rotated ring.laid _ _ (omega arith)
-
-pub take_run-requires-clause-room : goal.take_run-requires-clause-room
-take_run-requires-clause-room g c =
-    let ring = opened c.self.inside c.self.invariant c.self.view_is in
-    rw c.in_ok-rest.ensures.ok (omega (arith, ring.laid.long, length_within ring.laid))
 
 after : (g : Over) (c : goal.After-self-1 g) → Opened record { slots = c.take_run.new.slots; start = c.self.inside.start; len = c.args.at; alloc = c.self.inside.alloc }
     record c.args.self.now { items = take c.args.at c.args.self.now.items; steps = more_takes (length c.args.self.now.items - c.args.at) c.args.self.now.steps }

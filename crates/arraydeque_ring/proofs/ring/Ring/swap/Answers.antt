@@ -6,7 +6,7 @@ use Rattle.arraydeque_ring.specs.Places.{held_at}
 use Rattle.arraydeque_ring.specs.Ring.{place_of}
 use Rattle.arraydeque_ring.proofs.places.Rotated.{place_of-lt}
 use Rattle.arraydeque_ring.specs.Steps.{more_exchanges}
-use Rattle.arraydeque_ring.proofs.places.LaidOut.{LaidOut, length_within, held_at-place_of, IsFilled-place_of, LaidOut-set}
+use Rattle.arraydeque_ring.proofs.places.LaidOut.{LaidOut, length_within, IsFilled-place_of, LaidOut-set}
 use Rattle.arraydeque_ring.proofs.places.Opened.{Opened, opened, closed, kept, placed}
 use Rattle.arraydeque_ring.proofs.places.Rotated.{one_place}
 use Rattle.arraydeque_ring.proofs.ring.Ring.swap.Given.{Over}
@@ -20,22 +20,12 @@ LaidOut-swap {n = n} {t = t} {ps = ps} (d ∷ rest) l i j i_in j_in =
     let p = place_of t i n in
     let q = place_of t j n in
     let within = length_within l in
-    let at_p : held_at ps p ≡ Some (get_or xs i d) = held_at-place_of l i (omega arith) ∙ slice_get-get_or xs i d i_in in
-    let at_q : held_at ps q ≡ Some (get_or xs j d) = held_at-place_of l j (omega arith) ∙ slice_get-get_or xs j d j_in in
+    let at_p : held_at ps p ≡ Some (get_or xs i d) = l.at i (omega arith) ∙ slice_get-get_or xs i d i_in in
+    let at_q : held_at ps q ≡ Some (get_or xs j d) = l.at j (omega arith) ∙ slice_get-get_or xs j d j_in in
     let in_region : (k : ℕ) → k < length xs → place_of t k n < length ps = λ k lt. omega (arith, l.long, place_of-lt t k n (omega (arith, l.in_region))) in
     let both = LaidOut-set (LaidOut-set l i (get_or xs j d) i_in) j (get_or xs i d) (omega (arith, length-set xs i (get_or xs j d))) in
     let places : set (set ps p (Some (get_or xs j d))) q (Some (get_or xs i d)) ≡ swap ps p q = ap₂ (λ a b. set (set ps p a) q b) (sym at_q) (sym at_p) ∙ swap_is ps p q None (in_region i i_in) (in_region j j_in) in
     subst (λ qs. LaidOut n t (swap xs i j) qs) places (subst (λ ys. LaidOut n t ys (set (set ps p (Some (get_or xs j d))) q (Some (get_or xs i d)))) (swap_is xs i j d i_in j_in) both)
-
-pub place-a-requires-clause-in_reach : goal.place-a-requires-clause-in_reach
-place-a-requires-clause-in_reach g c =
-    let ring = opened c.self.inside c.self.invariant c.self.view_is in
-    omega (arith, ring.laid.long, length_within ring.laid)
-
-pub place-b-requires-clause-in_reach : goal.place-b-requires-clause-in_reach
-place-b-requires-clause-in_reach g c =
-    let ring = opened c.self.inside c.self.invariant c.self.view_is in
-    omega (arith, ring.laid.long, length_within ring.laid)
 
 pub exchange-requires-clause-a_filled : goal.exchange-requires-clause-a_filled
 exchange-requires-clause-a_filled g c =

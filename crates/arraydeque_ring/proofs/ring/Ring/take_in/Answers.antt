@@ -21,11 +21,6 @@ hand_over-requires-clause-empty g c =
     let ring = opened c.self.inside c.self.invariant c.self.view_is in
     IsEmptyRun-behind _ _ (laid g (goal.at.hand_over-requires-clause-empty g c).After-capacity-capacity) ring.len (omega (arith, ring.len, c.requires.room))
 
-pub overflow_add-self : goal.overflow_add-self
-overflow_add-self g c =
-    let ring = opened c.self.inside c.self.invariant c.self.view_is in
-    omega (arith, ring.len, ring.laid.long, c.requires.room, c.capacity-capacity.ensures)
-
 taken : (g : Over) (c : goal.After-self-1 g) → Opened record { slots = c.hand_over.new.other; start = c.self.inside.start; len = c.self.inside.len + c.args.len; alloc = c.self.inside.alloc }
     record c.args.self.now { items = c.args.self.now.items ++ values (take c.args.len (drop c.args.from c.args.slots.now.places)); steps = more_puts c.args.len c.args.self.now.steps }
 taken g c =

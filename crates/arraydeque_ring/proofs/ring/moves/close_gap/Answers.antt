@@ -1,22 +1,19 @@
-use Rattle.std.proofs.Common.{◌≡◌, min, refl, ap, ◌∙◌, arith}
-use Rattle.std.proofs.lemmas.Bool.{cond_below, cond_above}
+use Rattle.std.proofs.Common.{◌≡◌, ◌+◌, length, ap, ◌∙◌, arith}
+use Rattle.std.proofs.lemmas.Bool.{cond_below}
 use Rattle.arraydeque_ring.specs.Ring.{place_of}
-use Rattle.arraydeque_ring.specs.Steps.{more_moves}
+use Rattle.arraydeque_ring.proofs.places.Rotated.{place_of-zero}
 use Rattle.arraydeque_ring.proofs.ring.moves.close_gap.Goals as goal
+
+pub move_later-requires-clause-filled : goal.move_later-requires-clause-filled
+move_later-requires-clause-filled g c = rw (place_of-zero c.args.start (length c.args.slots.now.places) (omega (arith, c.requires.in_region))) c.requires.filled_before
+
+pub move_later-requires-clause-empty : goal.move_later-requires-clause-empty
+move_later-requires-clause-empty g c = let zero : 0 + c.args.before ≡ c.args.before = omega arith in rw zero c.requires.empty
 
 pub returns-then-before-behind-clause-start : goal.returns-then-before-behind-clause-start
 returns-then-before-behind-clause-start g c = c.wrap_add.ensures ∙ ap (place_of c.args.start c.args.gap) c.capacity-capacity.ensures ∙ cond_below c.args.before c.args.behind _ _ c.if-before-behind.true
 
 pub returns-then-before-behind-clause-places : goal.returns-then-before-behind-clause-places
-returns-then-before-behind-clause-places g c = c.move_later.ensures.places ∙ cond_below c.args.before c.args.behind _ _ c.if-before-behind.true
-
-pub returns-else-before-behind-clause-start : goal.returns-else-before-behind-clause-start
-returns-else-before-behind-clause-start g c = cond_above c.args.before c.args.behind _ _ _ c.if-before-behind.false refl
-
-pub returns-else-before-behind-clause-places : goal.returns-else-before-behind-clause-places
-returns-else-before-behind-clause-places g c = cond_above c.args.before c.args.behind _ _ _ c.if-before-behind.false c.move_earlier.ensures.places
-
-pub returns-else-before-behind-clause-steps : goal.returns-else-before-behind-clause-steps
-returns-else-before-behind-clause-steps g c =
-    let fewer : c.args.behind ≡ min c.args.before c.args.behind = omega arith in
-    c.move_earlier.ensures.steps ∙ ap (λ n. more_moves n c.args.slots.now.steps) fewer
+returns-then-before-behind-clause-places g c =
+    let zero : 0 + c.args.gap ≡ c.args.gap = omega arith in
+    rw (zero, place_of-zero c.args.start (length c.args.slots.now.places) (omega (arith, c.requires.in_region))) at c.move_later.ensures.places ∙ cond_below c.args.before c.args.behind _ _ c.if-before-behind.true

@@ -1,14 +1,20 @@
-use Rattle.std.proofs.Common.{◌≡◌, ◌-◌, ◌++◌, length, take, drop, sym, ap, ap₂, ◌∙◌, arith}
+use Rattle.std.proofs.Common.{◌≡◌, ◌-◌, ◌+◌, ◌<◌, ◌++◌, length, take, drop, sym, ap, ap₂, ◌∙◌, arith}
 use Rattle.std.proofs.lemmas.List.{length-append, append_assoc}
 use Rattle.arraydeque_ring.specs.Ring.{RingState, rotated, values}
 use Rattle.arraydeque_ring.specs.Steps.{more_puts}
 use Rattle.arraydeque_ring.proofs.places.Handed.{Handed, handed}
+use Rattle.arraydeque_ring.proofs.places.Rotated.{MayStartAt-place_of, place_of-lt, length-rotated}
 use Rattle.arraydeque_ring.proofs.ring.parts.take_run.Given.{Over}
 use Rattle.arraydeque_ring.proofs.ring.parts.take_run.Goals.{After-min-first}
 use Rattle.arraydeque_ring.proofs.ring.parts.take_run.Goals as goal
 
 parts : (g : Over) (c : After-min-first g) → Handed c.args.start c.args.at c.args.len c.wrap_add-place.result c.min-first.result c.args.slots.now.places
-parts g c = handed _ _ _ c.capacity-capacity.result _ _ _ (sym c.capacity-capacity.ensures) (omega (arith, c.capacity-capacity.ensures, c.requires.in_region)) (omega arith) c.requires.filled c.wrap_add-place.ensures (omega arith)
+parts g c =
+    let long = sym c.capacity-capacity.ensures in
+    let within = c.requires.filled.0 in
+    let wide = length-rotated c.args.start c.args.slots.now.places in
+    let fits : c.args.start + c.args.at < c.capacity-capacity.result + c.capacity-capacity.result = omega (arith, long, c.requires.in_region) in
+    rw c.wrap_add-place.ensures (handed _ _ _ _ _ _ _ long (omega (arith, long, c.requires.in_region)) c.requires.filled (MayStartAt-place_of _ _ _ fits) (omega (arith, place_of-lt _ _ _ fits)) (rw c.wrap_add-place.ensures at c.min-first.ensures))
 
 pub take_in-requires-clause-filled : goal.take_in-requires-clause-filled
 take_in-requires-clause-filled g c = (parts g (goal.at.take_in-requires-clause-filled g c).After-min-first).here

@@ -1,7 +1,7 @@
 use Rattle.std.proofs.Common.{◌≡◌, ◌-◌, ◌+◌, set, None, ap, sym, ◌∙◌, arith}
 use Rattle.arraydeque_ring.specs.Gaps.{run_emptied}
 use Rattle.arraydeque_ring.specs.Places.{held_at}
-use Rattle.arraydeque_ring.proofs.places.Emptied.{next_held, next_emptied, run_emptied-up_to}
+use Rattle.arraydeque_ring.proofs.places.Emptied.{next_held, next_emptied}
 use Rattle.arraydeque_ring.proofs.places.Held.{filled_in_run}
 use Rattle.arraydeque_ring.proofs.ring.retain.drop_run.Goals as goal
 
@@ -23,8 +23,3 @@ loop-place-preserved g c =
       places = c.take.ensures.places ∙ ap (λ ps. set ps place None) c.loop-place.invariant.places ∙ next_emptied _ from (place - from) place here (omega (arith, c.requires.filled.0)) ∙ ap (λ k. run_emptied from k c.args.slots.now.places) one_more;
       steps = grind (arith, c.take.ensures.steps, c.loop-place.invariant.steps);
     }
-
-pub returns-clause-places : goal.returns-clause-places
-returns-clause-places g c =
-    let past : c.loop-place.place ≡ c.args.end = omega arith in
-    rw past at (c.loop-place.invariant.places ∙ sym (run_emptied-up_to _ c.args.from c.loop-place.place (omega arith)))
