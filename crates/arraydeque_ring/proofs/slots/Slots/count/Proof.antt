@@ -35,7 +35,7 @@ count_spec 𝓤 𝓛 𝓜 𝓡 wired X L =
     enter ! 𝓣.C 𝓣.Λ (here E) _ _ $ alloc_all ! (λ l. pass_all ! refl ((tt, tt), (((the_row_laws.lawful 𝓛).typed k (kind_vals k) are.1.0).0, ((tt, record { fits = n_fits }), tt))) $
     slots_open E ! tt r rb ro (λ g b o m ok.
     sets ! (of_opd ! (unit_lit !)) refl (tt, tt) $
-    slots_close E ! tt g new b o m rb ro (record { capacity = ok.capacity; word = ok.word; reach = ok.reach }) $ returns ! (look_at ! 0 refl) $ free_all ! refl $
+    slots_close E ! tt g r new b o m rb ro ok refl $ returns ! (look_at ! 0 refl) $ free_all ! refl $
     suffices ! _ (ends_at 𝓛 ended (stayed E) c y vunit tt (new, (tt, (tt, tt))) (tt, (tt, (tt, tt)))) $ says ! refl $
     feq_i ! (List Val) (vptr rb ro ∷ []) (vptr rb ro ∷ []) refl $ fjoin3 ! $ nothing ! $ nothing ! $ fjoin ! $ nothing ! $ fjoin ! $ move ! (1 ∷ 0 ∷ []) $ fjoin ! $
     move ! (1 ∷ 2 ∷ []) $ join ! $ feq_i ! (List Val) (vunit ∷ []) (vunit ∷ []) refl $ keep ! (1 ∷ 2 ∷ 0 ∷ []) $ done !)))

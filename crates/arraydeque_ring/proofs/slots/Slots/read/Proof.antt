@@ -1,10 +1,10 @@
 -- `read` empties a filled place. Assumes `Logic`.
-use Rattle.arraydeque_ring.proofs.memory.Kit.{refl, List, [], ◌∷◌, ℕ, ◌+◌, ◌*◌, ◌<◌, ◌^◌, arith, length, get_or, None, full_share, fat, froom, ftrue, flft, Fn, inst_fn, named, w64, Val, vint, vptr, Env, ◌⊑◌, fact, tables, owns, types_at, ‵, raw, ◌⊛◌, some, given, at_ret, ◌$◌, ◌∵◌, !, qed, move, keep, use1, drop, split, join, pick, learn, rewrite, fsplit3, fjoin, fjoin3, feq_i, suffices, done, whole, sub, look_in, enter, of_opd, size_lit, bin, load, look, stop, fld, first, blocks, exec, returns, alloc_all, pass_all, free_all, look_at, get, through, sets, sets_last, env, yes, plain, usize, uint_vals, uint_Tells, Stays, walk_of, stay_dropped, stay_ref, Goes-dropped, Goes-ref, ends_at, nothing, heard, as_raw, after, says_two, Good, El, R, args, el_x, elτ, times_below, one_below, proved}
+use Rattle.arraydeque_ring.proofs.memory.Kit.{refl, sym, List, [], ◌∷◌, ℕ, ◌+◌, ◌*◌, ◌<◌, ◌^◌, arith, length, get_or, set, length-set, None, full_share, fat, froom, ftrue, flft, Fn, inst_fn, named, w64, Val, vint, vptr, Env, ◌⊑◌, fact, tables, owns, types_at, ‵, raw, ◌⊛◌, some, given, at_ret, ◌$◌, ◌∵◌, !, qed, move, keep, use1, use2, drop, split, join, pick, learn, rewrite, fsplit3, fjoin, fjoin3, feq_i, suffices, done, whole, sub, look_in, enter, of_opd, size_lit, bin, load, look, stop, fld, first, blocks, exec, returns, alloc_all, pass_all, free_all, look_at, get, through, sets, sets_last, env, yes, plain, usize, uint_vals, uint_Tells, Stays, walk_of, stay_dropped, stay_ref, Goes-dropped, Goes-ref, ends_at, nothing, heard, as_raw, after, says_two, Good, El, R, args, el_x, elτ, one_below, proved}
 use denote.Ref.{mut_vals, mut_Tells}
 use Rattle.arraydeque_ring.specs.Ownership.{place_owned}
 use Rattle.arraydeque_ring.specs.Places.{IsFilled}
-use Rattle.arraydeque_ring.proofs.memory.Owned.{item_size, Place, Others, place_out, value_out}
-use Rattle.arraydeque_ring.proofs.memory.Regions.{Sr, Seen, with_place, slots_open, place_close}
+use Rattle.arraydeque_ring.proofs.memory.Owned.{item_size, Place, Others, place_out, place_in, value_out}
+use Rattle.arraydeque_ring.proofs.memory.Regions.{Sr, Seen, near, run_fits, places, slots_open, slots_close}
 use Rattle.arraydeque_ring.proofs.places.Held.{filled_within}
 use Rattle.arraydeque_ring.specs.contracts.slots.Slots.read as f
 use Rattle.arraydeque_ring.proofs.slots.Slots.read.Statement as stated
@@ -35,9 +35,8 @@ read_spec 𝓤 𝓛 𝓜 𝓡 wired X L =
     enter ! 𝓣.C 𝓣.Λ (here E) (vptr rb ro ∷ vint w64 i ∷ []) _ $ alloc_all ! (λ l. pass_all ! refl ((tt, tt), ((tt, record { fits = i_fits }), tt)) $
     let En : Env 𝓤 𝓛.H = env (here E).locals l in
     slots_open E ! tt r rb ro (λ g b o n ok.
-    let reach : length r.places * s < 2 ^ 63 = let all = ok.reach in omega arith in
-    let small : s < 2 ^ 64 = omega (arith, one_below (length r.places) s (2 ^ 63) (omega arith) reach) in
-    let far : i * s < 2 ^ 64 = omega (arith, times_below i (length r.places) s (2 ^ 63) (omega arith) reach) in
+    let far = near E ok i (omega arith) in let small : s < 2 ^ 64 = omega (arith, one_below (length r.places) s (2 ^ 63) (omega arith) (run_fits E ok (length r.places) (omega arith)).1) in
+    let new : Seen E = record r { places = set r.places i None } in
     use1 𝓛 (‵ (place_owned (R E) b (i * s + o) (get_or r.places i None)) ⊛ ‵ (Others E 𝓛 b o r.places i)) (place_out E 𝓛 b o r.places i within) $ split ! $
     rewrite ! 0 (λ (p : Place E). ‵ (place_owned (R E) b (i * s + o) p)) asked.1 refl $
     use1 𝓛 (some (λ (v : Val). given (Good (elτ E) v) (‵ (fat full_share (elτ E) b (i * s + o) v) ⊛ ‵ (X.own_val x (v ∷ []))))) (value_out 0 X L 𝓛 x b (i * s + o)) $ pick ! (λ v. learn ! (λ v_fits. split ! $
@@ -49,7 +48,7 @@ read_spec 𝓤 𝓛 𝓜 𝓡 wired X L =
     sets_last ! (of_opd ! (load ! (through ! refl (stop !)) (look ! 0 refl))) refl v_fits $
     exec ! 𝓣.C 𝓣.Λ En (after 1 (here E).body) (at_ret En (W.post y)) $ sets ! (of_opd ! (get ! refl)) refl v_fits $
     use1 𝓛 (‵ (froom (elτ E) b (i * s + o))) (𝓛.laws.at_room (elτ E) b (i * s + o) v) $ as_raw ! (elτ E) b (i * s + o) $ move ! (0 ∷ 2 ∷ 3 ∷ 4 ∷ 5 ∷ 6 ∷ 7 ∷ []) $
-    place_close E ! tt g r i None r.steps b o n rb ro ok within $ returns ! (look_at ! 0 refl) $ free_all ! refl $
-    suffices ! _ (ends_at 𝓛 ended (stayed E) c y v x (with_place E r i None r.steps, (tt, tt)) (tt, (tt, tt))) $ says_two ! (asked.1, refl) $
+    use2 𝓛 (‵ (places E new b o)) (place_in E 𝓛 b o r.places i within None) $ slots_close E ! tt g r new b o n rb ro ok (sym (length-set r.places i None)) $ returns ! (look_at ! 0 refl) $ free_all ! refl $
+    suffices ! _ (ends_at 𝓛 ended (stayed E) c y v x (new, (tt, tt)) (tt, (tt, tt))) $ says_two ! (asked.1, refl) $
     feq_i ! (List Val) (vptr rb ro ∷ []) (vptr rb ro ∷ []) refl $ fjoin3 ! $ nothing ! $ nothing ! $ fjoin ! $ move ! (1 ∷ 0 ∷ []) $ fjoin ! $
     move ! (1 ∷ 3 ∷ []) $ join ! $ keep ! (0 ∷ 1 ∷ 2 ∷ []) $ done !))))))

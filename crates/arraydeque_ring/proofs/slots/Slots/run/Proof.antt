@@ -1,5 +1,5 @@
 -- `slice` lends the values of a filled run. Assumes `Logic`.
-use Rattle.arraydeque_ring.proofs.memory.Kit.{◌≡◌, refl, sym, ap, subst, List, [], ◌∷◌, ℕ, ◌+◌, ◌*◌, ◌<◌, ◌^◌, arith, length, drop_list, length-take, length-drop, length-map, Some, ftrue, flft, Fn, inst_fn, named, w64, Val, vint, vptr, Env, ◌⊑◌, fact, tables, owns, types_at, ‵, raw, ◌⊛◌, at_ret, ◌$◌, ◌∵◌, !, qed, move, keep, use1, drop, split, join, fsplit, fjoin, feq_i, flt_i, suffices, done, agg, enter, of_opd, size_word, bin, load, look, stop, fld, no_more, and_then, first, blocks, exec, returns, alloc_all, pass_all, free_all, look_at, get, through, sets, sets_last, is, env, yes, plain, usize, RefOf, uint_vals, uint_Tells, shr_vals, shr_Tells, Stays, walk_of, says, stay_dropped, Goes-dropped, ends_at, nothing, heard, after, El, R, args, el_x, times_below, proved}
+use Rattle.arraydeque_ring.proofs.memory.Kit.{◌≡◌, refl, sym, ap, subst, List, [], ◌∷◌, ℕ, ◌+◌, ◌*◌, ◌<◌, ◌^◌, arith, length, ftrue, flft, Fn, inst_fn, named, w64, Val, vint, vptr, Env, ◌⊑◌, fact, tables, owns, types_at, ‵, raw, ◌⊛◌, at_ret, ◌$◌, ◌∵◌, !, qed, move, keep, use1, drop, split, join, fsplit, fjoin, feq_i, flt_i, suffices, done, agg, enter, of_opd, size_word, bin, load, look, stop, fld, no_more, and_then, first, blocks, exec, returns, alloc_all, pass_all, free_all, look_at, get, through, sets, sets_last, is, env, yes, plain, usize, RefOf, uint_vals, uint_Tells, shr_vals, shr_Tells, Stays, walk_of, says, stay_dropped, Goes-dropped, ends_at, nothing, heard, after, El, R, args, el_x, times_below, proved}
 use denote.Slice.{slice_val, elements_shared}
 use denote.Opens.{hide}
 use Rattle.arraydeque_ring.specs.Places.{IsFilledRun}
@@ -7,6 +7,7 @@ use Rattle.arraydeque_ring.proofs.memory.Blocks.{uncapped}
 use Rattle.arraydeque_ring.proofs.memory.Lent.{slots_seen, pointer_open, pointer_close}
 use Rattle.arraydeque_ring.proofs.memory.Owned.{item_size, run_seen}
 use Rattle.arraydeque_ring.proofs.memory.Regions.{Sr, Seen}
+use Rattle.arraydeque_ring.proofs.places.Held.{length_filled}
 use Rattle.arraydeque_ring.specs.contracts.slots.Slots.run as f
 use Rattle.arraydeque_ring.proofs.slots.Slots.run.Statement as stated
 use Rattle.arraydeque_ring.proofs.slots.Slots.run.Code as code
@@ -34,7 +35,7 @@ run_spec 𝓤 𝓛 𝓜 𝓡 wired X L =
     qed 𝓛 (((‵ (flft κ q) ⊛ ‵ (flft κ₁ q₁) ⊛ ‵ ftrue) ⊛ ‵ (owns (types_at ended.signature.params κs) a y.0.4)) ∷ (raw (fact 𝓤 (κ₁ ⊑ X.lives)) ⊛ raw (fact 𝓤 Asked)) ∷ []) ∵
     move ! (1 ∷ []) $ split ! $ drop ! $ heard ! Asked (λ asked.
     let within = asked.0 in let xs : List (el_x E) = asked.1.0 in let held = asked.1.1 in
-    let long : length xs ≡ len = omega (arith, ap length held, length-map xs Some, length-take len (drop_list i r.places), length-drop i r.places) in
+    let long = length_filled r.places i len asked in
     split ! $ split ! $ move ! (2 ∷ []) $ fsplit ! $ fsplit ! $ drop ! $
     slots_seen E ! r rb ro (λ p b o at reach.
     let all : length r.places * s < 2 ^ 63 = omega arith in
