@@ -192,31 +192,24 @@ impl<T> Ring<T> {
         let mut slots = slots;
         // That no sum passes `usize::MAX` is known of the capacity.
         let _capacity = slots.capacity();
-        for place in from..end {
+        let mut place = from;
+        let mut ended = false;
+        while place < end {
             let Some(element) = ask(elements) else {
-                let len = len + (place - from);
-                return (
-                    Ring {
-                        slots,
-                        start,
-                        len,
-                        alloc,
-                    },
-                    true,
-                );
+                ended = true;
+                break;
             };
             slots.put(place, element);
+            place += 1;
         }
-        let len = len + (end - from);
-        (
-            Ring {
-                slots,
-                start,
-                len,
-                alloc,
-            },
-            false,
-        )
+        let len = len + (place - from);
+        let ring = Ring {
+            slots,
+            start,
+            len,
+            alloc,
+        };
+        (ring, ended)
     }
 
     /// Puts what the iterator gives before the first item, into the places below `from` down to
@@ -253,32 +246,25 @@ impl<T> Ring<T> {
         let mut start = start;
         // That no sum passes `usize::MAX` is known of the capacity.
         let _capacity = slots.capacity();
-        for k in 0..from - end {
+        let mut filled = 0;
+        let mut ended = false;
+        while filled < from - end {
             let Some(element) = ask(elements) else {
-                let len = len + k;
-                return (
-                    Ring {
-                        slots,
-                        start,
-                        len,
-                        alloc,
-                    },
-                    true,
-                );
+                ended = true;
+                break;
             };
-            start = from - k - 1;
+            filled += 1;
+            start = from - filled;
             slots.put(start, element);
         }
-        let len = len + (from - end);
-        (
-            Ring {
-                slots,
-                start,
-                len,
-                alloc,
-            },
-            false,
-        )
+        let len = len + filled;
+        let ring = Ring {
+            slots,
+            start,
+            len,
+            alloc,
+        };
+        (ring, ended)
     }
 }
 
