@@ -1,11 +1,10 @@
 -- What a `&` to a `Slots` shows: its pointer, and a `&` to each value in its places. Assumes `Logic`.
-use Rattle.arraydeque_ring.proofs.memory.Kit.{◌≡◌, refl, sym, ap, ◌∙◌, List, [], ◌∷◌, ℕ, ◌+◌, ◌*◌, ◌<◌, ◌^◌, length, Option, Ura, ent, sep, never, id⊢, Lft, Share, fat, flft, fhide, ty_ptr, Val, vptr, Logic, sem, Goal, Soaks, Step, step, Seq, Item, ‵, ◌⊛◌, ◌$◌, ◌∵◌, !, qed, keep, done, move, drop, use1, split, rewrite, fsplit, fpick, feq_l, feq_i, flt_l, cell_at, part_at, hidden_shr, Ptr, RawPtr, block_ptr, ptr_val, in_a_block, looks, shuts, El, R, el_x}
+use Rattle.arraydeque_ring.proofs.memory.Kit.{◌≡◌, refl, sym, ap, ◌∙◌, List, [], ◌∷◌, ℕ, ◌+◌, ◌*◌, ◌<◌, ◌^◌, length, Option, Ura, ent, sep, never, id⊢, Lft, Share, fat, flft, fhide, ty_ptr, Val, vptr, Logic, sem, Goal, Soaks, Step, step, Seq, Item, ‵, ◌⊛◌, ◌$◌, ◌∵◌, !, qed, keep, done, move, drop, use1, split, rewrite, fsplit, fpick, feq_l, feq_i, flt_l, cell_at, part_at, hidden_shr, Ptr, RawPtr, block_ptr, ptr_val, in_a_block, looks, shuts, El, R, el_x, Struct}
 use denote.Copied.{plain_Copied}
 use denote.RawPtr.{coded_ptr, ptr_own, rawptr_pure}
 use denote.Struct.Laws.{RawPtr-laws}
 use denote.Struct.Lending.{lent_out}
 use denote.Struct.Owning.{to, shape}
-use denote.Struct.Struct.{Struct}
 use denote.Opens.{Shut, unhide}
 use Rattle.std.specs.contracts.alloc.Global as heap
 use Rattle.arraydeque_ring.specs.Ownership.{places_lent, slots_lent}

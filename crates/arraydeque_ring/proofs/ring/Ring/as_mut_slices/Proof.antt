@@ -1,15 +1,5 @@
 -- `as_mut_slices` is `lend`, and the ring follows the loan's slices. Assumes `Logic`.
-use Rattle.arraydeque_ring.proofs.memory.Kit.{◌≡◌, refl, sym, ap, ◌∙◌, List, [], ◌∷◌, ◌++◌, ◌+◌, ◌≤◌, length, emp, id⊢, fact_i, ftrue, flft, Fn, inst_fn, named, ◌⊑◌, fact, tables, ‵, raw, ◌⊛◌, some, later, ◌$◌, ◌∵◌, !, qed, move, use0, use1, use2, drop, split, join, pick, frame, rewrite, await, fsplit, fjoin, suffices, done, enter, addr, stop, no_more, and_then, returns, alloc_all, pass_all, free_all, look_at, get, through, sets, lands_as, no, plain, mem, Is, shows, peeks, Stays, walk_of, says_two, stay_dropped, ends_at, nothing, heard, calls_at, framed, triple_of, param_laws, El, R, args, el_x, proved}
-use mathlib.Core.Path.{ap₂}
-use types.Follow.{after₂}
-use types.Kit.{split3}
-use denote.Array.{Array}
-use denote.Follow.{both_by}
-use denote.Ref.{MutBor, NamedLft, mut_vals, mut_Tells}
-use denote.Signature.{mut_ref_to, named_lft}
-use denote.Triple.Clauses.{lasts, Lasts}
-use denote.Triple.Entry.{on_entry}
-use denote.Triple.Walked.{Goes-spent_ref}
+use Rattle.arraydeque_ring.proofs.memory.Kit.{◌≡◌, refl, sym, ap, ◌∙◌, List, [], ◌∷◌, ◌++◌, ◌+◌, ◌≤◌, length, emp, id⊢, fact_i, ftrue, flft, Fn, inst_fn, named, ◌⊑◌, fact, tables, ‵, raw, ◌⊛◌, some, later, ◌$◌, ◌∵◌, !, qed, move, use0, use1, use2, drop, split, join, pick, frame, rewrite, await, fsplit, fjoin, suffices, done, enter, addr, stop, no_more, and_then, returns, alloc_all, pass_all, free_all, look_at, get, through, sets, lands_as, no, plain, mem, Is, shows, peeks, Stays, walk_of, says_two, stay_dropped, ends_at, nothing, heard, calls_at, framed, triple_of, param_laws, El, R, args, el_x, proved, ap₂, after₂, split3, Array, both_by, MutBor, NamedLft, mut_vals, mut_Tells, mut_ref_to, named_lft, lasts, Lasts, on_entry, Goes-spent_ref}
 use Rattle.arraydeque_ring.specs.Loans.{LoanState, remaining, as_many}
 use Rattle.arraydeque_ring.specs.Ring.{RingState}
 use Rattle.arraydeque_ring.specs.RingLends.{rewritten, lends_loan, lends_slices}

@@ -1,7 +1,6 @@
 -- `count` lets the counts grow, and does nothing else. Assumes `Logic`.
-use Rattle.arraydeque_ring.proofs.memory.Kit.{refl, List, [], ◌∷◌, ℕ, ◌<◌, ◌^◌, ftrue, flft, Fn, inst_fn, named, w64, Val, vunit, vptr, tables, owns, types_at, ‵, raw, ◌⊛◌, ◌$◌, ◌∵◌, !, qed, move, keep, split, join, fsplit3, fjoin, fjoin3, feq_i, suffices, done, enter, of_opd, unit_lit, returns, alloc_all, pass_all, free_all, look_at, sets, yes, plain, usize, uint_vals, uint_Tells, Stays, walk_of, says, stay_dropped, stay_ref, Goes-dropped, Goes-ref, ends_at, nothing, El, args, proved}
+use Rattle.arraydeque_ring.proofs.memory.Kit.{refl, List, [], ◌∷◌, ℕ, ◌<◌, ◌^◌, ftrue, flft, Fn, inst_fn, named, w64, Val, vunit, vptr, tables, owns, types_at, ‵, raw, ◌⊛◌, ◌$◌, ◌∵◌, !, qed, move, keep, split, join, fsplit3, fjoin, fjoin3, feq_i, suffices, done, enter, of_opd, unit_lit, returns, alloc_all, pass_all, free_all, look_at, sets, yes, plain, usize, uint_vals, uint_Tells, Stays, walk_of, says, stay_dropped, stay_ref, Goes-dropped, Goes-ref, ends_at, nothing, El, args, proved, mut_vals, mut_Tells}
 use denote.Enum.Laws.{low_vals, Tells-lowered}
-use denote.Ref.{mut_vals, mut_Tells}
 use Rattle.arraydeque_ring.specs.contracts.slots.StepKind as kind
 use Rattle.arraydeque_ring.specs.declared.slots.StepKind.{StepKind}
 use Rattle.arraydeque_ring.proofs.slots.StepKind.TheLaws.{the_laws, the_row_laws}

@@ -1,8 +1,7 @@
 -- `give_back` makes the empty places one block again, and frees it. Assumes `Logic`.
-use Rattle.arraydeque_ring.proofs.memory.Kit.{◌≡◌, refl, sym, ap, subst, Bool, List, [], ◌∷◌, ◌++◌, ℕ, ◌*◌, ◌<◌, ◌^◌, arith, T, length, SProp, ent, id⊢, ftrue, froom, flft, Fn, inst_fn, w64, ty_array, ty_unit, Val, vunit, vint, vptr, has_ty, WT, align, capped, capped_fits, Env, WpFn, ◌⊑◌, fact, tables, owns, types_at, ‵, raw, ◌⊛◌, given, later, at_ret, ◌$◌, ◌∵◌, !, qed, move, keep, drop, use1, use3, split, join, learn, rewrite, fsplit, fjoin, feq_i, suffices, await, done, whole, sub, enter, of_opd, lit, unit_lit, size_word, align_word, bin, stop, fld, no_more, and_then, first, blocks, branches, skips, exec, returns, alloc_all, pass_all, free_all, look_at, get, get_in, sets, lands_last, is, env, yes, no, plain, RefOf, Stays, walk_of, stay_dropped, Goes-dropped, ends_at, heard, nothing, calls_at_last, framed, block_ptr, after, El, R, args, elτ, proved_at}
+use Rattle.arraydeque_ring.proofs.memory.Kit.{◌≡◌, refl, sym, ap, subst, Bool, List, [], ◌∷◌, ◌++◌, ℕ, ◌*◌, ◌<◌, ◌^◌, arith, T, length, SProp, ent, id⊢, ftrue, froom, flft, Fn, inst_fn, w64, ty_array, ty_unit, Val, vunit, vint, vptr, has_ty, WT, align, capped, capped_fits, Env, WpFn, ◌⊑◌, fact, tables, owns, types_at, ‵, raw, ◌⊛◌, given, later, at_ret, ◌$◌, ◌∵◌, !, qed, move, keep, drop, use1, use3, split, join, learn, rewrite, fsplit, fjoin, feq_i, suffices, await, done, whole, sub, enter, of_opd, lit, unit_lit, size_word, align_word, bin, stop, fld, no_more, and_then, first, blocks, branches, skips, exec, returns, alloc_all, pass_all, free_all, look_at, get, get_in, sets, lands_last, is, env, yes, no, plain, RefOf, Stays, walk_of, stay_dropped, Goes-dropped, ends_at, heard, nothing, calls_at_last, framed, block_ptr, after, El, R, args, elτ, proved_at, Global}
 use Rattle.std.specs.Prelude.{nat_lt}
 use Rattle.std.specs.contracts.alloc.Global as heap
-use Rattle.std.specs.declared.alloc.Global.{Global}
 use Rattle.std.proofs.Flags.{T_true}
 use Rattle.std.proofs.impls.GlobalAllocator.deallocate.Met.{met}
 use Rattle.arraydeque_ring.specs.Ownership.{owned_if, places_owned, right_to_free}
