@@ -13,21 +13,15 @@ use Rattle.arraydeque_ring.specs.contracts.slots.Slots.copy_over as f
 use Rattle.arraydeque_ring.proofs.slots.Slots.copy_over.Statement as stated
 use Rattle.arraydeque_ring.proofs.slots.Slots.copy_over.Code as code
 
-module _ (E : El) where
-  abbrev here : Fn
-  here = inst_fn (args E) code.function
-
-  abbrev stayed : Stays (f.ended E.row).signature.params (f.ended E.row).kept
-  stayed = (stay_ref (0 ∷ []) tt (plain (λ _. Sr E)), (stay_dropped (plain (λ _. usize)) yes, (stay_ref (1 ∷ []) tt (plain (λ _. Sr E)), (stay_dropped (plain (λ _. usize)) yes, (stay_dropped (plain (λ _. usize)) yes, tt)))))
-
 pub copy_over_spec : {M : Type 1} → stated.statement M
 copy_over_spec 𝓤 𝓛 𝓜 𝓡 wired X L =
-    let E : El = record { row = X; laws = L } in
-    let ended = f.ended X in let c = f.clauses X 𝓛 𝓜.mem 𝓡.returns in let W = walk_of 𝓛 ended (stayed E) c in let 𝓣 = tables 𝓤 𝓛.H 𝓜 𝓡 𝓡.env in
+    let E : El = record { row = X; laws = L } in let here : Fn = inst_fn (args E) code.function in
+    let ended = f.ended X in let stayed : Stays ended.signature.params ended.kept = (stay_ref (0 ∷ []) tt (plain (λ _. Sr E)), (stay_dropped (plain (λ _. usize)) yes, (stay_ref (1 ∷ []) tt (plain (λ _. Sr E)), (stay_dropped (plain (λ _. usize)) yes, (stay_dropped (plain (λ _. usize)) yes, tt))))) in
+    let c = f.clauses X 𝓛 𝓜.mem 𝓡.returns in let W = walk_of 𝓛 ended stayed c in let 𝓣 = tables 𝓤 𝓛.H 𝓜 𝓡 𝓡.env in
     let Copies = triple_of 𝓛 (copy.signature X) (copy.spec X 𝓛 𝓜.mem 𝓡.returns) in
     let word = Goes-dropped 𝓛 3 (plain (λ _. usize)) yes (λ κs x w. refl) in
-    proved 𝓛 ended (stayed E) c 𝓜 𝓡 (Goes-ref 𝓛 3 0 tt (plain (λ _. Sr E)), (word, (Goes-ref 𝓛 3 1 tt (plain (λ _. Sr E)), (word, (word, tt)))))
-    (f.Key.name (args E)) (here E) (code.unfolded 𝓤 𝓛.H 𝓜 𝓡 wired (X, tt))
+    proved 𝓛 ended stayed c 𝓜 𝓡 (Goes-ref 𝓛 3 0 tt (plain (λ _. Sr E)), (word, (Goes-ref 𝓛 3 1 tt (plain (λ _. Sr E)), (word, (word, tt)))))
+    (f.Key.name (args E)) here (code.unfolded 𝓤 𝓛.H 𝓜 𝓡 wired (X, tt))
     (λ κs. (mut_vals, (uint_vals w64, (mut_vals, (uint_vals w64, (uint_vals w64, tt))))))
     (λ κs. (mut_Tells (named 0) κs.0 (Sr E), (uint_Tells w64, (mut_Tells (named 1) κs.1.0 (Sr E), (uint_Tells w64, (uint_Tells w64, tt)))))) (λ κs qs bounds a _ are.
     let κ₀ = κs.0 in let κ₁ = κs.1.0 in let κ₂ = κs.1.1.0 in let q₀ = qs.0 in let q₁ = qs.1.0 in let q₂ = qs.1.1.0 in
@@ -49,9 +43,9 @@ copy_over_spec 𝓤 𝓛 𝓜 𝓡 wired X L =
     let us_long : length ts ≡ length us = grind (arith, common_steps) in
     let new : Seen E = record { places = es; steps = r.steps } in let new' : Seen E = record { places = us; steps = r'.steps } in
     split ! $ split3 ! $ move ! (3 ∷ []) $ fsplit3 ! $ move ! (2 ∷ []) $ fsplit ! $ fsplit3 ! $ move ! (4 ∷ []) $ fsplit3 ! $ keep ! (1 ∷ 2 ∷ 8 ∷ 4 ∷ 5 ∷ 9 ∷ 10 ∷ []) $
-    enter ! 𝓣.C 𝓣.Λ (here E) (vptr rb ro ∷ vint w64 from ∷ vptr sb so ∷ vint w64 to ∷ vint w64 n ∷ []) _ $
+    enter ! 𝓣.C 𝓣.Λ here (vptr rb ro ∷ vint w64 from ∷ vptr sb so ∷ vint w64 to ∷ vint w64 n ∷ []) _ $
     alloc_all ! (λ l. pass_all ! refl ((tt, tt), ((tt, record { fits = from_fits }), ((tt, tt), ((tt, record { fits = to_fits }), ((tt, record { fits = n_fits }), tt))))) $
-    let En : Env 𝓤 𝓛.H = env (here E).locals l in
+    let En : Env 𝓤 𝓛.H = env here.locals l in
     slots_open E ! tt r rb ro (λ g b o m ok. move ! (6 ∷ 7 ∷ 8 ∷ []) $ slots_open E ! tt r' sb so (λ g' b' o' m' ok'.
     let from_near = near E ok from (omega arith) in let to_near = near E ok' to (omega arith) in
     let src : ℕ = from * s + o in let dst : ℕ = to * s + o' in
@@ -77,7 +71,7 @@ copy_over_spec 𝓤 𝓛 𝓜 𝓡 wired X L =
     calls_at_last ! (framed 𝓤 𝓛.H 𝓜 𝓣) Copies (copy_thm.met 𝓤 𝓛 𝓜 𝓡 (code.calls-std::ptr::copy_nonoverlapping 𝓡.env wired) X L) z (and_then ! (get ! refl) (and_then ! (get ! refl) (and_then ! (get ! refl) (no_more !)))) (λ v.
     use1 𝓛 (later (some (λ (u : Unit {0}). ((‵ (flft κ₂ q₂) ⊛ ‵ ftrue) ⊛ ‵ (unit.own_val u (v ∷ []))) ⊛ some (λ (ws : Unit {0} × (Unit {0} × (Unit {0} × Unit {0}))). ‵ (fsep ftrue (fsep ftrue (fsep ftrue ftrue))) ⊛ ‵ (fsep (part_at (Array (R E) n) full_share xs b' dst) (froom (ty_array (elτ E) n) b src)))))) (id⊢ 𝓤 _) $
     await ! tt $ pick ! (λ u. split ! $ split ! $ move ! (1 ∷ []) $ feq_l ! (λ e. move ! (1 ∷ []) $ pick ! (λ ws. split ! $ drop ! $ fsplit ! $
-    lands_last ! refl (subst (λ (w : Val). T (has_ty ty_unit w) × WT w) (sym (ap only e)) (tt, tt)) $ exec ! 𝓣.C 𝓣.Λ En (after 1 (here E).body) (at_ret En (W.post y)) $ sets ! (of_opd ! (unit_lit !)) refl (tt, tt) $
+    lands_last ! refl (subst (λ (w : Val). T (has_ty ty_unit w) × WT w) (sym (ap only e)) (tt, tt)) $ exec ! 𝓣.C 𝓣.Λ En (after 1 here.body) (at_ret En (W.post y)) $ sets ! (of_opd ! (unit_lit !)) refl (tt, tt) $
     -- [the values; the room; the token; the others here; the others there; ..]
     use1 𝓛 (‵ (Row E 𝓛 b' dst (map Some xs))) (of_array E 𝓛 b' n xs dst) $ rewrite ! 0 (λ (l : List (Place E)). ‵ (Row E 𝓛 b' dst l)) (sym held) refl $ move ! (0 ∷ 4 ∷ []) $
     use2 𝓛 (‵ (Row E 𝓛 b' o' us)) (run_in E 𝓛 b' o' ts to n target run run_long) $
@@ -86,7 +80,7 @@ copy_over_spec 𝓤 𝓛 𝓜 𝓡 wired X L =
     use2 𝓛 (‵ (Row E 𝓛 b o es)) (run_in E 𝓛 b o ps from n within nones (length-replicate n None)) $
     move ! (0 ∷ 5 ∷ 6 ∷ 7 ∷ 8 ∷ 9 ∷ []) $ slots_close E ! tt g r new b o m rb ro ok es_long $
     returns ! (look_at ! 0 refl) $ free_all ! refl $
-    suffices ! _ (ends_at 𝓛 ended (stayed E) c y vunit tt (new, (tt, (new', (tt, (tt, tt))))) (tt, (tt, (tt, (tt, (tt, tt)))))) $ says_two ! (refl, refl) $
+    suffices ! _ (ends_at 𝓛 ended stayed c y vunit tt (new, (tt, (new', (tt, (tt, tt))))) (tt, (tt, (tt, (tt, (tt, tt)))))) $ says_two ! (refl, refl) $
     feq_i ! (List Val) (vptr rb ro ∷ []) (vptr rb ro ∷ []) refl $ fjoin3 ! $ move ! (2 ∷ 3 ∷ []) $ feq_i ! (List Val) (vptr sb so ∷ []) (vptr sb so ∷ []) refl $ fjoin3 ! $
     nothing ! $ nothing ! $ nothing ! $ fjoin3 ! $ move ! (1 ∷ 0 ∷ []) $ fjoin ! $ nothing ! $ move ! (2 ∷ 0 ∷ 1 ∷ []) $ fjoin3 ! $
     move ! (2 ∷ 3 ∷ []) $ join ! $ move ! (2 ∷ 0 ∷ []) $ join ! $ feq_i ! (List Val) (vunit ∷ []) (vunit ∷ []) refl $ move ! (2 ∷ 0 ∷ []) $ join ! $ move ! (1 ∷ 0 ∷ []) $ join ! $

@@ -12,12 +12,6 @@ use Rattle.arraydeque_ring.proofs.slots.Slots.lend.Statement as stated
 use Rattle.arraydeque_ring.proofs.slots.Slots.lend.Code as code
 
 module _ (E : El) where
-  abbrev here : Fn
-  here = inst_fn (args E) code.function
-
-  abbrev stayed : Stays (f.ended E.row).signature.params (f.ended E.row).kept
-  stayed = (stay_dropped (mut_ref_to (0 ∷ []) tt (plain (λ _. Sr E))) no, (stay_dropped (plain (λ _. usize)) yes, tt))
-
   -- the region with w in the place
   abbrev Written : Seen E → ℕ → el_x E → Seen E
   Written r i w = record r { places = set r.places i (Some w) }
@@ -34,10 +28,11 @@ module _ (E : El) {M : Type 1} {𝓤 : Ura M} (𝓛 : Logic 𝓤) (rb ro : ℕ) 
 
 pub lend_spec : {M : Type 1} → stated.statement M
 lend_spec 𝓤 𝓛 𝓜 𝓡 wired X L =
-    let E : El = record { row = X; laws = L } in
-    let ended = f.ended X in let c = f.clauses X 𝓛 𝓜.mem 𝓡.returns in let W = walk_of 𝓛 ended (stayed E) c in let 𝓣 = tables 𝓤 𝓛.H 𝓜 𝓡 𝓡.env in
-    proved 𝓛 ended (stayed E) c 𝓜 𝓡 (Goes-spent_ref 𝓛 2 (0 ∷ []) tt (plain (λ _. Sr E)), (Goes-dropped 𝓛 2 (plain (λ _. usize)) yes (λ κs x w. refl), tt))
-    (f.Key.name (args E)) (here E) (code.unfolded 𝓤 𝓛.H 𝓜 𝓡 wired (X, tt))
+    let E : El = record { row = X; laws = L } in let here : Fn = inst_fn (args E) code.function in
+    let ended = f.ended X in let stayed : Stays ended.signature.params ended.kept = (stay_dropped (mut_ref_to (0 ∷ []) tt (plain (λ _. Sr E))) no, (stay_dropped (plain (λ _. usize)) yes, tt)) in
+    let c = f.clauses X 𝓛 𝓜.mem 𝓡.returns in let W = walk_of 𝓛 ended stayed c in let 𝓣 = tables 𝓤 𝓛.H 𝓜 𝓡 𝓡.env in
+    proved 𝓛 ended stayed c 𝓜 𝓡 (Goes-spent_ref 𝓛 2 (0 ∷ []) tt (plain (λ _. Sr E)), (Goes-dropped 𝓛 2 (plain (λ _. usize)) yes (λ κs x w. refl), tt))
+    (f.Key.name (args E)) here (code.unfolded 𝓤 𝓛.H 𝓜 𝓡 wired (X, tt))
     (λ κs. (mut_vals, (uint_vals w64, tt))) (λ κs. (mut_Tells (named 0) κs.0 (Sr E), (uint_Tells w64, tt))) (λ κs qs bounds a _ are.
     let κ = κs.0 in let κ₁ = κs.1.0 in let q = qs.0 in let q₁ = qs.1.0 in
     let rb : ℕ = a.0.ref_ptr.0 in let ro : ℕ = a.0.ref_ptr.1 in let γ = a.0.ghost_name in let r : Seen E = a.0.now in let i : ℕ = a.1.0 in let i_fits : i < 2 ^ 64 = are.1.0.1 in
@@ -47,8 +42,8 @@ lend_spec 𝓤 𝓛 𝓜 𝓡 wired X L =
     move ! (1 ∷ []) $ split ! $ drop ! $ heard ! Asked (λ asked.
     let x : el_x E = asked.0 in let within : i < length r.places = filled_within r.places i x asked.1 in
     split ! $ split ! $ move ! (2 ∷ []) $ fsplit3 ! $ fsplit3 ! $ keep ! (1 ∷ 2 ∷ 5 ∷ 6 ∷ []) $
-    enter ! 𝓣.C 𝓣.Λ (here E) (vptr rb ro ∷ vint w64 i ∷ []) _ $ alloc_all ! (λ l. pass_all ! refl ((tt, tt), ((tt, record { fits = i_fits }), tt)) $
-    let En : Env 𝓤 𝓛.H = env (here E).locals l in
+    enter ! 𝓣.C 𝓣.Λ here (vptr rb ro ∷ vint w64 i ∷ []) _ $ alloc_all ! (λ l. pass_all ! refl ((tt, tt), ((tt, record { fits = i_fits }), tt)) $
+    let En : Env 𝓤 𝓛.H = env here.locals l in
     slots_open E ! tt r rb ro (λ g b o n ok.
     let far = near E ok i (omega arith) in let small : s < 2 ^ 64 = omega (arith, one_below (length r.places) s (2 ^ 63) (omega arith) (run_fits E ok (length r.places) (omega arith)).1) in
     first ! $ blocks ! $
@@ -56,7 +51,7 @@ lend_spec 𝓤 𝓛 𝓜 𝓡 wired X L =
     sets ! (bin ! (get ! refl) (size_lit ! (record { fits = small })) (record { fits = far })) refl (tt, record { fits = far }) $
     sets ! (bin ! (get ! refl) (get ! refl) tt) refl (tt, tt) $
     sets_last ! (addr ! (through ! refl (stop !))) refl (tt, tt) $
-    exec ! 𝓣.C 𝓣.Λ En (after 1 (here E).body) (at_ret En (W.post y)) $ sets ! (of_opd ! (get ! refl)) refl (tt, tt) $
+    exec ! 𝓣.C 𝓣.Λ En (after 1 here.body) (at_ret En (W.post y)) $ sets ! (of_opd ! (get ! refl)) refl (tt, tt) $
     let at = i * s + o in let way = back E 𝓛 rb ro r i g b o n ok within in let new = Written E r i in let Rest₀ = sem 𝓛 (Rest E 𝓛 rb ro r i g b o n) in
     use1 𝓛 (‵ (place_owned (R E) b at (get_or r.places i None)) ⊛ ‵ (Others E 𝓛 b o r.places i)) (place_out E 𝓛 b o r.places i within) $ split ! $
     rewrite ! 0 (λ (p : Place E). ‵ (place_owned (R E) b at p)) asked.1 refl $
@@ -66,5 +61,5 @@ lend_spec 𝓤 𝓛 𝓜 𝓡 wired X L =
     let lent : MutBor (el_x E) = record { ref_ptr = (b, at); ghost_name = δ; now = x } in
     returns ! (look_at ! 0 refl) $ free_all ! refl $
     use1 𝓛 (‵ ((MutRef (named 0) κ (R E)).own_val lent (vptr b at ∷ [])) ⊛ ‵ (flft κ q) ⊛ ‵ (follows (Sr E) (R E) γ δ new)) (id⊢ 𝓤 _) $ split3 ! $
-    suffices ! _ (ends_at 𝓛 ended (stayed E) c y (vptr b at) lent (tt, (tt, tt)) (tt, (tt, tt))) $
+    suffices ! _ (ends_at 𝓛 ended stayed c y (vptr b at) lent (tt, (tt, tt)) (tt, (tt, tt))) $
     move ! (1 ∷ 3 ∷ []) $ join ! $ move ! (1 ∷ []) $ nothing ! $ nothing ! $ fjoin ! $ nothing ! $ fjoin ! $ join ! $ move ! (1 ∷ 0 ∷ []) $ join ! $ frame ! $ says ! asked.1 $ done !)))))

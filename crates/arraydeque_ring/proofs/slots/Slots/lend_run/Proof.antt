@@ -16,12 +16,6 @@ use Rattle.arraydeque_ring.proofs.slots.Slots.lend_run.Statement as stated
 use Rattle.arraydeque_ring.proofs.slots.Slots.lend_run.Code as code
 
 module _ (E : El) where
-  abbrev here : Fn
-  here = inst_fn (args E) code.function
-
-  abbrev stayed : Stays (f.ended E.row).signature.params (f.ended E.row).kept
-  stayed = (stay_dropped (mut_ref_to (0 ∷ []) tt (plain (λ _. Sr E))) no, (stay_dropped (plain (λ _. usize)) yes, (stay_dropped (plain (λ _. usize)) yes, tt)))
-
   -- the region with ws in the stead of the values xs of the run
   abbrev Written : Seen E → ℕ → List (el_x E) → List (el_x E) → Seen E
   Written r from xs ws = record r { places = with_run from (as_many xs ws) r.places }
@@ -45,11 +39,12 @@ module _ (E : El) {M : Type 1} {𝓤 : Ura M} (𝓛 : Logic 𝓤) (rb ro : ℕ) 
 
 pub lend_run_spec : {M : Type 1} → stated.statement M
 lend_run_spec 𝓤 𝓛 𝓜 𝓡 wired X L =
-    let E : El = record { row = X; laws = L } in
-    let ended = f.ended X in let c = f.clauses X 𝓛 𝓜.mem 𝓡.returns in let W = walk_of 𝓛 ended (stayed E) c in let 𝓣 = tables 𝓤 𝓛.H 𝓜 𝓡 𝓡.env in
+    let E : El = record { row = X; laws = L } in let here : Fn = inst_fn (args E) code.function in
+    let ended = f.ended X in let stayed : Stays ended.signature.params ended.kept = (stay_dropped (mut_ref_to (0 ∷ []) tt (plain (λ _. Sr E))) no, (stay_dropped (plain (λ _. usize)) yes, (stay_dropped (plain (λ _. usize)) yes, tt))) in
+    let c = f.clauses X 𝓛 𝓜.mem 𝓡.returns in let W = walk_of 𝓛 ended stayed c in let 𝓣 = tables 𝓤 𝓛.H 𝓜 𝓡 𝓡.env in
     let word = Goes-dropped 𝓛 2 (plain (λ _. usize)) yes (λ κs x w. refl) in
-    proved 𝓛 ended (stayed E) c 𝓜 𝓡 (Goes-spent_ref 𝓛 2 (0 ∷ []) tt (plain (λ _. Sr E)), (word, (word, tt)))
-    (f.Key.name (args E)) (here E) (code.unfolded 𝓤 𝓛.H 𝓜 𝓡 wired (X, tt))
+    proved 𝓛 ended stayed c 𝓜 𝓡 (Goes-spent_ref 𝓛 2 (0 ∷ []) tt (plain (λ _. Sr E)), (word, (word, tt)))
+    (f.Key.name (args E)) here (code.unfolded 𝓤 𝓛.H 𝓜 𝓡 wired (X, tt))
     (λ κs. (mut_vals, (uint_vals w64, (uint_vals w64, tt)))) (λ κs. (mut_Tells (named 0) κs.0 (Sr E), (uint_Tells w64, (uint_Tells w64, tt)))) (λ κs qs bounds a _ are.
     let κ = κs.0 in let κ₁ = κs.1.0 in let q = qs.0 in let q₁ = qs.1.0 in
     let rb : ℕ = a.0.ref_ptr.0 in let ro : ℕ = a.0.ref_ptr.1 in let γ = a.0.ghost_name in let r : Seen E = a.0.now in let from : ℕ = a.1.0 in let len : ℕ = a.1.1.0 in
@@ -62,8 +57,8 @@ lend_run_spec 𝓤 𝓛 𝓜 𝓡 wired X L =
     let long = length_filled r.places from len asked in
     let within : from + length xs ≤ length r.places = omega (arith, asked.0) in
     split ! $ split ! $ move ! (2 ∷ []) $ fsplit3 ! $ fsplit3 ! $ keep ! (1 ∷ 2 ∷ 5 ∷ 6 ∷ []) $
-    enter ! 𝓣.C 𝓣.Λ (here E) (vptr rb ro ∷ vint w64 from ∷ vint w64 len ∷ []) _ $ alloc_all ! (λ l. pass_all ! refl ((tt, tt), ((tt, record { fits = ff }), ((tt, record { fits = fl }), tt))) $
-    let En : Env 𝓤 𝓛.H = env (here E).locals l in
+    enter ! 𝓣.C 𝓣.Λ here (vptr rb ro ∷ vint w64 from ∷ vint w64 len ∷ []) _ $ alloc_all ! (λ l. pass_all ! refl ((tt, tt), ((tt, record { fits = ff }), ((tt, record { fits = fl }), tt))) $
+    let En : Env 𝓤 𝓛.H = env here.locals l in
     slots_open E ! tt r rb ro (λ g b o n ok.
     let far = near E ok from (omega arith) in
     first ! $ blocks ! $
@@ -76,7 +71,7 @@ lend_run_spec 𝓤 𝓛 𝓜 𝓡 wired X L =
     use1 𝓛 (‵ (places_owned (R E) b at (run E 𝓛 b o r.places from (length xs))) ⊛ ‵ (Around E 𝓛 b o r.places from (length xs))) (run_out E 𝓛 b o r.places from (length xs) within) $ split ! $
     rewrite ! 0 (λ (ps : List (Place E)). ‵ (places_owned (R E) b at ps)) (ap (λ k. take k (drop_list from r.places)) long ∙ held) refl $ use1 𝓛 (‵ (cells (mem (R E)) xs b at)) (to_cells E 𝓛 b xs at) $
     sets_last ! (agg ! (and_then ! (get ! refl) (and_then ! (get ! refl) (no_more !)))) refl (tt, (tt, (record { fits = fl }, tt))) $
-    exec ! 𝓣.C 𝓣.Λ En (after 1 (here E).body) (at_ret En (W.post y)) $ sets ! (of_opd ! (get ! refl)) refl (tt, (tt, (record { fits = fl }, tt))) $
+    exec ! 𝓣.C 𝓣.Λ En (after 1 here.body) (at_ret En (W.post y)) $ sets ! (of_opd ! (get ! refl)) refl (tt, (tt, (record { fits = fl }, tt))) $
     -- [the values; the others; the right; the words; the open borrow, in three; the other token]
     move ! (2 ∷ 3 ∷ []) $ fjoin ! $ move ! (2 ∷ 0 ∷ []) $ fjoin ! $ move ! (2 ∷ 3 ∷ 4 ∷ 1 ∷ 0 ∷ []) $ group ! 5 $
     use1 𝓛 (later (some (λ (δ : GName). raw (Elements 𝓛 (Sr E) (R E) new (named 0) κ q rb ro b at γ xs room Rest₀ way δ))))
@@ -85,5 +80,5 @@ lend_run_spec 𝓤 𝓛 𝓜 𝓡 wired X L =
     returns ! (look_at ! 0 refl) $ free_all ! refl $
     use1 𝓛 (‵ ((MutSlice (named 0) κ (R E)).own_val lent (slice_val (b, at) (length xs) ∷ [])) ⊛ ‵ (flft κ q) ⊛ ‵ (follows (Sr E) (Array (R E) 0) γ δ new)) (id⊢ 𝓤 _) $ split3 ! $
     rewrite ! 0 (λ (k : ℕ). ‵ ((MutSlice (named 0) κ (R E)).own_val lent (slice_val (b, at) k ∷ []))) long refl $
-    suffices ! _ (ends_at 𝓛 ended (stayed E) c y (slice_val (b, at) len) lent (tt, (tt, (tt, tt))) (tt, (tt, (tt, tt)))) $
+    suffices ! _ (ends_at 𝓛 ended stayed c y (slice_val (b, at) len) lent (tt, (tt, (tt, tt))) (tt, (tt, (tt, tt)))) $
     move ! (1 ∷ 3 ∷ []) $ join ! $ move ! (1 ∷ []) $ nothing ! $ nothing ! $ fjoin ! $ nothing ! $ fjoin ! $ nothing ! $ fjoin ! $ join ! $ move ! (1 ∷ 0 ∷ []) $ join ! $ frame ! $ says ! held $ done !)))))

@@ -21,12 +21,6 @@ use Rattle.arraydeque_ring.proofs.slots.Slots.lend_two.Statement as stated
 use Rattle.arraydeque_ring.proofs.slots.Slots.lend_two.Code as code
 
 module _ (E : El) where
-  abbrev here : Fn
-  here = inst_fn (args E) code.function
-
-  abbrev stayed : Stays (f.ended E.row).signature.params (f.ended E.row).kept
-  stayed = (stay_dropped (mut_ref_to (0 ∷ []) tt (plain (λ _. Sr E))) no, (stay_dropped (plain (λ _. usize)) yes, (stay_dropped (plain (λ _. usize)) yes, (stay_dropped (plain (λ _. usize)) yes, (stay_dropped (plain (λ _. usize)) yes, tt)))))
-
   abbrev Lin : ℕ → SemTy
   Lin n = Arr (mem (R E)) n
 
@@ -71,11 +65,12 @@ module _ (E : El) {M : Type 1} {𝓤 : Ura M} (𝓛 : Logic 𝓤) (rb ro : ℕ) 
 pub lend_two_spec : {M : Type 1} → stated.statement M
 unfolding both_by
 lend_two_spec 𝓤 𝓛 𝓜 𝓡 wired X L =
-    let E : El = record { row = X; laws = L } in
-    let ended = f.ended X in let c = f.clauses X 𝓛 𝓜.mem 𝓡.returns in let W = walk_of 𝓛 ended (stayed E) c in let 𝓣 = tables 𝓤 𝓛.H 𝓜 𝓡 𝓡.env in
+    let E : El = record { row = X; laws = L } in let here : Fn = inst_fn (args E) code.function in
+    let ended = f.ended X in let stayed : Stays ended.signature.params ended.kept = (stay_dropped (mut_ref_to (0 ∷ []) tt (plain (λ _. Sr E))) no, (stay_dropped (plain (λ _. usize)) yes, (stay_dropped (plain (λ _. usize)) yes, (stay_dropped (plain (λ _. usize)) yes, (stay_dropped (plain (λ _. usize)) yes, tt))))) in
+    let c = f.clauses X 𝓛 𝓜.mem 𝓡.returns in let W = walk_of 𝓛 ended stayed c in let 𝓣 = tables 𝓤 𝓛.H 𝓜 𝓡 𝓡.env in
     let word = Goes-dropped 𝓛 2 (plain (λ _. usize)) yes (λ κs x w. refl) in
-    proved 𝓛 ended (stayed E) c 𝓜 𝓡 (Goes-spent_ref 𝓛 2 (0 ∷ []) tt (plain (λ _. Sr E)), (word, (word, (word, (word, tt)))))
-    (f.Key.name (args E)) (here E) (code.unfolded 𝓤 𝓛.H 𝓜 𝓡 wired (X, tt))
+    proved 𝓛 ended stayed c 𝓜 𝓡 (Goes-spent_ref 𝓛 2 (0 ∷ []) tt (plain (λ _. Sr E)), (word, (word, (word, (word, tt)))))
+    (f.Key.name (args E)) here (code.unfolded 𝓤 𝓛.H 𝓜 𝓡 wired (X, tt))
     (λ κs. (mut_vals, (uint_vals w64, (uint_vals w64, (uint_vals w64, (uint_vals w64, tt)))))) (λ κs. (mut_Tells (named 0) κs.0 (Sr E), (uint_Tells w64, (uint_Tells w64, (uint_Tells w64, (uint_Tells w64, tt)))))) (λ κs qs bounds arg _ are.
     let κ = κs.0 in let κ₁ = κs.1.0 in let q = qs.0 in let q₁ = qs.1.0 in
     let rb : ℕ = arg.0.ref_ptr.0 in let ro : ℕ = arg.0.ref_ptr.1 in let γ = arg.0.ghost_name in let r : Seen E = arg.0.now in
@@ -91,8 +86,8 @@ lend_two_spec 𝓤 𝓛 𝓜 𝓡 wired X L =
     let in_a : a + length xs ≤ length r.places = omega (arith, one.0) in let in_b : b + length ys ≤ length r.places = omega (arith, two.0) in
     let clear : AreApart a (length xs) b (length ys) = λ k. subst (λ m. a ≤ k → k < a + m → b ≤ k → k < b + length ys → ⊥) (sym long) (subst (λ m. a ≤ k → k < a + la → b ≤ k → k < b + m → ⊥) (sym long') (apart k)) in
     split ! $ split ! $ move ! (2 ∷ []) $ fsplit3 ! $ fsplit3 ! $ keep ! (1 ∷ 2 ∷ 5 ∷ 6 ∷ []) $
-    enter ! 𝓣.C 𝓣.Λ (here E) (vptr rb ro ∷ vint w64 a ∷ vint w64 la ∷ vint w64 b ∷ vint w64 lb ∷ []) _ $ alloc_all ! (λ l. pass_all ! refl ((tt, tt), ((tt, record { fits = fa }), ((tt, record { fits = fla }), ((tt, record { fits = fb }), ((tt, record { fits = flb }), tt))))) $
-    let En : Env 𝓤 𝓛.H = env (here E).locals l in
+    enter ! 𝓣.C 𝓣.Λ here (vptr rb ro ∷ vint w64 a ∷ vint w64 la ∷ vint w64 b ∷ vint w64 lb ∷ []) _ $ alloc_all ! (λ l. pass_all ! refl ((tt, tt), ((tt, record { fits = fa }), ((tt, record { fits = fla }), ((tt, record { fits = fb }), ((tt, record { fits = flb }), tt))))) $
+    let En : Env 𝓤 𝓛.H = env here.locals l in
     slots_open E ! tt r rb ro (λ g p o n ok.
     let far = near E ok a (omega arith) in let far' = near E ok b (omega arith) in
     first ! $ blocks ! $
@@ -104,7 +99,7 @@ lend_two_spec 𝓤 𝓛 𝓜 𝓡 wired X L =
     sets ! (agg ! (and_then ! (get ! refl) (and_then ! (get ! refl) (no_more !)))) refl (tt, (tt, (record { fits = flb }, tt))) $
     sets ! (agg ! (no_more !)) refl (tt, tt) $ sets ! (agg ! (and_then ! (get ! refl) (no_more !))) refl (tt, (tt, tt)) $
     sets_last ! (agg ! (and_then ! (get ! refl) (and_then ! (get ! refl) (and_then ! (get ! refl) (no_more !))))) refl (tt, ((tt, (record { fits = fla }, tt)), ((tt, (record { fits = flb }, tt)), ((tt, tt), tt)))) $
-    exec ! 𝓣.C 𝓣.Λ En (after 1 (here E).body) (at_ret En (W.post y)) $ sets ! (of_opd ! (get ! refl)) refl (tt, ((tt, (record { fits = fla }, tt)), ((tt, (record { fits = flb }, tt)), ((tt, tt), tt)))) $
+    exec ! 𝓣.C 𝓣.Λ En (after 1 here.body) (at_ret En (W.post y)) $ sets ! (of_opd ! (get ! refl)) refl (tt, ((tt, (record { fits = fla }, tt)), ((tt, (record { fits = flb }, tt)), ((tt, tt), tt)))) $
     let pa = a * s + o in let pb = b * s + o in let Rest₀ = Rest E 𝓛 rb ro r a b xs ys g p o n in let way = back E 𝓛 rb ro r a b xs ys g p o n ok held held' in
     use1 𝓛 (‵ (places_owned (R E) p pa (run E 𝓛 p o r.places a (length xs))) ⊛ ‵ (places_owned (R E) p pb (run E 𝓛 p o r.places b (length ys))) ⊛ raw (all 𝓤 (Way E 𝓛 rb ro r a b xs ys g p o n)))
     (two_out E 𝓛 p o r.places a (length xs) b (length ys) in_a in_b clear) $ split3 ! $
@@ -127,5 +122,5 @@ lend_two_spec 𝓤 𝓛 𝓜 𝓡 wired X L =
     use2 𝓛 (‵ ((loan.the_row α (R E)).own_val seen (v ∷ []))) (loan_made α (R E) 𝓛 seen (slice_val (p, pa) la) (slice_val (p, pb) lb) bounded) $ move ! (1 ∷ []) $ split3 ! $
     returns ! (look_at ! 0 refl) $ free_all ! refl $
     -- [the token; what the region follows; what its name follows; the iterator; the other token]
-    suffices ! _ (ends_at 𝓛 ended (stayed E) c y v seen (tt, (tt, (tt, (tt, (tt, tt))))) (tt, (tt, (tt, (tt, (tt, tt)))))) $
+    suffices ! _ (ends_at 𝓛 ended stayed c y v seen (tt, (tt, (tt, (tt, (tt, tt))))) (tt, (tt, (tt, (tt, (tt, tt)))))) $
     move ! (1 ∷ 2 ∷ []) $ fjoin ! $ move ! (1 ∷ 3 ∷ []) $ join ! $ move ! (2 ∷ []) $ nothing ! $ nothing ! $ fjoin ! $ nothing ! $ fjoin ! $ nothing ! $ fjoin ! $ nothing ! $ fjoin ! $ nothing ! $ fjoin ! $ join ! $ move ! (1 ∷ 0 ∷ []) $ join ! $ frame ! $ says_two ! (one.1.1, two.1.1) $ done !)))))))

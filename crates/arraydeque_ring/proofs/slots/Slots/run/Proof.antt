@@ -11,20 +11,14 @@ use Rattle.arraydeque_ring.specs.contracts.slots.Slots.run as f
 use Rattle.arraydeque_ring.proofs.slots.Slots.run.Statement as stated
 use Rattle.arraydeque_ring.proofs.slots.Slots.run.Code as code
 
-module _ (E : El) where
-  abbrev here : Fn
-  here = inst_fn (args E) code.function
-
-  abbrev stayed : Stays (f.ended E.row).signature.params (f.ended E.row).kept
-  stayed = (stay_dropped (RefOf (0 ∷ []) tt (plain (λ _. Sr E)) (λ _. tt)) yes, (stay_dropped (plain (λ _. usize)) yes, (stay_dropped (plain (λ _. usize)) yes, tt)))
-
 pub run_spec : {M : Type 1} → stated.statement M
 run_spec 𝓤 𝓛 𝓜 𝓡 wired X L =
-    let E : El = record { row = X; laws = L } in
-    let ended = f.ended X in let c = f.clauses X 𝓛 𝓜.mem 𝓡.returns in let W = walk_of 𝓛 ended (stayed E) c in let 𝓣 = tables 𝓤 𝓛.H 𝓜 𝓡 𝓡.env in
+    let E : El = record { row = X; laws = L } in let here : Fn = inst_fn (args E) code.function in
+    let ended = f.ended X in let stayed : Stays ended.signature.params ended.kept = (stay_dropped (RefOf (0 ∷ []) tt (plain (λ _. Sr E)) (λ _. tt)) yes, (stay_dropped (plain (λ _. usize)) yes, (stay_dropped (plain (λ _. usize)) yes, tt))) in
+    let c = f.clauses X 𝓛 𝓜.mem 𝓡.returns in let W = walk_of 𝓛 ended stayed c in let 𝓣 = tables 𝓤 𝓛.H 𝓜 𝓡 𝓡.env in
     let word_goes = Goes-dropped 𝓛 2 (plain (λ _. usize)) yes (λ κs x w. refl) in
-    proved 𝓛 ended (stayed E) c 𝓜 𝓡 (Goes-dropped 𝓛 2 (RefOf (0 ∷ []) tt (plain (λ _. Sr E)) (λ _. tt)) yes (λ κs x w. refl), (word_goes, (word_goes, tt)))
-    (f.Key.name (args E)) (here E) (code.unfolded 𝓤 𝓛.H 𝓜 𝓡 wired (X, tt))
+    proved 𝓛 ended stayed c 𝓜 𝓡 (Goes-dropped 𝓛 2 (RefOf (0 ∷ []) tt (plain (λ _. Sr E)) (λ _. tt)) yes (λ κs x w. refl), (word_goes, (word_goes, tt)))
+    (f.Key.name (args E)) here (code.unfolded 𝓤 𝓛.H 𝓜 𝓡 wired (X, tt))
     (λ κs. (shr_vals, (uint_vals w64, (uint_vals w64, tt)))) (λ κs. (shr_Tells (named 0) κs.0 (Sr E), (uint_Tells w64, (uint_Tells w64, tt)))) (λ κs qs bounds a _ are.
     let κ = κs.0 in let κ₁ = κs.1.0 in let q = qs.0 in let q₁ = qs.1.0 in
     let rb : ℕ = a.0.ref_ptr.0 in let ro : ℕ = a.0.ref_ptr.1 in let r : Seen E = a.0.now in let i : ℕ = a.1.0 in let len : ℕ = a.1.1.0 in
@@ -42,8 +36,8 @@ run_spec 𝓤 𝓛 𝓜 𝓡 wired X L =
     use1 𝓛 (‵ (elements_shared (R E) xs b (i * s + o) κ)) (run_seen E 𝓛 b κ o r.places i len xs (omega arith) held) $ hide ! $
     -- [the values; the pointer; its token; the other tokens]
     keep ! (1 ∷ 3 ∷ 4 ∷ 0 ∷ []) $
-    enter ! 𝓣.C 𝓣.Λ (here E) (vptr rb ro ∷ vint w64 i ∷ vint w64 len ∷ []) _ $ alloc_all ! (λ l. pass_all ! refl ((tt, tt), ((tt, record { fits = i_fits }), ((tt, record { fits = len_fits }), tt))) $
-    let En : Env 𝓤 𝓛.H = env (here E).locals l in
+    enter ! 𝓣.C 𝓣.Λ here (vptr rb ro ∷ vint w64 i ∷ vint w64 len ∷ []) _ $ alloc_all ! (λ l. pass_all ! refl ((tt, tt), ((tt, record { fits = i_fits }), ((tt, record { fits = len_fits }), tt))) $
+    let En : Env 𝓤 𝓛.H = env here.locals l in
     first ! $ blocks ! $ pointer_open ! tt p b o at rb (ro + 0) (λ q'.
     sets ! (of_opd ! (load ! (through ! refl (fld ! refl (stop !))) (look ! 0 refl))) refl (tt, tt) $
     pointer_close ! tt p b o at rb (ro + 0) $
@@ -51,9 +45,9 @@ run_spec 𝓤 𝓛 𝓜 𝓡 wired X L =
     sets ! (bin ! (get ! refl) (get ! refl) tt) refl (tt, tt) $
     let run : ℕ × ℕ = (b, i * s + o) in
     sets_last ! (agg ! (and_then ! (get ! refl) (and_then ! (get ! refl) (no_more !)))) refl (tt, (tt, (record { fits = len_fits }, tt))) $
-    exec ! 𝓣.C 𝓣.Λ En (after 1 (here E).body) (at_ret En (W.post y)) $ sets ! (of_opd ! (get ! refl)) refl (tt, (tt, (record { fits = len_fits }, tt))) $
+    exec ! 𝓣.C 𝓣.Λ En (after 1 here.body) (at_ret En (W.post y)) $ sets ! (of_opd ! (get ! refl)) refl (tt, (tt, (record { fits = len_fits }, tt))) $
     returns ! (look_at ! 0 refl) $ free_all ! refl $
-    suffices ! _ (ends_at 𝓛 ended (stayed E) c y (slice_val run len) (record { ref_ptr = run; now = xs }) (tt, (tt, (tt, tt))) (tt, (tt, (tt, tt)))) $ says ! held $
+    suffices ! _ (ends_at 𝓛 ended stayed c y (slice_val run len) (record { ref_ptr = run; now = xs }) (tt, (tt, (tt, tt))) (tt, (tt, (tt, tt)))) $ says ! held $
     join ! $ move ! (1 ∷ []) $ flt_i ! (length xs * s) (2 ^ 63) (times_below (length xs) (length r.places) s (2 ^ 63) (omega arith) all) $ flt_i ! (length xs) (2 ^ 64) (omega arith) $ fjoin ! $
     feq_i ! (List Val) (slice_val run len ∷ []) (slice_val run (length xs) ∷ []) (ap (λ k. slice_val run k ∷ []) (sym long)) $ fjoin ! $ fjoin ! $
     nothing ! $ nothing ! $ fjoin ! $ nothing ! $ fjoin ! $ nothing ! $ fjoin ! $ keep ! (2 ∷ 0 ∷ 1 ∷ []) $ done !)))))
