@@ -8,7 +8,8 @@ use Rattle.arraydeque_ring.specs.Ownership.{places_owned, right_to_free, slots_o
 use Rattle.arraydeque_ring.specs.contracts.slots.Slots as slots
 use Rattle.arraydeque_ring.specs.contracts.slots.Slots.TheInside as inside
 use Rattle.arraydeque_ring.specs.declared.slots.Slots.TheInside.{Inside}
-use Rattle.arraydeque_ring.proofs.memory.Owned.{item_size}
+pub use Rattle.arraydeque_ring.proofs.memory.Blocks.{scaled}
+pub use Rattle.arraydeque_ring.proofs.memory.Owned.{Others, Place, Row, item_size, of_nothing, of_room, place_in, place_out, run_seen, to_room, value_in, value_out}
 
 -- the words of a `Slots`: the pointer, the capacity and the allocator
 abbrev pub words_val : Ptr → ℕ → Val

@@ -1,13 +1,11 @@
 -- `copy_over` hands `copy_nonoverlapping` a run of values, and room for it in another region, and puts both back. Assumes `Logic`.
-use Rattle.arraydeque_ring.proofs.memory.Kit.{◌≡◌, refl, sym, ap, ◌∙◌, subst, List, [], ◌∷◌, ◌++◌, map, ℕ, ◌+◌, ◌*◌, ◌<◌, ◌^◌, arith, length, take, drop_list, replicate, length-take, length-drop, length-map, length-replicate, Some, None, T, emp, id⊢, fact_i, full_share, ftrue, fsep, froom, flft, Fn, inst_fn, named, w64, ty_array, ty_unit, Val, has_ty, WT, vunit, vint, vptr, Env, ◌⊑◌, fact, tables, owns, types_at, ‵, raw, ◌⊛◌, some, later, at_ret, ◌$◌, ◌∵◌, !, qed, move, keep, use0, use1, use2, drop, split, join, pick, rewrite, await, fsplit, fsplit3, fjoin, fjoin3, feq_i, feq_l, suffices, done, whole, sub, look_in, enter, of_opd, unit_lit, size_word, bin, load, stop, fld, no_more, and_then, first, blocks, exec, returns, alloc_all, pass_all, free_all, look_at, get, through, sets, is, lands_last, env, yes, plain, usize, unit, only, uint_vals, uint_Tells, RawPtr, block_ptr, Stays, walk_of, stay_dropped, stay_ref, Goes-dropped, Goes-ref, ends_at, nothing, heard, after, says_two, calls_at_last, framed, triple_of, part_at, El, R, args, el_x, elτ, proved, common_steps, split3, Array, mut_vals, mut_Tells, pure_i}
+use Rattle.arraydeque_ring.proofs.memory.Kit.{◌≡◌, refl, sym, ap, ◌∙◌, subst, List, [], ◌∷◌, ◌++◌, map, ℕ, ◌+◌, ◌*◌, ◌<◌, ◌^◌, arith, length, take, drop_list, replicate, length-take, length-drop, length-map, length-replicate, Some, None, T, emp, id⊢, fact_i, full_share, ftrue, fsep, froom, flft, Fn, inst_fn, named, w64, ty_array, ty_unit, Val, has_ty, WT, vunit, vint, vptr, Env, ◌⊑◌, fact, tables, owns, types_at, ‵, raw, ◌⊛◌, some, later, at_ret, ◌$◌, ◌∵◌, !, qed, move, keep, use0, use1, use2, drop, split, join, pick, rewrite, await, fsplit, fsplit3, fjoin, fjoin3, feq_i, feq_l, suffices, done, whole, sub, look_in, enter, of_opd, unit_lit, bin, load, stop, fld, no_more, and_then, first, blocks, exec, returns, alloc_all, pass_all, free_all, look_at, get, through, sets, is, lands_last, env, yes, plain, usize, unit, only, uint_vals, uint_Tells, RawPtr, block_ptr, Stays, walk_of, stay_dropped, stay_ref, Goes-dropped, Goes-ref, ends_at, nothing, heard, after, says_two, calls_at_last, framed, triple_of, part_at, El, R, args, el_x, elτ, proved, common_steps, split3, Array, mut_vals, mut_Tells, pure_i}
 use denote.RawPtr.{rawptr_vals}
 use Rattle.std.specs.contracts.ptr.copy_nonoverlapping as copy
 use Rattle.std.proofs.ptr.copy_nonoverlapping.Met as copy_thm
 use Rattle.arraydeque_ring.specs.Places.{IsFilledRun}
 use Rattle.arraydeque_ring.specs.Gaps.{IsEmptyRun, run_emptied}
-use Rattle.arraydeque_ring.proofs.memory.Blocks.{uncapped}
-use Rattle.arraydeque_ring.proofs.memory.Owned.{item_size, Place, Row, of_room}
-use Rattle.arraydeque_ring.proofs.memory.Regions.{Sr, Seen, near, run_fits, slots_open, slots_close}
+use Rattle.arraydeque_ring.proofs.memory.Regions.{Sr, Seen, near, run_fits, slots_open, slots_close, scaled, item_size, Place, Row, of_room}
 use Rattle.arraydeque_ring.proofs.memory.Rows.{Around, run_out, run_in, row_room, to_array, of_array}
 use Rattle.arraydeque_ring.specs.contracts.slots.Slots.copy_over as f
 use Rattle.arraydeque_ring.proofs.slots.Slots.copy_over.Statement as stated
@@ -51,10 +49,10 @@ copy_over_spec 𝓤 𝓛 𝓜 𝓡 wired X L =
     let src : ℕ = from * s + o in let dst : ℕ = to * s + o' in
     first ! $ blocks ! $
     sets ! (of_opd ! (load ! (through ! refl (fld ! refl (stop !))) (look_in ! 8 (sub ! 0 refl (whole !))))) refl (tt, tt) $
-    sets ! (is ! (bin ! (get ! refl) (size_word !) (record { fits = subst (λ (k : ℕ). k < 2 ^ 64) (sym (uncapped from s from_near)) from_near })) (ap (vint w64) (uncapped from s from_near))) refl (tt, record { fits = from_near }) $
+    sets ! (scaled ! (get ! refl) from_near) refl (tt, record { fits = from_near }) $
     sets ! (bin ! (get ! refl) (get ! refl) tt) refl (tt, tt) $
     sets ! (of_opd ! (load ! (through ! refl (fld ! refl (stop !))) (look_in ! 2 (sub ! 0 refl (whole !))))) refl (tt, tt) $
-    sets ! (is ! (bin ! (get ! refl) (size_word !) (record { fits = subst (λ (k : ℕ). k < 2 ^ 64) (sym (uncapped to s to_near)) to_near })) (ap (vint w64) (uncapped to s to_near))) refl (tt, record { fits = to_near }) $
+    sets ! (scaled ! (get ! refl) to_near) refl (tt, record { fits = to_near }) $
     sets ! (bin ! (get ! refl) (get ! refl) tt) refl (tt, tt) $
     -- the target is room
     use1 𝓛 (‵ (Row E 𝓛 b' dst (take n (drop_list to ts))) ⊛ ‵ (Around E 𝓛 b' o' ts to n)) (run_out E 𝓛 b' o' ts to n target) $ split ! $

@@ -1,15 +1,14 @@
 -- `give_back` makes the empty places one block again, and frees it. Assumes `Logic`.
-use Rattle.arraydeque_ring.proofs.memory.Kit.{◌≡◌, refl, sym, ap, subst, Bool, List, [], ◌∷◌, ◌++◌, ℕ, ◌*◌, ◌<◌, ◌^◌, arith, T, length, SProp, ent, id⊢, ftrue, froom, flft, Fn, inst_fn, w64, ty_array, ty_unit, Val, vunit, vint, vptr, has_ty, WT, align, capped, capped_fits, Env, WpFn, ◌⊑◌, fact, tables, owns, types_at, ‵, raw, ◌⊛◌, given, later, at_ret, ◌$◌, ◌∵◌, !, qed, move, keep, drop, use1, use3, split, join, learn, rewrite, fsplit, fjoin, feq_i, suffices, await, done, whole, sub, enter, of_opd, lit, unit_lit, size_word, align_word, bin, stop, fld, no_more, and_then, first, blocks, branches, skips, exec, returns, alloc_all, pass_all, free_all, look_at, get, get_in, sets, lands_last, is, env, yes, no, plain, RefOf, Stays, walk_of, stay_dropped, Goes-dropped, ends_at, heard, nothing, calls_at_last, framed, block_ptr, after, El, R, args, elτ, proved_at, Global}
+use Rattle.arraydeque_ring.proofs.memory.Kit.{◌≡◌, refl, sym, ap, subst, Bool, List, [], ◌∷◌, ◌++◌, ℕ, ◌*◌, ◌<◌, ◌^◌, arith, T, length, SProp, ent, id⊢, ftrue, froom, flft, Fn, inst_fn, w64, ty_array, ty_unit, Val, vunit, vint, vptr, has_ty, WT, align, capped, capped_fits, Env, WpFn, ◌⊑◌, fact, tables, owns, types_at, ‵, raw, ◌⊛◌, given, later, at_ret, ◌$◌, ◌∵◌, !, qed, move, keep, drop, use1, use3, split, join, learn, rewrite, fsplit, fjoin, feq_i, suffices, await, done, whole, sub, enter, of_opd, lit, unit_lit, align_word, bin, stop, fld, no_more, and_then, first, blocks, branches, skips, exec, returns, alloc_all, pass_all, free_all, look_at, get, get_in, sets, lands_last, env, yes, no, plain, RefOf, Stays, walk_of, stay_dropped, Goes-dropped, ends_at, heard, nothing, calls_at_last, framed, block_ptr, after, El, R, args, elτ, proved_at, Global}
 use Rattle.std.specs.Prelude.{nat_lt}
 use Rattle.std.specs.contracts.alloc.Global as heap
 use Rattle.std.proofs.Flags.{T_true}
 use Rattle.std.proofs.impls.GlobalAllocator.deallocate.Met.{met}
 use Rattle.arraydeque_ring.specs.Ownership.{owned_if, places_owned, right_to_free}
 use Rattle.arraydeque_ring.specs.Places.{AreAllEmpty}
-use Rattle.arraydeque_ring.proofs.memory.Blocks.{uncapped, block_ty, block_size, block_align, token}
+use Rattle.arraydeque_ring.proofs.memory.Blocks.{scaled, block_ty, block_size, block_align, token}
 use Rattle.arraydeque_ring.proofs.memory.Heap.{Deallocates, Asks, to_deallocate, deallocate_goes, deallocate_gives}
-use Rattle.arraydeque_ring.proofs.memory.Owned.{item_size, Place, to_room}
-use Rattle.arraydeque_ring.proofs.memory.Regions.{Sr, Seen, slots_val, slots_Good, slots_apart}
+use Rattle.arraydeque_ring.proofs.memory.Regions.{Sr, Seen, slots_val, slots_Good, slots_apart, item_size, Place, to_room}
 use Rattle.arraydeque_ring.specs.contracts.slots.Slots.give_back as f
 use Rattle.arraydeque_ring.proofs.slots.Slots.give_back.Statement as stated
 use Rattle.arraydeque_ring.proofs.slots.Slots.give_back.Code as code
@@ -45,15 +44,14 @@ give_back_spec 𝓤 𝓛 𝓜 𝓡 wired X L =
     let En : Env 𝓤 𝓛.H = env here.locals l in
     let z : (Deallocates 𝓛 𝓜.mem 𝓡.returns).Ghost = to_deallocate 𝓛 𝓜.mem 𝓡.returns κ q hp h b o (n * s) al τ in
     let asked : Asks 𝓛 𝓜.mem 𝓡.returns κ q hp h τ (n * s) al = record { size_is = block_size E n bytes; align_is = block_align E n; size_fits = bytes; align_fits = capped_fits (align (elτ E)) } in
-    let size_fits = subst (λ (k : ℕ). k < 2 ^ 64) (sym (uncapped n s bytes)) bytes in
     sets ! (of_opd ! (get_in ! (fld ! refl (stop !)) (sub ! 0 refl (whole !)))) refl (tt, tt) $
     sets ! (of_opd ! (get_in ! (fld ! refl (stop !)) (sub ! 1 refl (whole !)))) refl (tt, record { fits = ok.word }) $
-    sets ! (is ! (bin ! (get ! refl) (size_word !) (record { fits = size_fits })) (ap (vint w64) (uncapped n s bytes))) refl (tt, record { fits = bytes }) $
+    sets ! (scaled ! (get ! refl) bytes) refl (tt, record { fits = bytes }) $
     sets ! (bin ! (lit ! tt) (get ! refl) tt) refl (tt, tt) $
     first ! $ branches ! (get ! refl)
     (λ some. rewrite ! 0 (λ (w : Bool). ‵ (owned_if w (token E g n (block_ptr b o)))) (T_true (nat_lt 0 (n * s)) some) refl $
     blocks ! $ sets ! (of_opd ! (get ! refl)) refl (tt, tt) $
-    sets ! (is ! (bin ! (get ! refl) (size_word !) (record { fits = size_fits })) (ap (vint w64) (uncapped n s bytes))) refl (tt, record { fits = bytes }) $
+    sets ! (scaled ! (get ! refl) bytes) refl (tt, record { fits = bytes }) $
     move ! (2 ∷ 3 ∷ []) $ join ! $ move ! (2 ∷ 1 ∷ 0 ∷ []) $ use3 𝓛 (raw ((Deallocates 𝓛 𝓜.mem 𝓡.returns).pre z)) (deallocate_goes 𝓛 𝓜.mem 𝓡.returns κ q hp h b o (n * s) al τ asked) $
     calls_at_last ! (framed 𝓤 𝓛.H 𝓜 𝓣) (Deallocates 𝓛 𝓜.mem 𝓡.returns) (met 𝓤 𝓛 𝓜 𝓡 (code.calls-std_heap::GlobalAllocator::deallocate 𝓡.env wired)) z (and_then ! (get ! refl) (and_then ! (get ! refl) (and_then ! (get ! refl) (and_then ! (align_word !) (no_more !))))) (λ v.
     use1 𝓛 (later (given (v ≡ vunit) (‵ (flft κ q)))) (deallocate_gives 𝓛 𝓜.mem 𝓡.returns κ q hp h b o (n * s) al τ v) $ await ! tt $ learn ! (λ is_unit.

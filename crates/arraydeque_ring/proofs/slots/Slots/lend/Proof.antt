@@ -4,8 +4,7 @@ use denote.Follow.{Part, lends_Part}
 use denote.Ref.{MutRef}
 use Rattle.arraydeque_ring.specs.Ownership.{place_owned}
 use Rattle.arraydeque_ring.specs.Places.{IsFilled}
-use Rattle.arraydeque_ring.proofs.memory.Owned.{item_size, Place, Others, place_out, place_in}
-use Rattle.arraydeque_ring.proofs.memory.Regions.{Sr, Seen, Fits, near, run_fits, places, Frame, slots_whole, slots_open}
+use Rattle.arraydeque_ring.proofs.memory.Regions.{Sr, Seen, Fits, near, run_fits, places, Frame, slots_whole, slots_open, item_size, Place, Others, place_out, place_in}
 use Rattle.arraydeque_ring.proofs.places.Held.{filled_within}
 use Rattle.arraydeque_ring.specs.contracts.slots.Slots.lend as f
 use Rattle.arraydeque_ring.proofs.slots.Slots.lend.Statement as stated

@@ -1,5 +1,5 @@
 -- `lend_run` lends the values of a filled run, and the region follows them. Assumes `Logic`.
-use Rattle.arraydeque_ring.proofs.memory.Kit.{◌≡◌, refl, sym, ap, subst, ◌∙◌, List, [], ◌∷◌, map, ℕ, ◌+◌, ◌*◌, ◌<◌, ◌≤◌, ◌^◌, arith, length, take, length-map, drop_list, Some, Ura, ent, sep, id⊢, GName, Fml, ftrue, fsep, flft, Fn, inst_fn, named, w64, Val, vint, vptr, Env, ◌⊑◌, fact, tables, Logic, sem, owns, types_at, ‵, raw, ◌⊛◌, some, later, at_ret, ◌$◌, ◌∵◌, !, qed, by, move, keep, use1, use2, drop, split, join, pick, frame, rewrite, await, fsplit, fsplit3, fjoin, suffices, done, whole, sub, look_in, agg, enter, of_opd, size_word, bin, load, stop, fld, no_more, and_then, first, blocks, exec, returns, alloc_all, pass_all, free_all, look_at, get, through, sets, sets_last, is, env, yes, no, plain, usize, uint_vals, uint_Tells, mem, Stays, walk_of, says, stay_dropped, Goes-dropped, ends_at, nothing, heard, after, El, R, args, el_x, proved, split3, group, cells, Array, follows, MutBor, mut_vals, mut_Tells, mut_ref_to, MutSlice, slice_val, Goes-spent_ref, Global}
+use Rattle.arraydeque_ring.proofs.memory.Kit.{◌≡◌, refl, sym, ap, subst, ◌∙◌, List, [], ◌∷◌, map, ℕ, ◌+◌, ◌*◌, ◌<◌, ◌≤◌, ◌^◌, arith, length, take, length-map, drop_list, Some, Ura, ent, sep, id⊢, GName, Fml, ftrue, fsep, flft, Fn, inst_fn, named, w64, Val, vint, vptr, Env, ◌⊑◌, fact, tables, Logic, sem, owns, types_at, ‵, raw, ◌⊛◌, some, later, at_ret, ◌$◌, ◌∵◌, !, qed, by, move, keep, use1, use2, drop, split, join, pick, frame, rewrite, await, fsplit, fsplit3, fjoin, suffices, done, whole, sub, look_in, agg, enter, of_opd, bin, load, stop, fld, no_more, and_then, first, blocks, exec, returns, alloc_all, pass_all, free_all, look_at, get, through, sets, sets_last, env, yes, no, plain, usize, uint_vals, uint_Tells, mem, Stays, walk_of, says, stay_dropped, Goes-dropped, ends_at, nothing, heard, after, El, R, args, el_x, proved, split3, group, cells, Array, follows, MutBor, mut_vals, mut_Tells, mut_ref_to, MutSlice, slice_val, Goes-spent_ref, Global}
 use denote.FollowSlice.{Elements, lends_Elements}
 use Rattle.arraydeque_ring.specs.Loans.{as_many, with_run}
 use Rattle.arraydeque_ring.specs.Ownership.{places_owned}
@@ -7,9 +7,7 @@ use Rattle.arraydeque_ring.specs.Places.{IsFilledRun}
 use Rattle.arraydeque_ring.proofs.loans.Placed.{placed, as_many-same, length-placed}
 use Rattle.arraydeque_ring.proofs.loans.Runs.{run, to_cells, of_cells}
 use Rattle.arraydeque_ring.proofs.memory.Rows.{Around, run_out, run_in}
-use Rattle.arraydeque_ring.proofs.memory.Blocks.{uncapped}
-use Rattle.arraydeque_ring.proofs.memory.Owned.{item_size, Place}
-use Rattle.arraydeque_ring.proofs.memory.Regions.{Sr, Seen, Fits, near, run_fits, Frame, slots_whole, slots_open}
+use Rattle.arraydeque_ring.proofs.memory.Regions.{Sr, Seen, Fits, near, run_fits, Frame, slots_whole, slots_open, scaled, item_size, Place}
 use Rattle.arraydeque_ring.proofs.places.Held.{length_filled}
 use Rattle.arraydeque_ring.specs.contracts.slots.Slots.lend_run as f
 use Rattle.arraydeque_ring.proofs.slots.Slots.lend_run.Statement as stated
@@ -63,7 +61,7 @@ lend_run_spec 𝓤 𝓛 𝓜 𝓡 wired X L =
     let far = near E ok from (omega arith) in
     first ! $ blocks ! $
     sets ! (of_opd ! (load ! (through ! refl (fld ! refl (stop !))) (look_in ! 2 (sub ! 0 refl (whole !))))) refl (tt, tt) $
-    sets ! (is ! (bin ! (get ! refl) (size_word !) (record { fits = subst (λ (k : ℕ). k < 2 ^ 64) (sym (uncapped from s far)) far })) (ap (vint w64) (uncapped from s far))) refl (tt, record { fits = far }) $
+    sets ! (scaled ! (get ! refl) far) refl (tt, record { fits = far }) $
     sets ! (bin ! (get ! refl) (get ! refl) tt) refl (tt, tt) $
     let at = from * s + o in let new = Written E r from xs in
     let Rest₀ = sem 𝓛 (Rest E 𝓛 rb ro r from xs g b o n within) in let way = back E 𝓛 rb ro r from xs g b o n within ok in

@@ -1,14 +1,12 @@
 -- `move_block` moves N values at once. Assumes `Logic`.
-use Rattle.arraydeque_ring.proofs.memory.Kit.{◌≡◌, refl, sym, ap, ◌∙◌, subst, List, [], ◌∷◌, ◌++◌, map, ℕ, ◌+◌, ◌*◌, ◌<◌, ◌≤◌, ◌^◌, arith, length, take, drop_list, replicate, length-take, length-drop, length-map, length-replicate, Some, None, full_share, fat, froom, ftrue, flft, Fn, inst_fn, named, w64, ty_array, Val, vunit, vint, vptr, Env, ◌⊑◌, fact, tables, owns, types_at, ‵, raw, ◌⊛◌, some, at_ret, ◌$◌, ◌∵◌, !, qed, move, keep, use1, use2, drop, split, join, pick, rewrite, fsplit, fsplit3, fjoin, fjoin3, feq_i, suffices, done, whole, sub, look_in, enter, of_opd, unit_lit, size_word, bin, load, look, init, stop, fld, assigns_last, first, blocks, exec, returns, alloc_all, pass_all, free_all, look_at, get, through, sets, is, env, yes, plain, usize, uint_vals, uint_Tells, Stays, walk_of, stay_dropped, stay_ref, Goes-dropped, Goes-ref, ends_at, nothing, heard, peeks, after, says, Is, shows, param, param_laws, part_at, El, R, el_x, elτ, proved, common_steps, Args, a_type, a_number, part_in, part_out, Array, layouts, number, mut_vals, mut_Tells}
+use Rattle.arraydeque_ring.proofs.memory.Kit.{◌≡◌, refl, sym, ap, ◌∙◌, subst, List, [], ◌∷◌, ◌++◌, map, ℕ, ◌+◌, ◌*◌, ◌<◌, ◌≤◌, ◌^◌, arith, length, take, drop_list, replicate, length-take, length-drop, length-map, length-replicate, Some, None, full_share, fat, froom, ftrue, flft, Fn, inst_fn, named, w64, ty_array, Val, vunit, vint, vptr, Env, ◌⊑◌, fact, tables, owns, types_at, ‵, raw, ◌⊛◌, some, at_ret, ◌$◌, ◌∵◌, !, qed, move, keep, use1, use2, drop, split, join, pick, rewrite, fsplit, fsplit3, fjoin, fjoin3, feq_i, suffices, done, whole, sub, look_in, enter, of_opd, unit_lit, bin, load, look, init, stop, fld, assigns_last, first, blocks, exec, returns, alloc_all, pass_all, free_all, look_at, get, through, sets, is, env, yes, plain, usize, uint_vals, uint_Tells, Stays, walk_of, stay_dropped, stay_ref, Goes-dropped, Goes-ref, ends_at, nothing, heard, peeks, after, says, Is, shows, param, param_laws, part_at, El, R, el_x, elτ, proved, common_steps, Args, a_type, a_number, part_in, part_out, Array, layouts, number, mut_vals, mut_Tells}
 use Rattle.std.proofs.Math.Nat.{add-mul}
 use denote.Param.{ArrayAt}
 use denote.Param.Laws.{array_at_laws}
 use Rattle.arraydeque_ring.specs.Places.{IsFilledRun}
 use Rattle.arraydeque_ring.specs.Gaps.{run_emptied}
 use Rattle.arraydeque_ring.specs.Moved.{run_moved}
-use Rattle.arraydeque_ring.proofs.memory.Blocks.{uncapped}
-use Rattle.arraydeque_ring.proofs.memory.Owned.{item_size, Place, Row, of_room}
-use Rattle.arraydeque_ring.proofs.memory.Regions.{Sr, Seen, near, slots_open, slots_close}
+use Rattle.arraydeque_ring.proofs.memory.Regions.{Sr, Seen, near, slots_open, slots_close, scaled, item_size, Place, Row, of_room}
 use Rattle.arraydeque_ring.proofs.memory.Rows.{Around, run_out, run_in, row_room, to_array, of_array}
 use Rattle.arraydeque_ring.proofs.moved.Flat.{length-moved, moved_parts}
 use Rattle.arraydeque_ring.specs.contracts.slots.Slots.move_block as f
@@ -65,14 +63,14 @@ move_block_spec 𝓤 𝓛 𝓜 𝓡 wired X N L N_fits =
     -- [the array; what it owns; the other places; the right; the words; the open borrow, in three; the other tokens]
     first ! $ blocks ! $
     sets ! (of_opd ! (load ! (through ! refl (fld ! refl (stop !))) (look_in ! 4 (sub ! 0 refl (whole !))))) refl (tt, tt) $
-    sets ! (is ! (bin ! (get ! refl) (size_word !) (record { fits = subst (λ (k : ℕ). k < 2 ^ 64) (sym (uncapped to s to_near)) to_near })) (ap (vint w64) (uncapped to s to_near))) refl (tt, record { fits = to_near }) $
+    sets ! (scaled ! (get ! refl) to_near) refl (tt, record { fits = to_near }) $
     sets ! (bin ! (get ! refl) (get ! refl) tt) refl (tt, tt) $
-    sets ! (is ! (bin ! (get ! refl) (size_word !) (record { fits = subst (λ (k : ℕ). k < 2 ^ 64) (sym (uncapped at s at_near)) at_near })) (ap (vint w64) (uncapped at s at_near))) refl (tt, record { fits = at_near }) $
+    sets ! (scaled ! (get ! refl) at_near) refl (tt, record { fits = at_near }) $
     sets ! (is ! (bin ! (get ! refl) (get ! refl) tt) (on to)) refl (tt, tt) $ sets ! (of_opd ! (get ! refl)) refl (tt, tt) $
     sets ! (of_opd ! (load ! (through ! refl (fld ! refl (stop !))) (look_in ! 4 (sub ! 0 refl (whole !))))) refl (tt, tt) $
-    sets ! (is ! (bin ! (get ! refl) (size_word !) (record { fits = subst (λ (k : ℕ). k < 2 ^ 64) (sym (uncapped from s from_near)) from_near })) (ap (vint w64) (uncapped from s from_near))) refl (tt, record { fits = from_near }) $
+    sets ! (scaled ! (get ! refl) from_near) refl (tt, record { fits = from_near }) $
     sets ! (bin ! (get ! refl) (get ! refl) tt) refl (tt, tt) $
-    sets ! (is ! (bin ! (get ! refl) (size_word !) (record { fits = subst (λ (k : ℕ). k < 2 ^ 64) (sym (uncapped at s at_near)) at_near })) (ap (vint w64) (uncapped at s at_near))) refl (tt, record { fits = at_near }) $
+    sets ! (scaled ! (get ! refl) at_near) refl (tt, record { fits = at_near }) $
     sets ! (is ! (bin ! (get ! refl) (get ! refl) tt) (on from)) refl (tt, tt) $ sets ! (of_opd ! (get ! refl)) refl (tt, tt) $
     sets ! (of_opd ! (load ! (through ! refl (stop !)) (look ! 0 refl))) refl v_fits $
     -- the source is empty

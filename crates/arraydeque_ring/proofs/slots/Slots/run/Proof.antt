@@ -1,11 +1,9 @@
 -- `slice` lends the values of a filled run. Assumes `Logic`.
-use Rattle.arraydeque_ring.proofs.memory.Kit.{◌≡◌, refl, sym, ap, subst, List, [], ◌∷◌, ℕ, ◌+◌, ◌*◌, ◌<◌, ◌^◌, arith, length, ftrue, flft, Fn, inst_fn, named, w64, Val, vint, vptr, Env, ◌⊑◌, fact, tables, owns, types_at, ‵, raw, ◌⊛◌, at_ret, ◌$◌, ◌∵◌, !, qed, move, keep, use1, drop, split, join, fsplit, fjoin, feq_i, flt_i, suffices, done, agg, enter, of_opd, size_word, bin, load, look, stop, fld, no_more, and_then, first, blocks, exec, returns, alloc_all, pass_all, free_all, look_at, get, through, sets, sets_last, is, env, yes, plain, usize, RefOf, uint_vals, uint_Tells, shr_vals, shr_Tells, Stays, walk_of, says, stay_dropped, Goes-dropped, ends_at, nothing, heard, after, El, R, args, el_x, times_below, proved, slice_val, elements_shared}
+use Rattle.arraydeque_ring.proofs.memory.Kit.{◌≡◌, refl, sym, ap, subst, List, [], ◌∷◌, ℕ, ◌+◌, ◌*◌, ◌<◌, ◌^◌, arith, length, ftrue, flft, Fn, inst_fn, named, w64, Val, vint, vptr, Env, ◌⊑◌, fact, tables, owns, types_at, ‵, raw, ◌⊛◌, at_ret, ◌$◌, ◌∵◌, !, qed, move, keep, use1, drop, split, join, fsplit, fjoin, feq_i, flt_i, suffices, done, agg, enter, of_opd, bin, load, look, stop, fld, no_more, and_then, first, blocks, exec, returns, alloc_all, pass_all, free_all, look_at, get, through, sets, sets_last, env, yes, plain, usize, RefOf, uint_vals, uint_Tells, shr_vals, shr_Tells, Stays, walk_of, says, stay_dropped, Goes-dropped, ends_at, nothing, heard, after, El, R, args, el_x, times_below, proved, slice_val, elements_shared}
 use denote.Opens.{hide}
 use Rattle.arraydeque_ring.specs.Places.{IsFilledRun}
-use Rattle.arraydeque_ring.proofs.memory.Blocks.{uncapped}
 use Rattle.arraydeque_ring.proofs.memory.Lent.{slots_seen, pointer_open, pointer_close}
-use Rattle.arraydeque_ring.proofs.memory.Owned.{item_size, run_seen}
-use Rattle.arraydeque_ring.proofs.memory.Regions.{Sr, Seen}
+use Rattle.arraydeque_ring.proofs.memory.Regions.{Sr, Seen, scaled, item_size, run_seen}
 use Rattle.arraydeque_ring.proofs.places.Held.{length_filled}
 use Rattle.arraydeque_ring.specs.contracts.slots.Slots.run as f
 use Rattle.arraydeque_ring.proofs.slots.Slots.run.Statement as stated
@@ -41,7 +39,7 @@ run_spec 𝓤 𝓛 𝓜 𝓡 wired X L =
     first ! $ blocks ! $ pointer_open ! tt p b o at rb (ro + 0) (λ q'.
     sets ! (of_opd ! (load ! (through ! refl (fld ! refl (stop !))) (look ! 0 refl))) refl (tt, tt) $
     pointer_close ! tt p b o at rb (ro + 0) $
-    sets ! (is ! (bin ! (get ! refl) (size_word !) (record { fits = subst (λ (k : ℕ). k < 2 ^ 64) (sym (uncapped i s far)) far })) (ap (vint w64) (uncapped i s far))) refl (tt, record { fits = far }) $
+    sets ! (scaled ! (get ! refl) far) refl (tt, record { fits = far }) $
     sets ! (bin ! (get ! refl) (get ! refl) tt) refl (tt, tt) $
     let run : ℕ × ℕ = (b, i * s + o) in
     sets_last ! (agg ! (and_then ! (get ! refl) (and_then ! (get ! refl) (no_more !)))) refl (tt, (tt, (record { fits = len_fits }, tt))) $

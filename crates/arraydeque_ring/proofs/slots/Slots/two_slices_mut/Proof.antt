@@ -9,8 +9,7 @@ use Rattle.arraydeque_ring.proofs.slots.loan.Loan.TheLaws as loan_laws
 use Rattle.arraydeque_ring.proofs.loans.Names.{followed_both}
 use Rattle.arraydeque_ring.proofs.loans.Slices.{Slices, slices_lawful}
 use Rattle.arraydeque_ring.proofs.loans.Placed.{two_alike}
-use Rattle.arraydeque_ring.proofs.memory.Regions.{Sr, Seen}
-use Rattle.arraydeque_ring.proofs.memory.Owned.{Place}
+use Rattle.arraydeque_ring.proofs.memory.Regions.{Sr, Seen, Place}
 use Rattle.arraydeque_ring.specs.contracts.slots.Slots.lend_two as g
 use Rattle.arraydeque_ring.proofs.slots.Slots.lend_two.Met.{met}
 use Rattle.arraydeque_ring.specs.contracts.slots.loan.Loan.into_slices as h

@@ -1,5 +1,5 @@
 -- `with_memory` cuts a new block into empty places, and keeps the right to free it. Assumes `Logic`.
-use Rattle.arraydeque_ring.proofs.memory.Kit.{true, false, ◌≡◌, refl, sym, ap, subst, [], ◌∷◌, ℕ, ◌+◌, ◌*◌, ◌<◌, ◌^◌, arith, lit<, length, length-replicate, None, Ok, Err, Fml, ftrue, flft, Fn, Body, inst_fn, named, w64, ty_array, Val, vint, vptr, vstruct, vcons, vnil, align, capped, capped_fits, Env, Wp, after_seq, at_return, ◌⊑◌, fact, tables, After, ‵, raw, ◌⊛◌, given, later, at_ret, any_q, ◌$◌, ◌∵◌, !, qed, move, keep, drop, use1, use2, split, join, learn, frame, fsplit, fjoin, rewrite, suffices, await, done, whole, agg, live, vrt, in_variant, enter, of_opd, lit, size_word, align_word, bin, stop, fld, no_more, and_then, first, switches_on, exec, returns, alloc_all, pass_all, free_all, look_at, get, get_in, get_tag, sets, sets_last, lands_as, is, env, yes, RattleType, owns, Is, layout, uint_vals, uint_Tells, block_ptr, shr_vals, shr_Tells, usize, RefOf, plain, types_at, heard, nothing, owned, calls_at, framed, Stays, walk_of, says, stay_dropped, Goes-dropped, ends_at, heap_val, heap_Tells, as_written, Good, first_Good, after, head, arm_body, El, args, elτ, proved, Struct, Global}
+use Rattle.arraydeque_ring.proofs.memory.Kit.{true, false, ◌≡◌, refl, sym, ap, subst, [], ◌∷◌, ℕ, ◌+◌, ◌*◌, ◌<◌, ◌^◌, arith, lit<, length, length-replicate, None, Ok, Err, Fml, ftrue, flft, Fn, Body, inst_fn, named, w64, ty_array, Val, vint, vptr, vstruct, vcons, vnil, align, capped, capped_fits, Env, Wp, after_seq, at_return, ◌⊑◌, fact, tables, After, ‵, raw, ◌⊛◌, given, later, at_ret, any_q, ◌$◌, ◌∵◌, !, qed, move, keep, drop, use1, use2, split, join, learn, frame, fsplit, fjoin, rewrite, suffices, await, done, whole, agg, live, vrt, in_variant, enter, of_opd, lit, align_word, bin, stop, fld, no_more, and_then, first, switches_on, exec, returns, alloc_all, pass_all, free_all, look_at, get, get_in, get_tag, sets, sets_last, lands_as, env, yes, RattleType, owns, Is, layout, uint_vals, uint_Tells, block_ptr, shr_vals, shr_Tells, usize, RefOf, plain, types_at, heard, nothing, owned, calls_at, framed, Stays, walk_of, says, stay_dropped, Goes-dropped, ends_at, heap_val, heap_Tells, as_written, Good, first_Good, after, head, arm_body, El, args, elτ, proved, Struct, Global}
 use denote.Struct.Struct.{Struct-Makes}
 use denote.Struct.Declared as Declared
 use Rattle.std.specs.contracts.result.Result as results
@@ -9,10 +9,9 @@ use Rattle.std.proofs.alloc.Calls.{Answer-typed}
 use Rattle.std.proofs.impls.GlobalAllocator.allocate.Met.{met}
 use Rattle.std.proofs.ResultValues.{ok_of, err_of}
 use Rattle.arraydeque_ring.specs.Places.{empty_region}
-use Rattle.arraydeque_ring.proofs.memory.Blocks.{uncapped, block_ty, block_size, block_align, token, token_at_start, right_is}
+use Rattle.arraydeque_ring.proofs.memory.Blocks.{scaled, block_ty, block_size, block_align, token, token_at_start, right_is}
 use Rattle.arraydeque_ring.proofs.memory.Heap.{Allocates, Answered, Asks, to_allocate, allocate_goes, allocate_gives, answers}
-use Rattle.arraydeque_ring.proofs.memory.Owned.{item_size, of_room}
-use Rattle.arraydeque_ring.proofs.memory.Regions.{Sr, Seen, places, heap_Good, slots_val, slots_Good, slots_made}
+use Rattle.arraydeque_ring.proofs.memory.Regions.{Sr, Seen, places, heap_Good, slots_val, slots_Good, slots_made, item_size, of_room}
 use Rattle.arraydeque_ring.specs.contracts.slots.Slots.with_memory as f
 use Rattle.arraydeque_ring.proofs.slots.Slots.with_memory.Statement as stated
 use Rattle.arraydeque_ring.proofs.slots.Slots.with_memory.Code as code
@@ -45,7 +44,7 @@ with_memory_spec 𝓤 𝓛 𝓜 𝓡 wired X L =
     let al : ℕ = capped (align (elτ E)) in let τ = block_ty E n in
     let z : (Allocates 𝓛 𝓜.mem 𝓡.returns).Ghost = to_allocate 𝓛 𝓜.mem 𝓡.returns κ q (rb, ro) h (n * s) al τ in
     let asked : Asks 𝓛 𝓜.mem 𝓡.returns κ q (rb, ro) h τ (n * s) al = record { size_is = block_size E n bytes; align_is = block_align E n; size_fits = bytes; align_fits = capped_fits (align (elτ E)) } in
-    sets ! (is ! (bin ! (get ! refl) (size_word !) (record { fits = subst (λ (k : ℕ). k < 2 ^ 64) (sym (uncapped n s bytes)) bytes })) (ap (vint w64) (uncapped n s bytes))) refl (tt, record { fits = bytes }) $
+    sets ! (scaled ! (get ! refl) bytes) refl (tt, record { fits = bytes }) $
     use2 𝓛 (raw ((Allocates 𝓛 𝓜.mem 𝓡.returns).pre z)) (allocate_goes 𝓛 𝓜.mem 𝓡.returns κ q (rb, ro) h (n * s) al τ asked) $
     calls_at ! (framed 𝓤 𝓛.H 𝓜 𝓣) (Allocates 𝓛 𝓜.mem 𝓡.returns) (met 𝓤 𝓛 𝓜 𝓡 (code.calls-std_heap::GlobalAllocator::allocate 𝓡.env wired)) z (and_then ! (get ! refl) (and_then ! (get ! refl) (and_then ! (align_word !) (no_more !)))) (λ v.
     use1 𝓛 (later (raw (Answered 𝓛 𝓜.mem 𝓡.returns h τ v) ⊛ ‵ (flft κ q))) (allocate_gives 𝓛 𝓜.mem 𝓡.returns κ q (rb, ro) h (n * s) al τ v) $ await ! tt $ split ! $

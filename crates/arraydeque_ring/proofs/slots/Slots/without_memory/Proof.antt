@@ -3,8 +3,7 @@ use Rattle.arraydeque_ring.proofs.memory.Kit.{◌≡◌, refl, sym, ap, subst, �
 use Rattle.std.specs.contracts.alloc.Global as heap
 use Rattle.arraydeque_ring.specs.Places.{empty_region}
 use Rattle.arraydeque_ring.proofs.memory.Blocks.{no_right}
-use Rattle.arraydeque_ring.proofs.memory.Owned.{item_size, of_nothing}
-use Rattle.arraydeque_ring.proofs.memory.Regions.{Seen, Fits, places, right, heap_Good, slots_val, slots_Good, slots_made}
+use Rattle.arraydeque_ring.proofs.memory.Regions.{Seen, Fits, places, right, heap_Good, slots_val, slots_Good, slots_made, item_size, of_nothing}
 use Rattle.arraydeque_ring.specs.contracts.slots.Slots.without_memory as f
 use Rattle.arraydeque_ring.proofs.slots.Slots.without_memory.Statement as stated
 use Rattle.arraydeque_ring.proofs.slots.Slots.without_memory.Code as code
