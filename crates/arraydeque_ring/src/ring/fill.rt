@@ -24,7 +24,7 @@ impl<T> Ring<T> {
         ensures goes { result ≡ false → I.can_next elements.new
             × (IsFinite (I.remaining elements.old) → IsFinite (I.remaining elements.new)) }
     {
-        let (start, len, capacity) = (self.start_place(), self.len(), self.capacity());
+        let (start, len, capacity) = (self.start, self.len(), self.capacity());
         let to_end = capacity - start;
         let ring = self.moved_out();
         let (ring, ended) = ring.fill_up(start + len.min(to_end), capacity, elements);
@@ -55,7 +55,7 @@ impl<T> Ring<T> {
         ensures goes { result ≡ false → I.can_next elements.new
             × (IsFinite (I.remaining elements.old) → IsFinite (I.remaining elements.new)) }
     {
-        let (start, len, capacity) = (self.start_place(), self.len(), self.capacity());
+        let (start, len, capacity) = (self.start, self.len(), self.capacity());
         let ring = self.moved_out();
         let (ring, ended) = ring.fill_down(start, start.saturating_sub(capacity - len), elements);
         if ended {
@@ -150,14 +150,6 @@ impl<T> Ring<T> {
         self.slots.put(before, element);
         self.start = before;
         last
-    }
-
-    /// The place of the first item.
-    #[inline(always)]
-    fn start_place(&self) -> usize
-        ensures { result ≡ self.now.start }
-    {
-        self.start
     }
 
     /// Puts what the iterator gives behind the last item, into the places from `from` up to `end`,

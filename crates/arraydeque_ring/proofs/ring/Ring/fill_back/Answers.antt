@@ -11,5 +11,5 @@ returns-clause-filled g c =
     let first = c.fill_up-ring.ensures.filled in
     let long = λ (r : RingState g.row.T.Denot). length r.items in
     Fills-both g.I.Iterator.next_gives first c.fill_up-ring-2.ensures.filled _ _ c.if-ended.false
-    (omega (arith, ap long first.holds, ap long value, length-append c.moved_out-ring.result.items first.items, (first.all c.if-ended.false).1))
+    (omega (arith, ap (λ (r : RingState g.row.T.Denot). r.start) c.self.view_is, ap long first.holds, ap long value, length-append c.moved_out-ring.result.items first.items, (first.all c.if-ended.false).1))
     (λ xs ys one two. c.move_in-2.ensures ∙ two ∙ ap (filled_back ys) (one ∙ ap (filled_back xs) value) ∙ filled_back-both xs ys c.args.self.now)

@@ -11,7 +11,7 @@ fill_down-ring-requires-2-clause-before g c =
     let first = c.fill_down-ring.ensures.filled in
     let long = λ (r : RingState g.row.T.Denot). length r.items in
     let of_capacity = λ (r : RingState g.row.T.Denot). r.capacity in
-    let reached = c.fill_down-ring.ensures.reached c.if-ended.false (c.start_place-start.ensures ∙ sym (ap (λ (r : RingState g.row.T.Denot). r.start) value)) in
+    let reached = c.fill_down-ring.ensures.reached c.if-ended.false (ap (λ (r : RingState g.row.T.Denot). r.start) (c.self.view_is ∙ sym value)) in
     λ less. inr (omega (arith, reached, ap of_capacity first.holds, ap of_capacity value, ap long first.holds, ap long value, length-append (reverse first.items) c.moved_out-ring.result.items, length-reverse first.items, (first.all c.if-ended.false).1))
 
 pub returns-clause-filled : goal.returns-clause-filled
