@@ -3,8 +3,10 @@ use Rattle.arraydeque_ring.proofs.memory.Kit.{◌≡◌, refl, sym, ap, subst, �
 use denote.Struct.Struct.{within}
 use denote.Struct.Owning.{Owning, shape}
 use Rattle.std.specs.contracts.alloc.Global as heap
+pub use Rattle.arraydeque_ring.specs.Places.{AreAllEmpty, HoldsRun, IsEmpty, IsFilled, IsFilledRun, empty_region}
 use Rattle.arraydeque_ring.specs.Places.{Region}
-use Rattle.arraydeque_ring.specs.Ownership.{places_owned, right_to_free, slots_owned}
+pub use Rattle.arraydeque_ring.specs.Ownership.{owned_if, place_owned, places_owned, right_to_free}
+use Rattle.arraydeque_ring.specs.Ownership.{slots_owned}
 use Rattle.arraydeque_ring.specs.contracts.slots.Slots as slots
 use Rattle.arraydeque_ring.specs.contracts.slots.Slots.TheInside as inside
 use Rattle.arraydeque_ring.specs.declared.slots.Slots.TheInside.{Inside}

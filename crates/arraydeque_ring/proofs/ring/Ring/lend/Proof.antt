@@ -10,7 +10,6 @@ use base.Logic.{sep}
 use denote.Plain.{uint_in, uint_out}
 use Rattle.arraydeque_ring.specs.Lends as Lends
 use Rattle.arraydeque_ring.specs.Loans.{LoanState, AreApart}
-use Rattle.arraydeque_ring.specs.Places.{HoldsRun, IsFilledRun}
 use Rattle.arraydeque_ring.specs.Ring.{RingState}
 use Rattle.arraydeque_ring.specs.RingLends.{rewritten}
 use Rattle.arraydeque_ring.specs.contracts.slots.loan.Loan as loan
@@ -22,7 +21,7 @@ use Rattle.arraydeque_ring.proofs.loans.Placed.{run_length}
 use Rattle.std.proofs.lemmas.List.{nil_from_length}
 use Rattle.arraydeque_ring.proofs.loans.Names.{hands_on, followed_both}
 use Rattle.arraydeque_ring.proofs.loans.Rings.{Rr, Fields, Others, Way, fields_out, slots_out, ring_whole}
-use Rattle.arraydeque_ring.proofs.memory.Regions.{Sr, Seen, slots_val, slots_apart, slots_made}
+use Rattle.arraydeque_ring.proofs.memory.Regions.{Sr, Seen, slots_val, slots_apart, slots_made, HoldsRun, IsFilledRun}
 use Rattle.arraydeque_ring.proofs.places.Opened.{opened, view, Kept}
 use Rattle.arraydeque_ring.specs.contracts.slots.Slots.lend_two as g
 use Rattle.arraydeque_ring.proofs.slots.Slots.lend_two.Met.{met}

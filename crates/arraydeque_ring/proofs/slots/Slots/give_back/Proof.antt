@@ -4,11 +4,9 @@ use Rattle.std.specs.Prelude.{nat_lt}
 use Rattle.std.specs.contracts.alloc.Global as heap
 use Rattle.std.proofs.Flags.{T_true}
 use Rattle.std.proofs.impls.GlobalAllocator.deallocate.Met.{met}
-use Rattle.arraydeque_ring.specs.Ownership.{owned_if, places_owned, right_to_free}
-use Rattle.arraydeque_ring.specs.Places.{AreAllEmpty}
 use Rattle.arraydeque_ring.proofs.memory.Blocks.{scaled, block_ty, block_size, block_align, token}
 use Rattle.arraydeque_ring.proofs.memory.Heap.{Deallocates, Asks, to_deallocate, deallocate_goes, deallocate_gives}
-use Rattle.arraydeque_ring.proofs.memory.Regions.{Sr, Seen, slots_val, slots_Good, slots_apart, item_size, Place, to_room}
+use Rattle.arraydeque_ring.proofs.memory.Regions.{Sr, Seen, slots_val, slots_Good, slots_apart, item_size, Place, to_room, owned_if, places_owned, right_to_free, AreAllEmpty}
 use Rattle.arraydeque_ring.specs.contracts.slots.Slots.give_back as f
 use Rattle.arraydeque_ring.proofs.slots.Slots.give_back.Statement as stated
 use Rattle.arraydeque_ring.proofs.slots.Slots.give_back.Code as code

@@ -4,15 +4,13 @@ use types.SemTy.{Arr}
 use base.Stored.{coded_list}
 use denote.FollowSlice.{slice_of}
 use Rattle.arraydeque_ring.specs.Loans.{LoanState, as_many, with_run, written_over, AreApart}
-use Rattle.arraydeque_ring.specs.Ownership.{places_owned}
-use Rattle.arraydeque_ring.specs.Places.{IsFilledRun, HoldsRun}
 use Rattle.arraydeque_ring.specs.Steps.{more_lends}
 use Rattle.arraydeque_ring.specs.contracts.slots.loan.Loan as loan
 use Rattle.arraydeque_ring.proofs.loans.Made.{loan_val, loan_made}
 use Rattle.arraydeque_ring.proofs.loans.Names.{takes_named}
 use Rattle.arraydeque_ring.proofs.loans.Placed.{placed, apart_within, as_many-same, two_filled, length-written_over, written_over-same}
 use Rattle.arraydeque_ring.proofs.loans.Runs.{run, News, Filling, two_out, to_cells, of_cells}
-use Rattle.arraydeque_ring.proofs.memory.Regions.{Sr, Seen, Fits, near, run_fits, Frame, slots_whole, slots_open, scaled, item_size, Place}
+use Rattle.arraydeque_ring.proofs.memory.Regions.{Sr, Seen, Fits, near, run_fits, Frame, slots_whole, slots_open, scaled, item_size, Place, places_owned, IsFilledRun, HoldsRun}
 use Rattle.arraydeque_ring.proofs.places.Held.{length_filled}
 use Rattle.arraydeque_ring.specs.contracts.slots.Slots.lend_two as f
 use Rattle.arraydeque_ring.proofs.slots.Slots.lend_two.Statement as stated

@@ -1,9 +1,8 @@
 -- `slice` lends the values of a filled run. Assumes `Logic`.
 use Rattle.arraydeque_ring.proofs.memory.Kit.{◌≡◌, refl, sym, ap, subst, List, [], ◌∷◌, ℕ, ◌+◌, ◌*◌, ◌<◌, ◌^◌, arith, length, ftrue, flft, Fn, inst_fn, named, w64, Val, vint, vptr, Env, ◌⊑◌, fact, tables, owns, types_at, ‵, raw, ◌⊛◌, at_ret, ◌$◌, ◌∵◌, !, qed, move, keep, use1, drop, split, join, fsplit, fjoin, feq_i, flt_i, suffices, done, agg, enter, of_opd, bin, load, look, stop, fld, no_more, and_then, first, blocks, exec, returns, alloc_all, pass_all, free_all, look_at, get, through, sets, sets_last, env, yes, plain, usize, RefOf, uint_vals, uint_Tells, shr_vals, shr_Tells, Stays, walk_of, says, stay_dropped, Goes-dropped, ends_at, nothing, heard, after, El, R, args, el_x, times_below, proved, slice_val, elements_shared}
 use denote.Opens.{hide}
-use Rattle.arraydeque_ring.specs.Places.{IsFilledRun}
 use Rattle.arraydeque_ring.proofs.memory.Lent.{slots_seen, pointer_open, pointer_close}
-use Rattle.arraydeque_ring.proofs.memory.Regions.{Sr, Seen, scaled, item_size, run_seen}
+use Rattle.arraydeque_ring.proofs.memory.Regions.{Sr, Seen, scaled, item_size, run_seen, IsFilledRun}
 use Rattle.arraydeque_ring.proofs.places.Held.{length_filled}
 use Rattle.arraydeque_ring.specs.contracts.slots.Slots.run as f
 use Rattle.arraydeque_ring.proofs.slots.Slots.run.Statement as stated

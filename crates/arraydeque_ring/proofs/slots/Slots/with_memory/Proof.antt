@@ -8,10 +8,9 @@ use Rattle.std.specs.contracts.alloc.Global as heap
 use Rattle.std.proofs.alloc.Calls.{Answer-typed}
 use Rattle.std.proofs.impls.GlobalAllocator.allocate.Met.{met}
 use Rattle.std.proofs.ResultValues.{ok_of, err_of}
-use Rattle.arraydeque_ring.specs.Places.{empty_region}
 use Rattle.arraydeque_ring.proofs.memory.Blocks.{scaled, block_ty, block_size, block_align, token, token_at_start, right_is}
 use Rattle.arraydeque_ring.proofs.memory.Heap.{Allocates, Answered, Asks, to_allocate, allocate_goes, allocate_gives, answers}
-use Rattle.arraydeque_ring.proofs.memory.Regions.{Sr, Seen, places, heap_Good, slots_val, slots_Good, slots_made, item_size, of_room}
+use Rattle.arraydeque_ring.proofs.memory.Regions.{Sr, Seen, places, heap_Good, slots_val, slots_Good, slots_made, item_size, of_room, empty_region}
 use Rattle.arraydeque_ring.specs.contracts.slots.Slots.with_memory as f
 use Rattle.arraydeque_ring.proofs.slots.Slots.with_memory.Statement as stated
 use Rattle.arraydeque_ring.proofs.slots.Slots.with_memory.Code as code
