@@ -1,5 +1,5 @@
 -- `lend` lends all items: its slots lend two runs, and the ring follows what they follow. Assumes `Logic`.
-use Rattle.arraydeque_ring.proofs.memory.Kit.{◌≡◌, refl, ap, List, [], ◌∷◌, ℕ, ◌+◌, ◌<◌, ◌≤◌, ◌^◌, lit<, arith, length, full_share, emp, id⊢, fact_i, Share, GName, ftrue, fsep, fat, flft, fauth, Fn, inst_fn, named, w64, Val, vint, vptr, ◌⊑◌, fact, tables, sem, Borrowed, owns, types_at, ‵, raw, ◌⊛◌, some, later, ◌$◌, ◌∵◌, !, qed, move, keep, use0, use1, use2, drop, split, join, pick, frame, rewrite, await, fsplit, fsplit3, fjoin, fjoin3, fpack, feq_i, flt_i, feq_l, flt_l, suffices, done, enter, of_opd, lit, bin, addr, load, look, stop, fld, no_more, whole, sub, look_in, only, and_then, returns, alloc_all, pass_all, free_all, look_at, get, through, sets, lands_as, no, plain, usize, uint_vals, mem, part_at, Is, shows, peeks, Stays, walk_of, says_two, stay_dropped, ends_at, nothing, heard, calls_at, framed, triple_of, param_laws, El, R, args, el_x, proved, after₂, split3, group, name_new, Array, both_by, part_in, part_out, lone, MutBor, NamedLft, mut_vals, mut_Tells, mut_ref_to, named_lft, lasts, Lasts, Goes-spent_ref, pure_i}
+use Rattle.arraydeque_ring.proofs.memory.Kit.{◌≡◌, refl, ap, List, [], ◌∷◌, ℕ, ◌+◌, ◌<◌, ◌≤◌, ◌^◌, lit<, arith, length, full_share, emp, id⊢, fact_i, Share, GName, ftrue, fsep, fat, flft, fauth, Fn, inst_fn, named, w64, Val, vptr, ◌⊑◌, fact, tables, sem, Borrowed, owns, types_at, ‵, raw, ◌⊛◌, some, later, ◌$◌, ◌∵◌, !, qed, move, keep, use0, use1, use2, drop, split, join, pick, frame, rewrite, await, fsplit, fsplit3, fjoin, fjoin3, fpack, feq_i, feq_l, flt_l, suffices, done, enter, of_opd, lit, bin, addr, load, look, stop, fld, no_more, whole, sub, look_in, only, and_then, returns, alloc_all, pass_all, free_all, look_at, get, through, sets, lands_as, no, plain, usize, uint_vals, mem, part_at, Is, shows, peeks, Stays, walk_of, says_two, stay_dropped, ends_at, nothing, heard, calls_at, framed, triple_of, param_laws, El, R, args, el_x, proved, after₂, split3, group, name_new, Array, both_by, part_in, part_out, lone, MutBor, NamedLft, mut_vals, mut_Tells, mut_ref_to, named_lft, lasts, Lasts, Goes-spent_ref, pure_i}
 use Rattle.std.specs.Prelude.{◌-◌, min}
 use types.Follow.{after}
 use types.Late.{ages, bor_new_deep}

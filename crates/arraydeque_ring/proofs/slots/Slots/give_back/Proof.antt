@@ -1,5 +1,5 @@
 -- `give_back` makes the empty places one block again, and frees it. Assumes `Logic`.
-use Rattle.arraydeque_ring.proofs.memory.Kit.{◌≡◌, refl, sym, ap, subst, Bool, List, [], ◌∷◌, ◌++◌, ℕ, ◌*◌, ◌<◌, ◌^◌, arith, T, length, SProp, ent, id⊢, ftrue, froom, flft, Fn, inst_fn, w64, ty_array, ty_unit, Val, vunit, vint, vptr, has_ty, WT, align, capped, capped_fits, Env, WpFn, ◌⊑◌, fact, tables, owns, types_at, ‵, raw, ◌⊛◌, given, later, at_ret, ◌$◌, ◌∵◌, !, qed, move, keep, drop, use1, use3, split, join, learn, rewrite, fsplit, fjoin, feq_i, suffices, await, done, whole, sub, enter, of_opd, lit, unit_lit, align_word, bin, stop, fld, no_more, and_then, first, blocks, branches, skips, exec, returns, alloc_all, pass_all, free_all, look_at, get, get_in, sets, lands_last, env, yes, no, plain, RefOf, Stays, walk_of, stay_dropped, Goes-dropped, ends_at, heard, nothing, calls_at_last, framed, block_ptr, after, El, R, args, elτ, proved_at, Global}
+use Rattle.arraydeque_ring.proofs.memory.Kit.{◌≡◌, refl, sym, subst, Bool, List, [], ◌∷◌, ◌++◌, ℕ, ◌*◌, ◌<◌, ◌^◌, arith, T, length, SProp, ent, id⊢, ftrue, froom, flft, Fn, inst_fn, ty_array, ty_unit, Val, vunit, vptr, has_ty, WT, align, capped, capped_fits, Env, WpFn, ◌⊑◌, fact, tables, owns, types_at, ‵, raw, ◌⊛◌, given, later, at_ret, ◌$◌, ◌∵◌, !, qed, move, keep, drop, use1, use3, split, join, learn, rewrite, fsplit, fjoin, feq_i, suffices, await, done, whole, sub, enter, of_opd, lit, unit_lit, align_word, bin, stop, fld, no_more, and_then, first, blocks, branches, skips, exec, returns, alloc_all, pass_all, free_all, look_at, get, get_in, sets, lands_last, env, yes, no, plain, RefOf, Stays, walk_of, stay_dropped, Goes-dropped, ends_at, heard, nothing, calls_at_last, framed, block_ptr, after, El, R, args, elτ, proved_at, Global}
 use Rattle.std.specs.Prelude.{nat_lt}
 use Rattle.std.specs.contracts.alloc.Global as heap
 use Rattle.std.proofs.Flags.{T_true}
