@@ -11,7 +11,8 @@ use Rattle.arraydeque_ring.specs.contracts.slots.Slots as slots
 use Rattle.arraydeque_ring.specs.contracts.slots.Slots.TheInside as inside
 use Rattle.arraydeque_ring.specs.declared.slots.Slots.TheInside.{Inside}
 pub use Rattle.arraydeque_ring.proofs.memory.Blocks.{scaled}
-pub use Rattle.arraydeque_ring.proofs.memory.Owned.{Others, Place, Row, item_size, of_nothing, of_room, place_in, place_out, run_seen, to_room, value_in, value_out}
+pub use Rattle.arraydeque_ring.proofs.memory.Owned.{Place, Row, item_size, of_nothing, of_room, run_seen, to_room, value_in, value_out}
+pub use Rattle.arraydeque_ring.proofs.memory.Rows.{Around, run_out, run_in, place_out, place_in, row_room, to_array, of_array}
 
 -- the words of a `Slots`: the pointer, the capacity and the allocator
 abbrev pub words_val : Ptr → ℕ → Val

@@ -1,5 +1,5 @@
 -- A run of places is taken out of a block as an array of values, or as room for one, and put back. Assumes `Logic`.
-use Rattle.arraydeque_ring.proofs.memory.Kit.{◌≡◌, refl, sym, ap, ◌∙◌, List, [], ◌∷◌, ◌++◌, map, ℕ, ◌+◌, ◌*◌, ◌≤◌, arith, length, take, drop_list, take-append-drop, length-take, length-drop, Some, None, Ura, full_share, ent, sep, id⊢, mono_r, via, Fml, fsep, fat, froom, ty_array, Val, Logic, sem, ‵, ◌⊛◌, some, given, ◌$◌, ◌∵◌, !, qed, by, move, keep, use1, use2, pick, learn, split, fsplit, fjoin, rewrite, done, part_at, Good, El, R, el_x, elτ, Array}
+use Rattle.arraydeque_ring.proofs.memory.Kit.{◌≡◌, refl, sym, ap, ◌∙◌, List, [], ◌∷◌, ◌++◌, map, ℕ, ◌+◌, ◌*◌, ◌≤◌, arith, length, take, drop_list, take-append-drop, length-take, length-drop, Some, None, Ura, full_share, ent, sep, id⊢, mono_r, via, Fml, fsep, fat, froom, ty_array, Val, Logic, sem, ‵, ◌⊛◌, some, given, ◌$◌, ◌∵◌, !, qed, by, move, keep, use1, use2, pick, learn, split, fsplit, fjoin, rewrite, done, part_at, Good, El, R, el_x, elτ, Array, ◌<◌, get_or, set, drop-cons, set_split, nothing, suc}
 use lib.Seq.{drop-drop}
 use denote.Index.{row}
 use Rattle.std.proofs.ptr.Rows as arrays
@@ -41,6 +41,19 @@ module _ (E : El) {M : Type 1} {𝓤 : Ura M} (𝓛 : Logic 𝓤) (b : ℕ) wher
         qed 𝓛 (‵ (On (i * s + o) qs) ∷ ‵ Around ∷ []) ∵ move ! (1 ∷ []) $ fsplit ! $ move ! (2 ∷ 1 ∷ []) $
         use2 𝓛 (‵ (On (i * s + o) (qs ++ rest))) (glue E 𝓛 b qs rest (i * s + o) (n * s + (i * s + o)) (ap (λ k. k * s + (i * s + o)) (sym long))) $ move ! (1 ∷ 0 ∷ []) $
         by ! (glue E 𝓛 b (take i ps) (qs ++ rest) o (i * s + o) (at_i within))
+
+  -- one place is a run of one
+  module _ (o : ℕ) (ps : List (Place E)) (i : ℕ) (lt : i < length ps) where
+    pub place_out : ent 𝓤 (sem 𝓛 (On o ps)) (sep 𝓤 (sem 𝓛 (place_owned (R E) b (i * s + o) (get_or ps i None))) (sem 𝓛 (Around o ps i 1)))
+    place_out =
+        qed 𝓛 (‵ (On o ps) ∷ []) ∵ use1 𝓛 (‵ (On (i * s + o) (take 1 (drop_list i ps))) ⊛ ‵ (Around o ps i 1)) (run_out o ps i 1 (omega arith)) $ split ! $
+        rewrite ! 0 (λ (qs : List (Place E)). ‵ (On (i * s + o) qs)) (ap (take 1) (drop-cons ps i None lt)) refl $ fsplit ! $ keep ! (0 ∷ 2 ∷ []) $ done !
+
+    pub place_in : (p : Place E) → ent 𝓤 (sep 𝓤 (sem 𝓛 (place_owned (R E) b (i * s + o) p)) (sem 𝓛 (Around o ps i 1))) (sem 𝓛 (On o (set ps i p)))
+    place_in p =
+        qed 𝓛 (‵ (place_owned (R E) b (i * s + o) p) ∷ ‵ (Around o ps i 1) ∷ []) ∵ nothing ! $ move ! (1 ∷ 0 ∷ []) $ fjoin ! $
+        use2 𝓛 (‵ (On o (take i ps ++ (p ∷ drop_list (i + 1) ps)))) (run_in o ps i 1 (omega arith) (p ∷ []) refl) $
+        rewrite ! 0 (λ (qs : List (Place E)). ‵ (On o qs)) (ap (λ k. take i ps ++ (p ∷ drop_list k ps)) {y = suc i} (omega arith) ∙ sym (set_split ps i p lt)) refl $ done !
 
   -- a place is room, whether or not it holds a value, and a run of places is room for an array
   place_room : (p : Place E) (o : ℕ) → ent 𝓤 (sem 𝓛 (place_owned (R E) b o p)) (H.room (elτ E) b o)

@@ -4,8 +4,7 @@ use denote.RawPtr.{rawptr_vals}
 use Rattle.std.specs.contracts.ptr.copy_nonoverlapping as copy
 use Rattle.std.proofs.ptr.copy_nonoverlapping.Met as copy_thm
 use Rattle.arraydeque_ring.specs.Gaps.{IsEmptyRun, run_emptied}
-use Rattle.arraydeque_ring.proofs.memory.Regions.{Sr, Seen, near, run_fits, slots_open, slots_close, scaled, item_size, Place, Row, of_room, IsFilledRun}
-use Rattle.arraydeque_ring.proofs.memory.Rows.{Around, run_out, run_in, row_room, to_array, of_array}
+use Rattle.arraydeque_ring.proofs.memory.Regions.{Sr, Seen, near, run_fits, slots_open, slots_close, scaled, item_size, Place, Row, of_room, IsFilledRun, Around, run_out, run_in, row_room, to_array, of_array}
 use Rattle.arraydeque_ring.specs.contracts.slots.Slots.copy_over as f
 use Rattle.arraydeque_ring.proofs.slots.Slots.copy_over.Statement as stated
 use Rattle.arraydeque_ring.proofs.slots.Slots.copy_over.Code as code

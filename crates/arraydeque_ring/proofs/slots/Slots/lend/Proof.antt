@@ -2,7 +2,7 @@
 use Rattle.arraydeque_ring.proofs.memory.Kit.{refl, sym, [], ◌∷◌, ℕ, ◌+◌, ◌*◌, ◌<◌, ◌^◌, arith, length, get_or, set, length-set, Some, None, Ura, ent, sep, id⊢, GName, Fml, ftrue, fsep, flft, Fn, inst_fn, named, w64, vint, vptr, Env, ◌⊑◌, fact, tables, Logic, sem, owns, types_at, ‵, raw, ◌⊛◌, some, later, at_ret, ◌$◌, ◌∵◌, !, qed, by, move, keep, use1, use2, drop, split, join, pick, frame, rewrite, await, fsplit, fsplit3, fjoin, suffices, done, whole, sub, look_in, enter, of_opd, size_lit, bin, load, addr, stop, fld, first, blocks, exec, returns, alloc_all, pass_all, free_all, look_at, get, through, sets, sets_last, env, yes, no, plain, usize, uint_vals, uint_Tells, mem, Stays, walk_of, says, stay_dropped, Goes-dropped, ends_at, nothing, heard, after, El, R, args, el_x, one_below, proved, split3, group, follows, MutBor, mut_vals, mut_Tells, mut_ref_to, Goes-spent_ref, Global}
 use denote.Follow.{Part, lends_Part}
 use denote.Ref.{MutRef}
-use Rattle.arraydeque_ring.proofs.memory.Regions.{Sr, Seen, Fits, near, run_fits, places, Frame, slots_whole, slots_open, item_size, Place, Others, place_out, place_in, place_owned, IsFilled}
+use Rattle.arraydeque_ring.proofs.memory.Regions.{Sr, Seen, Fits, near, run_fits, places, Frame, slots_whole, slots_open, item_size, Place, Around, place_out, place_in, place_owned, IsFilled}
 use Rattle.arraydeque_ring.proofs.places.Held.{filled_within}
 use Rattle.arraydeque_ring.specs.contracts.slots.Slots.lend as f
 use Rattle.arraydeque_ring.proofs.slots.Slots.lend.Statement as stated
@@ -16,7 +16,7 @@ module _ (E : El) where
 module _ (E : El) {M : Type 1} {𝓤 : Ura M} (𝓛 : Logic 𝓤) (rb ro : ℕ) (r : Seen E) (i : ℕ) (g : Global) (b o n : ℕ) where
   -- all but the place
   abbrev Rest : Fml
-  Rest = fsep (Others E 𝓛 b o r.places i) (Frame E 𝓛 rb ro g r b o n)
+  Rest = fsep (Around E 𝓛 b o r.places i 1) (Frame E 𝓛 rb ro g r b o n)
 
   back : Fits E r o n → i < length r.places → (w : el_x E) → ent 𝓤 (sep 𝓤 (sem 𝓛 ((mem (R E)).own_at w b (i * item_size E + o))) (sem 𝓛 Rest)) (sem 𝓛 ((mem (Sr E)).own_at (Written E r i w) rb ro))
   back ok within w =
@@ -50,7 +50,7 @@ lend_spec 𝓤 𝓛 𝓜 𝓡 wired X L =
     sets_last ! (addr ! (through ! refl (stop !))) refl (tt, tt) $
     exec ! 𝓣.C 𝓣.Λ En (after 1 here.body) (at_ret En (W.post y)) $ sets ! (of_opd ! (get ! refl)) refl (tt, tt) $
     let at = i * s + o in let way = back E 𝓛 rb ro r i g b o n ok within in let new = Written E r i in let Rest₀ = sem 𝓛 (Rest E 𝓛 rb ro r i g b o n) in
-    use1 𝓛 (‵ (place_owned (R E) b at (get_or r.places i None)) ⊛ ‵ (Others E 𝓛 b o r.places i)) (place_out E 𝓛 b o r.places i within) $ split ! $
+    use1 𝓛 (‵ (place_owned (R E) b at (get_or r.places i None)) ⊛ ‵ (Around E 𝓛 b o r.places i 1)) (place_out E 𝓛 b o r.places i within) $ split ! $
     rewrite ! 0 (λ (p : Place E). ‵ (place_owned (R E) b at p)) asked.1 refl $
     -- [the value; the others; the right; the words; the open borrow, in three; the other token]
     move ! (2 ∷ 3 ∷ []) $ fjoin ! $ move ! (2 ∷ 0 ∷ []) $ fjoin ! $ move ! (2 ∷ 3 ∷ 4 ∷ 1 ∷ 0 ∷ []) $ group ! 5 $

@@ -4,8 +4,7 @@ use denote.FollowSlice.{Elements, lends_Elements}
 use Rattle.arraydeque_ring.specs.Loans.{as_many, with_run}
 use Rattle.arraydeque_ring.proofs.loans.Placed.{placed, as_many-same, length-placed}
 use Rattle.arraydeque_ring.proofs.loans.Runs.{run, to_cells, of_cells}
-use Rattle.arraydeque_ring.proofs.memory.Rows.{Around, run_out, run_in}
-use Rattle.arraydeque_ring.proofs.memory.Regions.{Sr, Seen, Fits, near, run_fits, Frame, slots_whole, slots_open, scaled, item_size, Place, places_owned, IsFilledRun}
+use Rattle.arraydeque_ring.proofs.memory.Regions.{Sr, Seen, Fits, near, run_fits, Frame, slots_whole, slots_open, scaled, item_size, Place, places_owned, IsFilledRun, Around, run_out, run_in}
 use Rattle.arraydeque_ring.proofs.places.Held.{length_filled}
 use Rattle.arraydeque_ring.specs.contracts.slots.Slots.lend_run as f
 use Rattle.arraydeque_ring.proofs.slots.Slots.lend_run.Statement as stated

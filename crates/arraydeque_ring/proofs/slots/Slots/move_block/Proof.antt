@@ -5,8 +5,7 @@ use denote.Param.{ArrayAt}
 use denote.Param.Laws.{array_at_laws}
 use Rattle.arraydeque_ring.specs.Gaps.{run_emptied}
 use Rattle.arraydeque_ring.specs.Moved.{run_moved}
-use Rattle.arraydeque_ring.proofs.memory.Regions.{Sr, Seen, near, slots_open, slots_close, scaled, item_size, Place, Row, of_room, IsFilledRun}
-use Rattle.arraydeque_ring.proofs.memory.Rows.{Around, run_out, run_in, row_room, to_array, of_array}
+use Rattle.arraydeque_ring.proofs.memory.Regions.{Sr, Seen, near, slots_open, slots_close, scaled, item_size, Place, Row, of_room, IsFilledRun, Around, run_out, run_in, row_room, to_array, of_array}
 use Rattle.arraydeque_ring.proofs.moved.Flat.{length-moved, moved_parts}
 use Rattle.arraydeque_ring.specs.contracts.slots.Slots.move_block as f
 use Rattle.arraydeque_ring.proofs.slots.Slots.move_block.Statement as stated

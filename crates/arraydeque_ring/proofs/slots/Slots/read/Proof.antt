@@ -1,6 +1,6 @@
 -- `read` empties a filled place. Assumes `Logic`.
 use Rattle.arraydeque_ring.proofs.memory.Kit.{refl, sym, List, [], ◌∷◌, ℕ, ◌+◌, ◌*◌, ◌<◌, ◌^◌, arith, length, get_or, set, length-set, None, full_share, fat, froom, ftrue, flft, Fn, inst_fn, named, w64, Val, vint, vptr, Env, ◌⊑◌, fact, tables, owns, types_at, ‵, raw, ◌⊛◌, some, given, at_ret, ◌$◌, ◌∵◌, !, qed, move, keep, use1, use2, drop, split, join, pick, learn, rewrite, fsplit3, fjoin, fjoin3, feq_i, suffices, done, whole, sub, look_in, enter, of_opd, size_lit, bin, load, look, stop, fld, first, blocks, exec, returns, alloc_all, pass_all, free_all, look_at, get, through, sets, sets_last, env, yes, plain, usize, uint_vals, uint_Tells, Stays, walk_of, stay_dropped, stay_ref, Goes-dropped, Goes-ref, ends_at, nothing, heard, as_raw, after, says_two, Good, El, R, args, el_x, elτ, one_below, proved, mut_vals, mut_Tells}
-use Rattle.arraydeque_ring.proofs.memory.Regions.{Sr, Seen, near, run_fits, places, slots_open, slots_close, item_size, Place, Others, place_out, place_in, value_out, place_owned, IsFilled}
+use Rattle.arraydeque_ring.proofs.memory.Regions.{Sr, Seen, near, run_fits, places, slots_open, slots_close, item_size, Place, Around, place_out, place_in, value_out, place_owned, IsFilled}
 use Rattle.arraydeque_ring.proofs.places.Held.{filled_within}
 use Rattle.arraydeque_ring.specs.contracts.slots.Slots.read as f
 use Rattle.arraydeque_ring.proofs.slots.Slots.read.Statement as stated
@@ -27,7 +27,7 @@ read_spec 𝓤 𝓛 𝓜 𝓡 wired X L =
     slots_open E ! tt r rb ro (λ g b o n ok.
     let far = near E ok i (omega arith) in let small : s < 2 ^ 64 = omega (arith, one_below (length r.places) s (2 ^ 63) (omega arith) (run_fits E ok (length r.places) (omega arith)).1) in
     let new : Seen E = record r { places = set r.places i None } in
-    use1 𝓛 (‵ (place_owned (R E) b (i * s + o) (get_or r.places i None)) ⊛ ‵ (Others E 𝓛 b o r.places i)) (place_out E 𝓛 b o r.places i within) $ split ! $
+    use1 𝓛 (‵ (place_owned (R E) b (i * s + o) (get_or r.places i None)) ⊛ ‵ (Around E 𝓛 b o r.places i 1)) (place_out E 𝓛 b o r.places i within) $ split ! $
     rewrite ! 0 (λ (p : Place E). ‵ (place_owned (R E) b (i * s + o) p)) asked.1 refl $
     use1 𝓛 (some (λ (v : Val). given (Good (elτ E) v) (‵ (fat full_share (elτ E) b (i * s + o) v) ⊛ ‵ (X.own_val x (v ∷ []))))) (value_out 0 X L 𝓛 x b (i * s + o)) $ pick ! (λ v. learn ! (λ v_fits. split ! $
     -- [the value; what x owns; the other places; the right; the words; the open borrow, in three; the other token]

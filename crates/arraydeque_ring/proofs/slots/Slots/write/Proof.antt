@@ -1,6 +1,6 @@
 -- `write` fills an empty place. Assumes `Logic`.
 use Rattle.arraydeque_ring.proofs.memory.Kit.{refl, sym, subst, List, [], ◌∷◌, ℕ, ◌+◌, ◌*◌, ◌<◌, ◌^◌, arith, length, get_or, set, length-set, Some, None, ent, ftrue, flft, Fn, inst_fn, w64, Val, vunit, vint, vptr, Env, WpFn, ◌⊑◌, fact, tables, owns, types_at, ‵, raw, ◌⊛◌, at_ret, ◌$◌, ◌∵◌, !, qed, move, keep, use1, use2, drop, split, join, rewrite, fsplit, fsplit3, fjoin, fjoin3, feq_i, suffices, done, whole, sub, look_in, enter, of_opd, unit_lit, size_lit, bin, load, init, stop, fld, assigns_last, first, blocks, exec, returns, alloc_all, pass_all, free_all, look_at, get, through, sets, env, yes, no, plain, usize, Vals, Stays, walk_of, stay_dropped, stay_ref, Goes-dropped, Goes-ref, ends_at, nothing, heard, as_written, after, says, El, R, args, el_x, elτ, lawful, one, one_below, proved_at}
-use Rattle.arraydeque_ring.proofs.memory.Regions.{Sr, Seen, near, run_fits, places, slots_open, slots_close, item_size, Place, Others, place_out, place_in, value_in, place_owned, IsEmpty}
+use Rattle.arraydeque_ring.proofs.memory.Regions.{Sr, Seen, near, run_fits, places, slots_open, slots_close, item_size, Place, Around, place_out, place_in, value_in, place_owned, IsEmpty}
 use Rattle.arraydeque_ring.specs.contracts.slots.Slots.write as f
 use Rattle.arraydeque_ring.proofs.slots.Slots.write.Statement as stated
 use Rattle.arraydeque_ring.proofs.slots.Slots.write.Code as code
@@ -29,7 +29,7 @@ write_spec 𝓤 𝓛 𝓜 𝓡 wired X L =
     slots_open E ! tt r rb ro (λ g b o n ok.
     let far = near E ok i (omega arith) in let small : s < 2 ^ 64 = omega (arith, one_below (length r.places) s (2 ^ 63) (omega arith) (run_fits E ok (length r.places) (omega arith)).1) in
     let new : Seen E = record r { places = set r.places i (Some x) } in
-    use1 𝓛 (‵ (place_owned (R E) b (i * s + o) (get_or r.places i None)) ⊛ ‵ (Others E 𝓛 b o r.places i)) (place_out E 𝓛 b o r.places i within) $ split ! $
+    use1 𝓛 (‵ (place_owned (R E) b (i * s + o) (get_or r.places i None)) ⊛ ‵ (Around E 𝓛 b o r.places i 1)) (place_out E 𝓛 b o r.places i within) $ split ! $
     rewrite ! 0 (λ (p : Place E). ‵ (place_owned (R E) b (i * s + o) p)) asked.1 refl $ as_written ! (elτ E) b (i * s + o) $
     -- [the room; the other places; the right; the words; the open borrow, in three; what x owns; the other token]
     first ! $ blocks ! $
