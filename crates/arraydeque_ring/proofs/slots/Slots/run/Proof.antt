@@ -1,7 +1,10 @@
 -- `slice` lends the values of a filled run. Assumes `Logic`.
-use Rattle.arraydeque_ring.proofs.memory.Kit.{refl, sym, ap, List, [], ◌∷◌, ℕ, ◌+◌, ◌*◌, ◌<◌, ◌^◌, arith, length, ftrue, flft, Fn, inst_fn, named, w64, Val, vint, vptr, Env, ◌⊑◌, fact, tables, owns, types_at, ‵, raw, ◌⊛◌, at_ret, ◌$◌, ◌∵◌, !, qed, move, keep, use1, drop, split, join, fsplit, fjoin, feq_i, flt_i, suffices, done, agg, enter, of_opd, bin, load, look, stop, fld, no_more, and_then, first, blocks, exec, returns, alloc_all, pass_all, free_all, look_at, get, through, sets, sets_last, env, yes, plain, usize, RefOf, uint_vals, uint_Tells, shr_vals, shr_Tells, Stays, walk_of, says, stay_dropped, Goes-dropped, ends_at, nothing, heard, after, El, R, args, el_x, times_below, proved, slice_val, elements_shared}
+use Rattle.arraydeque_ring.proofs.memory.Kit.{refl, sym, ap, List, [], ◌∷◌, ℕ, ◌+◌, ◌*◌, ◌<◌, ◌^◌, arith, length, ftrue, flft, Fn, inst_fn, named, w64, Val, vint, vptr, Env, ◌⊑◌, fact, tables, owns, types_at, ‵, raw, ◌⊛◌, at_ret, ◌$◌, ◌∵◌, !, qed, move, keep, use1, drop, split, join, fsplit, fjoin, feq_i, flt_i, suffices, done, agg, enter, of_opd, bin, load, look, stop, fld, no_more, and_then, first, blocks, exec, returns, alloc_all, pass_all, free_all, look_at, get, through, sets, sets_last, env, yes, plain, usize, RefOf, uint_vals, uint_Tells, shr_vals, shr_Tells, Stays, walk_of, says, stay_dropped, Goes-dropped, ends_at, nothing, heard, after, El, R, args, el_x, times_below, proved, slice_val, elements_shared, ◌∙◌, looks, shuts, RawPtr, Ptr, ptr_val, ty_ptr, feq_l, rewrite, cell_at}
+use denote.Copied.{plain_Copied}
 use denote.Opens.{hide}
-use Rattle.arraydeque_ring.proofs.memory.Lent.{slots_seen, pointer_open, pointer_close}
+use denote.RawPtr.{coded_ptr, ptr_own, rawptr_pure}
+use denote.Struct.Laws.{RawPtr-laws}
+use Rattle.arraydeque_ring.proofs.memory.Lent.{slots_seen}
 use Rattle.arraydeque_ring.proofs.memory.Regions.{Sr, Seen, scaled, item_size, run_seen, IsFilledRun}
 use Rattle.arraydeque_ring.proofs.places.Held.{length_filled}
 use Rattle.arraydeque_ring.specs.contracts.slots.Slots.run as f
@@ -35,9 +38,10 @@ run_spec 𝓤 𝓛 𝓜 𝓡 wired X L =
     keep ! (1 ∷ 3 ∷ 4 ∷ 0 ∷ []) $
     enter ! 𝓣.C 𝓣.Λ here (vptr rb ro ∷ vint w64 i ∷ vint w64 len ∷ []) _ $ alloc_all ! (λ l. pass_all ! refl ((tt, tt), ((tt, record { fits = i_fits }), ((tt, record { fits = len_fits }), tt))) $
     let En : Env 𝓤 𝓛.H = env here.locals l in
-    first ! $ blocks ! $ pointer_open ! tt p b o at rb (ro + 0) (λ q'.
+    first ! $ blocks ! $ looks ! tt RawPtr (plain_Copied 𝓛 Ptr coded_ptr (ty_ptr ∷ []) ptr_own rawptr_pure ptr_val RawPtr-laws.tells).opens p rb (ro + 0) (λ q' vs. move ! (1 ∷ []) $ feq_l ! (λ word.
+    rewrite ! 0 (λ (us : List Val). ‵ (cell_at q' RawPtr.mir us rb (ro + 0))) (word ∙ ap (λ (r : Ptr). ptr_val r ∷ []) at) refl $ move ! (2 ∷ []) $ drop ! $
     sets ! (of_opd ! (load ! (through ! refl (fld ! refl (stop !))) (look ! 0 refl))) refl (tt, tt) $
-    pointer_close ! tt p b o at rb (ro + 0) $
+    feq_i ! (List Val) (vptr b o ∷ []) (ptr_val p ∷ []) (ap (λ (r : Ptr). ptr_val r ∷ []) (sym at)) $ move ! (1 ∷ 0 ∷ []) $ shuts ! tt RawPtr q' p (vptr b o ∷ []) rb (ro + 0) $
     sets ! (scaled ! (get ! refl) far) refl (tt, record { fits = far }) $
     sets ! (bin ! (get ! refl) (get ! refl) tt) refl (tt, tt) $
     let run : ℕ × ℕ = (b, i * s + o) in
@@ -47,4 +51,4 @@ run_spec 𝓤 𝓛 𝓜 𝓡 wired X L =
     suffices ! _ (ends_at 𝓛 ended stayed c y (slice_val run len) (record { ref_ptr = run; now = xs }) (tt, (tt, (tt, tt))) (tt, (tt, (tt, tt)))) $ says ! held $
     join ! $ move ! (1 ∷ []) $ flt_i ! (length xs * s) (2 ^ 63) (times_below (length xs) (length r.places) s (2 ^ 63) (omega arith) all) $ flt_i ! (length xs) (2 ^ 64) (omega arith) $ fjoin ! $
     feq_i ! (List Val) (slice_val run len ∷ []) (slice_val run (length xs) ∷ []) (ap (λ k. slice_val run k ∷ []) (sym long)) $ fjoin ! $ fjoin ! $
-    nothing ! $ nothing ! $ fjoin ! $ nothing ! $ fjoin ! $ nothing ! $ fjoin ! $ keep ! (2 ∷ 0 ∷ 1 ∷ []) $ done !)))))
+    nothing ! $ nothing ! $ fjoin ! $ nothing ! $ fjoin ! $ nothing ! $ fjoin ! $ keep ! (2 ∷ 0 ∷ 1 ∷ []) $ done !))))))
