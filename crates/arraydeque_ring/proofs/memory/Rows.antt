@@ -72,17 +72,13 @@ module _ (E : El) {M : Type 1} {𝓤 : Ura M} (𝓛 : Logic 𝓤) (b : ℕ) wher
   abbrev Cells : arrays.El
   Cells = record { row = E.row; laws = E.laws }
 
-  to_row : (xs : List (el_x E)) (o : ℕ) → ent 𝓤 (sem 𝓛 (On o (map Some xs))) (sem 𝓛 (row (R E) full_share xs b o))
-  to_row [] o = id⊢ 𝓤 _
-  to_row (x ∷ xs) o = mono_r 𝓤 (sem 𝓛 (part_at (R E) full_share x b o)) (to_row xs (o + s))
-
-  of_row : (xs : List (el_x E)) (o : ℕ) → ent 𝓤 (sem 𝓛 (row (R E) full_share xs b o)) (sem 𝓛 (On o (map Some xs)))
-  of_row [] o = id⊢ 𝓤 _
-  of_row (x ∷ xs) o = mono_r 𝓤 (sem 𝓛 (part_at (R E) full_share x b o)) (of_row xs (o + s))
+  same_row : (xs : List (el_x E)) (o : ℕ) → On o (map Some xs) ≡ row (R E) full_share xs b o
+  same_row [] o = refl
+  same_row (x ∷ xs) o = ap (λ (F : Fml). fsep (part_at (R E) full_share x b o) F) (same_row xs (o + s))
 
   pub to_array : (n : ℕ) (xs : List (el_x E)) (o : ℕ) → length xs ≡ n → ent 𝓤 (sem 𝓛 (On o (map Some xs))) (sem 𝓛 (part_at (Array (R E) n) full_share xs b o))
-  to_array n xs o long = via 𝓤 (sem 𝓛 (row (R E) full_share xs b o)) (to_row xs o) (arrays.whole Cells 𝓛 full_share n xs b o long)
+  to_array n xs o long = qed 𝓛 (‵ (On o (map Some xs)) ∷ []) ∵ rewrite ! 0 (λ (F : Fml). ‵ F) (same_row xs o) refl $ by ! (arrays.whole Cells 𝓛 full_share n xs b o long)
 
   pub of_array : (n : ℕ) (xs : List (el_x E)) (o : ℕ) → ent 𝓤 (sem 𝓛 (part_at (Array (R E) n) full_share xs b o)) (sem 𝓛 (On o (map Some xs)))
   of_array n xs o = qed 𝓛 (‵ (part_at (Array (R E) n) full_share xs b o) ∷ []) ∵
-      use1 𝓛 (given (length xs ≡ n) (‵ (row (R E) full_share xs b o))) (arrays.apart Cells 𝓛 full_share n xs b o) $ learn ! (λ _. by ! (of_row xs o))
+      use1 𝓛 (given (length xs ≡ n) (‵ (row (R E) full_share xs b o))) (arrays.apart Cells 𝓛 full_share n xs b o) $ learn ! (λ _. rewrite ! 0 (λ (F : Fml). ‵ F) (sym (same_row xs o)) refl $ done !)

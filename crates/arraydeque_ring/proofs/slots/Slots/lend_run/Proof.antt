@@ -3,7 +3,7 @@ use Rattle.arraydeque_ring.proofs.memory.Kit.{◌≡◌, refl, sym, ap, ◌∙�
 use denote.FollowSlice.{Elements, lends_Elements}
 use Rattle.arraydeque_ring.specs.Loans.{as_many, with_run}
 use Rattle.arraydeque_ring.proofs.loans.Placed.{placed, as_many-same, length-placed}
-use Rattle.arraydeque_ring.proofs.loans.Runs.{run, to_cells, of_cells}
+use Rattle.arraydeque_ring.proofs.loans.Runs.{run, same_cells}
 use Rattle.arraydeque_ring.proofs.memory.Regions.{Sr, Seen, Fits, near, run_fits, Frame, slots_whole, slots_open, scaled, item_size, Place, places_owned, IsFilledRun, Around, run_out, run_in}
 use Rattle.arraydeque_ring.proofs.places.Held.{length_filled}
 use Rattle.arraydeque_ring.specs.contracts.slots.Slots.lend_run as f
@@ -27,7 +27,7 @@ module _ (E : El) {M : Type 1} {𝓤 : Ura M} (𝓛 : Logic 𝓤) (rb ro : ℕ) 
       let new : Seen E = Written E r from xs ws in
       let alike : put ≡ new.places = ap (λ k. placed from k (map Some ws) r.places) (sym same) ∙ ap (λ l. with_run from l r.places) (sym (as_many-same xs ws same)) in
       let many : length (map Some ws) ≡ length xs = length-map ws Some ∙ same in
-      qed 𝓛 (‵ (cells (mem (R E)) ws b (from * item_size E + o)) ∷ ‵ Rest ∷ []) ∵ use1 𝓛 (‵ (places_owned (R E) b (from * item_size E + o) (map Some ws))) (of_cells E 𝓛 b ws (from * item_size E + o)) $
+      qed 𝓛 (‵ (cells (mem (R E)) ws b (from * item_size E + o)) ∷ ‵ Rest ∷ []) ∵ rewrite ! 0 (λ (F : Fml). ‵ F) (sym (same_cells E 𝓛 b ws (from * item_size E + o))) refl $
       move ! (1 ∷ []) $ fsplit ! $ move ! (2 ∷ 0 ∷ []) $ use2 𝓛 (‵ (places_owned (R E) b o put)) (run_in E 𝓛 b o r.places from (length xs) within (map Some ws) many) $
       rewrite ! 0 (λ (ps : List (Place E)). ‵ (places_owned (R E) b o ps)) alike refl $
       by ! (slots_whole E 𝓛 rb ro g r b o n ok new (sym (length-placed from (length xs) (map Some ws) r.places within many) ∙ ap length alike))
@@ -64,7 +64,7 @@ lend_run_spec 𝓤 𝓛 𝓜 𝓡 wired X L =
     let Rest₀ = sem 𝓛 (Rest E 𝓛 rb ro r from xs g b o n within) in let way = back E 𝓛 rb ro r from xs g b o n within ok in
     let room = run_fits E ok (length xs) (omega arith) in
     use1 𝓛 (‵ (places_owned (R E) b at (run E 𝓛 b o r.places from (length xs))) ⊛ ‵ (Around E 𝓛 b o r.places from (length xs))) (run_out E 𝓛 b o r.places from (length xs) within) $ split ! $
-    rewrite ! 0 (λ (ps : List (Place E)). ‵ (places_owned (R E) b at ps)) (ap (λ k. take k (drop_list from r.places)) long ∙ held) refl $ use1 𝓛 (‵ (cells (mem (R E)) xs b at)) (to_cells E 𝓛 b xs at) $
+    rewrite ! 0 (λ (ps : List (Place E)). ‵ (places_owned (R E) b at ps)) (ap (λ k. take k (drop_list from r.places)) long ∙ held) refl $ rewrite ! 0 (λ (F : Fml). ‵ F) (same_cells E 𝓛 b xs at) refl $
     sets_last ! (agg ! (and_then ! (get ! refl) (and_then ! (get ! refl) (no_more !)))) refl (tt, (tt, (record { fits = fl }, tt))) $
     exec ! 𝓣.C 𝓣.Λ En (after 1 here.body) (at_ret En (W.post y)) $ sets ! (of_opd ! (get ! refl)) refl (tt, (tt, (record { fits = fl }, tt))) $
     -- [the values; the others; the right; the words; the open borrow, in three; the other token]

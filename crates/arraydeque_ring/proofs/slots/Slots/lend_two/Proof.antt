@@ -1,5 +1,5 @@
 -- `lend_two` lends the values of two runs, and the region follows them under one name. Assumes `Logic`.
-use Rattle.arraydeque_ring.proofs.memory.Kit.{◌≡◌, refl, sym, ap, subst, ◌∙◌, List, [], ◌∷◌, map, ℕ, ◌+◌, ◌*◌, ◌<◌, ◌≤◌, ◌^◌, arith, length, take, length-map, drop_list, Some, Ura, SProp, ent, sep, GName, ftrue, flft, fobs, fbor, Fn, inst_fn, named, w64, vint, vptr, Env, ◌⊑◌, fact, tables, Logic, sem, Borrowed, owns, types_at, ‵, raw, ◌⊛◌, some, later, at_ret, ◌$◌, ◌∵◌, !, qed, by, move, keep, use1, use2, drop, split, join, pick, frame, rewrite, await, fsplit, fsplit3, fjoin, feq_i, feq_l, suffices, done, whole, sub, look_in, agg, enter, of_opd, bin, load, stop, fld, no_more, and_then, first, blocks, exec, returns, alloc_all, pass_all, free_all, look_at, get, through, sets, sets_last, env, yes, no, plain, usize, uint_vals, uint_Tells, mem, Stays, walk_of, says_two, stay_dropped, Goes-dropped, ends_at, nothing, heard, after, El, R, args, el_x, proved, after₂, split3, group, SemTy, cells, all, all_e, apply∗, follows, both_by, MutBor, NamedLft, mut_vals, mut_Tells, mut_ref_to, named_lft, MutSlice, slice_val, Goes-spent_ref, Global}
+use Rattle.arraydeque_ring.proofs.memory.Kit.{◌≡◌, refl, sym, ap, subst, ◌∙◌, List, [], ◌∷◌, map, ℕ, ◌+◌, ◌*◌, ◌<◌, ◌≤◌, ◌^◌, arith, length, take, length-map, drop_list, Some, Ura, SProp, ent, sep, GName, ftrue, flft, fobs, fbor, Fn, inst_fn, named, w64, vint, vptr, Env, ◌⊑◌, fact, tables, Logic, sem, Borrowed, owns, types_at, ‵, raw, ◌⊛◌, some, later, at_ret, ◌$◌, ◌∵◌, !, qed, by, move, keep, use1, use2, drop, split, join, pick, frame, rewrite, await, fsplit, fsplit3, fjoin, feq_i, feq_l, suffices, done, whole, sub, look_in, agg, enter, of_opd, bin, load, stop, fld, no_more, and_then, first, blocks, exec, returns, alloc_all, pass_all, free_all, look_at, get, through, sets, sets_last, env, yes, no, plain, usize, uint_vals, uint_Tells, mem, Stays, walk_of, says_two, stay_dropped, Goes-dropped, ends_at, nothing, heard, after, El, R, args, el_x, proved, after₂, split3, group, SemTy, cells, all, all_e, apply∗, follows, both_by, MutBor, NamedLft, mut_vals, mut_Tells, mut_ref_to, named_lft, MutSlice, slice_val, Goes-spent_ref, Global, Fml}
 use types.SemTy.{Arr}
 use base.Stored.{coded_list}
 use denote.FollowSlice.{slice_of}
@@ -9,7 +9,7 @@ use Rattle.arraydeque_ring.specs.contracts.slots.loan.Loan as loan
 use Rattle.arraydeque_ring.proofs.loans.Made.{loan_val, loan_made}
 use Rattle.arraydeque_ring.proofs.loans.Names.{takes_named}
 use Rattle.arraydeque_ring.proofs.loans.Placed.{placed, apart_within, as_many-same, two_filled, length-written_over, written_over-same}
-use Rattle.arraydeque_ring.proofs.loans.Runs.{run, News, Filling, two_out, to_cells, of_cells}
+use Rattle.arraydeque_ring.proofs.loans.Runs.{run, News, Filling, two_out, same_cells}
 use Rattle.arraydeque_ring.proofs.memory.Regions.{Sr, Seen, Fits, near, run_fits, Frame, slots_whole, slots_open, scaled, item_size, Place, places_owned, IsFilledRun, HoldsRun}
 use Rattle.arraydeque_ring.proofs.places.Held.{length_filled}
 use Rattle.arraydeque_ring.specs.contracts.slots.Slots.lend_two as f
@@ -52,8 +52,8 @@ module _ (E : El) {M : Type 1} {𝓤 : Ura M} (𝓛 : Logic 𝓤) (rb ro : ℕ) 
       ∙ ap (λ l. written_over r.places (with_run b l (with_run a us r.places))) (sym (as_many-same ys vs same')) ∙ ap (λ l. written_over r.places (with_run b (as_many ys vs) (with_run a l r.places))) (sym (as_many-same xs us same)) in
       let w : News E 𝓛 p o r.places a (length xs) b (length ys) = (map Some us, map Some vs, sym (length-map us Some ∙ same), sym (length-map vs Some ∙ same')) in
       -- [the second's values; the first's; the rest]
-      use1 𝓛 (‵ (places_owned (R E) p (b * s + o) w.1)) (of_cells E 𝓛 p vs (b * s + o)) $ move ! (1 ∷ []) $
-      use1 𝓛 (‵ (places_owned (R E) p (a * s + o) w.0)) (of_cells E 𝓛 p us (a * s + o)) $ move ! (0 ∷ 1 ∷ []) $ join ! $ move ! (1 ∷ []) $ split ! $
+      rewrite ! 0 (λ (F : Fml). ‵ F) (sym (same_cells E 𝓛 p vs (b * s + o))) refl $ move ! (1 ∷ []) $
+      rewrite ! 0 (λ (F : Fml). ‵ F) (sym (same_cells E 𝓛 p us (a * s + o))) refl $ move ! (0 ∷ 1 ∷ []) $ join ! $ move ! (1 ∷ []) $ split ! $
       use1 𝓛 (raw (Way w)) (all_e 𝓤 Way w) $ move ! (2 ∷ 0 ∷ []) $
       use2 𝓛 (‵ (places_owned (R E) p o put)) (apply∗ 𝓤 (sep 𝓤 (sem 𝓛 (places_owned (R E) p (a * s + o) w.0)) (sem 𝓛 (places_owned (R E) p (b * s + o) w.1))) (sem 𝓛 (places_owned (R E) p o put))) $
       rewrite ! 0 (λ (ps : List (Place E)). ‵ (places_owned (R E) p o ps)) alike refl $ by ! (slots_whole E 𝓛 rb ro g r p o n ok new (sym (length-written_over r.places (Written E r a b xs ys us vs).places)))))
@@ -99,8 +99,8 @@ lend_two_spec 𝓤 𝓛 𝓜 𝓡 wired X L =
     let pa = a * s + o in let pb = b * s + o in let Rest₀ = Rest E 𝓛 rb ro r a b xs ys g p o n in let way = back E 𝓛 rb ro r a b xs ys g p o n ok held held' in
     use1 𝓛 (‵ (places_owned (R E) p pa (run E 𝓛 p o r.places a (length xs))) ⊛ ‵ (places_owned (R E) p pb (run E 𝓛 p o r.places b (length ys))) ⊛ raw (all 𝓤 (Way E 𝓛 rb ro r a b xs ys g p o n)))
     (two_out E 𝓛 p o r.places a (length xs) b (length ys) in_a in_b clear) $ split3 ! $
-    rewrite ! 0 (λ (ps : List (Place E)). ‵ (places_owned (R E) p pa ps)) held refl $ use1 𝓛 (‵ (cells (mem (R E)) xs p pa)) (to_cells E 𝓛 p xs pa) $ move ! (1 ∷ []) $
-    rewrite ! 0 (λ (ps : List (Place E)). ‵ (places_owned (R E) p pb ps)) held' refl $ use1 𝓛 (‵ (cells (mem (R E)) ys p pb)) (to_cells E 𝓛 p ys pb) $
+    rewrite ! 0 (λ (ps : List (Place E)). ‵ (places_owned (R E) p pa ps)) held refl $ rewrite ! 0 (λ (F : Fml). ‵ F) (same_cells E 𝓛 p xs pa) refl $ move ! (1 ∷ []) $
+    rewrite ! 0 (λ (ps : List (Place E)). ‵ (places_owned (R E) p pb ps)) held' refl $ rewrite ! 0 (λ (F : Fml). ‵ F) (same_cells E 𝓛 p ys pb) refl $
     -- [the second's values; the first's; the way; the right; the words; the open borrow, in three; the other token]
     move ! (3 ∷ 4 ∷ []) $ fjoin ! $ move ! (3 ∷ 0 ∷ []) $ join ! $ move ! (1 ∷ []) $ feq_i ! ℕ (length ys) (length ys) refl $ fjoin ! $ move ! (2 ∷ []) $ feq_i ! ℕ (length xs) (length xs) refl $ fjoin ! $
     -- [the first; the second; the rest; the open borrow, in three; ..]
