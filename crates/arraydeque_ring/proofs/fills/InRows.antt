@@ -2,12 +2,14 @@
 use Rattle.std.proofs.Common.{◌≡◌, ℕ, zero, suc, ◌+◌, ◌-◌, ◌*◌, ◌<◌, ◌≤◌, ◌⊎◌, inl, inr, List, [], ◌∷◌, ◌++◌, length, reverse, set, Option, Some, if◌then◌else◌, sym, ap, ◌∙◌, subst, arith}
 use native.Mathlib.Nat.{suc-mul}
 use Rattle.std.proofs.lemmas.Bool.{lt-ltb}
-use Rattle.std.proofs.lemmas.List.{append_assoc, length-append, length-reverse, reverse-append}
-use Rattle.arraydeque_ring.specs.Places.{IsEmpty}
-use Rattle.arraydeque_ring.specs.Ring.{place_of, down_by}
+use Rattle.std.proofs.lemmas.List.{append_assoc, append-nil, length-append, length-reverse, reverse-append}
+use Rattle.arraydeque_ring.specs.declared.ring.Ring.TheInside.{Inside}
+use Rattle.arraydeque_ring.specs.Places.{Region, IsEmpty}
+use Rattle.arraydeque_ring.specs.Ring.{RingState, place_of, down_by}
 use Rattle.arraydeque_ring.specs.Steps.{Steps, more_puts}
 use Rattle.arraydeque_ring.proofs.moved.Sources.{place_of-sum}
-use Rattle.arraydeque_ring.proofs.places.LaidOut.{LaidOut, IsEmpty-place_of, LaidOut-put_back, LaidOut-put_front}
+use Rattle.arraydeque_ring.proofs.places.LaidOut.{LaidOut, IsEmpty-place_of, LaidOut-put_back}
+use Rattle.arraydeque_ring.proofs.places.Opened.{Opened, placed, with_len, put_front}
 use Rattle.arraydeque_ring.proofs.places.Rotated.{MayStartAt, place_of_cases, place_of-run}
 
 -- to go down by k places and then by one is to go down by one more
@@ -30,13 +32,54 @@ module _ {X : Type 0} (xs : List X) (x : X) where
   pub one_before : (ys : List X) → x ∷ (reverse xs ++ ys) ≡ reverse (xs ++ x ∷ []) ++ ys
   one_before ys = ap (λ l. l ++ ys) (sym (reverse-append xs (x ∷ [])))
 
+-- puts that are counted in two parts
+more_twice : {X : Type 0} (xs ys : List X) (s : Steps) → more_puts (length ys) (more_puts (length xs) s) ≡ more_puts (length (xs ++ ys)) s
+more_twice xs ys s = ap (λ n. record s { puts = n }) (omega (arith, length-append xs ys))
+
 -- nothing more was put
 pub more_none : (s : Steps) → s ≡ more_puts 0 s
-more_none s = let puts : s.puts ≡ s.puts + 0 = omega arith in (λ i. record s { puts = puts i })
+more_none s = ap (λ n. record s { puts = n }) (omega arith)
 
--- puts that are counted in two parts
-pub more_twice : {X : Type 0} (xs ys : List X) (s : Steps) → more_puts (length ys) (more_puts (length xs) s) ≡ more_puts (length (xs ++ ys)) s
-more_twice xs ys s = ap (λ n. record s { puts = n }) (omega (arith, length-append xs ys))
+module _ {X : Type 0} where
+  -- xs came behind the last item
+  abbrev pub filled_back : List X → RingState X → RingState X
+  filled_back xs v = record v { items = v.items ++ xs; steps = more_puts (length xs) v.steps }
+
+  -- xs came before the first item, one after the other
+  abbrev pub filled_front : List X → RingState X → RingState X
+  filled_front xs v = record v { items = reverse xs ++ v.items; start = down_by (length xs) v.start v.capacity; steps = more_puts (length xs) v.steps }
+
+  pub filled_back-both : (xs ys : List X) (v : RingState X) → filled_back ys (filled_back xs v) ≡ filled_back (xs ++ ys) v
+  filled_back-both xs ys v = λ i. record v { items = append_assoc v.items xs ys i; steps = more_twice xs ys v.steps i }
+
+  pub filled_front-both : (xs ys : List X) (v : RingState X) → filled_front ys (filled_front xs v) ≡ filled_front (xs ++ ys) v
+  filled_front-both xs ys v = λ i. record v {
+    items = (sym (append_assoc (reverse ys) (reverse xs) v.items) ∙ ap (λ l. l ++ v.items) (sym (reverse-append xs ys))) i;
+    start = (down_by-both (length xs) (length ys) v.start v.capacity ∙ ap (λ k. down_by k v.start v.capacity) (sym (length-append xs ys))) i;
+    steps = more_twice xs ys v.steps i;
+  }
+
+  module _ {r : Inside X} {v : RingState X} (o : Opened r v) where
+    -- none came
+    pub back_none : Opened r (filled_back [] v)
+    back_none = subst (Opened r) (λ i. record v { items = sym (append-nil v.items) i; steps = more_none v.steps i }) o
+
+    pub front_none : Opened r (filled_front [] v)
+    front_none = subst (Opened r) (λ i. record v { steps = more_none v.steps i }) o
+
+    -- the place before the first item is empty
+    pub IsEmpty-front : (place : ℕ) → length v.items < v.capacity → place ≡ place_of v.start (v.capacity - 1) v.capacity → IsEmpty r.slots.places place
+    IsEmpty-front place room is = subst (IsEmpty r.slots.places) (sym (placed o (v.capacity - 1) is)) (IsEmpty-place_of o.laid (v.capacity - 1) (omega arith) (omega arith))
+
+  module _ {r : Inside X} (v : RingState X) (xs : List X) (x : X) {slots : Region X} {n : ℕ} (steps : slots.steps ≡ more_puts 1 r.slots.steps) (many : r.len + 1 ≡ n) where
+    -- one more came
+    pub back_more : Opened r (filled_back xs v) → LaidOut v.capacity r.start (v.items ++ (xs ++ x ∷ [])) slots.places → Opened record r { slots = slots; len = n } (filled_back (xs ++ x ∷ []) v)
+    back_more o laid = record { laid = laid; len = omega (arith, many, o.len, length-append v.items xs, length-append v.items (xs ++ x ∷ []), length-append xs (x ∷ [])); start = o.start; steps = steps ∙ ap (more_puts 1) o.steps ∙ more_twice xs (x ∷ []) v.steps }
+
+    pub front_more : Opened r (filled_front xs v) → {place : ℕ} → slots.places ≡ set r.slots.places place (Some x) → length (reverse xs ++ v.items) < v.capacity → place ≡ place_of (down_by (length xs) v.start v.capacity) (v.capacity - 1) v.capacity
+        → Opened record r { slots = slots; start = place; len = n } (filled_front (xs ++ x ∷ []) v)
+    front_more o {place = place} puts room is = subst (Opened record r { slots = slots; start = place; len = n }) (λ i. record v { items = one_before xs x v.items i; start = down_by-push xs x v.start v.capacity i; steps = more_twice xs (x ∷ []) v.steps i })
+        (with_len (put_front o x room is puts steps) many)
 
 -- xs came behind the items ys into the places from `from` on, and the next one is `place`
 module _ {X : Type 0} {n t : ℕ} {ps : List (Option X)} (ys xs : List X) (from place : ℕ) (here : place ≡ from + length xs) (below : place < n) (room : length ys + length xs < n) (at : MayStartAt t (length ys) n from) (l : LaidOut n t (ys ++ xs) ps) where
@@ -55,24 +98,12 @@ module _ {X : Type 0} {n t : ℕ} {ps : List (Option X)} (ys xs : List X) (from 
 abbrev pub MayEndAt : ℕ → ℕ → ℕ → Type 0
 MayEndAt t n p = (p ≡ t) ⊎ (p ≡ t + n)
 
--- xs came before the items ys, and the next one goes before `place`
-module _ {X : Type 0} {n s : ℕ} {ps : List (Option X)} (ys xs : List X) (t place : ℕ) (some : 0 < place) (within : place ≤ n) (room : length ys + length xs < n) (back : s ≡ down_by (length xs) t n) (at : MayEndAt s n place) (l : LaidOut n s (reverse xs ++ ys) ps) where
-  long : length (reverse xs ++ ys) < n
-  long = omega (arith, length-append (reverse xs) ys, length-reverse xs)
-
-  before : place_of s (n - 1) n ≡ place - 1
-  before = elim (place_of_cases s (n - 1) n (omega (arith, l.in_region))) [
-    | inl below ↦ elim at [ inl e ↦ omega arith | inr e ↦ omega arith ]
-    | inr past ↦ elim at [ inl e ↦ omega arith | inr e ↦ omega arith ]
-  ]
-
-  pub IsEmpty-before : IsEmpty ps (place - 1)
-  IsEmpty-before = subst (IsEmpty ps) before (IsEmpty-place_of l (n - 1) (omega (arith, long)) (omega arith))
-
-  pub LaidOut-before : (x : X) → LaidOut n (place - 1) (reverse (xs ++ x ∷ []) ++ ys) (set ps (place - 1) (Some x))
-  LaidOut-before x =
-      let put : LaidOut n (place - 1) (x ∷ (reverse xs ++ ys)) (set ps (place - 1) (Some x)) = subst (λ p. LaidOut n p (x ∷ (reverse xs ++ ys)) (set ps p (Some x))) before (LaidOut-put_front l x long) in
-      subst (λ zs. LaidOut n (place - 1) zs (set ps (place - 1) (Some x))) (one_before xs x ys) put
-
-  pub back_more : (x : X) → place - 1 ≡ down_by (length (xs ++ x ∷ [])) t n
-  back_more x = sym before ∙ ap (λ p. place_of p (n - 1) n) back ∙ down_by-push xs x t n
+-- xs came before the items, the last one into the place `place`, and there is room at the one before
+pub next_before : {X : Type 0} {r : Inside X} (v : RingState X) (xs : List X) → Opened r (filled_front xs v) → (k place before : ℕ) → length xs ≡ k → length v.items + k < v.capacity → MayEndAt r.start v.capacity place → place ≡ before + 1 → place ≤ v.capacity
+    → (length (reverse xs ++ v.items) < v.capacity) × (before ≡ place_of (down_by (length xs) v.start v.capacity) (v.capacity - 1) v.capacity)
+next_before {r = r} v xs o k place before long room at next le =
+    let below : before ≡ place_of r.start (v.capacity - 1) v.capacity = elim (place_of_cases r.start (v.capacity - 1) v.capacity (omega (arith, o.laid.in_region))) [
+      | inl w ↦ elim at [ inl e ↦ omega arith | inr e ↦ omega arith ]
+      | inr w ↦ elim at [ inl e ↦ omega arith | inr e ↦ omega arith ]
+    ] in
+    (omega (arith, long, length-append (reverse xs) v.items, length-reverse xs), below ∙ ap (λ t. place_of t (v.capacity - 1) v.capacity) o.start)

@@ -1,19 +1,12 @@
 -- A loan under a name of its lender's own type: how it is made, and handed on by what holds the lender. For any types in memory. Assumes `Logic`.
-use mathlib.Core.Path.{◌≡◌, ap₂, refl}
-use base.Logic.{SProp, ent, sep, wand, wand_i, ex, all, id⊢, apply∗, all_e, upd_i, emp, guard, snd∗}
-use base.Fml.{fex, fres, flft, Lft, GName, Share, Fml, ftrue, fsep, fwand, fupd, fdead, fobs, fauth, fobor, flent, fseps, fbor}
-use types.Kit.{‵, raw, ◌⊛◌, later, ◌$◌, ◌∵◌, !, qed, by, each, move, keep, use0, use1, use2, drop, split, split3, join, fsplit, fsplit3, fjoin, fjoin3, fpick, fpack, feq_l, rewrite, suffices, updating, await, now, assume, show, done, group}
-use Prim.Native.Nat.{ℕ}
-use mathlib.Core.List.{List, [], ◌∷◌}
-use seplogic.Ra.Ura.{Ura}
+use Rattle.arraydeque_ring.proofs.memory.Kit.{◌≡◌, refl, SProp, ent, sep, wand, ex, id⊢, emp, guard, snd∗, flft, Lft, GName, Share, Fml, ftrue, fsep, fobs, fauth, fobor, fbor, ‵, raw, ◌⊛◌, later, ◌$◌, ◌∵◌, !, qed, by, move, keep, use0, use1, use2, drop, split, join, fsplit, fsplit3, fjoin, fjoin3, fpick, fpack, feq_l, rewrite, suffices, updating, await, show, done, ap₂, wand_i, all, apply∗, all_e, upd_i, fex, fres, fwand, fupd, fdead, flent, fseps, each, split3, assume, group, ℕ, List, [], ◌∷◌, Ura, Gv, Logic, sem, name_new, SemTy, after₂}
+use types.Kit.{now}
 use seplogic.Bi.Basic.{and}
 use ghost.Rules.{aged}
-use base.Stored.{Gv}
-use types.Logic.{Logic, sem}
 use types.Late.{deep, close_deep}
-use types.Tokens.{name_new, obor_alter}
-use types.SemTy.{SemTy, Body}
-use types.Follow.{after, after₂, follows_anew, came, Came, followed}
+use types.Tokens.{obor_alter}
+use types.SemTy.{Body}
+use types.Follow.{after, follows_anew, came, Came, followed}
 
 -- what follows a value that follows two follows the two
 module _ {M : Type 1} {𝓤 : Ura M} (𝓛 : Logic 𝓤) (R S T U : SemTy) (F : S.rep → R.rep) (P : T.rep → U.rep → S.rep) (γ ν γ₁ γ₂ : GName) where

@@ -1,7 +1,6 @@
 -- A `Ring` in memory is taken apart into its slots and its other fields, and made of them again. Assumes `Logic`.
-use Rattle.arraydeque_ring.proofs.memory.Kit.{◌≡◌, List, [], ◌∷◌, ℕ, ◌+◌, Ura, full_share, SProp, ent, sep, ex, w64, Logic, sem, ‵, raw, ◌⊛◌, ◌$◌, ◌∵◌, !, qed, by, use2, RattleType, part_at, usize, param_laws, Fml, El, R, el_x}
+use Rattle.arraydeque_ring.proofs.memory.Kit.{◌≡◌, List, [], ◌∷◌, ℕ, ◌+◌, Ura, full_share, SProp, ent, sep, ex, w64, Logic, sem, ‵, raw, ◌⊛◌, ◌$◌, ◌∵◌, !, qed, by, use2, RattleType, part_at, usize, param_laws, Fml, El, R, el_x, part_of, lone}
 use denote.Laws.{Lawfuls}
-use denote.Memory.{part_of, lone}
 use denote.Model.Fields.{plain_out, Plain-in, view_made}
 use denote.Plain.{uint_Lawful}
 use denote.Struct.Members.{Member, rows_of}

@@ -1,9 +1,5 @@
 -- Runs of the places of a block, taken out and put back. Assumes `Logic`.
-use Rattle.arraydeque_ring.proofs.memory.Kit.{◌≡◌, refl, sym, ap, subst, id⊢, ◌∙◌, via, List, [], ◌∷◌, ◌++◌, map, ℕ, ◌+◌, ◌*◌, ◌≤◌, arith, length, take, drop_list, length-take, Some, Ura, full_share, SProp, ent, sep, emp, wand, mono_r, Fml, part_at, mem, Logic, sem, ‵, raw, ◌⊛◌, ◌$◌, ◌∵◌, !, qed, by, move, keep, use1, use2, split, join, fsplit, rewrite, done, nothing, El, R, el_x}
-use mathlib.Core.Logic.{inl, inr}
-use base.Logic.{all, all_e, apply∗}
-use types.Kit.{each, assume, group}
-use types.SemTy.{cells}
+use Rattle.arraydeque_ring.proofs.memory.Kit.{◌≡◌, refl, sym, ap, subst, id⊢, ◌∙◌, via, List, [], ◌∷◌, ◌++◌, map, ℕ, ◌+◌, ◌*◌, ◌≤◌, arith, length, take, drop_list, length-take, Some, Ura, full_share, SProp, ent, sep, emp, wand, mono_r, Fml, part_at, mem, Logic, sem, ‵, raw, ◌⊛◌, ◌$◌, ◌∵◌, !, qed, by, move, keep, use1, use2, split, join, fsplit, rewrite, done, nothing, El, R, el_x, inl, inr, all, all_e, apply∗, each, assume, group, cells, fsep}
 use Rattle.arraydeque_ring.specs.Loans.{AreApart}
 use Rattle.arraydeque_ring.specs.Ownership.{places_owned}
 use Rattle.arraydeque_ring.proofs.loans.Placed.{placed, placed_nothing, placed_behind, placed-append, length-placed, run_before, apart_cases}
@@ -18,13 +14,9 @@ module _ (E : El) {M : Type 1} {𝓤 : Ura M} (𝓛 : Logic 𝓤) (b : ℕ) wher
   Row = places_owned (R E) b
 
   -- filled places are the items of a slice
-  pub to_cells : (xs : List (el_x E)) (o : ℕ) → ent 𝓤 (sem 𝓛 (Row o (map Some xs))) (sem 𝓛 (cells (mem (R E)) xs b o))
-  to_cells [] o = id⊢ 𝓤 (emp 𝓤)
-  to_cells (x ∷ xs) o = mono_r 𝓤 (sem 𝓛 (part_at (R E) full_share x b o)) (to_cells xs (o + s))
-
-  pub of_cells : (xs : List (el_x E)) (o : ℕ) → ent 𝓤 (sem 𝓛 (cells (mem (R E)) xs b o)) (sem 𝓛 (Row o (map Some xs)))
-  of_cells [] o = id⊢ 𝓤 (emp 𝓤)
-  of_cells (x ∷ xs) o = mono_r 𝓤 (sem 𝓛 (part_at (R E) full_share x b o)) (of_cells xs (o + s))
+  pub same_cells : (xs : List (el_x E)) (o : ℕ) → Row o (map Some xs) ≡ cells (mem (R E)) xs b o
+  same_cells [] o = refl
+  same_cells (x ∷ xs) o = ap (λ (F : Fml). fsep (part_at (R E) full_share x b o) F) (same_cells xs (o + s))
 
   module _ (o : ℕ) (ps : List (Place E)) where
     abbrev pub at : ℕ → ℕ

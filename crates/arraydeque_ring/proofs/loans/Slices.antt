@@ -1,11 +1,10 @@
 -- A pair of two slices for writing. Assumes `Logic`.
-use Rattle.arraydeque_ring.proofs.memory.Kit.{List, [], ◌∷◌, Ura, Logic, RattleType}
+use Rattle.arraydeque_ring.proofs.memory.Kit.{List, [], ◌∷◌, Ura, Logic, RattleType, NamedLft, MutSlice, Struct}
 use denote.Laws.{Lawful}
-use denote.Ref.{NamedLft}
-use denote.Slice.{MutSlice, mut_slice_Lawful}
+use denote.Slice.{mut_slice_Lawful}
 use denote.Struct.Declared.{Declared, shape}
 use denote.Struct.Recorded.{recorded_lawful}
-use denote.Struct.Struct.{Struct, Struct-Lawful}
+use denote.Struct.Struct.{Struct-Lawful}
 use denote.Struct.Tuple.{Tuple, tuple_type}
 
 module _ (α : NamedLft) (T : RattleType) where

@@ -1,18 +1,24 @@
 -- The size of a region's block, and the right to free it. Assumes `Logic`.
-use Rattle.arraydeque_ring.proofs.memory.Kit.{◌≡◌, sym, ap, subst, ◌∙◌, ℕ, zero, suc, ◌*◌, ◌<◌, ◌^◌, arith, zero-mul, suc-mul, Ura, ent, emp, guard, guard_i, id⊢, fact_use, Logic, sem, Ty, ty_array, size, align, capped, capped_is, Ptr, block_ptr, El, R, elτ}
+use Rattle.arraydeque_ring.proofs.memory.Kit.{◌≡◌, sym, ap, subst, ◌∙◌, ℕ, zero, suc, ◌*◌, ◌<◌, ◌^◌, arith, zero-mul, suc-mul, Ura, ent, emp, guard, guard_i, id⊢, fact_use, Logic, sem, Ty, ty_array, size, align, capped, capped_is, Ptr, block_ptr, El, R, elτ, Global, List, Item, Env, w64, vint, size_word, bin, is}
 use mir.Raw.{raw as bare}
+use mir.Syntax.{Opd as Operand, op2, mul, unsigned, size_of}
+use types.Run.{Opd, Rv}
 use prog.RawLaws.{size-raw, align-raw}
 use Rattle.std.proofs.lemmas.Bool.{lt-ltb, le-ltb}
 use Rattle.std.proofs.GlobalToken.{dealloc_token_start}
 use Rattle.std.specs.contracts.impls.GlobalAllocator.TheImpl as heap
-use Rattle.std.specs.declared.alloc.Global.{Global}
 use Rattle.arraydeque_ring.specs.Ownership.{owned_if, right_to_free}
 use Rattle.arraydeque_ring.proofs.memory.Owned.{item_size}
 
 -- a product that fits a word is not changed by a cap on one factor
-pub uncapped : (n k : ℕ) → n * k < 2 ^ 64 → n * capped k ≡ n * k
+uncapped : (n k : ℕ) → n * k < 2 ^ 64 → n * capped k ≡ n * k
 uncapped zero k fits = zero-mul (capped k) ∙ sym (zero-mul k)
 uncapped (suc n) k fits = let more = suc-mul n k in ap (λ j. suc n * j) (capped_is k (omega arith))
+
+-- a number of items is made the number of their bytes
+module _ {M : Type 1} {𝓤 : Ura M} {𝓛 : Logic 𝓤} {K : Type 0} {Γ : List (Item 𝓤)} {En : Env 𝓤 𝓛.H} where
+  pub scaled : K → {x : Operand} {n : ℕ} {τ : Ty} → Opd K 𝓛 Γ En x (vint w64 n) → n * size τ < 2 ^ 64 → Rv K 𝓛 Γ En (op2 (mul unsigned) x (size_of τ)) (vint w64 (n * size τ))
+  scaled t {n = n} {τ = τ} items fits = is t (bin t items (size_word t) (record { fits = subst (λ (k : ℕ). k < 2 ^ 64) (sym (uncapped n (size τ) fits)) fits })) (ap (vint w64) (uncapped n (size τ) fits))
 
 module _ (E : El) where
   -- the type that a block of n places is asked for

@@ -1,12 +1,11 @@
 -- A call of the allocator, from the words it takes to the block it gives. Assumes `Logic`.
-use Rattle.arraydeque_ring.proofs.memory.Kit.{◌≡◌, refl, ap, ◌∙◌, Bool, true, false, List, [], ◌∷◌, ◌++◌, ℕ, ◌<◌, ◌^◌, Ok, Err, Ura, SProp, ent, sep, ex, guard, emp, id⊢, never, Lft, Share, Fml, ftrue, fsep, froom, flft, Ty, w64, Val, vunit, vint, vptr, of_list, Memory, size, align, capped, Routine, Logic, sem, live, Goal, Seq, Item, ‵, raw, ◌⊛◌, some, later, given, ◌$◌, ◌∵◌, !, qed, move, keep, use0, use1, use2, drop, split, join, pick, learn, fsplit, fjoin, fpick, feq_l, feq_i, flt_i, check, show, await, updating, at_once, done, Fun, fact, fact_i, hidden_shr, Ptr, block_ptr, null_ptr, ptr_val, in_a_block, unit, only, nothing, Contract, triple_of}
+use Rattle.arraydeque_ring.proofs.memory.Kit.{◌≡◌, refl, ap, ◌∙◌, Bool, true, false, List, [], ◌∷◌, ◌++◌, ℕ, ◌<◌, ◌^◌, Ok, Err, Ura, SProp, ent, sep, ex, guard, emp, id⊢, never, Lft, Share, Fml, ftrue, fsep, froom, flft, Ty, w64, Val, vunit, vint, vptr, of_list, Memory, size, align, capped, Routine, Logic, sem, live, Goal, Seq, Item, ‵, raw, ◌⊛◌, some, later, given, ◌$◌, ◌∵◌, !, qed, move, keep, use0, use1, use2, drop, split, join, pick, learn, fsplit, fjoin, fpick, feq_l, feq_i, check, show, await, updating, at_once, done, Fun, fact, fact_i, hidden_shr, Ptr, block_ptr, null_ptr, ptr_val, in_a_block, unit, only, nothing, Contract, triple_of, Global, pure_i, owns, usize, RawPtr}
 use base.Logic.{fst∗}
 use denote.RawPtr.{room_for}
 use Rattle.std.specs.Allocator.{block_if_ok}
 use Rattle.std.proofs.alloc.Calls.{Answer, answer_val, got}
 use Rattle.std.specs.contracts.alloc.Global as heap
 use Rattle.std.specs.contracts.impls.GlobalAllocator.TheImpl as impl_heap
-use Rattle.std.specs.declared.alloc.Global.{Global}
 use Rattle.std.specs.contracts.impls.GlobalAllocator.allocate as asks
 use Rattle.std.specs.contracts.impls.GlobalAllocator.deallocate as gives
 
@@ -54,8 +53,7 @@ module _ {M : Type 1} {𝓤 : Ura M} (𝓛 : Logic 𝓤) (at_mem : Memory → SP
   allocate_goes bytes al τ asked =
       qed 𝓛 (‵ handle ∷ ‵ (flft κ q) ∷ []) ∵
       use0 𝓛 (raw (is_asked τ bytes al)) (fact_i 𝓤 ((capped (size τ) ≡ bytes) × (capped (align τ) ≡ al)) (emp 𝓤) (asked.size_is, asked.align_is)) $
-      nothing ! $ flt_i ! al (2 ^ 64) asked.align_fits $ feq_i ! (List Val) (vint w64 al ∷ []) (vint w64 al ∷ []) refl $ fjoin ! $ fjoin ! $
-      flt_i ! bytes (2 ^ 64) asked.size_fits $ feq_i ! (List Val) (vint w64 bytes ∷ []) (vint w64 bytes ∷ []) refl $ fjoin ! $ fjoin ! $
+      pure_i ! (owns (usize ∷ usize ∷ []) (bytes, (al, tt)) (vint w64 bytes ∷ [], (vint w64 al ∷ [], tt))) ((tt, tt), ((tt, tt), tt)) ((refl, asked.size_fits), ((refl, asked.align_fits), tt)) $
       move ! (2 ∷ []) $ feq_i ! (List Val) (vptr p.0 p.1 ∷ []) (vptr p.0 p.1 ∷ []) refl $ fjoin ! $ fjoin ! $
       move ! (2 ∷ []) $ nothing ! $ move ! (1 ∷ 0 ∷ []) $ join ! $ join ! $ done !
 
@@ -88,9 +86,7 @@ module _ {M : Type 1} {𝓤 : Ura M} (𝓛 : Logic 𝓤) (at_mem : Memory → SP
   deallocate_goes b o bytes al τ asked =
       qed 𝓛 (‵ (froom τ b o) ∷ ‵ (frees g τ (block_ptr b o)) ∷ ‵ handle ∷ ‵ (flft κ q) ∷ []) ∵ fjoin ! $
       use0 𝓛 (raw (is_asked τ bytes al)) (fact_i 𝓤 ((capped (size τ) ≡ bytes) × (capped (align τ) ≡ al)) (emp 𝓤) (asked.size_is, asked.align_is)) $ join ! $
-      nothing ! $ flt_i ! al (2 ^ 64) asked.align_fits $ feq_i ! (List Val) (vint w64 al ∷ []) (vint w64 al ∷ []) refl $ fjoin ! $ fjoin ! $
-      flt_i ! bytes (2 ^ 64) asked.size_fits $ feq_i ! (List Val) (vint w64 bytes ∷ []) (vint w64 bytes ∷ []) refl $ fjoin ! $ fjoin ! $
-      feq_i ! (List Val) (vptr b o ∷ []) (vptr b o ∷ []) refl $ fjoin ! $
+      pure_i ! (owns (RawPtr ∷ usize ∷ usize ∷ []) (block_ptr b o, (bytes, (al, tt))) (vptr b o ∷ [], (vint w64 bytes ∷ [], (vint w64 al ∷ [], tt)))) (tt, ((tt, tt), ((tt, tt), tt))) (refl, ((refl, asked.size_fits), ((refl, asked.align_fits), tt))) $
       move ! (2 ∷ []) $ feq_i ! (List Val) (vptr p.0 p.1 ∷ []) (vptr p.0 p.1 ∷ []) refl $ fjoin ! $ fjoin ! $
       move ! (2 ∷ []) $ nothing ! $ move ! (1 ∷ 0 ∷ []) $ join ! $ join ! $ done !
 

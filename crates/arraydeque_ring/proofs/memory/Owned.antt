@@ -1,8 +1,6 @@
 -- The places of a block, taken apart and put together again. Assumes `Logic`.
-use Rattle.arraydeque_ring.proofs.memory.Kit.{◌≡◌, refl, sym, ap, subst, ◌∙◌, List, [], ◌∷◌, ◌++◌, map, ℕ, zero, suc, ◌+◌, ◌*◌, ◌<◌, ◌≤◌, arith, zero-mul, suc-mul, length, take, drop_list, set, get_or, replicate, take-append-drop, length-take, drop-cons, set_split, Option, Some, None, type_size, Ura, full_share, SProp, ent, sep, emp, ex, guard, wand, via, id⊢, snd∗, mono_r, Lft, Fml, fsep, fat, froom, ty_array, Val, align, Logic, sem, ‵, raw, ◌⊛◌, some, ◌$◌, ◌∵◌, !, qed, by, move, keep, drop, use0, use1, use2, pick, split, check, show, frame, fsplit, fjoin, rewrite, done, RattleType, Is, shows, param, layout, Laws, param_laws, part_at, nothing, peeks, Good, El, R, el_x, elτ}
+use Rattle.arraydeque_ring.proofs.memory.Kit.{◌≡◌, refl, sym, ap, subst, ◌∙◌, List, [], ◌∷◌, ◌++◌, map, ℕ, zero, suc, ◌+◌, ◌*◌, ◌<◌, ◌≤◌, arith, zero-mul, suc-mul, length, take, drop_list, set, get_or, replicate, take-append-drop, length-take, drop-cons, set_split, Option, Some, None, type_size, Ura, full_share, SProp, ent, sep, emp, ex, guard, wand, via, id⊢, snd∗, mono_r, Lft, Fml, fsep, fat, froom, ty_array, Val, align, Logic, sem, ‵, raw, ◌⊛◌, some, ◌$◌, ◌∵◌, !, qed, by, move, keep, drop, use0, use1, use2, pick, split, check, show, frame, fsplit, fjoin, rewrite, done, RattleType, Is, shows, param, layout, Laws, param_laws, part_at, nothing, peeks, Good, El, R, el_x, elτ, part_in, part_out, elements_shared}
 use prog.Align.{dv_self}
-use borrow.Table.OneValue.{part_in, part_out}
-use denote.Slice.{elements_shared}
 use Rattle.arraydeque_ring.specs.Ownership.{place_owned, places_owned, place_lent, places_lent}
 use Rattle.arraydeque_ring.specs.Places.{HoldsRun}
 
@@ -51,30 +49,6 @@ module _ (E : El) {M : Type 1} {𝓤 : Ura M} (𝓛 : Logic 𝓤) (b : ℕ) wher
       let on : at ≡ length ps * s + (o + s) = let all : at ≡ suc (length ps) * s + o = e in omega (arith, suc-mul (length ps) s) in
       qed 𝓛 (‵ (Row o (p ∷ ps)) ∷ ‵ (Row at qs) ∷ []) ∵ fsplit ! $ move ! (1 ∷ 2 ∷ []) $
       use2 𝓛 (‵ (Row (o + s) (ps ++ qs))) (glue ps qs (o + s) at on) $ move ! (1 ∷ 0 ∷ []) $ fjoin ! $ done !
-
-  module _ (o : ℕ) (ps : List (Place E)) (i : ℕ) where
-    -- the places but for the i-th
-    abbrev pub Others : Fml
-    Others = fsep (Row o (take i ps)) (Row (i * s + o + s) (drop_list (suc i) ps))
-
-    at_i : i < length ps → i * s + o ≡ length (take i ps) * s + o
-    at_i lt = let long : i ≡ length (take i ps) = omega (arith, length-take i ps) in ap (λ k. k * s + o) long
-
-    -- one place is taken from the others, and put back as p
-    pub place_out : i < length ps → ent 𝓤 (sem 𝓛 (Row o ps)) (sep 𝓤 (sem 𝓛 (place_owned (R E) b (i * s + o) (get_or ps i None))) (sem 𝓛 Others))
-    place_out lt =
-        let rest = get_or ps i None ∷ drop_list (suc i) ps in
-        qed 𝓛 (‵ (Row o ps) ∷ []) ∵
-        rewrite ! 0 (λ (l : List (Place E)). ‵ (Row o l)) (sym (take-append-drop i ps) ∙ ap (λ l. take i ps ++ l) (drop-cons ps i None lt)) refl $
-        use1 𝓛 (‵ (Row o (take i ps)) ⊛ ‵ (Row (i * s + o) rest)) (cut (take i ps) rest o (i * s + o) (at_i lt)) $
-        split ! $ move ! (1 ∷ []) $ fsplit ! $ move ! (2 ∷ 1 ∷ []) $ fjoin ! $ move ! (1 ∷ []) $ done !
-
-    pub place_in : i < length ps → (p : Place E) → ent 𝓤 (sep 𝓤 (sem 𝓛 (place_owned (R E) b (i * s + o) p)) (sem 𝓛 Others)) (sem 𝓛 (Row o (set ps i p)))
-    place_in lt p =
-        let rest = p ∷ drop_list (suc i) ps in
-        qed 𝓛 (‵ (place_owned (R E) b (i * s + o) p) ∷ ‵ Others ∷ []) ∵ move ! (1 ∷ []) $ fsplit ! $ move ! (2 ∷ 1 ∷ []) $ fjoin ! $ move ! (1 ∷ 0 ∷ []) $
-        use2 𝓛 (‵ (Row o (take i ps ++ rest))) (glue (take i ps) rest o (i * s + o) (at_i lt)) $
-        rewrite ! 0 (λ (l : List (Place E)). ‵ (Row o l)) (sym (set_split ps i p lt)) refl $ done !
 
   -- the room of a block is that many empty places, and back
   pub of_room : (n o : ℕ) → ent 𝓤 (H.room (ty_array (elτ E) n) b o) (sem 𝓛 (Row o (replicate n None)))

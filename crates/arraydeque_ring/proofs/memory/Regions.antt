@@ -1,17 +1,18 @@
 -- A `Slots` is taken apart into its words, its places and its right to free, and made of them; a `&mut` to one is opened and closed. Assumes `Logic`.
-use Rattle.arraydeque_ring.proofs.memory.Kit.{◌≡◌, refl, sym, ap, subst, ◌∙◌, List, [], ◌∷◌, ◌++◌, ℕ, ◌+◌, ◌*◌, ◌<◌, ◌^◌, length, set, length-set, Option, Ura, full_share, Gv, ent, emp, id⊢, never, Lft, Share, GName, Fml, fsep, flft, fobs, fauth, fbor, fobor, ftrue, w64, Val, vunit, vint, vptr, vstruct, vcons, vnil, of_list, Logic, sem, Borrowed, Goal, Soaks, Step, step, Seq, Item, ‵, ◌$◌, move, drop, rewrite, use0, use2, fsplit, fjoin, fpick, fpack, feq_l, feq_i, flt_l, flt_i, RattleType, Valss, Is, shows, layout, cell_at, mem, Ptr, block_ptr, ptr_val, in_a_block, nothing, opens, closes, peeks, Good, heap_val, heap_Tells, El, R, el_x}
-use denote.Shadow.{makes_shadow}
+use Rattle.arraydeque_ring.proofs.memory.Kit.{◌≡◌, refl, ap, subst, ◌∙◌, List, [], ◌∷◌, ◌++◌, ℕ, ◌+◌, ◌*◌, ◌<◌, ◌≤◌, ◌^◌, arith, length, Option, Ura, full_share, Gv, ent, sep, emp, id⊢, never, Lft, Share, GName, Fml, fsep, flft, fobs, fauth, fbor, fobor, ftrue, w64, Val, vunit, vint, vptr, vstruct, vcons, vnil, of_list, Logic, sem, Borrowed, Goal, Soaks, Step, step, Seq, Item, ‵, ◌$◌, ◌∵◌, !, qed, move, drop, rewrite, use0, fsplit, fjoin, fpick, fpack, feq_l, feq_i, flt_l, flt_i, RattleType, Valss, Is, shows, layout, cell_at, mem, Ptr, block_ptr, ptr_val, in_a_block, nothing, opens, closes, peeks, Good, heap_val, heap_Tells, times_below, done, El, R, el_x, part_of, makes_shadow, Global}
 use denote.Struct.Struct.{within}
 use denote.Struct.Owning.{Owning, shape}
 use Rattle.std.specs.contracts.alloc.Global as heap
-use Rattle.std.specs.declared.alloc.Global.{Global}
-use Rattle.arraydeque_ring.specs.Steps.{Steps}
+pub use Rattle.arraydeque_ring.specs.Places.{AreAllEmpty, HoldsRun, IsEmpty, IsFilled, IsFilledRun, empty_region}
 use Rattle.arraydeque_ring.specs.Places.{Region}
-use Rattle.arraydeque_ring.specs.Ownership.{place_owned, places_owned, right_to_free, slots_owned}
+pub use Rattle.arraydeque_ring.specs.Ownership.{owned_if, place_owned, places_owned, right_to_free}
+use Rattle.arraydeque_ring.specs.Ownership.{slots_owned}
 use Rattle.arraydeque_ring.specs.contracts.slots.Slots as slots
 use Rattle.arraydeque_ring.specs.contracts.slots.Slots.TheInside as inside
 use Rattle.arraydeque_ring.specs.declared.slots.Slots.TheInside.{Inside}
-use Rattle.arraydeque_ring.proofs.memory.Owned.{item_size, Place, Others, place_in}
+pub use Rattle.arraydeque_ring.proofs.memory.Blocks.{scaled}
+pub use Rattle.arraydeque_ring.proofs.memory.Owned.{Place, Row, item_size, of_nothing, of_room, run_seen, to_room, value_in, value_out}
+pub use Rattle.arraydeque_ring.proofs.memory.Rows.{Around, run_out, run_in, place_out, place_in, row_room, to_array, of_array}
 
 -- the words of a `Slots`: the pointer, the capacity and the allocator
 abbrev pub words_val : Ptr → ℕ → Val
@@ -53,6 +54,18 @@ module _ (E : El) where
     pub word : n < 2 ^ 64
     pub reach : length r.places * item_size E + o < 2 ^ 63
 
+  module _ {r : Seen} {o n : ℕ} (ok : Fits r o n) where
+    -- they say it of any region of as many places
+    pub Fits-as : (r' : Seen) → length r.places ≡ length r'.places → Fits r' o n
+    Fits-as r' same = record { capacity = ok.capacity ∙ same; word = ok.word; reach = subst (λ k. k * item_size E + o < 2 ^ 63) same ok.reach }
+
+    -- the bytes before a place fit a word, and those of a run are in reach
+    pub run_fits : (k : ℕ) → k ≤ length r.places → (k < 2 ^ 64) × (k * item_size E < 2 ^ 63)
+    run_fits k le = let same = ok.capacity in let word = ok.word in let reach = ok.reach in (omega arith, times_below k (length r.places) (item_size E) (2 ^ 63) le (omega arith))
+
+    pub near : (k : ℕ) → k ≤ length r.places → k * item_size E < 2 ^ 64
+    near k le = let below = (run_fits k le).1 in omega arith
+
 module _ (E : El) {M : Type 1} {𝓤 : Ura M} {𝓛 : Logic 𝓤} {K : Type 0} {Γ : List (Item 𝓤)} {G : Goal 𝓤 𝓛.H} where
   -- leaves [the places; the right]
   pub slots_apart : K → (r : Seen E) (vs : List Val)
@@ -84,6 +97,11 @@ module _ (E : El) {M : Type 1} {𝓤 : Ura M} {𝓛 : Logic 𝓤} {K : Type 0} {
       nothing t $ move t (1 ∷ 0 ∷ []) $ fjoin t $
       fpack t ((x : Inside (el_x E)) × ((record { places = x.places; steps = x.steps } ≡ r) × (x.capacity ≡ length x.places))) (λ x. fsep ((inside.the_row (R E)).own_val x.0 vs) ftrue) (a, (refl, ok.capacity)) $ s)
 
+module _ (E : El) {M : Type 1} {𝓤 : Ura M} {𝓛 : Logic 𝓤} {K : Type 0} {Γ : List (Item 𝓤)} {G : Goal 𝓤 𝓛.H} (t : K) (g : Global) (r new : Seen E) (b o n : ℕ) (ok : Fits E r o n) (same : length r.places ≡ length new.places) where
+  -- other places in the stead of those of r, as many: takes [the new places; the right of r]
+  pub slots_remade : Step K 𝓛 (‵ ((Sr E).own_val new (slots_val b o n ∷ [])) ∷ Γ) G (‵ (places E new b o) ∷ ‵ (right E g r b o) ∷ Γ) G
+  slots_remade = step (λ s. move t (1 ∷ []) $ rewrite t 0 (λ (k : ℕ). ‵ (right_to_free (R E) g k (block_ptr b o))) same refl $ move t (1 ∷ 0 ∷ []) $ slots_made E t g new b o n (Fits-as E ok new same) $ s)
+
 module _ (E : El) {M : Type 1} {𝓤 : Ura M} {𝓛 : Logic 𝓤} {K : Type 0} {Γ : List (Item 𝓤)} {G : Goal 𝓤 𝓛.H} where
   -- a `&mut` is opened: [the places; the right; the words; the open borrow, in three]
   pub slots_open : K → Soaks G → {κ : Lft} {q : Share} {γ : GName} (r : Seen E) (rb ro : ℕ)
@@ -95,30 +113,19 @@ module _ (E : El) {M : Type 1} {𝓤 : Ura M} {𝓛 : Logic 𝓤} {K : Type 0} {
       opens t z (Sr E) {h = r} rb ro (λ vs. move t (1 ∷ []) $ slots_apart E t r vs (λ g b o n ok is.
       rewrite t 2 (λ (ws : List Val). ‵ (cell_at full_share (Sr E).mir ws rb ro)) is refl $ then g b o n ok))
 
-  -- and closed at the region r, of as many places
-  pub slots_close : K → Soaks G → {κ : Lft} {q : Share} {u v : Gv} {γ : GName} (g : Global) (r : Seen E) (b o n rb ro : ℕ) → Fits E r o n
-      → Step K 𝓛 (‵ (fobs γ ((Sr E).coded.code r)) ∷ ‵ (fbor κ (Borrowed (mem (Sr E)) rb ro γ)) ∷ ‵ (flft κ q) ∷ Γ) G
-      (‵ (places E r b o) ∷ ‵ (right E g r b o) ∷ ‵ (cell_at full_share (Sr E).mir (slots_val b o n ∷ []) rb ro) ∷ ‵ (fobor κ q (Borrowed (mem (Sr E)) rb ro γ)) ∷ ‵ (fobs γ u) ∷ ‵ (fauth γ v) ∷ Γ) G
-  slots_close t z g r b o n rb ro ok = step (λ s. slots_made E t g r b o n ok $ move t (1 ∷ 0 ∷ []) $ closes t z (Sr E) r (slots_val b o n ∷ []) rb ro $ s)
+  -- and closed with other places in the stead of those of r, as many
+  pub slots_close : K → Soaks G → {κ : Lft} {q : Share} {u v : Gv} {γ : GName} (g : Global) (r new : Seen E) (b o n rb ro : ℕ) → Fits E r o n → length r.places ≡ length new.places
+      → Step K 𝓛 (‵ (fobs γ ((Sr E).coded.code new)) ∷ ‵ (fbor κ (Borrowed (mem (Sr E)) rb ro γ)) ∷ ‵ (flft κ q) ∷ Γ) G
+      (‵ (places E new b o) ∷ ‵ (right E g r b o) ∷ ‵ (cell_at full_share (Sr E).mir (slots_val b o n ∷ []) rb ro) ∷ ‵ (fobor κ q (Borrowed (mem (Sr E)) rb ro γ)) ∷ ‵ (fobs γ u) ∷ ‵ (fauth γ v) ∷ Γ) G
+  slots_close t z g r new b o n rb ro ok same = step (λ s. slots_remade E t g r new b o n ok same $ move t (1 ∷ 0 ∷ []) $ closes t z (Sr E) new (slots_val b o n ∷ []) rb ro $ s)
 
-module _ (E : El) where
-  -- the region with p in the place i, after the steps st
-  abbrev pub with_place : Seen E → ℕ → Place E → Steps → Seen E
-  with_place r i p st = record { places = set r.places i p; steps = st }
+-- what a region owns but for its places, while it lies open
+module _ (E : El) {M : Type 1} {𝓤 : Ura M} (𝓛 : Logic 𝓤) (rb ro : ℕ) (g : Global) (r : Seen E) (b o n : ℕ) where
+  abbrev pub Frame : Fml
+  Frame = fsep (right E g r b o) (cell_at full_share (Sr E).mir (slots_val b o n ∷ []) rb ro)
 
-  pub Fits-with_place : (r : Seen E) (i : ℕ) (p : Place E) (st : Steps) (o n : ℕ) → Fits E r o n → Fits E (with_place r i p st) o n
-  Fits-with_place r i p st o n ok =
-      let same : length r.places ≡ length (set r.places i p) = sym (length-set r.places i p) in
-      record { capacity = ok.capacity ∙ same; word = ok.word; reach = subst (λ k. k * item_size E + o < 2 ^ 63) same ok.reach }
-
-module _ (E : El) {M : Type 1} {𝓤 : Ura M} {𝓛 : Logic 𝓤} {K : Type 0} {Γ : List (Item 𝓤)} {G : Goal 𝓤 𝓛.H} where
-  -- closed with p in the i-th place: takes [that place; the others; the right; ..]
-  pub place_close : K → Soaks G → {κ : Lft} {q : Share} {u v : Gv} {γ : GName} (g : Global) (r : Seen E) (i : ℕ) (p : Place E) (st : Steps) (b o n rb ro : ℕ) → Fits E r o n → i < length r.places
-      → Step K 𝓛 (‵ (fobs γ ((Sr E).coded.code (with_place E r i p st))) ∷ ‵ (fbor κ (Borrowed (mem (Sr E)) rb ro γ)) ∷ ‵ (flft κ q) ∷ Γ) G
-      (‵ (place_owned (R E) b (i * item_size E + o) p) ∷ ‵ (Others E 𝓛 b o r.places i) ∷ ‵ (right E g r b o)
-      ∷ ‵ (cell_at full_share (Sr E).mir (slots_val b o n ∷ []) rb ro) ∷ ‵ (fobor κ q (Borrowed (mem (Sr E)) rb ro γ)) ∷ ‵ (fobs γ u) ∷ ‵ (fauth γ v) ∷ Γ) G
-  place_close t z g r i p st b o n rb ro ok lt = step (λ s.
-      let new : Seen E = with_place E r i p st in
-      use2 𝓛 (‵ (places E new b o)) (place_in E 𝓛 b o r.places i lt p) $ move t (1 ∷ []) $
-      rewrite t 0 (λ (m : ℕ). ‵ (right_to_free (R E) g m (block_ptr b o))) (sym (length-set r.places i p)) refl $ move t (1 ∷ 0 ∷ []) $
-      slots_close E t z g new b o n rb ro (Fits-with_place E r i p st o n ok) $ s)
+  pub slots_whole : Fits E r o n → (new : Seen E) → length r.places ≡ length new.places → ent 𝓤 (sep 𝓤 (sem 𝓛 (places E new b o)) (sem 𝓛 Frame)) (sem 𝓛 ((mem (Sr E)).own_at new rb ro))
+  unfolding part_of
+  slots_whole ok new same =
+      qed 𝓛 (‵ (places E new b o) ∷ ‵ Frame ∷ []) ∵ move ! (1 ∷ []) $ fsplit ! $ move ! (2 ∷ 0 ∷ []) $ slots_remade E ! g r new b o n ok same $ move ! (1 ∷ 0 ∷ []) $ fjoin ! $
+      fpack ! (List Val) (λ vs. fsep (cell_at full_share (Sr E).mir vs rb ro) ((Sr E).own_val new vs)) (slots_val b o n ∷ []) $ done !

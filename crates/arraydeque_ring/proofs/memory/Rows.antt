@@ -1,7 +1,6 @@
 -- A run of places is taken out of a block as an array of values, or as room for one, and put back. Assumes `Logic`.
-use Rattle.arraydeque_ring.proofs.memory.Kit.{◌≡◌, refl, sym, ap, ◌∙◌, List, [], ◌∷◌, ◌++◌, map, ℕ, ◌+◌, ◌*◌, ◌≤◌, arith, length, take, drop_list, take-append-drop, length-take, length-drop, Some, None, Ura, full_share, ent, sep, id⊢, mono_r, via, Fml, fsep, fat, froom, ty_array, Val, Logic, sem, ‵, ◌⊛◌, some, given, ◌$◌, ◌∵◌, !, qed, by, move, keep, use1, use2, pick, learn, split, fsplit, fjoin, rewrite, done, part_at, Good, El, R, el_x, elτ}
+use Rattle.arraydeque_ring.proofs.memory.Kit.{◌≡◌, refl, sym, ap, ◌∙◌, List, [], ◌∷◌, ◌++◌, map, ℕ, ◌+◌, ◌*◌, ◌≤◌, arith, length, take, drop_list, take-append-drop, length-take, length-drop, Some, None, Ura, full_share, ent, sep, id⊢, mono_r, via, Fml, fsep, fat, froom, ty_array, Val, Logic, sem, ‵, ◌⊛◌, some, given, ◌$◌, ◌∵◌, !, qed, by, move, keep, use1, use2, pick, learn, split, fsplit, fjoin, rewrite, done, part_at, Good, El, R, el_x, elτ, Array, ◌<◌, get_or, set, drop-cons, set_split, nothing, suc}
 use lib.Seq.{drop-drop}
-use denote.Array.{Array}
 use denote.Index.{row}
 use Rattle.std.proofs.ptr.Rows as arrays
 use Rattle.arraydeque_ring.specs.Ownership.{place_owned}
@@ -43,6 +42,19 @@ module _ (E : El) {M : Type 1} {𝓤 : Ura M} (𝓛 : Logic 𝓤) (b : ℕ) wher
         use2 𝓛 (‵ (On (i * s + o) (qs ++ rest))) (glue E 𝓛 b qs rest (i * s + o) (n * s + (i * s + o)) (ap (λ k. k * s + (i * s + o)) (sym long))) $ move ! (1 ∷ 0 ∷ []) $
         by ! (glue E 𝓛 b (take i ps) (qs ++ rest) o (i * s + o) (at_i within))
 
+  -- one place is a run of one
+  module _ (o : ℕ) (ps : List (Place E)) (i : ℕ) (lt : i < length ps) where
+    pub place_out : ent 𝓤 (sem 𝓛 (On o ps)) (sep 𝓤 (sem 𝓛 (place_owned (R E) b (i * s + o) (get_or ps i None))) (sem 𝓛 (Around o ps i 1)))
+    place_out =
+        qed 𝓛 (‵ (On o ps) ∷ []) ∵ use1 𝓛 (‵ (On (i * s + o) (take 1 (drop_list i ps))) ⊛ ‵ (Around o ps i 1)) (run_out o ps i 1 (omega arith)) $ split ! $
+        rewrite ! 0 (λ (qs : List (Place E)). ‵ (On (i * s + o) qs)) (ap (take 1) (drop-cons ps i None lt)) refl $ fsplit ! $ keep ! (0 ∷ 2 ∷ []) $ done !
+
+    pub place_in : (p : Place E) → ent 𝓤 (sep 𝓤 (sem 𝓛 (place_owned (R E) b (i * s + o) p)) (sem 𝓛 (Around o ps i 1))) (sem 𝓛 (On o (set ps i p)))
+    place_in p =
+        qed 𝓛 (‵ (place_owned (R E) b (i * s + o) p) ∷ ‵ (Around o ps i 1) ∷ []) ∵ nothing ! $ move ! (1 ∷ 0 ∷ []) $ fjoin ! $
+        use2 𝓛 (‵ (On o (take i ps ++ (p ∷ drop_list (i + 1) ps)))) (run_in o ps i 1 (omega arith) (p ∷ []) refl) $
+        rewrite ! 0 (λ (qs : List (Place E)). ‵ (On o qs)) (ap (λ k. take i ps ++ (p ∷ drop_list k ps)) {y = suc i} (omega arith) ∙ sym (set_split ps i p lt)) refl $ done !
+
   -- a place is room, whether or not it holds a value, and a run of places is room for an array
   place_room : (p : Place E) (o : ℕ) → ent 𝓤 (sem 𝓛 (place_owned (R E) b o p)) (H.room (elτ E) b o)
   place_room None o = 𝓛.laws.raw-room (elτ E) b o
@@ -60,17 +72,13 @@ module _ (E : El) {M : Type 1} {𝓤 : Ura M} (𝓛 : Logic 𝓤) (b : ℕ) wher
   abbrev Cells : arrays.El
   Cells = record { row = E.row; laws = E.laws }
 
-  to_row : (xs : List (el_x E)) (o : ℕ) → ent 𝓤 (sem 𝓛 (On o (map Some xs))) (sem 𝓛 (row (R E) full_share xs b o))
-  to_row [] o = id⊢ 𝓤 _
-  to_row (x ∷ xs) o = mono_r 𝓤 (sem 𝓛 (part_at (R E) full_share x b o)) (to_row xs (o + s))
-
-  of_row : (xs : List (el_x E)) (o : ℕ) → ent 𝓤 (sem 𝓛 (row (R E) full_share xs b o)) (sem 𝓛 (On o (map Some xs)))
-  of_row [] o = id⊢ 𝓤 _
-  of_row (x ∷ xs) o = mono_r 𝓤 (sem 𝓛 (part_at (R E) full_share x b o)) (of_row xs (o + s))
+  same_row : (xs : List (el_x E)) (o : ℕ) → On o (map Some xs) ≡ row (R E) full_share xs b o
+  same_row [] o = refl
+  same_row (x ∷ xs) o = ap (λ (F : Fml). fsep (part_at (R E) full_share x b o) F) (same_row xs (o + s))
 
   pub to_array : (n : ℕ) (xs : List (el_x E)) (o : ℕ) → length xs ≡ n → ent 𝓤 (sem 𝓛 (On o (map Some xs))) (sem 𝓛 (part_at (Array (R E) n) full_share xs b o))
-  to_array n xs o long = via 𝓤 (sem 𝓛 (row (R E) full_share xs b o)) (to_row xs o) (arrays.whole Cells 𝓛 full_share n xs b o long)
+  to_array n xs o long = qed 𝓛 (‵ (On o (map Some xs)) ∷ []) ∵ rewrite ! 0 (λ (F : Fml). ‵ F) (same_row xs o) refl $ by ! (arrays.whole Cells 𝓛 full_share n xs b o long)
 
   pub of_array : (n : ℕ) (xs : List (el_x E)) (o : ℕ) → ent 𝓤 (sem 𝓛 (part_at (Array (R E) n) full_share xs b o)) (sem 𝓛 (On o (map Some xs)))
   of_array n xs o = qed 𝓛 (‵ (part_at (Array (R E) n) full_share xs b o) ∷ []) ∵
-      use1 𝓛 (given (length xs ≡ n) (‵ (row (R E) full_share xs b o))) (arrays.apart Cells 𝓛 full_share n xs b o) $ learn ! (λ _. by ! (of_row xs o))
+      use1 𝓛 (given (length xs ≡ n) (‵ (row (R E) full_share xs b o))) (arrays.apart Cells 𝓛 full_share n xs b o) $ learn ! (λ _. rewrite ! 0 (λ (F : Fml). ‵ F) (sym (same_row xs o)) refl $ done !)

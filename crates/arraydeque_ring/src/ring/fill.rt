@@ -24,7 +24,7 @@ impl<T> Ring<T> {
         ensures goes { result ≡ false → I.can_next elements.new
             × (IsFinite (I.remaining elements.old) → IsFinite (I.remaining elements.new)) }
     {
-        let (start, len, capacity) = (self.start_place(), self.len(), self.capacity());
+        let (start, len, capacity) = (self.start, self.len(), self.capacity());
         let to_end = capacity - start;
         let ring = self.moved_out();
         let (ring, ended) = ring.fill_up(start + len.min(to_end), capacity, elements);
@@ -55,7 +55,7 @@ impl<T> Ring<T> {
         ensures goes { result ≡ false → I.can_next elements.new
             × (IsFinite (I.remaining elements.old) → IsFinite (I.remaining elements.new)) }
     {
-        let (start, len, capacity) = (self.start_place(), self.len(), self.capacity());
+        let (start, len, capacity) = (self.start, self.len(), self.capacity());
         let ring = self.moved_out();
         let (ring, ended) = ring.fill_down(start, start.saturating_sub(capacity - len), elements);
         if ended {
@@ -152,14 +152,6 @@ impl<T> Ring<T> {
         last
     }
 
-    /// The place of the first item.
-    #[inline(always)]
-    fn start_place(&self) -> usize
-        ensures { result ≡ self.now.start }
-    {
-        self.start
-    }
-
     /// Puts what the iterator gives behind the last item, into the places from `from` up to `end`,
     /// as long as any is left. Returns whether the iterator ended before that.
     #[inline(always)]
@@ -192,31 +184,24 @@ impl<T> Ring<T> {
         let mut slots = slots;
         // That no sum passes `usize::MAX` is known of the capacity.
         let _capacity = slots.capacity();
-        for place in from..end {
+        let mut place = from;
+        let mut ended = false;
+        while place < end {
             let Some(element) = ask(elements) else {
-                let len = len + (place - from);
-                return (
-                    Ring {
-                        slots,
-                        start,
-                        len,
-                        alloc,
-                    },
-                    true,
-                );
+                ended = true;
+                break;
             };
             slots.put(place, element);
+            place += 1;
         }
-        let len = len + (end - from);
-        (
-            Ring {
-                slots,
-                start,
-                len,
-                alloc,
-            },
-            false,
-        )
+        let len = len + (place - from);
+        let ring = Ring {
+            slots,
+            start,
+            len,
+            alloc,
+        };
+        (ring, ended)
     }
 
     /// Puts what the iterator gives before the first item, into the places below `from` down to
@@ -253,32 +238,25 @@ impl<T> Ring<T> {
         let mut start = start;
         // That no sum passes `usize::MAX` is known of the capacity.
         let _capacity = slots.capacity();
-        for k in 0..from - end {
+        let mut filled = 0;
+        let mut ended = false;
+        while filled < from - end {
             let Some(element) = ask(elements) else {
-                let len = len + k;
-                return (
-                    Ring {
-                        slots,
-                        start,
-                        len,
-                        alloc,
-                    },
-                    true,
-                );
+                ended = true;
+                break;
             };
-            start = from - k - 1;
+            filled += 1;
+            start = from - filled;
             slots.put(start, element);
         }
-        let len = len + (from - end);
-        (
-            Ring {
-                slots,
-                start,
-                len,
-                alloc,
-            },
-            false,
-        )
+        let len = len + filled;
+        let ring = Ring {
+            slots,
+            start,
+            len,
+            alloc,
+        };
+        (ring, ended)
     }
 }
 

@@ -1,5 +1,5 @@
 //! All items of a ring, lent for writing.
-ghost use Rattle.std.specs.Prelude.{◌≡◌, ◌-◌, ◌≤◌, [], ◌++◌, min};
+ghost use Rattle.std.specs.Prelude.{◌≡◌, [], ◌++◌};
 ghost use Rattle.std.specs.Borrow.{sem};
 ghost use Rattle.arraydeque_ring.specs.Loans.{remaining};
 ghost use Rattle.arraydeque_ring.specs.Ring.{IsInOnePiece};
@@ -33,17 +33,8 @@ impl<T> Ring<T> {
     {
         let start = self.start;
         let len = self.len;
-        let first = places_before_end(start, len, self.slots.capacity);
+        let first = len.min(self.slots.capacity - start);
         let slots = &mut self.slots;
         slots.lend_two(start, first, 0, len - first)
     }
-}
-
-/// How many of the `len` places from `start` on come before the end of a region.
-#[inline(always)]
-fn places_before_end(start: usize, len: usize, capacity: usize) -> usize
-    requires { start ≤ capacity }
-    ensures { result ≡ min len (capacity - start) }
-{
-    len.min(capacity - start)
 }

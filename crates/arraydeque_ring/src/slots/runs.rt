@@ -111,9 +111,9 @@ impl<T> Slots<T> {
         let capacity = self.capacity();
         let upper = capacity - src;
         let mut slots = self;
-        slots.slide_up(1, 0, len - upper);
-        slots.slide_down(0, capacity - 1, 1);
-        slots.slide_up(src + 1, src, upper - 1);
+        slots.move_last::<1>(1, 0, len - upper);
+        slots.move_first::<1>(0, capacity - 1, 1, 0);
+        slots.move_last::<1>(src + 1, src, upper - 1);
         slots
     }
 
@@ -131,9 +131,9 @@ impl<T> Slots<T> {
         let last = self.capacity() - 1;
         let upper = last - dst;
         let mut slots = self;
-        slots.slide_down(dst, dst + 1, upper);
-        slots.slide_up(last, 0, 1);
-        slots.slide_down(0, 1, len - upper - 1);
+        slots.move_first::<1>(dst, dst + 1, upper, 0);
+        slots.move_last::<1>(last, 0, 1);
+        slots.move_first::<1>(0, 1, len - upper - 1, 0);
         slots
     }
 
@@ -178,36 +178,15 @@ impl<T> Slots<T> {
     {
         if dst < src {
             if src - dst == 1 {
-                self.slide_down(dst, dst + 1, len);
+                self.move_first::<1>(dst, dst + 1, len, 0);
             } else {
                 self.copy_down(dst, src, len);
             }
         } else if dst - src == 1 {
-            self.slide_up(src + 1, src, len);
+            self.move_last::<1>(src + 1, src, len);
         } else {
             self.copy_up(dst, src, len);
         }
-    }
-
-    /// Copies a run up value by value, the last first. Where `dst` is `src + 1`, and is so written,
-    /// this becomes `memmove`.
-    #[inline(always)]
-    fn slide_up(&mut self, dst: usize, src: usize, len: usize)
-        requires up { src ≤ dst }
-        requires can { CanCopy dst src len self.old.places }
-        ensures { self.new ≡ record self.old { places = run_moved dst src len self.old.places } }
-    {
-        self.move_last::<1>(dst, src, len);
-    }
-
-    /// Copies a run down value by value, the first first.
-    #[inline(always)]
-    fn slide_down(&mut self, dst: usize, src: usize, len: usize)
-        requires down { dst ≤ src }
-        requires can { CanCopy dst src len self.old.places }
-        ensures { self.new ≡ record self.old { places = run_moved dst src len self.old.places } }
-    {
-        self.move_first::<1>(dst, src, len, 0);
     }
 
     /// Copies a run up in blocks, the largest first.
@@ -248,7 +227,9 @@ impl<T> Slots<T> {
         requires up { src ≤ dst }
         requires can { CanCopy dst src len self.old.places }
         ensures can { CanCopy dst src result self.new.places }
-        ensures all { N ≡ 1 → result ≡ 0 }
+        ensures all { N ≡ 1 → self.new ≡ record self.old {
+          places = run_moved dst src len self.old.places;
+        } }
         ensures moved { run_moved dst src result self.new.places ≡
             run_moved dst src len self.old.places }
         ensures steps { self.new.steps ≡ self.old.steps }
@@ -279,7 +260,9 @@ impl<T> Slots<T> {
         requires can { CanCopy (dst + from) (src + from) (len - from) self.old.places }
         ensures within { result ≤ len }
         ensures can { CanCopy (dst + result) (src + result) (len - result) self.new.places }
-        ensures all { N ≡ 1 → result ≡ len }
+        ensures all { N ≡ 1 → self.new ≡ record self.old {
+          places = run_moved (dst + from) (src + from) (len - from) self.old.places;
+        } }
         ensures moved { run_moved (dst + result) (src + result) (len - result) self.new.places ≡
             run_moved (dst + from) (src + from) (len - from) self.old.places }
         ensures steps { self.new.steps ≡ self.old.steps }

@@ -1,15 +1,5 @@
 -- `as_mut_slices` is `lend`, and the ring follows the loan's slices. Assumes `Logic`.
-use Rattle.arraydeque_ring.proofs.memory.Kit.{◌≡◌, refl, sym, ap, ◌∙◌, List, [], ◌∷◌, ◌++◌, ◌+◌, ◌≤◌, length, emp, id⊢, fact_i, ftrue, flft, Fn, inst_fn, named, ◌⊑◌, fact, tables, ‵, raw, ◌⊛◌, some, later, ◌$◌, ◌∵◌, !, qed, move, use0, use1, use2, drop, split, join, pick, frame, rewrite, await, fsplit, fjoin, suffices, done, enter, addr, stop, no_more, and_then, returns, alloc_all, pass_all, free_all, look_at, get, through, sets, lands_as, no, plain, mem, Is, shows, peeks, Stays, walk_of, says_two, stay_dropped, ends_at, nothing, heard, calls_at, framed, triple_of, param_laws, El, R, args, el_x, proved}
-use mathlib.Core.Path.{ap₂}
-use types.Follow.{after₂}
-use types.Kit.{split3}
-use denote.Array.{Array}
-use denote.Follow.{both_by}
-use denote.Ref.{MutBor, NamedLft, mut_vals, mut_Tells}
-use denote.Signature.{mut_ref_to, named_lft}
-use denote.Triple.Clauses.{lasts, Lasts}
-use denote.Triple.Entry.{on_entry}
-use denote.Triple.Walked.{Goes-spent_ref}
+use Rattle.arraydeque_ring.proofs.memory.Kit.{◌≡◌, refl, sym, ap, ◌∙◌, List, [], ◌∷◌, ◌++◌, ◌+◌, ◌≤◌, length, emp, id⊢, fact_i, ftrue, flft, Fn, inst_fn, named, ◌⊑◌, fact, tables, ‵, raw, ◌⊛◌, some, later, ◌$◌, ◌∵◌, !, qed, move, use0, use1, use2, drop, split, join, pick, frame, rewrite, await, fsplit, fjoin, suffices, done, enter, addr, stop, no_more, and_then, returns, alloc_all, pass_all, free_all, look_at, get, through, sets, lands_as, no, plain, mem, Is, shows, peeks, Stays, walk_of, says_two, stay_dropped, ends_at, nothing, heard, calls_at, framed, triple_of, param_laws, El, R, args, el_x, proved, ap₂, after₂, split3, Array, both_by, MutBor, NamedLft, mut_vals, mut_Tells, mut_ref_to, named_lft, lasts, Lasts, on_entry, Goes-spent_ref}
 use Rattle.arraydeque_ring.specs.Loans.{LoanState, remaining, as_many}
 use Rattle.arraydeque_ring.specs.Ring.{RingState}
 use Rattle.arraydeque_ring.specs.RingLends.{rewritten, lends_loan, lends_slices}
@@ -27,20 +17,14 @@ use Rattle.arraydeque_ring.specs.contracts.ring.Ring.as_mut_slices as f
 use Rattle.arraydeque_ring.proofs.ring.Ring.as_mut_slices.Statement as stated
 use Rattle.arraydeque_ring.proofs.ring.Ring.as_mut_slices.Code as code
 
-module _ (E : El) where
-  abbrev here : Fn
-  here = inst_fn (args E) code.function
-
-  abbrev stayed : Stays (f.ended E.row).signature.params (f.ended E.row).kept
-  stayed = (stay_dropped (mut_ref_to (0 ∷ []) tt (plain (λ _. Rr E))) no, tt)
-
 pub as_mut_slices_spec : {M : Type 1} → stated.statement M
 unfolding both_by
 as_mut_slices_spec 𝓤 𝓛 𝓜 𝓡 wired X L =
-    let E : El = record { row = X; laws = L } in
-    let ended = f.ended X in let c = f.clauses X 𝓛 𝓜.mem 𝓡.returns in let W = walk_of 𝓛 ended (stayed E) c in let 𝓣 = tables 𝓤 𝓛.H 𝓜 𝓡 𝓡.env in
-    proved 𝓛 ended (stayed E) c 𝓜 𝓡 (Goes-spent_ref 𝓛 2 (0 ∷ []) tt (plain (λ _. Rr E)), tt)
-    (f.Key.name (args E)) (here E) (code.unfolded 𝓤 𝓛.H 𝓜 𝓡 wired (X, tt))
+    let E : El = record { row = X; laws = L } in let here : Fn = inst_fn (args E) code.function in
+    let ended = f.ended X in let stayed : Stays ended.signature.params ended.kept = (stay_dropped (mut_ref_to (0 ∷ []) tt (plain (λ _. Rr E))) no, tt) in
+    let c = f.clauses X 𝓛 𝓜.mem 𝓡.returns in let W = walk_of 𝓛 ended stayed c in let 𝓣 = tables 𝓤 𝓛.H 𝓜 𝓡 𝓡.env in
+    proved 𝓛 ended stayed c 𝓜 𝓡 (Goes-spent_ref 𝓛 2 (0 ∷ []) tt (plain (λ _. Rr E)), tt)
+    (f.Key.name (args E)) here (code.unfolded 𝓤 𝓛.H 𝓜 𝓡 wired (X, tt))
     (λ κs. (mut_vals, tt)) (λ κs. (mut_Tells (named 0) κs.0 (Rr E), tt)) (λ κs qs bounds a _ are.
     let y : W.Ghost = ((κs, qs, bounds, a, (mut_vals a.0, tt)), tt) in let d : RingState (el_x E) = a.0.now in let κ₁ = κs.1.0 in
     let G = triple_of 𝓛 (g.signature X) (g.spec X 𝓛 𝓜.mem 𝓡.returns) in let G' = triple_of 𝓛 (h.signature X) (h.spec X 𝓛 𝓜.mem 𝓡.returns) in
@@ -48,7 +32,7 @@ as_mut_slices_spec 𝓤 𝓛 𝓜 𝓡 wired X L =
     let Toks = ‵ (flft κs.0 qs.0) ⊛ ‵ (flft κ₁ qs.1.0) ⊛ ‵ ftrue in
     qed 𝓛 (raw (on_entry 𝓛 ended.signature κs qs a y.0.4) ∷ (raw (fact 𝓤 (κ₁ ⊑ X.lives)) ⊛ ‵ ftrue) ∷ []) ∵
     move ! (1 ∷ []) $ split ! $ heard ! (κ₁ ⊑ X.lives) (λ lives. use0 𝓛 (raw (fact 𝓤 (κ₁ ⊑ X.lives))) (fact_i 𝓤 (κ₁ ⊑ X.lives) (emp 𝓤) lives) $ join ! $ move ! (1 ∷ 0 ∷ []) $ use2 𝓛 (raw (G.pre y)) (id⊢ 𝓤 _) $
-    enter ! 𝓣.C 𝓣.Λ (here E) _ _ $ alloc_all ! (λ l. pass_all ! refl ((tt, tt), tt) $ sets ! (addr ! (through ! refl (stop !))) refl (tt, tt) $
+    enter ! 𝓣.C 𝓣.Λ here _ _ $ alloc_all ! (λ l. pass_all ! refl ((tt, tt), tt) $ sets ! (addr ! (through ! refl (stop !))) refl (tt, tt) $
     calls_at ! (framed 𝓤 𝓛.H 𝓜 𝓣) G (met 𝓤 𝓛 𝓜 𝓡 (code.calls-arraydeque_ring::ring::Ring::lend 𝓡.env wired) X L) y (and_then ! (get ! refl) (no_more !)) (λ v.
     let Value : LoanState (el_x E) → Type 0 = λ it. remaining it ≡ d.items in let Piece : LoanState (el_x E) → Type 0 = λ it. d.start + length d.items ≤ d.capacity → it.second.now ≡ [] in
     use1 𝓛 (later (some (λ (it : LoanState (el_x E)). (Toks ⊛ ‵ (It.own_val it (v ∷ []))) ⊛ some (λ (ws : Lasts (g.ended X) κs a). ‵ (lasts (g.ended X) κs a ws) ⊛ (‵ (lends_loan (R E) a.0 it) ⊛ raw (fact 𝓤 (Value it)) ⊛ raw (fact 𝓤 (Piece it))))))) (id⊢ 𝓤 _) $
@@ -70,6 +54,6 @@ as_mut_slices_spec 𝓤 𝓛 𝓜 𝓡 wired X L =
     (λ i us vs. record (Put us vs) { items = as_many-twice d.items (as_many it.first.now us ++ as_many it.second.now vs) i }) refl $
     rewrite ! 0 (λ (pair : Two_slices). ‵ (lends_slices (R E) a.0 pair)) (λ i. (sym e i, sym e' i)) refl $
     -- [what the ring follows; the pair; the tokens]
-    returns ! (look_at ! 0 refl) $ free_all ! refl $ suffices ! _ (ends_at 𝓛 ended (stayed E) c y u two (tt, tt) (tt, tt)) $
+    returns ! (look_at ! 0 refl) $ free_all ! refl $ suffices ! _ (ends_at 𝓛 ended stayed c y u two (tt, tt) (tt, tt)) $
     move ! (1 ∷ []) $ nothing ! $ nothing ! $ fjoin ! $ join ! $ move ! (2 ∷ 0 ∷ []) $ join ! $ frame ! $
     says_two ! (ap₂ (λ (x y : MutBor (List (el_x E))). x.now ++ y.now) e e' ∙ value, λ in_one_piece. ap (λ (x : MutBor (List (el_x E))). x.now) e' ∙ piece in_one_piece) $ done !)))))))))))))))

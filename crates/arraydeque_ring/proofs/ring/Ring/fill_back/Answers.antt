@@ -1,19 +1,15 @@
-use Rattle.std.proofs.Common.{◌++◌, length, ap, ◌∙◌, arith}
-use Rattle.std.proofs.lemmas.List.{append_assoc, length-append}
+use Rattle.std.proofs.Common.{length, ap, ◌∙◌, arith}
+use Rattle.std.proofs.lemmas.List.{length-append}
 use Rattle.arraydeque_ring.specs.Ring.{RingState}
-use Rattle.arraydeque_ring.specs.Steps.{more_puts}
 use Rattle.arraydeque_ring.proofs.fills.FromIterator.{Fills-both}
-use Rattle.arraydeque_ring.proofs.fills.InRows.{more_twice}
+use Rattle.arraydeque_ring.proofs.fills.InRows.{filled_back, filled_back-both}
 use Rattle.arraydeque_ring.proofs.ring.Ring.fill_back.Goals as goal
 
 pub returns-clause-filled : goal.returns-clause-filled
 returns-clause-filled g c =
-    let old = c.args.self.now in
     let value = c.moved_out-ring.ensures.value in
     let first = c.fill_up-ring.ensures.filled in
     let long = λ (r : RingState g.row.T.Denot). length r.items in
     Fills-both g.I.Iterator.next_gives first c.fill_up-ring-2.ensures.filled _ _ c.if-ended.false
-    (omega (arith, ap long first.holds, ap long value, length-append c.moved_out-ring.result.items first.items, (first.all c.if-ended.false).1)) (λ xs ys one two.
-    c.move_in-2.ensures ∙ two ∙ ap (λ (r : RingState g.row.T.Denot). record r { items = r.items ++ ys; steps = more_puts (length ys) r.steps })
-    (one ∙ ap (λ (r : RingState g.row.T.Denot). record r { items = r.items ++ xs; steps = more_puts (length xs) r.steps }) value)
-    ∙ (λ i. record old { items = append_assoc old.items xs ys i; steps = more_twice xs ys old.steps i }))
+    (omega (arith, ap (λ (r : RingState g.row.T.Denot). r.start) c.self.view_is, ap long first.holds, ap long value, length-append c.moved_out-ring.result.items first.items, (first.all c.if-ended.false).1))
+    (λ xs ys one two. c.move_in-2.ensures ∙ two ∙ ap (filled_back ys) (one ∙ ap (filled_back xs) value) ∙ filled_back-both xs ys c.args.self.now)

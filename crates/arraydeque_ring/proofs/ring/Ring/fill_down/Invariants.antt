@@ -1,20 +1,21 @@
-use Rattle.std.proofs.Common.{◌≡◌, ◌-◌, ◌<◌, ◌++◌, List, length, reverse}
-use Rattle.std.specs.Iterator.{IsFinite, Yields}
-use Rattle.arraydeque_ring.specs.Ring.{down_by}
-use Rattle.arraydeque_ring.specs.Steps.{more_puts}
-use Rattle.arraydeque_ring.proofs.fills.InRows.{MayEndAt}
-use Rattle.arraydeque_ring.proofs.places.LaidOut.{LaidOut}
+use Rattle.std.proofs.Common.{◌≡◌, ◌+◌, ◌-◌, ◌<◌, ◌≤◌, false}
+use Rattle.std.specs.Iterator.{IsFinite}
+use Rattle.arraydeque_ring.specs.Fills.{Fills}
+use Rattle.arraydeque_ring.proofs.fills.InRows.{MayEndAt, filled_front}
+use Rattle.arraydeque_ring.proofs.places.Opened.{Opened}
 use Rattle.arraydeque_ring.proofs.ring.Ring.fill_down.Given as goal
 
-abbrev pub invariant-loop-k : goal.invariant-loop-k
-invariant-loop-k g l = (xs : List g.row.T.Denot) × record {
-  many : l.k ≡ length xs;
-  start : l.start ≡ down_by (length xs) l.fn.self.start l.fn.self.capacity;
-  before : l.k < l.from - l.end → MayEndAt l.start l.fn.self.capacity (l.from - l.k);
-  reached : l.from ≡ l.fn.self.start → l.start ≡ l.from - l.k;
-  laid : LaidOut l.fn.self.capacity l.start (reverse xs ++ l.fn.self.items) l.slots.places;
-  steps : l.slots.steps ≡ more_puts (length xs) l.fn.self.steps;
-  yielded : Yields g.I.Iterator.next_gives l.fn.elements xs l.elements;
+abbrev pub invariant-loop-filled : goal.invariant-loop-filled
+invariant-loop-filled g l = record {
+  within : l.filled ≤ l.from - l.end;
+  before : l.filled < l.from - l.end → MayEndAt l.start l.fn.self.capacity (l.from - l.filled);
+  reached : l.from ≡ l.fn.self.start → l.start ≡ l.from - l.filled;
+  filled : Fills g.I.Iterator.next_gives l.fn.elements l.elements l.filled false (λ xs.
+      Opened record { slots = l.slots; start = l.start; len = l.len + l.filled; alloc = l.alloc } (filled_front xs l.fn.self));
+  goes_on : l.ended ≡ false;
   can_next : g.I.Iterator.can_next l.elements;
   finite : IsFinite (g.I.Iterator.remaining l.fn.elements) → IsFinite (g.I.Iterator.remaining l.elements);
 }
+
+abbrev pub decreases-loop-filled : goal.decreases-loop-filled
+decreases-loop-filled g l = l.from - l.end - l.filled

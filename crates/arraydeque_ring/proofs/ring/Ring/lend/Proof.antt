@@ -1,26 +1,15 @@
 -- `lend` lends all items: its slots lend two runs, and the ring follows what they follow. Assumes `Logic`.
-use Rattle.arraydeque_ring.proofs.memory.Kit.{◌≡◌, refl, ap, List, [], ◌∷◌, ℕ, ◌+◌, ◌<◌, ◌≤◌, ◌^◌, lit<, arith, length, full_share, emp, id⊢, fact_i, Share, GName, ftrue, fsep, fat, flft, fauth, Fn, inst_fn, named, w64, Val, vint, vptr, ◌⊑◌, fact, tables, sem, Borrowed, owns, types_at, ‵, raw, ◌⊛◌, some, later, ◌$◌, ◌∵◌, !, qed, move, keep, use0, use1, use2, drop, split, join, pick, frame, rewrite, await, fsplit, fsplit3, fjoin, fjoin3, fpack, feq_i, flt_i, feq_l, flt_l, suffices, done, enter, of_opd, lit, bin, addr, load, look, stop, fld, no_more, whole, sub, look_in, only, and_then, returns, alloc_all, pass_all, free_all, look_at, get, through, sets, lands_as, no, plain, usize, uint_vals, mem, part_at, Is, shows, peeks, Stays, walk_of, says_two, stay_dropped, ends_at, nothing, heard, calls_at, framed, triple_of, param_laws, El, R, args, el_x, proved}
+use Rattle.arraydeque_ring.proofs.memory.Kit.{◌≡◌, refl, ap, List, [], ◌∷◌, ℕ, ◌+◌, ◌<◌, ◌≤◌, ◌^◌, lit<, arith, length, full_share, emp, id⊢, fact_i, Share, GName, ftrue, fsep, fat, flft, fauth, Fn, inst_fn, named, w64, Val, vptr, ◌⊑◌, fact, tables, sem, Borrowed, owns, types_at, ‵, raw, ◌⊛◌, some, later, ◌$◌, ◌∵◌, !, qed, move, keep, use0, use1, use2, drop, split, join, pick, frame, rewrite, await, fsplit, fsplit3, fjoin, fjoin3, fpack, feq_i, feq_l, flt_l, suffices, done, enter, of_opd, lit, bin, addr, load, look, stop, fld, no_more, whole, sub, look_in, only, and_then, returns, alloc_all, pass_all, free_all, look_at, get, through, sets, lands_as, no, plain, usize, uint_vals, mem, part_at, Is, shows, peeks, Stays, walk_of, says_two, stay_dropped, ends_at, nothing, heard, calls_at, framed, triple_of, param_laws, El, R, args, el_x, proved, after₂, split3, group, name_new, Array, both_by, part_in, part_out, lone, MutBor, NamedLft, mut_vals, mut_Tells, mut_ref_to, named_lft, lasts, Lasts, Goes-spent_ref, pure_i}
 use Rattle.std.specs.Prelude.{◌-◌, min}
-use types.Follow.{after, after₂}
-use types.Kit.{split3, group}
+use types.Follow.{after}
 use types.Late.{ages, bor_new_deep}
 use types.Mut.{open_ref}
 use types.Run.{well_typed}
-use types.Tokens.{name_new}
 use base.Share
 use base.Logic.{sep}
-use denote.Array.{Array}
-use denote.Follow.{both_by}
-use borrow.Table.OneValue.{part_in, part_out}
-use denote.Memory.{lone}
 use denote.Plain.{uint_in, uint_out}
-use denote.Ref.{MutBor, NamedLft, mut_vals, mut_Tells}
-use denote.Signature.{mut_ref_to, named_lft}
-use denote.Triple.Clauses.{lasts, Lasts}
-use denote.Triple.Walked.{Goes-spent_ref}
 use Rattle.arraydeque_ring.specs.Lends as Lends
 use Rattle.arraydeque_ring.specs.Loans.{LoanState, AreApart}
-use Rattle.arraydeque_ring.specs.Places.{HoldsRun, IsFilledRun}
 use Rattle.arraydeque_ring.specs.Ring.{RingState}
 use Rattle.arraydeque_ring.specs.RingLends.{rewritten}
 use Rattle.arraydeque_ring.specs.contracts.slots.loan.Loan as loan
@@ -32,37 +21,31 @@ use Rattle.arraydeque_ring.proofs.loans.Placed.{run_length}
 use Rattle.std.proofs.lemmas.List.{nil_from_length}
 use Rattle.arraydeque_ring.proofs.loans.Names.{hands_on, followed_both}
 use Rattle.arraydeque_ring.proofs.loans.Rings.{Rr, Fields, Others, Way, fields_out, slots_out, ring_whole}
-use Rattle.arraydeque_ring.proofs.memory.Regions.{Sr, Seen, slots_val, slots_apart, slots_made}
+use Rattle.arraydeque_ring.proofs.memory.Regions.{Sr, Seen, slots_val, slots_apart, slots_made, HoldsRun, IsFilledRun}
 use Rattle.arraydeque_ring.proofs.places.Opened.{opened, view, Kept}
 use Rattle.arraydeque_ring.specs.contracts.slots.Slots.lend_two as g
 use Rattle.arraydeque_ring.proofs.slots.Slots.lend_two.Met.{met}
-use Rattle.arraydeque_ring.specs.contracts.ring.lends.places_before_end as e
-use Rattle.arraydeque_ring.proofs.ring.lends.places_before_end.Met.{met as e_met}
+use Rattle.std.below.core.specs.contracts.int.usize.min as e
+use Rattle.std.below.core.proofs.int.usize.min.Met.{met as e_met}
 use Rattle.arraydeque_ring.specs.contracts.ring.Ring.lend as f
 use Rattle.arraydeque_ring.proofs.ring.Ring.lend.Statement as stated
 use Rattle.arraydeque_ring.proofs.ring.Ring.lend.Code as code
 
-module _ (E : El) where
-  abbrev here : Fn
-  here = inst_fn (args E) code.function
-
-  abbrev stayed : Stays (f.ended E.row).signature.params (f.ended E.row).kept
-  stayed = (stay_dropped (mut_ref_to (0 ∷ []) tt (plain (λ _. Rr E))) no, tt)
-
 pub lend_spec : {M : Type 1} → stated.statement M
 unfolding both_by
 lend_spec 𝓤 𝓛 𝓜 𝓡 wired X L =
-    let E : El = record { row = X; laws = L } in
-    let f_ended = f.ended X in let c = f.clauses X 𝓛 𝓜.mem 𝓡.returns in let W = walk_of 𝓛 f_ended (stayed E) c in let 𝓣 = tables 𝓤 𝓛.H 𝓜 𝓡 𝓡.env in
-    proved 𝓛 f_ended (stayed E) c 𝓜 𝓡 (Goes-spent_ref 𝓛 2 (0 ∷ []) tt (plain (λ _. Rr E)), tt)
-    (f.Key.name (args E)) (here E) (code.unfolded 𝓤 𝓛.H 𝓜 𝓡 wired (X, tt))
+    let E : El = record { row = X; laws = L } in let here : Fn = inst_fn (args E) code.function in
+    let f_ended = f.ended X in let stayed : Stays f_ended.signature.params f_ended.kept = (stay_dropped (mut_ref_to (0 ∷ []) tt (plain (λ _. Rr E))) no, tt) in
+    let c = f.clauses X 𝓛 𝓜.mem 𝓡.returns in let W = walk_of 𝓛 f_ended stayed c in let 𝓣 = tables 𝓤 𝓛.H 𝓜 𝓡 𝓡.env in
+    proved 𝓛 f_ended stayed c 𝓜 𝓡 (Goes-spent_ref 𝓛 2 (0 ∷ []) tt (plain (λ _. Rr E)), tt)
+    (f.Key.name (args E)) here (code.unfolded 𝓤 𝓛.H 𝓜 𝓡 wired (X, tt))
     (λ κs. (mut_vals, tt)) (λ κs. (mut_Tells (named 0) κs.0 (Rr E), tt)) (λ κs qs bounds a _ are.
     let κ = κs.0 in let κ₁ = κs.1.0 in let q = qs.0 in let q₁ = qs.1.0 in let l : Share = Share.left q in let r : Share = Share.right q in
     let rb : ℕ = a.0.ref_ptr.0 in let ro : ℕ = a.0.ref_ptr.1 in let γ = a.0.ghost_name in let d : RingState (el_x E) = a.0.now in
     let y : W.Ghost = ((κs, qs, bounds, a, (mut_vals a.0, tt)), tt) in let coded = (Rr E).coded.code d in
     qed 𝓛 (((‵ (flft κ q) ⊛ ‵ (flft κ₁ q₁) ⊛ ‵ ftrue) ⊛ ‵ (owns (types_at f_ended.signature.params κs) a y.0.4)) ∷ (raw (fact 𝓤 (κ₁ ⊑ X.lives)) ⊛ ‵ ftrue) ∷ []) ∵
     move ! (1 ∷ []) $ split ! $ heard ! (κ₁ ⊑ X.lives) (λ lives. drop ! $ split ! $ split ! $ move ! (2 ∷ []) $ fsplit ! $ fsplit3 ! $ keep ! (1 ∷ 2 ∷ 4 ∷ 5 ∷ []) $
-    enter ! 𝓣.C 𝓣.Λ (here E) (vptr rb ro ∷ []) _ $ alloc_all ! (λ locals. pass_all ! refl ((tt, tt), tt) $
+    enter ! 𝓣.C 𝓣.Λ here (vptr rb ro ∷ []) _ $ alloc_all ! (λ locals. pass_all ! refl ((tt, tt), tt) $
     -- [obs; the borrow; its token; the others]
     move ! (2 ∷ []) $ use1 𝓛 (‵ (flft κ l) ⊛ ‵ (flft κ r)) (𝓛.lfts.lft_split κ q) $ split ! $ move ! (2 ∷ 3 ∷ 0 ∷ []) $
     open_ref ! tt (mem (Rr E)) {x = d} {b = rb} {o = ro} $
@@ -83,15 +66,14 @@ lend_spec 𝓤 𝓛 𝓜 𝓡 wired X L =
     sets ! (of_opd ! (load ! (through ! refl (fld ! refl (fld ! refl (stop !)))) (look_in ! 1 (sub ! 1 refl (whole !))))) refl (tt, record { fits = ok.word }) $
     move ! (1 ∷ 0 ∷ []) $ use2 𝓛 (‵ (part_at (Sr E) full_share x.slots rb (ro + 0))) (part_in 𝓛 (Sr E) refl full_share x.slots rb (ro + 0) (slots_val p o n)) $
     -- [the slots; the other fields; the way back; ..]
-    let At = triple_of 𝓛 e.signature (e.spec 𝓛 𝓜.mem 𝓡.returns) in let Fit : Type 0 = x.start ≤ n in let fit : Fit = let inside = kept.0 in omega (arith, inside, ok.capacity) in
-    let zₑ : At.Ghost = ((tt, tt, tt, (x.start, (x.len, (n, tt))), (uint_vals w64 x.start, (uint_vals w64 x.len, (uint_vals w64 n, tt)))), tt) in
-    nothing ! $ flt_i ! n (2 ^ 64) ok.word $ feq_i ! (List Val) (vint w64 n ∷ []) (vint w64 n ∷ []) refl $ fjoin ! $ fjoin ! $ flt_i ! x.len (2 ^ 64) fl $ feq_i ! (List Val) (vint w64 x.len ∷ []) (vint w64 x.len ∷ []) refl $ fjoin ! $ fjoin ! $
-    flt_i ! x.start (2 ^ 64) fs $ feq_i ! (List Val) (vint w64 x.start ∷ []) (vint w64 x.start ∷ []) refl $ fjoin ! $ fjoin ! $ nothing ! $ join ! $
-    use0 𝓛 (raw (fact 𝓤 Fit)) (fact_i 𝓤 Fit (emp 𝓤) fit) $ move ! (1 ∷ 0 ∷ []) $ use2 𝓛 (raw (At.pre zₑ)) (id⊢ 𝓤 _) $
-    calls_at ! (framed 𝓤 𝓛.H 𝓜 𝓣) At (e_met 𝓤 𝓛 𝓜 𝓡 (code.calls-arraydeque_ring::ring::lends::places_before_end 𝓡.env wired)) zₑ (and_then ! (get ! refl) (and_then ! (get ! refl) (and_then ! (get ! refl) (no_more !)))) (λ u.
-    use1 𝓛 (later (some (λ (first : ℕ). (‵ ftrue ⊛ ‵ (usize.own_val first (u ∷ []))) ⊛ some (λ (ws : Lasts e.ended tt zₑ.0.3). ‵ (lasts e.ended tt zₑ.0.3 ws) ⊛ raw (fact 𝓤 (first ≡ min x.len (n - x.start))))))) (id⊢ 𝓤 _) $
+    let At = triple_of 𝓛 e.signature (e.spec 𝓛 𝓜.mem 𝓡.returns) in let room : ℕ = n - x.start in let room_fits : room < 2 ^ 64 = omega (arith, ok.word) in
+    sets ! (bin ! (get ! refl) (get ! refl) (let inside = kept.0 in omega (arith, inside, ok.capacity))) refl (tt, record { fits = room_fits }) $
+    let zₑ : At.Ghost = ((tt, tt, tt, (x.len, (room, tt)), (uint_vals w64 x.len, (uint_vals w64 room, tt))), tt) in
+    nothing ! $ pure_i ! (owns (usize ∷ usize ∷ []) zₑ.0.3 zₑ.0.4) ((tt, tt), ((tt, tt), tt)) ((refl, fl), ((refl, room_fits), tt)) $ nothing ! $ join ! $ join ! $ use1 𝓛 (raw (At.pre zₑ)) (id⊢ 𝓤 _) $
+    calls_at ! (framed 𝓤 𝓛.H 𝓜 𝓣) At (e_met 𝓤 𝓛 𝓜 𝓡 (code.calls-core::int::usize::min 𝓡.env wired)) zₑ (and_then ! (get ! refl) (and_then ! (get ! refl) (no_more !))) (λ u.
+    use1 𝓛 (later (some (λ (first : ℕ). (‵ ftrue ⊛ ‵ (usize.own_val first (u ∷ []))) ⊛ some (λ (ws : Lasts e.ended tt zₑ.0.3). ‵ (lasts e.ended tt zₑ.0.3 ws) ⊛ raw (fact 𝓤 (first ≡ min x.len room)))))) (id⊢ 𝓤 _) $
     await ! tt $ pick ! (λ first. split ! $ split ! $ drop ! $ fsplit ! $ feq_l ! (λ is_first. flt_l ! (λ ff. lands_as ! (ap only is_first) refl (tt, record { fits = ff }) $
-    pick ! (λ ws. split ! $ drop ! $ heard ! (first ≡ min x.len (n - x.start)) (λ cuts.
+    pick ! (λ ws. split ! $ drop ! $ heard ! (first ≡ min x.len room) (λ cuts.
     let rest = x.len - first in let fr : rest < 2 ^ 64 = omega arith in let cut : Cut x first rest = cut_at_end x kept n first ok.capacity cuts in let open_ring = opened x kept seen in
     sets ! (addr ! (through ! refl (fld ! refl (stop !)))) refl (tt, tt) $
     -- [the slots; the other fields; the way back; the open borrow, in three; half its token; the others]
@@ -103,8 +85,7 @@ lend_spec 𝓤 𝓛 𝓜 𝓡 wired X L =
     move ! (2 ∷ 0 ∷ []) $ feq_i ! (List Val) (vptr rb (ro + 0) ∷ []) (vptr rb (ro + 0) ∷ []) refl $ fjoin3 ! $
     let lent : MutBor (Seen E) = record { ref_ptr = (rb, ro + 0); ghost_name = δ; now = x.slots } in let G = triple_of 𝓛 (g.signature X) (g.spec X 𝓛 𝓜.mem 𝓡.returns) in
     let z : G.Ghost = ((κs, (r, (q₁, tt)), bounds, (lent, (x.start, (first, (0, (rest, tt))))), (mut_vals lent, (uint_vals w64 x.start, (uint_vals w64 first, (uint_vals w64 0, (uint_vals w64 rest, tt)))))), tt) in
-    nothing ! $ flt_i ! rest (2 ^ 64) fr $ feq_i ! (List Val) (vint w64 rest ∷ []) (vint w64 rest ∷ []) refl $ fjoin ! $ fjoin ! $ flt_i ! 0 (2 ^ 64) (lit< tt) $ feq_i ! (List Val) (vint w64 0 ∷ []) (vint w64 0 ∷ []) refl $ fjoin ! $ fjoin ! $
-    flt_i ! first (2 ^ 64) ff $ feq_i ! (List Val) (vint w64 first ∷ []) (vint w64 first ∷ []) refl $ fjoin ! $ fjoin ! $ flt_i ! x.start (2 ^ 64) fs $ feq_i ! (List Val) (vint w64 x.start ∷ []) (vint w64 x.start ∷ []) refl $ fjoin ! $ fjoin ! $
+    pure_i ! (owns (usize ∷ usize ∷ usize ∷ usize ∷ []) z.0.3.1 z.0.4.1) ((tt, tt), ((tt, tt), ((tt, tt), ((tt, tt), tt)))) ((refl, fs), ((refl, ff), ((refl, lit< tt), ((refl, fr), tt)))) $
     -- [the words; the lent slots; the right; the open borrow; the other fields; the way back; obs γ; auth γ; half its token; the others]
     move ! (1 ∷ 0 ∷ []) $ fjoin ! $ move ! (7 ∷ 8 ∷ []) $ join ! $ join ! $
     let One = IsFilledRun x.slots.places x.start first in let Two = IsFilledRun x.slots.places 0 rest in let Apart = AreApart x.start first 0 rest in
@@ -132,7 +113,7 @@ lend_spec 𝓤 𝓛 𝓜 𝓡 wired X L =
     peeks ! It (Is It) (shows 𝓛 It) out (v ∷ []) (λ is_it. lands_as ! refl refl (((loan_laws.the_row_laws α (R E) (param_laws 0 X L)).lawful 𝓛).typed out (v ∷ []) is_it).0 $
     -- [the loan; the tokens; what the ring follows; half the token]
     move ! (1 ∷ []) $ split ! $ move ! (4 ∷ 0 ∷ []) $ use2 𝓛 (‵ (flft κ q)) (𝓛.lfts.lft_join κ q) $ move ! (0 ∷ 1 ∷ []) $ join ! $
-    returns ! (look_at ! 0 refl) $ free_all ! refl $ suffices ! _ (ends_at 𝓛 f_ended (stayed E) c y v out (tt, tt) (tt, tt)) $
+    returns ! (look_at ! 0 refl) $ free_all ! refl $ suffices ! _ (ends_at 𝓛 f_ended stayed c y v out (tt, tt) (tt, tt)) $
     move ! (1 ∷ []) $ nothing ! $ nothing ! $ fjoin ! $ join ! $ move ! (1 ∷ 0 ∷ []) $ join ! $ frame ! $
     let none : d.start + length d.items ≤ d.capacity → it.second.now ≡ [] = λ in_one_piece. nil_from_length it.second.now (omega (arith, run_length x.slots.places 0 rest it.second.now (rest_filled open_ring cut).0 held', ok.capacity, open_ring.len, open_ring.start, open_ring.laid.long)) in
     says_two ! (lent_items open_ring cut it.first.now it.second.now held held', none) $ done !)))))))))))))))))))))))

@@ -1,33 +1,23 @@
 -- `give_back` makes the empty places one block again, and frees it. Assumes `Logic`.
-use Rattle.arraydeque_ring.proofs.memory.Kit.{◌≡◌, refl, sym, ap, subst, Bool, List, [], ◌∷◌, ◌++◌, ℕ, ◌*◌, ◌<◌, ◌^◌, arith, T, length, SProp, ent, id⊢, ftrue, froom, flft, Fn, inst_fn, w64, ty_array, ty_unit, Val, vunit, vint, vptr, has_ty, WT, align, capped, capped_fits, Env, WpFn, ◌⊑◌, fact, tables, owns, types_at, ‵, raw, ◌⊛◌, given, later, at_ret, ◌$◌, ◌∵◌, !, qed, move, keep, drop, use1, use3, split, join, learn, rewrite, fsplit, fjoin, feq_i, suffices, await, done, whole, sub, enter, of_opd, lit, unit_lit, size_word, align_word, bin, stop, fld, no_more, and_then, first, blocks, branches, skips, exec, returns, alloc_all, pass_all, free_all, look_at, get, get_in, sets, lands_last, is, env, yes, no, plain, RefOf, Stays, walk_of, stay_dropped, Goes-dropped, ends_at, heard, nothing, calls_at_last, framed, block_ptr, after, El, R, args, elτ, proved_at}
+use Rattle.arraydeque_ring.proofs.memory.Kit.{◌≡◌, refl, sym, subst, Bool, List, [], ◌∷◌, ◌++◌, ℕ, ◌*◌, ◌<◌, ◌^◌, arith, T, length, SProp, ent, id⊢, ftrue, froom, flft, Fn, inst_fn, ty_array, ty_unit, Val, vunit, vptr, has_ty, WT, align, capped, capped_fits, Env, WpFn, ◌⊑◌, fact, tables, owns, types_at, ‵, raw, ◌⊛◌, given, later, at_ret, ◌$◌, ◌∵◌, !, qed, move, keep, drop, use1, use3, split, join, learn, rewrite, fsplit, fjoin, feq_i, suffices, await, done, whole, sub, enter, of_opd, lit, unit_lit, align_word, bin, stop, fld, no_more, and_then, first, blocks, branches, skips, exec, returns, alloc_all, pass_all, free_all, look_at, get, get_in, sets, lands_last, env, yes, no, plain, RefOf, Stays, walk_of, stay_dropped, Goes-dropped, ends_at, heard, nothing, calls_at_last, framed, block_ptr, after, El, R, args, elτ, proved_at, Global}
 use Rattle.std.specs.Prelude.{nat_lt}
 use Rattle.std.specs.contracts.alloc.Global as heap
-use Rattle.std.specs.declared.alloc.Global.{Global}
 use Rattle.std.proofs.Flags.{T_true}
 use Rattle.std.proofs.impls.GlobalAllocator.deallocate.Met.{met}
-use Rattle.arraydeque_ring.specs.Ownership.{owned_if, places_owned, right_to_free}
-use Rattle.arraydeque_ring.specs.Places.{AreAllEmpty}
-use Rattle.arraydeque_ring.proofs.memory.Blocks.{uncapped, block_ty, block_size, block_align, token}
+use Rattle.arraydeque_ring.proofs.memory.Blocks.{scaled, block_ty, block_size, block_align, token}
 use Rattle.arraydeque_ring.proofs.memory.Heap.{Deallocates, Asks, to_deallocate, deallocate_goes, deallocate_gives}
-use Rattle.arraydeque_ring.proofs.memory.Owned.{item_size, Place, to_room}
-use Rattle.arraydeque_ring.proofs.memory.Regions.{Sr, Seen, slots_val, slots_Good, slots_apart}
+use Rattle.arraydeque_ring.proofs.memory.Regions.{Sr, Seen, slots_val, slots_Good, slots_apart, item_size, Place, to_room, owned_if, places_owned, right_to_free, AreAllEmpty}
 use Rattle.arraydeque_ring.specs.contracts.slots.Slots.give_back as f
 use Rattle.arraydeque_ring.proofs.slots.Slots.give_back.Statement as stated
 use Rattle.arraydeque_ring.proofs.slots.Slots.give_back.Code as code
 
-module _ (E : El) where
-  abbrev here : Fn
-  here = inst_fn (args E) code.function
-
-  abbrev stayed : Stays (f.ended E.row).signature.params (f.ended E.row).kept
-  stayed = (stay_dropped (plain (λ _. Sr E)) no, (stay_dropped (RefOf (0 ∷ []) tt (plain (λ _. heap.the_row)) (λ _. tt)) yes, tt))
-
 pub give_back_spec : {M : Type 1} → stated.statement M
 give_back_spec 𝓤 𝓛 𝓜 𝓡 wired X L =
-    let E : El = record { row = X; laws = L } in
-    let ended = f.ended X in let c = f.clauses X 𝓛 𝓜.mem 𝓡.returns in let W = walk_of 𝓛 ended (stayed E) c in let 𝓣 = tables 𝓤 𝓛.H 𝓜 𝓡 𝓡.env in
-    proved_at 𝓛 ended (stayed E) c 𝓜 𝓡 (Goes-dropped 𝓛 2 (plain (λ _. Sr E)) no (λ κs x w. refl), (Goes-dropped 𝓛 2 (RefOf (0 ∷ []) tt (plain (λ _. heap.the_row)) (λ _. tt)) yes (λ κs x w. refl), tt))
-    (f.Key.name (args E)) (here E) (code.unfolded 𝓤 𝓛.H 𝓜 𝓡 wired (X, tt))
+    let E : El = record { row = X; laws = L } in let here : Fn = inst_fn (args E) code.function in
+    let ended = f.ended X in let stayed : Stays ended.signature.params ended.kept = (stay_dropped (plain (λ _. Sr E)) no, (stay_dropped (RefOf (0 ∷ []) tt (plain (λ _. heap.the_row)) (λ _. tt)) yes, tt)) in
+    let c = f.clauses X 𝓛 𝓜.mem 𝓡.returns in let W = walk_of 𝓛 ended stayed c in let 𝓣 = tables 𝓤 𝓛.H 𝓜 𝓡 𝓡.env in
+    proved_at 𝓛 ended stayed c 𝓜 𝓡 (Goes-dropped 𝓛 2 (plain (λ _. Sr E)) no (λ κs x w. refl), (Goes-dropped 𝓛 2 (RefOf (0 ∷ []) tt (plain (λ _. heap.the_row)) (λ _. tt)) yes (λ κs x w. refl), tt))
+    (f.Key.name (args E)) here (code.unfolded 𝓤 𝓛.H 𝓜 𝓡 wired (X, tt))
     (λ y are.
     let κ = y.0.0.0 in let κ₁ = y.0.0.1.0 in let q = y.0.1.0 in let q₁ = y.0.1.1.0 in let a = y.0.3 in let vss = y.0.4 in
     let r : Seen E = a.0 in let hp : ℕ × ℕ = a.1.0.ref_ptr in let h : Global = a.1.0.now in
@@ -46,29 +36,28 @@ give_back_spec 𝓤 𝓛 𝓜 𝓡 wired X L =
     -- [the right; the room; the handle; its token; the other tokens]
     let at_hp : vss.1.0 ≡ vptr hp.0 hp.1 ∷ [] = are.1.0.0 in
     let us : List Val = slots_val b o n ∷ vptr hp.0 hp.1 ∷ [] in
-    let Run : List Val → SProp 𝓤 = λ ws. WpFn 𝓤 𝓛.H 𝓣.C 𝓣.Λ (here E) ws (W.post y) in
+    let Run : List Val → SProp 𝓤 = λ ws. WpFn 𝓤 𝓛.H 𝓣.C 𝓣.Λ here ws (W.post y) in
     suffices ! (Run us) (subst (λ (ws : List Val). ent 𝓤 (Run us) (Run ws)) (sym (λ k. words k ++ (at_hp k ++ []))) (id⊢ 𝓤 (Run us))) $
-    enter ! 𝓣.C 𝓣.Λ (here E) us (W.post y) $ alloc_all ! (λ l. pass_all ! refl (slots_Good E b o n ok.word, ((tt, tt), tt)) $
-    let En : Env 𝓤 𝓛.H = env (here E).locals l in
+    enter ! 𝓣.C 𝓣.Λ here us (W.post y) $ alloc_all ! (λ l. pass_all ! refl (slots_Good E b o n ok.word, ((tt, tt), tt)) $
+    let En : Env 𝓤 𝓛.H = env here.locals l in
     let z : (Deallocates 𝓛 𝓜.mem 𝓡.returns).Ghost = to_deallocate 𝓛 𝓜.mem 𝓡.returns κ q hp h b o (n * s) al τ in
     let asked : Asks 𝓛 𝓜.mem 𝓡.returns κ q hp h τ (n * s) al = record { size_is = block_size E n bytes; align_is = block_align E n; size_fits = bytes; align_fits = capped_fits (align (elτ E)) } in
-    let size_fits = subst (λ (k : ℕ). k < 2 ^ 64) (sym (uncapped n s bytes)) bytes in
     sets ! (of_opd ! (get_in ! (fld ! refl (stop !)) (sub ! 0 refl (whole !)))) refl (tt, tt) $
     sets ! (of_opd ! (get_in ! (fld ! refl (stop !)) (sub ! 1 refl (whole !)))) refl (tt, record { fits = ok.word }) $
-    sets ! (is ! (bin ! (get ! refl) (size_word !) (record { fits = size_fits })) (ap (vint w64) (uncapped n s bytes))) refl (tt, record { fits = bytes }) $
+    sets ! (scaled ! (get ! refl) bytes) refl (tt, record { fits = bytes }) $
     sets ! (bin ! (lit ! tt) (get ! refl) tt) refl (tt, tt) $
     first ! $ branches ! (get ! refl)
     (λ some. rewrite ! 0 (λ (w : Bool). ‵ (owned_if w (token E g n (block_ptr b o)))) (T_true (nat_lt 0 (n * s)) some) refl $
     blocks ! $ sets ! (of_opd ! (get ! refl)) refl (tt, tt) $
-    sets ! (is ! (bin ! (get ! refl) (size_word !) (record { fits = size_fits })) (ap (vint w64) (uncapped n s bytes))) refl (tt, record { fits = bytes }) $
+    sets ! (scaled ! (get ! refl) bytes) refl (tt, record { fits = bytes }) $
     move ! (2 ∷ 3 ∷ []) $ join ! $ move ! (2 ∷ 1 ∷ 0 ∷ []) $ use3 𝓛 (raw ((Deallocates 𝓛 𝓜.mem 𝓡.returns).pre z)) (deallocate_goes 𝓛 𝓜.mem 𝓡.returns κ q hp h b o (n * s) al τ asked) $
     calls_at_last ! (framed 𝓤 𝓛.H 𝓜 𝓣) (Deallocates 𝓛 𝓜.mem 𝓡.returns) (met 𝓤 𝓛 𝓜 𝓡 (code.calls-std_heap::GlobalAllocator::deallocate 𝓡.env wired)) z (and_then ! (get ! refl) (and_then ! (get ! refl) (and_then ! (get ! refl) (and_then ! (align_word !) (no_more !))))) (λ v.
     use1 𝓛 (later (given (v ≡ vunit) (‵ (flft κ q)))) (deallocate_gives 𝓛 𝓜.mem 𝓡.returns κ q hp h b o (n * s) al τ v) $ await ! tt $ learn ! (λ is_unit.
-    lands_last ! refl (subst (λ (u : Val). T (has_ty ty_unit u) × WT u) (sym is_unit) (tt, tt)) $ exec ! 𝓣.C 𝓣.Λ En (after 5 (here E).body) (at_ret En (W.post y)) $
+    lands_last ! refl (subst (λ (u : Val). T (has_ty ty_unit u) × WT u) (sym is_unit) (tt, tt)) $ exec ! 𝓣.C 𝓣.Λ En (after 5 here.body) (at_ret En (W.post y)) $
     sets ! (of_opd ! (unit_lit !)) refl (tt, tt) $ returns ! (look_at ! 0 refl) $ free_all ! refl $ keep ! (0 ∷ 1 ∷ []) $
-    suffices ! _ (ends_at 𝓛 ended (stayed E) c y vunit tt (tt, (tt, tt)) (tt, (tt, tt))) $
+    suffices ! _ (ends_at 𝓛 ended stayed c y vunit tt (tt, (tt, tt)) (tt, (tt, tt))) $
     join ! $ feq_i ! (List Val) (vunit ∷ []) (vunit ∷ []) refl $ nothing ! $ nothing ! $ fjoin ! $ nothing ! $ fjoin ! $ join ! $ move ! (1 ∷ 0 ∷ []) $ join ! $ nothing ! $ keep ! (1 ∷ 0 ∷ []) $ done !)))
-    (λ none. skips ! $ exec ! 𝓣.C 𝓣.Λ En (after 5 (here E).body) (at_ret En (W.post y)) $
+    (λ none. skips ! $ exec ! 𝓣.C 𝓣.Λ En (after 5 here.body) (at_ret En (W.post y)) $
     sets ! (of_opd ! (unit_lit !)) refl (tt, tt) $ returns ! (look_at ! 0 refl) $ free_all ! refl $ keep ! (3 ∷ 4 ∷ []) $
-    suffices ! _ (ends_at 𝓛 ended (stayed E) c y vunit tt (tt, (tt, tt)) (tt, (tt, tt))) $
+    suffices ! _ (ends_at 𝓛 ended stayed c y vunit tt (tt, (tt, tt)) (tt, (tt, tt))) $
     join ! $ feq_i ! (List Val) (vunit ∷ []) (vunit ∷ []) refl $ nothing ! $ nothing ! $ fjoin ! $ nothing ! $ fjoin ! $ join ! $ move ! (1 ∷ 0 ∷ []) $ join ! $ nothing ! $ keep ! (1 ∷ 0 ∷ []) $ done !)))))

@@ -1,41 +1,22 @@
 -- `lend_two` lends the values of two runs, and the region follows them under one name. Assumes `Logic`.
-use Rattle.arraydeque_ring.proofs.memory.Kit.{◌≡◌, refl, sym, ap, subst, ◌∙◌, List, [], ◌∷◌, map, ℕ, ◌+◌, ◌*◌, ◌<◌, ◌≤◌, ◌^◌, arith, length, take, length-take, length-drop, length-map, drop_list, Some, Ura, full_share, SProp, ent, sep, GName, ftrue, fsep, flft, fobs, fbor, Fn, inst_fn, named, w64, Val, vint, vptr, Env, ◌⊑◌, fact, tables, Logic, sem, Borrowed, owns, types_at, ‵, raw, ◌⊛◌, some, later, at_ret, ◌$◌, ◌∵◌, !, qed, move, keep, use1, use2, drop, split, join, pick, frame, rewrite, await, fsplit, fsplit3, fjoin, fpack, feq_i, feq_l, suffices, done, whole, sub, look_in, agg, enter, of_opd, size_word, bin, load, stop, fld, no_more, and_then, first, blocks, exec, returns, alloc_all, pass_all, free_all, look_at, get, through, sets, sets_last, is, env, yes, no, plain, usize, uint_vals, uint_Tells, mem, cell_at, block_ptr, Stays, walk_of, says_two, stay_dropped, Goes-dropped, ends_at, nothing, heard, after, El, R, args, el_x, times_below, proved}
-use types.Follow.{after₂}
-use types.Kit.{split3, group}
-use types.SemTy.{SemTy, Arr, cells}
-use base.Logic.{all, all_e, apply∗}
+use Rattle.arraydeque_ring.proofs.memory.Kit.{◌≡◌, refl, sym, ap, subst, ◌∙◌, List, [], ◌∷◌, map, ℕ, ◌+◌, ◌*◌, ◌<◌, ◌≤◌, ◌^◌, arith, length, take, length-map, drop_list, Some, Ura, SProp, ent, sep, GName, ftrue, flft, fobs, fbor, Fn, inst_fn, named, w64, vint, vptr, Env, ◌⊑◌, fact, tables, Logic, sem, Borrowed, owns, types_at, ‵, raw, ◌⊛◌, some, later, at_ret, ◌$◌, ◌∵◌, !, qed, by, move, keep, use1, use2, drop, split, join, pick, frame, rewrite, await, fsplit, fsplit3, fjoin, feq_i, feq_l, suffices, done, whole, sub, look_in, agg, enter, of_opd, bin, load, stop, fld, no_more, and_then, first, blocks, exec, returns, alloc_all, pass_all, free_all, look_at, get, through, sets, sets_last, env, yes, no, plain, usize, uint_vals, uint_Tells, mem, Stays, walk_of, says_two, stay_dropped, Goes-dropped, ends_at, nothing, heard, after, El, R, args, el_x, proved, after₂, split3, group, SemTy, cells, all, all_e, apply∗, follows, both_by, MutBor, NamedLft, mut_vals, mut_Tells, mut_ref_to, named_lft, MutSlice, slice_val, Goes-spent_ref, Global, Fml}
+use types.SemTy.{Arr}
 use base.Stored.{coded_list}
-use denote.Follow.{follows, both_by}
 use denote.FollowSlice.{slice_of}
-use denote.Memory.{part_of}
-use denote.Ref.{MutBor, NamedLft, mut_vals, mut_Tells}
-use denote.Signature.{mut_ref_to, named_lft}
-use denote.Slice.{MutSlice, slice_val}
-use denote.Triple.Walked.{Goes-spent_ref}
-use Rattle.std.specs.declared.alloc.Global.{Global}
 use Rattle.arraydeque_ring.specs.Loans.{LoanState, as_many, with_run, written_over, AreApart}
-use Rattle.arraydeque_ring.specs.Ownership.{places_owned, right_to_free}
-use Rattle.arraydeque_ring.specs.Places.{IsFilledRun, HoldsRun}
 use Rattle.arraydeque_ring.specs.Steps.{more_lends}
 use Rattle.arraydeque_ring.specs.contracts.slots.loan.Loan as loan
 use Rattle.arraydeque_ring.proofs.loans.Made.{loan_val, loan_made}
 use Rattle.arraydeque_ring.proofs.loans.Names.{takes_named}
 use Rattle.arraydeque_ring.proofs.loans.Placed.{placed, apart_within, as_many-same, two_filled, length-written_over, written_over-same}
-use Rattle.arraydeque_ring.proofs.loans.Runs.{run, News, Filling, two_out, to_cells, of_cells}
-use Rattle.arraydeque_ring.proofs.memory.Blocks.{uncapped}
-use Rattle.arraydeque_ring.proofs.memory.Owned.{item_size, Place}
-use Rattle.arraydeque_ring.proofs.memory.Regions.{Sr, Seen, Fits, right, slots_val, slots_made, slots_open}
+use Rattle.arraydeque_ring.proofs.loans.Runs.{run, News, Filling, two_out, same_cells}
+use Rattle.arraydeque_ring.proofs.memory.Regions.{Sr, Seen, Fits, near, run_fits, Frame, slots_whole, slots_open, scaled, item_size, Place, places_owned, IsFilledRun, HoldsRun}
+use Rattle.arraydeque_ring.proofs.places.Held.{length_filled}
 use Rattle.arraydeque_ring.specs.contracts.slots.Slots.lend_two as f
 use Rattle.arraydeque_ring.proofs.slots.Slots.lend_two.Statement as stated
 use Rattle.arraydeque_ring.proofs.slots.Slots.lend_two.Code as code
 
 module _ (E : El) where
-  abbrev here : Fn
-  here = inst_fn (args E) code.function
-
-  abbrev stayed : Stays (f.ended E.row).signature.params (f.ended E.row).kept
-  stayed = (stay_dropped (mut_ref_to (0 ∷ []) tt (plain (λ _. Sr E))) no, (stay_dropped (plain (λ _. usize)) yes, (stay_dropped (plain (λ _. usize)) yes, (stay_dropped (plain (λ _. usize)) yes, (stay_dropped (plain (λ _. usize)) yes, tt)))))
-
   abbrev Lin : ℕ → SemTy
   Lin n = Arr (mem (R E)) n
 
@@ -56,13 +37,12 @@ module _ (E : El) {M : Type 1} {𝓤 : Ura M} (𝓛 : Logic 𝓤) (rb ro : ℕ) 
 
   -- all but the two runs
   abbrev Rest : SProp 𝓤
-  Rest = sep 𝓤 (all 𝓤 Way) (sep 𝓤 (sem 𝓛 (right E g r p o)) (sem 𝓛 (cell_at full_share (Sr E).mir (slots_val p o n ∷ []) rb ro)))
+  Rest = sep 𝓤 (all 𝓤 Way) (sem 𝓛 (Frame E 𝓛 rb ro g r p o n))
 
   back : Fits E r o n → HoldsRun r.places a (length xs) xs → HoldsRun r.places b (length ys) ys → (us vs : List (el_x E))
       → ent 𝓤 (sep 𝓤 (sem 𝓛 ((Lin E (length xs)).own_at us p (a * s + o))) (sep 𝓤 (sem 𝓛 ((Lin E (length ys)).own_at vs p (b * s + o))) Rest)) (sem 𝓛 ((mem (Sr E)).own_at (Ended E r (Written E r a b xs ys us vs)) rb ro))
-  unfolding part_of
   back ok held held' us vs =
-      qed 𝓛 (‵ ((Lin E (length xs)).own_at us p (a * s + o)) ∷ ‵ ((Lin E (length ys)).own_at vs p (b * s + o)) ∷ (raw (all 𝓤 Way) ⊛ ‵ (right E g r p o) ⊛ ‵ (cell_at full_share (Sr E).mir (slots_val p o n ∷ []) rb ro)) ∷ []) ∵
+      qed 𝓛 (‵ ((Lin E (length xs)).own_at us p (a * s + o)) ∷ ‵ ((Lin E (length ys)).own_at vs p (b * s + o)) ∷ (raw (all 𝓤 Way) ⊛ ‵ (Frame E 𝓛 rb ro g r p o n)) ∷ []) ∵
       fsplit ! $ feq_l ! (λ same. move ! (1 ∷ []) $ fsplit ! $ feq_l ! (λ same'.
       let put = placed b (length ys) (map Some vs) (placed a (length xs) (map Some us) r.places) in
       let new : Seen E = Ended E r (Written E r a b xs ys us vs) in
@@ -70,26 +50,23 @@ module _ (E : El) {M : Type 1} {𝓤 : Ura M} (𝓛 : Logic 𝓤) (rb ro : ℕ) 
       ap (λ k. placed b k (map Some vs) (placed a (length xs) (map Some us) r.places)) (sym same') ∙ ap (λ k. with_run b vs (placed a k (map Some us) r.places)) (sym same)
       ∙ sym (written_over-same r.places (with_run b vs (with_run a us r.places)) (two_filled a b xs us ys vs r.places held same held' same'))
       ∙ ap (λ l. written_over r.places (with_run b l (with_run a us r.places))) (sym (as_many-same ys vs same')) ∙ ap (λ l. written_over r.places (with_run b (as_many ys vs) (with_run a l r.places))) (sym (as_many-same xs us same)) in
-      let long : length r.places ≡ length new.places = sym (length-written_over r.places (Written E r a b xs ys us vs).places) in
       let w : News E 𝓛 p o r.places a (length xs) b (length ys) = (map Some us, map Some vs, sym (length-map us Some ∙ same), sym (length-map vs Some ∙ same')) in
       -- [the second's values; the first's; the rest]
-      use1 𝓛 (‵ (places_owned (R E) p (b * s + o) w.1)) (of_cells E 𝓛 p vs (b * s + o)) $ move ! (1 ∷ []) $
-      use1 𝓛 (‵ (places_owned (R E) p (a * s + o) w.0)) (of_cells E 𝓛 p us (a * s + o)) $ move ! (0 ∷ 1 ∷ []) $ join ! $ move ! (1 ∷ []) $ split3 ! $
-      use1 𝓛 (raw (Way w)) (all_e 𝓤 Way w) $ move ! (3 ∷ 0 ∷ []) $
+      rewrite ! 0 (λ (F : Fml). ‵ F) (sym (same_cells E 𝓛 p vs (b * s + o))) refl $ move ! (1 ∷ []) $
+      rewrite ! 0 (λ (F : Fml). ‵ F) (sym (same_cells E 𝓛 p us (a * s + o))) refl $ move ! (0 ∷ 1 ∷ []) $ join ! $ move ! (1 ∷ []) $ split ! $
+      use1 𝓛 (raw (Way w)) (all_e 𝓤 Way w) $ move ! (2 ∷ 0 ∷ []) $
       use2 𝓛 (‵ (places_owned (R E) p o put)) (apply∗ 𝓤 (sep 𝓤 (sem 𝓛 (places_owned (R E) p (a * s + o) w.0)) (sem 𝓛 (places_owned (R E) p (b * s + o) w.1))) (sem 𝓛 (places_owned (R E) p o put))) $
-      rewrite ! 0 (λ (ps : List (Place E)). ‵ (places_owned (R E) p o ps)) alike refl $ move ! (1 ∷ []) $
-      rewrite ! 0 (λ (m : ℕ). ‵ (right_to_free (R E) g m (block_ptr p o))) long refl $ move ! (1 ∷ 0 ∷ []) $
-      slots_made E ! g new p o n (record { capacity = ok.capacity ∙ long; word = ok.word; reach = subst (λ k. k * item_size E + o < 2 ^ 63) long ok.reach }) $ move ! (1 ∷ 0 ∷ []) $ fjoin ! $
-      fpack ! (List Val) (λ ws. fsep (cell_at full_share (Sr E).mir ws rb ro) ((Sr E).own_val new ws)) (slots_val p o n ∷ []) $ done !))
+      rewrite ! 0 (λ (ps : List (Place E)). ‵ (places_owned (R E) p o ps)) alike refl $ by ! (slots_whole E 𝓛 rb ro g r p o n ok new (sym (length-written_over r.places (Written E r a b xs ys us vs).places)))))
 
 pub lend_two_spec : {M : Type 1} → stated.statement M
 unfolding both_by
 lend_two_spec 𝓤 𝓛 𝓜 𝓡 wired X L =
-    let E : El = record { row = X; laws = L } in
-    let ended = f.ended X in let c = f.clauses X 𝓛 𝓜.mem 𝓡.returns in let W = walk_of 𝓛 ended (stayed E) c in let 𝓣 = tables 𝓤 𝓛.H 𝓜 𝓡 𝓡.env in
+    let E : El = record { row = X; laws = L } in let here : Fn = inst_fn (args E) code.function in
+    let ended = f.ended X in let stayed : Stays ended.signature.params ended.kept = (stay_dropped (mut_ref_to (0 ∷ []) tt (plain (λ _. Sr E))) no, (stay_dropped (plain (λ _. usize)) yes, (stay_dropped (plain (λ _. usize)) yes, (stay_dropped (plain (λ _. usize)) yes, (stay_dropped (plain (λ _. usize)) yes, tt))))) in
+    let c = f.clauses X 𝓛 𝓜.mem 𝓡.returns in let W = walk_of 𝓛 ended stayed c in let 𝓣 = tables 𝓤 𝓛.H 𝓜 𝓡 𝓡.env in
     let word = Goes-dropped 𝓛 2 (plain (λ _. usize)) yes (λ κs x w. refl) in
-    proved 𝓛 ended (stayed E) c 𝓜 𝓡 (Goes-spent_ref 𝓛 2 (0 ∷ []) tt (plain (λ _. Sr E)), (word, (word, (word, (word, tt)))))
-    (f.Key.name (args E)) (here E) (code.unfolded 𝓤 𝓛.H 𝓜 𝓡 wired (X, tt))
+    proved 𝓛 ended stayed c 𝓜 𝓡 (Goes-spent_ref 𝓛 2 (0 ∷ []) tt (plain (λ _. Sr E)), (word, (word, (word, (word, tt)))))
+    (f.Key.name (args E)) here (code.unfolded 𝓤 𝓛.H 𝓜 𝓡 wired (X, tt))
     (λ κs. (mut_vals, (uint_vals w64, (uint_vals w64, (uint_vals w64, (uint_vals w64, tt)))))) (λ κs. (mut_Tells (named 0) κs.0 (Sr E), (uint_Tells w64, (uint_Tells w64, (uint_Tells w64, (uint_Tells w64, tt)))))) (λ κs qs bounds arg _ are.
     let κ = κs.0 in let κ₁ = κs.1.0 in let q = qs.0 in let q₁ = qs.1.0 in
     let rb : ℕ = arg.0.ref_ptr.0 in let ro : ℕ = arg.0.ref_ptr.1 in let γ = arg.0.ghost_name in let r : Seen E = arg.0.now in
@@ -100,43 +77,39 @@ lend_two_spec 𝓤 𝓛 𝓜 𝓡 wired X L =
     qed 𝓛 (((‵ (flft κ q) ⊛ ‵ (flft κ₁ q₁) ⊛ ‵ ftrue) ⊛ ‵ (owns (types_at ended.signature.params κs) arg y.0.4)) ∷ (raw (fact 𝓤 (κ₁ ⊑ X.lives)) ⊛ raw (fact 𝓤 (IsFilledRun r.places a la)) ⊛ raw (fact 𝓤 (IsFilledRun r.places b lb)) ⊛ raw (fact 𝓤 (AreApart a la b lb))) ∷ []) ∵
     move ! (1 ∷ []) $ split ! $ drop ! $ split3 ! $ heard ! (IsFilledRun r.places a la) (λ one. heard ! (IsFilledRun r.places b lb) (λ two. heard ! (AreApart a la b lb) (λ apart.
     let xs : List (el_x E) = one.1.0 in let ys : List (el_x E) = two.1.0 in
-    let long : length xs ≡ la = omega (arith, one.0, ap length one.1.1, length-map xs Some, length-take la (drop_list a r.places), length-drop a r.places) in
-    let long' : length ys ≡ lb = omega (arith, two.0, ap length two.1.1, length-map ys Some, length-take lb (drop_list b r.places), length-drop b r.places) in
+    let long = length_filled r.places a la one in let long' = length_filled r.places b lb two in
     let held : HoldsRun r.places a (length xs) xs = ap (λ k. take k (drop_list a r.places)) long ∙ one.1.1 in let held' : HoldsRun r.places b (length ys) ys = ap (λ k. take k (drop_list b r.places)) long' ∙ two.1.1 in
     let in_a : a + length xs ≤ length r.places = omega (arith, one.0) in let in_b : b + length ys ≤ length r.places = omega (arith, two.0) in
     let clear : AreApart a (length xs) b (length ys) = λ k. subst (λ m. a ≤ k → k < a + m → b ≤ k → k < b + length ys → ⊥) (sym long) (subst (λ m. a ≤ k → k < a + la → b ≤ k → k < b + m → ⊥) (sym long') (apart k)) in
     split ! $ split ! $ move ! (2 ∷ []) $ fsplit3 ! $ fsplit3 ! $ keep ! (1 ∷ 2 ∷ 5 ∷ 6 ∷ []) $
-    enter ! 𝓣.C 𝓣.Λ (here E) (vptr rb ro ∷ vint w64 a ∷ vint w64 la ∷ vint w64 b ∷ vint w64 lb ∷ []) _ $ alloc_all ! (λ l. pass_all ! refl ((tt, tt), ((tt, record { fits = fa }), ((tt, record { fits = fla }), ((tt, record { fits = fb }), ((tt, record { fits = flb }), tt))))) $
-    let En : Env 𝓤 𝓛.H = env (here E).locals l in
+    enter ! 𝓣.C 𝓣.Λ here (vptr rb ro ∷ vint w64 a ∷ vint w64 la ∷ vint w64 b ∷ vint w64 lb ∷ []) _ $ alloc_all ! (λ l. pass_all ! refl ((tt, tt), ((tt, record { fits = fa }), ((tt, record { fits = fla }), ((tt, record { fits = fb }), ((tt, record { fits = flb }), tt))))) $
+    let En : Env 𝓤 𝓛.H = env here.locals l in
     slots_open E ! tt r rb ro (λ g p o n ok.
-    let small : length r.places * s < 2 ^ 63 = let all_of = ok.reach in omega arith in
-    let far : a * s < 2 ^ 64 = omega (arith, times_below a (length r.places) s (2 ^ 63) (omega arith) small) in
-    let far' : b * s < 2 ^ 64 = omega (arith, times_below b (length r.places) s (2 ^ 63) (omega arith) small) in
+    let far = near E ok a (omega arith) in let far' = near E ok b (omega arith) in
     first ! $ blocks ! $
     sets ! (of_opd ! (load ! (through ! refl (fld ! refl (stop !))) (look_in ! 2 (sub ! 0 refl (whole !))))) refl (tt, tt) $
-    sets ! (is ! (bin ! (get ! refl) (size_word !) (record { fits = subst (λ (k : ℕ). k < 2 ^ 64) (sym (uncapped a s far)) far })) (ap (vint w64) (uncapped a s far))) refl (tt, record { fits = far }) $ sets ! (bin ! (get ! refl) (get ! refl) tt) refl (tt, tt) $
+    sets ! (scaled ! (get ! refl) far) refl (tt, record { fits = far }) $ sets ! (bin ! (get ! refl) (get ! refl) tt) refl (tt, tt) $
     sets ! (agg ! (and_then ! (get ! refl) (and_then ! (get ! refl) (no_more !)))) refl (tt, (tt, (record { fits = fla }, tt))) $
     sets ! (of_opd ! (load ! (through ! refl (fld ! refl (stop !))) (look_in ! 2 (sub ! 0 refl (whole !))))) refl (tt, tt) $
-    sets ! (is ! (bin ! (get ! refl) (size_word !) (record { fits = subst (λ (k : ℕ). k < 2 ^ 64) (sym (uncapped b s far')) far' })) (ap (vint w64) (uncapped b s far'))) refl (tt, record { fits = far' }) $ sets ! (bin ! (get ! refl) (get ! refl) tt) refl (tt, tt) $
+    sets ! (scaled ! (get ! refl) far') refl (tt, record { fits = far' }) $ sets ! (bin ! (get ! refl) (get ! refl) tt) refl (tt, tt) $
     sets ! (agg ! (and_then ! (get ! refl) (and_then ! (get ! refl) (no_more !)))) refl (tt, (tt, (record { fits = flb }, tt))) $
     sets ! (agg ! (no_more !)) refl (tt, tt) $ sets ! (agg ! (and_then ! (get ! refl) (no_more !))) refl (tt, (tt, tt)) $
     sets_last ! (agg ! (and_then ! (get ! refl) (and_then ! (get ! refl) (and_then ! (get ! refl) (no_more !))))) refl (tt, ((tt, (record { fits = fla }, tt)), ((tt, (record { fits = flb }, tt)), ((tt, tt), tt)))) $
-    exec ! 𝓣.C 𝓣.Λ En (after 1 (here E).body) (at_ret En (W.post y)) $ sets ! (of_opd ! (get ! refl)) refl (tt, ((tt, (record { fits = fla }, tt)), ((tt, (record { fits = flb }, tt)), ((tt, tt), tt)))) $
+    exec ! 𝓣.C 𝓣.Λ En (after 1 here.body) (at_ret En (W.post y)) $ sets ! (of_opd ! (get ! refl)) refl (tt, ((tt, (record { fits = fla }, tt)), ((tt, (record { fits = flb }, tt)), ((tt, tt), tt)))) $
     let pa = a * s + o in let pb = b * s + o in let Rest₀ = Rest E 𝓛 rb ro r a b xs ys g p o n in let way = back E 𝓛 rb ro r a b xs ys g p o n ok held held' in
     use1 𝓛 (‵ (places_owned (R E) p pa (run E 𝓛 p o r.places a (length xs))) ⊛ ‵ (places_owned (R E) p pb (run E 𝓛 p o r.places b (length ys))) ⊛ raw (all 𝓤 (Way E 𝓛 rb ro r a b xs ys g p o n)))
     (two_out E 𝓛 p o r.places a (length xs) b (length ys) in_a in_b clear) $ split3 ! $
-    rewrite ! 0 (λ (ps : List (Place E)). ‵ (places_owned (R E) p pa ps)) held refl $ use1 𝓛 (‵ (cells (mem (R E)) xs p pa)) (to_cells E 𝓛 p xs pa) $ move ! (1 ∷ []) $
-    rewrite ! 0 (λ (ps : List (Place E)). ‵ (places_owned (R E) p pb ps)) held' refl $ use1 𝓛 (‵ (cells (mem (R E)) ys p pb)) (to_cells E 𝓛 p ys pb) $
+    rewrite ! 0 (λ (ps : List (Place E)). ‵ (places_owned (R E) p pa ps)) held refl $ rewrite ! 0 (λ (F : Fml). ‵ F) (same_cells E 𝓛 p xs pa) refl $ move ! (1 ∷ []) $
+    rewrite ! 0 (λ (ps : List (Place E)). ‵ (places_owned (R E) p pb ps)) held' refl $ rewrite ! 0 (λ (F : Fml). ‵ F) (same_cells E 𝓛 p ys pb) refl $
     -- [the second's values; the first's; the way; the right; the words; the open borrow, in three; the other token]
-    move ! (3 ∷ 4 ∷ []) $ join ! $ move ! (3 ∷ 0 ∷ []) $ join ! $ move ! (1 ∷ []) $ feq_i ! ℕ (length ys) (length ys) refl $ fjoin ! $ move ! (2 ∷ []) $ feq_i ! ℕ (length xs) (length xs) refl $ fjoin ! $
+    move ! (3 ∷ 4 ∷ []) $ fjoin ! $ move ! (3 ∷ 0 ∷ []) $ join ! $ move ! (1 ∷ []) $ feq_i ! ℕ (length ys) (length ys) refl $ fjoin ! $ move ! (2 ∷ []) $ feq_i ! ℕ (length xs) (length xs) refl $ fjoin ! $
     -- [the first; the second; the rest; the open borrow, in three; ..]
     move ! (3 ∷ 4 ∷ 5 ∷ 0 ∷ 1 ∷ 2 ∷ []) $ group ! 6 $
     use1 𝓛 (later (some (λ (νs : GName × (GName × GName)). (‵ (fobs νs.1.0 ((coded_list (R E).coded).code xs)) ⊛ ‵ (fbor κ (Borrowed (Lin E (length xs)) p pa νs.1.0))) ⊛ (‵ (fobs νs.1.1 ((coded_list (R E).coded).code ys)) ⊛ ‵ (fbor κ (Borrowed (Lin E (length ys)) p pb νs.1.1)))
     ⊛ ‵ (flft κ q) ⊛ ‵ (follows (Sr E) (Sr E) γ νs.0 (Ended E r)) ⊛ ‵ (after₂ (mem (Sr E)) (Lin E (length xs)) (Lin E (length ys)) νs.0 νs.1.0 νs.1.1 (Written E r a b xs ys)))))
     (takes_named 𝓛 (mem (Sr E)) (Lin E (length xs)) (Lin E (length ys)) (Ended E r) (Written E r a b xs ys) κ q rb ro p pa p pb γ Rest₀ way coded coded r xs ys) $ await ! tt $ pick ! (λ νs. split3 ! $
     let first_slice : MutBor (List (el_x E)) = record { ref_ptr = (p, pa); ghost_name = νs.1.0; now = xs } in let second_slice : MutBor (List (el_x E)) = record { ref_ptr = (p, pb); ghost_name = νs.1.1; now = ys } in
-    let room : (m : ℕ) → m ≤ length r.places → (m < 2 ^ 64) × (m * s < 2 ^ 63) = λ m within. (let word = ok.word in let same = ok.capacity in omega arith, times_below m (length r.places) s (2 ^ 63) within small) in
-    let bounded : length xs + length ys < 2 ^ 64 = let word = ok.word in let same = ok.capacity in omega (arith, apart_within a (length xs) b (length ys) (length r.places) clear in_a in_b) in
+    let room = run_fits E ok in let bounded = (room (length xs + length ys) (apart_within a (length xs) b (length ys) (length r.places) clear in_a in_b)).0 in
     let α : NamedLft = named_lft 2 0 tt κs in let v = loan_val (slice_val (p, pa) la) (slice_val (p, pb) lb) in
     let seen : LoanState (el_x E) = record { first = first_slice; second = second_slice; name = νs.0 } in
     use1 𝓛 (‵ ((MutSlice (named 0) κ (R E)).own_val first_slice (slice_val (p, pa) (length xs) ∷ []))) (slice_of 𝓛 (R E) (named 0) κ p pa νs.1.0 xs (room (length xs) (omega arith))) $ move ! (1 ∷ []) $
@@ -145,5 +118,5 @@ lend_two_spec 𝓤 𝓛 𝓜 𝓡 wired X L =
     use2 𝓛 (‵ ((loan.the_row α (R E)).own_val seen (v ∷ []))) (loan_made α (R E) 𝓛 seen (slice_val (p, pa) la) (slice_val (p, pb) lb) bounded) $ move ! (1 ∷ []) $ split3 ! $
     returns ! (look_at ! 0 refl) $ free_all ! refl $
     -- [the token; what the region follows; what its name follows; the iterator; the other token]
-    suffices ! _ (ends_at 𝓛 ended (stayed E) c y v seen (tt, (tt, (tt, (tt, (tt, tt))))) (tt, (tt, (tt, (tt, (tt, tt)))))) $
+    suffices ! _ (ends_at 𝓛 ended stayed c y v seen (tt, (tt, (tt, (tt, (tt, tt))))) (tt, (tt, (tt, (tt, (tt, tt)))))) $
     move ! (1 ∷ 2 ∷ []) $ fjoin ! $ move ! (1 ∷ 3 ∷ []) $ join ! $ move ! (2 ∷ []) $ nothing ! $ nothing ! $ fjoin ! $ nothing ! $ fjoin ! $ nothing ! $ fjoin ! $ nothing ! $ fjoin ! $ nothing ! $ fjoin ! $ join ! $ move ! (1 ∷ 0 ∷ []) $ join ! $ frame ! $ says_two ! (one.1.1, two.1.1) $ done !)))))))

@@ -1,21 +1,11 @@
 -- `move_block` moves N values at once. Assumes `Logic`.
-use Rattle.arraydeque_ring.proofs.memory.Kit.{◌≡◌, refl, sym, ap, ◌∙◌, subst, List, [], ◌∷◌, ◌++◌, map, ℕ, ◌+◌, ◌*◌, ◌<◌, ◌≤◌, ◌^◌, arith, length, take, drop_list, replicate, length-take, length-drop, length-map, length-replicate, Some, None, full_share, fat, froom, ftrue, flft, Fn, inst_fn, named, w64, ty_array, Val, vunit, vint, vptr, Env, ◌⊑◌, fact, tables, owns, types_at, ‵, raw, ◌⊛◌, some, at_ret, ◌$◌, ◌∵◌, !, qed, move, keep, use1, use2, drop, split, join, pick, rewrite, fsplit, fsplit3, fjoin, fjoin3, feq_i, suffices, done, whole, sub, look_in, enter, of_opd, unit_lit, size_word, bin, load, look, init, stop, fld, assigns_last, first, blocks, exec, returns, alloc_all, pass_all, free_all, look_at, get, through, sets, is, env, yes, plain, usize, uint_vals, uint_Tells, Stays, walk_of, stay_dropped, stay_ref, Goes-dropped, Goes-ref, ends_at, nothing, heard, peeks, after, says, Is, shows, param, param_laws, part_at, block_ptr, El, R, el_x, elτ, times_below, proved}
-use Rattle.std.proofs.lemmas.Grind.{common_steps}
+use Rattle.arraydeque_ring.proofs.memory.Kit.{◌≡◌, refl, sym, ap, List, [], ◌∷◌, ◌++◌, map, ℕ, ◌+◌, ◌*◌, ◌<◌, ◌≤◌, ◌^◌, arith, length, take, drop_list, replicate, length-take, length-drop, length-map, length-replicate, Some, None, full_share, fat, froom, ftrue, flft, Fn, inst_fn, named, w64, ty_array, Val, vunit, vint, vptr, Env, ◌⊑◌, fact, tables, owns, types_at, ‵, raw, ◌⊛◌, some, at_ret, ◌$◌, ◌∵◌, !, qed, move, keep, use1, use2, drop, split, join, pick, rewrite, fsplit, fsplit3, fjoin, fjoin3, feq_i, suffices, done, whole, sub, look_in, enter, of_opd, unit_lit, bin, load, look, init, stop, fld, assigns_last, first, blocks, exec, returns, alloc_all, pass_all, free_all, look_at, get, through, sets, is, env, yes, plain, usize, uint_vals, uint_Tells, Stays, walk_of, stay_dropped, stay_ref, Goes-dropped, Goes-ref, ends_at, nothing, heard, peeks, after, says, Is, shows, param, param_laws, part_at, El, R, el_x, elτ, proved, common_steps, Args, a_type, a_number, part_in, part_out, Array, layouts, number, mut_vals, mut_Tells}
 use Rattle.std.proofs.Math.Nat.{add-mul}
-use mir.Syntax.{Args, a_type, a_number}
-use borrow.Table.OneValue.{part_in, part_out}
-use denote.Array.{Array}
-use denote.Param.{ArrayAt, layouts, number}
+use denote.Param.{ArrayAt}
 use denote.Param.Laws.{array_at_laws}
-use denote.Ref.{mut_vals, mut_Tells}
-use Rattle.arraydeque_ring.specs.Ownership.{right_to_free}
-use Rattle.arraydeque_ring.specs.Places.{IsFilledRun}
 use Rattle.arraydeque_ring.specs.Gaps.{run_emptied}
 use Rattle.arraydeque_ring.specs.Moved.{run_moved}
-use Rattle.arraydeque_ring.proofs.memory.Blocks.{uncapped}
-use Rattle.arraydeque_ring.proofs.memory.Owned.{item_size, Place, Row, of_room}
-use Rattle.arraydeque_ring.proofs.memory.Regions.{Sr, Seen, slots_open, slots_close}
-use Rattle.arraydeque_ring.proofs.memory.Rows.{Around, run_out, run_in, row_room, to_array, of_array}
+use Rattle.arraydeque_ring.proofs.memory.Regions.{Sr, Seen, near, slots_open, slots_close, scaled, item_size, Place, Row, of_room, IsFilledRun, Around, run_out, run_in, row_room, to_array, of_array}
 use Rattle.arraydeque_ring.proofs.moved.Flat.{length-moved, moved_parts}
 use Rattle.arraydeque_ring.specs.contracts.slots.Slots.move_block as f
 use Rattle.arraydeque_ring.proofs.slots.Slots.move_block.Statement as stated
@@ -59,9 +49,7 @@ move_block_spec 𝓤 𝓛 𝓜 𝓡 wired X N L N_fits =
     enter ! 𝓣.C 𝓣.Λ (here E N) (vptr rb ro ∷ vint w64 to ∷ vint w64 from ∷ vint w64 at ∷ []) _ $ alloc_all ! (λ l. pass_all ! refl ((tt, tt), ((tt, record { fits = to_fits }), ((tt, record { fits = from_fits }), ((tt, record { fits = at_fits }), tt)))) $
     let En : Env 𝓤 𝓛.H = env (here E N).locals l in
     slots_open E ! tt r rb ro (λ g b o n ok.
-    let reach : length ps * s < 2 ^ 63 = let all = ok.reach in omega arith in
-    let near : (i : ℕ) → i ≤ length ps → i * s < 2 ^ 64 = λ i le. omega (arith, times_below i (length ps) s (2 ^ 63) le reach) in
-    let to_near = near to (omega arith) in let from_near = near from (omega arith) in let at_near = near at (omega arith) in
+    let to_near = near E ok to (omega arith) in let from_near = near E ok from (omega arith) in let at_near = near E ok at (omega arith) in
     let on : (i : ℕ) → vptr b (at * s + (i * s + o)) ≡ vptr b ((i + at) * s + o) = λ i. ap (vptr b) (omega (arith, add-mul i at s)) in
     use1 𝓛 (‵ (Row E 𝓛 b (src * s + o) run) ⊛ ‵ (Around E 𝓛 b o ps src N)) (run_out E 𝓛 b o ps src N within) $ split ! $
     rewrite ! 0 (λ (l : List (Place E)). ‵ (Row E 𝓛 b (src * s + o) l)) held refl $
@@ -73,14 +61,14 @@ move_block_spec 𝓤 𝓛 𝓜 𝓡 wired X N L N_fits =
     -- [the array; what it owns; the other places; the right; the words; the open borrow, in three; the other tokens]
     first ! $ blocks ! $
     sets ! (of_opd ! (load ! (through ! refl (fld ! refl (stop !))) (look_in ! 4 (sub ! 0 refl (whole !))))) refl (tt, tt) $
-    sets ! (is ! (bin ! (get ! refl) (size_word !) (record { fits = subst (λ (k : ℕ). k < 2 ^ 64) (sym (uncapped to s to_near)) to_near })) (ap (vint w64) (uncapped to s to_near))) refl (tt, record { fits = to_near }) $
+    sets ! (scaled ! (get ! refl) to_near) refl (tt, record { fits = to_near }) $
     sets ! (bin ! (get ! refl) (get ! refl) tt) refl (tt, tt) $
-    sets ! (is ! (bin ! (get ! refl) (size_word !) (record { fits = subst (λ (k : ℕ). k < 2 ^ 64) (sym (uncapped at s at_near)) at_near })) (ap (vint w64) (uncapped at s at_near))) refl (tt, record { fits = at_near }) $
+    sets ! (scaled ! (get ! refl) at_near) refl (tt, record { fits = at_near }) $
     sets ! (is ! (bin ! (get ! refl) (get ! refl) tt) (on to)) refl (tt, tt) $ sets ! (of_opd ! (get ! refl)) refl (tt, tt) $
     sets ! (of_opd ! (load ! (through ! refl (fld ! refl (stop !))) (look_in ! 4 (sub ! 0 refl (whole !))))) refl (tt, tt) $
-    sets ! (is ! (bin ! (get ! refl) (size_word !) (record { fits = subst (λ (k : ℕ). k < 2 ^ 64) (sym (uncapped from s from_near)) from_near })) (ap (vint w64) (uncapped from s from_near))) refl (tt, record { fits = from_near }) $
+    sets ! (scaled ! (get ! refl) from_near) refl (tt, record { fits = from_near }) $
     sets ! (bin ! (get ! refl) (get ! refl) tt) refl (tt, tt) $
-    sets ! (is ! (bin ! (get ! refl) (size_word !) (record { fits = subst (λ (k : ℕ). k < 2 ^ 64) (sym (uncapped at s at_near)) at_near })) (ap (vint w64) (uncapped at s at_near))) refl (tt, record { fits = at_near }) $
+    sets ! (scaled ! (get ! refl) at_near) refl (tt, record { fits = at_near }) $
     sets ! (is ! (bin ! (get ! refl) (get ! refl) tt) (on from)) refl (tt, tt) $ sets ! (of_opd ! (get ! refl)) refl (tt, tt) $
     sets ! (of_opd ! (load ! (through ! refl (stop !)) (look ! 0 refl))) refl v_fits $
     -- the source is empty
@@ -98,8 +86,7 @@ move_block_spec 𝓤 𝓛 𝓜 𝓡 wired X N L N_fits =
     rewrite ! 0 (λ (l : List (Place E)). ‵ (Row E 𝓛 b (dst * s + o) l)) (sym held) refl $
     use2 𝓛 (‵ (Row E 𝓛 b o (take dst es ++ (run ++ drop_list (dst + N) es)))) (run_in E 𝓛 b o es dst N (omega arith) run run_long) $
     rewrite ! 0 (λ (l : List (Place E)). ‵ (Row E 𝓛 b o l)) (moved_parts ps dst src N within target) refl $
-    move ! (1 ∷ []) $ rewrite ! 0 (λ (m : ℕ). ‵ (right_to_free (R E) g m (block_ptr b o))) same_new refl $ move ! (1 ∷ 0 ∷ []) $
-    slots_close E ! tt g new b o n rb ro (record { capacity = ok.capacity ∙ same_new; word = ok.word; reach = subst (λ k. k * s + o < 2 ^ 63) same_new ok.reach }) $
+    slots_close E ! tt g r new b o n rb ro ok same_new $
     returns ! (look_at ! 0 refl) $ free_all ! refl $
     suffices ! _ (ends_at 𝓛 ended (stayed E N) c y vunit tt (new, (tt, (tt, (tt, tt)))) (tt, (tt, (tt, (tt, tt))))) $ says ! refl $
     feq_i ! (List Val) (vptr rb ro ∷ []) (vptr rb ro ∷ []) refl $ fjoin3 ! $ nothing ! $ nothing ! $ fjoin ! $ nothing ! $ fjoin ! $ nothing ! $ fjoin ! $ move ! (1 ∷ 0 ∷ []) $ fjoin ! $

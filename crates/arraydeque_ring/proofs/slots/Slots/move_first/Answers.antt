@@ -1,5 +1,6 @@
 use Rattle.std.proofs.Common.{◌+◌, ◌-◌, ◌∙◌, arith}
 use Rattle.std.proofs.Math.Nat.{add_assoc}
+use Rattle.arraydeque_ring.proofs.moved.Flat.{all_moved}
 use Rattle.arraydeque_ring.proofs.moved.InBlocks.{first_goes}
 use Rattle.arraydeque_ring.proofs.moved.Sources.{round_run}
 use Rattle.arraydeque_ring.proofs.slots.Slots.move_first.Goals as goal
@@ -18,3 +19,6 @@ loop-moved-preserved g c =
       moved = goes.is ∙ c.loop-moved.invariant.moved;
       steps = c.loop-moved.invariant.steps;
     })
+
+pub returns-after-loop-moved-clause-all : goal.returns-after-loop-moved-clause-all
+returns-after-loop-moved-clause-all g c = λ one. all_moved (c.args.dst + c.loop-moved.moved) (c.args.src + c.loop-moved.moved) (c.args.len - c.loop-moved.moved) c.loop-moved.self (omega (arith, c.loop-moved-test.false)) c.loop-moved.invariant.moved c.loop-moved.invariant.steps

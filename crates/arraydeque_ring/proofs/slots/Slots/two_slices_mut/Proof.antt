@@ -1,25 +1,14 @@
 -- `two_slices_mut` lends two runs, and the region follows their slices. Assumes `Logic`.
-use Rattle.arraydeque_ring.proofs.memory.Kit.{◌≡◌, refl, sym, ap, subst, List, [], ◌∷◌, ℕ, emp, id⊢, fact_i, ftrue, flft, Fn, inst_fn, named, w64, ◌⊑◌, fact, tables, ‵, raw, ◌⊛◌, some, later, ◌$◌, ◌∵◌, !, qed, move, use0, use1, use2, drop, split, join, pick, frame, rewrite, await, fsplit, fjoin, suffices, done, enter, addr, stop, no_more, and_then, returns, alloc_all, pass_all, free_all, look_at, get, through, sets, lands_as, yes, no, plain, usize, uint_vals, uint_Tells, mem, Is, shows, peeks, Stays, walk_of, says_two, stay_dropped, Goes-dropped, ends_at, nothing, heard, calls_at, framed, triple_of, param_laws, El, R, args, el_x, proved}
-use types.Follow.{after₂}
-use types.Kit.{split3}
-use denote.Array.{Array}
-use denote.Follow.{both_by}
-use denote.Ref.{MutBor, NamedLft, mut_vals, mut_Tells}
-use denote.Signature.{mut_ref_to, named_lft}
-use denote.Triple.Clauses.{lasts, Lasts}
-use denote.Triple.Walked.{Goes-spent_ref}
-use denote.Triple.Entry.{on_entry}
+use Rattle.arraydeque_ring.proofs.memory.Kit.{◌≡◌, refl, sym, ap, subst, List, [], ◌∷◌, ℕ, emp, id⊢, fact_i, ftrue, flft, Fn, inst_fn, named, w64, ◌⊑◌, fact, tables, ‵, raw, ◌⊛◌, some, later, ◌$◌, ◌∵◌, !, qed, move, use0, use1, use2, drop, split, join, pick, frame, rewrite, await, fsplit, fjoin, suffices, done, enter, addr, stop, no_more, and_then, returns, alloc_all, pass_all, free_all, look_at, get, through, sets, lands_as, yes, no, plain, usize, uint_vals, uint_Tells, mem, Is, shows, peeks, Stays, walk_of, says_two, stay_dropped, Goes-dropped, ends_at, nothing, heard, calls_at, framed, triple_of, param_laws, El, R, args, el_x, proved, after₂, split3, Array, both_by, MutBor, NamedLft, mut_vals, mut_Tells, mut_ref_to, named_lft, lasts, Lasts, Goes-spent_ref, on_entry}
 use Rattle.arraydeque_ring.specs.Lends.{lends_loan, lends_two_runs, two_written}
 use Rattle.arraydeque_ring.specs.Loans.{LoanState, written_over, AreApart}
-use Rattle.arraydeque_ring.specs.Places.{IsFilledRun, HoldsRun}
 use Rattle.arraydeque_ring.specs.Steps.{more_lends}
 use Rattle.arraydeque_ring.specs.contracts.slots.loan.Loan as loan
 use Rattle.arraydeque_ring.proofs.slots.loan.Loan.TheLaws as loan_laws
 use Rattle.arraydeque_ring.proofs.loans.Names.{followed_both}
 use Rattle.arraydeque_ring.proofs.loans.Slices.{Slices, slices_lawful}
 use Rattle.arraydeque_ring.proofs.loans.Placed.{two_alike}
-use Rattle.arraydeque_ring.proofs.memory.Regions.{Sr, Seen}
-use Rattle.arraydeque_ring.proofs.memory.Owned.{Place}
+use Rattle.arraydeque_ring.proofs.memory.Regions.{Sr, Seen, Place, IsFilledRun, HoldsRun}
 use Rattle.arraydeque_ring.specs.contracts.slots.Slots.lend_two as g
 use Rattle.arraydeque_ring.proofs.slots.Slots.lend_two.Met.{met}
 use Rattle.arraydeque_ring.specs.contracts.slots.loan.Loan.into_slices as h
@@ -28,21 +17,15 @@ use Rattle.arraydeque_ring.specs.contracts.slots.Slots.two_slices_mut as f
 use Rattle.arraydeque_ring.proofs.slots.Slots.two_slices_mut.Statement as stated
 use Rattle.arraydeque_ring.proofs.slots.Slots.two_slices_mut.Code as code
 
-module _ (E : El) where
-  abbrev here : Fn
-  here = inst_fn (args E) code.function
-
-  abbrev stayed : Stays (f.ended E.row).signature.params (f.ended E.row).kept
-  stayed = (stay_dropped (mut_ref_to (0 ∷ []) tt (plain (λ _. Sr E))) no, (stay_dropped (plain (λ _. usize)) yes, (stay_dropped (plain (λ _. usize)) yes, (stay_dropped (plain (λ _. usize)) yes, (stay_dropped (plain (λ _. usize)) yes, tt)))))
-
 pub two_slices_mut_spec : {M : Type 1} → stated.statement M
 unfolding both_by
 two_slices_mut_spec 𝓤 𝓛 𝓜 𝓡 wired X L =
-    let E : El = record { row = X; laws = L } in
-    let ended = f.ended X in let c = f.clauses X 𝓛 𝓜.mem 𝓡.returns in let W = walk_of 𝓛 ended (stayed E) c in let 𝓣 = tables 𝓤 𝓛.H 𝓜 𝓡 𝓡.env in
+    let E : El = record { row = X; laws = L } in let here : Fn = inst_fn (args E) code.function in
+    let ended = f.ended X in let stayed : Stays ended.signature.params ended.kept = (stay_dropped (mut_ref_to (0 ∷ []) tt (plain (λ _. Sr E))) no, (stay_dropped (plain (λ _. usize)) yes, (stay_dropped (plain (λ _. usize)) yes, (stay_dropped (plain (λ _. usize)) yes, (stay_dropped (plain (λ _. usize)) yes, tt))))) in
+    let c = f.clauses X 𝓛 𝓜.mem 𝓡.returns in let W = walk_of 𝓛 ended stayed c in let 𝓣 = tables 𝓤 𝓛.H 𝓜 𝓡 𝓡.env in
     let word = Goes-dropped 𝓛 2 (plain (λ _. usize)) yes (λ κs x w. refl) in
-    proved 𝓛 ended (stayed E) c 𝓜 𝓡 (Goes-spent_ref 𝓛 2 (0 ∷ []) tt (plain (λ _. Sr E)), (word, (word, (word, (word, tt)))))
-    (f.Key.name (args E)) (here E) (code.unfolded 𝓤 𝓛.H 𝓜 𝓡 wired (X, tt))
+    proved 𝓛 ended stayed c 𝓜 𝓡 (Goes-spent_ref 𝓛 2 (0 ∷ []) tt (plain (λ _. Sr E)), (word, (word, (word, (word, tt)))))
+    (f.Key.name (args E)) here (code.unfolded 𝓤 𝓛.H 𝓜 𝓡 wired (X, tt))
     (λ κs. (mut_vals, (uint_vals w64, (uint_vals w64, (uint_vals w64, (uint_vals w64, tt)))))) (λ κs. (mut_Tells (named 0) κs.0 (Sr E), (uint_Tells w64, (uint_Tells w64, (uint_Tells w64, (uint_Tells w64, tt)))))) (λ κs qs bounds arg _ are.
     let y : W.Ghost = ((κs, qs, bounds, arg, (mut_vals arg.0, (uint_vals w64 arg.1.0, (uint_vals w64 arg.1.1.0, (uint_vals w64 arg.1.1.1.0, (uint_vals w64 arg.1.1.1.1.0, tt)))))), tt) in
     let fit = are.1 in let κ₁ = κs.1.0 in let r : Seen E = arg.0.now in let a : ℕ = arg.1.0 in let la : ℕ = arg.1.1.0 in let b : ℕ = arg.1.1.1.0 in let lb : ℕ = arg.1.1.1.1.0 in
@@ -53,7 +36,7 @@ two_slices_mut_spec 𝓤 𝓛 𝓜 𝓡 wired X L =
     move ! (1 ∷ []) $ split ! $ heard ! (κ₁ ⊑ X.lives) (λ lives. split3 ! $ heard ! One (λ one. heard ! Two (λ two'. heard ! (AreApart a la b lb) (λ apart.
     use0 𝓛 (raw (fact 𝓤 (AreApart a la b lb))) (fact_i 𝓤 (AreApart a la b lb) (emp 𝓤) apart) $ use0 𝓛 (raw (fact 𝓤 Two)) (fact_i 𝓤 Two (emp 𝓤) two') $ join ! $ use0 𝓛 (raw (fact 𝓤 One)) (fact_i 𝓤 One (emp 𝓤) one) $ join ! $
     use0 𝓛 (raw (fact 𝓤 (κ₁ ⊑ X.lives))) (fact_i 𝓤 (κ₁ ⊑ X.lives) (emp 𝓤) lives) $ join ! $ move ! (1 ∷ 0 ∷ []) $ use2 𝓛 (raw (G.pre y)) (id⊢ 𝓤 _) $
-    enter ! 𝓣.C 𝓣.Λ (here E) _ _ $ alloc_all ! (λ l. pass_all ! refl ((tt, tt), ((tt, record { fits = fit.0.1 }), ((tt, record { fits = fit.1.0.1 }), ((tt, record { fits = fit.1.1.0.1 }), ((tt, record { fits = fit.1.1.1.0.1 }), tt))))) $
+    enter ! 𝓣.C 𝓣.Λ here _ _ $ alloc_all ! (λ l. pass_all ! refl ((tt, tt), ((tt, record { fits = fit.0.1 }), ((tt, record { fits = fit.1.0.1 }), ((tt, record { fits = fit.1.1.0.1 }), ((tt, record { fits = fit.1.1.1.0.1 }), tt))))) $
     sets ! (addr ! (through ! refl (stop !))) refl (tt, tt) $
     calls_at ! (framed 𝓤 𝓛.H 𝓜 𝓣) G (met 𝓤 𝓛 𝓜 𝓡 (code.calls-arraydeque_ring::slots::Slots::lend_two 𝓡.env wired) X L) y
     (and_then ! (get ! refl) (and_then ! (get ! refl) (and_then ! (get ! refl) (and_then ! (get ! refl) (and_then ! (get ! refl) (no_more !)))))) (λ v.
@@ -81,6 +64,6 @@ two_slices_mut_spec 𝓤 𝓛 𝓜 𝓡 wired X L =
     rewrite ! 0 (λ (pair : Two_slices). ‵ (lends_two_runs (R E) arg.0 a b pair)) (λ i. (sym e i, sym e' i)) refl $
     -- [what the region follows; the pair; the tokens]
     returns ! (look_at ! 0 refl) $ free_all ! refl $
-    suffices ! _ (ends_at 𝓛 ended (stayed E) c y u two (tt, (tt, (tt, (tt, (tt, tt))))) (tt, (tt, (tt, (tt, (tt, tt)))))) $
+    suffices ! _ (ends_at 𝓛 ended stayed c y u two (tt, (tt, (tt, (tt, (tt, tt))))) (tt, (tt, (tt, (tt, (tt, tt)))))) $
     move ! (1 ∷ []) $ nothing ! $ nothing ! $ fjoin ! $ nothing ! $ fjoin ! $ nothing ! $ fjoin ! $ nothing ! $ fjoin ! $ nothing ! $ fjoin ! $ join ! $ move ! (2 ∷ 0 ∷ []) $ join ! $ frame ! $
     says_two ! (subst (λ (lent : MutBor (List (el_x E))). HoldsRun r.places a la lent.now) (sym e) held, subst (λ (lent : MutBor (List (el_x E))). HoldsRun r.places b lb lent.now) (sym e') held') $ done !))))))))))))))))))

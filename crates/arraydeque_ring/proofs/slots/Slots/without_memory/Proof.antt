@@ -1,28 +1,19 @@
 -- `without_memory` makes places that take no bytes out of nothing. Assumes `Logic`.
-use Rattle.arraydeque_ring.proofs.memory.Kit.{◌≡◌, refl, sym, ap, subst, ◌∙◌, [], ◌∷◌, ℕ, ◌+◌, ◌*◌, ◌<◌, ◌^◌, lit<, length, length-replicate, None, ftrue, flft, Fn, inst_fn, w64, vint, ◌⊑◌, fact, tables, owns, types_at, ‵, raw, ◌⊛◌, ◌$◌, ◌∵◌, !, qed, move, keep, use0, drop, split, fjoin, suffices, done, agg, enter, addr, from, stop, no_more, and_then, returns, alloc_all, pass_all, free_all, look_at, get, sets, yes, plain, usize, uint_vals, uint_Tells, heap_val, heap_Tells, Stays, walk_of, says, stay_dropped, Goes-dropped, ends_at, nothing, heard, block_ptr, El, args, proved}
+use Rattle.arraydeque_ring.proofs.memory.Kit.{◌≡◌, refl, sym, ap, subst, ◌∙◌, [], ◌∷◌, ℕ, ◌+◌, ◌*◌, ◌<◌, ◌^◌, lit<, length, length-replicate, None, ftrue, flft, Fn, inst_fn, w64, vint, ◌⊑◌, fact, tables, owns, types_at, ‵, raw, ◌⊛◌, ◌$◌, ◌∵◌, !, qed, move, keep, use0, drop, split, fjoin, suffices, done, agg, enter, addr, from, stop, no_more, and_then, returns, alloc_all, pass_all, free_all, look_at, get, sets, yes, plain, usize, uint_vals, uint_Tells, heap_val, heap_Tells, Stays, walk_of, says, stay_dropped, Goes-dropped, ends_at, nothing, heard, block_ptr, El, args, proved, Global}
 use Rattle.std.specs.contracts.alloc.Global as heap
-use Rattle.std.specs.declared.alloc.Global.{Global}
-use Rattle.arraydeque_ring.specs.Places.{empty_region}
 use Rattle.arraydeque_ring.proofs.memory.Blocks.{no_right}
-use Rattle.arraydeque_ring.proofs.memory.Owned.{item_size, of_nothing}
-use Rattle.arraydeque_ring.proofs.memory.Regions.{Seen, Fits, places, right, heap_Good, slots_val, slots_Good, slots_made}
+use Rattle.arraydeque_ring.proofs.memory.Regions.{Seen, Fits, places, right, heap_Good, slots_val, slots_Good, slots_made, item_size, of_nothing, empty_region}
 use Rattle.arraydeque_ring.specs.contracts.slots.Slots.without_memory as f
 use Rattle.arraydeque_ring.proofs.slots.Slots.without_memory.Statement as stated
 use Rattle.arraydeque_ring.proofs.slots.Slots.without_memory.Code as code
 
-module _ (E : El) where
-  abbrev here : Fn
-  here = inst_fn (args E) code.function
-
-  abbrev stayed : Stays (f.ended E.row).signature.params (f.ended E.row).kept
-  stayed = (stay_dropped (plain (λ _. heap.the_row)) yes, (stay_dropped (plain (λ _. usize)) yes, tt))
-
 pub without_memory_spec : {M : Type 1} → stated.statement M
 without_memory_spec 𝓤 𝓛 𝓜 𝓡 wired X L =
-    let E : El = record { row = X; laws = L } in
-    let ended = f.ended X in let c = f.clauses X 𝓛 𝓜.mem 𝓡.returns in let W = walk_of 𝓛 ended (stayed E) c in let 𝓣 = tables 𝓤 𝓛.H 𝓜 𝓡 𝓡.env in
-    proved 𝓛 ended (stayed E) c 𝓜 𝓡 (Goes-dropped 𝓛 1 (plain (λ _. heap.the_row)) yes (λ κs x w. refl), (Goes-dropped 𝓛 1 (plain (λ _. usize)) yes (λ κs x w. refl), tt))
-    (f.Key.name (args E)) (here E) (code.unfolded 𝓤 𝓛.H 𝓜 𝓡 wired (X, tt))
+    let E : El = record { row = X; laws = L } in let here : Fn = inst_fn (args E) code.function in
+    let ended = f.ended X in let stayed : Stays ended.signature.params ended.kept = (stay_dropped (plain (λ _. heap.the_row)) yes, (stay_dropped (plain (λ _. usize)) yes, tt)) in
+    let c = f.clauses X 𝓛 𝓜.mem 𝓡.returns in let W = walk_of 𝓛 ended stayed c in let 𝓣 = tables 𝓤 𝓛.H 𝓜 𝓡 𝓡.env in
+    proved 𝓛 ended stayed c 𝓜 𝓡 (Goes-dropped 𝓛 1 (plain (λ _. heap.the_row)) yes (λ κs x w. refl), (Goes-dropped 𝓛 1 (plain (λ _. usize)) yes (λ κs x w. refl), tt))
+    (f.Key.name (args E)) here (code.unfolded 𝓤 𝓛.H 𝓜 𝓡 wired (X, tt))
     (λ κs. ((λ _. heap_val ∷ []), (uint_vals w64, tt))) (λ κs. (heap_Tells, (uint_Tells w64, tt))) (λ κs qs bounds a _ are.
     let κ = κs.0 in let q = qs.0 in let g : Global = a.0 in let n : ℕ = a.1.0 in let n_fits : n < 2 ^ 64 = are.1.0.1 in
     let y : W.Ghost = ((κs, qs, bounds, a, (heap_val ∷ [], (uint_vals w64 n, tt))), tt) in
@@ -32,13 +23,13 @@ without_memory_spec 𝓤 𝓛 𝓜 𝓡 wired X L =
     move ! (1 ∷ []) $ split ! $ drop ! $ heard ! Asked (λ no_bytes.
     let none : length r.places * s ≡ 0 = ap (λ k. k * s) (sym long) ∙ no_bytes in
     split ! $ keep ! (0 ∷ []) $
-    enter ! 𝓣.C 𝓣.Λ (here E) (heap_val ∷ vint w64 n ∷ []) _ $ alloc_all ! (λ l. pass_all ! refl (heap_Good, ((tt, record { fits = n_fits }), tt)) $
+    enter ! 𝓣.C 𝓣.Λ here (heap_val ∷ vint w64 n ∷ []) _ $ alloc_all ! (λ l. pass_all ! refl (heap_Good, ((tt, record { fits = n_fits }), tt)) $
     let b : ℕ = l 3 in let ok : Fits E r 0 n = record { capacity = long; word = n_fits; reach = subst (λ k. k + 0 < 2 ^ 63) (sym none) (lit< tt) } in
     sets ! (agg ! (no_more !)) refl (tt, tt) $
     sets ! (addr ! (from ! (stop !))) refl (tt, tt) $
     sets ! (agg ! (and_then ! (get ! refl) (and_then ! (get ! refl) (and_then ! (get ! refl) (no_more !))))) refl (slots_Good E b 0 n n_fits) $
     returns ! (look_at ! 0 refl) $ free_all ! refl $
-    suffices ! _ (ends_at 𝓛 ended (stayed E) c y (slots_val b 0 n) r (tt, (tt, tt)) (tt, (tt, tt))) $ says ! refl $
+    suffices ! _ (ends_at 𝓛 ended stayed c y (slots_val b 0 n) r (tt, (tt, tt)) (tt, (tt, tt))) $ says ! refl $
     -- [the token]
     use0 𝓛 (‵ (right E g r b 0)) (no_right E 𝓛 g (length r.places) (block_ptr b 0) none) $
     use0 𝓛 (‵ (places E r b 0)) (of_nothing E 𝓛 b n 0 no_bytes) $

@@ -1,11 +1,17 @@
-use Rattle.std.proofs.Common.{◌+◌, ◌-◌, sym, refl, arith}
+use native.Mathlib.Numerals.{unary_clauses}
+use Rattle.std.proofs.Common.{ℕ, ◌+◌, ◌-◌, List, Option, sym, refl, arith}
 use Rattle.arraydeque_ring.specs.Ring.{place_of}
-use Rattle.arraydeque_ring.specs.Moved.{run_moved}
+use Rattle.arraydeque_ring.specs.Moved.{CanCopy, run_moved}
+use Rattle.arraydeque_ring.proofs.moved.InBlocks.{whole_run}
 use Rattle.arraydeque_ring.proofs.moved.Parts.{Three}
 use Rattle.arraydeque_ring.proofs.moved.Slides.{slides_down}
 use Rattle.arraydeque_ring.proofs.slots.Slots.wrapped_down.Given.{Over}
 use Rattle.arraydeque_ring.proofs.slots.Slots.wrapped_down.Goals.{After-capacity-last}
 use Rattle.arraydeque_ring.proofs.slots.Slots.wrapped_down.Goals as goal
+
+-- a run is itself from the index 0 on
+whole_can : {X : Type 0} (dst src len : ℕ) (ps : List (Option X)) → CanCopy dst src len ps → CanCopy (dst + 0) (src + 0) (len - 0) ps
+whole_can dst src len ps can = simp unary_clauses can
 
 down : (g : Over) (c : After-capacity-last g) → let n = c.capacity-last.result in let t = c.args.dst in
     Three t (t + 1) (n - 1 - t) (n - 1) 0 1 0 1 (c.args.len - (n - 1 - t) - 1) c.args.self.places (run_moved t (place_of t 1 n) c.args.len c.args.self.places)
@@ -13,16 +19,20 @@ down g c =
     let long = sym c.capacity-last.ensures in
     slides_down _ _ _ _ long (omega (arith, long)) (omega (arith, long)) (omega (arith, long)) (rw c.capacity-last.ensures c.requires.filled)
 
-pub slide_down-requires-clause-can : goal.slide_down-requires-clause-can
-slide_down-requires-clause-can g c = (down g (goal.at.slide_down-requires-clause-can g c).After-capacity-last).one.can
+pub move_first-requires-clause-can : goal.move_first-requires-clause-can
+move_first-requires-clause-can g c = whole_can _ _ _ _ (down g (goal.at.move_first-requires-clause-can g c).After-capacity-last).one.can
 
-pub slide_up-requires-clause-can : goal.slide_up-requires-clause-can
-slide_up-requires-clause-can g c = let go = down g (goal.at.slide_up-requires-clause-can g c).After-capacity-last in rw (c.slide_down.ensures, go.one.is) go.two.can
+pub move_last-requires-clause-can : goal.move_last-requires-clause-can
+move_last-requires-clause-can g c =
+    let go = down g (goal.at.move_last-requires-clause-can g c).After-capacity-last in
+    rw (c.move_first.ensures.all refl, whole_run c.args.dst (c.args.dst + 1) (c.capacity-last.result - 1 - c.args.dst) c.args.self.places, go.one.is) go.two.can
 
-pub slide_down-requires-2-clause-can : goal.slide_down-requires-2-clause-can
-slide_down-requires-2-clause-can g c = let go = down g (goal.at.slide_down-requires-2-clause-can g c).After-capacity-last in rw (c.slide_up.ensures, c.slide_down.ensures, go.one.is, go.two.is) go.three.can
+pub move_first-requires-2-clause-can : goal.move_first-requires-2-clause-can
+move_first-requires-2-clause-can g c =
+    let go = down g (goal.at.move_first-requires-2-clause-can g c).After-capacity-last in
+    rw (c.move_last.ensures.all refl, c.move_first.ensures.all refl, whole_run c.args.dst (c.args.dst + 1) (c.capacity-last.result - 1 - c.args.dst) c.args.self.places, go.one.is, go.two.is) (whole_can _ _ _ _ go.three.can)
 
 pub returns : goal.returns
 returns g c =
     let go = down g (goal.at.returns g c).After-capacity-last in
-    rw (c.slide_down-2.ensures, c.slide_up.ensures, c.slide_down.ensures, go.one.is, go.two.is, go.three.is, c.capacity-last.ensures) refl
+    rw (c.move_first-2.ensures.all refl, c.move_last.ensures.all refl, c.move_first.ensures.all refl, whole_run c.args.dst (c.args.dst + 1) (c.capacity-last.result - 1 - c.args.dst) c.args.self.places, go.one.is, go.two.is, whole_run 0 1 (c.args.len - (c.capacity-last.result - 1 - c.args.dst) - 1) go.third, go.three.is, c.capacity-last.ensures) refl
