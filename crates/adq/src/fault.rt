@@ -1,6 +1,6 @@
 //! Why a run ends early, and how it says so.
-ghost use Rattle.std.specs.Prelude.{◌≡◌, ◌≤◌, ℕ};
-ghost use Rattle.adq.specs.declared.fault.Fault.TheVariants.{Io, Memory};
+ghost use Rattle.std.specs.Prelude.{◌≡◌, ◌≤◌, ◌++◌, ℕ, Some, codes, decimal};
+ghost use Rattle.adq.specs.declared.fault.Fault.TheVariants.{Arguments, Io, Line, Memory};
 
 use arraydeque::MakeError;
 use std::alloc::{AllocError, AllocFailed};
@@ -41,6 +41,13 @@ impl Fault {
 }
 
 impl fmt::Display for Fault {
+    ghost output = { λ fault. Some (elim fault [
+      | Arguments ↦ codes "bad arguments"
+      | Line number ↦ codes "bad line " ++ decimal number
+      | Memory ↦ codes "out of memory"
+      | Io ↦ codes "input or output failed"
+    ]) };
+
     fn fmt<W: fmt::Write>(&self, f: &mut fmt::Formatter<W>) -> fmt::Result {
         match self {
             Fault::Arguments => write!(f, "bad arguments"),
