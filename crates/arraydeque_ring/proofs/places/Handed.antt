@@ -6,7 +6,6 @@ use Rattle.std.proofs.lemmas.List.{places, length-map, length-append, same_lists
 use Rattle.arraydeque_ring.specs.Gaps.{IsEmptyRun, run_emptied}
 use Rattle.arraydeque_ring.specs.Places.{held_at, IsFilledRun}
 use Rattle.arraydeque_ring.specs.Ring.{rotated, values}
-use Rattle.arraydeque_ring.proofs.moved.Flat.{spliced}
 use Rattle.arraydeque_ring.proofs.places.AndEmpty.{values-map_Some}
 use Rattle.arraydeque_ring.proofs.places.Emptied.{length-run_emptied, values-append}
 use Rattle.arraydeque_ring.proofs.places.Held.{length_filled, empty_run_of}
@@ -26,11 +25,12 @@ module _ {X : Type 0} {n : ℕ} {xs : List X} {ps : List (Option X)} (m k : ℕ)
   pub LaidOut-put_run : (ys : List X) → length ys ≡ k → LaidOut n 0 (xs ++ ys) (take m ps ++ (map Some ys ++ drop (m + k) ps))
   LaidOut-put_run ys many =
       let long = l.long in
+      let wide : length (map Some ys) ≡ k = length-map ys Some ∙ many in
       record {
         long = grind (arith, common_steps);
         in_region = omega arith;
         within = omega (arith, length-append xs ys);
-        at = λ x lt. ap (held_at (take m ps ++ (map Some ys ++ drop (m + k) ps))) (place_of-first x n lt) ∙ spliced ps (map Some ys) m k x (length-map ys Some ∙ many) (omega arith) ∙ grind (arith, nat_tests, items, get_or-map_Some ys (x - m), from_first x lt);
+        at = λ x lt. ap (held_at (take m ps ++ (map Some ys ++ drop (m + k) ps))) (place_of-first x n lt) ∙ grind (arith, nat_tests, places, items, get_or-map_Some ys (x - m), from_first x lt);
       }
 
 -- the len values from the index `at` on can be handed over in two parts, the first of them as far as the region's end, and what that comes to
