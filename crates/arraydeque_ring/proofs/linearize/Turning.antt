@@ -16,14 +16,12 @@ module _ {X : Type 0} {dst gap behind len : ℕ} {ps : List (Option X)} (next : 
   passed : (run left last : ℕ) → ((run ≡ behind) × (left + run ≡ gap) × (last ≡ behind)) ⊎ ((run ≡ gap) × (left ≡ gap) × (last + run ≡ behind))
       → run_rotated (dst + run) left last (runs_swapped dst next run ps) ≡ run_rotated dst gap behind ps
   passed run left last ways =
-      let long = length-runs_swapped dst next run ps (elim ways [ inl w ↦ omega arith | inr w ↦ omega arith ]) (elim ways [ inl w ↦ omega (arith, u.whole) | inr w ↦ omega (arith, u.whole) ]) in
       let rs = runs_swapped dst next run ps in
-      elim ways [
-        | inl w ↦ reads next u here _ (length-run_rotated (dst + run) left last rs (omega (arith, long, u.whole)) ∙ long) (λ x lt. get_or-run_rotated (dst + run) left last rs (omega (arith, long, u.whole)) x
-            ∙ get_or-runs_swapped dst next run ps (omega arith) (omega (arith, u.whole)) (rotated_from (dst + run) left last x) ∙ ap (held_at ps) (grind (arith, nat_tests)))
-        | inr w ↦ reads next u here _ (length-run_rotated (dst + run) left last rs (omega (arith, long, u.whole)) ∙ long) (λ x lt. get_or-run_rotated (dst + run) left last rs (omega (arith, long, u.whole)) x
-            ∙ get_or-runs_swapped dst next run ps (omega arith) (omega (arith, u.whole)) (rotated_from (dst + run) left last x) ∙ ap (held_at ps) (grind (arith, nat_tests)))
-      ]
+      let within : (dst + run ≤ next) × (next + run ≤ length ps) × (dst + run + left + last ≤ length ps) = elim ways [ inl w ↦ omega (arith, u.whole) | inr w ↦ omega (arith, u.whole) ] in
+      let long = length-runs_swapped dst next run ps within.0 within.1 in
+      let fits : dst + run + left + last ≤ length rs = omega (arith, long, within.2) in
+      reads next u here _ (length-run_rotated (dst + run) left last rs fits ∙ long) (λ x lt. get_or-run_rotated (dst + run) left last rs fits x ∙ get_or-runs_swapped dst next run ps within.0 within.1 (rotated_from (dst + run) left last x)
+      ∙ ap (held_at ps) (elim ways [ inl w ↦ grind (arith, nat_tests) | inr w ↦ grind (arith, nat_tests) ]))
 
 -- a pass: `run` values come to their places, x of them by an exchange and the others into empty places
 pub record Pass {X : Type 0} (dst next run x : ℕ) (ps : List (Option X)) : Type 0 where

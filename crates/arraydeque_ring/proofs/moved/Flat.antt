@@ -1,8 +1,8 @@
 -- Runs that move where neither side passes the region's end.
-use Rattle.std.proofs.Common.{◌≡◌, ℕ, ◌+◌, ◌-◌, ◌<◌, ◌≤◌, List, ◌++◌, length, take, drop, get_or, replicate, nat_lt, if◌then◌else◌, Option, None, refl, sym, ap, ap₂, ◌∙◌, arith}
+use Rattle.std.proofs.Common.{◌≡◌, ℕ, ◌+◌, ◌-◌, ◌<◌, ◌≤◌, List, ◌++◌, length, take, drop, get_or, nat_lt, if◌then◌else◌, Option, None, refl, sym, ap, ap₂, ◌∙◌, arith}
 use Rattle.std.proofs.Math.Nat.{mod-eq_of_lt}
 use Rattle.std.proofs.lemmas.Bool.Decides.{nat_tests}
-use Rattle.std.proofs.lemmas.Grind.{common_steps}
+use Rattle.std.proofs.lemmas.List.{places}
 use Rattle.std.proofs.lemmas.List.FromFn.{fill_by_all, length-map-range_with_len, get_or-map-range_with_len}
 use Rattle.arraydeque_ring.specs.Places.{Region}
 use Rattle.arraydeque_ring.specs.Steps.{Steps}
@@ -48,24 +48,16 @@ module _ {X : Type 0} where
       let e = distance_is j x n (omega arith) lt in
       moved_at i j len ps x lt ∙ rw (d, e) (grind (arith, nat_tests, mod-eq_of_lt {n = j + (x - i)} {m = n}))
 
-  -- what a list holds with other places in the stead of m of its own
-  pub spliced : (ps qs : List (Option X)) (i m x : ℕ) → length qs ≡ m → i + m ≤ length ps
-      → get_or (take i ps ++ (qs ++ drop (i + m) ps)) x None ≡ (if nat_lt x i then get_or ps x None else (if nat_lt x (i + m) then get_or qs (x - i) None else get_or ps x None))
-  spliced ps qs i m x many within = grind (arith, nat_tests, common_steps)
-
   -- the source emptied, and its values written over the target
   pub moved_parts : (ps : List (Option X)) (dst src len : ℕ) → src + len ≤ length ps → dst + len ≤ length ps
       → (let es = run_emptied src len ps in take dst es ++ (take len (drop src ps) ++ drop (dst + len) es)) ≡ run_moved dst src len ps
   moved_parts ps dst src len a b =
-      let none : List (Option X) = replicate len None in
       let es = run_emptied src len ps in
-      let run = take len (drop src ps) in
-      let long : length es ≡ length ps = grind (arith, common_steps) in
-      let run_long : length run ≡ len = grind (arith, common_steps) in
-      same_places _ _ (grind (arith, common_steps, length-moved dst src len ps)) (λ x lt.
-      spliced es run dst len x run_long (omega arith)
-      ∙ grind (arith, nat_tests, common_steps, spliced ps none src len x)
-      ∙ sym (flat_at dst src len ps x b a (omega (arith, length-moved dst src len ps))))
+      let long : length es ≡ length ps = grind (arith, places) in
+      same_places _ _ (grind (arith, places, length-moved dst src len ps)) (λ x lt.
+      let in_it : x < length ps = omega (arith, length-moved dst src len ps) in
+      let held : (y : ℕ) → get_or es y None ≡ other (λ z. get_or ps z None) src len y = λ y. grind (arith, nat_tests, places) in
+      grind (arith, nat_tests, places, held x) ∙ sym (flat_at dst src len ps x b a in_it))
 
   -- where no value moves, or all of a run have, nothing is left to move
   pub moved_none : (dst src : ℕ) (ps : List (Option X)) → run_moved dst src 0 ps ≡ ps

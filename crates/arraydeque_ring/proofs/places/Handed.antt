@@ -1,36 +1,34 @@
 -- A run of values that is handed to another region: behind the items that it has, and out of places that go round the region's end.
-use Rattle.std.proofs.Common.{◌≡◌, ℕ, ◌+◌, ◌-◌, ◌<◌, ◌≤◌, min, List, ◌++◌, map, length, take, drop, slice_get, Option, Some, sym, ap, ◌∙◌, arith, rules}
+use Rattle.std.proofs.Common.{◌≡◌, ℕ, ◌+◌, ◌-◌, ◌<◌, ◌≤◌, min, List, ◌++◌, map, length, take, drop, Option, Some, sym, ap, ◌∙◌, arith, rules}
 use Rattle.std.proofs.lemmas.Bool.Decides.{nat_tests}
 use Rattle.std.proofs.lemmas.Grind.{common_steps}
 use Rattle.std.proofs.lemmas.List.{places, length-map, length-append, same_lists, take_at, drop_at, drop-map, take-map}
 use Rattle.arraydeque_ring.specs.Gaps.{IsEmptyRun, run_emptied}
 use Rattle.arraydeque_ring.specs.Places.{held_at, IsFilledRun}
 use Rattle.arraydeque_ring.specs.Ring.{rotated, values}
-use Rattle.arraydeque_ring.proofs.moved.Flat.{spliced}
 use Rattle.arraydeque_ring.proofs.places.AndEmpty.{values-map_Some}
 use Rattle.arraydeque_ring.proofs.places.Emptied.{length-run_emptied, values-append}
 use Rattle.arraydeque_ring.proofs.places.Held.{length_filled, empty_run_of}
+use Rattle.arraydeque_ring.proofs.places.Holds.{Holds-first}
 use Rattle.arraydeque_ring.proofs.places.Items.{items, get_or-map_Some}
-use Rattle.arraydeque_ring.proofs.places.LaidOut.{LaidOut}
+use Rattle.arraydeque_ring.proofs.places.LaidOut.{LaidOut, holds}
 use Rattle.arraydeque_ring.proofs.places.Rotated.{place_of-first, MayStartAt, place_of_cases, length-rotated, get_or-rotated}
 
 module _ {X : Type 0} {n : ℕ} {xs : List X} {ps : List (Option X)} (m k : ℕ) (l : LaidOut n 0 xs ps) (behind : length xs ≡ m) (room : m + k ≤ n) where
-  from_first : (x : ℕ) → x < n → held_at ps x ≡ slice_get xs x
-  from_first x lt = ap (held_at ps) (sym (place_of-first x n lt)) ∙ l.at x lt
-
   -- items that start at the first place have empty places behind them
   pub IsEmptyRun-behind : IsEmptyRun ps m k
-  IsEmptyRun-behind = empty_run_of ps m k (omega (arith, l.long)) (λ x from to. from_first x (omega arith) ∙ grind (arith, items))
+  IsEmptyRun-behind = empty_run_of ps m k (omega (arith, l.long)) (λ x from to. Holds-first (holds l) x (omega arith) ∙ grind (arith, items))
 
   -- and values that are put there are items too
   pub LaidOut-put_run : (ys : List X) → length ys ≡ k → LaidOut n 0 (xs ++ ys) (take m ps ++ (map Some ys ++ drop (m + k) ps))
   LaidOut-put_run ys many =
       let long = l.long in
+      let wide : length (map Some ys) ≡ k = length-map ys Some ∙ many in
       record {
         long = grind (arith, common_steps);
         in_region = omega arith;
         within = omega (arith, length-append xs ys);
-        at = λ x lt. ap (held_at (take m ps ++ (map Some ys ++ drop (m + k) ps))) (place_of-first x n lt) ∙ spliced ps (map Some ys) m k x (length-map ys Some ∙ many) (omega arith) ∙ grind (arith, nat_tests, items, get_or-map_Some ys (x - m), from_first x lt);
+        at = λ x lt. ap (held_at (take m ps ++ (map Some ys ++ drop (m + k) ps))) (place_of-first x n lt) ∙ grind (arith, nat_tests, places, items, get_or-map_Some ys (x - m), Holds-first (holds l) x lt);
       }
 
 -- the len values from the index `at` on can be handed over in two parts, the first of them as far as the region's end, and what that comes to

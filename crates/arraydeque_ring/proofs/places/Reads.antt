@@ -1,10 +1,9 @@
 -- Two runs that change places, read place by place: where what a place holds came from.
-use Rattle.std.proofs.Common.{◌≡◌, ℕ, ◌+◌, ◌-◌, ◌≤◌, inl, inr, List, ◌++◌, length, take, drop, set, get_or, nat_lt, if◌then◌else◌, Option, None, sym, ap, ◌∙◌, arith}
+use Rattle.std.proofs.Common.{◌≡◌, ℕ, ◌+◌, ◌-◌, ◌≤◌, List, length, set, get_or, nat_lt, if◌then◌else◌, Option, None, sym, ap, ◌∙◌, arith}
 use Rattle.std.specs.Prelude.{swap}
-use Rattle.std.proofs.lemmas.Bool.{cases_lt}
 use Rattle.std.proofs.lemmas.Bool.Decides.{nat_tests}
 use Rattle.std.proofs.lemmas.Grind.{common_steps}
-use Rattle.std.proofs.lemmas.List.{get_or-append_right, length-set, set_comm}
+use Rattle.std.proofs.lemmas.List.{places, length-set, set_comm}
 use Rattle.std.proofs.lemmas.List.Edits.{swap_is}
 use Rattle.arraydeque_ring.specs.Places.{held_at, IsFilled, IsEmpty}
 use Rattle.arraydeque_ring.specs.Gaps.{run_rotated}
@@ -21,16 +20,7 @@ module _ {X : Type 0} (at m k : ℕ) (ps : List (Option X)) (within : at + m + k
   length-run_rotated = grind (arith, common_steps)
 
   pub get_or-run_rotated : (x : ℕ) → get_or (run_rotated at m k ps) x None ≡ get_or ps (rotated_from at m k x) None
-  get_or-run_rotated x =
-      let second = take k (drop (at + m) ps) in
-      let others = take m (drop at ps) ++ drop (at + m + k) ps in
-      elim (cases_lt x at) [
-        | inl lt ↦ grind (arith, nat_tests, common_steps)
-        | inr past ↦ get_or-append_right (take at ps) (second ++ others) at x None (grind (arith, common_steps)) past ∙ elim (cases_lt x (at + k)) [
-          | inl lt ↦ grind (arith, nat_tests, common_steps)
-          | inr over ↦ get_or-append_right second others k (x - at) None (grind (arith, common_steps)) (omega arith) ∙ grind (arith, nat_tests, common_steps)
-        ]
-      ]
+  get_or-run_rotated x = grind (arith, nat_tests, places)
 
 -- the place whose value the place x has, once n values from a on have changed places with those from b on
 abbrev pub swapped_from : ℕ → ℕ → ℕ → ℕ → ℕ
@@ -41,20 +31,7 @@ module _ {X : Type 0} (a b n : ℕ) (ps : List (Option X)) (before : a + n ≤ b
   length-runs_swapped = grind (arith, common_steps)
 
   pub get_or-runs_swapped : (x : ℕ) → get_or (runs_swapped a b n ps) x None ≡ get_or ps (swapped_from a b n x) None
-  get_or-runs_swapped x =
-      let between = take (b - (a + n)) (drop (a + n) ps) in
-      let last = take n (drop a ps) ++ drop (b + n) ps in
-      let second = take n (drop b ps) in
-      elim (cases_lt x a) [
-        | inl lt ↦ grind (arith, nat_tests, common_steps)
-        | inr past ↦ get_or-append_right (take a ps) (second ++ (between ++ last)) a x None (grind (arith, common_steps)) past ∙ elim (cases_lt x (a + n)) [
-          | inl lt ↦ grind (arith, nat_tests, common_steps)
-          | inr over ↦ get_or-append_right second (between ++ last) n (x - a) None (grind (arith, common_steps)) (omega arith) ∙ elim (cases_lt x b) [
-            | inl lt ↦ grind (arith, nat_tests, common_steps)
-            | inr at ↦ get_or-append_right between last (b - (a + n)) (x - a - n) None (grind (arith, common_steps)) (omega arith) ∙ grind (arith, nat_tests, common_steps)
-          ]
-        ]
-      ]
+  get_or-runs_swapped x = grind (arith, nat_tests, places)
 
 module _ {X : Type 0} (a b : ℕ) (ps : List (Option X)) where
   -- no run is exchanged

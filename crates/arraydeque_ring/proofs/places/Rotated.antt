@@ -2,7 +2,7 @@
 use Rattle.std.proofs.Common.{◌≡◌, ℕ, zero, suc, ◌+◌, ◌-◌, ◌%◌, ◌<◌, ◌≤◌, ◌⊎◌, ◌==◌, inl, inr, List, ◌++◌, map, length, take, drop, get_or, sym, ap, ap₂, ◌∙◌, arith}
 use Rattle.std.proofs.Math.Nat.{mod-eq_of_lt, mod-eq-sub-mod, add-mod-mod, mod-add-mod, add_assoc}
 use Rattle.std.proofs.lemmas.Bool.{cases_lt, cases_eq, eq-eqb, ne_eqb}
-use Rattle.std.proofs.lemmas.List.{length-append, length-take, length-drop, get_or_append_left, get_or-append_right, get_or-drop, get_or-take, map-append, drop-map, take-map}
+use Rattle.std.proofs.lemmas.List.{places, length-append, length-take, length-drop, map-append, drop-map, take-map}
 use Rattle.arraydeque_ring.specs.Ring.{place_of, rotated}
 
 -- a place is the sum itself below the end, and the sum less the capacity past it
@@ -66,13 +66,7 @@ module _ {X : Type 0} where
 
   -- the item at the index k stands at the place of k
   pub get_or-rotated : (t k n : ℕ) (xs : List X) (d : X) → length xs ≡ n → t ≤ n → k < n → get_or (rotated t xs) k d ≡ get_or xs (place_of t k n) d
-  get_or-rotated t k n xs d long a b =
-      let to_end : length (drop t xs) ≡ n - t = length-drop t xs ∙ ap (λ m. m - t) long in
-      elim (place_of_cases t k n (omega arith)) [
-        | inl w ↦ get_or_append_left (drop t xs) (take t xs) d k (omega arith) ∙ get_or-drop t xs k d ∙ ap (λ i. get_or xs i d) (sym w.1)
-        | inr w ↦ let is : k - (n - t) ≡ place_of t k n = omega arith in
-            get_or-append_right (drop t xs) (take t xs) (n - t) k d to_end (omega arith) ∙ get_or-take t xs (k - (n - t)) d (omega arith) ∙ ap (λ i. get_or xs i d) is
-      ]
+  get_or-rotated t k n xs d long a b = grind (arith, places, place_of_cases t k n (omega arith))
 
 pub rotated-map : {X Y : Type 0} (f : X → Y) (t : ℕ) (xs : List X) → rotated t (map f xs) ≡ map f (rotated t xs)
 rotated-map f t xs = ap₂ (λ l r. l ++ r) (drop-map f t xs) (take-map f t xs) ∙ sym (map-append f (drop t xs) (take t xs))

@@ -1,8 +1,8 @@
-use Rattle.std.proofs.Common.{◌≡◌, ℕ, ◌<◌, List, [], ◌∷◌, length, set, get_or, Option, Some, None, sym, ap₂, subst, swap, if◌then◌else◌, ◌==◌, ◌∙◌, arith}
+use Rattle.std.proofs.Common.{◌≡◌, ℕ, ◌<◌, List, length, set, Option, Some, None, sym, ap₂, subst, swap, if◌then◌else◌, ◌==◌, ◌∙◌, arith}
 use Rattle.std.proofs.lemmas.List.{length-set}
 use Rattle.std.proofs.lemmas.List.Edits.{length-swap, swap_is}
-use Rattle.std.proofs.lemmas.Option.{slice_get-get_or}
-use Rattle.arraydeque_ring.specs.Places.{held_at}
+use Rattle.std.proofs.lemmas.Option.{get_or_from_slice_get}
+use Rattle.arraydeque_ring.proofs.places.Items.{slice_get_some}
 use Rattle.arraydeque_ring.specs.Ring.{place_of}
 use Rattle.arraydeque_ring.proofs.places.Rotated.{place_of-lt}
 use Rattle.arraydeque_ring.specs.Steps.{more_exchanges}
@@ -13,19 +13,15 @@ use Rattle.arraydeque_ring.proofs.ring.Ring.swap.Given.{Over}
 use Rattle.arraydeque_ring.proofs.ring.Ring.swap.Goals as goal
 
 -- to exchange the places of two items is to exchange the items
-LaidOut-swap : {X : Type 0} {n t : ℕ} {ps : List (Option X)} (xs : List X) → LaidOut n t xs ps → (i j : ℕ) → i < length xs → j < length xs → LaidOut n t (swap xs i j) (swap ps (place_of t i n) (place_of t j n))
-LaidOut-swap [] l i j i_in j_in = absurd (omega arith)
-LaidOut-swap {n = n} {t = t} {ps = ps} (d ∷ rest) l i j i_in j_in =
-    let xs = d ∷ rest in
-    let p = place_of t i n in
-    let q = place_of t j n in
-    let within = length_within l in
-    let at_p : held_at ps p ≡ Some (get_or xs i d) = l.at i (omega arith) ∙ slice_get-get_or xs i d i_in in
-    let at_q : held_at ps q ≡ Some (get_or xs j d) = l.at j (omega arith) ∙ slice_get-get_or xs j d j_in in
+LaidOut-swap : {X : Type 0} {n t : ℕ} {xs : List X} {ps : List (Option X)} → LaidOut n t xs ps → (i j : ℕ) → i < length xs → j < length xs → LaidOut n t (swap xs i j) (swap ps (place_of t i n) (place_of t j n))
+LaidOut-swap {n = n} {t = t} {xs = xs} {ps = ps} l i j i_in j_in =
+    let p = place_of t i n in let q = place_of t j n in let within = l.within in
+    let x = slice_get_some xs i i_in in let y = slice_get_some xs j j_in in
     let in_region : (k : ℕ) → k < length xs → place_of t k n < length ps = λ k lt. omega (arith, l.long, place_of-lt t k n (omega (arith, l.in_region))) in
-    let both = LaidOut-set (LaidOut-set l i (get_or xs j d) i_in) j (get_or xs i d) (omega (arith, length-set xs i (get_or xs j d))) in
-    let places : set (set ps p (Some (get_or xs j d))) q (Some (get_or xs i d)) ≡ swap ps p q = ap₂ (λ a b. set (set ps p a) q b) (sym at_q) (sym at_p) ∙ swap_is ps p q None (in_region i i_in) (in_region j j_in) in
-    subst (λ qs. LaidOut n t (swap xs i j) qs) places (subst (λ ys. LaidOut n t ys (set (set ps p (Some (get_or xs j d))) q (Some (get_or xs i d)))) (swap_is xs i j d i_in j_in) both)
+    let both = LaidOut-set (LaidOut-set l i y.0 i_in) j x.0 (omega (arith, length-set xs i y.0)) in
+    let items : swap xs i j ≡ set (set xs i y.0) j x.0 = sym (swap_is xs i j x.0 i_in j_in) ∙ ap₂ (λ a b. set (set xs i a) j b) (get_or_from_slice_get xs j y.0 x.0 y.1) (get_or_from_slice_get xs i x.0 x.0 x.1) in
+    let places : swap ps p q ≡ set (set ps p (Some y.0)) q (Some x.0) = sym (swap_is ps p q None (in_region i i_in) (in_region j j_in)) ∙ ap₂ (λ a b. set (set ps p a) q b) (l.at j (omega arith) ∙ y.1) (l.at i (omega arith) ∙ x.1) in
+    subst (LaidOut n t (swap xs i j)) (sym places) (subst (λ ys. LaidOut n t ys (set (set ps p (Some y.0)) q (Some x.0))) (sym items) both)
 
 pub exchange-requires-clause-a_filled : goal.exchange-requires-clause-a_filled
 exchange-requires-clause-a_filled g c =
@@ -46,7 +42,7 @@ after g c =
     let within = length_within ring.laid in
     let same = one_place c.self.inside.start c.args.i c.args.j c.args.self.now.capacity (omega (arith, ring.laid.in_region)) (omega arith) (omega arith) in
     record {
-      laid = rw (c.exchange.ensures.places, a, b) (LaidOut-swap _ ring.laid _ _ c.requires.i_in_bounds c.requires.j_in_bounds);
+      laid = rw (c.exchange.ensures.places, a, b) (LaidOut-swap ring.laid _ _ c.requires.i_in_bounds c.requires.j_in_bounds);
       len = length-swap c.args.self.now.items c.args.i c.args.j ∙ ring.len;
       start = ring.start;
       steps = rw (c.exchange.ensures.steps, a, b, same, ring.steps);

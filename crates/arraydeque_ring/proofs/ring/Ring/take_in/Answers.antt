@@ -1,25 +1,19 @@
-use Rattle.std.proofs.Common.{◌≡◌, ◌+◌, ◌++◌, map, take, drop, Some, ap, ◌∙◌, subst, arith}
+use Rattle.std.proofs.Common.{◌≡◌, ◌+◌, ◌++◌, map, take, drop, Some, ap, ◌∙◌, arith}
 use Rattle.std.proofs.lemmas.List.{length-append}
 use Rattle.arraydeque_ring.specs.Ring.{values}
 use Rattle.arraydeque_ring.specs.Steps.{more_puts}
 use Rattle.arraydeque_ring.proofs.places.AndEmpty.{values-map_Some}
 use Rattle.arraydeque_ring.proofs.places.Held.{length_filled}
 use Rattle.arraydeque_ring.proofs.places.Handed.{IsEmptyRun-behind, LaidOut-put_run}
-use Rattle.arraydeque_ring.proofs.places.LaidOut.{LaidOut}
 use Rattle.arraydeque_ring.proofs.places.Opened.{Opened, opened, closed, kept}
 use Rattle.arraydeque_ring.proofs.ring.Ring.take_in.Given.{Over}
 use Rattle.arraydeque_ring.proofs.ring.Ring.take_in.Goals.{After-capacity-capacity}
 use Rattle.arraydeque_ring.proofs.ring.Ring.take_in.Goals as goal
 
-laid : (g : Over) (c : After-capacity-capacity g) → LaidOut c.args.self.now.capacity 0 c.args.self.now.items c.self.inside.slots.places
-laid g c =
-    let ring = opened c.self.inside c.self.invariant c.self.view_is in
-    subst (λ t. LaidOut c.args.self.now.capacity t c.args.self.now.items c.self.inside.slots.places) (ring.start ∙ c.requires.first_place) ring.laid
-
 pub hand_over-requires-clause-empty : goal.hand_over-requires-clause-empty
 hand_over-requires-clause-empty g c =
     let ring = opened c.self.inside c.self.invariant c.self.view_is in
-    IsEmptyRun-behind _ _ (laid g (goal.at.hand_over-requires-clause-empty g c).After-capacity-capacity) ring.len (omega (arith, ring.len, c.requires.room))
+    IsEmptyRun-behind _ _ (rw (ring.start ∙ c.requires.first_place) at ring.laid) ring.len (omega (arith, ring.len, c.requires.room))
 
 taken : (g : Over) (c : goal.After-self-1 g) → Opened record { slots = c.hand_over.new.other; start = c.self.inside.start; len = c.self.inside.len + c.args.len; alloc = c.self.inside.alloc }
     record c.args.self.now { items = c.args.self.now.items ++ values (take c.args.len (drop c.args.from c.args.slots.now.places)); steps = more_puts c.args.len c.args.self.now.steps }
@@ -29,7 +23,7 @@ taken g c =
     let xs = c.requires.filled.1.0 in
     let held : run ≡ map Some xs = c.requires.filled.1.1 in
     let many = length_filled _ _ _ c.requires.filled in
-    let put = LaidOut-put_run c.self.inside.len c.args.len (laid g (goal.at.invariant_of-self g c).After-capacity-capacity) ring.len (omega (arith, ring.len, c.requires.room)) xs many in
+    let put = LaidOut-put_run c.self.inside.len c.args.len (rw (ring.start ∙ c.requires.first_place) at ring.laid) ring.len (omega (arith, ring.len, c.requires.room)) xs many in
     rw (ap values held ∙ values-map_Some xs) (record {
       laid = rw (c.hand_over.ensures.there, ring.start ∙ c.requires.first_place, held) put;
       len = length-append c.args.self.now.items xs ∙ omega (arith, ring.len, many);

@@ -1,6 +1,5 @@
-use Rattle.std.proofs.Common.{◌≡◌, ◌+◌, length, ap, ◌∙◌, arith}
+use Rattle.std.proofs.Common.{◌≡◌, ◌+◌, length, ◌∙◌, arith}
 use Rattle.std.proofs.lemmas.Bool.{cond_below}
-use Rattle.arraydeque_ring.specs.Ring.{place_of}
 use Rattle.arraydeque_ring.proofs.places.Rotated.{place_of-zero}
 use Rattle.arraydeque_ring.proofs.ring.moves.close_gap.Goals as goal
 
@@ -9,9 +8,6 @@ move_later-requires-clause-filled g c = rw (place_of-zero c.args.start (length c
 
 pub move_later-requires-clause-empty : goal.move_later-requires-clause-empty
 move_later-requires-clause-empty g c = let zero : 0 + c.args.before ≡ c.args.before = omega arith in rw zero c.requires.empty
-
-pub returns-then-before-behind-clause-start : goal.returns-then-before-behind-clause-start
-returns-then-before-behind-clause-start g c = c.wrap_add.ensures ∙ ap (place_of c.args.start c.args.gap) c.capacity-capacity.ensures ∙ cond_below c.args.before c.args.behind _ _ c.if-before-behind.true
 
 pub returns-then-before-behind-clause-places : goal.returns-then-before-behind-clause-places
 returns-then-before-behind-clause-places g c =
