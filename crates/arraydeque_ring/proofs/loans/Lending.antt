@@ -65,12 +65,9 @@ module _ {X : Type 0} where
     pub kept_after : Kept after
     kept_after = (subst (λ n. r.start ≤ n - 1) (sym (length-written_over r.slots.places w.places)) kept.0, subst (FilledFrom r.start r.len) (sym (filled-written_over r.slots.places w.places)) kept.1)
 
-    as_long : length (view after).items ≡ length v.items
-    as_long = (opened after kept_after refl).len ∙ sym (opened r kept seen).len
-
     -- as many items are seen
     pub seen_after : view after ≡ rewritten v (view after).items
-    seen_after = rw (as_many-same v.items (view after).items as_long, length-written_over r.slots.places w.places, ap (λ (u : RingState X). u.capacity) seen, ap (λ (u : RingState X). u.start) seen, ap (λ (u : RingState X). u.steps) seen)
+    seen_after = rw (as_many-same v.items (view after).items ((opened after kept_after refl).len ∙ sym (opened r kept seen).len), length-written_over r.slots.places w.places, ap (λ (u : RingState X). u.capacity) seen, ap (λ (u : RingState X). u.start) seen, ap (λ (u : RingState X). u.steps) seen)
 
   -- a run that was written holds what was written, also where another was written before it
   held_there : (from n : ℕ) (ws : List X) (ps : List (Option X)) → length ws ≡ n → from + n ≤ length ps → HoldsRun (with_run from ws ps) from n ws

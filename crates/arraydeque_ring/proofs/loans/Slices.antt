@@ -8,13 +8,13 @@ use denote.Struct.Struct.{Struct-Lawful}
 use denote.Struct.Tuple.{Tuple, tuple_type}
 
 module _ (α : NamedLft) (T : RattleType) where
-  abbrev Both : List RattleType
-  Both = MutSlice α.mir α.lft T ∷ MutSlice α.mir α.lft T ∷ []
+  abbrev Two : List RattleType
+  Two = MutSlice α.mir α.lft T ∷ MutSlice α.mir α.lft T ∷ []
 
   abbrev pub Slices : RattleType
-  Slices = Tuple Both
+  Slices = Tuple Two
 
   pub slices_lawful : {M : Type 1} {𝓤 : Ura M} (𝓛 : Logic 𝓤) → Lawful 𝓛 Slices
   slices_lawful 𝓛 =
-      let pair : Declared = tuple_type Both in let one = mut_slice_Lawful 𝓛 α.mir α.lft T in
+      let pair : Declared = tuple_type Two in let one = mut_slice_Lawful 𝓛 α.mir α.lft T in
       recorded_lawful (Struct (shape pair)) pair.D pair.to pair.to_one 𝓛 (Struct-Lawful 𝓛 (shape pair) (one, (one, tt)))

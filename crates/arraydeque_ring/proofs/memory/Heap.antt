@@ -99,14 +99,9 @@ module _ {M : Type 1} {𝓤 : Ura M} (𝓛 : Logic 𝓤) (at_mem : Memory → SP
       split ! $ split ! $ move ! (1 ∷ []) $ feq_l ! (λ is_unit. split ! $ at_once ! $ check ! (ap only is_unit) $ keep ! (0 ∷ []) $ done !))
 
 module _ {M : Type 1} {𝓤 : Ura M} {𝓛 : Logic 𝓤} {K : Type 0} {Γ : List (Item 𝓤)} {G : Goal 𝓤 𝓛.H} where
-  by_answer : (g : Global) (τ : Ty) (v : Val) (y : Bool) (b o : ℕ) → K → v ≡ answer_val y b o
-      → ((b o : ℕ) → v ≡ answer_val true b o → Seq K 𝓛 (‵ (froom τ b o) ∷ ‵ (frees g τ (block_ptr b o)) ∷ Γ) G) → (v ≡ answer_val false 0 0 → Seq K 𝓛 Γ G) → Seq K 𝓛 (‵ (got (frees g) τ y b o) ∷ Γ) G
-  by_answer g τ v true b o t e ok refused = fsplit t $ ok b o e
-  by_answer g τ v false b o t e ok refused = drop t $ refused e
-
   -- goes on with a block, or with a refusal
   pub answers : K → (at_mem : Memory → SProp 𝓤) (run : Routine → Fun 𝓤) (g : Global) (τ : Ty) (v : Val)
       → ((b o : ℕ) → v ≡ answer_val true b o → Seq K 𝓛 (‵ (froom τ b o) ∷ ‵ (frees g τ (block_ptr b o)) ∷ Γ) G) → (v ≡ answer_val false 0 0 → Seq K 𝓛 Γ G) → Seq K 𝓛 (raw (Answered 𝓛 at_mem run g τ v) ∷ Γ) G
   answers t at_mem run g τ v ok refused =
       use1 𝓛 (some (λ (c : Bool × (ℕ × ℕ)). given (v ≡ answer_val c.0 c.1.0 c.1.1) (‵ (got (frees g) τ c.0 c.1.0 c.1.1)))) (id⊢ 𝓤 (Answered 𝓛 at_mem run g τ v)) $
-      pick t (λ c. learn t (λ e. by_answer g τ v c.0 c.1.0 c.1.1 t e ok refused))
+      pick t (λ c. learn t (λ e. (elim c.0 as (λ y. v ≡ answer_val y c.1.0 c.1.1 → Seq K 𝓛 (‵ (got (frees g) τ y c.1.0 c.1.1) ∷ Γ) G) [ true ↦ λ is. fsplit t $ ok c.1.0 c.1.1 is | false ↦ λ is. drop t $ refused is ]) e))

@@ -72,23 +72,23 @@ module _ (E : El) {M : Type 1} {𝓤 : Ura M} (𝓛 : Logic 𝓤) (b : ℕ) wher
       split ! $ keep ! (0 ∷ []) $ by ! (of_room n o)
 
   module _ (κ : Lft) where
-    abbrev Seen : ℕ → List (Place E) → Fml
-    Seen o ps = places_lent (R E) b o ps κ
+    abbrev Shown : ℕ → List (Place E) → Fml
+    Shown o ps = places_lent (R E) b o ps κ
 
-    seen_from : (ps : List (Place E)) (i o at : ℕ) → i ≤ length ps → at ≡ i * s + o → ent 𝓤 (sem 𝓛 (Seen o ps)) (sem 𝓛 (Seen at (drop_list i ps)))
-    seen_from ps zero o at le e = let same : o ≡ at = omega (arith, zero-mul s) in subst (λ k. ent 𝓤 (sem 𝓛 (Seen o ps)) (sem 𝓛 (Seen k ps))) same (id⊢ 𝓤 (sem 𝓛 (Seen o ps)))
+    seen_from : (ps : List (Place E)) (i o at : ℕ) → i ≤ length ps → at ≡ i * s + o → ent 𝓤 (sem 𝓛 (Shown o ps)) (sem 𝓛 (Shown at (drop_list i ps)))
+    seen_from ps zero o at le e = let same : o ≡ at = omega (arith, zero-mul s) in subst (λ k. ent 𝓤 (sem 𝓛 (Shown o ps)) (sem 𝓛 (Shown k ps))) same (id⊢ 𝓤 (sem 𝓛 (Shown o ps)))
     seen_from [] (suc i) o at le e = absurd (omega arith)
     seen_from (p ∷ ps) (suc i) o at le e =
-        via 𝓤 (sem 𝓛 (Seen (o + s) ps)) (snd∗ 𝓤 (sem 𝓛 (place_lent (R E) b o p κ)) (sem 𝓛 (Seen (o + s) ps))) (seen_from ps i (o + s) at (omega arith) (omega (arith, suc-mul i s)))
+        via 𝓤 (sem 𝓛 (Shown (o + s) ps)) (snd∗ 𝓤 (sem 𝓛 (place_lent (R E) b o p κ)) (sem 𝓛 (Shown (o + s) ps))) (seen_from ps i (o + s) at (omega arith) (omega (arith, suc-mul i s)))
 
-    seen_values : (xs : List (el_x E)) (rest : List (Place E)) (o : ℕ) → ent 𝓤 (sem 𝓛 (Seen o (map Some xs ++ rest))) (sem 𝓛 (elements_shared (R E) xs b o κ))
-    seen_values [] rest o = qed 𝓛 (‵ (Seen o rest) ∷ []) ∵ keep ! [] $ done !
+    seen_values : (xs : List (el_x E)) (rest : List (Place E)) (o : ℕ) → ent 𝓤 (sem 𝓛 (Shown o (map Some xs ++ rest))) (sem 𝓛 (elements_shared (R E) xs b o κ))
+    seen_values [] rest o = qed 𝓛 (‵ (Shown o rest) ∷ []) ∵ keep ! [] $ done !
     seen_values (x ∷ xs) rest o = mono_r 𝓤 (sem 𝓛 (place_lent (R E) b o (Some x) κ)) (seen_values xs rest (o + s))
 
     -- the values of a filled run are seen through a `&`
     pub run_seen : (o : ℕ) (ps : List (Place E)) (i n : ℕ) (xs : List (el_x E)) → i ≤ length ps → HoldsRun ps i n xs
-        → ent 𝓤 (sem 𝓛 (Seen o ps)) (sem 𝓛 (elements_shared (R E) xs b (i * s + o) κ))
+        → ent 𝓤 (sem 𝓛 (Shown o ps)) (sem 𝓛 (elements_shared (R E) xs b (i * s + o) κ))
     run_seen o ps i n xs le held =
         let rest = drop_list n (drop_list i ps) in
-        qed 𝓛 (‵ (Seen o ps) ∷ []) ∵ use1 𝓛 (‵ (Seen (i * s + o) (drop_list i ps))) (seen_from ps i o (i * s + o) le refl) $
-        rewrite ! 0 (λ (l : List (Place E)). ‵ (Seen (i * s + o) l)) (sym (take-append-drop n (drop_list i ps)) ∙ ap (λ l. l ++ rest) held) refl $ by ! (seen_values xs rest (i * s + o))
+        qed 𝓛 (‵ (Shown o ps) ∷ []) ∵ use1 𝓛 (‵ (Shown (i * s + o) (drop_list i ps))) (seen_from ps i o (i * s + o) le refl) $
+        rewrite ! 0 (λ (l : List (Place E)). ‵ (Shown (i * s + o) l)) (sym (take-append-drop n (drop_list i ps)) ∙ ap (λ l. l ++ rest) held) refl $ by ! (seen_values xs rest (i * s + o))

@@ -97,10 +97,10 @@ module _ (E : El) {M : Type 1} {𝓤 : Ura M} {𝓛 : Logic 𝓤} {K : Type 0} {
       nothing t $ move t (1 ∷ 0 ∷ []) $ fjoin t $
       fpack t ((x : Inside (el_x E)) × ((record { places = x.places; steps = x.steps } ≡ r) × (x.capacity ≡ length x.places))) (λ x. fsep ((inside.the_row (R E)).own_val x.0 vs) ftrue) (a, (refl, ok.capacity)) $ s)
 
-module _ (E : El) {M : Type 1} {𝓤 : Ura M} {𝓛 : Logic 𝓤} {K : Type 0} {Γ : List (Item 𝓤)} {G : Goal 𝓤 𝓛.H} (t : K) (g : Global) (r new : Seen E) (b o n : ℕ) (ok : Fits E r o n) (same : length r.places ≡ length new.places) where
   -- other places in the stead of those of r, as many: takes [the new places; the right of r]
-  pub slots_remade : Step K 𝓛 (‵ ((Sr E).own_val new (slots_val b o n ∷ [])) ∷ Γ) G (‵ (places E new b o) ∷ ‵ (right E g r b o) ∷ Γ) G
-  slots_remade = step (λ s. move t (1 ∷ []) $ rewrite t 0 (λ (k : ℕ). ‵ (right_to_free (R E) g k (block_ptr b o))) same refl $ move t (1 ∷ 0 ∷ []) $ slots_made E t g new b o n (Fits-as E ok new same) $ s)
+  pub slots_remade : K → (g : Global) (r new : Seen E) (b o n : ℕ) → Fits E r o n → length r.places ≡ length new.places
+      → Step K 𝓛 (‵ ((Sr E).own_val new (slots_val b o n ∷ [])) ∷ Γ) G (‵ (places E new b o) ∷ ‵ (right E g r b o) ∷ Γ) G
+  slots_remade t g r new b o n ok same = step (λ s. move t (1 ∷ []) $ rewrite t 0 (λ (k : ℕ). ‵ (right_to_free (R E) g k (block_ptr b o))) same refl $ move t (1 ∷ 0 ∷ []) $ slots_made t g new b o n (Fits-as E ok new same) $ s)
 
 module _ (E : El) {M : Type 1} {𝓤 : Ura M} {𝓛 : Logic 𝓤} {K : Type 0} {Γ : List (Item 𝓤)} {G : Goal 𝓤 𝓛.H} where
   -- a `&mut` is opened: [the places; the right; the words; the open borrow, in three]

@@ -11,23 +11,14 @@ use Rattle.arraydeque_ring.specs.contracts.slots.Slots.move_block as f
 use Rattle.arraydeque_ring.proofs.slots.Slots.move_block.Statement as stated
 use Rattle.arraydeque_ring.proofs.slots.Slots.move_block.Code as code
 
-module _ (E : El) (N : ℕ) where
-  abbrev args : Args
-  args = layouts (a_type ∷ a_number ∷ []) (E.row, (number N, tt))
-
-  abbrev here : Fn
-  here = inst_fn args code.function
-
-  abbrev stayed : Stays (f.ended E.row (number N)).signature.params (f.ended E.row (number N)).kept
-  stayed = (stay_ref (0 ∷ []) tt (plain (λ _. Sr E)), (stay_dropped (plain (λ _. usize)) yes, (stay_dropped (plain (λ _. usize)) yes, (stay_dropped (plain (λ _. usize)) yes, tt))))
-
 pub move_block_spec : {M : Type 1} → stated.statement M
 move_block_spec 𝓤 𝓛 𝓜 𝓡 wired X N L N_fits =
-    let E : El = record { row = X; laws = L } in
-    let ended = f.ended X (number N) in let c = f.clauses X (number N) 𝓛 𝓜.mem 𝓡.returns in let W = walk_of 𝓛 ended (stayed E N) c in let 𝓣 = tables 𝓤 𝓛.H 𝓜 𝓡 𝓡.env in
+    let E : El = record { row = X; laws = L } in let types : Args = layouts (a_type ∷ a_number ∷ []) (X, (number N, tt)) in let here : Fn = inst_fn types code.function in
+    let ended = f.ended X (number N) in let place = stay_dropped (plain (λ _. usize)) yes in let stayed : Stays ended.signature.params ended.kept = (stay_ref (0 ∷ []) tt (plain (λ _. Sr E)), (place, (place, (place, tt)))) in
+    let c = f.clauses X (number N) 𝓛 𝓜.mem 𝓡.returns in let W = walk_of 𝓛 ended stayed c in let 𝓣 = tables 𝓤 𝓛.H 𝓜 𝓡 𝓡.env in
     let word_goes = Goes-dropped 𝓛 3 (plain (λ _. usize)) yes (λ κs x w. refl) in
-    proved 𝓛 ended (stayed E N) c 𝓜 𝓡 (Goes-ref 𝓛 3 0 tt (plain (λ _. Sr E)), (word_goes, (word_goes, (word_goes, tt))))
-    (f.Key.name (args E N)) (here E N) (code.unfolded 𝓤 𝓛.H 𝓜 𝓡 wired (X, (number N, tt)))
+    proved 𝓛 ended stayed c 𝓜 𝓡 (Goes-ref 𝓛 3 0 tt (plain (λ _. Sr E)), (word_goes, (word_goes, (word_goes, tt))))
+    (f.Key.name types) here (code.unfolded 𝓤 𝓛.H 𝓜 𝓡 wired (X, (number N, tt)))
     (λ κs. (mut_vals, (uint_vals w64, (uint_vals w64, (uint_vals w64, tt))))) (λ κs. (mut_Tells (named 0) κs.0 (Sr E), (uint_Tells w64, (uint_Tells w64, (uint_Tells w64, tt))))) (λ κs qs bounds a _ are.
     let κ = κs.0 in let κ₁ = κs.1.0 in let κ₂ = κs.1.1.0 in let q = qs.0 in let q₁ = qs.1.0 in let q₂ = qs.1.1.0 in
     let rb : ℕ = a.0.ref_ptr.0 in let ro : ℕ = a.0.ref_ptr.1 in let r : Seen E = a.0.now in let ps : List (Place E) = r.places in
@@ -46,8 +37,8 @@ move_block_spec 𝓤 𝓛 𝓜 𝓡 wired X N L N_fits =
     let new : Seen E = record { places = run_moved dst src N ps; steps = r.steps } in
     let same_new : length ps ≡ length new.places = sym (length-moved dst src N ps) in
     split ! $ split ! $ move ! (2 ∷ []) $ fsplit ! $ fsplit3 ! $ keep ! (1 ∷ 2 ∷ 4 ∷ 5 ∷ []) $
-    enter ! 𝓣.C 𝓣.Λ (here E N) (vptr rb ro ∷ vint w64 to ∷ vint w64 from ∷ vint w64 at ∷ []) _ $ alloc_all ! (λ l. pass_all ! refl ((tt, tt), ((tt, record { fits = to_fits }), ((tt, record { fits = from_fits }), ((tt, record { fits = at_fits }), tt)))) $
-    let En : Env 𝓤 𝓛.H = env (here E N).locals l in
+    enter ! 𝓣.C 𝓣.Λ here (vptr rb ro ∷ vint w64 to ∷ vint w64 from ∷ vint w64 at ∷ []) _ $ alloc_all ! (λ l. pass_all ! refl ((tt, tt), ((tt, record { fits = to_fits }), ((tt, record { fits = from_fits }), ((tt, record { fits = at_fits }), tt)))) $
+    let En : Env 𝓤 𝓛.H = env here.locals l in
     slots_open E ! tt r rb ro (λ g b o n ok.
     let to_near = near E ok to (omega arith) in let from_near = near E ok from (omega arith) in let at_near = near E ok at (omega arith) in
     let on : (i : ℕ) → vptr b (at * s + (i * s + o)) ≡ vptr b ((i + at) * s + o) = λ i. ap (vptr b) (omega (arith, add-mul i at s)) in
@@ -79,7 +70,7 @@ move_block_spec 𝓤 𝓛 𝓜 𝓡 wired X N L N_fits =
     use1 𝓛 (‵ (Row E 𝓛 b (dst * s + o) (take N (drop_list dst es))) ⊛ ‵ (Around E 𝓛 b o es dst N)) (run_out E 𝓛 b o es dst N (omega arith)) $ split ! $
     use1 𝓛 (‵ (froom (ty_array (elτ E) N) b (dst * s + o))) (row_room E 𝓛 b (take N (drop_list dst es)) N (dst * s + o) (omega (arith, length-take N (drop_list dst es), length-drop dst es))) $
     assigns_last ! (of_opd ! (get ! refl)) (through ! refl (stop !)) (init ! 0 refl v_fits) $
-    exec ! 𝓣.C 𝓣.Λ En (after 1 (here E N).body) (at_ret En (W.post y)) $ sets ! (of_opd ! (unit_lit !)) refl (tt, tt) $
+    exec ! 𝓣.C 𝓣.Λ En (after 1 here.body) (at_ret En (W.post y)) $ sets ! (of_opd ! (unit_lit !)) refl (tt, tt) $
     -- [the array; the other places; what the array owns; ..]
     move ! (0 ∷ 2 ∷ []) $ use2 𝓛 (‵ (part_at (Array (R E) N) full_share xs b (dst * s + o))) (part_in 𝓛 (Array (R E) N) refl full_share xs b (dst * s + o) v) $
     use1 𝓛 (‵ (Row E 𝓛 b (dst * s + o) (map Some xs))) (of_array E 𝓛 b N xs (dst * s + o)) $
@@ -88,6 +79,6 @@ move_block_spec 𝓤 𝓛 𝓜 𝓡 wired X N L N_fits =
     rewrite ! 0 (λ (l : List (Place E)). ‵ (Row E 𝓛 b o l)) (moved_parts ps dst src N within target) refl $
     slots_close E ! tt g r new b o n rb ro ok same_new $
     returns ! (look_at ! 0 refl) $ free_all ! refl $
-    suffices ! _ (ends_at 𝓛 ended (stayed E N) c y vunit tt (new, (tt, (tt, (tt, tt)))) (tt, (tt, (tt, (tt, tt))))) $ says ! refl $
+    suffices ! _ (ends_at 𝓛 ended stayed c y vunit tt (new, (tt, (tt, (tt, tt)))) (tt, (tt, (tt, (tt, tt))))) $ says ! refl $
     feq_i ! (List Val) (vptr rb ro ∷ []) (vptr rb ro ∷ []) refl $ fjoin3 ! $ nothing ! $ nothing ! $ fjoin ! $ nothing ! $ fjoin ! $ nothing ! $ fjoin ! $ move ! (1 ∷ 0 ∷ []) $ fjoin ! $
     move ! (1 ∷ 2 ∷ []) $ join ! $ feq_i ! (List Val) (vunit ∷ []) (vunit ∷ []) refl $ keep ! (1 ∷ 2 ∷ 0 ∷ []) $ done !)))))))

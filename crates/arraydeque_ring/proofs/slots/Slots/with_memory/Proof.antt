@@ -15,13 +15,9 @@ use Rattle.arraydeque_ring.specs.contracts.slots.Slots.with_memory as f
 use Rattle.arraydeque_ring.proofs.slots.Slots.with_memory.Statement as stated
 use Rattle.arraydeque_ring.proofs.slots.Slots.with_memory.Code as code
 
-module _ (E : El) where
-  abbrev Out : RattleType
-  Out = results.the_row (Sr E) refusals.the_row
-
 pub with_memory_spec : {M : Type 1} → stated.statement M
 with_memory_spec 𝓤 𝓛 𝓜 𝓡 wired X L =
-    let E : El = record { row = X; laws = L } in let here : Fn = inst_fn (args E) code.function in
+    let E : El = record { row = X; laws = L } in let Out : RattleType = results.the_row (Sr E) refusals.the_row in let here : Fn = inst_fn (args E) code.function in
     let ended = f.ended X in let stayed : Stays ended.signature.params ended.kept = (stay_dropped _ yes, (stay_dropped _ yes, (stay_dropped _ yes, tt))) in
     let c = f.clauses X 𝓛 𝓜.mem 𝓡.returns in let W = walk_of 𝓛 ended stayed c in let 𝓣 = tables 𝓤 𝓛.H 𝓜 𝓡 𝓡.env in
     proved 𝓛 ended stayed c 𝓜 𝓡 (Goes-dropped 𝓛 2 (RefOf (0 ∷ []) tt (plain (λ _. heap.the_row)) (λ _. tt)) yes (λ κs x w. refl), (Goes-dropped 𝓛 2 (plain (λ _. heap.the_row)) yes (λ κs x w. refl), (Goes-dropped 𝓛 2 (plain (λ _. usize)) yes (λ κs x w. refl), tt)))
@@ -62,7 +58,7 @@ with_memory_spec 𝓤 𝓛 𝓜 𝓡 wired X L =
     rewrite ! 0 (λ (m : ℕ). ‵ (token E g m (block_ptr b o))) long refl $
     rewrite ! 0 (λ (F : Fml). ‵ F) (sym (right_is E g (length r.places) (block_ptr b o) (subst (λ m. 0 < m * s) long some))) refl $ move ! (1 ∷ 0 ∷ []) $
     slots_made E ! g r b o n (record { capacity = long; word = n_fits; reach = subst (λ m. m * s + o < 2 ^ 63) long (omega arith) }) $
-    use1 𝓛 (‵ ((Out E).own_val (Ok r) (live 0 (vcons made vnil) ∷ []))) (ok_of 𝓛 (Sr E) refusals.the_row r made) $
+    use1 𝓛 (‵ (Out.own_val (Ok r) (live 0 (vcons made vnil) ∷ []))) (ok_of 𝓛 (Sr E) refusals.the_row r made) $
     returns ! (look_at ! 0 refl) $ free_all ! refl $ keep ! (0 ∷ 1 ∷ 2 ∷ []) $
     suffices ! _ (ends_at 𝓛 ended stayed c y (live 0 (vcons made vnil)) (Ok r) (tt, (tt, (tt, tt))) (tt, (tt, (tt, tt)))) $ says ! refl $
     move ! (1 ∷ 2 ∷ []) $ join ! $ frame ! $ nothing ! $ nothing ! $ fjoin ! $ nothing ! $ fjoin ! $ nothing ! $ fjoin ! $ done !))
@@ -74,7 +70,7 @@ with_memory_spec 𝓤 𝓛 𝓜 𝓡 wired X L =
     sets_last ! (agg ! (and_then ! (lit ! tt) (and_then ! (get ! refl) (no_more !)))) refl (tt, (record { fits = lit< tt }, (tt, tt))) $
     exec ! 𝓣.C 𝓣.Λ En (after 3 here.body) (at_ret En (W.post y)) $ sets ! (of_opd ! (get ! refl)) refl (tt, (record { fits = lit< tt }, (tt, tt))) $
     owned ! Refusal (Is Refusal) (Struct-Makes 𝓛 (Declared.shape refusals.the_type) tt) tt (vstruct vnil ∷ []) (tt, (refl, tt)) $
-    use1 𝓛 (‵ ((Out E).own_val (Err (record {})) (none ∷ []))) (err_of 𝓛 (Sr E) refusals.the_row (record {}) (vstruct vnil)) $
+    use1 𝓛 (‵ (Out.own_val (Err (record {})) (none ∷ []))) (err_of 𝓛 (Sr E) refusals.the_row (record {}) (vstruct vnil)) $
     returns ! (look_at ! 0 refl) $ free_all ! refl $ keep ! (0 ∷ 1 ∷ 2 ∷ []) $
     suffices ! _ (ends_at 𝓛 ended stayed c y none (Err (record {})) (tt, (tt, (tt, tt))) (tt, (tt, (tt, tt)))) $ says ! tt $
     move ! (1 ∷ 2 ∷ []) $ join ! $ frame ! $ nothing ! $ nothing ! $ fjoin ! $ nothing ! $ fjoin ! $ nothing ! $ fjoin ! $ done !))))))
