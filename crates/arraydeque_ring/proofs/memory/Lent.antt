@@ -1,5 +1,5 @@
 -- What a `&` to a `Slots` shows: its pointer, and a `&` to each value in its places. Assumes `Logic`.
-use Rattle.arraydeque_ring.proofs.memory.Kit.{◌≡◌, refl, sym, ap, ◌∙◌, List, [], ◌∷◌, ℕ, ◌+◌, ◌*◌, ◌<◌, ◌^◌, length, Option, Ura, ent, sep, never, id⊢, Lft, Share, fat, flft, fhide, ty_ptr, Val, vptr, Logic, sem, Goal, Soaks, Step, step, Seq, Item, ‵, ◌⊛◌, ◌$◌, ◌∵◌, !, qed, keep, done, move, drop, use1, split, rewrite, fsplit, fpick, feq_l, feq_i, flt_l, cell_at, part_at, hidden_shr, Ptr, RawPtr, block_ptr, ptr_val, in_a_block, looks, shuts, El, R, el_x, Struct}
+use Rattle.arraydeque_ring.proofs.memory.Kit.{◌≡◌, refl, ap, List, [], ◌∷◌, ℕ, ◌+◌, ◌*◌, ◌<◌, ◌^◌, length, Option, Ura, ent, sep, never, id⊢, Lft, fhide, Logic, sem, Goal, Seq, Item, ‵, ◌⊛◌, ◌$◌, ◌∵◌, !, qed, keep, done, move, drop, use1, split, rewrite, fsplit, fpick, flt_l, hidden_shr, Ptr, RawPtr, block_ptr, in_a_block, El, R, el_x, Struct}
 use denote.Struct.Lending.{lent_out}
 use denote.Struct.Owning.{to, shape}
 use denote.Opens.{unhide}

@@ -1,5 +1,5 @@
 -- `size_of_item` answers the size of any type, capped to a word. Assumes `Logic`.
-use Rattle.arraydeque_ring.proofs.memory.Kit.{refl, List, [], ◌∷◌, ℕ, ◌^◌, ftrue, flft, Fn, inst_fn, w64, Val, vint, size, capped, capped_fits, tables, owns, types_at, ‵, raw, ◌⊛◌, ◌$◌, ◌∵◌, !, qed, move, keep, join, split, fjoin, feq_i, flt_i, suffices, done, enter, of_opd, size_word, returns, alloc_all, pass_all, free_all, look_at, sets, nothing, walk_of, says, ends_at, proved, layout, Args, a_type, layouts, RattleType}
+use Rattle.arraydeque_ring.proofs.memory.Kit.{refl, List, [], ◌∷◌, ℕ, ◌^◌, ftrue, flft, Fn, inst_fn, w64, Val, vint, size, capped, capped_fits, tables, owns, types_at, ‵, raw, ◌⊛◌, ◌$◌, ◌∵◌, !, qed, move, keep, join, split, fjoin, feq_i, flt_i, suffices, done, enter, of_opd, size_word, returns, alloc_all, pass_all, free_all, look_at, sets, nothing, walk_of, says, ends_at, proved, layout, Args, a_type, layouts}
 use Rattle.arraydeque_ring.specs.contracts.slots.raw.size_of_item as f
 use Rattle.arraydeque_ring.proofs.slots.raw.size_of_item.Statement as stated
 use Rattle.arraydeque_ring.proofs.slots.raw.size_of_item.Code as code
