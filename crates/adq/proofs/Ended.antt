@@ -1,16 +1,7 @@
 -- The end of a run.
-use Rattle.std.proofs.Common.{◌≡◌, ◌≢◌, ◌∙◌, ℕ, ℤ, List, [], ◌∷◌, ◌++◌, map, flat_map, get_or, codes, bytes_eq, true, false, ap, append_assoc, refl, Some, None, Result, Ok, Err, IfOk, IfErr, String, string_bytes, Global, sym, subst}
-use Rattle.std.proofs.lemmas.Slice.Eq.{bytes_eq-Decides}
-use Rattle.arraydeque.specs.Machine.{answer_of}
-use Rattle.arraydeque.specs.Policy.{Policy}
-use Rattle.arraydeque.specs.Run.{MachineRun}
-use Rattle.arraydeque.specs.declared.run.Call.{Call}
-use Rattle.arraydeque.specs.declared.run.Reply.{Reply}
-use Rattle.adq.specs.Line.{lines_of, LinesName}
-use Rattle.adq.specs.Run.{Ends, Prints, settings_of}
-use Rattle.adq.specs.Text.{list_text, text_of}
-use Rattle.adq.specs.declared.fault.Fault.{Fault}
-use Rattle.adq.specs.declared.fault.Fault.TheVariants.{Memory}
+use Rattle.std.proofs.{Common.{◌≡◌, ◌≢◌, ◌∙◌, ℕ, ℤ, List, [], ◌∷◌, ◌++◌, map, flat_map, get_or, codes, bytes_eq, true, false, ap, append_assoc, refl, Some, None, Result, Ok, Err, IfOk, IfErr, String, string_bytes, Global, sym, subst}, lemmas.Slice.Eq.{bytes_eq-Decides}}
+use Rattle.arraydeque.specs.{Machine.answer_of, Policy.Policy, Run.MachineRun, declared.run.{Call.Call, Reply.Reply}}
+use Rattle.adq.specs.{Line.{lines_of, LinesName}, Run.{Ends, Prints, settings_of}, Text.{list_text, text_of}, declared.fault.Fault.{Fault, TheVariants.Memory}}
 
 -- the text of replies, line by line, and of the last list
 abbrev pub output_of : {B : Type 0} {n : ℕ} → List (Reply ℤ n B) → List ℤ → List ℕ

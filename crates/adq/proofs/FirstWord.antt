@@ -1,14 +1,6 @@
 -- The words of a text: what taking the first one off it leaves.
-use Rattle.std.proofs.Common.{◌≡◌, ◌≢◌, ℕ, ◌<◌, List, [], ◌∷◌, length, get_or, filter, nat_lt, eqb, Option, Some, None, unwrap_or, Bor, ap, sym, ◌∙◌, lit<, arith}
-use Rattle.std.proofs.lemmas.Bool.Decides.{nat_tests}
-use Rattle.std.proofs.lemmas.Grind.{common_steps}
-use Rattle.std.proofs.lemmas.List.{nil_from_length}
-use Rattle.std.proofs.lemmas.List.Splits.{slice_split_first, slice_split_none}
-use Rattle.std.proofs.lemmas.List.Sums.{fails_before_first}
+use Rattle.std.{proofs.{Common.{◌≡◌, ◌≢◌, ℕ, ◌<◌, List, [], ◌∷◌, length, get_or, filter, nat_lt, eqb, Option, Some, None, unwrap_or, Bor, ap, sym, ◌∙◌, lit<, arith}, lemmas.{Bool.Decides.nat_tests, Grind.common_steps, List.{nil_from_length, Splits.{slice_split_first, slice_split_none}, Sums.fails_before_first}, Str.Pattern.{drop_at_char, split_once_first, IsSplitOnceResult}}}, specs.{List.{position_or_len, before_first, after_first}, Str.Pattern.{FindsCharPrefix, CutsPrefixes, IsFullyTrimmed}}}
 use lib.Utf8.{encode}
-use Rattle.std.proofs.lemmas.Str.Pattern.{drop_at_char, split_once_first, IsSplitOnceResult}
-use Rattle.std.specs.List.{position_or_len, before_first, after_first}
-use Rattle.std.specs.Str.Pattern.{FindsCharPrefix, CutsPrefixes, IsFullyTrimmed}
 use Rattle.adq.specs.Line.{words_of}
 
 -- spaces cut off the front of a text part no words

@@ -1,15 +1,7 @@
 -- Lines that were read, one after another.
-use Rattle.std.proofs.Common.{◌≡◌, ℕ, ℤ, ◌+◌, ◌<◌, ◌≤◌, ◌⊎◌, List, [], ◌∷◌, ◌++◌, length, take, get_or, eqb, Option, Some, None, option_to_list, filter_map, IsUtf8, inl, inr, refl, ap, sym, ◌∙◌, subst, zero-add, arith}
-use Rattle.std.proofs.lemmas.List.{take_more, get_or-map, length-map, length_push, get_or_default, take_all}
-use Rattle.std.proofs.lemmas.List.Elements.{filter_map-append}
-use Rattle.std.proofs.lemmas.List.FromFn.{length-enumerate_from, get_or-enumerate_from}
-use Rattle.std.specs.List.{slice_split, enumerate_from, AllZip}
-use Rattle.std.specs.Option.{option_map_or}
-use Rattle.std.specs.Str.Lines.{strip_carriage_return}
-use Rattle.adq.specs.declared.fault.Fault.{Fault}
-use Rattle.adq.specs.declared.fault.Fault.TheVariants.{Memory, Line}
+use Rattle.std.{proofs.{Common.{◌≡◌, ℕ, ℤ, ◌+◌, ◌<◌, ◌≤◌, ◌⊎◌, List, [], ◌∷◌, ◌++◌, length, take, get_or, eqb, Option, Some, None, option_to_list, filter_map, IsUtf8, inl, inr, refl, ap, sym, ◌∙◌, subst, zero-add, arith}, lemmas.List.{take_more, get_or-map, length-map, length_push, get_or_default, take_all, Elements.{filter_map-append}, FromFn.{length-enumerate_from, get_or-enumerate_from}}}, specs.{List.{slice_split, enumerate_from, AllZip}, Option.option_map_or, Str.Lines.strip_carriage_return}}
+use Rattle.adq.specs.{declared.fault.Fault.{Fault, TheVariants.{Memory, Line}}, Line.{lines_of, words_of, Spells, tokens_of, LineNames, LinesName, IsFirstBad}}
 use Rattle.arraydeque.specs.declared.run.Call.{Call}
-use Rattle.adq.specs.Line.{lines_of, words_of, Spells, tokens_of, LineNames, LinesName, IsFirstBad}
 
 -- a line means what its text means
 pub read : (line rest : List ℕ) (ws : List (List ℕ)) (o : Option (Call ℤ)) → rest ≡ line → IsUtf8 line → words_of rest ≡ ws → AllZip Spells ws (option_map_or tokens_of o []) → LineNames line o

@@ -1,7 +1,5 @@
 -- The text of a list, item by item.
-use Rattle.std.proofs.Common.{ℤ, ℕ, Bool, true, false, List, ◌++◌, codes, flat_map}
-use Rattle.std.specs.Fmt.{signed_decimal}
-use Rattle.std.specs.List.{join_by}
+use Rattle.std.{proofs.Common.{ℤ, ℕ, Bool, true, false, List, ◌++◌, codes, flat_map}, specs.{Fmt.signed_decimal, List.join_by}}
 
 -- what is yet to be printed of a list, at its first item or later
 abbrev pub text_left : Bool → List ℤ → List ℕ

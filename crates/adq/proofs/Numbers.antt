@@ -1,10 +1,5 @@
 -- What `parse` reads, as a word spells it.
-use Rattle.std.proofs.Common.{◌≡◌, ◌≢◌, ℕ, ℤ, pos, negsuc, neg_ℤ, ◌^◌, ◌<◌, ◌≤ℤ◌, ◌<ℤ◌, ◌==◌, List, drop, get_or, true, false, cond, Option, MatchOption, Result, Ok, Err, refl, subst, sym, arith}
-use Rattle.std.specs.Result.{result_ok}
-use Rattle.std.specs.Int.RustNames.{FitsSigned}
-use Rattle.std.specs.Str.Parse.{IsNumeral, digits_value, starts_with_minus, without_leading_plus, without_leading_sign, ParsesUnsigned, ParsesSigned}
-use Rattle.std.proofs.lemmas.Int.{ints}
-use Rattle.std.proofs.lemmas.Str.Parse.{digit_at, without_leading_plus_none}
+use Rattle.std.{proofs.{Common.{◌≡◌, ◌≢◌, ℕ, ℤ, pos, negsuc, neg_ℤ, ◌^◌, ◌<◌, ◌≤ℤ◌, ◌<ℤ◌, ◌==◌, List, drop, get_or, true, false, cond, Option, MatchOption, Result, Ok, Err, refl, subst, sym, arith}, lemmas.{Int.ints, Str.Parse.{digit_at, without_leading_plus_none}}}, specs.{Result.result_ok, Int.RustNames.FitsSigned, Str.Parse.{IsNumeral, digits_value, starts_with_minus, without_leading_plus, without_leading_sign, ParsesUnsigned, ParsesSigned}}}
 use mir.Syntax.{w64}
 use Rattle.adq.specs.Line.{Token, Spells, index, value}
 

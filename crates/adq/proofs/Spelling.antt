@@ -1,9 +1,7 @@
 -- What is told of a call, from what is told of its operands.
-use Rattle.std.proofs.Common.{◌≡◌, ℕ, ℤ, List, [], ◌∷◌, Result, Ok, Err, IsErrAnd, inl, inr, refl, subst, sym, ◌∙◌}
-use Rattle.std.specs.List.{AllZip}
+use Rattle.std.{proofs.Common.{◌≡◌, ℕ, ℤ, List, [], ◌∷◌, Result, Ok, Err, IsErrAnd, inl, inr, refl, subst, sym, ◌∙◌}, specs.List.AllZip}
 use Rattle.arraydeque.specs.declared.run.Call.{Call}
-use Rattle.adq.specs.declared.fault.Fault.{Fault}
-use Rattle.adq.specs.Line.{Spells, tokens_of, Tells}
+use Rattle.adq.specs.{declared.fault.Fault.Fault, Line.{Spells, tokens_of, Tells}}
 
 -- of one whose operands were not read
 pub told : {X Y : Type 0} {P : X → Type 0} {Q : Y → Type 0} (number : ℕ) (fault : Fault) (r : Result Y Fault) → IsErrAnd r (λ f. f ≡ fault) → Tells number P (Err fault) → (((x : X) → ¬ (P x)) → (y : Y) → ¬ (Q y)) → Tells number Q r

@@ -1,6 +1,5 @@
 -- Words that were read as values, one after another.
-use Rattle.std.proofs.Common.{◌≡◌, ℕ, ℤ, List, [], ◌∷◌, ◌++◌, map, sym, ◌∙◌, subst, append_assoc, append-nil}
-use Rattle.std.specs.List.{AllZip}
+use Rattle.std.{proofs.Common.{◌≡◌, ℕ, ℤ, List, [], ◌∷◌, ◌++◌, map, sym, ◌∙◌, subst, append_assoc, append-nil}, specs.List.AllZip}
 use Rattle.adq.specs.Line.{Spells, value}
 
 -- the words are those that spell the values, and then those that are left

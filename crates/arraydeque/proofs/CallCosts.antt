@@ -1,15 +1,7 @@
 -- What a call makes of a deque says what it costs.
-use Rattle.std.proofs.Common.{◌≡◌, ℕ, Option, Some, None, ◌+◌, ◌≤◌, List, slice_get, true, false, ◌==◌, if◌then◌else◌, refl, ap, sym, subst, arith}
-use Rattle.std.proofs.lemmas.Bool.Decides.{nat_tests}
-use Rattle.std.proofs.lemmas.Option.{slice_get_within, slice_get_cases}
+use Rattle.std.proofs.{Common.{◌≡◌, ℕ, Option, Some, None, ◌+◌, ◌≤◌, List, slice_get, true, false, ◌==◌, if◌then◌else◌, refl, ap, sym, subst, arith}, lemmas.{Bool.Decides.nat_tests, Option.{slice_get_within, slice_get_cases}}}
 use Rattle.arraydeque_ring.specs.Steps.{Steps, more_puts, more_takes}
-use Rattle.arraydeque.specs.Costs.{work_of, cost_of}
-use Rattle.arraydeque.specs.Deque.{DequeState, wrapped_back, wrapped_front}
-use Rattle.arraydeque.specs.Machine.{Answer, done, item, displaced, drained, split}
-use Rattle.arraydeque.specs.Makes.{Makes, displacing, pushed_back, pushed_front}
-use Rattle.arraydeque.specs.Policy.{Policy, saturating, wrapping}
-use Rattle.arraydeque.specs.declared.run.Call.{Call}
-use Rattle.arraydeque.specs.declared.run.Call.TheVariants.{PushFront, PushBack, PopFront, PopBack, Insert, Remove, SwapRemoveBack, SwapRemoveFront, Swap, Replace, Clear, Linearize, ExtendBack, ExtendFront, Extend, Drain, SplitOff}
+use Rattle.arraydeque.specs.{Costs.{work_of, cost_of}, Deque.{DequeState, wrapped_back, wrapped_front}, Machine.{Answer, done, item, displaced, drained, split}, Makes.{Makes, displacing, pushed_back, pushed_front}, Policy.{Policy, saturating, wrapping}, declared.run.Call.{Call, TheVariants.{PushFront, PushBack, PopFront, PopBack, Insert, Remove, SwapRemoveBack, SwapRemoveFront, Swap, Replace, Clear, Linearize, ExtendBack, ExtendFront, Extend, Drain, SplitOff}}}
 
 module _ {X : Type 0} where
   -- the call, so answered, made as many moves and exchanges as it costs, or fewer if it is a Linearize

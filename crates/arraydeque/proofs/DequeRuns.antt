@@ -1,16 +1,6 @@
 -- A run of a deque: it grows by one call at its end, and is a run of the machine with its costs.
-use Rattle.std.proofs.Common.{◌≡◌, ℕ, ◌≢◌, ◌+◌, ◌≤◌, List, [], ◌∷◌, ◌++◌, refl, ap, subst, arith}
-use Rattle.std.proofs.lemmas.List.Elements.{All-head, All-tail}
-use Rattle.arraydeque.specs.Costs.{work_of, cost_of, RunCosts}
-use Rattle.arraydeque.specs.Deque.{DequeState}
-use Rattle.arraydeque.specs.Machine.{Answer, answer_of}
-use Rattle.arraydeque.specs.Makes.{Makes}
-use Rattle.arraydeque.specs.Policy.{Policy}
-use Rattle.arraydeque.specs.Run.{DequeRun}
-use Rattle.arraydeque.specs.declared.run.Call.{Call}
-use Rattle.arraydeque.specs.declared.run.Call.TheVariants.{Linearize}
-use Rattle.arraydeque.specs.declared.run.Reply.{Reply}
-use Rattle.arraydeque.proofs.CallCosts.{CallCosts, call_costs}
+use Rattle.std.proofs.{Common.{◌≡◌, ℕ, ◌≢◌, ◌+◌, ◌≤◌, List, [], ◌∷◌, ◌++◌, refl, ap, subst, arith}, lemmas.List.Elements.{All-head, All-tail}}
+use Rattle.arraydeque.{specs.{Costs.{work_of, cost_of, RunCosts}, Deque.DequeState, Machine.{Answer, answer_of}, Makes.Makes, Policy.Policy, Run.DequeRun, declared.run.{Call.{Call, TheVariants.Linearize}, Reply.Reply}}, proofs.CallCosts.{CallCosts, call_costs}}
 
 -- the work of one call, in the words of a run
 work_of_call : {X : Type 0} (c : Call X) (a : Answer X) (old new : DequeState X) → CallCosts c a old new

@@ -1,6 +1,5 @@
 -- The last items of a list.
-use Rattle.std.proofs.Common.{◌≡◌, ℕ, ◌+◌, ◌-◌, ◌≤◌, List, ◌++◌, length, drop, ap, sym, ◌∙◌, arith}
-use Rattle.std.proofs.lemmas.List.{length-append, length-drop, drop-append-le, drop-drop}
+use Rattle.std.proofs.{Common.{◌≡◌, ℕ, ◌+◌, ◌-◌, ◌≤◌, List, ◌++◌, length, drop, ap, sym, ◌∙◌, arith}, lemmas.List.{length-append, length-drop, drop-append-le, drop-drop}}
 use Rattle.arraydeque.specs.Deque.{keep_last}
 
 -- all of a list that is short enough

@@ -1,26 +1,13 @@
 -- A deque in memory is taken apart into its ring, and made of it again. All its items are lent as its ring lends them. Assumes `Logic`.
-use Rattle.arraydeque_ring.proofs.memory.Kit.{◌≡◌, sym, ap, subst, ◌∙◌, List, [], ◌∷◌, ℕ, ◌+◌, ◌≤◌, length, Ura, full_share, SProp, ent, sep, ex, Logic, sem, ‵, raw, ◌⊛◌, ◌$◌, ◌∵◌, !, qed, by, use2, RattleType, part_at, param, param_laws, Fml, El, R, el_x}
-use denote.Laws.{Lawfuls}
-use denote.Memory.{part_of, lone}
-use denote.Model.Fields.{plain_out, Plain-in, view_made}
-use denote.Param.{number}
-use denote.Param.Laws.{Laws}
-use denote.Struct.Members.{Member, rows_of}
-use denote.Struct.Parts.{PartsBack}
-use denote.Struct.Pick.{rest_at, field_out, field_back}
+use Rattle.arraydeque_ring.{proofs.{memory.Kit.{◌≡◌, sym, ap, subst, ◌∙◌, List, [], ◌∷◌, ℕ, ◌+◌, ◌≤◌, length, Ura, full_share, SProp, ent, sep, ex, Logic, sem, ‵, raw, ◌⊛◌, ◌$◌, ◌∵◌, !, qed, by, use2, RattleType, part_at, param, param_laws, Fml, El, R, el_x}, loans.{Placed.{as_many-same, as_many-twice, length-as_many}, Rings.Rr}}, specs.{Loans.as_many, Ring.RingState}}
+use denote.{Laws.Lawfuls, Memory.{part_of, lone}, Model.Fields.{plain_out, Plain-in, view_made}, Param.{number, Laws.Laws}, Struct.{Members.{Member, rows_of}, Parts.PartsBack, Pick.{rest_at, field_out, field_back}}}
 use Rattle.std.specs.contracts.marker.PhantomData as phantom
 use Rattle.std.proofs.marker.PhantomData.TheLaws as phantom_laws
-use Rattle.arraydeque_ring.specs.Loans.{as_many}
-use Rattle.arraydeque_ring.specs.Ring.{RingState}
 use Rattle.arraydeque_ring.specs.RingLends as ring
-use Rattle.arraydeque_ring.proofs.loans.Placed.{as_many-same, as_many-twice, length-as_many}
-use Rattle.arraydeque_ring.proofs.loans.Rings.{Rr}
 use Rattle.arraydeque_ring.proofs.ring.Ring.TheLaws as ring_laws
-use Rattle.arraydeque.specs.Deque.{DequeState}
-use Rattle.arraydeque.specs.DequeLends.{rewritten}
+use Rattle.arraydeque.specs.{Deque.DequeState, DequeLends.rewritten, declared.deque.ArrayDeque.TheInside.Inside}
 use Rattle.arraydeque.specs.contracts.deque.ArrayDeque as deque
 use Rattle.arraydeque.specs.contracts.deque.ArrayDeque.TheInside as inside
-use Rattle.arraydeque.specs.declared.deque.ArrayDeque.TheInside.{Inside}
 use Rattle.arraydeque.proofs.deque.ArrayDeque.TheLaws as deque_laws
 
 module _ (E : El) (N : ℕ) (B : RattleType) where

@@ -1,11 +1,6 @@
 -- What extends make of a deque.
-use Rattle.std.proofs.Common.{◌≡◌, ◌<◌, ℕ, zero, suc, ◌==◌, if◌then◌else◌, Vec, Global, refl, ap, sym, ◌∙◌, arith}
-use Rattle.std.proofs.lemmas.Bool.{cond-false, ne_eqb}
-use Rattle.arraydeque.specs.Deque.{DequeState}
-use Rattle.arraydeque.specs.Machine.{extended_back, extended_front, done}
-use Rattle.arraydeque.specs.Makes.{Makes, pushed_back, pushed_front}
-use Rattle.arraydeque.specs.Policy.{Policy}
-use Rattle.arraydeque.specs.declared.run.Call.TheVariants.{ExtendBack, ExtendFront, Extend}
+use Rattle.std.proofs.{Common.{◌≡◌, ◌<◌, ℕ, zero, suc, ◌==◌, if◌then◌else◌, Vec, Global, refl, ap, sym, ◌∙◌, arith}, lemmas.Bool.{cond-false, ne_eqb}}
+use Rattle.arraydeque.specs.{Deque.DequeState, Machine.{extended_back, extended_front, done}, Makes.{Makes, pushed_back, pushed_front}, Policy.Policy, declared.run.Call.TheVariants.{ExtendBack, ExtendFront, Extend}}
 
 -- one thing at capacity 0, and another at any other
 pub at_none : {A : Type 0} (n : ℕ) (a b c : A) → (n ≡ 0 → c ≡ a) → (0 < n → c ≡ b) → c ≡ (if n == 0 then a else b)

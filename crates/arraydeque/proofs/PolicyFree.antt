@@ -1,8 +1,6 @@
 -- Which calls no policy changes.
 use Rattle.std.proofs.Common.{◌≡◌, ℕ, refl, Vec, Global}
-use Rattle.arraydeque.specs.Machine.{IsPolicyFree}
-use Rattle.arraydeque.specs.declared.run.Call.{Call}
-use Rattle.arraydeque.specs.declared.run.Call.TheVariants.{PushFront, PushBack, Insert, ExtendBack, ExtendFront, Extend}
+use Rattle.arraydeque.specs.{Machine.IsPolicyFree, declared.run.Call.{Call, TheVariants.{PushFront, PushBack, Insert, ExtendBack, ExtendFront, Extend}}}
 
 -- those that are none of the others
 pub IsPolicyFree-rest : {X : Type 0} (call : Call X) → ((x : X) → call ≡ PushFront x → ⊥) → ((x : X) → call ≡ PushBack x → ⊥) → ((i : ℕ) (x : X) → call ≡ Insert i x → ⊥)

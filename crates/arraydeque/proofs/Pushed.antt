@@ -1,13 +1,7 @@
 -- What pushes leave, one and many.
-use Rattle.std.proofs.Common.{◌≡◌, ◌<◌, ◌≤◌, ℕ, ◌+◌, ◌-◌, List, [], ◌∷◌, ◌++◌, length, take, drop, reverse, nat_lt, if◌then◌else◌, refl, sym, ap, ap₂, ◌∙◌, arith, inl, inr}
-use Rattle.std.proofs.lemmas.Bool.{cases_lt, lt-ltb, le-ltb}
-use Rattle.std.proofs.lemmas.List.{append_assoc, append-nil, reverse-append, length-append, length-drop, length-reverse, take_all, nil_from_length}
-use Rattle.arraydeque_ring.specs.Ring.{RingState, place_of, up_by, down_by}
-use Rattle.arraydeque_ring.specs.Steps.{more_puts, more_takes}
-use Rattle.arraydeque.specs.Deque.{DequeState, keep_last, with_back, with_front, wrapped_back, wrapped_front, WrapsBack}
-use Rattle.arraydeque_ring.proofs.fills.Displaced.{displaced_first, displaced_last}
-use Rattle.arraydeque_ring.proofs.fills.InRows.{down_by-both}
-use Rattle.arraydeque.proofs.KeepLast.{keep_last-all}
+use Rattle.std.proofs.{Common.{◌≡◌, ◌<◌, ◌≤◌, ℕ, ◌+◌, ◌-◌, List, [], ◌∷◌, ◌++◌, length, take, drop, reverse, nat_lt, if◌then◌else◌, refl, sym, ap, ap₂, ◌∙◌, arith, inl, inr}, lemmas.{Bool.{cases_lt, lt-ltb, le-ltb}, List.{append_assoc, append-nil, reverse-append, length-append, length-drop, length-reverse, take_all, nil_from_length}}}
+use Rattle.arraydeque_ring.{specs.{Ring.{RingState, place_of, up_by, down_by}, Steps.{more_puts, more_takes}}, proofs.fills.{Displaced.{displaced_first, displaced_last}, InRows.{down_by-both}}}
+use Rattle.arraydeque.{specs.Deque.{DequeState, keep_last, with_back, with_front, wrapped_back, wrapped_front, WrapsBack}, proofs.KeepLast.{keep_last-all}}
 
 -- what is seen of a deque over a ring
 abbrev pub of_ring : {X : Type 0} → RingState X → DequeState X

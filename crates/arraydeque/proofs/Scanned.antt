@@ -1,9 +1,5 @@
 -- One run of a scanner's calls after another.
-use Rattle.std.proofs.Common.{◌≡◌, Bool, true, false, true≢false, List, [], ◌∷◌, ◌++◌, Option, Some, None, IfNone, refl, sym, ◌∙◌, ap, subst, append-nil, append_assoc}
-use Rattle.std.specs.Iterator.{Yields}
-use Rattle.std.specs.Iterator.Runs.{WholeRun}
-use Rattle.std.proofs.iter.runs.Made.{run, to_end}
-use Rattle.std.specs.Option.{option_to_list}
+use Rattle.std.{proofs.{Common.{◌≡◌, Bool, true, false, true≢false, List, [], ◌∷◌, ◌++◌, Option, Some, None, IfNone, refl, sym, ◌∙◌, ap, subst, append-nil, append_assoc}, iter.runs.Made.{run, to_end}}, specs.{Iterator.{Yields, Runs.WholeRun}, Option.option_to_list}}
 use Rattle.arraydeque.specs.Lookahead.{ScannerState, fresh_scanner, Reads, HandsOut, HasRest, TakesOff}
 
 module _ {S A : Type 0} (steps : S → Option A → S → Type 0) where

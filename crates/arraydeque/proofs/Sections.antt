@@ -1,12 +1,6 @@
 -- Comparisons of lists that are cut into parts.
-use Rattle.std.proofs.Common.{◌≡◌, ℕ, ◌&&◌, Bool, true, false, List, [], ◌∷◌, ◌++◌, length, take, drop, Option, Some, None, refl, sym, ap, ap₂, ◌∙◌, arith}
-use Rattle.std.proofs.lemmas.List.{length-take, take-append-drop}
-use Rattle.std.specs.Cmp.Lexicographic.{pointwise, slice_cmp, slice_partial_cmp}
-use Rattle.std.specs.declared.cmp.Ordering.{Ordering}
-use Rattle.std.specs.declared.cmp.Ordering.TheVariants.{Less, Equal, Greater}
-use Rattle.std.specs.Ordering.{ordering_then, partial_ordering_then}
-use Rattle.arraydeque.specs.Compared.{AreCutAlike, AreSectionsOf}
-use Rattle.arraydeque.specs.declared.deque.compare.Sections.{Sections}
+use Rattle.std.{proofs.{Common.{◌≡◌, ℕ, ◌&&◌, Bool, true, false, List, [], ◌∷◌, ◌++◌, length, take, drop, Option, Some, None, refl, sym, ap, ap₂, ◌∙◌, arith}, lemmas.List.{length-take, take-append-drop}}, specs.{Cmp.Lexicographic.{pointwise, slice_cmp, slice_partial_cmp}, declared.cmp.Ordering.{Ordering, TheVariants.{Less, Equal, Greater}}, Ordering.{ordering_then, partial_ordering_then}}}
+use Rattle.arraydeque.specs.{Compared.{AreCutAlike, AreSectionsOf}, declared.deque.compare.Sections.Sections}
 
 and_assoc : (p q r : Bool) → (p && (q && r)) ≡ ((p && q) && r)
 and_assoc true q r = refl

@@ -1,12 +1,5 @@
 -- What is taken of a source of items.
-use Rattle.std.proofs.Common.{◌≡◌, ℕ, ◌<◌, ◌≤◌, List, length, take, min, Option, None, Bool, true, false, ◌++◌, refl, sym, subst, ap, ◌∙◌, arith, inl, inr}
-use Rattle.std.proofs.iter.runs.Lists.{Yields-both}
-use Rattle.std.proofs.iter.runs.Made.{run, run_of_exit, took}
-use Rattle.std.proofs.lemmas.Bool.{cases_lt, cases_Bool}
-use Rattle.std.proofs.lemmas.List.{same_lists, length-take, get_or-take}
-use Rattle.std.specs.Option.{unwrap_or}
-use Rattle.std.specs.Iterator.{Yields, Drains}
-use Rattle.std.specs.Iterator.Runs.{Run, ItemsAre, YieldsInOrder}
+use Rattle.std.{proofs.{Common.{◌≡◌, ℕ, ◌<◌, ◌≤◌, List, length, take, min, Option, None, Bool, true, false, ◌++◌, refl, sym, subst, ap, ◌∙◌, arith, inl, inr}, iter.runs.{Lists.{Yields-both}, Made.{run, run_of_exit, took}}, lemmas.{Bool.{cases_lt, cases_Bool}, List.{same_lists, length-take, get_or-take}}}, specs.{Option.unwrap_or, Iterator.{Yields, Drains, Runs.{Run, ItemsAre, YieldsInOrder}}}}
 use Rattle.arraydeque_ring.specs.Fills.{Fills, Ends}
 use Rattle.arraydeque.specs.Sources.{TakesFrom, TakesAll}
 

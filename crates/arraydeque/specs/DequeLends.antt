@@ -1,10 +1,7 @@
 -- What a deque ends as, once a `&mut` to one of its items, or to all of them, has ended.
-use Rattle.std.specs.Prelude.{ℕ, List, ◌++◌, slice_set, Option}
-use Rattle.std.specs.Borrow.{Fml, GName, RattleType, MutBor, Array, Lends, LendsIf, LendsBoth, fsep, follows, follows_both}
-use Rattle.arraydeque_ring.specs.Loans.{LoanState, as_many}
-use Rattle.arraydeque_ring.specs.Steps.{more_lends}
-use Rattle.arraydeque.specs.Deque.{DequeState}
-use Rattle.arraydeque.specs.contracts.deque.ArrayDeque.{the_row}
+use Rattle.std.specs.{Prelude.{ℕ, List, ◌++◌, slice_set, Option}, Borrow.{Fml, GName, RattleType, MutBor, Array, Lends, LendsIf, LendsBoth, fsep, follows, follows_both}}
+use Rattle.arraydeque_ring.specs.{Loans.{LoanState, as_many}, Steps.more_lends}
+use Rattle.arraydeque.specs.{Deque.DequeState, contracts.deque.ArrayDeque.the_row}
 
 module _ (T CAP B : RattleType) (deque : MutBor (DequeState T.Denot)) (index : ℕ) where
   -- the deque with w at the index, and one lend counted

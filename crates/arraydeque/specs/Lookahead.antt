@@ -1,7 +1,5 @@
 -- What a contract sees of a scanner, what its calls read and hand out, and what it has left.
-use Rattle.std.specs.Prelude.{◌≡◌, ℕ, ◌+◌, ◌<◌, ◌≤◌, max, List, [], ◌∷◌, ◌++◌, length, drop, slice_get, Option, None, IfNone, OnSome, Bool, true, false}
-use Rattle.std.specs.Option.{option_to_list}
-use Rattle.std.specs.Iterator.{Count, IsFinite, UpTo, size, count_map, count_unless, Yields, YieldsThen}
+use Rattle.std.specs.{Prelude.{◌≡◌, ℕ, ◌+◌, ◌<◌, ◌≤◌, max, List, [], ◌∷◌, ◌++◌, length, drop, slice_get, Option, None, IfNone, OnSome, Bool, true, false}, Option.option_to_list, Iterator.{Count, IsFinite, UpTo, size, count_map, count_unless, Yields, YieldsThen}}
 
 -- a scanner: its iterator, the items read ahead, and whether the iterator has given its first None
 pub record ScannerState (S A : Type 0) : Type 0 where

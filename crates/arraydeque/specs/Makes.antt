@@ -1,14 +1,7 @@
 -- What a call makes of a deque: the list, where it starts, and the steps.
 use Rattle.std.specs.Prelude.{◌≡◌, ℕ, ◌+◌, ◌-◌, List, length, take, Option, Some, None, ◌==◌, nat_le, if◌then◌else◌}
-use Rattle.arraydeque_ring.specs.Changed.{InsertMovesFewest, RemoveMovesFewest, DrainMovesFewest}
-use Rattle.arraydeque_ring.specs.Ring.{place_of}
-use Rattle.arraydeque_ring.specs.Sides.{moves_to_insert, moves_to_remove, moves_to_drain, start_opened, start_closed}
-use Rattle.arraydeque_ring.specs.Steps.{Steps, more_puts, more_takes, more_moves, more_exchanges, more_lends, Rearranges}
-use Rattle.arraydeque.specs.Deque.{DequeState, with_back, with_front, wrapped_back, wrapped_front}
-use Rattle.arraydeque.specs.Machine.{Answer, Answers, done, item, displaced, drained, split}
-use Rattle.arraydeque.specs.Policy.{Policy, saturating, wrapping}
-use Rattle.arraydeque.specs.declared.run.Call.{Call}
-use Rattle.arraydeque.specs.declared.run.Call.TheVariants.{PushFront, PushBack, PopFront, PopBack, Insert, Remove, SwapRemoveBack, SwapRemoveFront, Swap, Replace, Clear, Linearize, ExtendBack, ExtendFront, Extend, Drain, SplitOff}
+use Rattle.arraydeque_ring.specs.{Changed.{InsertMovesFewest, RemoveMovesFewest, DrainMovesFewest}, Ring.place_of, Sides.{moves_to_insert, moves_to_remove, moves_to_drain, start_opened, start_closed}, Steps.{Steps, more_puts, more_takes, more_moves, more_exchanges, more_lends, Rearranges}}
+use Rattle.arraydeque.specs.{Deque.{DequeState, with_back, with_front, wrapped_back, wrapped_front}, Machine.{Answer, Answers, done, item, displaced, drained, split}, Policy.{Policy, saturating, wrapping}, declared.run.Call.{Call, TheVariants.{PushFront, PushBack, PopFront, PopBack, Insert, Remove, SwapRemoveBack, SwapRemoveFront, Swap, Replace, Clear, Linearize, ExtendBack, ExtendFront, Extend, Drain, SplitOff}}}
 
 module _ {X : Type 0} where
   -- the deque of capacity n after xs were pushed behind its last item, one by one: saturating stops

@@ -1,11 +1,6 @@
 -- A run over a list of calls: one reply a call, in order.
 use Rattle.std.specs.Prelude.{◌≡◌, ℕ, List, [], ◌∷◌}
-use Rattle.arraydeque.specs.Deque.{DequeState}
-use Rattle.arraydeque.specs.Machine.{Answers, answer_of}
-use Rattle.arraydeque.specs.Makes.{Makes}
-use Rattle.arraydeque.specs.Policy.{Policy}
-use Rattle.arraydeque.specs.declared.run.Call.{Call}
-use Rattle.arraydeque.specs.declared.run.Reply.{Reply}
+use Rattle.arraydeque.specs.{Deque.DequeState, Machine.{Answers, answer_of}, Makes.Makes, Policy.Policy, declared.run.{Call.Call, Reply.Reply}}
 
 module _ {X B : Type 0} {n : ℕ} (p : Policy) where
   -- the calls, made one after another from the list l, are answered by the replies and leave the

@@ -1,6 +1,5 @@
 -- What a source of items gives, once it is turned into an iterator.
-use Rattle.std.specs.Prelude.{◌≡◌, ℕ, ◌<◌, ◌≤◌, List, Option, true}
-use Rattle.std.specs.Iterator.Runs.{Run}
+use Rattle.std.specs.{Prelude.{◌≡◌, ℕ, ◌<◌, ◌≤◌, List, Option, true}, Iterator.Runs.Run}
 
 -- whatever iterator the source becomes may be called
 abbrev pub IsIterable : {Source S : Type 0} → (Source → S → Type 0) → (S → Type 0) → Source → Type 0

@@ -1,7 +1,5 @@
 -- Clones of the items of a list, and of its second part.
-use Rattle.std.proofs.Common.{◌+◌, List, ◌++◌, length, Any, ◌∙◌, arith}
-use Rattle.std.proofs.lemmas.List.{length-append, get_or-append-add}
-use Rattle.std.specs.List.{Contains}
+use Rattle.std.{proofs.{Common.{◌+◌, List, ◌++◌, length, Any, ◌∙◌, arith}, lemmas.List.{length-append, get_or-append-add}}, specs.List.Contains}
 use Rattle.arraydeque_ring.specs.Cloned.{ClonesAreSame}
 
 module _ {X : Type 0} (xs ys : List X) where

@@ -1,11 +1,6 @@
 -- A list and its last item.
-use Rattle.std.proofs.Common.{◌≡◌, ◌-◌, ◌+◌, List, [], ◌∷◌, ◌++◌, length, take, slice_get, option_to_list, Option, Some, None, ap, ◌∙◌, refl, arith, sym}
-use Rattle.std.proofs.lemmas.List.{append-nil, take_more, take_all}
-use Rattle.std.proofs.lemmas.Option.{slice_get_within, slice_get-get_or, get_or_from_slice_get}
-use Rattle.std.specs.Option.{OnSome, IfNone}
-use Rattle.std.specs.Iterator.{YieldsLast}
-use Rattle.arraydeque_ring.specs.Ring.{RingState}
-use Rattle.arraydeque_ring.specs.Steps.{Steps}
+use Rattle.std.{proofs.{Common.{◌≡◌, ◌-◌, ◌+◌, List, [], ◌∷◌, ◌++◌, length, take, slice_get, option_to_list, Option, Some, None, ap, ◌∙◌, refl, arith, sym}, lemmas.{List.{append-nil, take_more, take_all}, Option.{slice_get_within, slice_get-get_or, get_or_from_slice_get}}}, specs.{Option.{OnSome, IfNone}, Iterator.YieldsLast}}
+use Rattle.arraydeque_ring.specs.{Ring.RingState, Steps.Steps}
 
 module _ {X : Type 0} where
   -- only an empty list has no last item

@@ -1,8 +1,6 @@
 -- How many items move, and how many would have to, in small lists.
-use Rattle.std.proofs.Common.{◌≡◌, [], ◌∷◌, map, refl}
-use Rattle.std.specs.List.{range_with_len}
-use Rattle.arraydeque_ring.specs.Sides.{moves_to_insert, moves_to_remove, moves_to_drain}
-use Rattle.arraydeque_ring.specs.Changed.{changed_insert, changed_remove, changed_drain}
+use Rattle.std.{proofs.Common.{◌≡◌, [], ◌∷◌, map, refl}, specs.List.range_with_len}
+use Rattle.arraydeque_ring.specs.{Sides.{moves_to_insert, moves_to_remove, moves_to_drain}, Changed.{changed_insert, changed_remove, changed_drain}}
 
 -- one comes in at each index of six items
 inserts_into_six : map (λ i. moves_to_insert i 6) (range_with_len 0 7) ≡ 0 ∷ 1 ∷ 2 ∷ 3 ∷ 2 ∷ 1 ∷ 0 ∷ []

@@ -4,6 +4,7 @@ mod Examples
 pub mod fills
 pub mod gaps
 pub mod linearize
+pub mod Masks
 pub mod loans
 pub mod memory
 pub mod moved

@@ -1,6 +1,5 @@
 -- What clones of items are.
-use Rattle.std.specs.Prelude.{◌≡◌, List}
-use Rattle.std.specs.List.{Contains}
+use Rattle.std.specs.{Prelude.{◌≡◌, List}, List.Contains}
 
 -- each clone that may be made of an item of the list is that item once more
 abbrev pub ClonesAreSame : {X : Type 0} → (X → X → Type 0) → List X → Type 0

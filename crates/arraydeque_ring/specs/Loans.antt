@@ -1,7 +1,5 @@
 -- Values that are lent for writing, in one slice or in two, and what writing leaves.
-use Rattle.std.specs.Prelude.{ℕ, ◌+◌, ◌<◌, ◌≤◌, List, [], ◌∷◌, ◌++◌, length, map, take, drop, Option, Some, None}
-use Rattle.std.specs.Borrow.{GName, MutBor}
-use Rattle.std.specs.List.{refill}
+use Rattle.std.specs.{Prelude.{ℕ, ◌+◌, ◌<◌, ◌≤◌, List, [], ◌∷◌, ◌++◌, length, map, take, drop, Option, Some, None}, Borrow.{GName, MutBor}, List.refill}
 
 -- a loan: its two slices as they are now, and the name that the lender follows
 pub record LoanState (X : Type 0) : Type 0 where

@@ -1,11 +1,6 @@
 -- What a ring keeps of its items by the answers of a closure, and what it costs.
-use Rattle.std.specs.Prelude.{◌≡◌, ℕ, List, [], ◌∷◌, length, slice_get, Some, not, Bool, true, false, count_by}
-use Rattle.std.specs.Borrow.{Bor}
-use Rattle.std.specs.Fn.{CalledAt, Mut}
-use Rattle.std.specs.List.{items_where_true}
-use Rattle.std.specs.List.Retain.{ReturnsInTurn}
-use Rattle.arraydeque_ring.specs.Ring.{RingState}
-use Rattle.arraydeque_ring.specs.Steps.{more_takes, more_moves}
+use Rattle.std.specs.{Prelude.{◌≡◌, ℕ, List, [], ◌∷◌, length, slice_get, Some, not, Bool, true, false, count_by}, Borrow.Bor, Fn.{CalledAt, Mut}, List.{items_where_true, Retain.ReturnsInTurn}}
+use Rattle.arraydeque_ring.specs.{Ring.RingState, Steps.{more_takes, more_moves}}
 
 -- of how many items the index changes: those answered true, past the first answered false
 abbrev pub count_moved : List Bool → ℕ

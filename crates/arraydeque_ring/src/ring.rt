@@ -22,7 +22,7 @@ mod retain;
 mod swaps;
 
 use crate::slots::Slots;
-use crate::wrap::wrap_add;
+use crate::wrap::{wrap_add, wrap_add_branchless};
 use std::alloc::{AllocError, Global};
 use std::marker::Model;
 use std::mem::replace;
@@ -103,7 +103,7 @@ impl<T> Ring<T> {
           steps = more_puts 1 self.old.steps;
         } }
     {
-        let behind = self.place(self.len);
+        let behind = wrap_add(self.start, self.len, self.slots.capacity());
         self.slots.put(behind, element);
         self.len += 1;
     }
@@ -118,7 +118,8 @@ impl<T> Ring<T> {
           steps = more_puts 1 self.old.steps;
         } }
     {
-        let before = self.place(self.slots.capacity() - 1);
+        let capacity = self.slots.capacity();
+        let before = wrap_add(self.start, capacity - 1, capacity);
         self.slots.put(before, element);
         self.start = before;
         self.len += 1;
@@ -140,7 +141,7 @@ impl<T> Ring<T> {
             return None;
         }
         let first = self.start;
-        self.start = self.place(1);
+        self.start = wrap_add(first, 1, self.slots.capacity());
         self.len -= 1;
         Some(self.slots.take(first))
     }
@@ -189,7 +190,7 @@ impl<T> Ring<T> {
         if self.len == 0 {
             return None;
         }
-        let last = self.place(self.len - 1);
+        let last = wrap_add(self.start, self.len - 1, self.slots.capacity());
         self.len -= 1;
         Some(self.slots.take(last))
     }
@@ -202,7 +203,8 @@ impl<T> Ring<T> {
         if index >= self.len {
             return None;
         }
-        Some(self.slots.get(self.place(index)))
+        let place = wrap_add_branchless(self.start, index, self.slots.capacity());
+        Some(self.slots.get(place))
     }
 
     /// The item at an index for writing, if there is one. What is written through it changes that
@@ -215,7 +217,7 @@ impl<T> Ring<T> {
         if index >= self.len {
             return None;
         }
-        let place = self.place(index);
+        let place = wrap_add_branchless(self.start, index, self.slots.capacity());
         let slots = &mut self.slots;
         Some(slots.get_mut(place))
     }
@@ -270,17 +272,6 @@ impl<T> Ring<T> {
             len: _,
             alloc: _,
         } = self;
-    }
-
-    /// The place `index` places after the start, round the region's end.
-    #[inline(always)]
-    fn place(&self, index: usize) -> usize
-        requires some { 0 < self.now.capacity }
-        requires in_reach { index ≤ self.now.capacity }
-        ensures place { result ≡ place_of self.now.start index self.now.capacity }
-        ensures fits { self.now.capacity < 2 ^ 64 }
-    {
-        wrap_add(self.start, index, self.slots.capacity())
     }
 }
 

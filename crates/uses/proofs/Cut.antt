@@ -1,14 +1,7 @@
 -- Where a token ends, and that no two tokens side by side could be one.
-use Rattle.std.proofs.Common.{◌≡◌, ℕ, ◌+◌, ◌-◌, ◌<◌, List, [], ◌∷◌, ◌++◌, length, get_or, slice_get, All, Option, IfNone, true, inl, inr, refl, sym, ◌∙◌, subst, arith}
-use Rattle.std.specs.List.{AllAdjacentBelow}
-use Rattle.std.proofs.Math.Seq.{get_or-append_seam}
-use Rattle.std.proofs.lemmas.Bool.{cases_lt}
-use Rattle.std.proofs.lemmas.List.{get_or_append_left, length-append}
+use Rattle.std.{proofs.{Common.{◌≡◌, ℕ, ◌+◌, ◌-◌, ◌<◌, List, [], ◌∷◌, ◌++◌, length, get_or, slice_get, All, Option, IfNone, true, inl, inr, refl, sym, ◌∙◌, subst, arith}, Math.Seq.{get_or-append_seam}, lemmas.{Bool.cases_lt, List.{get_or_append_left, length-append}}}, specs.List.AllAdjacentBelow}
 use Rattle.arraydeque.specs.Lookahead.{ScannerState, Reads, HasRest}
-use Rattle.uses.specs.Tokens.{kind_of, joined, IsOfOneKind, IsOver, AreLongest}
-use Rattle.uses.specs.declared.tokens.Kind.{Kind}
-use Rattle.uses.specs.declared.tokens.Kind.TheVariants.{Sign}
-use Rattle.uses.specs.declared.tokens.Token.{Token}
+use Rattle.uses.specs.{Tokens.{kind_of, joined, IsOfOneKind, IsOver, AreLongest}, declared.tokens.{Kind.{Kind, TheVariants.Sign}, Token.Token}}
 
 over_behind : (kind : Kind) (buffer xs rest : List ℕ) → IsOver kind buffer → (buffer ≡ [] → xs ≡ []) → rest ≡ buffer ++ xs → IsOver kind rest
 over_behind kind [] xs rest over none same = rw (same, none refl) tt

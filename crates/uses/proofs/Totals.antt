@@ -1,7 +1,5 @@
 -- The sum of the samples, as one comes and another leaves.
-use Rattle.std.proofs.Common.{◌≡◌, ℕ, ◌+◌, ◌-◌, ◌*◌, ◌≤◌, ◌<◌, ◌^◌, List, [], ◌∷◌, ◌++◌, All, length, sum, get_or, Option, Some, None, option_to_list, unwrap_or, zero-add, subst, refl, sym, ap, ◌∙◌, arith}
-use Rattle.std.proofs.lemmas.List.{length-append, get_or-append-add}
-use Rattle.std.proofs.lemmas.List.Sums.{sum_by-append, sum_by_push, sum_by-le}
+use Rattle.std.proofs.{Common.{◌≡◌, ℕ, ◌+◌, ◌-◌, ◌*◌, ◌≤◌, ◌<◌, ◌^◌, List, [], ◌∷◌, ◌++◌, All, length, sum, get_or, Option, Some, None, option_to_list, unwrap_or, zero-add, subst, refl, sym, ap, ◌∙◌, arith}, lemmas.List.{length-append, get_or-append-add, Sums.{sum_by-append, sum_by_push, sum_by-le}}}
 
 -- what is true of each that was there is true of each that is kept
 pub All-kept : {X : Type 0} (P : X → Type 0) (out kept all : List X) → out ++ kept ≡ all → All P all → All P kept

@@ -1,10 +1,6 @@
 -- What the tokens of an input are.
-use Rattle.std.specs.Prelude.{◌≡◌, ◌<◌, ℕ, List, length, slice_get, All, IfSome, if◌then◌else◌}
-use Rattle.std.specs.List.{flat_map, AllAdjacentBelow}
-use Rattle.std.specs.Char.{is_ascii_alphabetic, is_ascii_digit}
-use Rattle.uses.specs.declared.tokens.Kind.{Kind}
-use Rattle.uses.specs.declared.tokens.Kind.TheVariants.{Letters, Digits, Sign}
-use Rattle.uses.specs.declared.tokens.Token.{Token}
+use Rattle.std.specs.{Prelude.{◌≡◌, ◌<◌, ℕ, List, length, slice_get, All, IfSome, if◌then◌else◌}, List.{flat_map, AllAdjacentBelow}, Char.{is_ascii_alphabetic, is_ascii_digit}}
+use Rattle.uses.specs.declared.tokens.{Kind.{Kind, TheVariants.{Letters, Digits, Sign}}, Token.Token}
 
 -- what kind of token a byte stands in
 abbrev pub kind_of : ℕ → Kind

@@ -1,11 +1,6 @@
 -- Items that come one by one into a full ring, each in the place of another.
-use Rattle.std.proofs.Common.{◌≡◌, ◌<◌, ℕ, zero, suc, ◌+◌, ◌-◌, List, [], ◌∷◌, ◌++◌, length, take, drop, reverse, if◌then◌else◌, refl, sym, ap, ◌∙◌, arith}
-use Rattle.std.proofs.lemmas.Bool.{lt-ltb}
-use Rattle.std.proofs.lemmas.List.{append_assoc, append-nil, length-append, drop-drop, drop-append-le, take-take, take_all}
-use Rattle.arraydeque_ring.specs.Ring.{RingState, place_of, up_by, down_by}
-use Rattle.arraydeque_ring.specs.Steps.{Steps, more_puts, more_takes}
-use Rattle.arraydeque_ring.proofs.moved.Sources.{place_of-sum}
-use Rattle.arraydeque_ring.proofs.fills.InRows.{down_by-push, one_before}
+use Rattle.std.proofs.{Common.{◌≡◌, ◌<◌, ℕ, zero, suc, ◌+◌, ◌-◌, List, [], ◌∷◌, ◌++◌, length, take, drop, reverse, if◌then◌else◌, refl, sym, ap, ◌∙◌, arith}, lemmas.{Bool.{lt-ltb}, List.{append_assoc, append-nil, length-append, drop-drop, drop-append-le, take-take, take_all}}}
+use Rattle.arraydeque_ring.{specs.{Ring.{RingState, place_of, up_by, down_by}, Steps.{Steps, more_puts, more_takes}}, proofs.{moved.Sources.{place_of-sum}, fills.InRows.{down_by-push, one_before}}}
 
 -- nothing more was put and taken
 none : (s : Steps) → s ≡ more_puts 0 (more_takes 0 s)

@@ -1,9 +1,5 @@
 -- Loops that take items from an iterator, while there is room.
-use Rattle.std.proofs.Common.{◌≡◌, ℕ, ◌+◌, ◌≤◌, List, [], ◌∷◌, ◌++◌, Option, Some, None, Bool, true, false, refl, sym, subst, arith, true≢false}
-use Rattle.std.proofs.iter.Next.{Yields-more}
-use Rattle.std.proofs.iter.runs.Lists.{Yields-both}
-use Rattle.std.proofs.lemmas.List.{length-append}
-use Rattle.std.specs.Iterator.{Yields}
+use Rattle.std.{proofs.{Common.{◌≡◌, ℕ, ◌+◌, ◌≤◌, List, [], ◌∷◌, ◌++◌, Option, Some, None, Bool, true, false, refl, sym, subst, arith, true≢false}, iter.{Next.{Yields-more}, runs.Lists.{Yields-both}}, lemmas.List.{length-append}}, specs.Iterator.Yields}
 use Rattle.arraydeque_ring.specs.Fills.{Fills}
 
 module _ {S A : Type 0} (gives : S → Option A → S → Type 0) where

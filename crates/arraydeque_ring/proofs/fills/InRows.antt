@@ -1,16 +1,7 @@
 -- Items that come one by one behind the last item or before the first, into places in a row.
-use Rattle.std.proofs.Common.{◌≡◌, ℕ, zero, suc, ◌+◌, ◌-◌, ◌*◌, ◌<◌, ◌≤◌, ◌⊎◌, inl, inr, List, [], ◌∷◌, ◌++◌, length, reverse, set, Option, Some, if◌then◌else◌, sym, ap, ◌∙◌, subst, arith}
+use Rattle.std.proofs.{Common.{◌≡◌, ℕ, zero, suc, ◌+◌, ◌-◌, ◌*◌, ◌<◌, ◌≤◌, ◌⊎◌, inl, inr, List, [], ◌∷◌, ◌++◌, length, reverse, set, Option, Some, if◌then◌else◌, sym, ap, ◌∙◌, subst, arith}, lemmas.{Bool.{lt-ltb}, List.{append_assoc, append-nil, length-append, length-reverse, reverse-append}}}
 use native.Mathlib.Nat.{suc-mul}
-use Rattle.std.proofs.lemmas.Bool.{lt-ltb}
-use Rattle.std.proofs.lemmas.List.{append_assoc, append-nil, length-append, length-reverse, reverse-append}
-use Rattle.arraydeque_ring.specs.declared.ring.Ring.TheInside.{Inside}
-use Rattle.arraydeque_ring.specs.Places.{Region, IsEmpty}
-use Rattle.arraydeque_ring.specs.Ring.{RingState, place_of, down_by}
-use Rattle.arraydeque_ring.specs.Steps.{Steps, more_puts}
-use Rattle.arraydeque_ring.proofs.moved.Sources.{place_of-sum}
-use Rattle.arraydeque_ring.proofs.places.LaidOut.{LaidOut, IsEmpty-place_of, LaidOut-put_back}
-use Rattle.arraydeque_ring.proofs.places.Opened.{Opened, placed, with_len, put_front}
-use Rattle.arraydeque_ring.proofs.places.Rotated.{MayStartAt, place_of_cases, place_of-run}
+use Rattle.arraydeque_ring.{specs.{declared.ring.Ring.TheInside.Inside, Places.{Region, IsEmpty}, Ring.{RingState, place_of, down_by}, Steps.{Steps, more_puts}}, proofs.{moved.Sources.{place_of-sum}, places.{LaidOut.{LaidOut, IsEmpty-place_of, LaidOut-put_back}, Opened.{Opened, placed, with_len, put_front}, Rotated.{MayStartAt, place_of_cases, place_of-run}}}}
 
 -- to go down by k places and then by one is to go down by one more
 down_by-one : (k s n : ℕ) → place_of (down_by k s n) (n - 1) n ≡ down_by (suc k) s n

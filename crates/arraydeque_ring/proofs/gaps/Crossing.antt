@@ -1,13 +1,6 @@
 -- A run of values that moves across a run of empty places, round the region's end.
-use Rattle.std.proofs.Common.{◌≡◌, ◌≢◌, ◌==◌, ℕ, zero, suc, ◌+◌, ◌-◌, ◌<◌, ◌≤◌, ◌⊎◌, inl, inr, List, length, if◌then◌else◌, Option, ap, ◌∙◌, subst, arith}
-use Rattle.std.proofs.lemmas.Bool.{cases_lt}
-use Rattle.std.proofs.lemmas.Bool.Decides.{nat_tests}
-use Rattle.arraydeque_ring.specs.Moved.{MeetAtOneEndAtMost, IsEmptyRound, IsFreeRound}
-use Rattle.arraydeque_ring.specs.Places.{IsEmpty}
-use Rattle.arraydeque_ring.specs.Ring.{place_of}
-use Rattle.arraydeque_ring.proofs.moved.Flat.{distance_is}
-use Rattle.arraydeque_ring.proofs.moved.Round.{distance-rotated}
-use Rattle.arraydeque_ring.proofs.places.Rotated.{place_of-sum, one_place}
+use Rattle.std.proofs.{Common.{◌≡◌, ◌≢◌, ◌==◌, ℕ, zero, suc, ◌+◌, ◌-◌, ◌<◌, ◌≤◌, ◌⊎◌, inl, inr, List, length, if◌then◌else◌, Option, ap, ◌∙◌, subst, arith}, lemmas.Bool.{cases_lt, Decides.nat_tests}}
+use Rattle.arraydeque_ring.{specs.{Moved.{MeetAtOneEndAtMost, IsEmptyRound, IsFreeRound}, Places.IsEmpty, Ring.place_of}, proofs.{moved.{Flat.distance_is, Round.{distance-rotated}}, places.Rotated.{place_of-sum, one_place}}}
 
 -- what `wrap_move` asks of such a move besides its values, and how many it moves
 pub record Moves {X : Type 0} (t i j len n : ℕ) (ps : List (Option X)) : Type 0 where

@@ -1,12 +1,6 @@
 -- No placement of a list after an edit gives fewer items another place than the lesser side has, and the one that the ring leaves just so many.
-use Rattle.std.proofs.Common.{◌≡◌, ℕ, zero, suc, ◌+◌, ◌-◌, ◌%◌, ◌<◌, ◌≤◌, inl, inr, min, Bool, false, not, nat_lt, ◌==◌, if◌then◌else◌, ap, ap₂, ◌∙◌, arith}
-use Rattle.std.proofs.lemmas.Bool.{cases_lt}
-use Rattle.std.proofs.lemmas.Bool.Decides.{nat_tests}
-use Rattle.arraydeque_ring.specs.Changed.{count_below, changed_insert, changed_remove, changed_drain, IsFewest}
-use Rattle.arraydeque_ring.specs.Ring.{place_of}
-use Rattle.arraydeque_ring.specs.Sides.{moves_to_insert, moves_to_remove, moves_to_drain, start_opened, start_closed}
-use Rattle.arraydeque_ring.proofs.moved.Sources.{place_of-sum}
-use Rattle.arraydeque_ring.proofs.places.Rotated.{one_place, place_of_cases, place_of-lt}
+use Rattle.std.proofs.{Common.{◌≡◌, ℕ, zero, suc, ◌+◌, ◌-◌, ◌%◌, ◌<◌, ◌≤◌, inl, inr, min, Bool, false, not, nat_lt, ◌==◌, if◌then◌else◌, ap, ap₂, ◌∙◌, arith}, lemmas.Bool.{cases_lt, Decides.nat_tests}}
+use Rattle.arraydeque_ring.{specs.{Changed.{count_below, changed_insert, changed_remove, changed_drain, IsFewest}, Ring.place_of, Sides.{moves_to_insert, moves_to_remove, moves_to_drain, start_opened, start_closed}}, proofs.{moved.Sources.{place_of-sum}, places.Rotated.{one_place, place_of_cases, place_of-lt}}}
 
 -- a test that is one below s, another from e on, and fails between them
 count_sides : (p : ℕ → Bool) (f b : Bool) (s e n : ℕ) → s ≤ e → ((k : ℕ) → k < n → p k ≡ (if nat_lt k s then f else (if nat_lt k e then false else b)))

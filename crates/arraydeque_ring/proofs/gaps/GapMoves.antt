@@ -1,16 +1,6 @@
 -- A gap among the items of a ring is moved across a run of them, and so it is closed.
-use Rattle.std.proofs.Common.{◌≡◌, ℕ, ◌+◌, ◌<◌, ◌≤◌, inl, inr, List, ◌++◌, length, take, drop, nat_lt, if◌then◌else◌, Option, arith}
-use Rattle.std.proofs.lemmas.Bool.{cases_lt, lt-ltb, le-ltb}
-use Rattle.std.proofs.lemmas.Bool.Decides.{nat_tests}
-use Rattle.std.proofs.lemmas.List.{length-append, length-take-le, length-drop, take_all, drop_all}
-use Rattle.arraydeque_ring.specs.Moved.{IsFilledRound, IsEmptyRound, run_moved}
-use Rattle.arraydeque_ring.specs.Ring.{place_of}
-use Rattle.arraydeque_ring.proofs.moved.Round.{Holds-moved}
-use Rattle.arraydeque_ring.proofs.gaps.Gapped.{Gapped, LaidOut-gap_first, LaidOut-gap_last}
-use Rattle.arraydeque_ring.proofs.places.Holds.{Holds-same, Holds-filled, Holds-empty}
-use Rattle.arraydeque_ring.proofs.places.Items.{items, slice_get_some}
-use Rattle.arraydeque_ring.proofs.places.LaidOut.{LaidOut}
-use Rattle.arraydeque_ring.proofs.places.Rotated.{place_of-zero}
+use Rattle.std.proofs.{Common.{◌≡◌, ℕ, ◌+◌, ◌<◌, ◌≤◌, inl, inr, List, ◌++◌, length, take, drop, nat_lt, if◌then◌else◌, Option, arith}, lemmas.{Bool.{cases_lt, lt-ltb, le-ltb, Decides.nat_tests}, List.{length-append, length-take-le, length-drop, take_all, drop_all}}}
+use Rattle.arraydeque_ring.{specs.{Moved.{IsFilledRound, IsEmptyRound, run_moved}, Ring.place_of}, proofs.{moved.Round.{Holds-moved}, gaps.Gapped.{Gapped, LaidOut-gap_first, LaidOut-gap_last}, places.{Holds.{Holds-same, Holds-filled, Holds-empty}, Items.{items, slice_get_some}, LaidOut.LaidOut, Rotated.{place_of-zero}}}}
 
 module _ {X : Type 0} {n t : ℕ} {xs : List X} {gap : ℕ} {ys : List X} {ps : List (Option X)} (p : Gapped n t xs gap ys ps) where
   pub gap_empty : (i : ℕ) → length xs ≡ i → IsEmptyRound (place_of t i (length ps)) gap ps

@@ -1,15 +1,6 @@
 -- Items in two parts, with a gap of empty places between them: how it comes about, is filled and ends.
-use Rattle.std.proofs.Common.{◌≡◌, ℕ, zero, suc, ◌+◌, ◌-◌, ◌<◌, ◌≤◌, List, [], ◌∷◌, ◌++◌, length, take, drop, set, slice_get, nat_lt, if◌then◌else◌, Option, Some, None, sym, ap, ◌∙◌, subst, arith}
-use Rattle.std.proofs.lemmas.Bool.Decides.{nat_tests}
-use Rattle.std.proofs.lemmas.List.{length-append, length-take-le, length-drop, append_assoc}
-use Rattle.arraydeque_ring.specs.Places.{held_at, IsEmpty}
-use Rattle.arraydeque_ring.specs.Ring.{place_of, rotated}
-use Rattle.arraydeque_ring.specs.Gaps.{run_emptied}
-use Rattle.arraydeque_ring.proofs.places.Emptied.{length-run_emptied, get_or-run_emptied}
-use Rattle.arraydeque_ring.proofs.places.Holds.{Holds, Holds-of_rotated, Holds-rotated, Holds-same, Holds-from, Holds-set}
-use Rattle.arraydeque_ring.proofs.places.Items.{items, slice_get-cons}
-use Rattle.arraydeque_ring.proofs.places.LaidOut.{LaidOut, LaidOut-by, holds}
-use Rattle.arraydeque_ring.proofs.places.Rotated.{place_of_cases, place_of-lt, place_of-zero, length-rotated}
+use Rattle.std.proofs.{Common.{◌≡◌, ℕ, zero, suc, ◌+◌, ◌-◌, ◌<◌, ◌≤◌, List, [], ◌∷◌, ◌++◌, length, take, drop, set, slice_get, nat_lt, if◌then◌else◌, Option, Some, None, sym, ap, ◌∙◌, subst, arith}, lemmas.{Bool.Decides.nat_tests, List.{length-append, length-take-le, length-drop, append_assoc}}}
+use Rattle.arraydeque_ring.{specs.{Places.{held_at, IsEmpty}, Ring.{place_of, rotated}, Gaps.run_emptied}, proofs.places.{Emptied.{length-run_emptied, get_or-run_emptied}, Holds.{Holds, Holds-of_rotated, Holds-rotated, Holds-same, Holds-from, Holds-set}, Items.{items, slice_get-cons}, LaidOut.{LaidOut, LaidOut-by, holds}, Rotated.{place_of_cases, place_of-lt, place_of-zero, length-rotated}}}
 
 -- what is read at an index: one of the items xs, nothing in the gap, and one of the items ys behind it
 abbrev pub gapped : {X : Type 0} → List X → ℕ → List X → ℕ → Option X

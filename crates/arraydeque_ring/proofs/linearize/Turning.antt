@@ -1,15 +1,6 @@
 -- A region while it is rotated: pass after pass, values come to their places.
-use Rattle.std.proofs.Common.{◌≡◌, ℕ, ◌+◌, ◌-◌, ◌<◌, ◌≤◌, ◌⊎◌, inl, inr, List, ◌++◌, length, min, replicate, Option, true, false, is_some, sym, ap, ◌∙◌, subst, arith}
-use Rattle.std.proofs.lemmas.Bool.Decides.{nat_tests}
-use Rattle.std.proofs.lemmas.List.{append-nil}
-use Rattle.arraydeque_ring.specs.Gaps.{IsEmptyRun, run_rotated}
-use Rattle.arraydeque_ring.specs.Places.{held_at, IsFilledRun}
-use Rattle.arraydeque_ring.specs.Ring.{rotated, filled, FilledFrom}
-use Rattle.arraydeque_ring.specs.Swapped.{runs_swapped}
-use Rattle.arraydeque_ring.proofs.places.Reads.{rotated_from, length-run_rotated, get_or-run_rotated, swapped_from, length-runs_swapped, get_or-runs_swapped, runs_swapped_both}
-use Rattle.arraydeque_ring.proofs.places.Rotated.{length-rotated, rotated-map}
-use Rattle.arraydeque_ring.proofs.linearize.Underway.{Underway, underway, reads}
-use Rattle.arraydeque_ring.proofs.places.Held.{filled_run_of, empty_run_of}
+use Rattle.std.proofs.{Common.{◌≡◌, ℕ, ◌+◌, ◌-◌, ◌<◌, ◌≤◌, ◌⊎◌, inl, inr, List, ◌++◌, length, min, replicate, Option, true, false, is_some, sym, ap, ◌∙◌, subst, arith}, lemmas.{Bool.Decides.nat_tests, List.{append-nil}}}
+use Rattle.arraydeque_ring.{specs.{Gaps.{IsEmptyRun, run_rotated}, Places.{held_at, IsFilledRun}, Ring.{rotated, filled, FilledFrom}, Swapped.runs_swapped}, proofs.{places.{Reads.{rotated_from, length-run_rotated, get_or-run_rotated, swapped_from, length-runs_swapped, get_or-runs_swapped, runs_swapped_both}, Rotated.{length-rotated, rotated-map}, Held.{filled_run_of, empty_run_of}}, linearize.Underway.{Underway, underway, reads}}}
 
 module _ {X : Type 0} {dst gap behind len : ℕ} {ps : List (Option X)} (next : ℕ) (u : Underway dst gap behind len ps) (here : dst + gap ≡ next) where
   -- after a pass of `run` values to their places, two runs have still to change places

@@ -1,22 +1,7 @@
 -- A region while its list is laid in one piece: the first values are in their places, and two runs behind them have
 -- still to change places.
-use Rattle.std.proofs.Common.{◌≡◌, ℕ, ◌+◌, ◌-◌, ◌<◌, ◌≤◌, inl, inr, List, length, Option, None, refl, sym, ap, ◌∙◌, arith}
-use Rattle.std.proofs.lemmas.Bool.{cases_lt}
-use Rattle.std.proofs.lemmas.Bool.Decides.{nat_tests}
-use Rattle.std.proofs.lemmas.List.{get_or_past}
-use Rattle.std.proofs.lemmas.Option.{slice_get_past}
-use Rattle.arraydeque_ring.specs.Gaps.{IsEmptyRun, run_rotated}
-use Rattle.arraydeque_ring.specs.Moved.{IsFilledRound, IsEmptyRound, run_moved}
-use Rattle.arraydeque_ring.specs.Places.{held_at, IsFilled, IsFilledRun}
-use Rattle.arraydeque_ring.specs.Ring.{place_of, rotated, values, filled, FilledFrom}
-use Rattle.arraydeque_ring.specs.Swapped.{runs_swapped}
-use Rattle.arraydeque_ring.proofs.moved.Round.{Holds-moved}
-use Rattle.arraydeque_ring.proofs.moved.Flat.{look, length-moved, same_places}
-use Rattle.arraydeque_ring.proofs.places.Held.{filled_run_of, empty_run_of}
-use Rattle.arraydeque_ring.proofs.places.Holds.{Holds-plain, Holds-first, Holds-filled, Holds-empty}
-use Rattle.arraydeque_ring.proofs.places.Items.{slice_get_some}
-use Rattle.arraydeque_ring.proofs.places.LaidOut.{holds, LaidOut-values}
-use Rattle.arraydeque_ring.proofs.places.Reads.{rotated_from, length-run_rotated, get_or-run_rotated, swapped_from, length-runs_swapped, get_or-runs_swapped}
+use Rattle.std.proofs.{Common.{◌≡◌, ℕ, ◌+◌, ◌-◌, ◌<◌, ◌≤◌, inl, inr, List, length, Option, None, refl, sym, ap, ◌∙◌, arith}, lemmas.{Bool.{cases_lt, Decides.nat_tests}, List.get_or_past, Option.slice_get_past}}
+use Rattle.arraydeque_ring.{specs.{Gaps.{IsEmptyRun, run_rotated}, Moved.{IsFilledRound, IsEmptyRound, run_moved}, Places.{held_at, IsFilled, IsFilledRun}, Ring.{place_of, rotated, values, filled, FilledFrom}, Swapped.runs_swapped}, proofs.{moved.{Round.{Holds-moved}, Flat.{look, length-moved, same_places}}, places.{Held.{filled_run_of, empty_run_of}, Holds.{Holds-plain, Holds-first, Holds-filled, Holds-empty}, Items.slice_get_some, LaidOut.{holds, LaidOut-values}, Reads.{rotated_from, length-run_rotated, get_or-run_rotated, swapped_from, length-runs_swapped, get_or-runs_swapped}}}}
 
 -- once the run of `gap` from the index dst on and the run of `behind` that follows it to the end change places, the
 -- first len places are filled, and no others

@@ -1,17 +1,6 @@
 -- All items of a ring are lent in two runs of its places: what the runs hold, and what the ring is after any writing.
-use Rattle.std.proofs.Common.{◌≡◌, ℕ, ◌+◌, ◌-◌, ◌≤◌, ◌⊎◌, inl, inr, List, [], ◌++◌, map, length, take, drop, Option, Some, refl, sym, ap, ap₂, ◌∙◌, subst, arith}
-use Rattle.std.specs.Prelude.{min}
-use Rattle.std.proofs.lemmas.Bool.{cases_lt}
-use Rattle.std.proofs.lemmas.List.{nil_from_length, length-drop, length-take, length-map, take_all, take_at, drop_at, take-append-drop, drop-drop}
-use Rattle.arraydeque_ring.specs.Loans.{as_many, with_run, written_over, AreApart}
-use Rattle.arraydeque_ring.specs.Places.{HoldsRun, IsFilledRun, Region}
-use Rattle.arraydeque_ring.specs.Ring.{RingState, FilledFrom}
-use Rattle.arraydeque_ring.specs.RingLends.{rewritten}
-use Rattle.arraydeque_ring.specs.Steps.{more_lends}
-use Rattle.arraydeque_ring.specs.declared.ring.Ring.TheInside.{Inside}
-use Rattle.arraydeque_ring.proofs.loans.Placed.{as_many-same, length-as_many, filled-written_over, length-written_over, length-with_run, two_alike, run_length}
-use Rattle.arraydeque_ring.proofs.places.LaidOut.{length_within, IsFilledRun-LaidOut, same_run}
-use Rattle.arraydeque_ring.proofs.places.Opened.{Opened, opened, view, Kept}
+use Rattle.std.{proofs.{Common.{◌≡◌, ℕ, ◌+◌, ◌-◌, ◌≤◌, ◌⊎◌, inl, inr, List, [], ◌++◌, map, length, take, drop, Option, Some, refl, sym, ap, ap₂, ◌∙◌, subst, arith}, lemmas.{Bool.cases_lt, List.{nil_from_length, length-drop, length-take, length-map, take_all, take_at, drop_at, take-append-drop, drop-drop}}}, specs.Prelude.min}
+use Rattle.arraydeque_ring.{specs.{Loans.{as_many, with_run, written_over, AreApart}, Places.{HoldsRun, IsFilledRun, Region}, Ring.{RingState, FilledFrom}, RingLends.rewritten, Steps.more_lends, declared.ring.Ring.TheInside.Inside}, proofs.{loans.Placed.{as_many-same, length-as_many, filled-written_over, length-written_over, length-with_run, two_alike, run_length}, places.{LaidOut.{length_within, IsFilledRun-LaidOut, same_run}, Opened.{Opened, opened, view, Kept}}}}
 
 module _ {X : Type 0} where
   -- the items up to the region's end, and the others from the first place on

@@ -1,13 +1,9 @@
 -- A `Loan` is made of its two slices, under any name. Assumes `Logic`.
-use Rattle.arraydeque_ring.proofs.memory.Kit.{◌≡◌, refl, ap, List, [], ◌∷◌, ◌+◌, ◌<◌, ◌^◌, length, Ura, ent, sep, emp, GName, Fml, fsep, ftrue, Val, vstruct, vcons, vnil, Logic, sem, ‵, ◌$◌, ◌∵◌, !, qed, move, use0, fjoin, fpick, fpack, feq_i, done, RattleType, Valss, nothing, NamedLft, MutSlice, makes_shadow, Struct}
-use denote.Struct.Declared.{shape}
-use denote.Struct.Owning.{shape as owned_shape}
-use denote.Struct.Struct.{within}
-use Rattle.arraydeque_ring.specs.Loans.{LoanState}
+use Rattle.arraydeque_ring.{proofs.memory.Kit.{◌≡◌, refl, ap, List, [], ◌∷◌, ◌+◌, ◌<◌, ◌^◌, length, Ura, ent, sep, emp, GName, Fml, fsep, ftrue, Val, vstruct, vcons, vnil, Logic, sem, ‵, ◌$◌, ◌∵◌, !, qed, move, use0, fjoin, fpick, fpack, feq_i, done, RattleType, Valss, nothing, NamedLft, MutSlice, makes_shadow, Struct}, specs.{Loans.LoanState, declared.slots.loan.Loan.TheInside.Inside}}
+use denote.Struct.{Declared.shape, Owning.{shape as owned_shape}, Struct.within}
 use Rattle.arraydeque_ring.specs.contracts.slots.loan.Loan as loan
 use Rattle.arraydeque_ring.specs.contracts.slots.loan.Loan.TheInside as inside
 use Rattle.arraydeque_ring.specs.contracts.slots.loan.LoanName as loan_name
-use Rattle.arraydeque_ring.specs.declared.slots.loan.Loan.TheInside.{Inside}
 
 -- the machine value: two slices, and nothing
 abbrev pub mark : Val

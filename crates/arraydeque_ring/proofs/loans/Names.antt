@@ -1,12 +1,8 @@
 -- A loan under a name of its lender's own type: how it is made, and handed on by what holds the lender. For any types in memory. Assumes `Logic`.
 use Rattle.arraydeque_ring.proofs.memory.Kit.{◌≡◌, refl, SProp, ent, sep, wand, ex, id⊢, emp, guard, snd∗, flft, Lft, GName, Share, Fml, ftrue, fsep, fobs, fauth, fobor, fbor, ‵, raw, ◌⊛◌, later, ◌$◌, ◌∵◌, !, qed, by, move, keep, use0, use1, use2, drop, split, join, fsplit, fsplit3, fjoin, fjoin3, fpick, fpack, feq_l, rewrite, suffices, updating, await, show, done, ap₂, wand_i, all, apply∗, all_e, upd_i, fex, fres, fwand, fupd, fdead, flent, fseps, each, split3, assume, group, ℕ, List, [], ◌∷◌, Ura, Gv, Logic, sem, name_new, SemTy, after₂}
-use types.Kit.{now}
+use types.{Kit.now, Late.{deep, close_deep}, Tokens.obor_alter, SemTy.Body, Follow.{after, follows_anew, came, Came, followed}}
 use seplogic.Bi.Basic.{and}
 use ghost.Rules.{aged}
-use types.Late.{deep, close_deep}
-use types.Tokens.{obor_alter}
-use types.SemTy.{Body}
-use types.Follow.{after, follows_anew, came, Came, followed}
 
 -- what follows a value that follows two follows the two
 module _ {M : Type 1} {𝓤 : Ura M} (𝓛 : Logic 𝓤) (R S T U : SemTy) (F : S.rep → R.rep) (P : T.rep → U.rep → S.rep) (γ ν γ₁ γ₂ : GName) where

@@ -1,23 +1,12 @@
 -- A `Ring` in memory is taken apart into its slots and its other fields, and made of them again. Assumes `Logic`.
-use Rattle.arraydeque_ring.proofs.memory.Kit.{◌≡◌, List, [], ◌∷◌, ℕ, ◌+◌, Ura, full_share, SProp, ent, sep, ex, w64, Logic, sem, ‵, raw, ◌⊛◌, ◌$◌, ◌∵◌, !, qed, by, use2, RattleType, part_at, usize, param_laws, Fml, El, R, el_x, part_of, lone}
-use denote.Laws.{Lawfuls}
-use denote.Model.Fields.{plain_out, Plain-in, view_made}
-use denote.Plain.{uint_Lawful}
-use denote.Struct.Members.{Member, rows_of}
-use denote.Struct.Parts.{PartsBack}
-use denote.Struct.Pick.{rest_at, field_out, field_back}
+use Rattle.arraydeque_ring.{proofs.{memory.{Kit.{◌≡◌, List, [], ◌∷◌, ℕ, ◌+◌, Ura, full_share, SProp, ent, sep, ex, w64, Logic, sem, ‵, raw, ◌⊛◌, ◌$◌, ◌∵◌, !, qed, by, use2, RattleType, part_at, usize, param_laws, Fml, El, R, el_x, part_of, lone}, Regions.Sr}, loans.Lending.with_slots, places.Opened.{view, Kept}}, specs.{Places.Region, Ring.RingState, declared.ring.Ring.TheInside.Inside}}
+use denote.{Laws.Lawfuls, Model.Fields.{plain_out, Plain-in, view_made}, Plain.uint_Lawful, Struct.{Members.{Member, rows_of}, Parts.PartsBack, Pick.{rest_at, field_out, field_back}}}
 use Rattle.std.specs.contracts.alloc.Global as heap
 use Rattle.std.proofs.alloc.Global.TheLaws as heap_laws
-use Rattle.arraydeque_ring.specs.Places.{Region}
-use Rattle.arraydeque_ring.specs.Ring.{RingState}
 use Rattle.arraydeque_ring.specs.contracts.ring.Ring as ring
 use Rattle.arraydeque_ring.specs.contracts.ring.Ring.TheInside as inside
-use Rattle.arraydeque_ring.specs.declared.ring.Ring.TheInside.{Inside}
 use Rattle.arraydeque_ring.proofs.ring.Ring.TheLaws as ring_laws
 use Rattle.arraydeque_ring.proofs.slots.Slots.TheLaws as slots_laws
-use Rattle.arraydeque_ring.proofs.loans.Lending.{with_slots}
-use Rattle.arraydeque_ring.proofs.memory.Regions.{Sr}
-use Rattle.arraydeque_ring.proofs.places.Opened.{view, Kept}
 
 module _ (E : El) where
   abbrev pub Rr : RattleType

@@ -1,10 +1,5 @@
 -- Runs of the places of a block, taken out and put back. Assumes `Logic`.
-use Rattle.arraydeque_ring.proofs.memory.Kit.{◌≡◌, refl, sym, ap, subst, ◌∙◌, via, List, [], ◌∷◌, ◌++◌, map, ℕ, ◌+◌, ◌*◌, ◌≤◌, arith, length, take, drop_list, length-take, Some, Ura, full_share, SProp, ent, sep, wand, Fml, part_at, mem, Logic, sem, ‵, raw, ◌⊛◌, ◌$◌, ◌∵◌, !, qed, by, move, keep, use1, use2, split, join, fsplit, rewrite, done, nothing, El, R, el_x, inl, inr, all, all_e, apply∗, each, assume, group, cells, fsep}
-use Rattle.arraydeque_ring.specs.Loans.{AreApart}
-use Rattle.arraydeque_ring.specs.Ownership.{places_owned}
-use Rattle.arraydeque_ring.proofs.loans.Placed.{placed, placed_nothing, placed_behind, placed-append, length-placed, run_before, apart_cases}
-use Rattle.arraydeque_ring.proofs.memory.Owned.{item_size, Place, glue}
-use Rattle.arraydeque_ring.proofs.memory.Rows.{Around, run_out, run_in}
+use Rattle.arraydeque_ring.{proofs.{memory.{Kit.{◌≡◌, refl, sym, ap, subst, ◌∙◌, via, List, [], ◌∷◌, ◌++◌, map, ℕ, ◌+◌, ◌*◌, ◌≤◌, arith, length, take, drop_list, length-take, Some, Ura, full_share, SProp, ent, sep, wand, Fml, part_at, mem, Logic, sem, ‵, raw, ◌⊛◌, ◌$◌, ◌∵◌, !, qed, by, move, keep, use1, use2, split, join, fsplit, rewrite, done, nothing, El, R, el_x, inl, inr, all, all_e, apply∗, each, assume, group, cells, fsep}, Owned.{item_size, Place, glue}, Rows.{Around, run_out, run_in}}, loans.Placed.{placed, placed_nothing, placed_behind, placed-append, length-placed, run_before, apart_cases}}, specs.{Loans.AreApart, Ownership.places_owned}}
 
 module _ (E : El) {M : Type 1} {𝓤 : Ura M} (𝓛 : Logic 𝓤) (b : ℕ) where
   abbrev s : ℕ

@@ -1,14 +1,10 @@
 -- The size of a region's block, and the right to free it. Assumes `Logic`.
-use Rattle.arraydeque_ring.proofs.memory.Kit.{◌≡◌, sym, ap, subst, ◌∙◌, ℕ, zero, suc, ◌*◌, ◌<◌, ◌^◌, arith, zero-mul, suc-mul, Ura, ent, emp, guard, guard_i, id⊢, fact_use, Logic, sem, Ty, ty_array, size, align, capped, capped_is, Ptr, block_ptr, El, R, elτ, Global, List, Item, Env, w64, vint, size_word, bin, is}
-use mir.Raw.{raw as bare}
-use mir.Syntax.{Opd as Operand, op2, mul, unsigned, size_of}
+use Rattle.arraydeque_ring.{proofs.memory.{Kit.{◌≡◌, sym, ap, subst, ◌∙◌, ℕ, zero, suc, ◌*◌, ◌<◌, ◌^◌, arith, zero-mul, suc-mul, Ura, ent, emp, guard, guard_i, id⊢, fact_use, Logic, sem, Ty, ty_array, size, align, capped, capped_is, Ptr, block_ptr, El, R, elτ, Global, List, Item, Env, w64, vint, size_word, bin, is}, Owned.item_size}, specs.Ownership.{owned_if, right_to_free}}
+use mir.{Raw.{raw as bare}, Syntax.{Opd as Operand, op2, mul, unsigned, size_of}}
 use types.Run.{Opd, Rv}
 use prog.RawLaws.{size-raw, align-raw}
-use Rattle.std.proofs.lemmas.Bool.{lt-ltb, le-ltb}
-use Rattle.std.proofs.GlobalToken.{dealloc_token_start}
+use Rattle.std.proofs.{lemmas.Bool.{lt-ltb, le-ltb}, GlobalToken.dealloc_token_start}
 use Rattle.std.specs.contracts.impls.GlobalAllocator.TheImpl as heap
-use Rattle.arraydeque_ring.specs.Ownership.{owned_if, right_to_free}
-use Rattle.arraydeque_ring.proofs.memory.Owned.{item_size}
 
 -- a product that fits a word is not changed by a cap on one factor
 uncapped : (n k : ℕ) → n * k < 2 ^ 64 → n * capped k ≡ n * k

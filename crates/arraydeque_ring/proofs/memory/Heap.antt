@@ -2,8 +2,7 @@
 use Rattle.arraydeque_ring.proofs.memory.Kit.{◌≡◌, refl, ap, ◌∙◌, Bool, true, false, List, [], ◌∷◌, ◌++◌, ℕ, ◌<◌, ◌^◌, Ok, Err, Ura, SProp, ent, sep, ex, guard, emp, id⊢, never, Lft, Share, Fml, ftrue, fsep, froom, flft, Ty, w64, Val, vunit, vint, vptr, of_list, Memory, size, align, capped, Routine, Logic, sem, live, Goal, Seq, Item, ‵, raw, ◌⊛◌, some, later, given, ◌$◌, ◌∵◌, !, qed, move, keep, use0, use1, use2, drop, split, join, pick, learn, fsplit, fjoin, fpick, feq_l, feq_i, check, show, await, updating, at_once, done, Fun, fact, fact_i, hidden_shr, Ptr, block_ptr, null_ptr, ptr_val, in_a_block, unit, only, nothing, Contract, triple_of, Global, pure_i, owns, usize, RawPtr}
 use base.Logic.{fst∗}
 use denote.RawPtr.{room_for}
-use Rattle.std.specs.Allocator.{block_if_ok}
-use Rattle.std.proofs.alloc.Calls.{Answer, answer_val, got}
+use Rattle.std.{specs.Allocator.block_if_ok, proofs.alloc.Calls.{Answer, answer_val, got}}
 use Rattle.std.specs.contracts.alloc.Global as heap
 use Rattle.std.specs.contracts.impls.GlobalAllocator.TheImpl as impl_heap
 use Rattle.std.specs.contracts.impls.GlobalAllocator.allocate as asks

@@ -1,14 +1,8 @@
 -- What a `&` to a `Slots` shows: its pointer, and a `&` to each value in its places. Assumes `Logic`.
-use Rattle.arraydeque_ring.proofs.memory.Kit.{◌≡◌, refl, ap, List, [], ◌∷◌, ℕ, ◌+◌, ◌*◌, ◌<◌, ◌^◌, length, Option, Ura, ent, sep, never, id⊢, Lft, fhide, Logic, sem, Goal, Seq, Item, ‵, ◌⊛◌, ◌$◌, ◌∵◌, !, qed, keep, done, move, drop, use1, split, rewrite, fsplit, fpick, flt_l, hidden_shr, Ptr, RawPtr, block_ptr, in_a_block, El, R, el_x, Struct}
-use denote.Struct.Lending.{lent_out}
-use denote.Struct.Owning.{to, shape}
-use denote.Opens.{unhide}
+use Rattle.arraydeque_ring.{proofs.memory.{Kit.{◌≡◌, refl, ap, List, [], ◌∷◌, ℕ, ◌+◌, ◌*◌, ◌<◌, ◌^◌, length, Option, Ura, ent, sep, never, id⊢, Lft, fhide, Logic, sem, Goal, Seq, Item, ‵, ◌⊛◌, ◌$◌, ◌∵◌, !, qed, keep, done, move, drop, use1, split, rewrite, fsplit, fpick, flt_l, hidden_shr, Ptr, RawPtr, block_ptr, in_a_block, El, R, el_x, Struct}, Owned.item_size, Regions.{Sr, Seen, owning}}, specs.{Ownership.{places_lent, slots_lent}, declared.slots.Slots.TheInside.Inside}}
+use denote.{Struct.{Lending.lent_out, Owning.{to, shape}}, Opens.unhide}
 use Rattle.std.specs.contracts.alloc.Global as heap
-use Rattle.arraydeque_ring.specs.Ownership.{places_lent, slots_lent}
 use Rattle.arraydeque_ring.specs.contracts.slots.Slots.TheInside as inside
-use Rattle.arraydeque_ring.specs.declared.slots.Slots.TheInside.{Inside}
-use Rattle.arraydeque_ring.proofs.memory.Owned.{item_size}
-use Rattle.arraydeque_ring.proofs.memory.Regions.{Sr, Seen, owning}
 
 module _ (E : El) {M : Type 1} {𝓤 : Ura M} (𝓛 : Logic 𝓤) (κ : Lft) where
   fields_seen : (a : Inside (el_x E)) (b o : ℕ) → ent 𝓤 (sem 𝓛 (hidden_shr (inside.the_row (R E)) κ a b o)) (sep 𝓤 (sem 𝓛 (slots_lent (R E) a.ptr a.places κ)) (sem 𝓛 (hidden_shr RawPtr κ a.ptr b (o + 0))))

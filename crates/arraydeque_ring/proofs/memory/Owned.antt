@@ -1,8 +1,6 @@
 -- The places of a block, taken apart and put together again. Assumes `Logic`.
-use Rattle.arraydeque_ring.proofs.memory.Kit.{◌≡◌, refl, sym, ap, subst, ◌∙◌, List, [], ◌∷◌, ◌++◌, map, ℕ, zero, suc, ◌+◌, ◌*◌, ◌≤◌, arith, zero-mul, suc-mul, length, drop_list, replicate, take-append-drop, Option, Some, None, type_size, Ura, full_share, SProp, ent, sep, emp, ex, guard, wand, via, id⊢, snd∗, mono_r, Lft, Fml, fat, froom, ty_array, Val, align, Logic, sem, ‵, raw, ◌⊛◌, some, ◌$◌, ◌∵◌, !, qed, by, move, keep, drop, use0, use1, use2, pick, split, check, show, frame, fsplit, fjoin, rewrite, done, RattleType, Is, shows, param, layout, Laws, param_laws, part_at, nothing, peeks, Good, El, R, el_x, elτ, part_in, part_out, elements_shared}
+use Rattle.arraydeque_ring.{proofs.memory.Kit.{◌≡◌, refl, sym, ap, subst, ◌∙◌, List, [], ◌∷◌, ◌++◌, map, ℕ, zero, suc, ◌+◌, ◌*◌, ◌≤◌, arith, zero-mul, suc-mul, length, drop_list, replicate, take-append-drop, Option, Some, None, type_size, Ura, full_share, SProp, ent, sep, emp, ex, guard, wand, via, id⊢, snd∗, mono_r, Lft, Fml, fat, froom, ty_array, Val, align, Logic, sem, ‵, raw, ◌⊛◌, some, ◌$◌, ◌∵◌, !, qed, by, move, keep, drop, use0, use1, use2, pick, split, check, show, frame, fsplit, fjoin, rewrite, done, RattleType, Is, shows, param, layout, Laws, param_laws, part_at, nothing, peeks, Good, El, R, el_x, elτ, part_in, part_out, elements_shared}, specs.{Ownership.{place_owned, places_owned, place_lent, places_lent}, Places.HoldsRun}}
 use prog.Align.{dv_self}
-use Rattle.arraydeque_ring.specs.Ownership.{place_owned, places_owned, place_lent, places_lent}
-use Rattle.arraydeque_ring.specs.Places.{HoldsRun}
 
 module _ (E : El) where
   -- the bytes of an item

@@ -1,15 +1,11 @@
 -- A `Slots` is taken apart into its words, its places and its right to free, and made of them; a `&mut` to one is opened and closed. Assumes `Logic`.
-use Rattle.arraydeque_ring.proofs.memory.Kit.{◌≡◌, refl, ap, subst, ◌∙◌, List, [], ◌∷◌, ◌++◌, ℕ, ◌+◌, ◌*◌, ◌<◌, ◌≤◌, ◌^◌, arith, length, Option, Ura, full_share, Gv, ent, sep, emp, id⊢, never, Lft, Share, GName, Fml, fsep, flft, fobs, fauth, fbor, fobor, ftrue, w64, Val, vunit, vint, vptr, vstruct, vcons, vnil, of_list, Logic, sem, Borrowed, Goal, Soaks, Step, step, Seq, Item, ‵, ◌$◌, ◌∵◌, !, qed, move, drop, rewrite, use0, fsplit, fjoin, fpick, fpack, feq_l, feq_i, flt_l, flt_i, RattleType, Valss, Is, shows, layout, cell_at, mem, Ptr, block_ptr, ptr_val, in_a_block, nothing, opens, closes, peeks, Good, heap_val, heap_Tells, times_below, done, El, R, el_x, part_of, makes_shadow, Global}
-use denote.Struct.Struct.{within}
-use denote.Struct.Owning.{Owning, shape}
+use Rattle.arraydeque_ring.{proofs.memory.Kit.{◌≡◌, refl, ap, subst, ◌∙◌, List, [], ◌∷◌, ◌++◌, ℕ, ◌+◌, ◌*◌, ◌<◌, ◌≤◌, ◌^◌, arith, length, Option, Ura, full_share, Gv, ent, sep, emp, id⊢, never, Lft, Share, GName, Fml, fsep, flft, fobs, fauth, fbor, fobor, ftrue, w64, Val, vunit, vint, vptr, vstruct, vcons, vnil, of_list, Logic, sem, Borrowed, Goal, Soaks, Step, step, Seq, Item, ‵, ◌$◌, ◌∵◌, !, qed, move, drop, rewrite, use0, fsplit, fjoin, fpick, fpack, feq_l, feq_i, flt_l, flt_i, RattleType, Valss, Is, shows, layout, cell_at, mem, Ptr, block_ptr, ptr_val, in_a_block, nothing, opens, closes, peeks, Good, heap_val, heap_Tells, times_below, done, El, R, el_x, part_of, makes_shadow, Global}, specs.{Places.Region, Ownership.slots_owned, declared.slots.Slots.TheInside.Inside}}
+use denote.Struct.{Struct.within, Owning.{Owning, shape}}
 use Rattle.std.specs.contracts.alloc.Global as heap
 pub use Rattle.arraydeque_ring.specs.Places.{AreAllEmpty, HoldsRun, IsEmpty, IsFilled, IsFilledRun, empty_region}
-use Rattle.arraydeque_ring.specs.Places.{Region}
 pub use Rattle.arraydeque_ring.specs.Ownership.{owned_if, place_owned, places_owned, right_to_free}
-use Rattle.arraydeque_ring.specs.Ownership.{slots_owned}
 use Rattle.arraydeque_ring.specs.contracts.slots.Slots as slots
 use Rattle.arraydeque_ring.specs.contracts.slots.Slots.TheInside as inside
-use Rattle.arraydeque_ring.specs.declared.slots.Slots.TheInside.{Inside}
 pub use Rattle.arraydeque_ring.proofs.memory.Blocks.{scaled}
 pub use Rattle.arraydeque_ring.proofs.memory.Owned.{Place, Row, item_size, of_nothing, of_room, run_seen, to_room, value_in, value_out}
 pub use Rattle.arraydeque_ring.proofs.memory.Rows.{Around, run_out, run_in, place_out, place_in, row_room, to_array, of_array}

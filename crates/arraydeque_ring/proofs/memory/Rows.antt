@@ -1,10 +1,8 @@
 -- A run of places is taken out of a block as an array of values, or as room for one, and put back. Assumes `Logic`.
-use Rattle.arraydeque_ring.proofs.memory.Kit.{◌≡◌, refl, sym, ap, ◌∙◌, List, [], ◌∷◌, ◌++◌, map, ℕ, ◌+◌, ◌*◌, ◌≤◌, arith, length, take, drop_list, take-append-drop, length-take, length-drop, Some, None, Ura, full_share, ent, sep, Fml, fsep, fat, froom, ty_array, Val, Logic, sem, ‵, ◌⊛◌, some, given, ◌$◌, ◌∵◌, !, qed, by, move, keep, use1, use2, pick, learn, split, fsplit, fjoin, rewrite, done, part_at, Good, El, R, el_x, elτ, Array, ◌<◌, get_or, set, drop-cons, set_split, nothing, suc}
+use Rattle.arraydeque_ring.{proofs.memory.{Kit.{◌≡◌, refl, sym, ap, ◌∙◌, List, [], ◌∷◌, ◌++◌, map, ℕ, ◌+◌, ◌*◌, ◌≤◌, arith, length, take, drop_list, take-append-drop, length-take, length-drop, Some, None, Ura, full_share, ent, sep, Fml, fsep, fat, froom, ty_array, Val, Logic, sem, ‵, ◌⊛◌, some, given, ◌$◌, ◌∵◌, !, qed, by, move, keep, use1, use2, pick, learn, split, fsplit, fjoin, rewrite, done, part_at, Good, El, R, el_x, elτ, Array, ◌<◌, get_or, set, drop-cons, set_split, nothing, suc}, Owned.{item_size, Place, Row, cut, glue, value_out}}, specs.Ownership.place_owned}
 use lib.Seq.{drop-drop}
 use denote.Index.{row}
 use Rattle.std.proofs.ptr.Rows as arrays
-use Rattle.arraydeque_ring.specs.Ownership.{place_owned}
-use Rattle.arraydeque_ring.proofs.memory.Owned.{item_size, Place, Row, cut, glue, value_out}
 
 module _ (E : El) {M : Type 1} {𝓤 : Ura M} (𝓛 : Logic 𝓤) (b : ℕ) where
   open 𝓛 use {H}

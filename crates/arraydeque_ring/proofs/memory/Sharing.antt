@@ -1,18 +1,10 @@
 -- A `&` to a region can be made, copied and shortened where a `&` to an item can. Assumes `Logic`.
 use Prim.Native.Nat.{ℕ, ◌+◌}
-use Rattle.std.specs.Prelude.{List, [], ◌∷◌, length, Option, Some, None}
-use Rattle.std.specs.Mem.{type_size}
-use Rattle.std.specs.declared.alloc.Global.{Global}
+use Rattle.std.specs.{Prelude.{List, [], ◌∷◌, length, Option, Some, None}, Mem.type_size, declared.alloc.Global.Global}
 use seplogic.Ra.Ura.{Ura}
 use base.Fml.{Lft, Incl, ftrue, ffalse, fsep}
 use types.Logic.{Logic}
-use denote.RattleType.{RattleType, RowLaws}
-use denote.Param.Laws.{Laws}
-use denote.RawPtr.{Ptr, block_ptr, null_ptr}
-use denote.Sharing.{ShrLaws, said}
-use denote.SharingLaws.{beside_shr_laws, nothing_shr_laws, said_shr_laws}
-use denote.Shares.{Shares-less}
-use denote.Struct.Lending.{Lends, Lends-both, Lends-first, Lends-nothing, Lends-said, Lends-false}
+use denote.{RattleType.{RattleType, RowLaws}, Param.Laws.Laws, RawPtr.{Ptr, block_ptr, null_ptr}, Sharing.{ShrLaws, said}, SharingLaws.{beside_shr_laws, nothing_shr_laws, said_shr_laws}, Shares.{Shares-less}, Struct.Lending.{Lends, Lends-both, Lends-first, Lends-nothing, Lends-said, Lends-false}}
 use Rattle.arraydeque_ring.specs.Ownership.{place_owned, places_owned, place_lent, places_lent, within_reach, right_to_free, slots_owned, slots_lent}
 
 module _ (R : RattleType) (L : RowLaws R) where

@@ -1,18 +1,7 @@
 -- A region may cross threads as its items may. Assumes nothing.
-use Rattle.std.specs.Prelude.{ℕ, ◌+◌, ◌*◌, List, [], ◌∷◌, length, Option, Some, None, Bool, true, false, nat_lt}
-use Rattle.std.specs.Mem.{type_size}
-use Rattle.std.specs.declared.alloc.Global.{Global}
-use Rattle.std.proofs.Crossing.{frees}
-use base.Fraction.{full_share}
-use base.Fml.{Fml}
-use base.Shift.{Keyless}
-use denote.Exit.{Exit, unchanged, leaves, hidden, under}
-use denote.RattleType.{RattleType}
-use denote.RawPtr.{Ptr, block_ptr, null_ptr}
-use denote.Ref.{NamedLft}
-use denote.Struct.Struct.{exits_of}
-use denote.Struct.Owning.{shape, fields, to}
-use denote.Param.Send.{IsSend, IsSync, Quiet, Common, AllSend, AllSync, part_keyless, owning_send, struct_send, struct_sync, sendable}
+use Rattle.std.{specs.{Prelude.{ℕ, ◌+◌, ◌*◌, List, [], ◌∷◌, length, Option, Some, None, Bool, true, false, nat_lt}, Mem.type_size, declared.alloc.Global.Global}, proofs.Crossing.frees}
+use base.{Fraction.full_share, Fml.Fml, Shift.Keyless}
+use denote.{Exit.{Exit, unchanged, leaves, hidden, under}, RattleType.RattleType, RawPtr.{Ptr, block_ptr, null_ptr}, Ref.NamedLft, Struct.{Struct.exits_of, Owning.{shape, fields, to}}, Param.Send.{IsSend, IsSync, Quiet, Common, AllSend, AllSync, part_keyless, owning_send, struct_send, struct_sync, sendable}}
 use Rattle.arraydeque_ring.specs.Ownership.{owned_if, places_owned, places_lent, right_to_free, slots_owned, slots_lent}
 use Rattle.arraydeque_ring.specs.contracts.slots.loan.LoanName as loan_name
 use Rattle.arraydeque_ring.specs.contracts.slots.Slots.TheInside as inside

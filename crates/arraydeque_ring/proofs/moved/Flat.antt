@@ -1,15 +1,6 @@
 -- Runs that move where neither side passes the region's end.
-use Rattle.std.proofs.Common.{◌≡◌, ℕ, ◌+◌, ◌-◌, ◌<◌, ◌≤◌, List, ◌++◌, length, take, drop, get_or, nat_lt, if◌then◌else◌, Option, None, refl, sym, ap, ap₂, ◌∙◌, arith}
-use Rattle.std.proofs.Math.Nat.{mod-eq_of_lt}
-use Rattle.std.proofs.lemmas.Bool.Decides.{nat_tests}
-use Rattle.std.proofs.lemmas.List.{places}
-use Rattle.std.proofs.lemmas.List.FromFn.{fill_by_all, length-map-range_with_len, get_or-map-range_with_len}
-use Rattle.arraydeque_ring.specs.Places.{Region}
-use Rattle.arraydeque_ring.specs.Steps.{Steps}
-use Rattle.arraydeque_ring.specs.Gaps.{run_emptied}
-use Rattle.arraydeque_ring.specs.Ring.{place_of}
-use Rattle.arraydeque_ring.specs.Moved.{distance, held_after, run_moved}
-use Rattle.arraydeque_ring.proofs.places.Rotated.{place_of_cases, place_of-lt}
+use Rattle.std.proofs.{Common.{◌≡◌, ℕ, ◌+◌, ◌-◌, ◌<◌, ◌≤◌, List, ◌++◌, length, take, drop, get_or, nat_lt, if◌then◌else◌, Option, None, refl, sym, ap, ap₂, ◌∙◌, arith}, Math.Nat.{mod-eq_of_lt}, lemmas.{Bool.Decides.nat_tests, List.{places, FromFn.{fill_by_all, length-map-range_with_len, get_or-map-range_with_len}}}}
+use Rattle.arraydeque_ring.{specs.{Places.Region, Steps.Steps, Gaps.run_emptied, Ring.place_of, Moved.{distance, held_after, run_moved}}, proofs.places.Rotated.{place_of_cases, place_of-lt}}
 
 -- the distance between two places, of which the first may be the end
 pub distance_is : (from to n : ℕ) → from ≤ n → to < n → distance from to n ≡ (if nat_lt to from then to + n - from else to - from)

@@ -1,13 +1,7 @@
 -- A run that is copied in blocks: the first values first where it moves down, else the last.
-use Rattle.std.proofs.Common.{◌≡◌, ℕ, zero, suc, ◌+◌, ◌-◌, ◌%◌, ◌<◌, ◌≤◌, List, length, Option, refl, sym, ap, ◌∙◌, arith}
+use Rattle.std.proofs.{Common.{◌≡◌, ℕ, zero, suc, ◌+◌, ◌-◌, ◌%◌, ◌<◌, ◌≤◌, List, length, Option, refl, sym, ap, ◌∙◌, arith}, Math.Nat.add_assoc}
 use native.Mathlib.Numerals.{unary_clauses}
-use Rattle.std.proofs.Math.Nat.{add_assoc}
-use Rattle.arraydeque_ring.specs.Ring.{place_of}
-use Rattle.arraydeque_ring.specs.Moved.{CanCopy, run_moved}
-use Rattle.arraydeque_ring.proofs.moved.Flat.{length-moved, moved_none}
-use Rattle.arraydeque_ring.proofs.moved.Round.{first_then_rest, last_then_rest}
-use Rattle.arraydeque_ring.proofs.places.Rotated.{place_of-first}
-use Rattle.arraydeque_ring.proofs.moved.Sources.{rest_filled}
+use Rattle.arraydeque_ring.{specs.{Ring.place_of, Moved.{CanCopy, run_moved}}, proofs.{moved.{Flat.{length-moved, moved_none}, Round.{first_then_rest, last_then_rest}, Sources.rest_filled}, places.Rotated.{place_of-first}}}
 
 -- to go on from i + a is to go on from i by so much more
 further : (i a x n : ℕ) → place_of (i + a) x n ≡ place_of i (a + x) n

@@ -1,12 +1,6 @@
 -- A run that moves round the end in three parts: from its first on where it moves down, else from its last.
-use Rattle.std.proofs.Common.{◌≡◌, ℕ, zero, suc, ◌+◌, ◌-◌, ◌<◌, ◌≤◌, List, length, Option, refl, sym, ap, ◌∙◌, arith}
-use Rattle.std.proofs.lemmas.Bool.Decides.{nat_tests}
-use Rattle.arraydeque_ring.specs.Ring.{place_of}
-use Rattle.arraydeque_ring.specs.Moved.{distance, IsFilledRound, CanCopy, run_moved}
-use Rattle.arraydeque_ring.proofs.moved.Flat.{up_from, length-moved, moved_at, moved_none, same_places}
-use Rattle.arraydeque_ring.proofs.moved.Sources.{place_of-sum, rest_filled}
-use Rattle.arraydeque_ring.proofs.moved.Round.{first_then_rest, last_then_rest}
-use Rattle.arraydeque_ring.proofs.places.Rotated.{place_of_cases, place_of-lt, place_of-zero}
+use Rattle.std.proofs.{Common.{◌≡◌, ℕ, zero, suc, ◌+◌, ◌-◌, ◌<◌, ◌≤◌, List, length, Option, refl, sym, ap, ◌∙◌, arith}, lemmas.Bool.Decides.nat_tests}
+use Rattle.arraydeque_ring.{specs.{Ring.place_of, Moved.{distance, IsFilledRound, CanCopy, run_moved}}, proofs.{moved.{Flat.{up_from, length-moved, moved_at, moved_none, same_places}, Sources.{place_of-sum, rest_filled}, Round.{first_then_rest, last_then_rest}}, places.Rotated.{place_of_cases, place_of-lt, place_of-zero}}}
 
 -- from dst down by the distance to it is src
 down_from : (dst src n : ℕ) → dst < n → src < n → place_of dst (n - distance src dst n) n ≡ src

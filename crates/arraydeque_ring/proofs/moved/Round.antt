@@ -1,13 +1,6 @@
 -- Runs that move round the end: what is read afterwards, from a place from which on neither side passes it.
-use Rattle.std.proofs.Common.{◌≡◌, ℕ, ◌+◌, ◌-◌, ◌<◌, ◌≤◌, inl, inr, List, length, Option, refl, ap, ◌∙◌, arith}
-use Rattle.std.proofs.lemmas.Bool.{cases_lt}
-use Rattle.std.proofs.lemmas.Bool.Decides.{nat_tests}
-use Rattle.arraydeque_ring.specs.Places.{held_at}
-use Rattle.arraydeque_ring.specs.Ring.{place_of}
-use Rattle.arraydeque_ring.specs.Moved.{distance, run_moved}
-use Rattle.arraydeque_ring.proofs.moved.Flat.{distance_is, length-moved, look, moved_at}
-use Rattle.arraydeque_ring.proofs.places.Holds.{Holds, Holds-once, Holds-same}
-use Rattle.arraydeque_ring.proofs.places.Rotated.{place_of_cases, place_of-lt, place_of-sum}
+use Rattle.std.proofs.{Common.{◌≡◌, ℕ, ◌+◌, ◌-◌, ◌<◌, ◌≤◌, inl, inr, List, length, Option, refl, ap, ◌∙◌, arith}, lemmas.Bool.{cases_lt, Decides.nat_tests}}
+use Rattle.arraydeque_ring.{specs.{Places.held_at, Ring.place_of, Moved.{distance, run_moved}}, proofs.{moved.Flat.{distance_is, length-moved, look, moved_at}, places.{Holds.{Holds, Holds-once, Holds-same}, Rotated.{place_of_cases, place_of-lt, place_of-sum}}}}
 
 -- a distance is the same, wherever places are counted from
 pub distance-rotated : (t i x n : ℕ) → t < n → i ≤ n → x < n → distance (place_of t i n) (place_of t x n) n ≡ distance i x n

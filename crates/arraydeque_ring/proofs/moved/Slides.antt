@@ -1,11 +1,6 @@
 -- A run that passes the end moves by one place, up or down, by three plain copies.
-use Rattle.std.proofs.Common.{◌≡◌, ℕ, ◌+◌, ◌-◌, ◌<◌, ◌≤◌, ◌⊎◌, inl, inr, List, length, Option, refl, arith}
-use Rattle.std.proofs.lemmas.Bool.Decides.{nat_tests}
-use Rattle.arraydeque_ring.specs.Ring.{place_of}
-use Rattle.arraydeque_ring.specs.Moved.{IsFilledRound, run_moved}
-use Rattle.arraydeque_ring.proofs.moved.Flat.{distance_is}
-use Rattle.arraydeque_ring.proofs.places.Rotated.{place_of_cases, place_of-lt}
-use Rattle.arraydeque_ring.proofs.moved.Parts.{Three, renamed, three_down, three_up}
+use Rattle.std.proofs.{Common.{◌≡◌, ℕ, ◌+◌, ◌-◌, ◌<◌, ◌≤◌, ◌⊎◌, inl, inr, List, length, Option, refl, arith}, lemmas.Bool.Decides.nat_tests}
+use Rattle.arraydeque_ring.{specs.{Ring.place_of, Moved.{IsFilledRound, run_moved}}, proofs.{moved.{Flat.distance_is, Parts.{Three, renamed, three_down, three_up}}, places.Rotated.{place_of_cases, place_of-lt}}}
 
 -- a run that passes the end and moves by one place: what lies past the end, the value that crosses it, and what lies before
 module _ {X : Type 0} (t len n : ℕ) (ps : List (Option X)) (long : length ps ≡ n) (t_in : t < n) (wraps : n ≤ t + len) (room : len < n) where

@@ -1,13 +1,6 @@
 -- Which places are filled while a run of values moves.
-use Rattle.std.proofs.Common.{◌≡◌, ℕ, ◌+◌, ◌-◌, ◌<◌, ◌≤◌, List, length, Option, sym, ap, ap₂, ◌∙◌, subst, arith}
-use Rattle.std.proofs.Math.Nat.{mod-eq_of_lt}
-use Rattle.std.proofs.lemmas.Bool.Decides.{nat_tests}
-use Rattle.arraydeque_ring.specs.Places.{held_at, IsFilled, IsFilledRun}
-use Rattle.arraydeque_ring.specs.Ring.{place_of}
-use Rattle.arraydeque_ring.specs.Moved.{distance, IsFilledRound, run_moved}
-use Rattle.arraydeque_ring.proofs.moved.Flat.{distance_is, moved_at}
-use Rattle.arraydeque_ring.proofs.places.Held.{filled_run_of}
-use Rattle.arraydeque_ring.proofs.places.Rotated.{place_of_cases, place_of-lt}
+use Rattle.std.proofs.{Common.{◌≡◌, ℕ, ◌+◌, ◌-◌, ◌<◌, ◌≤◌, List, length, Option, sym, ap, ap₂, ◌∙◌, subst, arith}, Math.Nat.{mod-eq_of_lt}, lemmas.Bool.Decides.nat_tests}
+use Rattle.arraydeque_ring.{specs.{Places.{held_at, IsFilled, IsFilledRun}, Ring.place_of, Moved.{distance, IsFilledRound, run_moved}}, proofs.{moved.Flat.{distance_is, moved_at}, places.{Held.filled_run_of, Rotated.{place_of_cases, place_of-lt}}}}
 pub use Rattle.arraydeque_ring.proofs.places.Rotated.{place_of-sum}
 
 -- the place k on is at the distance k

@@ -1,6 +1,5 @@
 -- A list of places that begins with items and goes on with nothing.
-use Rattle.std.proofs.Common.{◌≡◌, ℕ, zero, suc, ◌+◌, List, [], ◌∷◌, ◌++◌, map, length, drop, get_or, replicate, slice_get, Option, Some, None, true, false, refl, sym, ap, ◌∙◌, arith}
-use Rattle.std.proofs.lemmas.List.{length-append, length-map, length-replicate, append-nil, nil_from_length}
+use Rattle.std.proofs.{Common.{◌≡◌, ℕ, zero, suc, ◌+◌, List, [], ◌∷◌, ◌++◌, map, length, drop, get_or, replicate, slice_get, Option, Some, None, true, false, refl, sym, ap, ◌∙◌, arith}, lemmas.List.{length-append, length-map, length-replicate, append-nil, nil_from_length}}
 use Rattle.arraydeque_ring.specs.Ring.{values, filled}
 
 module _ {X : Type 0} where

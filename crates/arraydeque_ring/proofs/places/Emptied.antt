@@ -1,12 +1,6 @@
 -- A run of places that is emptied, one place after another.
-use Rattle.std.proofs.Common.{◌≡◌, ℕ, ◌+◌, ◌<◌, ◌≤◌, ◌==◌, inl, inr, List, [], ◌∷◌, ◌++◌, length, set, get_or, nat_lt, if◌then◌else◌, Option, Some, None, refl, sym, ap, ◌∙◌, arith}
-use Rattle.std.proofs.lemmas.Bool.{cases_eq, eq-eqb, ne_eqb}
-use Rattle.std.proofs.lemmas.Bool.Decides.{nat_tests}
-use Rattle.std.proofs.lemmas.Grind.{common_steps}
-use Rattle.std.proofs.lemmas.List.{length-set, get_or-set_same, get_or-set_other}
-use Rattle.arraydeque_ring.specs.Ring.{values}
-use Rattle.arraydeque_ring.specs.Gaps.{run_emptied}
-use Rattle.arraydeque_ring.proofs.moved.Flat.{same_places}
+use Rattle.std.proofs.{Common.{◌≡◌, ℕ, ◌+◌, ◌<◌, ◌≤◌, ◌==◌, inl, inr, List, [], ◌∷◌, ◌++◌, length, set, get_or, nat_lt, if◌then◌else◌, Option, Some, None, refl, sym, ap, ◌∙◌, arith}, lemmas.{Bool.{cases_eq, eq-eqb, ne_eqb, Decides.nat_tests}, Grind.common_steps, List.{length-set, get_or-set_same, get_or-set_other}}}
+use Rattle.arraydeque_ring.{specs.{Ring.values, Gaps.run_emptied}, proofs.moved.Flat.same_places}
 
 module _ {X : Type 0} where
   pub values-append : (ps qs : List (Option X)) → values (ps ++ qs) ≡ values ps ++ values qs

@@ -1,18 +1,6 @@
 -- A run of values that is handed to another region: behind the items that it has, and out of places that go round the region's end.
-use Rattle.std.proofs.Common.{◌≡◌, ℕ, ◌+◌, ◌-◌, ◌<◌, ◌≤◌, min, List, ◌++◌, map, length, take, drop, Option, Some, sym, ap, ◌∙◌, arith, rules}
-use Rattle.std.proofs.lemmas.Bool.Decides.{nat_tests}
-use Rattle.std.proofs.lemmas.Grind.{common_steps}
-use Rattle.std.proofs.lemmas.List.{places, length-map, length-append, same_lists, take_at, drop_at, drop-map, take-map}
-use Rattle.arraydeque_ring.specs.Gaps.{IsEmptyRun, run_emptied}
-use Rattle.arraydeque_ring.specs.Places.{held_at, IsFilledRun}
-use Rattle.arraydeque_ring.specs.Ring.{rotated, values}
-use Rattle.arraydeque_ring.proofs.places.AndEmpty.{values-map_Some}
-use Rattle.arraydeque_ring.proofs.places.Emptied.{length-run_emptied, values-append}
-use Rattle.arraydeque_ring.proofs.places.Held.{length_filled, empty_run_of}
-use Rattle.arraydeque_ring.proofs.places.Holds.{Holds-first}
-use Rattle.arraydeque_ring.proofs.places.Items.{items, get_or-map_Some}
-use Rattle.arraydeque_ring.proofs.places.LaidOut.{LaidOut, holds}
-use Rattle.arraydeque_ring.proofs.places.Rotated.{place_of-first, MayStartAt, place_of_cases, length-rotated, get_or-rotated}
+use Rattle.std.proofs.{Common.{◌≡◌, ℕ, ◌+◌, ◌-◌, ◌<◌, ◌≤◌, min, List, ◌++◌, map, length, take, drop, Option, Some, sym, ap, ◌∙◌, arith, rules}, lemmas.{Bool.Decides.nat_tests, Grind.common_steps, List.{places, length-map, length-append, same_lists, take_at, drop_at, drop-map, take-map}}}
+use Rattle.arraydeque_ring.{specs.{Gaps.{IsEmptyRun, run_emptied}, Places.{held_at, IsFilledRun}, Ring.{rotated, values}}, proofs.places.{AndEmpty.{values-map_Some}, Emptied.{length-run_emptied, values-append}, Held.{length_filled, empty_run_of}, Holds.{Holds-first}, Items.{items, get_or-map_Some}, LaidOut.{LaidOut, holds}, Rotated.{place_of-first, MayStartAt, place_of_cases, length-rotated, get_or-rotated}}}
 
 module _ {X : Type 0} {n : ℕ} {xs : List X} {ps : List (Option X)} (m k : ℕ) (l : LaidOut n 0 xs ps) (behind : length xs ≡ m) (room : m + k ≤ n) where
   -- items that start at the first place have empty places behind them

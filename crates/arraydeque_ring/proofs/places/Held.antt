@@ -1,12 +1,6 @@
 -- Places and runs of them: what is filled, empty, and exchanged.
-use Rattle.std.proofs.Common.{◌≡◌, ◌≢◌, ℕ, zero, suc, ◌+◌, ◌<◌, ◌≤◌, List, [], ◌∷◌, ◌++◌, length, take, drop, set, get_or, slice_get, swap, Option, Some, None, refl, sym, ap, ap₂, ◌∙◌, subst, add-one, arith}
-use Rattle.std.proofs.lemmas.Grind.{common_steps}
-use Rattle.std.proofs.lemmas.List.{length-map, length-take-le, length-drop, map-append, take_more, get_or-take, get_or-drop, get_or-replicate, get_or-set_other, set-set, set_comm}
-use Rattle.std.proofs.lemmas.List.Edits.{swap_is}
-use Rattle.arraydeque_ring.specs.Places.{held_at, IsFilled, HoldsRun, IsFilledRun}
-use Rattle.arraydeque_ring.specs.Gaps.{IsEmptyRun}
-use Rattle.arraydeque_ring.proofs.moved.Flat.{same_places}
-use Rattle.arraydeque_ring.proofs.places.Items.{get_or-map_Some, slice_get_some}
+use Rattle.std.proofs.{Common.{◌≡◌, ◌≢◌, ℕ, zero, suc, ◌+◌, ◌<◌, ◌≤◌, List, [], ◌∷◌, ◌++◌, length, take, drop, set, get_or, slice_get, swap, Option, Some, None, refl, sym, ap, ap₂, ◌∙◌, subst, add-one, arith}, lemmas.{Grind.common_steps, List.{length-map, length-take-le, length-drop, map-append, take_more, get_or-take, get_or-drop, get_or-replicate, get_or-set_other, set-set, set_comm, Edits.swap_is}}}
+use Rattle.arraydeque_ring.{specs.{Places.{held_at, IsFilled, HoldsRun, IsFilledRun}, Gaps.IsEmptyRun}, proofs.{moved.Flat.same_places, places.Items.{get_or-map_Some, slice_get_some}}}
 
 module _ {X : Type 0} where
   -- a filled place is one of the region's

@@ -1,12 +1,6 @@
 -- What places hold, read one by one from a place on, round the region's end.
-use Rattle.std.proofs.Common.{◌≡◌, ◌≢◌, ℕ, ◌+◌, ◌-◌, ◌<◌, ◌≤◌, inl, inr, List, length, set, get_or, Option, Some, None, refl, sym, ap, ◌∙◌, arith}
-use Rattle.std.proofs.lemmas.Bool.{cases_eq}
-use Rattle.std.proofs.lemmas.List.{length-set, get_or-set_same, get_or-set_other}
-use Rattle.arraydeque_ring.specs.Moved.{distance, IsFilledRound, IsEmptyRound}
-use Rattle.arraydeque_ring.specs.Places.{held_at}
-use Rattle.arraydeque_ring.specs.Ring.{place_of, rotated}
-use Rattle.arraydeque_ring.proofs.moved.Flat.{same_places, up_from}
-use Rattle.arraydeque_ring.proofs.places.Rotated.{place_of-first, place_of-lt, place_of-sum, place_of-place_of, same_index, get_or-rotated}
+use Rattle.std.proofs.{Common.{◌≡◌, ◌≢◌, ℕ, ◌+◌, ◌-◌, ◌<◌, ◌≤◌, inl, inr, List, length, set, get_or, Option, Some, None, refl, sym, ap, ◌∙◌, arith}, lemmas.{Bool.cases_eq, List.{length-set, get_or-set_same, get_or-set_other}}}
+use Rattle.arraydeque_ring.{specs.{Moved.{distance, IsFilledRound, IsEmptyRound}, Places.held_at, Ring.{place_of, rotated}}, proofs.{moved.Flat.{same_places, up_from}, places.Rotated.{place_of-first, place_of-lt, place_of-sum, place_of-place_of, same_index, get_or-rotated}}}
 
 -- the n places hold, from the place t on, what f says of each index
 pub record Holds {X : Type 0} (n t : ℕ) (f : ℕ → Option X) (ps : List (Option X)) : Type 0 where

@@ -1,17 +1,6 @@
 -- What the places of a ring hold, read from its start on: first its items, then nothing.
-use Rattle.std.proofs.Common.{◌≡◌, ◌≢◌, ℕ, ◌+◌, ◌-◌, ◌<◌, ◌≤◌, List, [], ◌∷◌, ◌++◌, length, take, drop, set, get_or, replicate, slice_get, nat_lt, if◌then◌else◌, Option, Some, None, is_some, true, false, refl, sym, ap, ap₂, ◌∙◌, subst, arith}
-use Rattle.std.proofs.lemmas.Bool.Decides.{nat_tests}
-use Rattle.std.proofs.lemmas.Grind.{common_steps}
-use Rattle.std.proofs.lemmas.List.{length-append, length-take, length-drop, length-map, length-replicate, length-set}
-use Rattle.std.proofs.lemmas.Option.{slice_get_past}
-use Rattle.arraydeque_ring.specs.Places.{held_at, IsFilled, IsEmpty, HoldsRun, IsFilledRun, AreAllEmpty}
-use Rattle.arraydeque_ring.specs.Ring.{place_of, rotated, values, filled, FilledFrom}
-use Rattle.arraydeque_ring.proofs.moved.Flat.{same_places}
-use Rattle.arraydeque_ring.proofs.places.AndEmpty.{and_empty, length-and_empty, get_or-and_empty, values-and_empty, values-map_Some, filled-and_empty, and_empty_from}
-use Rattle.arraydeque_ring.proofs.places.Held.{holds_run_of}
-use Rattle.arraydeque_ring.proofs.places.Holds.{Holds, Holds-once, Holds-of_rotated, Holds-rotated, Holds-from, Holds-set}
-use Rattle.arraydeque_ring.proofs.places.Items.{items, slice_get_some, slice_get-cons, slice_get-drop}
-use Rattle.arraydeque_ring.proofs.places.Rotated.{MayStartAt, place_of-lt, place_of-run, place_of-zero, place_of_cases, length-rotated, rotated-map}
+use Rattle.std.proofs.{Common.{◌≡◌, ◌≢◌, ℕ, ◌+◌, ◌-◌, ◌<◌, ◌≤◌, List, [], ◌∷◌, ◌++◌, length, take, drop, set, get_or, replicate, slice_get, nat_lt, if◌then◌else◌, Option, Some, None, is_some, true, false, refl, sym, ap, ap₂, ◌∙◌, subst, arith}, lemmas.{Bool.Decides.nat_tests, Grind.common_steps, List.{length-append, length-take, length-drop, length-map, length-replicate, length-set}, Option.slice_get_past}}
+use Rattle.arraydeque_ring.{specs.{Places.{held_at, IsFilled, IsEmpty, HoldsRun, IsFilledRun, AreAllEmpty}, Ring.{place_of, rotated, values, filled, FilledFrom}}, proofs.{moved.Flat.same_places, places.{AndEmpty.{and_empty, length-and_empty, get_or-and_empty, values-and_empty, values-map_Some, filled-and_empty, and_empty_from}, Held.holds_run_of, Holds.{Holds, Holds-once, Holds-of_rotated, Holds-rotated, Holds-from, Holds-set}, Items.{items, slice_get_some, slice_get-cons, slice_get-drop}, Rotated.{MayStartAt, place_of-lt, place_of-run, place_of-zero, place_of_cases, length-rotated, rotated-map}}}}
 
 -- the n places hold the items from the place t on, round the end, and nothing else
 pub record LaidOut {X : Type 0} (n t : ℕ) (xs : List X) (ps : List (Option X)) : Type 0 where

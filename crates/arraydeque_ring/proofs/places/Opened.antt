@@ -1,13 +1,6 @@
 -- What the fields of an open ring say of the value that its contracts see.
-use Rattle.std.proofs.Common.{◌≡◌, ℕ, suc, ◌+◌, ◌-◌, ◌%◌, ◌<◌, ◌≤◌, [], ◌∷◌, ◌++◌, length, take, drop, set, slice_get, Some, None, refl, subst, sym, ap, ◌∙◌, arith}
-use Rattle.std.proofs.lemmas.List.{length_push, length-take-le, length-drop}
-use Rattle.std.proofs.lemmas.Option.{slice_get_past}
-use Rattle.arraydeque_ring.specs.declared.ring.Ring.TheInside.{Inside}
-use Rattle.arraydeque_ring.specs.Places.{held_at, Region}
-use Rattle.arraydeque_ring.specs.Steps.{more_puts, more_takes}
-use Rattle.arraydeque_ring.specs.Ring.{RingState, place_of, rotated, values, filled, FilledFrom}
-use Rattle.arraydeque_ring.proofs.places.Rotated.{place_of-lt}
-use Rattle.arraydeque_ring.proofs.places.LaidOut.{LaidOut, LaidOut-values, values-LaidOut, FilledFrom-LaidOut, LaidOut-put_back, LaidOut-put_front, LaidOut-take_back, LaidOut-take_front}
+use Rattle.std.proofs.{Common.{◌≡◌, ℕ, suc, ◌+◌, ◌-◌, ◌%◌, ◌<◌, ◌≤◌, [], ◌∷◌, ◌++◌, length, take, drop, set, slice_get, Some, None, refl, subst, sym, ap, ◌∙◌, arith}, lemmas.{List.{length_push, length-take-le, length-drop}, Option.slice_get_past}}
+use Rattle.arraydeque_ring.{specs.{declared.ring.Ring.TheInside.Inside, Places.{held_at, Region}, Steps.{more_puts, more_takes}, Ring.{RingState, place_of, rotated, values, filled, FilledFrom}}, proofs.places.{Rotated.{place_of-lt}, LaidOut.{LaidOut, LaidOut-values, values-LaidOut, FilledFrom-LaidOut, LaidOut-put_back, LaidOut-put_front, LaidOut-take_back, LaidOut-take_front}}}
 
 module _ {X : Type 0} where
   -- the fields r hold the ring v
@@ -46,6 +39,10 @@ module _ {X : Type 0} where
   -- the place that `wrap_add` counts is that of the index
   pub place_at : {r : Inside X} {v : RingState X} {place capacity : ℕ} → Opened r v → (k : ℕ) → capacity ≡ length r.slots.places → place ≡ (r.start + k) % capacity → place ≡ place_of r.start k v.capacity
   place_at {r = r} o k e is = is ∙ ap (place_of r.start k) (e ∙ o.laid.long)
+
+  -- the same, from where the list starts
+  pub from_start : {r : Inside X} {v : RingState X} {place capacity : ℕ} → Opened r v → (k : ℕ) → capacity ≡ length r.slots.places → place ≡ (r.start + k) % capacity → place ≡ place_of v.start k v.capacity
+  from_start {v = v} o k e is = place_at o k e is ∙ ap (λ t. place_of t k v.capacity) o.start
 
   -- and so is that of `Ring::place`
   pub placed : {r : Inside X} {v : RingState X} {place : ℕ} → Opened r v → (k : ℕ) → place ≡ place_of v.start k v.capacity → place ≡ place_of r.start k v.capacity

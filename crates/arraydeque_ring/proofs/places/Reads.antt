@@ -1,15 +1,6 @@
 -- Two runs that change places, read place by place: where what a place holds came from.
-use Rattle.std.proofs.Common.{◌≡◌, ℕ, ◌+◌, ◌-◌, ◌≤◌, List, length, set, get_or, nat_lt, if◌then◌else◌, Option, None, sym, ap, ◌∙◌, arith}
-use Rattle.std.specs.Prelude.{swap}
-use Rattle.std.proofs.lemmas.Bool.Decides.{nat_tests}
-use Rattle.std.proofs.lemmas.Grind.{common_steps}
-use Rattle.std.proofs.lemmas.List.{places, length-set, set_comm}
-use Rattle.std.proofs.lemmas.List.Edits.{swap_is}
-use Rattle.arraydeque_ring.specs.Places.{held_at, IsFilled, IsEmpty}
-use Rattle.arraydeque_ring.specs.Gaps.{run_rotated}
-use Rattle.arraydeque_ring.specs.Swapped.{runs_swapped}
-use Rattle.arraydeque_ring.proofs.moved.Flat.{same_places}
-use Rattle.arraydeque_ring.proofs.places.Emptied.{get_or-written}
+use Rattle.std.{proofs.{Common.{◌≡◌, ℕ, ◌+◌, ◌-◌, ◌≤◌, List, length, set, get_or, nat_lt, if◌then◌else◌, Option, None, sym, ap, ◌∙◌, arith}, lemmas.{Bool.Decides.nat_tests, Grind.common_steps, List.{places, length-set, set_comm, Edits.swap_is}}}, specs.Prelude.swap}
+use Rattle.arraydeque_ring.{specs.{Places.{held_at, IsFilled, IsEmpty}, Gaps.run_rotated, Swapped.runs_swapped}, proofs.{moved.Flat.same_places, places.Emptied.{get_or-written}}}
 
 -- the place whose value the place x has, once m values from `at` on and the k behind them have changed places
 abbrev pub rotated_from : ℕ → ℕ → ℕ → ℕ → ℕ

@@ -1,8 +1,5 @@
 -- A list read from an index on, round its end.
-use Rattle.std.proofs.Common.{◌≡◌, ℕ, zero, suc, ◌+◌, ◌-◌, ◌%◌, ◌<◌, ◌≤◌, ◌⊎◌, ◌==◌, inl, inr, List, ◌++◌, map, length, take, drop, get_or, sym, ap, ap₂, ◌∙◌, arith}
-use Rattle.std.proofs.Math.Nat.{mod-eq_of_lt, mod-eq-sub-mod, add-mod-mod, mod-add-mod, add_assoc}
-use Rattle.std.proofs.lemmas.Bool.{cases_lt, cases_eq, eq-eqb, ne_eqb}
-use Rattle.std.proofs.lemmas.List.{places, length-append, length-take, length-drop, map-append, drop-map, take-map}
+use Rattle.std.proofs.{Common.{◌≡◌, ℕ, zero, suc, ◌+◌, ◌-◌, ◌%◌, ◌<◌, ◌≤◌, ◌⊎◌, ◌==◌, inl, inr, List, ◌++◌, map, length, take, drop, get_or, sym, ap, ap₂, ◌∙◌, arith}, Math.Nat.{mod-eq_of_lt, mod-eq-sub-mod, add-mod-mod, mod-add-mod, add_assoc}, lemmas.{Bool.{cases_lt, cases_eq, eq-eqb, ne_eqb}, List.{places, length-append, length-take, length-drop, map-append, drop-map, take-map}}}
 use Rattle.arraydeque_ring.specs.Ring.{place_of, rotated}
 
 -- a place is the sum itself below the end, and the sum less the capacity past it

@@ -1,8 +1,5 @@
 -- The answers of a closure on the first items of a list: which items stay and go by them, with one answer more.
-use Rattle.std.proofs.Common.{◌≡◌, ℕ, ◌+◌, ◌≤◌, List, [], ◌∷◌, ◌++◌, length, Bool, true, false, cond, not, count_by, ◌==◌, if◌then◌else◌, refl, sym, ap, ◌∙◌, arith}
-use Rattle.std.specs.List.{items_where_true}
-use Rattle.std.proofs.lemmas.Bool.{ne_eqb}
-use Rattle.std.proofs.lemmas.List.Sums.{sum_by-append, sum_by-cons}
+use Rattle.std.{proofs.{Common.{◌≡◌, ℕ, ◌+◌, ◌≤◌, List, [], ◌∷◌, ◌++◌, length, Bool, true, false, cond, not, count_by, ◌==◌, if◌then◌else◌, refl, sym, ap, ◌∙◌, arith}, lemmas.{Bool.ne_eqb, List.Sums.{sum_by-append, sum_by-cons}}}, specs.List.items_where_true}
 use Rattle.arraydeque_ring.specs.Retained.{count_moved}
 
 -- the items that stay and those that go are as many as the answers

@@ -1,21 +1,6 @@
 -- How far a retain has come: the answers so far, what the places hold by them, and what it has cost.
-use Rattle.std.proofs.Common.{◌≡◌, ◌≢◌, ℕ, suc, ◌+◌, ◌<◌, ◌≤◌, inl, inr, List, [], ◌∷◌, ◌++◌, length, drop, set, get_or, slice_get, Option, Some, None, Bool, true, false, not, count_by, ◌==◌, if◌then◌else◌, refl, sym, ap, ap₂, ◌∙◌, subst, arith}
-use Rattle.std.specs.List.{items_where_true}
-use Rattle.std.specs.List.Retain.{ReturnsInTurn}
-use Rattle.std.proofs.Retain.{picked_push_true, picked_push_false, answers_push}
-use Rattle.std.proofs.lemmas.Bool.{cases_eq, ne_eqb, eq-eqb}
-use Rattle.std.proofs.lemmas.List.{length_push, length-drop, drop_all}
-use Rattle.std.proofs.lemmas.Option.{get_or_from_slice_get}
-use Rattle.std.proofs.Math.Nat.{add_assoc}
-use Rattle.arraydeque_ring.specs.Places.{held_at, IsFilled, IsEmpty}
-use Rattle.arraydeque_ring.specs.Retained.{count_moved}
-use Rattle.arraydeque_ring.specs.Ring.{place_of}
-use Rattle.arraydeque_ring.specs.Steps.{Steps, more_takes, more_moves}
-use Rattle.arraydeque_ring.proofs.gaps.Gapped.{Gapped, Gapped-none, Gapped-take, Gapped-move, IsEmpty-gap, held_behind, LaidOut-gap_last}
-use Rattle.arraydeque_ring.proofs.places.Items.{slice_get_some}
-use Rattle.arraydeque_ring.proofs.places.LaidOut.{LaidOut}
-use Rattle.arraydeque_ring.proofs.places.Rotated.{one_place}
-use Rattle.arraydeque_ring.proofs.retained.Answered.{kept_and_gone, count_by-push, moved-push_true, moved-push_false}
+use Rattle.std.{proofs.{Common.{◌≡◌, ◌≢◌, ℕ, suc, ◌+◌, ◌<◌, ◌≤◌, inl, inr, List, [], ◌∷◌, ◌++◌, length, drop, set, get_or, slice_get, Option, Some, None, Bool, true, false, not, count_by, ◌==◌, if◌then◌else◌, refl, sym, ap, ap₂, ◌∙◌, subst, arith}, Retain.{picked_push_true, picked_push_false, answers_push}, lemmas.{Bool.{cases_eq, ne_eqb, eq-eqb}, List.{length_push, length-drop, drop_all}, Option.get_or_from_slice_get}, Math.Nat.add_assoc}, specs.List.{items_where_true, Retain.ReturnsInTurn}}
+use Rattle.arraydeque_ring.{specs.{Places.{held_at, IsFilled, IsEmpty}, Retained.count_moved, Ring.place_of, Steps.{Steps, more_takes, more_moves}}, proofs.{gaps.Gapped.{Gapped, Gapped-none, Gapped-take, Gapped-move, IsEmpty-gap, held_behind, LaidOut-gap_last}, places.{Items.slice_get_some, LaidOut.LaidOut, Rotated.one_place}, retained.Answered.{kept_and_gone, count_by-push, moved-push_true, moved-push_false}}}
 
 -- all asked about stay just where none is gone
 same_test : (kept gone index : ℕ) → kept + gone ≡ index → (kept == index) ≡ (gone == 0)

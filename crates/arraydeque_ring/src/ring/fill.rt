@@ -7,6 +7,7 @@ ghost use Rattle.arraydeque_ring.specs.Ring.{place_of, up_by, down_by};
 ghost use Rattle.arraydeque_ring.specs.Steps.{more_puts, more_takes};
 
 use super::Ring;
+use crate::wrap::wrap_add;
 
 impl<T> Ring<T> {
     /// Puts what the iterator gives behind the last item, one by one, while there is room. Returns
@@ -126,7 +127,7 @@ impl<T> Ring<T> {
           steps = more_puts 1 (more_takes 1 self.old.steps);
         } }
     {
-        let next = self.place(1);
+        let next = wrap_add(self.start, 1, self.slots.capacity());
         let first = self.slots.take(self.start);
         self.slots.put(self.start, element);
         self.start = next;
@@ -145,7 +146,8 @@ impl<T> Ring<T> {
           steps = more_puts 1 (more_takes 1 self.old.steps);
         } }
     {
-        let before = self.place(self.slots.capacity() - 1);
+        let capacity = self.slots.capacity();
+        let before = wrap_add(self.start, capacity - 1, capacity);
         let last = self.slots.take(before);
         self.slots.put(before, element);
         self.start = before;

@@ -4,6 +4,7 @@ ghost use Rattle.arraydeque_ring.specs.Ring.{place_of};
 ghost use Rattle.arraydeque_ring.specs.Steps.{more_takes, more_exchanges};
 
 use super::Ring;
+use crate::wrap::wrap_add_branchless;
 
 impl<T> Ring<T> {
     /// Exchanges two items. Nothing happens where the two are one.
@@ -16,8 +17,9 @@ impl<T> Ring<T> {
           steps = more_exchanges (if i == j then 0 else 1) self.old.steps;
         } }
     {
-        let a = self.place(i);
-        let b = self.place(j);
+        let capacity = self.slots.capacity();
+        let a = wrap_add_branchless(self.start, i, capacity);
+        let b = wrap_add_branchless(self.start, j, capacity);
         self.slots.exchange(a, b);
     }
 

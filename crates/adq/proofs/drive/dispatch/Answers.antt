@@ -1,7 +1,5 @@
 use Rattle.std.proofs.Common.{◌∙◌, Err, Global, refl, subst, sym}
-use Rattle.adq.specs.declared.fault.Fault.TheVariants.{Arguments}
-use Rattle.adq.specs.Run.{Ends}
-use Rattle.adq.proofs.Ended.{unsettled}
+use Rattle.adq.{specs.{declared.fault.Fault.TheVariants.Arguments, Run.Ends}, proofs.Ended.unsettled}
 use Rattle.adq.proofs.drive.dispatch.Goals as goal
 
 pub returns-in_default-as_str : goal.returns-in_default-as_str

@@ -1,9 +1,6 @@
-use Rattle.std.proofs.Common.{◌≡◌, ◌++◌, ◌∷◌, [], ◌∙◌, ap, sym, flat_map, string_bytes, refl}
+use Rattle.std.proofs.{Common.{◌≡◌, ◌++◌, ◌∷◌, [], ◌∙◌, ap, sym, flat_map, string_bytes, refl}, lemmas.{Iterator.{Adapters.{YieldsList-from_vec}, Consumers.{YieldsList-end}}, List.{map-id}}}
 use Rattle.arraydeque.specs.Machine.{answer_of}
 use Rattle.adq.specs.Text.{text_of}
-use Rattle.std.proofs.lemmas.Iterator.Adapters.{YieldsList-from_vec}
-use Rattle.std.proofs.lemmas.Iterator.Consumers.{YieldsList-end}
-use Rattle.std.proofs.lemmas.List.{map-id}
 use Rattle.adq.proofs.drive.print.Goals as goal
 
 pub returns-clause-ok : goal.returns-clause-ok

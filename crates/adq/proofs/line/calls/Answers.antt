@@ -1,7 +1,4 @@
-use Rattle.std.proofs.Common.{eqb, rules, tests}
-use Rattle.std.proofs.lemmas.Iterator.Consumers.{YieldsList-turn, YieldsList-end, YieldsList-from_enumerate}
-use Rattle.std.proofs.lemmas.Iterator.Splits.{YieldsList-from_slice_split}
-use Rattle.std.proofs.lemmas.Result.{err_from_is_err_and}
+use Rattle.std.proofs.{Common.{eqb, rules, tests}, lemmas.{Iterator.{Consumers.{YieldsList-turn, YieldsList-end, YieldsList-from_enumerate}, Splits.{YieldsList-from_slice_split}}, Result.err_from_is_err_and}}
 use Rattle.adq.proofs.LinesRead.{read_more, blamed, read_all}
 use Rattle.adq.proofs.line.calls.Goals as goal
 

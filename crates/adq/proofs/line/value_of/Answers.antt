@@ -1,8 +1,5 @@
-use Rattle.std.proofs.Common.{lit<, ◌∙◌, sym, subst}
-use Rattle.std.proofs.lemmas.Bool.{false≢true}
-use Rattle.std.proofs.lemmas.Str.Pattern.{starts_char}
-use Rattle.adq.proofs.Numbers.{Reads, value_read, plus_no_value}
-use Rattle.adq.specs.Line.{value}
+use Rattle.std.proofs.{Common.{lit<, ◌∙◌, sym, subst}, lemmas.{Bool.{false≢true}, Str.Pattern.starts_char}}
+use Rattle.adq.{proofs.Numbers.{Reads, value_read, plus_no_value}, specs.Line.value}
 use Rattle.adq.proofs.line.value_of.Goals as goal
 
 pub returns-then-starts_with : goal.returns-then-starts_with

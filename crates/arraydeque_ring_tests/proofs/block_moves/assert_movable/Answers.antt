@@ -1,5 +1,4 @@
-use Rattle.std.proofs.Common.{inl, inr, ◌≡◌, arith, rules}
-use Rattle.std.proofs.lemmas.Bool.{cases_lt}
+use Rattle.std.proofs.{Common.{inl, inr, ◌≡◌, arith, rules}, lemmas.Bool.cases_lt}
 use Rattle.arraydeque_ring_tests.proofs.block_moves.assert_movable.Goals as goal
 
 pub loop-k-preserved : goal.loop-k-preserved

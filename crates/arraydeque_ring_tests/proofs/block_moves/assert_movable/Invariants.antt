@@ -1,7 +1,5 @@
 use Rattle.std.proofs.Common.{ℕ, ◌<◌, ◌⊎◌, length}
-use Rattle.arraydeque_ring.specs.Moved.{distance}
-use Rattle.arraydeque_ring.specs.Places.{IsFilled, IsEmpty}
-use Rattle.arraydeque_ring.specs.Ring.{place_of}
+use Rattle.arraydeque_ring.specs.{Moved.distance, Places.{IsFilled, IsEmpty}, Ring.place_of}
 use Rattle.arraydeque_ring_tests.proofs.block_moves.assert_movable.Given as goal
 
 abbrev pub invariant-loop-k : goal.invariant-loop-k

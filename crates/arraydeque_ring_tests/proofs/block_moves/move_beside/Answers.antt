@@ -1,8 +1,4 @@
-use Rattle.std.proofs.Common.{ℕ, ◌≡◌, length, get_or, replicate, List, Option, None, inl, inr, sym, subst, ap, ◌∙◌, arith}
-use Rattle.std.proofs.lemmas.Bool.{cases_lt}
-use Rattle.std.proofs.lemmas.Grind.{get_or-set_at}
-use Rattle.std.proofs.lemmas.List.{ext_get_or, get_or-replicate, get_or-set_other, length-replicate, length-set}
-use Rattle.std.proofs.lemmas.List.FromFn.{length-map-range_with_len, get_or-map-range_with_len}
+use Rattle.std.proofs.{Common.{ℕ, ◌≡◌, length, get_or, replicate, List, Option, None, inl, inr, sym, subst, ap, ◌∙◌, arith}, lemmas.{Bool.cases_lt, Grind.{get_or-set_at}, List.{ext_get_or, get_or-replicate, get_or-set_other, length-replicate, length-set, FromFn.{length-map-range_with_len, get_or-map-range_with_len}}}}
 use Rattle.arraydeque_ring.specs.Moved.{held_after, IsFilledRound}
 use Rattle.arraydeque_ring_tests.proofs.block_moves.move_beside.Goals.{in-Some+else-assert_eq, in_default}
 use Rattle.arraydeque_ring_tests.proofs.block_moves.move_beside.Goals as goal

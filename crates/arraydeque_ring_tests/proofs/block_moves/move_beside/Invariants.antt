@@ -1,6 +1,5 @@
 use Rattle.std.proofs.Common.{◌≡◌, ℕ, ◌<◌, ◌≤◌, length, None}
-use Rattle.arraydeque_ring.specs.Moved.{held_after}
-use Rattle.arraydeque_ring.specs.Places.{held_at}
+use Rattle.arraydeque_ring.specs.{Moved.held_after, Places.held_at}
 use Rattle.arraydeque_ring_tests.proofs.block_moves.move_beside.Given as goal
 
 abbrev pub invariant-loop-place : goal.invariant-loop-place

@@ -1,5 +1,4 @@
-use Rattle.std.proofs.Common.{None, arith}
-use Rattle.std.proofs.lemmas.List.{ext_get_or}
+use Rattle.std.proofs.{Common.{None, arith}, lemmas.List.ext_get_or}
 use Rattle.arraydeque_ring_tests.proofs.block_moves.region_of.Goals as goal
 
 pub returns : goal.returns

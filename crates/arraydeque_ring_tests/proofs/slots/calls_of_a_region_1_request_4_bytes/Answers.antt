@@ -1,6 +1,5 @@
 -- The values that stand in the places, which the calls ask for.
-use Rattle.std.proofs.Common.{rules, refl, sym, ap, ◌∙◌, ◌≡◌, ℕ, List, [], ◌∷◌, map, Some, None, unwrap_or, inl, inr, arith}
-use Rattle.std.proofs.lemmas.Bool.{cases_lt}
+use Rattle.std.proofs.{Common.{rules, refl, sym, ap, ◌∙◌, ◌≡◌, ℕ, List, [], ◌∷◌, map, Some, None, unwrap_or, inl, inr, arith}, lemmas.Bool.cases_lt}
 use Rattle.arraydeque_ring_tests.proofs.slots.calls_of_a_region_1_request_4_bytes.Goals as goal
 
 values : (xs : List ℕ) → map (λ held. unwrap_or held 0) (map Some xs) ≡ xs

@@ -1,6 +1,4 @@
-use Rattle.std.proofs.Common.{◌+◌, arith}
-use Rattle.std.proofs.Math.Nat.{mod-add-mod}
-use Rattle.std.proofs.lemmas.Grind.{common_steps}
+use Rattle.std.proofs.{Common.{◌+◌, arith}, Math.Nat.{mod-add-mod}, lemmas.Grind.common_steps}
 use Rattle.arraydeque_samples.proofs.build.deque_at.Goals as goal
 
 pub loop-preserved : goal.loop-preserved

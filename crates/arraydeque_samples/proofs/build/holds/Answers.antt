@@ -1,7 +1,4 @@
-use Rattle.std.proofs.Common.{◌≡◌, ◌&&◌, Bool, true, false, List, ◌++◌, length, sym, ap, ap₂, ◌∙◌}
-use Rattle.std.proofs.lemmas.List.{take-append-drop}
-use Rattle.std.specs.Cmp.Lexicographic.{pointwise}
-use Rattle.std.specs.List.{IsSplitAt}
+use Rattle.std.{proofs.{Common.{◌≡◌, ◌&&◌, Bool, true, false, List, ◌++◌, length, sym, ap, ap₂, ◌∙◌}, lemmas.List.{take-append-drop}}, specs.{Cmp.Lexicographic.pointwise, List.IsSplitAt}}
 use Rattle.arraydeque.proofs.Sections.{pointwise-both}
 use Rattle.arraydeque_samples.proofs.build.holds.Goals as goal
 

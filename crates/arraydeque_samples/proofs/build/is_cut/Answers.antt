@@ -1,6 +1,4 @@
-use Rattle.std.proofs.Common.{◌≡◌, true≢false, List, [], ◌++◌, append-nil, sym, ap, ap₂, ◌∙◌}
-use Rattle.std.proofs.lemmas.Bool.Decides.{Decides-int_eq}
-use Rattle.std.proofs.lemmas.Slice.Eq.{slice_eq-Decides}
+use Rattle.std.proofs.{Common.{◌≡◌, true≢false, List, [], ◌++◌, append-nil, sym, ap, ap₂, ◌∙◌}, lemmas.{Bool.Decides.{Decides-int_eq}, Slice.Eq.{slice_eq-Decides}}}
 use Rattle.arraydeque_samples.proofs.build.is_cut.Goals as goal
 
 -- the first slice is the whole list where the second is empty

@@ -1,6 +1,4 @@
-use Rattle.std.proofs.Common.{◌++◌, ◌∷◌, [], pos, w64, sym, ap₂, ◌∙◌, arith}
-use Rattle.std.proofs.lemmas.Int.{to_z_pos}
-use Rattle.std.proofs.lemmas.List.FromFn.{map-range_with_len_more}
+use Rattle.std.proofs.{Common.{◌++◌, ◌∷◌, [], pos, w64, sym, ap₂, ◌∙◌, arith}, lemmas.{Int.to_z_pos, List.FromFn.{map-range_with_len_more}}}
 use Rattle.arraydeque_samples.proofs.build.numbers.Goals as goal
 
 pub loop-number-preserved : goal.loop-number-preserved

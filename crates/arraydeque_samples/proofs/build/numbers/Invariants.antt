@@ -1,6 +1,4 @@
-use Rattle.std.proofs.Common.{◌≡◌, ◌≤◌, map, pos}
-use Rattle.std.specs.List.{range_with_len}
-use Rattle.std.specs.Vec.{vec_capacity}
+use Rattle.std.{proofs.Common.{◌≡◌, ◌≤◌, map, pos}, specs.{List.range_with_len, Vec.vec_capacity}}
 use Rattle.arraydeque_samples.proofs.build.numbers.Given as goal
 
 abbrev pub invariant-loop-number : goal.invariant-loop-number

@@ -1,6 +1,5 @@
 use Rattle.std.proofs.Common.{rules}
-use Rattle.uses.specs.Tokens.{IsOver}
-use Rattle.uses.proofs.Cut.{IsOver-rest}
+use Rattle.uses.{specs.Tokens.IsOver, proofs.Cut.{IsOver-rest}}
 use Rattle.uses.proofs.tokens.next_of_kind.Goals as goal
 
 pub returns-in_default-clause-over : goal.returns-in_default-clause-over

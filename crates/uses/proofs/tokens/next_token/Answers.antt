@@ -1,8 +1,5 @@
-use Rattle.std.proofs.Common.{◌≡◌, [], ◌∷◌, arith}
-use Rattle.std.proofs.lemmas.Grind.{common_steps}
-use Rattle.std.proofs.lemmas.List.Elements.{All-push}
-use Rattle.uses.specs.Tokens.{kind_of}
-use Rattle.uses.proofs.Taken.{TakesOff-append}
+use Rattle.std.proofs.{Common.{◌≡◌, [], ◌∷◌, arith}, lemmas.{Grind.common_steps, List.Elements.{All-push}}}
+use Rattle.uses.{specs.Tokens.kind_of, proofs.Taken.{TakesOff-append}}
 use Rattle.uses.proofs.tokens.next_token.Goals as goal
 
 pub loop-byte-preserved : goal.loop-byte-preserved

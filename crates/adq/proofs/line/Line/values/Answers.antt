@@ -1,10 +1,6 @@
-use Rattle.std.proofs.Common.{◌∙◌, ◌++◌, ◌∷◌, [], ap, inr, subst, sym}
-use Rattle.std.proofs.lemmas.Int.{to_z-of_z}
+use Rattle.std.proofs.{Common.{◌∙◌, ◌++◌, ◌∷◌, [], ap, inr, subst, sym}, lemmas.Int.{to_z-of_z}}
 use mir.Syntax.{w64}
-use Rattle.adq.specs.declared.fault.Fault.TheVariants.{Line}
-use Rattle.adq.specs.Line.{words_of}
-use Rattle.adq.proofs.Numbers.{fits}
-use Rattle.adq.proofs.ValuesRead.{Parted, parted_more, parted_bad}
+use Rattle.adq.{specs.{declared.fault.Fault.TheVariants.Line, Line.words_of}, proofs.{Numbers.fits, ValuesRead.{Parted, parted_more, parted_bad}}}
 use Rattle.adq.proofs.line.Line.values.Goals as goal
 
 pub loop-word-preserved : goal.loop-word-preserved

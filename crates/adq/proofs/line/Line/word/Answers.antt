@@ -1,5 +1,4 @@
-use Rattle.std.proofs.Common.{◌∙◌, refl, arith}
-use Rattle.std.proofs.lemmas.Bool.Decides.{nat_tests}
+use Rattle.std.proofs.{Common.{◌∙◌, refl, arith}, lemmas.Bool.Decides.nat_tests}
 use Rattle.adq.proofs.FirstWord.{words_of-cut, trimmed, first_word}
 use Rattle.adq.proofs.line.Line.word.Goals as goal
 

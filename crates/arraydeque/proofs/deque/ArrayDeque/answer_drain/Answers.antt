@@ -1,5 +1,4 @@
-use Rattle.std.proofs.Common.{ℕ, ◌*◌, ◌-◌, ◌<◌, zero, suc, arith}
-use Rattle.std.proofs.lemmas.Bool.Decides.{nat_tests}
+use Rattle.std.proofs.{Common.{ℕ, ◌*◌, ◌-◌, ◌<◌, zero, suc, arith}, lemmas.Bool.Decides.nat_tests}
 use Rattle.arraydeque.proofs.deque.ArrayDeque.answer_drain.Goals as goal
 
 -- where a product takes some bytes, its first factor is not 0

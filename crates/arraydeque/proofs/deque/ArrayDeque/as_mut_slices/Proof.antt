@@ -1,31 +1,15 @@
 -- `as_mut_slices` is `lend`, and the deque follows the loan's slices. Assumes `Logic`.
-use Rattle.arraydeque_ring.proofs.memory.Kit.{◌≡◌, refl, sym, ap, ◌∙◌, List, [], ◌∷◌, ◌++◌, ◌+◌, ◌<◌, ◌≤◌, length, emp, id⊢, fact_i, ftrue, flft, Fn, inst_fn, named, ◌⊑◌, fact, tables, ‵, raw, ◌⊛◌, some, later, ◌$◌, ◌∵◌, !, qed, move, use0, use1, use2, drop, split, join, pick, frame, rewrite, await, fsplit, fjoin, suffices, done, enter, addr, stop, no_more, and_then, returns, alloc_all, pass_all, free_all, look_at, get, through, sets, lands_as, no, plain, mem, Is, shows, peeks, Stays, walk_of, says_two, stay_dropped, ends_at, nothing, heard, calls_at, framed, triple_of, param_laws, RattleType, El, R, el_x, proved}
+use Rattle.arraydeque_ring.{proofs.{memory.Kit.{◌≡◌, refl, sym, ap, ◌∙◌, List, [], ◌∷◌, ◌++◌, ◌+◌, ◌<◌, ◌≤◌, length, emp, id⊢, fact_i, ftrue, flft, Fn, inst_fn, named, ◌⊑◌, fact, tables, ‵, raw, ◌⊛◌, some, later, ◌$◌, ◌∵◌, !, qed, move, use0, use1, use2, drop, split, join, pick, frame, rewrite, await, fsplit, fjoin, suffices, done, enter, addr, stop, no_more, and_then, returns, alloc_all, pass_all, free_all, look_at, get, through, sets, lands_as, no, plain, mem, Is, shows, peeks, Stays, walk_of, says_two, stay_dropped, ends_at, nothing, heard, calls_at, framed, triple_of, param_laws, RattleType, El, R, el_x, proved}, loans.{Names.followed_both, Placed.{as_many-twice}, Slices.{Slices, slices_lawful}}, slots.loan.Loan.into_slices.Met.{met as into_met}}, specs.Loans.{LoanState, remaining, as_many}}
 use mathlib.Core.Path.{ap₂}
-use types.Follow.{after₂}
-use types.Kit.{split3}
+use types.{Follow.after₂, Kit.split3}
 use contract.Lifetimes.{Lfts, AllOutlive}
-use denote.Array.{Array}
-use denote.Follow.{both_by}
-use denote.Param.{bounded, number}
-use denote.Ref.{MutBor, NamedLft, mut_vals, mut_Tells}
-use denote.Signature.{mut_ref_to, named_lft}
-use denote.Triple.Clauses.{lasts, Lasts}
-use denote.Triple.Entry.{on_entry}
-use denote.Triple.Walked.{Goes-spent_ref}
+use denote.{Array.Array, Follow.both_by, Param.{bounded, number}, Ref.{MutBor, NamedLft, mut_vals, mut_Tells}, Signature.{mut_ref_to, named_lft}, Triple.{Clauses.{lasts, Lasts}, Entry.on_entry, Walked.{Goes-spent_ref}}}
 use mir.Syntax.{dcons, dnil, a_type, a_number}
-use Rattle.arraydeque_ring.specs.Loans.{LoanState, remaining, as_many}
 use Rattle.arraydeque_ring.specs.contracts.slots.loan.Loan as loan
 use Rattle.arraydeque_ring.proofs.slots.loan.Loan.TheLaws as loan_laws
-use Rattle.arraydeque_ring.proofs.loans.Names.{followed_both}
-use Rattle.arraydeque_ring.proofs.loans.Placed.{as_many-twice}
-use Rattle.arraydeque_ring.proofs.loans.Slices.{Slices, slices_lawful}
-use Rattle.arraydeque.specs.Deque.{DequeState}
-use Rattle.arraydeque.specs.DequeLends.{rewritten, lends_loan, lends_slices}
-use Rattle.arraydeque.proofs.Lent.{Dr}
+use Rattle.arraydeque.{specs.{Deque.DequeState, DequeLends.{rewritten, lends_loan, lends_slices}}, proofs.{Lent.Dr, deque.ArrayDeque.lend.Met.met}}
 use Rattle.arraydeque.specs.contracts.deque.ArrayDeque.lend as g
-use Rattle.arraydeque.proofs.deque.ArrayDeque.lend.Met.{met}
 use Rattle.arraydeque_ring.specs.contracts.slots.loan.Loan.into_slices as h
-use Rattle.arraydeque_ring.proofs.slots.loan.Loan.into_slices.Met.{met as into_met}
 use Rattle.arraydeque.specs.contracts.deque.ArrayDeque.as_mut_slices as f
 use Rattle.arraydeque.proofs.deque.ArrayDeque.as_mut_slices.Statement as stated
 use Rattle.arraydeque.proofs.deque.ArrayDeque.as_mut_slices.Code as code

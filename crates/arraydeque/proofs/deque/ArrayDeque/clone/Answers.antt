@@ -1,8 +1,6 @@
 use Rattle.std.proofs.Common.{length, subst, sym, ap, ◌∙◌, arith}
-use Rattle.arraydeque_ring.specs.Cloned.{ClonesAreSame}
-use Rattle.arraydeque_ring.specs.Ring.{RingState}
-use Rattle.arraydeque.specs.Deque.{DequeState, with_back, empty_deque}
-use Rattle.arraydeque.proofs.Pushed.{of_ring}
+use Rattle.arraydeque_ring.specs.{Cloned.ClonesAreSame, Ring.RingState}
+use Rattle.arraydeque.{specs.Deque.{DequeState, with_back, empty_deque}, proofs.Pushed.of_ring}
 use Rattle.arraydeque.proofs.deque.ArrayDeque.clone.Goals as goal
 
 pub clone-requires : goal.clone-requires

@@ -1,6 +1,4 @@
-use Rattle.std.proofs.Common.{◌≡◌, length}
-use Rattle.std.proofs.lemmas.Result.{err_from_is_err_and}
-use Rattle.std.specs.Option.{unwrap_or}
+use Rattle.std.{proofs.{Common.{◌≡◌, length}, lemmas.Result.err_from_is_err_and}, specs.Option.unwrap_or}
 use Rattle.arraydeque.proofs.deque.ArrayDeque.drain.Goals as goal
 use Rattle.arraydeque.proofs.deque.ArrayDeque.drain.Goals.{in-Some, in-None, in-Some-end, in-None-end}
 

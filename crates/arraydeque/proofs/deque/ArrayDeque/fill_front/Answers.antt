@@ -1,8 +1,6 @@
 use Rattle.std.proofs.Common.{length, ap, ◌∙◌, arith}
-use Rattle.arraydeque_ring.specs.Ring.{RingState}
-use Rattle.arraydeque_ring.proofs.fills.FromIterator.{Fills-as}
-use Rattle.arraydeque.specs.Deque.{DequeState, with_front}
-use Rattle.arraydeque.proofs.Pushed.{of_ring}
+use Rattle.arraydeque_ring.{specs.Ring.RingState, proofs.fills.FromIterator.{Fills-as}}
+use Rattle.arraydeque.{specs.Deque.{DequeState, with_front}, proofs.Pushed.of_ring}
 use Rattle.arraydeque.proofs.deque.ArrayDeque.fill_front.Goals as goal
 
 pub invariant_of-self : goal.invariant_of-self

@@ -1,6 +1,5 @@
 use Rattle.std.proofs.Common.{ap, ◌∙◌}
-use Rattle.arraydeque.specs.Deque.{DequeState}
-use Rattle.arraydeque.proofs.Pushed.{of_ring}
+use Rattle.arraydeque.{specs.Deque.DequeState, proofs.Pushed.of_ring}
 use Rattle.arraydeque.proofs.deque.ArrayDeque.into_vec.Goals as goal
 
 pub returns-in-Ok-clause-items : goal.returns-in-Ok-clause-items

@@ -1,5 +1,4 @@
-use Rattle.std.proofs.Common.{ℕ, ap}
-use Rattle.std.specs.Bool.{◌==◌}
+use Rattle.std.{proofs.Common.{ℕ, ap}, specs.Bool.{◌==◌}}
 use Rattle.arraydeque.proofs.deque.ArrayDeque.is_full.Goals as goal
 
 pub returns-clause-full : goal.returns-clause-full

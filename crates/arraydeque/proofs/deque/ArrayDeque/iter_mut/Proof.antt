@@ -1,26 +1,16 @@
 -- `iter_mut` goes over what `lend` lends, and the deque follows the loan's name. Assumes `Logic`.
-use Rattle.arraydeque_ring.proofs.memory.Kit.{◌≡◌, refl, sym, ap, ◌∙◌, [], ◌∷◌, ◌+◌, ◌<◌, ◌≤◌, length, emp, id⊢, fact_i, ftrue, flft, Fn, inst_fn, named, ◌⊑◌, fact, tables, ‵, raw, ◌⊛◌, some, later, ◌$◌, ◌∵◌, !, qed, move, use0, use1, use2, drop, split, join, pick, frame, rewrite, await, fsplit, fjoin, suffices, done, enter, addr, stop, no_more, and_then, returns, alloc_all, pass_all, free_all, look_at, get, through, sets, lands_as, no, plain, Is, shows, peeks, Stays, walk_of, says, stay_dropped, ends_at, nothing, heard, calls_at, framed, triple_of, param_laws, RattleType, El, R, el_x, proved}
+use Rattle.arraydeque_ring.{proofs.memory.Kit.{◌≡◌, refl, sym, ap, ◌∙◌, [], ◌∷◌, ◌+◌, ◌<◌, ◌≤◌, length, emp, id⊢, fact_i, ftrue, flft, Fn, inst_fn, named, ◌⊑◌, fact, tables, ‵, raw, ◌⊛◌, some, later, ◌$◌, ◌∵◌, !, qed, move, use0, use1, use2, drop, split, join, pick, frame, rewrite, await, fsplit, fjoin, suffices, done, enter, addr, stop, no_more, and_then, returns, alloc_all, pass_all, free_all, look_at, get, through, sets, lands_as, no, plain, Is, shows, peeks, Stays, walk_of, says, stay_dropped, ends_at, nothing, heard, calls_at, framed, triple_of, param_laws, RattleType, El, R, el_x, proved}, specs.Loans.{LoanState, remaining}}
 use types.Kit.{split3}
 use contract.Lifetimes.{Lfts, AllOutlive}
-use denote.Param.{bounded, number}
-use denote.Ref.{NamedLft, mut_vals, mut_Tells}
-use denote.Signature.{mut_ref_to, named_lft}
-use denote.Triple.Clauses.{lasts, Lasts}
-use denote.Triple.Entry.{on_entry}
-use denote.Triple.Walked.{Goes-spent_ref}
+use denote.{Param.{bounded, number}, Ref.{NamedLft, mut_vals, mut_Tells}, Signature.{mut_ref_to, named_lft}, Triple.{Clauses.{lasts, Lasts}, Entry.on_entry, Walked.{Goes-spent_ref}}}
 use mir.Syntax.{dcons, dnil, a_type, a_number}
-use Rattle.arraydeque_ring.specs.Loans.{LoanState, remaining}
 use Rattle.arraydeque_ring.specs.contracts.slots.loan.Loan as loan
 use Rattle.arraydeque_ring.proofs.slots.loan.Loan.TheLaws as loan_laws
-use Rattle.arraydeque.specs.Deque.{DequeState}
-use Rattle.arraydeque.specs.DequeLends.{lends_items, lends_loan}
+use Rattle.arraydeque.{specs.{Deque.DequeState, DequeLends.{lends_items, lends_loan}}, proofs.{Lent.Dr, deque.ArrayDeque.lend.Met.met, iter.iter_mut.IterMut.of.Met.{met as of_met}}}
 use Rattle.arraydeque.specs.contracts.iter.iter_mut.IterMut as iter
 use Rattle.arraydeque.proofs.iter.iter_mut.IterMut.TheLaws as iter_laws
-use Rattle.arraydeque.proofs.Lent.{Dr}
 use Rattle.arraydeque.specs.contracts.deque.ArrayDeque.lend as g
-use Rattle.arraydeque.proofs.deque.ArrayDeque.lend.Met.{met}
 use Rattle.arraydeque.specs.contracts.iter.iter_mut.IterMut.of as h
-use Rattle.arraydeque.proofs.iter.iter_mut.IterMut.of.Met.{met as of_met}
 use Rattle.arraydeque.specs.contracts.deque.ArrayDeque.iter_mut as f
 use Rattle.arraydeque.proofs.deque.ArrayDeque.iter_mut.Statement as stated
 use Rattle.arraydeque.proofs.deque.ArrayDeque.iter_mut.Code as code

@@ -1,36 +1,17 @@
 -- `lend` lends all items: the ring lends its own, and the deque follows what the ring follows. Assumes `Logic`.
-use Rattle.arraydeque_ring.proofs.memory.Kit.{◌≡◌, refl, ap, ◌∙◌, List, [], ◌∷◌, ◌++◌, ℕ, ◌+◌, ◌<◌, ◌≤◌, arith, length, full_share, emp, id⊢, fact_i, Share, GName, ftrue, fsep, flft, fauth, Fn, inst_fn, named, Val, vptr, ◌⊑◌, fact, tables, Borrowed, owns, types_at, ‵, raw, ◌⊛◌, some, later, ◌$◌, ◌∵◌, !, qed, move, keep, use0, use1, use2, drop, split, join, pick, frame, rewrite, await, fsplit, fsplit3, fjoin, fjoin3, fpack, feq_i, suffices, done, enter, addr, stop, fld, no_more, and_then, returns, alloc_all, pass_all, free_all, look_at, get, through, sets, lands_as, no, plain, mem, part_at, Is, shows, peeks, Stays, walk_of, says_two, stay_dropped, ends_at, nothing, heard, calls_at, framed, triple_of, param_laws, RattleType, El, R, el_x, proved}
+use Rattle.arraydeque_ring.{proofs.{memory.Kit.{◌≡◌, refl, ap, ◌∙◌, List, [], ◌∷◌, ◌++◌, ℕ, ◌+◌, ◌<◌, ◌≤◌, arith, length, full_share, emp, id⊢, fact_i, Share, GName, ftrue, fsep, flft, fauth, Fn, inst_fn, named, Val, vptr, ◌⊑◌, fact, tables, Borrowed, owns, types_at, ‵, raw, ◌⊛◌, some, later, ◌$◌, ◌∵◌, !, qed, move, keep, use0, use1, use2, drop, split, join, pick, frame, rewrite, await, fsplit, fsplit3, fjoin, fjoin3, fpack, feq_i, suffices, done, enter, addr, stop, fld, no_more, and_then, returns, alloc_all, pass_all, free_all, look_at, get, through, sets, lands_as, no, plain, mem, part_at, Is, shows, peeks, Stays, walk_of, says_two, stay_dropped, ends_at, nothing, heard, calls_at, framed, triple_of, param_laws, RattleType, El, R, el_x, proved}, loans.{Made.renamed, Names.{hands_on, followed_both}, Rings.Rr}, ring.Ring.lend.Met.met}, specs.{Loans.{LoanState, remaining, as_many}, Ring.RingState}}
 use base.Share
 use base.Logic.{sep}
 use types.Follow as follow
-use types.Follow.{after₂}
-use types.Kit.{split3, group}
-use types.Late.{ages, bor_new_deep}
-use types.Logic.{sem}
-use types.Mut.{open_ref}
-use types.Tokens.{name_new}
+use types.{Follow.after₂, Kit.{split3, group}, Late.{ages, bor_new_deep}, Logic.sem, Mut.open_ref, Tokens.name_new}
 use contract.Lifetimes.{Lfts, AllOutlive}
-use denote.Array.{Array}
-use denote.Follow.{both_by}
-use denote.Param.{bounded, number}
-use denote.Ref.{MutBor, NamedLft, mut_vals, mut_Tells}
-use denote.Signature.{mut_ref_to, named_lft}
-use denote.Triple.Clauses.{lasts, Lasts}
-use denote.Triple.Walked.{Goes-spent_ref}
+use denote.{Array.Array, Follow.both_by, Param.{bounded, number}, Ref.{MutBor, NamedLft, mut_vals, mut_Tells}, Signature.{mut_ref_to, named_lft}, Triple.{Clauses.{lasts, Lasts}, Walked.{Goes-spent_ref}}}
 use mir.Syntax.{dcons, dnil, a_type, a_number}
-use Rattle.arraydeque_ring.specs.Loans.{LoanState, remaining, as_many}
-use Rattle.arraydeque_ring.specs.Ring.{RingState}
 use Rattle.arraydeque_ring.specs.RingLends as ring
 use Rattle.arraydeque_ring.specs.contracts.slots.loan.Loan as loan
 use Rattle.arraydeque_ring.proofs.slots.loan.Loan.TheLaws as loan_laws
-use Rattle.arraydeque_ring.proofs.loans.Made.{renamed}
-use Rattle.arraydeque_ring.proofs.loans.Names.{hands_on, followed_both}
-use Rattle.arraydeque_ring.proofs.loans.Rings.{Rr}
 use Rattle.arraydeque_ring.specs.contracts.ring.Ring.lend as g
-use Rattle.arraydeque_ring.proofs.ring.Ring.lend.Met.{met}
-use Rattle.arraydeque.specs.Deque.{DequeState}
-use Rattle.arraydeque.specs.DequeLends.{rewritten}
-use Rattle.arraydeque.proofs.Lent.{Dr, FieldsRow, Fields, view, Kept, Other, Way, fields_out, ring_out, deque_whole, after, kept_after, seen_after, written}
+use Rattle.arraydeque.{specs.{Deque.DequeState, DequeLends.rewritten}, proofs.Lent.{Dr, FieldsRow, Fields, view, Kept, Other, Way, fields_out, ring_out, deque_whole, after, kept_after, seen_after, written}}
 use Rattle.arraydeque.specs.contracts.deque.ArrayDeque.lend as f
 use Rattle.arraydeque.proofs.deque.ArrayDeque.lend.Statement as stated
 use Rattle.arraydeque.proofs.deque.ArrayDeque.lend.Code as code

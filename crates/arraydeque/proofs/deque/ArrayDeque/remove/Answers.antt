@@ -1,5 +1,4 @@
-use Rattle.std.proofs.Common.{sym, arith}
-use Rattle.std.proofs.lemmas.List.Edits.{length-remove}
+use Rattle.std.proofs.{Common.{sym, arith}, lemmas.List.Edits.{length-remove}}
 use Rattle.arraydeque.proofs.deque.ArrayDeque.remove.Goals as goal
 
 pub returns : goal.returns

@@ -1,7 +1,6 @@
 use Rattle.std.proofs.Common.{ap}
 use Rattle.arraydeque_ring.specs.Ring.{RingState}
-use Rattle.arraydeque.specs.Deque.{as_ring}
-use Rattle.arraydeque.proofs.Pushed.{of_ring}
+use Rattle.arraydeque.{specs.Deque.as_ring, proofs.Pushed.of_ring}
 use Rattle.arraydeque.proofs.deque.ArrayDeque.retain.Goals as goal
 
 pub retain-requires : goal.retain-requires

@@ -1,10 +1,5 @@
-use Rattle.std.proofs.lemmas.Grind.{common_steps}
-use Rattle.std.proofs.Common.{arith, rules, subst, sym, ◌∙◌}
-use Rattle.std.proofs.lemmas.Iterator.Adapters.{YieldsList-from_vec}
-use Rattle.std.proofs.lemmas.Iterator.Consumers.{YieldsList-end}
-use Rattle.std.proofs.lemmas.List.{map-id}
-use Rattle.arraydeque.specs.Run.{DequeRun}
-use Rattle.arraydeque.proofs.DequeRuns.{DequeRun-push, RunCosts-of}
+use Rattle.std.proofs.{lemmas.{Grind.common_steps, Iterator.{Adapters.{YieldsList-from_vec}, Consumers.{YieldsList-end}}, List.{map-id}}, Common.{arith, rules, subst, sym, ◌∙◌}}
+use Rattle.arraydeque.{specs.Run.DequeRun, proofs.DequeRuns.{DequeRun-push, RunCosts-of}}
 use Rattle.arraydeque.proofs.deque.ArrayDeque.run.Goals as goal
 
 pub loop-call-preserved : goal.loop-call-preserved

@@ -1,6 +1,4 @@
-use Rattle.std.proofs.Common.{◌+◌, ◌≤◌, vec_len}
-use Rattle.std.specs.Vec.{vec_capacity}
-use Rattle.std.specs.Vec.Iter.{into_iter_len}
+use Rattle.std.{proofs.Common.{◌+◌, ◌≤◌, vec_len}, specs.Vec.{vec_capacity, Iter.into_iter_len}}
 use Rattle.arraydeque.specs.Run.{DequeRun}
 use Rattle.arraydeque.proofs.deque.ArrayDeque.run.Given as goal
 

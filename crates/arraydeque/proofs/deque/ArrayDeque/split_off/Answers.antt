@@ -1,5 +1,4 @@
-use Rattle.std.proofs.Common.{ap, ◌∙◌}
-use Rattle.std.proofs.lemmas.Result.{MatchResult-from_err}
+use Rattle.std.proofs.{Common.{ap, ◌∙◌}, lemmas.Result.{MatchResult-from_err}}
 use Rattle.arraydeque_ring.specs.Ring.{RingState}
 use Rattle.arraydeque.proofs.Pushed.{of_ring}
 use Rattle.arraydeque.proofs.deque.ArrayDeque.split_off.Goals as goal

@@ -1,5 +1,4 @@
-use Rattle.std.proofs.Common.{◌≡◌, length}
-use Rattle.std.specs.List.{list_any}
+use Rattle.std.{proofs.Common.{◌≡◌, length}, specs.List.list_any}
 use Rattle.arraydeque.proofs.deque.access.has_equal.Given as goal
 
 abbrev pub invariant-loop-rest : goal.invariant-loop-rest

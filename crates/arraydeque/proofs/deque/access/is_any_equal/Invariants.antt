@@ -1,5 +1,4 @@
-use Rattle.std.proofs.Common.{◌≡◌, take}
-use Rattle.std.specs.List.{list_any}
+use Rattle.std.{proofs.Common.{◌≡◌, take}, specs.List.list_any}
 use Rattle.arraydeque.proofs.deque.access.is_any_equal.Given as goal
 
 abbrev pub invariant-loop-k : goal.invariant-loop-k

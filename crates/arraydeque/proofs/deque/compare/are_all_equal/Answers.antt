@@ -1,6 +1,4 @@
-use Rattle.std.proofs.Common.{◌≡◌, ◌+◌, ◌&&◌, length, take, [], ◌∷◌, ◌++◌, sym, ap, ap₂, ◌∙◌, arith}
-use Rattle.std.proofs.lemmas.List.{length-take-le, take_more}
-use Rattle.std.specs.Cmp.Lexicographic.{pointwise}
+use Rattle.std.{proofs.{Common.{◌≡◌, ◌+◌, ◌&&◌, length, take, [], ◌∷◌, ◌++◌, sym, ap, ap₂, ◌∙◌, arith}, lemmas.List.{length-take-le, take_more}}, specs.Cmp.Lexicographic.pointwise}
 use Rattle.arraydeque.proofs.Sections.{pointwise-push}
 use Rattle.arraydeque.proofs.deque.compare.are_all_equal.Goals as goal
 

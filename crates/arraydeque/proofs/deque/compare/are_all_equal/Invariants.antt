@@ -1,5 +1,4 @@
-use Rattle.std.proofs.Common.{◌≡◌, take}
-use Rattle.std.specs.Cmp.Lexicographic.{pointwise}
+use Rattle.std.{proofs.Common.{◌≡◌, take}, specs.Cmp.Lexicographic.pointwise}
 use Rattle.arraydeque.proofs.deque.compare.are_all_equal.Given as goal
 
 abbrev pub invariant-loop-k : goal.invariant-loop-k

@@ -1,6 +1,4 @@
-use Rattle.std.proofs.Common.{◌&&◌, length, drop, sym, ap, ap₂, ◌∙◌, arith}
-use Rattle.std.proofs.lemmas.List.{length-drop}
-use Rattle.std.specs.Cmp.Lexicographic.{pointwise}
+use Rattle.std.{proofs.{Common.{◌&&◌, length, drop, sym, ap, ap₂, ◌∙◌, arith}, lemmas.List.{length-drop}}, specs.Cmp.Lexicographic.pointwise}
 use Rattle.arraydeque.proofs.Sections.{pointwise-split}
 use Rattle.arraydeque.proofs.deque.compare.are_equal.Goals as goal
 

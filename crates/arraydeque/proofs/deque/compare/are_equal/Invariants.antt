@@ -1,5 +1,4 @@
-use Rattle.std.proofs.Common.{◌≡◌, length}
-use Rattle.std.specs.Cmp.Lexicographic.{pointwise}
+use Rattle.std.{proofs.Common.{◌≡◌, length}, specs.Cmp.Lexicographic.pointwise}
 use Rattle.arraydeque.proofs.deque.compare.are_equal.Given as goal
 
 abbrev pub invariant-loop-left_rest : goal.invariant-loop-left_rest

@@ -1,5 +1,4 @@
-use Rattle.std.proofs.Common.{◌≡◌, fold, take}
-use Rattle.std.specs.List.{flat_map}
+use Rattle.std.{proofs.Common.{◌≡◌, fold, take}, specs.List.flat_map}
 use Rattle.arraydeque.proofs.deque.compare.feed.Given as goal
 
 abbrev pub invariant-loop-item : goal.invariant-loop-item

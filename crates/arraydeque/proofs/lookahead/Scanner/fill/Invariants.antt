@@ -1,5 +1,4 @@
-use Rattle.std.proofs.Common.{◌≡◌, ◌+◌, ◌-◌, ◌<◌, ◌≤◌, [], length, max}
-use Rattle.std.specs.Iterator.{IsFinite, UpTo, size}
+use Rattle.std.{proofs.Common.{◌≡◌, ◌+◌, ◌-◌, ◌<◌, ◌≤◌, [], length, max}, specs.Iterator.{IsFinite, UpTo, size}}
 use Rattle.arraydeque.specs.Lookahead.{HandsOut, left_of}
 use Rattle.arraydeque.proofs.lookahead.Scanner.fill.Given as goal
 

@@ -1,6 +1,5 @@
 use Rattle.std.proofs.Common.{false, ap}
-use Rattle.arraydeque.specs.Deque.{DequeState}
-use Rattle.arraydeque.proofs.Scanned.{WholeRun-fresh}
+use Rattle.arraydeque.{specs.Deque.DequeState, proofs.Scanned.{WholeRun-fresh}}
 use Rattle.arraydeque.proofs.lookahead.Scanner.new.Goals as goal
 
 pub returns-in-Ok-clause-ok : goal.returns-in-Ok-clause-ok

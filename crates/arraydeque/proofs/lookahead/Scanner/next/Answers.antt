@@ -1,6 +1,4 @@
-use Rattle.std.proofs.Common.{◌∷◌, [], sym, ◌∙◌, append-nil, arith}
-use Rattle.std.proofs.lemmas.Grind.{common_steps}
-use Rattle.std.specs.Option.{option_to_list}
+use Rattle.std.{proofs.{Common.{◌∷◌, [], sym, ◌∙◌, append-nil, arith}, lemmas.Grind.common_steps}, specs.Option.option_to_list}
 use Rattle.arraydeque.proofs.Scanned.{Reads-none, TakesOff-from_out, HasRest-none}
 use Rattle.arraydeque.proofs.lookahead.Scanner.next.Goals as goal
 

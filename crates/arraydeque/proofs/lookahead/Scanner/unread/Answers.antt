@@ -1,5 +1,4 @@
-use Rattle.std.proofs.Common.{List, ap}
-use Rattle.std.proofs.lemmas.Result.{on_ok_weaker}
+use Rattle.std.proofs.{Common.{List, ap}, lemmas.Result.on_ok_weaker}
 use Rattle.arraydeque.proofs.lookahead.Scanner.unread.Goals as goal
 
 pub returns-clause-buffer : goal.returns-clause-buffer

@@ -1,10 +1,5 @@
-use Rattle.std.proofs.Common.{ap, inl, inr}
-use Rattle.std.specs.Vec.Iter.{into_iter_items}
-use Rattle.arraydeque.specs.Deque.{DequeState}
-use Rattle.arraydeque.specs.Policy.{saturating}
-use Rattle.arraydeque.proofs.Makes.{extended_back-makes, extended_front-makes}
-use Rattle.arraydeque.proofs.PolicyFree.{IsPolicyFree-rest}
-use Rattle.arraydeque.proofs.Taken.{TakesFrom-list}
+use Rattle.std.{proofs.Common.{ap, inl, inr}, specs.Vec.Iter.into_iter_items}
+use Rattle.arraydeque.{specs.{Deque.DequeState, Policy.saturating}, proofs.{Makes.{extended_back-makes, extended_front-makes}, PolicyFree.{IsPolicyFree-rest}, Taken.{TakesFrom-list}}}
 use Rattle.arraydeque.proofs.run.SaturatingMachinePolicy.answer.Goals as goal
 
 pub answer_policy_free-requires : goal.answer_policy_free-requires

@@ -1,9 +1,5 @@
-use Rattle.std.proofs.Common.{inl, inr}
-use Rattle.std.specs.Vec.Iter.{into_iter_items}
-use Rattle.arraydeque.specs.Policy.{wrapping}
-use Rattle.arraydeque.proofs.Makes.{at_none, extended_back-makes, extended_front-makes}
-use Rattle.arraydeque.proofs.PolicyFree.{IsPolicyFree-rest}
-use Rattle.arraydeque.proofs.Taken.{TakesAll-list}
+use Rattle.std.{proofs.Common.{inl, inr}, specs.Vec.Iter.into_iter_items}
+use Rattle.arraydeque.{specs.Policy.wrapping, proofs.{Makes.{at_none, extended_back-makes, extended_front-makes}, PolicyFree.{IsPolicyFree-rest}, Taken.{TakesAll-list}}}
 use Rattle.arraydeque.proofs.run.WrappingMachinePolicy.answer.Goals as goal
 
 pub answer_policy_free-requires : goal.answer_policy_free-requires

@@ -1,18 +1,9 @@
 -- `as_mut_slices` is `lend`, and the ring follows the loan's slices. Assumes `Logic`.
-use Rattle.arraydeque_ring.proofs.memory.Kit.{◌≡◌, refl, sym, ap, ◌∙◌, List, [], ◌∷◌, ◌++◌, ◌+◌, ◌≤◌, length, emp, id⊢, fact_i, ftrue, flft, Fn, inst_fn, named, ◌⊑◌, fact, tables, ‵, raw, ◌⊛◌, some, later, ◌$◌, ◌∵◌, !, qed, move, use0, use1, use2, drop, split, join, pick, frame, rewrite, await, fsplit, fjoin, suffices, done, enter, addr, stop, no_more, and_then, returns, alloc_all, pass_all, free_all, look_at, get, through, sets, lands_as, no, plain, mem, Is, shows, peeks, Stays, walk_of, says_two, stay_dropped, ends_at, nothing, heard, calls_at, framed, triple_of, param_laws, El, R, args, el_x, proved, ap₂, after₂, split3, Array, both_by, MutBor, NamedLft, mut_vals, mut_Tells, mut_ref_to, named_lft, lasts, Lasts, on_entry, Goes-spent_ref}
-use Rattle.arraydeque_ring.specs.Loans.{LoanState, remaining, as_many}
-use Rattle.arraydeque_ring.specs.Ring.{RingState}
-use Rattle.arraydeque_ring.specs.RingLends.{rewritten, lends_loan, lends_slices}
+use Rattle.arraydeque_ring.{proofs.{memory.Kit.{◌≡◌, refl, sym, ap, ◌∙◌, List, [], ◌∷◌, ◌++◌, ◌+◌, ◌≤◌, length, emp, id⊢, fact_i, ftrue, flft, Fn, inst_fn, named, ◌⊑◌, fact, tables, ‵, raw, ◌⊛◌, some, later, ◌$◌, ◌∵◌, !, qed, move, use0, use1, use2, drop, split, join, pick, frame, rewrite, await, fsplit, fjoin, suffices, done, enter, addr, stop, no_more, and_then, returns, alloc_all, pass_all, free_all, look_at, get, through, sets, lands_as, no, plain, mem, Is, shows, peeks, Stays, walk_of, says_two, stay_dropped, ends_at, nothing, heard, calls_at, framed, triple_of, param_laws, El, R, args, el_x, proved, ap₂, after₂, split3, Array, both_by, MutBor, NamedLft, mut_vals, mut_Tells, mut_ref_to, named_lft, lasts, Lasts, on_entry, Goes-spent_ref}, loans.{Names.followed_both, Placed.{as_many-twice}, Rings.Rr, Slices.{Slices, slices_lawful}}, ring.Ring.lend.Met.met, slots.loan.Loan.into_slices.Met.{met as into_met}}, specs.{Loans.{LoanState, remaining, as_many}, Ring.RingState, RingLends.{rewritten, lends_loan, lends_slices}}}
 use Rattle.arraydeque_ring.specs.contracts.slots.loan.Loan as loan
 use Rattle.arraydeque_ring.proofs.slots.loan.Loan.TheLaws as loan_laws
-use Rattle.arraydeque_ring.proofs.loans.Names.{followed_both}
-use Rattle.arraydeque_ring.proofs.loans.Placed.{as_many-twice}
-use Rattle.arraydeque_ring.proofs.loans.Rings.{Rr}
-use Rattle.arraydeque_ring.proofs.loans.Slices.{Slices, slices_lawful}
 use Rattle.arraydeque_ring.specs.contracts.ring.Ring.lend as g
-use Rattle.arraydeque_ring.proofs.ring.Ring.lend.Met.{met}
 use Rattle.arraydeque_ring.specs.contracts.slots.loan.Loan.into_slices as h
-use Rattle.arraydeque_ring.proofs.slots.loan.Loan.into_slices.Met.{met as into_met}
 use Rattle.arraydeque_ring.specs.contracts.ring.Ring.as_mut_slices as f
 use Rattle.arraydeque_ring.proofs.ring.Ring.as_mut_slices.Statement as stated
 use Rattle.arraydeque_ring.proofs.ring.Ring.as_mut_slices.Code as code

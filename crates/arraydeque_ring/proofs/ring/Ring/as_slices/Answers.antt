@@ -1,7 +1,5 @@
-use Rattle.std.proofs.Common.{◌-◌, ◌++◌, drop, inl, inr, ap₂, ◌∙◌, arith}
-use Rattle.std.proofs.lemmas.List.{append-nil, length-drop, take_all, take-append-drop}
-use Rattle.arraydeque_ring.proofs.places.LaidOut.{length_within, IsFilledRun-LaidOut, same_run}
-use Rattle.arraydeque_ring.proofs.places.Opened.{opened}
+use Rattle.std.proofs.{Common.{◌-◌, ◌++◌, drop, inl, inr, ap₂, ◌∙◌, arith}, lemmas.List.{append-nil, length-drop, take_all, take-append-drop}}
+use Rattle.arraydeque_ring.proofs.places.{LaidOut.{length_within, IsFilledRun-LaidOut, same_run}, Opened.opened}
 use Rattle.arraydeque_ring.proofs.ring.Ring.as_slices.Goals as goal
 
 pub slice-requires : goal.slice-requires

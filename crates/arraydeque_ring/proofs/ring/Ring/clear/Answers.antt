@@ -1,13 +1,6 @@
-use Rattle.std.proofs.Common.{◌≡◌, ◌+◌, ◌-◌, inl, [], length, refl, arith}
-use Rattle.std.proofs.lemmas.List.{drop_all}
-use Rattle.arraydeque_ring.specs.Steps.{more_takes}
-use Rattle.arraydeque_ring.proofs.gaps.Gapped.{Gapped-taken, LaidOut-gap_last}
-use Rattle.arraydeque_ring.proofs.places.Handed.{Handed, handed}
-use Rattle.arraydeque_ring.proofs.places.LaidOut.{IsFilledRun-LaidOut, IsFilledRun-rotated, LaidOut-restart}
-use Rattle.arraydeque_ring.proofs.places.Opened.{Opened, opened, closed, kept}
-use Rattle.arraydeque_ring.proofs.ring.Ring.clear.Given.{Over}
+use Rattle.std.proofs.{Common.{◌≡◌, ◌+◌, ◌-◌, inl, [], length, refl, arith}, lemmas.List.drop_all}
+use Rattle.arraydeque_ring.{specs.Steps.more_takes, proofs.{gaps.Gapped.{Gapped-taken, LaidOut-gap_last}, places.{Handed.{Handed, handed}, LaidOut.{IsFilledRun-LaidOut, IsFilledRun-rotated, LaidOut-restart}, Opened.{Opened, opened, closed, kept}}, ring.Ring.clear.{Given.Over, Goals.{After-drop_run}}}}
 use Rattle.arraydeque_ring.proofs.ring.Ring.clear.Goals as goal
-use Rattle.arraydeque_ring.proofs.ring.Ring.clear.Goals.{After-drop_run}
 
 -- all items stand in two runs
 runs : (g : Over) (c : After-drop_run g) → Handed c.self.inside.start 0 c.self.inside.len c.self.inside.start c.min-first.result c.self.inside.slots.places

@@ -1,8 +1,5 @@
-use Rattle.std.proofs.Common.{◌≡◌, ◌+◌, ◌∷◌, [], ◌++◌, inl, length, take, sym, ap, ap₂, ◌∙◌, arith}
-use Rattle.std.proofs.lemmas.List.{append-nil, length-append, length-take-le, take_all, take_more}
-use Rattle.arraydeque_ring.specs.Steps.{more_puts}
-use Rattle.arraydeque_ring.proofs.fills.InRows.{IsEmpty-behind, LaidOut-behind, more_none}
-use Rattle.arraydeque_ring.proofs.places.Opened.{opened, closed, kept}
+use Rattle.std.proofs.{Common.{◌≡◌, ◌+◌, ◌∷◌, [], ◌++◌, inl, length, take, sym, ap, ap₂, ◌∙◌, arith}, lemmas.List.{append-nil, length-append, length-take-le, take_all, take_more}}
+use Rattle.arraydeque_ring.{specs.Steps.more_puts, proofs.{fills.InRows.{IsEmpty-behind, LaidOut-behind, more_none}, places.Opened.{opened, closed, kept}}}
 use Rattle.arraydeque_ring.proofs.ring.Ring.clone_back.Goals as goal
 
 pub loop-item-init : goal.loop-item-init

@@ -1,6 +1,5 @@
 use Rattle.std.proofs.Common.{◌++◌, take}
-use Rattle.arraydeque_ring.specs.Steps.{more_puts}
-use Rattle.arraydeque_ring.proofs.places.Opened.{Opened}
+use Rattle.arraydeque_ring.{specs.Steps.more_puts, proofs.places.Opened.Opened}
 use Rattle.arraydeque_ring.proofs.ring.Ring.clone_back.Given as goal
 
 abbrev pub invariant-loop-item : goal.invariant-loop-item

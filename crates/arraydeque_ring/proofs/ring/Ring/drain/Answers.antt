@@ -1,18 +1,5 @@
-use Rattle.std.proofs.Common.{◌≡◌, ◌+◌, ◌-◌, ◌<◌, length, take, drop, min, nat_lt, if◌then◌else◌, inl, inr, refl, sym, subst, ap, ◌∙◌, arith}
-use Rattle.std.specs.List.{remove_range}
-use Rattle.std.proofs.lemmas.Bool.{cases_lt, cond_below, cond_above, lt-ltb}
-use Rattle.std.proofs.lemmas.List.{length-append, length-take-le, length-drop}
-use Rattle.arraydeque_ring.specs.Changed.{IsFewest}
-use Rattle.arraydeque_ring.specs.Ring.{RingState, place_of}
-use Rattle.arraydeque_ring.specs.Steps.{more_takes, more_moves}
-use Rattle.arraydeque_ring.proofs.gaps.Fewest.{fewest_drain}
-use Rattle.arraydeque_ring.proofs.gaps.GapMoves.{may_close, LaidOut-closed}
-use Rattle.arraydeque_ring.proofs.gaps.Gapped.{Gapped, Gapped-taken}
-use Rattle.arraydeque_ring.proofs.places.LaidOut.{length_within, IsFilledRun-rotated, values-run}
-use Rattle.arraydeque_ring.proofs.places.Opened.{Opened, opened, closed, kept}
-use Rattle.arraydeque_ring.proofs.places.Rotated.{place_of-zero}
-use Rattle.arraydeque_ring.proofs.ring.Ring.drain.Given.{Over}
-use Rattle.arraydeque_ring.proofs.ring.Ring.drain.Goals.{After-take_run}
+use Rattle.std.{proofs.{Common.{◌≡◌, ◌+◌, ◌-◌, ◌<◌, length, take, drop, min, nat_lt, if◌then◌else◌, inl, inr, refl, sym, subst, ap, ◌∙◌, arith}, lemmas.{Bool.{cases_lt, cond_below, cond_above, lt-ltb}, List.{length-append, length-take-le, length-drop}}}, specs.List.remove_range}
+use Rattle.arraydeque_ring.{specs.{Changed.IsFewest, Ring.{RingState, place_of}, Steps.{more_takes, more_moves}}, proofs.{gaps.{Fewest.fewest_drain, GapMoves.{may_close, LaidOut-closed}, Gapped.{Gapped, Gapped-taken}}, places.{LaidOut.{length_within, IsFilledRun-rotated, values-run}, Opened.{Opened, opened, closed, kept}, Rotated.{place_of-zero}}, ring.Ring.drain.{Given.Over, Goals.{After-take_run}}}}
 use Rattle.arraydeque_ring.proofs.ring.Ring.drain.Goals as goal
 
 pub returns-then-count-eq0-clause-start : goal.returns-then-count-eq0-clause-start

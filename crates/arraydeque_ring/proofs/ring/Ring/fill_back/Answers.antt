@@ -1,8 +1,5 @@
-use Rattle.std.proofs.Common.{length, ap, ◌∙◌, arith}
-use Rattle.std.proofs.lemmas.List.{length-append}
-use Rattle.arraydeque_ring.specs.Ring.{RingState}
-use Rattle.arraydeque_ring.proofs.fills.FromIterator.{Fills-both}
-use Rattle.arraydeque_ring.proofs.fills.InRows.{filled_back, filled_back-both}
+use Rattle.std.proofs.{Common.{length, ap, ◌∙◌, arith}, lemmas.List.{length-append}}
+use Rattle.arraydeque_ring.{specs.Ring.RingState, proofs.fills.{FromIterator.{Fills-both}, InRows.{filled_back, filled_back-both}}}
 use Rattle.arraydeque_ring.proofs.ring.Ring.fill_back.Goals as goal
 
 pub returns-clause-filled : goal.returns-clause-filled

@@ -1,8 +1,5 @@
 use Rattle.std.proofs.Common.{◌≡◌, ◌+◌, ◌-◌, inl, refl, ◌∙◌, arith}
-use Rattle.arraydeque_ring.proofs.fills.FromIterator.{Fills-none, Fills-one, Fills-over, Fills-as, Fills-to}
-use Rattle.arraydeque_ring.proofs.fills.InRows.{front_none, front_more, IsEmpty-front, next_before}
-use Rattle.arraydeque_ring.proofs.places.Opened.{opened, closed, kept, with_len}
-use Rattle.arraydeque_ring.proofs.ring.Ring.fill_down.Goals.{else-loop-filled-test, then-loop-filled-test+in_default}
+use Rattle.arraydeque_ring.proofs.{fills.{FromIterator.{Fills-none, Fills-one, Fills-over, Fills-as, Fills-to}, InRows.{front_none, front_more, IsEmpty-front, next_before}}, places.Opened.{opened, closed, kept, with_len}, ring.Ring.fill_down.Goals.{else-loop-filled-test, then-loop-filled-test+in_default}}
 use Rattle.arraydeque_ring.proofs.ring.Ring.fill_down.Goals as goal
 
 pub loop-filled-init : goal.loop-filled-init

@@ -1,8 +1,5 @@
-use Rattle.std.proofs.Common.{◌≡◌, ◌+◌, ◌-◌, ◌<◌, ◌≤◌, false}
-use Rattle.std.specs.Iterator.{IsFinite}
-use Rattle.arraydeque_ring.specs.Fills.{Fills}
-use Rattle.arraydeque_ring.proofs.fills.InRows.{MayEndAt, filled_front}
-use Rattle.arraydeque_ring.proofs.places.Opened.{Opened}
+use Rattle.std.{proofs.Common.{◌≡◌, ◌+◌, ◌-◌, ◌<◌, ◌≤◌, false}, specs.Iterator.IsFinite}
+use Rattle.arraydeque_ring.{specs.Fills.Fills, proofs.{fills.InRows.{MayEndAt, filled_front}, places.Opened.Opened}}
 use Rattle.arraydeque_ring.proofs.ring.Ring.fill_down.Given as goal
 
 abbrev pub invariant-loop-filled : goal.invariant-loop-filled

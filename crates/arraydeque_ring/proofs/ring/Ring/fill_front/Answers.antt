@@ -1,8 +1,5 @@
-use Rattle.std.proofs.Common.{inr, length, reverse, sym, ap, ◌∙◌, arith}
-use Rattle.std.proofs.lemmas.List.{length-append, length-reverse}
-use Rattle.arraydeque_ring.specs.Ring.{RingState}
-use Rattle.arraydeque_ring.proofs.fills.FromIterator.{Fills-both}
-use Rattle.arraydeque_ring.proofs.fills.InRows.{filled_front, filled_front-both}
+use Rattle.std.proofs.{Common.{inr, length, reverse, sym, ap, ◌∙◌, arith}, lemmas.List.{length-append, length-reverse}}
+use Rattle.arraydeque_ring.{specs.Ring.RingState, proofs.fills.{FromIterator.{Fills-both}, InRows.{filled_front, filled_front-both}}}
 use Rattle.arraydeque_ring.proofs.ring.Ring.fill_front.Goals as goal
 
 pub fill_down-ring-requires-2-clause-before : goal.fill_down-ring-requires-2-clause-before

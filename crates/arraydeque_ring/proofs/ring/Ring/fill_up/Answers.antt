@@ -1,8 +1,5 @@
 use Rattle.std.proofs.Common.{refl, ◌∙◌, arith}
-use Rattle.arraydeque_ring.proofs.fills.FromIterator.{Fills-none, Fills-one, Fills-over, Fills-as, Fills-to}
-use Rattle.arraydeque_ring.proofs.fills.InRows.{back_none, back_more, IsEmpty-behind, LaidOut-behind}
-use Rattle.arraydeque_ring.proofs.places.Opened.{opened, closed, kept, with_len}
-use Rattle.arraydeque_ring.proofs.ring.Ring.fill_up.Goals.{else-loop-place-test, then-loop-place-test+in_default}
+use Rattle.arraydeque_ring.proofs.{fills.{FromIterator.{Fills-none, Fills-one, Fills-over, Fills-as, Fills-to}, InRows.{back_none, back_more, IsEmpty-behind, LaidOut-behind}}, places.Opened.{opened, closed, kept, with_len}, ring.Ring.fill_up.Goals.{else-loop-place-test, then-loop-place-test+in_default}}
 use Rattle.arraydeque_ring.proofs.ring.Ring.fill_up.Goals as goal
 
 pub loop-place-init : goal.loop-place-init

@@ -1,8 +1,5 @@
-use Rattle.std.proofs.Common.{◌≡◌, ◌+◌, ◌-◌, ◌≤◌, false}
-use Rattle.std.specs.Iterator.{IsFinite}
-use Rattle.arraydeque_ring.specs.Fills.{Fills}
-use Rattle.arraydeque_ring.proofs.fills.InRows.{filled_back}
-use Rattle.arraydeque_ring.proofs.places.Opened.{Opened}
+use Rattle.std.{proofs.Common.{◌≡◌, ◌+◌, ◌-◌, ◌≤◌, false}, specs.Iterator.IsFinite}
+use Rattle.arraydeque_ring.{specs.Fills.Fills, proofs.{fills.InRows.filled_back, places.Opened.Opened}}
 use Rattle.arraydeque_ring.proofs.ring.Ring.fill_up.Given as goal
 
 abbrev pub invariant-loop-place : goal.invariant-loop-place

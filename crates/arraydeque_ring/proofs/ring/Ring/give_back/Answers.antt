@@ -1,6 +1,5 @@
 use Rattle.std.proofs.Common.{ap, length}
-use Rattle.arraydeque_ring.proofs.places.LaidOut.{AreAllEmpty-LaidOut}
-use Rattle.arraydeque_ring.proofs.places.Opened.{opened}
+use Rattle.arraydeque_ring.proofs.places.{LaidOut.{AreAllEmpty-LaidOut}, Opened.opened}
 use Rattle.arraydeque_ring.proofs.ring.Ring.give_back.Goals as goal
 
 pub drop-self-inside-requires : goal.drop-self-inside-requires

@@ -1,17 +1,5 @@
-use Rattle.std.proofs.Common.{◌≡◌, ◌+◌, ◌-◌, length, take, drop, min, nat_lt, if◌then◌else◌, sym, refl, ap, ◌∙◌, arith}
-use Rattle.std.specs.List.{insert}
-use Rattle.std.proofs.lemmas.Bool.{cond_below, cond_above}
-use Rattle.std.proofs.lemmas.List.{length-take-le, append-nil}
-use Rattle.std.proofs.lemmas.List.Edits.{length-insert}
-use Rattle.arraydeque_ring.specs.Ring.{RingState, place_of}
-use Rattle.arraydeque_ring.specs.Steps.{more_puts, more_moves}
-use Rattle.arraydeque_ring.proofs.gaps.Fewest.{fewest_insert}
-use Rattle.arraydeque_ring.proofs.gaps.GapMoves.{gap_empty, filled_before, filled_behind, Gapped-earlier, Gapped-later}
-use Rattle.arraydeque_ring.proofs.gaps.Gapped.{Gapped, Gapped-before, Gapped-behind, IsEmpty-gap, LaidOut-put}
-use Rattle.arraydeque_ring.proofs.places.Opened.{Opened, opened, closed, kept}
-use Rattle.arraydeque_ring.proofs.places.Rotated.{place_of-lt}
-use Rattle.arraydeque_ring.proofs.ring.Ring.insert.Given.{Over}
-use Rattle.arraydeque_ring.proofs.ring.Ring.insert.Goals.{After-wrap_add, then-index-behind, else-index-behind}
+use Rattle.std.{proofs.{Common.{◌≡◌, ◌+◌, ◌-◌, length, take, drop, min, nat_lt, if◌then◌else◌, sym, refl, ap, ◌∙◌, arith}, lemmas.{Bool.{cond_below, cond_above}, List.{length-take-le, append-nil, Edits.{length-insert}}}}, specs.List.insert}
+use Rattle.arraydeque_ring.{specs.{Ring.{RingState, place_of}, Steps.{more_puts, more_moves}}, proofs.{gaps.{Fewest.fewest_insert, GapMoves.{gap_empty, filled_before, filled_behind, Gapped-earlier, Gapped-later}, Gapped.{Gapped, Gapped-before, Gapped-behind, IsEmpty-gap, LaidOut-put}}, places.{Opened.{Opened, opened, closed, kept}, Rotated.{place_of-lt}}, ring.Ring.insert.{Given.Over, Goals.{After-wrap_add, then-index-behind, else-index-behind}}}}
 use Rattle.arraydeque_ring.proofs.ring.Ring.insert.Goals as goal
 
 pub move_earlier-requires : goal.move_earlier-requires

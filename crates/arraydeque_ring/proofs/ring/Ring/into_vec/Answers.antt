@@ -1,16 +1,5 @@
-use Rattle.std.proofs.Common.{◌≡◌, ℕ, ◌+◌, ◌-◌, ◌<◌, ◌≤◌, List, [], ◌∷◌, ◌++◌, length, take, set, slice_get, nat_lt, if◌then◌else◌, Option, Some, None, inl, inr, refl, subst, sym, ap, ap₂, ◌∙◌, arith}
-use Rattle.std.proofs.Math.Nat.{mod-eq_of_lt}
-use Rattle.std.proofs.lemmas.Bool.Decides.{nat_tests}
-use Rattle.std.proofs.lemmas.Grind.{common_steps}
-use Rattle.std.proofs.lemmas.List.{take_all, take_more}
-use Rattle.std.proofs.lemmas.Option.{get_or_from_slice_get, slice_get_past}
-use Rattle.arraydeque_ring.specs.Places.{held_at, IsFilled}
-use Rattle.arraydeque_ring.specs.Ring.{place_of}
-use Rattle.arraydeque_ring.proofs.places.Holds.{Holds, Holds-same, Holds-set}
-use Rattle.arraydeque_ring.proofs.places.Items.{slice_get_some}
-use Rattle.arraydeque_ring.proofs.places.LaidOut.{holds, length_within, LaidOut-by, AreAllEmpty-LaidOut}
-use Rattle.arraydeque_ring.proofs.places.Opened.{opened}
-use Rattle.arraydeque_ring.proofs.places.Rotated.{place_of_cases}
+use Rattle.std.proofs.{Common.{◌≡◌, ℕ, ◌+◌, ◌-◌, ◌<◌, ◌≤◌, List, [], ◌∷◌, ◌++◌, length, take, set, slice_get, nat_lt, if◌then◌else◌, Option, Some, None, inl, inr, refl, subst, sym, ap, ap₂, ◌∙◌, arith}, Math.Nat.{mod-eq_of_lt}, lemmas.{Bool.Decides.nat_tests, Grind.common_steps, List.{take_all, take_more}, Option.{get_or_from_slice_get, slice_get_past}}}
+use Rattle.arraydeque_ring.{specs.{Places.{held_at, IsFilled}, Ring.place_of}, proofs.places.{Holds.{Holds, Holds-same, Holds-set}, Items.slice_get_some, LaidOut.{holds, length_within, LaidOut-by, AreAllEmpty-LaidOut}, Opened.opened, Rotated.place_of_cases}}
 use Rattle.arraydeque_ring.proofs.ring.Ring.into_vec.Goals as goal
 
 -- k are out, and the next is `place`

@@ -1,5 +1,4 @@
-use Rattle.std.proofs.Common.{◌≡◌, ◌+◌, ◌-◌, ◌≤◌, length, take, slice_get, nat_lt, if◌then◌else◌, None, vec_len}
-use Rattle.std.specs.Vec.{vec_capacity}
+use Rattle.std.{proofs.Common.{◌≡◌, ◌+◌, ◌-◌, ◌≤◌, length, take, slice_get, nat_lt, if◌then◌else◌, None, vec_len}, specs.Vec.vec_capacity}
 use Rattle.arraydeque_ring.proofs.places.Holds.{Holds}
 use Rattle.arraydeque_ring.proofs.ring.Ring.into_vec.Given as goal
 

@@ -1,32 +1,16 @@
 -- `lend` lends all items: its slots lend two runs, and the ring follows what they follow. Assumes `Logic`.
-use Rattle.arraydeque_ring.proofs.memory.Kit.{◌≡◌, refl, ap, List, [], ◌∷◌, ℕ, ◌+◌, ◌<◌, ◌≤◌, ◌^◌, lit<, arith, length, full_share, emp, id⊢, fact_i, Share, GName, ftrue, fsep, fat, flft, fauth, Fn, inst_fn, named, w64, Val, vptr, ◌⊑◌, fact, tables, sem, Borrowed, owns, types_at, ‵, raw, ◌⊛◌, some, later, ◌$◌, ◌∵◌, !, qed, move, keep, use0, use1, use2, drop, split, join, pick, frame, rewrite, await, fsplit, fsplit3, fjoin, fjoin3, fpack, feq_i, feq_l, flt_l, suffices, done, enter, of_opd, lit, bin, addr, load, look, stop, fld, no_more, whole, sub, look_in, only, and_then, returns, alloc_all, pass_all, free_all, look_at, get, through, sets, lands_as, no, plain, usize, uint_vals, mem, part_at, Is, shows, peeks, Stays, walk_of, says_two, stay_dropped, ends_at, nothing, heard, calls_at, framed, triple_of, param_laws, El, R, args, el_x, proved, after₂, split3, group, name_new, Array, both_by, part_in, part_out, lone, MutBor, NamedLft, mut_vals, mut_Tells, mut_ref_to, named_lft, lasts, Lasts, Goes-spent_ref, pure_i}
-use Rattle.std.specs.Prelude.{◌-◌, min}
-use types.Follow.{after}
-use types.Late.{ages, bor_new_deep}
-use types.Mut.{open_ref}
-use types.Run.{well_typed}
+use Rattle.arraydeque_ring.{proofs.{memory.{Kit.{◌≡◌, refl, ap, List, [], ◌∷◌, ℕ, ◌+◌, ◌<◌, ◌≤◌, ◌^◌, lit<, arith, length, full_share, emp, id⊢, fact_i, Share, GName, ftrue, fsep, fat, flft, fauth, Fn, inst_fn, named, w64, Val, vptr, ◌⊑◌, fact, tables, sem, Borrowed, owns, types_at, ‵, raw, ◌⊛◌, some, later, ◌$◌, ◌∵◌, !, qed, move, keep, use0, use1, use2, drop, split, join, pick, frame, rewrite, await, fsplit, fsplit3, fjoin, fjoin3, fpack, feq_i, feq_l, flt_l, suffices, done, enter, of_opd, lit, bin, addr, load, look, stop, fld, no_more, whole, sub, look_in, only, and_then, returns, alloc_all, pass_all, free_all, look_at, get, through, sets, lands_as, no, plain, usize, uint_vals, mem, part_at, Is, shows, peeks, Stays, walk_of, says_two, stay_dropped, ends_at, nothing, heard, calls_at, framed, triple_of, param_laws, El, R, args, el_x, proved, after₂, split3, group, name_new, Array, both_by, part_in, part_out, lone, MutBor, NamedLft, mut_vals, mut_Tells, mut_ref_to, named_lft, lasts, Lasts, Goes-spent_ref, pure_i}, Regions.{Sr, Seen, slots_val, slots_apart, slots_made, HoldsRun, IsFilledRun}}, loans.{Lending.{Cut, cut_at_end, ended, with_slots, kept_after, seen_after, both_written, lent_items, first_filled, rest_filled, apart}, Made.renamed, Placed.run_length, Names.{hands_on, followed_both}, Rings.{Rr, Fields, Others, Way, fields_out, slots_out, ring_whole}}, places.Opened.{opened, view, Kept}, slots.Slots.lend_two.Met.met}, specs.{Loans.{LoanState, AreApart}, Ring.RingState, RingLends.rewritten}}
+use Rattle.std.{specs.Prelude.{◌-◌, min}, proofs.lemmas.List.nil_from_length, below.core.proofs.int.usize.min.Met.{met as e_met}}
+use types.{Follow.after, Late.{ages, bor_new_deep}, Mut.open_ref, Run.well_typed}
 use base.Share
 use base.Logic.{sep}
 use denote.Plain.{uint_in, uint_out}
 use Rattle.arraydeque_ring.specs.Lends as Lends
-use Rattle.arraydeque_ring.specs.Loans.{LoanState, AreApart}
-use Rattle.arraydeque_ring.specs.Ring.{RingState}
-use Rattle.arraydeque_ring.specs.RingLends.{rewritten}
 use Rattle.arraydeque_ring.specs.contracts.slots.loan.Loan as loan
 use Rattle.arraydeque_ring.specs.contracts.ring.Ring.TheInside as inside
 use Rattle.arraydeque_ring.proofs.slots.loan.Loan.TheLaws as loan_laws
-use Rattle.arraydeque_ring.proofs.loans.Lending.{Cut, cut_at_end, ended, with_slots, kept_after, seen_after, both_written, lent_items, first_filled, rest_filled, apart}
-use Rattle.arraydeque_ring.proofs.loans.Made.{renamed}
-use Rattle.arraydeque_ring.proofs.loans.Placed.{run_length}
-use Rattle.std.proofs.lemmas.List.{nil_from_length}
-use Rattle.arraydeque_ring.proofs.loans.Names.{hands_on, followed_both}
-use Rattle.arraydeque_ring.proofs.loans.Rings.{Rr, Fields, Others, Way, fields_out, slots_out, ring_whole}
-use Rattle.arraydeque_ring.proofs.memory.Regions.{Sr, Seen, slots_val, slots_apart, slots_made, HoldsRun, IsFilledRun}
-use Rattle.arraydeque_ring.proofs.places.Opened.{opened, view, Kept}
 use Rattle.arraydeque_ring.specs.contracts.slots.Slots.lend_two as g
-use Rattle.arraydeque_ring.proofs.slots.Slots.lend_two.Met.{met}
 use Rattle.std.below.core.specs.contracts.int.usize.min as e
-use Rattle.std.below.core.proofs.int.usize.min.Met.{met as e_met}
 use Rattle.arraydeque_ring.specs.contracts.ring.Ring.lend as f
 use Rattle.arraydeque_ring.proofs.ring.Ring.lend.Statement as stated
 use Rattle.arraydeque_ring.proofs.ring.Ring.lend.Code as code

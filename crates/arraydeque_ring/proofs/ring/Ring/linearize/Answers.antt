@@ -1,12 +1,5 @@
-use Rattle.std.proofs.Common.{length, refl, sym, ap, subst, ◌∙◌, arith}
-use Rattle.std.proofs.lemmas.List.{append-nil}
-use Rattle.arraydeque_ring.specs.Places.{Region}
-use Rattle.arraydeque_ring.specs.Ring.{IsInOnePiece}
-use Rattle.arraydeque_ring.proofs.places.LaidOut.{length_within, rotated-LaidOut, LaidOut-from}
-use Rattle.arraydeque_ring.proofs.places.Opened.{Opened, opened, closed, kept}
-use Rattle.arraydeque_ring.proofs.places.Rotated.{length-rotated}
-use Rattle.arraydeque_ring.proofs.ring.Ring.linearize.Given.{Over}
-use Rattle.arraydeque_ring.proofs.ring.Ring.linearize.Goals.{After-replace-nothing}
+use Rattle.std.proofs.{Common.{length, refl, sym, ap, subst, ◌∙◌, arith}, lemmas.List.{append-nil}}
+use Rattle.arraydeque_ring.{specs.{Places.Region, Ring.IsInOnePiece}, proofs.{places.{LaidOut.{length_within, rotated-LaidOut, LaidOut-from}, Opened.{Opened, opened, closed, kept}, Rotated.{length-rotated}}, ring.Ring.linearize.{Given.Over, Goals.{After-replace-nothing}}}}
 use Rattle.arraydeque_ring.proofs.ring.Ring.linearize.Goals as goal
 
 -- once the rotated region is put back

@@ -1,8 +1,5 @@
 use Rattle.std.proofs.Common.{refl}
-use Rattle.arraydeque_ring.specs.Ring.{empty_ring}
-use Rattle.arraydeque_ring.proofs.places.LaidOut.{LaidOut-nothing}
-use Rattle.arraydeque_ring.proofs.places.Opened.{Opened, closed, kept}
-use Rattle.arraydeque_ring.proofs.ring.Ring.new.Given.{Over}
+use Rattle.arraydeque_ring.{specs.Ring.empty_ring, proofs.{places.{LaidOut.{LaidOut-nothing}, Opened.{Opened, closed, kept}}, ring.Ring.new.Given.Over}}
 use Rattle.arraydeque_ring.proofs.ring.Ring.new.Goals as goal
 
 made : (g : Over) (c : goal.In_ok-slots g) → Opened record { slots = c.in_ok-slots.slots; start = 0; len = 0; alloc = c.args.alloc } (empty_ring c.args.capacity)

@@ -1,11 +1,5 @@
-use Rattle.std.proofs.Common.{◌≡◌, ℕ, List, ◌+◌, ◌∷◌, [], ◌++◌, inl, length, take, refl, sym, ap, ◌∙◌, arith}
-use Rattle.std.proofs.lemmas.List.{length-take-le, take_all, take_more}
-use Rattle.std.specs.declared.alloc.Global.{Global}
-use Rattle.arraydeque_ring.specs.Places.{Region}
-use Rattle.arraydeque_ring.specs.Steps.{no_steps, more_puts}
-use Rattle.arraydeque_ring.proofs.fills.InRows.{IsEmpty-behind, LaidOut-behind}
-use Rattle.arraydeque_ring.proofs.places.LaidOut.{LaidOut}
-use Rattle.arraydeque_ring.proofs.places.Opened.{Opened, closed, kept}
+use Rattle.std.{proofs.{Common.{◌≡◌, ℕ, List, ◌+◌, ◌∷◌, [], ◌++◌, inl, length, take, refl, sym, ap, ◌∙◌, arith}, lemmas.List.{length-take-le, take_all, take_more}}, specs.declared.alloc.Global.Global}
+use Rattle.arraydeque_ring.{specs.{Places.Region, Steps.{no_steps, more_puts}}, proofs.{fills.InRows.{IsEmpty-behind, LaidOut-behind}, places.{LaidOut.LaidOut, Opened.{Opened, closed, kept}}}}
 use Rattle.arraydeque_ring.proofs.ring.Ring.of_copies.Goals as goal
 
 pub put-requires : goal.put-requires

@@ -1,6 +1,5 @@
 use Rattle.std.proofs.Common.{◌≡◌, take}
-use Rattle.arraydeque_ring.specs.Steps.{no_steps, more_puts}
-use Rattle.arraydeque_ring.proofs.places.LaidOut.{LaidOut}
+use Rattle.arraydeque_ring.{specs.Steps.{no_steps, more_puts}, proofs.places.LaidOut.LaidOut}
 use Rattle.arraydeque_ring.proofs.ring.Ring.of_copies.Given as goal
 
 abbrev pub invariant-loop-item : goal.invariant-loop-item

@@ -1,16 +1,5 @@
-use Rattle.std.proofs.Common.{suc, ◌-◌, length, take, drop, min, nat_lt, if◌then◌else◌, ap, sym, ◌∙◌, arith}
-use Rattle.std.specs.List.{remove}
-use Rattle.std.proofs.lemmas.List.{length-take-le, length-drop}
-use Rattle.std.proofs.lemmas.List.Edits.{length-remove}
-use Rattle.arraydeque_ring.specs.Ring.{RingState, place_of}
-use Rattle.arraydeque_ring.specs.Steps.{more_takes, more_moves}
-use Rattle.arraydeque_ring.proofs.gaps.Fewest.{fewest_remove}
-use Rattle.arraydeque_ring.proofs.gaps.GapMoves.{may_close, LaidOut-closed}
-use Rattle.arraydeque_ring.proofs.gaps.Gapped.{Gapped, Gapped-taken_one}
-use Rattle.arraydeque_ring.proofs.places.LaidOut.{length_within, IsFilled-place_of}
-use Rattle.arraydeque_ring.proofs.places.Opened.{Opened, opened, closed, kept, place_at}
-use Rattle.arraydeque_ring.proofs.ring.Ring.remove.Given.{Over}
-use Rattle.arraydeque_ring.proofs.ring.Ring.remove.Goals.{After-take-item}
+use Rattle.std.{proofs.{Common.{suc, ◌-◌, length, take, drop, min, nat_lt, if◌then◌else◌, ap, sym, ◌∙◌, arith}, lemmas.List.{length-take-le, length-drop, Edits.{length-remove}}}, specs.List.remove}
+use Rattle.arraydeque_ring.{specs.{Ring.{RingState, place_of}, Steps.{more_takes, more_moves}}, proofs.{gaps.{Fewest.fewest_remove, GapMoves.{may_close, LaidOut-closed}, Gapped.{Gapped, Gapped-taken_one}}, places.{LaidOut.{length_within, IsFilled-place_of}, Opened.{Opened, opened, closed, kept, place_at}}, ring.Ring.remove.{Given.Over, Goals.{After-take-item}}}}
 use Rattle.arraydeque_ring.proofs.ring.Ring.remove.Goals as goal
 
 pub take-item-requires : goal.take-item-requires

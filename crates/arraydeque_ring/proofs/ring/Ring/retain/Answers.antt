@@ -1,15 +1,6 @@
-use Rattle.std.proofs.Common.{length, not, count_by, refl, ap, ◌∙◌, subst, Bool, arith}
-use Rattle.std.specs.Fn.{CalledAt}
-use Rattle.std.specs.List.{items_where_true}
-use Rattle.std.proofs.lemmas.Fn.{called_at}
-use Rattle.arraydeque_ring.specs.Retained.{count_moved}
-use Rattle.arraydeque_ring.specs.Ring.{RingState}
-use Rattle.arraydeque_ring.specs.Steps.{more_takes, more_moves}
-use Rattle.arraydeque_ring.proofs.retained.Retaining.{none_asked, next_filled, next_asked, room_for_next, all_within, one_stays, one_goes, all_asked}
-use Rattle.arraydeque_ring.proofs.places.Opened.{Opened, opened, closed, kept}
-use Rattle.arraydeque_ring.proofs.ring.Ring.retain.Given.{Over}
+use Rattle.std.{proofs.{Common.{length, not, count_by, refl, ap, ◌∙◌, subst, Bool, arith}, lemmas.Fn.called_at}, specs.{Fn.CalledAt, List.items_where_true}}
+use Rattle.arraydeque_ring.{specs.{Retained.count_moved, Ring.RingState, Steps.{more_takes, more_moves}}, proofs.{retained.Retaining.{none_asked, next_filled, next_asked, room_for_next, all_within, one_stays, one_goes, all_asked}, places.Opened.{Opened, opened, closed, kept}, ring.Ring.retain.{Given.Over, Goals.{then-keeps, else-keeps}}}}
 use Rattle.arraydeque_ring.proofs.ring.Ring.retain.Goals as goal
-use Rattle.arraydeque_ring.proofs.ring.Ring.retain.Goals.{then-keeps, else-keeps}
 
 pub loop-index-init : goal.loop-index-init
 loop-index-init g c =

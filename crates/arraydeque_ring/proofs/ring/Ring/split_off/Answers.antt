@@ -1,10 +1,5 @@
-use Rattle.std.proofs.Common.{◌+◌, ◌-◌, length, take, ap, ◌∙◌, arith}
-use Rattle.std.proofs.lemmas.List.{length-take-le, drop_all, take_rest}
-use Rattle.arraydeque_ring.specs.Steps.{more_takes}
-use Rattle.arraydeque_ring.proofs.gaps.Gapped.{Gapped-taken, LaidOut-gap_last}
-use Rattle.arraydeque_ring.proofs.places.LaidOut.{IsFilledRun-rotated, values-run}
-use Rattle.arraydeque_ring.proofs.places.Opened.{Opened, opened, closed, kept}
-use Rattle.arraydeque_ring.proofs.ring.Ring.split_off.Given.{Over}
+use Rattle.std.proofs.{Common.{◌+◌, ◌-◌, length, take, ap, ◌∙◌, arith}, lemmas.List.{length-take-le, drop_all, take_rest}}
+use Rattle.arraydeque_ring.{specs.Steps.more_takes, proofs.{gaps.Gapped.{Gapped-taken, LaidOut-gap_last}, places.{LaidOut.{IsFilledRun-rotated, values-run}, Opened.{Opened, opened, closed, kept}}, ring.Ring.split_off.Given.Over}}
 use Rattle.arraydeque_ring.proofs.ring.Ring.split_off.Goals as goal
 
 pub take_run-requires-clause-filled : goal.take_run-requires-clause-filled

@@ -1,15 +1,5 @@
-use Rattle.std.proofs.Common.{◌≡◌, ℕ, ◌<◌, List, length, set, Option, Some, None, sym, ap₂, subst, swap, if◌then◌else◌, ◌==◌, ◌∙◌, arith}
-use Rattle.std.proofs.lemmas.List.{length-set}
-use Rattle.std.proofs.lemmas.List.Edits.{length-swap, swap_is}
-use Rattle.std.proofs.lemmas.Option.{get_or_from_slice_get}
-use Rattle.arraydeque_ring.proofs.places.Items.{slice_get_some}
-use Rattle.arraydeque_ring.specs.Ring.{place_of}
-use Rattle.arraydeque_ring.proofs.places.Rotated.{place_of-lt}
-use Rattle.arraydeque_ring.specs.Steps.{more_exchanges}
-use Rattle.arraydeque_ring.proofs.places.LaidOut.{LaidOut, length_within, IsFilled-place_of, LaidOut-set}
-use Rattle.arraydeque_ring.proofs.places.Opened.{Opened, opened, closed, kept, placed}
-use Rattle.arraydeque_ring.proofs.places.Rotated.{one_place}
-use Rattle.arraydeque_ring.proofs.ring.Ring.swap.Given.{Over}
+use Rattle.std.proofs.{Common.{◌≡◌, ℕ, ◌<◌, List, length, set, Option, Some, None, sym, ap₂, subst, swap, if◌then◌else◌, ◌==◌, ◌∙◌, arith}, lemmas.{List.{length-set, Edits.{length-swap, swap_is}}, Option.get_or_from_slice_get}}
+use Rattle.arraydeque_ring.{proofs.{places.{Items.slice_get_some, Rotated.{place_of-lt, one_place}, LaidOut.{LaidOut, length_within, IsFilled-place_of, LaidOut-set}, Opened.{Opened, opened, closed, kept, place_at}}, ring.Ring.swap.Given.Over}, specs.{Ring.place_of, Steps.more_exchanges}}
 use Rattle.arraydeque_ring.proofs.ring.Ring.swap.Goals as goal
 
 -- to exchange the places of two items is to exchange the items
@@ -26,19 +16,19 @@ LaidOut-swap {n = n} {t = t} {xs = xs} {ps = ps} l i j i_in j_in =
 pub exchange-requires-clause-a_filled : goal.exchange-requires-clause-a_filled
 exchange-requires-clause-a_filled g c =
     let ring = opened c.self.inside c.self.invariant c.self.view_is in
-    rw (placed ring _ c.place-a.ensures.place) (IsFilled-place_of ring.laid _ c.requires.i_in_bounds)
+    rw (place_at ring _ c.capacity-capacity.ensures c.wrap_add_branchless-a.ensures) (IsFilled-place_of ring.laid _ c.requires.i_in_bounds)
 
 pub exchange-requires-clause-b_filled : goal.exchange-requires-clause-b_filled
 exchange-requires-clause-b_filled g c =
     let ring = opened c.self.inside c.self.invariant c.self.view_is in
-    rw (placed ring _ c.place-b.ensures.place) (IsFilled-place_of ring.laid _ c.requires.j_in_bounds)
+    rw (place_at ring _ c.capacity-capacity.ensures c.wrap_add_branchless-b.ensures) (IsFilled-place_of ring.laid _ c.requires.j_in_bounds)
 
 after : (g : Over) (c : goal.After-exchange g) → Opened record { slots = c.exchange.new.self; start = c.self.inside.start; len = c.self.inside.len; alloc = c.self.inside.alloc }
     record c.args.self.now { items = swap c.args.self.now.items c.args.i c.args.j; steps = more_exchanges (if c.args.i == c.args.j then 0 else 1) c.args.self.now.steps }
 after g c =
     let ring = opened c.self.inside c.self.invariant c.self.view_is in
-    let a = placed ring _ c.place-a.ensures.place in
-    let b = placed ring _ c.place-b.ensures.place in
+    let a = place_at ring _ c.capacity-capacity.ensures c.wrap_add_branchless-a.ensures in
+    let b = place_at ring _ c.capacity-capacity.ensures c.wrap_add_branchless-b.ensures in
     let within = length_within ring.laid in
     let same = one_place c.self.inside.start c.args.i c.args.j c.args.self.now.capacity (omega (arith, ring.laid.in_region)) (omega arith) (omega arith) in
     record {

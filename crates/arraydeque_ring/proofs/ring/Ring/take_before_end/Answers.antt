@@ -1,10 +1,5 @@
-use Rattle.std.proofs.Common.{◌≡◌, ◌+◌, drop, ap, sym, ◌∙◌, arith}
-use Rattle.std.proofs.Math.Nat.{mod-eq_of_lt}
-use Rattle.arraydeque_ring.specs.Ring.{place_of}
-use Rattle.arraydeque_ring.specs.Steps.{more_takes}
-use Rattle.arraydeque_ring.proofs.places.LaidOut.{length_within, held_at-start, IsFilled-start}
-use Rattle.arraydeque_ring.proofs.places.Opened.{opened, closed, kept, take_front}
-use Rattle.arraydeque_ring.proofs.ring.Ring.take_before_end.Given.{Over}
+use Rattle.std.proofs.{Common.{◌≡◌, ◌+◌, drop, ap, sym, ◌∙◌, arith}, Math.Nat.{mod-eq_of_lt}}
+use Rattle.arraydeque_ring.{specs.{Ring.place_of, Steps.more_takes}, proofs.{places.{LaidOut.{length_within, held_at-start, IsFilled-start}, Opened.{opened, closed, kept, take_front}}, ring.Ring.take_before_end.Given.Over}}
 use Rattle.arraydeque_ring.proofs.ring.Ring.take_before_end.Goals as goal
 
 pub overflow_sub-self : goal.overflow_sub-self

@@ -1,13 +1,5 @@
-use Rattle.std.proofs.Common.{◌≡◌, ◌+◌, ◌++◌, map, take, drop, Some, ap, ◌∙◌, arith}
-use Rattle.std.proofs.lemmas.List.{length-append}
-use Rattle.arraydeque_ring.specs.Ring.{values}
-use Rattle.arraydeque_ring.specs.Steps.{more_puts}
-use Rattle.arraydeque_ring.proofs.places.AndEmpty.{values-map_Some}
-use Rattle.arraydeque_ring.proofs.places.Held.{length_filled}
-use Rattle.arraydeque_ring.proofs.places.Handed.{IsEmptyRun-behind, LaidOut-put_run}
-use Rattle.arraydeque_ring.proofs.places.Opened.{Opened, opened, closed, kept}
-use Rattle.arraydeque_ring.proofs.ring.Ring.take_in.Given.{Over}
-use Rattle.arraydeque_ring.proofs.ring.Ring.take_in.Goals.{After-capacity-capacity}
+use Rattle.std.proofs.{Common.{◌≡◌, ◌+◌, ◌++◌, map, take, drop, Some, ap, ◌∙◌, arith}, lemmas.List.{length-append}}
+use Rattle.arraydeque_ring.{specs.{Ring.values, Steps.more_puts}, proofs.{places.{AndEmpty.{values-map_Some}, Held.length_filled, Handed.{IsEmptyRun-behind, LaidOut-put_run}, Opened.{Opened, opened, closed, kept}}, ring.Ring.take_in.{Given.Over, Goals.{After-capacity-capacity}}}}
 use Rattle.arraydeque_ring.proofs.ring.Ring.take_in.Goals as goal
 
 pub hand_over-requires-clause-empty : goal.hand_over-requires-clause-empty

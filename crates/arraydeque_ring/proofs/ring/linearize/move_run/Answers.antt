@@ -1,6 +1,5 @@
 use Rattle.std.proofs.Common.{sym, arith}
-use Rattle.arraydeque_ring.proofs.places.Reads.{runs_swapped_none, moved_more, next_empty, next_second}
-use Rattle.arraydeque_ring.proofs.places.Held.{filled_in_run, empty_in_run}
+use Rattle.arraydeque_ring.proofs.places.{Reads.{runs_swapped_none, moved_more, next_empty, next_second}, Held.{filled_in_run, empty_in_run}}
 use Rattle.arraydeque_ring.proofs.ring.linearize.move_run.Goals as goal
 
 pub loop-k-init : goal.loop-k-init

@@ -1,6 +1,5 @@
 use Rattle.std.proofs.Common.{◌≡◌}
-use Rattle.arraydeque_ring.specs.Swapped.{runs_swapped}
-use Rattle.arraydeque_ring.specs.Steps.{more_moves}
+use Rattle.arraydeque_ring.specs.{Swapped.runs_swapped, Steps.more_moves}
 use Rattle.arraydeque_ring.proofs.ring.linearize.move_run.Given as goal
 
 abbrev pub invariant-loop-k : goal.invariant-loop-k

@@ -1,7 +1,5 @@
 use Rattle.std.proofs.Common.{◌-◌, ◌<◌, ◌≤◌, length, inl, inr, ◌∙◌, arith}
-use Rattle.arraydeque_ring.proofs.linearize.Underway.{underway, none_left, RestInOnePiece, rest_in_one_piece, RoomForFirst, room_for_first}
-use Rattle.arraydeque_ring.proofs.ring.linearize.place_rest.Given.{Over}
-use Rattle.arraydeque_ring.proofs.ring.linearize.place_rest.Goals.{After-capacity}
+use Rattle.arraydeque_ring.proofs.{linearize.Underway.{underway, none_left, RestInOnePiece, rest_in_one_piece, RoomForFirst, room_for_first}, ring.linearize.place_rest.{Given.Over, Goals.{After-capacity}}}
 use Rattle.arraydeque_ring.proofs.ring.linearize.place_rest.Goals as goal
 
 pub returns-then-dst-next-clause-places : goal.returns-then-dst-next-clause-places

@@ -1,10 +1,5 @@
-use Rattle.std.proofs.Common.{◌≡◌, ◌+◌, ◌-◌, inl, inr, ◌==◌, refl, if◌then◌else◌, arith}
-use Rattle.std.proofs.lemmas.Bool.Decides.{nat_tests}
-use Rattle.arraydeque_ring.specs.Swapped.{runs_swapped}
-use Rattle.arraydeque_ring.specs.Steps.{Rearranges}
-use Rattle.arraydeque_ring.proofs.linearize.Turning.{Pass, Turning-pass, Turning-passed, Turning-fits, still_fills}
-use Rattle.arraydeque_ring.proofs.ring.linearize.turn.Given.{Over}
-use Rattle.arraydeque_ring.proofs.ring.linearize.turn.Goals.{After-min-wrapped, After-move_run-slots}
+use Rattle.std.proofs.{Common.{◌≡◌, ◌+◌, ◌-◌, inl, inr, ◌==◌, refl, if◌then◌else◌, arith}, lemmas.Bool.Decides.nat_tests}
+use Rattle.arraydeque_ring.{specs.{Swapped.runs_swapped, Steps.Rearranges}, proofs.{linearize.Turning.{Pass, Turning-pass, Turning-passed, Turning-fits, still_fills}, ring.linearize.turn.{Given.Over, Goals.{After-min-wrapped, After-move_run-slots}}}}
 use Rattle.arraydeque_ring.proofs.ring.linearize.turn.Goals as goal
 
 pass : (g : Over) (c : After-min-wrapped g) → Pass c.loop-next.dst c.loop-next.next c.min-run.result c.min-wrapped.result c.loop-next.slots.places

@@ -1,6 +1,5 @@
 use Rattle.std.proofs.Common.{◌-◌}
-use Rattle.arraydeque_ring.specs.Steps.{Rearranges}
-use Rattle.arraydeque_ring.proofs.linearize.Turning.{Turning}
+use Rattle.arraydeque_ring.{specs.Steps.Rearranges, proofs.linearize.Turning.Turning}
 use Rattle.arraydeque_ring.proofs.ring.linearize.turn.Given as goal
 
 abbrev pub invariant-loop-next : goal.invariant-loop-next

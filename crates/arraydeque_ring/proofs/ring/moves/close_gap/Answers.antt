@@ -1,5 +1,4 @@
-use Rattle.std.proofs.Common.{◌≡◌, ◌+◌, length, ◌∙◌, arith}
-use Rattle.std.proofs.lemmas.Bool.{cond_below}
+use Rattle.std.proofs.{Common.{◌≡◌, ◌+◌, length, ◌∙◌, arith}, lemmas.Bool.cond_below}
 use Rattle.arraydeque_ring.proofs.places.Rotated.{place_of-zero}
 use Rattle.arraydeque_ring.proofs.ring.moves.close_gap.Goals as goal
 

@@ -1,9 +1,5 @@
-use Rattle.std.proofs.Common.{◌+◌, length, refl, ap, arith}
-use Rattle.std.proofs.Math.Nat.{mod-lt}
-use Rattle.arraydeque_ring.specs.Steps.{more_moves}
-use Rattle.arraydeque_ring.proofs.gaps.Crossing.{Moves, moves_earlier}
-use Rattle.arraydeque_ring.proofs.ring.moves.move_earlier.Given.{Over}
-use Rattle.arraydeque_ring.proofs.ring.moves.move_earlier.Goals.{After-wrap_add-src}
+use Rattle.std.proofs.{Common.{◌+◌, length, refl, ap, arith}, Math.Nat.{mod-lt}}
+use Rattle.arraydeque_ring.{specs.Steps.more_moves, proofs.{gaps.Crossing.{Moves, moves_earlier}, ring.moves.move_earlier.{Given.Over, Goals.{After-wrap_add-src}}}}
 use Rattle.arraydeque_ring.proofs.ring.moves.move_earlier.Goals as goal
 
 moves : (g : Over) (c : After-wrap_add-src g) → let ps = c.args.slots.now.places in Moves c.args.start c.args.at (c.args.at + c.args.gap) c.args.len (length ps) ps

@@ -1,11 +1,5 @@
-use Rattle.std.proofs.Common.{◌≡◌, ◌-◌, ◌+◌, ◌<◌, ◌++◌, length, take, drop, sym, ap, ap₂, ◌∙◌, arith}
-use Rattle.std.proofs.lemmas.List.{length-append, append_assoc}
-use Rattle.arraydeque_ring.specs.Ring.{RingState, rotated, values}
-use Rattle.arraydeque_ring.specs.Steps.{more_puts}
-use Rattle.arraydeque_ring.proofs.places.Handed.{Handed, handed}
-use Rattle.arraydeque_ring.proofs.places.Rotated.{MayStartAt-place_of, place_of-lt, length-rotated}
-use Rattle.arraydeque_ring.proofs.ring.parts.take_run.Given.{Over}
-use Rattle.arraydeque_ring.proofs.ring.parts.take_run.Goals.{After-min-first}
+use Rattle.std.proofs.{Common.{◌≡◌, ◌-◌, ◌+◌, ◌<◌, ◌++◌, length, take, drop, sym, ap, ap₂, ◌∙◌, arith}, lemmas.List.{length-append, append_assoc}}
+use Rattle.arraydeque_ring.{specs.{Ring.{RingState, rotated, values}, Steps.more_puts}, proofs.{places.{Handed.{Handed, handed}, Rotated.{MayStartAt-place_of, place_of-lt, length-rotated}}, ring.parts.take_run.{Given.Over, Goals.{After-min-first}}}}
 use Rattle.arraydeque_ring.proofs.ring.parts.take_run.Goals as goal
 
 parts : (g : Over) (c : After-min-first g) → Handed c.args.start c.args.at c.args.len c.wrap_add-place.result c.min-first.result c.args.slots.now.places

@@ -1,8 +1,5 @@
 use Rattle.std.proofs.Common.{◌≡◌, ◌-◌, ◌+◌, set, None, ap, sym, ◌∙◌, arith}
-use Rattle.arraydeque_ring.specs.Gaps.{run_emptied}
-use Rattle.arraydeque_ring.specs.Places.{held_at}
-use Rattle.arraydeque_ring.proofs.places.Emptied.{next_held, next_emptied}
-use Rattle.arraydeque_ring.proofs.places.Held.{filled_in_run}
+use Rattle.arraydeque_ring.{specs.{Gaps.run_emptied, Places.held_at}, proofs.places.{Emptied.{next_held, next_emptied}, Held.filled_in_run}}
 use Rattle.arraydeque_ring.proofs.ring.retain.drop_run.Goals as goal
 
 pub take-requires : goal.take-requires

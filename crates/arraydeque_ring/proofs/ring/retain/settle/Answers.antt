@@ -1,5 +1,4 @@
-use Rattle.std.proofs.Common.{None, set, ap, sym, ◌∙◌}
-use Rattle.std.proofs.lemmas.List.{set-set, set-get_or}
+use Rattle.std.proofs.{Common.{None, set, ap, sym, ◌∙◌}, lemmas.List.{set-set, set-get_or}}
 use Rattle.arraydeque_ring.specs.Places.{held_at}
 use Rattle.arraydeque_ring.proofs.ring.retain.settle.Goals as goal
 

@@ -2,17 +2,11 @@
 use mathlib.Core.List.{[], ◌++◌}
 use base.Fml.{Incl-trans}
 use contract.BorrowLft.{meet_⊑_left}
-use denote.RattleType.{RattleType}
-use denote.Param.Laws.{Laws}
-use denote.Param.Shared.{copy_shared}
-use denote.Struct.Field.{RawPtr-field, usize-field}
-use denote.Struct.Laws.{field_copy, RawPtr-copy, usize-copy, unit-copy}
-use denote.Struct.Lending.{of_Lends}
+use denote.{RattleType.RattleType, Param.{Laws.Laws, Shared.copy_shared}, Struct.{Field.{RawPtr-field, usize-field}, Laws.{field_copy, RawPtr-copy, usize-copy, unit-copy}, Lending.of_Lends}}
 use Rattle.std.specs.contracts.alloc.Global as heap
 use Rattle.std.specs.contracts.rt.Memory as memory
 use Rattle.arraydeque_ring.specs.contracts.slots.Slots.TheInside as inside
-use Rattle.arraydeque_ring.proofs.slots.Slots.TheLaw.Statement.{statement}
-use Rattle.arraydeque_ring.proofs.memory.Sharing.{slots_shr_laws, Lends-slots}
+use Rattle.arraydeque_ring.proofs.{slots.Slots.TheLaw.Statement.statement, memory.Sharing.{slots_shr_laws, Lends-slots}}
 
 pub shares : (R : RattleType) (L : Laws R) → statement R L
 shares R L =

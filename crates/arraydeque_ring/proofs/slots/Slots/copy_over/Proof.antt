@@ -1,10 +1,8 @@
 -- `copy_over` hands `copy_nonoverlapping` a run of values, and room for it in another region, and puts both back. Assumes `Logic`.
-use Rattle.arraydeque_ring.proofs.memory.Kit.{◌≡◌, refl, sym, ap, subst, List, [], ◌∷◌, ◌++◌, map, ℕ, ◌+◌, ◌*◌, ◌<◌, ◌^◌, arith, length, take, drop_list, replicate, length-take, length-drop, length-map, length-replicate, Some, None, T, emp, id⊢, fact_i, full_share, ftrue, fsep, froom, flft, Fn, inst_fn, named, w64, ty_array, ty_unit, Val, has_ty, WT, vunit, vint, vptr, Env, ◌⊑◌, fact, tables, owns, types_at, ‵, raw, ◌⊛◌, some, later, at_ret, ◌$◌, ◌∵◌, !, qed, move, keep, use0, use1, use2, drop, split, join, pick, rewrite, await, fsplit, fsplit3, fjoin, fjoin3, feq_i, feq_l, suffices, done, whole, sub, look_in, enter, of_opd, unit_lit, bin, load, stop, fld, no_more, and_then, first, blocks, exec, returns, alloc_all, pass_all, free_all, look_at, get, through, sets, lands_last, env, yes, plain, usize, unit, only, uint_vals, uint_Tells, RawPtr, block_ptr, Stays, walk_of, stay_dropped, stay_ref, Goes-dropped, Goes-ref, ends_at, nothing, heard, after, says_two, calls_at_last, framed, triple_of, part_at, El, R, args, el_x, elτ, proved, common_steps, split3, Array, mut_vals, mut_Tells, pure_i}
+use Rattle.arraydeque_ring.{proofs.memory.{Kit.{◌≡◌, refl, sym, ap, subst, List, [], ◌∷◌, ◌++◌, map, ℕ, ◌+◌, ◌*◌, ◌<◌, ◌^◌, arith, length, take, drop_list, replicate, length-take, length-drop, length-map, length-replicate, Some, None, T, emp, id⊢, fact_i, full_share, ftrue, fsep, froom, flft, Fn, inst_fn, named, w64, ty_array, ty_unit, Val, has_ty, WT, vunit, vint, vptr, Env, ◌⊑◌, fact, tables, owns, types_at, ‵, raw, ◌⊛◌, some, later, at_ret, ◌$◌, ◌∵◌, !, qed, move, keep, use0, use1, use2, drop, split, join, pick, rewrite, await, fsplit, fsplit3, fjoin, fjoin3, feq_i, feq_l, suffices, done, whole, sub, look_in, enter, of_opd, unit_lit, bin, load, stop, fld, no_more, and_then, first, blocks, exec, returns, alloc_all, pass_all, free_all, look_at, get, through, sets, lands_last, env, yes, plain, usize, unit, only, uint_vals, uint_Tells, RawPtr, block_ptr, Stays, walk_of, stay_dropped, stay_ref, Goes-dropped, Goes-ref, ends_at, nothing, heard, after, says_two, calls_at_last, framed, triple_of, part_at, El, R, args, el_x, elτ, proved, common_steps, split3, Array, mut_vals, mut_Tells, pure_i}, Regions.{Sr, Seen, near, run_fits, slots_open, slots_close, scaled, item_size, Place, Row, of_room, IsFilledRun, Around, run_out, run_in, row_room, to_array, of_array}}, specs.Gaps.{IsEmptyRun, run_emptied}}
 use denote.RawPtr.{rawptr_vals}
 use Rattle.std.specs.contracts.ptr.copy_nonoverlapping as copy
 use Rattle.std.proofs.ptr.copy_nonoverlapping.Met as copy_thm
-use Rattle.arraydeque_ring.specs.Gaps.{IsEmptyRun, run_emptied}
-use Rattle.arraydeque_ring.proofs.memory.Regions.{Sr, Seen, near, run_fits, slots_open, slots_close, scaled, item_size, Place, Row, of_room, IsFilledRun, Around, run_out, run_in, row_room, to_array, of_array}
 use Rattle.arraydeque_ring.specs.contracts.slots.Slots.copy_over as f
 use Rattle.arraydeque_ring.proofs.slots.Slots.copy_over.Statement as stated
 use Rattle.arraydeque_ring.proofs.slots.Slots.copy_over.Code as code

@@ -1,11 +1,7 @@
 -- `count` lets the counts grow, and does nothing else. Assumes `Logic`.
-use Rattle.arraydeque_ring.proofs.memory.Kit.{refl, List, [], ◌∷◌, ℕ, ◌<◌, ◌^◌, ftrue, flft, Fn, inst_fn, named, w64, Val, vunit, vptr, tables, owns, types_at, ‵, raw, ◌⊛◌, ◌$◌, ◌∵◌, !, qed, move, keep, split, join, fsplit3, fjoin, fjoin3, feq_i, suffices, done, enter, of_opd, unit_lit, returns, alloc_all, pass_all, free_all, look_at, sets, yes, plain, usize, uint_vals, uint_Tells, Stays, walk_of, says, stay_dropped, stay_ref, Goes-dropped, Goes-ref, ends_at, nothing, El, args, proved, mut_vals, mut_Tells}
+use Rattle.arraydeque_ring.{proofs.{memory.{Kit.{refl, List, [], ◌∷◌, ℕ, ◌<◌, ◌^◌, ftrue, flft, Fn, inst_fn, named, w64, Val, vunit, vptr, tables, owns, types_at, ‵, raw, ◌⊛◌, ◌$◌, ◌∵◌, !, qed, move, keep, split, join, fsplit3, fjoin, fjoin3, feq_i, suffices, done, enter, of_opd, unit_lit, returns, alloc_all, pass_all, free_all, look_at, sets, yes, plain, usize, uint_vals, uint_Tells, Stays, walk_of, says, stay_dropped, stay_ref, Goes-dropped, Goes-ref, ends_at, nothing, El, args, proved, mut_vals, mut_Tells}, Regions.{Sr, Seen, slots_open, slots_close}}, slots.StepKind.TheLaws.{the_laws, the_row_laws}}, specs.{declared.slots.StepKind.StepKind, Counted.counted}}
 use denote.Enum.Laws.{low_vals, Tells-lowered}
 use Rattle.arraydeque_ring.specs.contracts.slots.StepKind as kind
-use Rattle.arraydeque_ring.specs.declared.slots.StepKind.{StepKind}
-use Rattle.arraydeque_ring.proofs.slots.StepKind.TheLaws.{the_laws, the_row_laws}
-use Rattle.arraydeque_ring.specs.Counted.{counted}
-use Rattle.arraydeque_ring.proofs.memory.Regions.{Sr, Seen, slots_open, slots_close}
 use Rattle.arraydeque_ring.specs.contracts.slots.Slots.count as f
 use Rattle.arraydeque_ring.proofs.slots.Slots.count.Statement as stated
 use Rattle.arraydeque_ring.proofs.slots.Slots.count.Code as code

@@ -1,7 +1,5 @@
-use Rattle.std.proofs.Common.{◌+◌, sym, arith}
-use Rattle.std.proofs.lemmas.Bool.{ne_eqb}
-use Rattle.arraydeque_ring.proofs.places.Reads.{runs_swapped_none, runs_swapped_more, next_first, next_second}
-use Rattle.arraydeque_ring.proofs.places.Held.{filled_in_run}
+use Rattle.std.proofs.{Common.{◌+◌, sym, arith}, lemmas.Bool.ne_eqb}
+use Rattle.arraydeque_ring.proofs.places.{Reads.{runs_swapped_none, runs_swapped_more, next_first, next_second}, Held.filled_in_run}
 use Rattle.arraydeque_ring.proofs.slots.Slots.exchange_runs.Goals as goal
 
 pub loop-k-init : goal.loop-k-init

@@ -1,6 +1,5 @@
 use Rattle.std.proofs.Common.{◌≡◌}
-use Rattle.arraydeque_ring.specs.Swapped.{runs_swapped}
-use Rattle.arraydeque_ring.specs.Steps.{more_exchanges}
+use Rattle.arraydeque_ring.specs.{Swapped.runs_swapped, Steps.more_exchanges}
 use Rattle.arraydeque_ring.proofs.slots.Slots.exchange_runs.Given as goal
 
 abbrev pub invariant-loop-k : goal.invariant-loop-k

@@ -1,12 +1,7 @@
 -- `give_back` makes the empty places one block again, and frees it. Assumes `Logic`.
-use Rattle.arraydeque_ring.proofs.memory.Kit.{◌≡◌, refl, sym, subst, Bool, List, [], ◌∷◌, ◌++◌, ℕ, ◌*◌, ◌<◌, ◌^◌, arith, T, length, SProp, ent, id⊢, ftrue, froom, flft, Fn, inst_fn, ty_array, ty_unit, Val, vunit, vptr, has_ty, WT, align, capped, capped_fits, Env, WpFn, ◌⊑◌, fact, tables, owns, types_at, ‵, raw, ◌⊛◌, given, later, at_ret, ◌$◌, ◌∵◌, !, qed, move, keep, drop, use1, use3, split, join, learn, rewrite, fsplit, fjoin, feq_i, suffices, await, done, whole, sub, enter, of_opd, lit, unit_lit, align_word, bin, stop, fld, no_more, and_then, first, blocks, branches, skips, exec, returns, alloc_all, pass_all, free_all, look_at, get, get_in, sets, lands_last, env, yes, no, plain, RefOf, Stays, walk_of, stay_dropped, Goes-dropped, ends_at, heard, nothing, calls_at_last, framed, block_ptr, after, El, R, args, elτ, proved_at, Global}
-use Rattle.std.specs.Prelude.{nat_lt}
+use Rattle.arraydeque_ring.proofs.memory.{Kit.{◌≡◌, refl, sym, subst, Bool, List, [], ◌∷◌, ◌++◌, ℕ, ◌*◌, ◌<◌, ◌^◌, arith, T, length, SProp, ent, id⊢, ftrue, froom, flft, Fn, inst_fn, ty_array, ty_unit, Val, vunit, vptr, has_ty, WT, align, capped, capped_fits, Env, WpFn, ◌⊑◌, fact, tables, owns, types_at, ‵, raw, ◌⊛◌, given, later, at_ret, ◌$◌, ◌∵◌, !, qed, move, keep, drop, use1, use3, split, join, learn, rewrite, fsplit, fjoin, feq_i, suffices, await, done, whole, sub, enter, of_opd, lit, unit_lit, align_word, bin, stop, fld, no_more, and_then, first, blocks, branches, skips, exec, returns, alloc_all, pass_all, free_all, look_at, get, get_in, sets, lands_last, env, yes, no, plain, RefOf, Stays, walk_of, stay_dropped, Goes-dropped, ends_at, heard, nothing, calls_at_last, framed, block_ptr, after, El, R, args, elτ, proved_at, Global}, Blocks.{scaled, block_ty, block_size, block_align, token}, Heap.{Deallocates, Asks, to_deallocate, deallocate_goes, deallocate_gives}, Regions.{Sr, Seen, slots_val, slots_Good, slots_apart, item_size, Place, to_room, owned_if, places_owned, right_to_free, AreAllEmpty}}
+use Rattle.std.{specs.Prelude.nat_lt, proofs.{Flags.T_true, impls.GlobalAllocator.deallocate.Met.met}}
 use Rattle.std.specs.contracts.alloc.Global as heap
-use Rattle.std.proofs.Flags.{T_true}
-use Rattle.std.proofs.impls.GlobalAllocator.deallocate.Met.{met}
-use Rattle.arraydeque_ring.proofs.memory.Blocks.{scaled, block_ty, block_size, block_align, token}
-use Rattle.arraydeque_ring.proofs.memory.Heap.{Deallocates, Asks, to_deallocate, deallocate_goes, deallocate_gives}
-use Rattle.arraydeque_ring.proofs.memory.Regions.{Sr, Seen, slots_val, slots_Good, slots_apart, item_size, Place, to_room, owned_if, places_owned, right_to_free, AreAllEmpty}
 use Rattle.arraydeque_ring.specs.contracts.slots.Slots.give_back as f
 use Rattle.arraydeque_ring.proofs.slots.Slots.give_back.Statement as stated
 use Rattle.arraydeque_ring.proofs.slots.Slots.give_back.Code as code

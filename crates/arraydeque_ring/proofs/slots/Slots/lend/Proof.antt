@@ -1,9 +1,6 @@
 -- `lend` lends the value in a filled place, and that place follows it. Assumes `Logic`.
-use Rattle.arraydeque_ring.proofs.memory.Kit.{refl, sym, [], ◌∷◌, ℕ, ◌+◌, ◌*◌, ◌<◌, ◌^◌, arith, length, get_or, set, length-set, Some, None, Ura, ent, sep, id⊢, GName, Fml, ftrue, fsep, flft, Fn, inst_fn, named, w64, vint, vptr, Env, ◌⊑◌, fact, tables, Logic, sem, owns, types_at, ‵, raw, ◌⊛◌, some, later, at_ret, ◌$◌, ◌∵◌, !, qed, by, move, keep, use1, use2, drop, split, join, pick, frame, rewrite, await, fsplit, fsplit3, fjoin, suffices, done, whole, sub, look_in, enter, of_opd, size_lit, bin, load, addr, stop, fld, first, blocks, exec, returns, alloc_all, pass_all, free_all, look_at, get, through, sets, sets_last, env, yes, no, plain, usize, uint_vals, uint_Tells, mem, Stays, walk_of, says, stay_dropped, Goes-dropped, ends_at, nothing, heard, after, El, R, args, el_x, one_below, proved, split3, group, follows, MutBor, mut_vals, mut_Tells, mut_ref_to, Goes-spent_ref, Global}
-use denote.Follow.{Part, lends_Part}
-use denote.Ref.{MutRef}
-use Rattle.arraydeque_ring.proofs.memory.Regions.{Sr, Seen, Fits, near, run_fits, places, Frame, slots_whole, slots_open, item_size, Place, Around, place_out, place_in, place_owned, IsFilled}
-use Rattle.arraydeque_ring.proofs.places.Held.{filled_within}
+use Rattle.arraydeque_ring.proofs.{memory.{Kit.{refl, sym, [], ◌∷◌, ℕ, ◌+◌, ◌*◌, ◌<◌, ◌^◌, arith, length, get_or, set, length-set, Some, None, Ura, ent, sep, id⊢, GName, Fml, ftrue, fsep, flft, Fn, inst_fn, named, w64, vint, vptr, Env, ◌⊑◌, fact, tables, Logic, sem, owns, types_at, ‵, raw, ◌⊛◌, some, later, at_ret, ◌$◌, ◌∵◌, !, qed, by, move, keep, use1, use2, drop, split, join, pick, frame, rewrite, await, fsplit, fsplit3, fjoin, suffices, done, whole, sub, look_in, enter, of_opd, size_lit, bin, load, addr, stop, fld, first, blocks, exec, returns, alloc_all, pass_all, free_all, look_at, get, through, sets, sets_last, env, yes, no, plain, usize, uint_vals, uint_Tells, mem, Stays, walk_of, says, stay_dropped, Goes-dropped, ends_at, nothing, heard, after, El, R, args, el_x, one_below, proved, split3, group, follows, MutBor, mut_vals, mut_Tells, mut_ref_to, Goes-spent_ref, Global}, Regions.{Sr, Seen, Fits, near, run_fits, places, Frame, slots_whole, slots_open, item_size, Place, Around, place_out, place_in, place_owned, IsFilled}}, places.Held.filled_within}
+use denote.{Follow.{Part, lends_Part}, Ref.MutRef}
 use Rattle.arraydeque_ring.specs.contracts.slots.Slots.lend as f
 use Rattle.arraydeque_ring.proofs.slots.Slots.lend.Statement as stated
 use Rattle.arraydeque_ring.proofs.slots.Slots.lend.Code as code

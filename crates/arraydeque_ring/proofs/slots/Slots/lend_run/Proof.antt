@@ -1,11 +1,6 @@
 -- `lend_run` lends the values of a filled run, and the region follows them. Assumes `Logic`.
-use Rattle.arraydeque_ring.proofs.memory.Kit.{◌≡◌, refl, sym, ap, ◌∙◌, List, [], ◌∷◌, map, ℕ, ◌+◌, ◌*◌, ◌<◌, ◌≤◌, ◌^◌, arith, length, take, length-map, drop_list, Some, Ura, ent, sep, id⊢, GName, Fml, ftrue, fsep, flft, Fn, inst_fn, named, w64, vint, vptr, Env, ◌⊑◌, fact, tables, Logic, sem, owns, types_at, ‵, raw, ◌⊛◌, some, later, at_ret, ◌$◌, ◌∵◌, !, qed, by, move, keep, use1, use2, drop, split, join, pick, frame, rewrite, await, fsplit, fsplit3, fjoin, suffices, done, whole, sub, look_in, agg, enter, of_opd, bin, load, stop, fld, no_more, and_then, first, blocks, exec, returns, alloc_all, pass_all, free_all, look_at, get, through, sets, sets_last, env, yes, no, plain, usize, uint_vals, uint_Tells, mem, Stays, walk_of, says, stay_dropped, Goes-dropped, ends_at, nothing, heard, after, El, R, args, el_x, proved, split3, group, cells, Array, follows, MutBor, mut_vals, mut_Tells, mut_ref_to, MutSlice, slice_val, Goes-spent_ref, Global}
+use Rattle.arraydeque_ring.{proofs.{memory.{Kit.{◌≡◌, refl, sym, ap, ◌∙◌, List, [], ◌∷◌, map, ℕ, ◌+◌, ◌*◌, ◌<◌, ◌≤◌, ◌^◌, arith, length, take, length-map, drop_list, Some, Ura, ent, sep, id⊢, GName, Fml, ftrue, fsep, flft, Fn, inst_fn, named, w64, vint, vptr, Env, ◌⊑◌, fact, tables, Logic, sem, owns, types_at, ‵, raw, ◌⊛◌, some, later, at_ret, ◌$◌, ◌∵◌, !, qed, by, move, keep, use1, use2, drop, split, join, pick, frame, rewrite, await, fsplit, fsplit3, fjoin, suffices, done, whole, sub, look_in, agg, enter, of_opd, bin, load, stop, fld, no_more, and_then, first, blocks, exec, returns, alloc_all, pass_all, free_all, look_at, get, through, sets, sets_last, env, yes, no, plain, usize, uint_vals, uint_Tells, mem, Stays, walk_of, says, stay_dropped, Goes-dropped, ends_at, nothing, heard, after, El, R, args, el_x, proved, split3, group, cells, Array, follows, MutBor, mut_vals, mut_Tells, mut_ref_to, MutSlice, slice_val, Goes-spent_ref, Global}, Regions.{Sr, Seen, Fits, near, run_fits, Frame, slots_whole, slots_open, scaled, item_size, Place, places_owned, IsFilledRun, Around, run_out, run_in}}, loans.{Placed.{placed, as_many-same, length-placed}, Runs.{run, same_cells}}, places.Held.length_filled}, specs.Loans.{as_many, with_run}}
 use denote.FollowSlice.{Elements, lends_Elements}
-use Rattle.arraydeque_ring.specs.Loans.{as_many, with_run}
-use Rattle.arraydeque_ring.proofs.loans.Placed.{placed, as_many-same, length-placed}
-use Rattle.arraydeque_ring.proofs.loans.Runs.{run, same_cells}
-use Rattle.arraydeque_ring.proofs.memory.Regions.{Sr, Seen, Fits, near, run_fits, Frame, slots_whole, slots_open, scaled, item_size, Place, places_owned, IsFilledRun, Around, run_out, run_in}
-use Rattle.arraydeque_ring.proofs.places.Held.{length_filled}
 use Rattle.arraydeque_ring.specs.contracts.slots.Slots.lend_run as f
 use Rattle.arraydeque_ring.proofs.slots.Slots.lend_run.Statement as stated
 use Rattle.arraydeque_ring.proofs.slots.Slots.lend_run.Code as code

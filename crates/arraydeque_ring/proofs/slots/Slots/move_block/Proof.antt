@@ -1,12 +1,7 @@
 -- `move_block` moves N values at once. Assumes `Logic`.
-use Rattle.arraydeque_ring.proofs.memory.Kit.{◌≡◌, refl, sym, ap, List, [], ◌∷◌, ◌++◌, map, ℕ, ◌+◌, ◌*◌, ◌<◌, ◌≤◌, ◌^◌, arith, length, take, drop_list, replicate, length-take, length-drop, length-map, length-replicate, Some, None, full_share, fat, froom, ftrue, flft, Fn, inst_fn, named, w64, ty_array, Val, vunit, vint, vptr, Env, ◌⊑◌, fact, tables, owns, types_at, ‵, raw, ◌⊛◌, some, at_ret, ◌$◌, ◌∵◌, !, qed, move, keep, use1, use2, drop, split, join, pick, rewrite, fsplit, fsplit3, fjoin, fjoin3, feq_i, suffices, done, whole, sub, look_in, enter, of_opd, unit_lit, bin, load, look, init, stop, fld, assigns_last, first, blocks, exec, returns, alloc_all, pass_all, free_all, look_at, get, through, sets, is, env, yes, plain, usize, uint_vals, uint_Tells, Stays, walk_of, stay_dropped, stay_ref, Goes-dropped, Goes-ref, ends_at, nothing, heard, peeks, after, says, Is, shows, param, param_laws, part_at, El, R, el_x, elτ, proved, common_steps, Args, a_type, a_number, part_in, part_out, Array, layouts, number, mut_vals, mut_Tells}
+use Rattle.arraydeque_ring.{proofs.{memory.{Kit.{◌≡◌, refl, sym, ap, List, [], ◌∷◌, ◌++◌, map, ℕ, ◌+◌, ◌*◌, ◌<◌, ◌≤◌, ◌^◌, arith, length, take, drop_list, replicate, length-take, length-drop, length-map, length-replicate, Some, None, full_share, fat, froom, ftrue, flft, Fn, inst_fn, named, w64, ty_array, Val, vunit, vint, vptr, Env, ◌⊑◌, fact, tables, owns, types_at, ‵, raw, ◌⊛◌, some, at_ret, ◌$◌, ◌∵◌, !, qed, move, keep, use1, use2, drop, split, join, pick, rewrite, fsplit, fsplit3, fjoin, fjoin3, feq_i, suffices, done, whole, sub, look_in, enter, of_opd, unit_lit, bin, load, look, init, stop, fld, assigns_last, first, blocks, exec, returns, alloc_all, pass_all, free_all, look_at, get, through, sets, is, env, yes, plain, usize, uint_vals, uint_Tells, Stays, walk_of, stay_dropped, stay_ref, Goes-dropped, Goes-ref, ends_at, nothing, heard, peeks, after, says, Is, shows, param, param_laws, part_at, El, R, el_x, elτ, proved, common_steps, Args, a_type, a_number, part_in, part_out, Array, layouts, number, mut_vals, mut_Tells}, Regions.{Sr, Seen, near, slots_open, slots_close, scaled, item_size, Place, Row, of_room, IsFilledRun, Around, run_out, run_in, row_room, to_array, of_array}}, moved.Flat.{length-moved, moved_parts}}, specs.{Gaps.run_emptied, Moved.run_moved}}
 use Rattle.std.proofs.Math.Nat.{add-mul}
-use denote.Param.{ArrayAt}
-use denote.Param.Laws.{array_at_laws}
-use Rattle.arraydeque_ring.specs.Gaps.{run_emptied}
-use Rattle.arraydeque_ring.specs.Moved.{run_moved}
-use Rattle.arraydeque_ring.proofs.memory.Regions.{Sr, Seen, near, slots_open, slots_close, scaled, item_size, Place, Row, of_room, IsFilledRun, Around, run_out, run_in, row_room, to_array, of_array}
-use Rattle.arraydeque_ring.proofs.moved.Flat.{length-moved, moved_parts}
+use denote.Param.{ArrayAt, Laws.array_at_laws}
 use Rattle.arraydeque_ring.specs.contracts.slots.Slots.move_block as f
 use Rattle.arraydeque_ring.proofs.slots.Slots.move_block.Statement as stated
 use Rattle.arraydeque_ring.proofs.slots.Slots.move_block.Code as code

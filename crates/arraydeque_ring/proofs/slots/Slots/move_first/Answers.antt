@@ -1,8 +1,5 @@
-use Rattle.std.proofs.Common.{◌+◌, ◌-◌, ◌∙◌, arith}
-use Rattle.std.proofs.Math.Nat.{add_assoc}
-use Rattle.arraydeque_ring.proofs.moved.Flat.{all_moved}
-use Rattle.arraydeque_ring.proofs.moved.InBlocks.{first_goes}
-use Rattle.arraydeque_ring.proofs.moved.Sources.{round_run}
+use Rattle.std.proofs.{Common.{◌+◌, ◌-◌, ◌∙◌, arith}, Math.Nat.add_assoc}
+use Rattle.arraydeque_ring.proofs.moved.{Flat.all_moved, InBlocks.first_goes, Sources.round_run}
 use Rattle.arraydeque_ring.proofs.slots.Slots.move_first.Goals as goal
 
 pub move_block-requires-clause-filled : goal.move_block-requires-clause-filled

@@ -1,8 +1,5 @@
 use Rattle.std.proofs.Common.{◌+◌, ◌-◌, ◌∙◌, arith}
-use Rattle.arraydeque_ring.proofs.moved.Flat.{all_moved}
-use Rattle.arraydeque_ring.proofs.moved.InBlocks.{last_goes}
-use Rattle.arraydeque_ring.proofs.moved.Sources.{round_run}
-use Rattle.arraydeque_ring.proofs.slots.Slots.move_last.Goals.{then-this-eq1+else-loop-moved-test, else-this-eq1+else-size_of_item}
+use Rattle.arraydeque_ring.proofs.{moved.{Flat.all_moved, InBlocks.last_goes, Sources.round_run}, slots.Slots.move_last.Goals.{then-this-eq1+else-loop-moved-test, else-this-eq1+else-size_of_item}}
 use Rattle.arraydeque_ring.proofs.slots.Slots.move_last.Goals as goal
 
 pub move_block-requires-clause-filled : goal.move_block-requires-clause-filled

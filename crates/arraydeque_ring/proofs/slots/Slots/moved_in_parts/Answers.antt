@@ -1,8 +1,5 @@
 use Rattle.std.proofs.Common.{◌-◌, ◌<◌, ◌≤◌, sym, refl, arith}
-use Rattle.arraydeque_ring.specs.Moved.{run_moved}
-use Rattle.arraydeque_ring.proofs.moved.Parts.{Three, three_down, three_up}
-use Rattle.arraydeque_ring.proofs.slots.Slots.moved_in_parts.Given.{Over}
-use Rattle.arraydeque_ring.proofs.slots.Slots.moved_in_parts.Goals.{After-wrap_add}
+use Rattle.arraydeque_ring.{specs.Moved.run_moved, proofs.{moved.Parts.{Three, three_down, three_up}, slots.Slots.moved_in_parts.{Given.Over, Goals.{After-wrap_add}}}}
 use Rattle.arraydeque_ring.proofs.slots.Slots.moved_in_parts.Goals as goal
 
 down : (g : Over) (c : After-wrap_add g) → c.args.len ≤ c.wrap_add.result → let a = c.args in

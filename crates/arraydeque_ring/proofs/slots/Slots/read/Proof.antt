@@ -1,7 +1,5 @@
 -- `read` empties a filled place. Assumes `Logic`.
-use Rattle.arraydeque_ring.proofs.memory.Kit.{refl, sym, List, [], ◌∷◌, ℕ, ◌+◌, ◌*◌, ◌<◌, ◌^◌, arith, length, get_or, set, length-set, None, full_share, fat, froom, ftrue, flft, Fn, inst_fn, named, w64, Val, vint, vptr, Env, ◌⊑◌, fact, tables, owns, types_at, ‵, raw, ◌⊛◌, some, given, at_ret, ◌$◌, ◌∵◌, !, qed, move, keep, use1, use2, drop, split, join, pick, learn, rewrite, fsplit3, fjoin, fjoin3, feq_i, suffices, done, whole, sub, look_in, enter, of_opd, size_lit, bin, load, look, stop, fld, first, blocks, exec, returns, alloc_all, pass_all, free_all, look_at, get, through, sets, sets_last, env, yes, plain, usize, uint_vals, uint_Tells, Stays, walk_of, stay_dropped, stay_ref, Goes-dropped, Goes-ref, ends_at, nothing, heard, as_raw, after, says_two, Good, El, R, args, el_x, elτ, one_below, proved, mut_vals, mut_Tells}
-use Rattle.arraydeque_ring.proofs.memory.Regions.{Sr, Seen, near, run_fits, places, slots_open, slots_close, item_size, Place, Around, place_out, place_in, value_out, place_owned, IsFilled}
-use Rattle.arraydeque_ring.proofs.places.Held.{filled_within}
+use Rattle.arraydeque_ring.proofs.{memory.{Kit.{refl, sym, List, [], ◌∷◌, ℕ, ◌+◌, ◌*◌, ◌<◌, ◌^◌, arith, length, get_or, set, length-set, None, full_share, fat, froom, ftrue, flft, Fn, inst_fn, named, w64, Val, vint, vptr, Env, ◌⊑◌, fact, tables, owns, types_at, ‵, raw, ◌⊛◌, some, given, at_ret, ◌$◌, ◌∵◌, !, qed, move, keep, use1, use2, drop, split, join, pick, learn, rewrite, fsplit3, fjoin, fjoin3, feq_i, suffices, done, whole, sub, look_in, enter, of_opd, size_lit, bin, load, look, stop, fld, first, blocks, exec, returns, alloc_all, pass_all, free_all, look_at, get, through, sets, sets_last, env, yes, plain, usize, uint_vals, uint_Tells, Stays, walk_of, stay_dropped, stay_ref, Goes-dropped, Goes-ref, ends_at, nothing, heard, as_raw, after, says_two, Good, El, R, args, el_x, elτ, one_below, proved, mut_vals, mut_Tells}, Regions.{Sr, Seen, near, run_fits, places, slots_open, slots_close, item_size, Place, Around, place_out, place_in, value_out, place_owned, IsFilled}}, places.Held.filled_within}
 use Rattle.arraydeque_ring.specs.contracts.slots.Slots.read as f
 use Rattle.arraydeque_ring.proofs.slots.Slots.read.Statement as stated
 use Rattle.arraydeque_ring.proofs.slots.Slots.read.Code as code

@@ -1,5 +1,4 @@
-use Rattle.std.proofs.Common.{◌≡◌, None, ◌∙◌, arith}
-use Rattle.std.proofs.lemmas.List.{length-set, get_or-set_other}
+use Rattle.std.proofs.{Common.{◌≡◌, None, ◌∙◌, arith}, lemmas.List.{length-set, get_or-set_other}}
 use Rattle.arraydeque_ring.proofs.slots.Slots.shift.Goals as goal
 
 pub read-value-requires : goal.read-value-requires

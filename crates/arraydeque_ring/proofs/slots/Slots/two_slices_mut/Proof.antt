@@ -1,18 +1,9 @@
 -- `two_slices_mut` lends two runs, and the region follows their slices. Assumes `Logic`.
-use Rattle.arraydeque_ring.proofs.memory.Kit.{◌≡◌, refl, sym, ap, subst, List, [], ◌∷◌, ℕ, emp, id⊢, fact_i, ftrue, flft, Fn, inst_fn, named, w64, ◌⊑◌, fact, tables, ‵, raw, ◌⊛◌, some, later, ◌$◌, ◌∵◌, !, qed, move, use0, use1, use2, drop, split, join, pick, frame, rewrite, await, fsplit, fjoin, suffices, done, enter, addr, stop, no_more, and_then, returns, alloc_all, pass_all, free_all, look_at, get, through, sets, lands_as, yes, no, plain, usize, uint_vals, uint_Tells, mem, Is, shows, peeks, Stays, walk_of, says_two, stay_dropped, Goes-dropped, ends_at, nothing, heard, calls_at, framed, triple_of, param_laws, El, R, args, el_x, proved, after₂, split3, Array, both_by, MutBor, NamedLft, mut_vals, mut_Tells, mut_ref_to, named_lft, lasts, Lasts, Goes-spent_ref, on_entry}
-use Rattle.arraydeque_ring.specs.Lends.{lends_loan, lends_two_runs, two_written}
-use Rattle.arraydeque_ring.specs.Loans.{LoanState, written_over, AreApart}
-use Rattle.arraydeque_ring.specs.Steps.{more_lends}
+use Rattle.arraydeque_ring.{proofs.{memory.{Kit.{◌≡◌, refl, sym, ap, subst, List, [], ◌∷◌, ℕ, emp, id⊢, fact_i, ftrue, flft, Fn, inst_fn, named, w64, ◌⊑◌, fact, tables, ‵, raw, ◌⊛◌, some, later, ◌$◌, ◌∵◌, !, qed, move, use0, use1, use2, drop, split, join, pick, frame, rewrite, await, fsplit, fjoin, suffices, done, enter, addr, stop, no_more, and_then, returns, alloc_all, pass_all, free_all, look_at, get, through, sets, lands_as, yes, no, plain, usize, uint_vals, uint_Tells, mem, Is, shows, peeks, Stays, walk_of, says_two, stay_dropped, Goes-dropped, ends_at, nothing, heard, calls_at, framed, triple_of, param_laws, El, R, args, el_x, proved, after₂, split3, Array, both_by, MutBor, NamedLft, mut_vals, mut_Tells, mut_ref_to, named_lft, lasts, Lasts, Goes-spent_ref, on_entry}, Regions.{Sr, Seen, Place, IsFilledRun, HoldsRun}}, loans.{Names.followed_both, Slices.{Slices, slices_lawful}, Placed.two_alike}, slots.{Slots.lend_two.Met.met, loan.Loan.into_slices.Met.{met as into_met}}}, specs.{Lends.{lends_loan, lends_two_runs, two_written}, Loans.{LoanState, written_over, AreApart}, Steps.more_lends}}
 use Rattle.arraydeque_ring.specs.contracts.slots.loan.Loan as loan
 use Rattle.arraydeque_ring.proofs.slots.loan.Loan.TheLaws as loan_laws
-use Rattle.arraydeque_ring.proofs.loans.Names.{followed_both}
-use Rattle.arraydeque_ring.proofs.loans.Slices.{Slices, slices_lawful}
-use Rattle.arraydeque_ring.proofs.loans.Placed.{two_alike}
-use Rattle.arraydeque_ring.proofs.memory.Regions.{Sr, Seen, Place, IsFilledRun, HoldsRun}
 use Rattle.arraydeque_ring.specs.contracts.slots.Slots.lend_two as g
-use Rattle.arraydeque_ring.proofs.slots.Slots.lend_two.Met.{met}
 use Rattle.arraydeque_ring.specs.contracts.slots.loan.Loan.into_slices as h
-use Rattle.arraydeque_ring.proofs.slots.loan.Loan.into_slices.Met.{met as into_met}
 use Rattle.arraydeque_ring.specs.contracts.slots.Slots.two_slices_mut as f
 use Rattle.arraydeque_ring.proofs.slots.Slots.two_slices_mut.Statement as stated
 use Rattle.arraydeque_ring.proofs.slots.Slots.two_slices_mut.Code as code

@@ -1,16 +1,11 @@
 -- `with_memory` cuts a new block into empty places, and keeps the right to free it. Assumes `Logic`.
-use Rattle.arraydeque_ring.proofs.memory.Kit.{true, false, ◌≡◌, refl, sym, subst, [], ◌∷◌, ℕ, ◌+◌, ◌*◌, ◌<◌, ◌^◌, arith, lit<, length, length-replicate, None, Ok, Err, Fml, ftrue, flft, Fn, Body, inst_fn, named, w64, ty_array, Val, vint, vptr, vstruct, vcons, vnil, align, capped, capped_fits, Env, Wp, after_seq, at_return, ◌⊑◌, fact, tables, After, ‵, raw, ◌⊛◌, given, later, at_ret, any_q, ◌$◌, ◌∵◌, !, qed, move, keep, drop, use1, use2, split, join, learn, frame, fsplit, fjoin, rewrite, suffices, await, done, whole, agg, live, vrt, in_variant, enter, of_opd, lit, align_word, stop, fld, no_more, and_then, first, switches_on, exec, returns, alloc_all, pass_all, free_all, look_at, get, get_in, get_tag, sets, sets_last, lands_as, env, yes, RattleType, owns, Is, layout, uint_vals, uint_Tells, block_ptr, shr_vals, shr_Tells, usize, RefOf, plain, types_at, heard, nothing, owned, calls_at, framed, Stays, walk_of, says, stay_dropped, Goes-dropped, ends_at, heap_val, heap_Tells, as_written, Good, first_Good, after, head, arm_body, El, args, elτ, proved, Struct, Global}
+use Rattle.arraydeque_ring.proofs.memory.{Kit.{true, false, ◌≡◌, refl, sym, subst, [], ◌∷◌, ℕ, ◌+◌, ◌*◌, ◌<◌, ◌^◌, arith, lit<, length, length-replicate, None, Ok, Err, Fml, ftrue, flft, Fn, Body, inst_fn, named, w64, ty_array, Val, vint, vptr, vstruct, vcons, vnil, align, capped, capped_fits, Env, Wp, after_seq, at_return, ◌⊑◌, fact, tables, After, ‵, raw, ◌⊛◌, given, later, at_ret, any_q, ◌$◌, ◌∵◌, !, qed, move, keep, drop, use1, use2, split, join, learn, frame, fsplit, fjoin, rewrite, suffices, await, done, whole, agg, live, vrt, in_variant, enter, of_opd, lit, align_word, stop, fld, no_more, and_then, first, switches_on, exec, returns, alloc_all, pass_all, free_all, look_at, get, get_in, get_tag, sets, sets_last, lands_as, env, yes, RattleType, owns, Is, layout, uint_vals, uint_Tells, block_ptr, shr_vals, shr_Tells, usize, RefOf, plain, types_at, heard, nothing, owned, calls_at, framed, Stays, walk_of, says, stay_dropped, Goes-dropped, ends_at, heap_val, heap_Tells, as_written, Good, first_Good, after, head, arm_body, El, args, elτ, proved, Struct, Global}, Blocks.{scaled, block_ty, block_size, block_align, token, token_at_start, right_is}, Heap.{Allocates, Answered, Asks, to_allocate, allocate_goes, allocate_gives, answers}, Regions.{Sr, Seen, places, heap_Good, slots_val, slots_Good, slots_made, item_size, of_room, empty_region}}
 use denote.Struct.Struct.{Struct-Makes}
 use denote.Struct.Declared as Declared
 use Rattle.std.specs.contracts.result.Result as results
 use Rattle.std.specs.contracts.alloc.AllocError as refusals
 use Rattle.std.specs.contracts.alloc.Global as heap
-use Rattle.std.proofs.alloc.Calls.{Answer-typed}
-use Rattle.std.proofs.impls.GlobalAllocator.allocate.Met.{met}
-use Rattle.std.proofs.ResultValues.{ok_of, err_of}
-use Rattle.arraydeque_ring.proofs.memory.Blocks.{scaled, block_ty, block_size, block_align, token, token_at_start, right_is}
-use Rattle.arraydeque_ring.proofs.memory.Heap.{Allocates, Answered, Asks, to_allocate, allocate_goes, allocate_gives, answers}
-use Rattle.arraydeque_ring.proofs.memory.Regions.{Sr, Seen, places, heap_Good, slots_val, slots_Good, slots_made, item_size, of_room, empty_region}
+use Rattle.std.proofs.{alloc.Calls.{Answer-typed}, impls.GlobalAllocator.allocate.Met.met, ResultValues.{ok_of, err_of}}
 use Rattle.arraydeque_ring.specs.contracts.slots.Slots.with_memory as f
 use Rattle.arraydeque_ring.proofs.slots.Slots.with_memory.Statement as stated
 use Rattle.arraydeque_ring.proofs.slots.Slots.with_memory.Code as code

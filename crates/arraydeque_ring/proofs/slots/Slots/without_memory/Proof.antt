@@ -1,8 +1,6 @@
 -- `without_memory` makes places that take no bytes out of nothing. Assumes `Logic`.
-use Rattle.arraydeque_ring.proofs.memory.Kit.{◌≡◌, refl, sym, ap, subst, ◌∙◌, [], ◌∷◌, ℕ, ◌+◌, ◌*◌, ◌<◌, ◌^◌, lit<, length, length-replicate, None, ftrue, flft, Fn, inst_fn, w64, vint, ◌⊑◌, fact, tables, owns, types_at, ‵, raw, ◌⊛◌, ◌$◌, ◌∵◌, !, qed, move, keep, use0, drop, split, fjoin, suffices, done, agg, enter, addr, from, stop, no_more, and_then, returns, alloc_all, pass_all, free_all, look_at, get, sets, yes, plain, usize, uint_vals, uint_Tells, heap_val, heap_Tells, Stays, walk_of, says, stay_dropped, Goes-dropped, ends_at, nothing, heard, block_ptr, El, args, proved, Global}
+use Rattle.arraydeque_ring.proofs.memory.{Kit.{◌≡◌, refl, sym, ap, subst, ◌∙◌, [], ◌∷◌, ℕ, ◌+◌, ◌*◌, ◌<◌, ◌^◌, lit<, length, length-replicate, None, ftrue, flft, Fn, inst_fn, w64, vint, ◌⊑◌, fact, tables, owns, types_at, ‵, raw, ◌⊛◌, ◌$◌, ◌∵◌, !, qed, move, keep, use0, drop, split, fjoin, suffices, done, agg, enter, addr, from, stop, no_more, and_then, returns, alloc_all, pass_all, free_all, look_at, get, sets, yes, plain, usize, uint_vals, uint_Tells, heap_val, heap_Tells, Stays, walk_of, says, stay_dropped, Goes-dropped, ends_at, nothing, heard, block_ptr, El, args, proved, Global}, Blocks.no_right, Regions.{Seen, Fits, places, right, heap_Good, slots_val, slots_Good, slots_made, item_size, of_nothing, empty_region}}
 use Rattle.std.specs.contracts.alloc.Global as heap
-use Rattle.arraydeque_ring.proofs.memory.Blocks.{no_right}
-use Rattle.arraydeque_ring.proofs.memory.Regions.{Seen, Fits, places, right, heap_Good, slots_val, slots_Good, slots_made, item_size, of_nothing, empty_region}
 use Rattle.arraydeque_ring.specs.contracts.slots.Slots.without_memory as f
 use Rattle.arraydeque_ring.proofs.slots.Slots.without_memory.Statement as stated
 use Rattle.arraydeque_ring.proofs.slots.Slots.without_memory.Code as code

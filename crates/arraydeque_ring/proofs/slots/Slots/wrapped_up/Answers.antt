@@ -1,12 +1,6 @@
 use native.Mathlib.Numerals.{unary_clauses}
 use Rattle.std.proofs.Common.{ℕ, ◌+◌, ◌-◌, List, Option, sym, refl, arith}
-use Rattle.arraydeque_ring.specs.Ring.{place_of}
-use Rattle.arraydeque_ring.specs.Moved.{CanCopy, run_moved}
-use Rattle.arraydeque_ring.proofs.moved.InBlocks.{whole_run}
-use Rattle.arraydeque_ring.proofs.moved.Parts.{Three}
-use Rattle.arraydeque_ring.proofs.moved.Slides.{slides_up}
-use Rattle.arraydeque_ring.proofs.slots.Slots.wrapped_up.Given.{Over}
-use Rattle.arraydeque_ring.proofs.slots.Slots.wrapped_up.Goals.{After-capacity-capacity}
+use Rattle.arraydeque_ring.{specs.{Ring.place_of, Moved.{CanCopy, run_moved}}, proofs.{moved.{InBlocks.whole_run, Parts.Three, Slides.slides_up}, slots.Slots.wrapped_up.{Given.Over, Goals.{After-capacity-capacity}}}}
 use Rattle.arraydeque_ring.proofs.slots.Slots.wrapped_up.Goals as goal
 
 -- a run is itself from the index 0 on

@@ -1,6 +1,5 @@
 -- `write` fills an empty place. Assumes `Logic`.
-use Rattle.arraydeque_ring.proofs.memory.Kit.{refl, sym, subst, List, [], ◌∷◌, ℕ, ◌+◌, ◌*◌, ◌<◌, ◌^◌, arith, length, get_or, set, length-set, Some, None, ent, ftrue, flft, Fn, inst_fn, w64, Val, vunit, vint, vptr, Env, WpFn, ◌⊑◌, fact, tables, owns, types_at, ‵, raw, ◌⊛◌, at_ret, ◌$◌, ◌∵◌, !, qed, move, keep, use1, use2, drop, split, join, rewrite, fsplit, fsplit3, fjoin, fjoin3, feq_i, suffices, done, whole, sub, look_in, enter, of_opd, unit_lit, size_lit, bin, load, init, stop, fld, assigns_last, first, blocks, exec, returns, alloc_all, pass_all, free_all, look_at, get, through, sets, env, yes, no, plain, usize, Vals, Stays, walk_of, stay_dropped, stay_ref, Goes-dropped, Goes-ref, ends_at, nothing, heard, as_written, after, says, El, R, args, el_x, elτ, lawful, one, one_below, proved_at}
-use Rattle.arraydeque_ring.proofs.memory.Regions.{Sr, Seen, near, run_fits, places, slots_open, slots_close, item_size, Place, Around, place_out, place_in, value_in, place_owned, IsEmpty}
+use Rattle.arraydeque_ring.proofs.memory.{Kit.{refl, sym, subst, List, [], ◌∷◌, ℕ, ◌+◌, ◌*◌, ◌<◌, ◌^◌, arith, length, get_or, set, length-set, Some, None, ent, ftrue, flft, Fn, inst_fn, w64, Val, vunit, vint, vptr, Env, WpFn, ◌⊑◌, fact, tables, owns, types_at, ‵, raw, ◌⊛◌, at_ret, ◌$◌, ◌∵◌, !, qed, move, keep, use1, use2, drop, split, join, rewrite, fsplit, fsplit3, fjoin, fjoin3, feq_i, suffices, done, whole, sub, look_in, enter, of_opd, unit_lit, size_lit, bin, load, init, stop, fld, assigns_last, first, blocks, exec, returns, alloc_all, pass_all, free_all, look_at, get, through, sets, env, yes, no, plain, usize, Vals, Stays, walk_of, stay_dropped, stay_ref, Goes-dropped, Goes-ref, ends_at, nothing, heard, as_written, after, says, El, R, args, el_x, elτ, lawful, one, one_below, proved_at}, Regions.{Sr, Seen, near, run_fits, places, slots_open, slots_close, item_size, Place, Around, place_out, place_in, value_in, place_owned, IsEmpty}}
 use Rattle.arraydeque_ring.specs.contracts.slots.Slots.write as f
 use Rattle.arraydeque_ring.proofs.slots.Slots.write.Statement as stated
 use Rattle.arraydeque_ring.proofs.slots.Slots.write.Code as code

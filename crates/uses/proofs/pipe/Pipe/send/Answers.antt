@@ -1,8 +1,4 @@
-use Rattle.std.proofs.Common.{◌≡◌, ◌++◌, take, drop, length, subst, append_assoc, rules, arith}
-use Rattle.std.specs.Io.{StartsWith}
-use Rattle.std.proofs.Math.Seq.{take-append_seam}
-use Rattle.std.proofs.lemmas.Grind.{common_steps}
-use Rattle.std.proofs.lemmas.List.{take-append-drop}
+use Rattle.std.{proofs.{Common.{◌≡◌, ◌++◌, take, drop, length, subst, append_assoc, rules, arith}, Math.Seq.{take-append_seam}, lemmas.{Grind.common_steps, List.{take-append-drop}}}, specs.Io.StartsWith}
 use Rattle.uses.proofs.pipe.Pipe.send.Goals as goal
 
 pub returns-in_err-read-clause-none_lost : goal.returns-in_err-read-clause-none_lost

@@ -1,5 +1,4 @@
-use Rattle.std.proofs.Common.{arith}
-use Rattle.std.proofs.lemmas.Grind.{common_steps}
+use Rattle.std.proofs.{Common.arith, lemmas.Grind.common_steps}
 use Rattle.arraydeque.proofs.KeepLast.{keep_last-all, keep_last-append}
 use Rattle.uses.proofs.window.Window.push_all.Goals as goal
 

@@ -1,6 +1,4 @@
-use Rattle.std.proofs.Common.{refl, sym, ap, ◌∙◌}
-use Rattle.std.proofs.lemmas.Option.{get_or_from_slice_get}
-use Rattle.std.specs.Option.{option_copied_mut}
+use Rattle.std.{proofs.{Common.{refl, sym, ap, ◌∙◌}, lemmas.Option.get_or_from_slice_get}, specs.Option.option_copied_mut}
 use Rattle.arraydeque.proofs.deque.access.ArrayDequeIndexMutUsize.index_mut.Goals as goal
 
 pub returns : goal.returns

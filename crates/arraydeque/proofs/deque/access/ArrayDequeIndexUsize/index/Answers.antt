@@ -1,5 +1,4 @@
-use Rattle.std.proofs.Common.{option_copied, sym, ap, ◌∙◌}
-use Rattle.std.proofs.lemmas.Option.{get_or_from_slice_get}
+use Rattle.std.proofs.{Common.{option_copied, sym, ap, ◌∙◌}, lemmas.Option.get_or_from_slice_get}
 use Rattle.arraydeque.proofs.deque.access.ArrayDequeIndexUsize.index.Goals as goal
 
 pub returns : goal.returns

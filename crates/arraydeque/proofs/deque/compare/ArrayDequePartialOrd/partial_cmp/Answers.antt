@@ -1,5 +1,4 @@
-use Rattle.std.proofs.Common.{arith}
-use Rattle.std.proofs.lemmas.Grind.{common_steps}
+use Rattle.std.proofs.{Common.arith, lemmas.Grind.common_steps}
 use Rattle.arraydeque.proofs.Sections.{slice_partial_cmp_sections}
 use Rattle.arraydeque.proofs.deque.compare.ArrayDequePartialOrd.partial_cmp.Goals as goal
 

@@ -1,8 +1,6 @@
-use Rattle.std.proofs.Common.{◌≡◌, length, ◌++◌, refl, sym, ap, ◌∙◌, arith}
-use Rattle.std.proofs.lemmas.List.{length-append, length-drop}
+use Rattle.std.proofs.{Common.{◌≡◌, length, ◌++◌, refl, sym, ap, ◌∙◌, arith}, lemmas.List.{length-append, length-drop}}
 use Rattle.arraydeque_ring.specs.Ring.{RingState}
-use Rattle.arraydeque.proofs.Pushed.{of_ring, full_back, WrapsBack-none, WrapsBack-displaced, WrapsBack-room, WrapsBack-both}
-use Rattle.arraydeque.proofs.Taken.{TakesAll-fills, TakesAll-both}
+use Rattle.arraydeque.proofs.{Pushed.{of_ring, full_back, WrapsBack-none, WrapsBack-displaced, WrapsBack-room, WrapsBack-both}, Taken.{TakesAll-fills, TakesAll-both}}
 use Rattle.arraydeque.proofs.deque.extend.ArrayDeque+T+CAP+Wrapping.extend_back.Goals as goal
 
 pub returns-then-fill_back : goal.returns-then-fill_back

@@ -1,8 +1,6 @@
-use Rattle.std.proofs.Common.{◌≡◌, length, ◌++◌, reverse, refl, sym, ap, ◌∙◌, arith}
-use Rattle.std.proofs.lemmas.List.{length-take}
+use Rattle.std.proofs.{Common.{◌≡◌, length, ◌++◌, reverse, refl, sym, ap, ◌∙◌, arith}, lemmas.List.{length-take}}
 use Rattle.arraydeque_ring.specs.Ring.{RingState}
-use Rattle.arraydeque.proofs.Pushed.{of_ring, full_front, WrapsFront-none, WrapsFront-displaced, WrapsFront-room, WrapsFront-both}
-use Rattle.arraydeque.proofs.Taken.{TakesAll-fills, TakesAll-both}
+use Rattle.arraydeque.proofs.{Pushed.{of_ring, full_front, WrapsFront-none, WrapsFront-displaced, WrapsFront-room, WrapsFront-both}, Taken.{TakesAll-fills, TakesAll-both}}
 use Rattle.arraydeque.proofs.deque.extend.ArrayDeque+T+CAP+Wrapping.extend_front.Goals as goal
 
 pub returns-then-fill_front : goal.returns-then-fill_front

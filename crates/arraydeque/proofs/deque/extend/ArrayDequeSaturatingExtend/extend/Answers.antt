@@ -1,8 +1,5 @@
-use Rattle.std.proofs.Common.{◌++◌, take, ap, sym, ◌∙◌}
-use Rattle.std.proofs.Math.Seq.{take-append_seam}
-use Rattle.std.proofs.lemmas.List.{take_all}
-use Rattle.arraydeque.specs.Deque.{with_back}
-use Rattle.arraydeque.proofs.Taken.{TakesAll-fills, TakesAll-both, TakesAll-drains}
+use Rattle.std.proofs.{Common.{◌++◌, take, ap, sym, ◌∙◌}, Math.Seq.{take-append_seam}, lemmas.List.take_all}
+use Rattle.arraydeque.{specs.Deque.with_back, proofs.Taken.{TakesAll-fills, TakesAll-both, TakesAll-drains}}
 use Rattle.arraydeque.proofs.deque.extend.ArrayDequeSaturatingExtend.extend.Goals as goal
 
 pub returns-then-fill_back-clause-taken : goal.returns-then-fill_back-clause-taken

@@ -1,9 +1,6 @@
-use Rattle.std.proofs.Common.{◌≡◌, ap, ◌∙◌, arith, length}
-use Rattle.std.proofs.lemmas.List.{take_min, length-take}
-use Rattle.std.proofs.Math.Nat.{min_comm}
+use Rattle.std.proofs.{Common.{◌≡◌, ap, ◌∙◌, arith, length}, lemmas.List.{take_min, length-take}, Math.Nat.min_comm}
 use Rattle.arraydeque_ring.specs.Ring.{RingState}
-use Rattle.arraydeque.specs.Deque.{empty_deque, with_back}
-use Rattle.arraydeque.proofs.Pushed.{of_ring}
+use Rattle.arraydeque.{specs.Deque.{empty_deque, with_back}, proofs.Pushed.of_ring}
 use Rattle.arraydeque.proofs.deque.makers.ArrayDeque+T+CAP+Saturating.from_array.Goals as goal
 
 pub of-requires : goal.of-requires

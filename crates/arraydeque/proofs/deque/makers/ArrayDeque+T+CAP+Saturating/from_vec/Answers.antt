@@ -1,5 +1,4 @@
-use Rattle.std.proofs.lemmas.Result.{IfOk-weaker}
-use Rattle.std.specs.Vec.Iter.{into_iter_items}
+use Rattle.std.{proofs.lemmas.Result.{IfOk-weaker}, specs.Vec.Iter.into_iter_items}
 use Rattle.arraydeque.proofs.Taken.{TakesFrom-list}
 use Rattle.arraydeque.proofs.deque.makers.ArrayDeque+T+CAP+Saturating.from_vec.Goals as goal
 

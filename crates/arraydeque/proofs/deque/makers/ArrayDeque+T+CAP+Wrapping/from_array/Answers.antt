@@ -1,8 +1,6 @@
-use Rattle.std.proofs.Common.{◌≡◌, ◌-◌, ap, ◌∙◌, arith, length}
-use Rattle.std.proofs.lemmas.List.{take_rest, length-drop}
+use Rattle.std.proofs.{Common.{◌≡◌, ◌-◌, ap, ◌∙◌, arith, length}, lemmas.List.{take_rest, length-drop}}
 use Rattle.arraydeque_ring.specs.Ring.{RingState}
-use Rattle.arraydeque.specs.Deque.{empty_deque, with_back}
-use Rattle.arraydeque.proofs.Pushed.{of_ring}
+use Rattle.arraydeque.{specs.Deque.{empty_deque, with_back}, proofs.Pushed.of_ring}
 use Rattle.arraydeque.proofs.deque.makers.ArrayDeque+T+CAP+Wrapping.from_array.Goals as goal
 
 pub of-requires : goal.of-requires

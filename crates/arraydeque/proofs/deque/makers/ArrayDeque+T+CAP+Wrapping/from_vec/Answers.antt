@@ -1,8 +1,5 @@
-use Rattle.std.proofs.Common.{◌≡◌, ◌<◌, ℕ, List}
-use Rattle.std.proofs.lemmas.Result.{IfOk-weaker}
-use Rattle.std.specs.Vec.Iter.{into_iter_items}
-use Rattle.arraydeque.specs.Deque.{DequeState, empty_deque, keep_last, wrapped_back}
-use Rattle.arraydeque.proofs.Taken.{TakesAll-list}
+use Rattle.std.{proofs.{Common.{◌≡◌, ◌<◌, ℕ, List}, lemmas.Result.{IfOk-weaker}}, specs.Vec.Iter.into_iter_items}
+use Rattle.arraydeque.{specs.Deque.{DequeState, empty_deque, keep_last, wrapped_back}, proofs.Taken.{TakesAll-list}}
 use Rattle.arraydeque.proofs.deque.makers.ArrayDeque+T+CAP+Wrapping.from_vec.Goals as goal
 
 -- the deque of capacity n into which a list was pushed

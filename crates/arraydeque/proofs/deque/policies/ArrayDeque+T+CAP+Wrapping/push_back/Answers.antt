@@ -1,5 +1,4 @@
-use Rattle.std.proofs.Common.{◌≡◌, slice_get, arith}
-use Rattle.std.proofs.lemmas.Grind.{common_steps}
+use Rattle.std.proofs.{Common.{◌≡◌, slice_get, arith}, lemmas.Grind.common_steps}
 use Rattle.arraydeque.proofs.deque.policies.ArrayDeque+T+CAP+Wrapping.push_back.Goals as goal
 
 pub returns : goal.returns

@@ -1,5 +1,4 @@
-use Rattle.std.proofs.Common.{◌≡◌, arith}
-use Rattle.std.proofs.lemmas.Grind.{common_steps}
+use Rattle.std.proofs.{Common.{◌≡◌, arith}, lemmas.Grind.common_steps}
 use Rattle.arraydeque.specs.Deque.{last_item}
 use Rattle.arraydeque.proofs.deque.policies.ArrayDeque+T+CAP+Wrapping.push_front.Goals as goal
 

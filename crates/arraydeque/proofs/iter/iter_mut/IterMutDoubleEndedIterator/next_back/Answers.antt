@@ -1,5 +1,4 @@
-use Rattle.std.proofs.Common.{sym, ap, ◌∙◌}
-use Rattle.std.proofs.lemmas.List.{append-nil, nil_from_length}
+use Rattle.std.proofs.{Common.{sym, ap, ◌∙◌}, lemmas.List.{append-nil, nil_from_length}}
 use Rattle.arraydeque_ring.specs.Loans.{LoanState, remaining}
 use Rattle.arraydeque.proofs.iter.iter_mut.IterMutDoubleEndedIterator.next_back.Goals as goal
 

@@ -1,5 +1,4 @@
-use Rattle.std.proofs.Common.{length, sym, ap, ◌∙◌}
-use Rattle.std.proofs.lemmas.List.{length-append}
+use Rattle.std.proofs.{Common.{length, sym, ap, ◌∙◌}, lemmas.List.{length-append}}
 use Rattle.arraydeque_ring.specs.Loans.{LoanState, remaining}
 use Rattle.arraydeque.proofs.iter.iter_mut.IterMutExactSizeIterator.len.Goals as goal
 
