@@ -1,5 +1,5 @@
 -- Runs of empty places, and what it means to move a run of values across one.
-use Rattle.std.specs.Prelude.{◌≡◌, ℕ, ◌+◌, ◌≤◌, List, ◌++◌, length, take, drop, replicate, Option, None}
+use Rattle.std.specs.{Prelude.{◌≡◌, ℕ, ◌+◌, ◌≤◌, List, ◌++◌, length, take, drop, replicate, Option, None}, List.splice}
 
 module _ {X : Type 0} where
   -- there are the len places from the index `from` on, and none of them holds a value
@@ -13,4 +13,4 @@ module _ {X : Type 0} where
 
   -- the places, with nothing in the len from the index `at` on
   abbrev pub run_emptied : ℕ → ℕ → List (Option X) → List (Option X)
-  run_emptied at len ps = take at ps ++ (replicate len None ++ drop (at + len) ps)
+  run_emptied at len ps = splice ps at (at + len) (replicate len None)

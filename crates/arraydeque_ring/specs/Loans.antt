@@ -1,5 +1,5 @@
 -- Values that are lent for writing, in one slice or in two, and what writing leaves.
-use Rattle.std.specs.{Prelude.{ℕ, ◌+◌, ◌<◌, ◌≤◌, List, [], ◌∷◌, ◌++◌, length, map, take, drop, Option, Some, None}, Borrow.{GName, MutBor}, List.refill}
+use Rattle.std.specs.{Prelude.{ℕ, ◌+◌, ◌<◌, ◌≤◌, List, [], ◌∷◌, ◌++◌, length, map, Option, Some, None}, Borrow.{GName, MutBor}, List.{refill, splice}}
 
 -- a loan: its two slices as they are now, and the name that the lender follows
 pub record LoanState (X : Type 0) : Type 0 where
@@ -18,7 +18,7 @@ module _ {X : Type 0} where
 
   -- the places, with the values ws from the place `from` on
   abbrev pub with_run : ℕ → List X → List (Option X) → List (Option X)
-  with_run from ws ps = take from ps ++ (map Some ws ++ drop (from + length ws) ps)
+  with_run from ws ps = splice ps from (from + length ws) (map Some ws)
 
   -- the places ps, with the value that ws has in each place that both fill
   abbrev pub written_over : List (Option X) → List (Option X) → List (Option X)

@@ -35,7 +35,7 @@ enum StepKind {
 /// place is empty, so that no value is ever lost with it.
 pub struct Slots<T> {
     ptr: *mut T,
-    pub(crate) capacity: usize,
+    capacity: usize,
     alloc: Global,
     ghost places: { List (Option T) },
     ghost steps: { Steps },

@@ -1,7 +1,7 @@
 -- Items that come one by one behind the last item or before the first, into places in a row.
 use Rattle.std.proofs.{Common.{◌≡◌, ℕ, zero, suc, ◌+◌, ◌-◌, ◌*◌, ◌<◌, ◌≤◌, ◌⊎◌, inl, inr, List, [], ◌∷◌, ◌++◌, length, reverse, set, Option, Some, if◌then◌else◌, sym, ap, ◌∙◌, subst, arith}, lemmas.{Bool.{lt-ltb}, List.{append_assoc, append-nil, length-append, length-reverse, reverse-append}}}
 use native.Mathlib.Nat.{suc-mul}
-use Rattle.arraydeque_ring.{specs.{declared.ring.Ring.TheInside.Inside, Places.{Region, IsEmpty}, Ring.{RingState, place_of, down_by}, Steps.{Steps, more_puts}}, proofs.{moved.Sources.{place_of-sum}, places.{LaidOut.{LaidOut, IsEmpty-place_of, LaidOut-put_back}, Opened.{Opened, placed, with_len, put_front}, Rotated.{MayStartAt, place_of_cases, place_of-run}}}}
+use Rattle.arraydeque_ring.{specs.{declared.ring.Ring.TheInside.Inside, Places.{Region, IsEmpty}, Ring.{RingState, place_of, down_by}, Steps.{Steps, more_puts}}, proofs.{moved.Sources.{place_of-sum}, places.{LaidOut.{LaidOut, IsEmpty-place_of, LaidOut-put_back}, Opened.{Opened, by_field, with_len, put_front}, Rotated.{MayStartAt, place_of_cases, place_of-run}}}}
 
 -- to go down by k places and then by one is to go down by one more
 down_by-one : (k s n : ℕ) → place_of (down_by k s n) (n - 1) n ≡ down_by (suc k) s n
@@ -60,7 +60,7 @@ module _ {X : Type 0} where
 
     -- the place before the first item is empty
     pub IsEmpty-front : (place : ℕ) → length v.items < v.capacity → place ≡ place_of v.start (v.capacity - 1) v.capacity → IsEmpty r.slots.places place
-    IsEmpty-front place room is = subst (IsEmpty r.slots.places) (sym (placed o (v.capacity - 1) is)) (IsEmpty-place_of o.laid (v.capacity - 1) (omega arith) (omega arith))
+    IsEmpty-front place room is = subst (IsEmpty r.slots.places) (sym (by_field o (v.capacity - 1) is)) (IsEmpty-place_of o.laid (v.capacity - 1) (omega arith) (omega arith))
 
   module _ {r : Inside X} (v : RingState X) (xs : List X) (x : X) {slots : Region X} {n : ℕ} (steps : slots.steps ≡ more_puts 1 r.slots.steps) (many : r.len + 1 ≡ n) where
     -- one more came

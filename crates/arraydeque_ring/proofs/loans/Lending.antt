@@ -20,8 +20,8 @@ module _ {X : Type 0} where
     pub first_filled : IsFilledRun ps r.start first
     first_filled = IsFilledRun-LaidOut o.laid 0 r.start first (inl (omega arith)) (omega (arith, c.all, o.len)) (omega (arith, c.fits, o.laid.long))
 
-    pub rest_filled : IsFilledRun ps 0 rest
-    rest_filled = elim c.to_end [
+    pub second_filled : IsFilledRun ps 0 rest
+    second_filled = elim c.to_end [
       | inl none ↦ (omega arith, ([], ap (λ k. take k (drop 0 ps)) none))
       | inr end ↦ IsFilledRun-LaidOut o.laid first 0 rest (inr (omega (arith, o.laid.long))) (omega (arith, c.all, o.len)) (omega (arith, low, c.fits, o.laid.long))
     ]
@@ -79,17 +79,17 @@ module _ {X : Type 0} where
       let w : Region X = record { places = all_of; steps = more_lends 2 r.slots.steps } in
       let new = after r v seen kept w in
       let many : length us' ≡ first = length-as_many xs us ∙ run_length ps r.start first xs c.fits held in
-      let many' : length vs' ≡ rest = length-as_many ys vs ∙ run_length ps 0 rest ys (rest_filled o c).0 held' in
-      let same : all_of ≡ new.slots.places = sym (two_alike ps r.start first xs c.fits held 0 rest ys (rest_filled o c).0 held' us vs) in
+      let many' : length vs' ≡ rest = length-as_many ys vs ∙ run_length ps 0 rest ys (second_filled o c).0 held' in
+      let same : all_of ≡ new.slots.places = sym (two_alike ps r.start first xs c.fits held 0 rest ys (second_filled o c).0 held' us vs) in
       let cut : Cut new first rest = record { all = c.all; fits = omega (arith, c.fits, length-written_over ps all_of); to_end = subst (λ n. (rest ≡ 0) ⊎ (r.start + first ≡ n)) (sym (length-written_over ps all_of)) c.to_end } in
       let first_held : HoldsRun new.slots.places r.start first us' = subst (λ qs. HoldsRun qs r.start first us') same (held_behind r.start first us' vs' front (omega (arith, low o c)) (held_there r.start first us' ps many c.fits)) in
-      let rest_held : HoldsRun new.slots.places 0 rest vs' = subst (λ qs. HoldsRun qs 0 rest vs') same (held_there 0 rest vs' front many' (omega (arith, (rest_filled o c).0, length-with_run r.start us' ps (omega (arith, many, c.fits))))) in
+      let rest_held : HoldsRun new.slots.places 0 rest vs' = subst (λ qs. HoldsRun qs 0 rest vs') same (held_there 0 rest vs' front many' (omega (arith, (second_filled o c).0, length-with_run r.start us' ps (omega (arith, many, c.fits))))) in
       seen_after r v seen kept w ∙ ap (rewritten v) (sym (lent_items (opened new (kept_after r v seen kept w) refl) cut us' vs' first_held rest_held))
 
   -- as many items as fit come before the region's end
-  pub cut_at_end : (r : Inside X) → Kept r → (n first : ℕ) → n ≡ length r.slots.places → first ≡ min r.len (n - r.start) → Cut r first (r.len - first)
-  cut_at_end r kept n first e at =
-      let inside = kept.0 in record {
+  pub cut_at_end : (r : Inside X) → Kept r → let first = min r.len (length r.slots.places - r.start) in Cut r first (r.len - first)
+  cut_at_end r kept =
+      let n = length r.slots.places in let inside = kept.0 in record {
         all = omega arith;
         fits = omega arith;
         to_end = elim (cases_lt r.len (n - r.start)) [ inl fit ↦ inl (omega arith) | inr past ↦ inr (omega arith) ];

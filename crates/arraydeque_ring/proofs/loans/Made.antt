@@ -23,8 +23,8 @@ module _ (α : NamedLft) (T : RattleType) {M : Type 1} {𝓤 : Ura M} (𝓛 : Lo
   owned vs x = fsep ((inside.the_row α T).own_val x vs) ftrue
 
   -- no machine value tells the name
-  pub renamed : (d : LoanState T.Denot) (n : GName) (vs : List Val) → ent 𝓤 (sem 𝓛 ((loan.the_row α T).own_val d vs)) (sem 𝓛 ((loan.the_row α T).own_val (record d { name = n }) vs))
-  renamed d n vs =
+  pub loan_renamed : (d : LoanState T.Denot) (n : GName) (vs : List Val) → ent 𝓤 (sem 𝓛 ((loan.the_row α T).own_val d vs)) (sem 𝓛 ((loan.the_row α T).own_val (record d { name = n }) vs))
+  loan_renamed d n vs =
       qed 𝓛 (‵ ((loan.the_row α T).own_val d vs) ∷ []) ∵ fpick ! (λ x.
       let y : Inside T.Denot = record { first = x.0.first; second = x.0.second; name = record { mark = x.0.name.mark; name = n } } in
       fpack ! ((z : Inside T.Denot) × Fits (record d { name = n }) z) (λ z. owned vs z.0) (y, (ap (λ (v : LoanState T.Denot). record v { name = n }) x.1.0, x.1.1)) $ done !)

@@ -1,11 +1,11 @@
 -- Values that are written into runs of places: as many places are filled as before, and the same.
-use Rattle.std.{proofs.{Common.{◌≡◌, ℕ, zero, suc, ◌+◌, ◌-◌, ◌≤◌, ◌⊎◌, inl, inr, List, [], ◌∷◌, ◌++◌, map, length, take, drop, replicate, Option, Some, None, is_some, true, false, refl, sym, ap, ap₂, ◌∙◌, arith}, lemmas.{Bool.cases_lt, List.{length-map, nil_from_length, length-append, length-take, length-drop, map-append, append_assoc, take_at, drop_at, drop-take, take-take, take-append-drop, take-append-le, drop-append-le, drop-drop}}}, specs.List.{length_refill, take-map, drop-map}}
+use Rattle.std.{proofs.{Common.{◌≡◌, ℕ, zero, suc, ◌+◌, ◌-◌, ◌≤◌, ◌⊎◌, inl, inr, List, [], ◌∷◌, ◌++◌, map, length, take, drop, replicate, Option, Some, None, is_some, true, false, refl, sym, ap, ap₂, ◌∙◌, arith}, lemmas.{Bool.cases_lt, List.{length-map, nil_from_length, length-append, length-take, length-drop, map-append, append_assoc, take_at, drop_at, drop-take, take-take, take-append-drop, take-append-le, drop-append-le, drop-drop}}}, specs.List.{length_refill, splice, take-map, drop-map}}
 use Rattle.arraydeque_ring.specs.{Loans.{as_many, with_run, written_over, AreApart}, Places.HoldsRun, Ring.filled}
 
 module _ {Y : Type 0} where
   -- the list, with ws in the stead of the n items from the index i on
   abbrev pub placed : ℕ → ℕ → List Y → List Y → List Y
-  placed i n ws ps = take i ps ++ (ws ++ drop (i + n) ps)
+  placed i n ws ps = splice ps i (i + n) ws
 
   -- the items that are there already
   pub placed_same : (i n : ℕ) (ps : List Y) → placed i n (take n (drop i ps)) ps ≡ ps

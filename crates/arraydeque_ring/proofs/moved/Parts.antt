@@ -28,12 +28,12 @@ module _ {X : Type 0} where
     pub three : Part d₃ s₃ l₃ third after
 
   -- the same part by other names; where no value moves, any two places will do
-  pub renamed : {d s l : ℕ} {now after : List (Option X)} (d' s' l' : ℕ) → l ≡ l' → d' + l' ≤ length now → s' + l' ≤ length now → (0 < l' → d ≡ d') → (0 < l' → s ≡ s') → Part d s l now after → Part d' s' l' now after
-  renamed {now = now} d' s' zero e target source at_d at_s p = record {
+  pub part_as : {d s l : ℕ} {now after : List (Option X)} (d' s' l' : ℕ) → l ≡ l' → d' + l' ≤ length now → s' + l' ≤ length now → (0 < l' → d ≡ d') → (0 < l' → s ≡ s') → Part d s l now after → Part d' s' l' now after
+  part_as {now = now} d' s' zero e target source at_d at_s p = record {
     can = record { target = target; source = source; filled = λ k lt. absurd (omega arith) };
     is = moved_none d' s' now ∙ (rw (e, moved_none) at p.is);
   }
-  renamed d' s' (suc l) e target source at_d at_s p = rw (e, at_d (omega arith), at_s (omega arith)) at p
+  part_as d' s' (suc l) e target source at_d at_s p = rw (e, at_d (omega arith), at_s (omega arith)) at p
 
 -- a side that passes the end nowhere among the values from the index `from` up to `to`
 fits : (d from to n : ℕ) → d < n → from ≤ to → to ≤ n → (from < n - d → to ≤ n - d) → place_of d from n + (to - from) ≤ n
@@ -108,7 +108,7 @@ module _ {X : Type 0} (dst src len n : ℕ) (ps : List (Option X)) (long : lengt
       second = gone a;
       third = gone b;
       longs = (length-moved dst src a ps, length-moved dst src b ps);
-      one = renamed dst src a (omega arith) (omega arith) (omega arith) (λ lt. at_dst) (λ lt. at_src) (rw (moved_none dst src ps) at (part_down 0 a before far));
+      one = part_as dst src a (omega arith) (omega arith) (omega arith) (λ lt. at_dst) (λ lt. at_src) (rw (moved_none dst src ps) at (part_down 0 a before far));
       two = part_down a b between far;
       three = part_down b len behind far;
     }
@@ -124,5 +124,5 @@ module _ {X : Type 0} (dst src len n : ℕ) (ps : List (Option X)) (long : lengt
           longs = (length-moved (place_of dst b n) (place_of src b n) (len - b) ps, same);
           one = rw (none, moved_none (place_of dst len n) (place_of src len n) ps) at (part_up b len behind near);
           two = part_up a b between near;
-          three = renamed dst src a (omega arith) (omega arith) (omega arith) (λ lt. refl) (λ lt. refl) (rw (at_dst, at_src, all) at (part_up 0 a before near));
+          three = part_as dst src a (omega arith) (omega arith) (omega arith) (λ lt. refl) (λ lt. refl) (rw (at_dst, at_src, all) at (part_up 0 a before near));
         }

@@ -1,6 +1,6 @@
 -- A run that passes the end moves by one place, up or down, by three plain copies.
 use Rattle.std.proofs.{Common.{◌≡◌, ℕ, ◌+◌, ◌-◌, ◌<◌, ◌≤◌, ◌⊎◌, inl, inr, List, length, Option, refl, arith}, lemmas.Bool.Decides.nat_tests}
-use Rattle.arraydeque_ring.{specs.{Ring.place_of, Moved.{IsFilledRound, run_moved}}, proofs.{moved.{Flat.distance_is, Parts.{Three, renamed, three_down, three_up}}, places.Rotated.{place_of_cases, place_of-lt}}}
+use Rattle.arraydeque_ring.{specs.{Ring.place_of, Moved.{IsFilledRound, run_moved}}, proofs.{moved.{Flat.distance_is, Parts.{Three, part_as, three_down, three_up}}, places.Rotated.{place_of_cases, place_of-lt}}}
 
 -- a run that passes the end and moves by one place: what lies past the end, the value that crosses it, and what lies before
 module _ {X : Type 0} (t len n : ℕ) (ps : List (Option X)) (long : length ps ≡ n) (t_in : t < n) (wraps : n ≤ t + len) (room : len < n) where
@@ -19,9 +19,9 @@ module _ {X : Type 0} (t len n : ℕ) (ps : List (Option X)) (long : length ps �
         second = go.second;
         third = go.third;
         longs = go.longs;
-        one = renamed 1 0 (len - upper) (omega arith) (omega arith) (omega arith) (λ lt. grind (arith, next_is, place_of_cases next upper n (omega arith))) (λ lt. grind (arith, place_of_cases t upper n (omega arith))) go.one;
-        two = renamed 0 (n - 1) 1 (omega arith) (omega (arith, go.longs)) (omega (arith, go.longs)) (λ lt. grind (arith, next_is, place_of_cases next (upper - 1) n (omega arith))) (λ lt. grind (arith, place_of_cases t (upper - 1) n (omega arith))) go.two;
-        three = renamed (t + 1) t (upper - 1) (omega arith) (omega (arith, go.longs)) (omega (arith, go.longs)) (λ lt. grind (arith, next_is)) (λ lt. refl) go.three;
+        one = part_as 1 0 (len - upper) (omega arith) (omega arith) (omega arith) (λ lt. grind (arith, next_is, place_of_cases next upper n (omega arith))) (λ lt. grind (arith, place_of_cases t upper n (omega arith))) go.one;
+        two = part_as 0 (n - 1) 1 (omega arith) (omega (arith, go.longs)) (omega (arith, go.longs)) (λ lt. grind (arith, next_is, place_of_cases next (upper - 1) n (omega arith))) (λ lt. grind (arith, place_of_cases t (upper - 1) n (omega arith))) go.two;
+        three = part_as (t + 1) t (upper - 1) (omega arith) (omega (arith, go.longs)) (omega (arith, go.longs)) (λ lt. grind (arith, next_is)) (λ lt. refl) go.three;
       }
 
   pub slides_down : IsFilledRound next len ps → Three t (t + 1) (n - 1 - t) (n - 1) 0 1 0 1 (len - (n - 1 - t) - 1) ps (run_moved t next len ps)
@@ -33,7 +33,7 @@ module _ {X : Type 0} (t len n : ℕ) (ps : List (Option X)) (long : length ps �
         second = go.second;
         third = go.third;
         longs = go.longs;
-        one = renamed t (t + 1) upper (omega arith) (omega arith) (omega arith) (λ lt. refl) (λ lt. grind (arith, next_is)) go.one;
-        two = renamed (n - 1) 0 1 (omega arith) (omega (arith, go.longs)) (omega (arith, go.longs)) (λ lt. grind (arith, place_of_cases t upper n (omega arith))) (λ lt. grind (arith, next_is, place_of_cases next upper n (omega arith))) go.two;
-        three = renamed 0 1 (len - upper - 1) (omega arith) (omega (arith, go.longs)) (omega (arith, go.longs)) (λ lt. grind (arith, place_of_cases t (upper + 1) n (omega arith))) (λ lt. grind (arith, next_is, place_of_cases next (upper + 1) n (omega arith))) go.three;
+        one = part_as t (t + 1) upper (omega arith) (omega arith) (omega arith) (λ lt. refl) (λ lt. grind (arith, next_is)) go.one;
+        two = part_as (n - 1) 0 1 (omega arith) (omega (arith, go.longs)) (omega (arith, go.longs)) (λ lt. grind (arith, place_of_cases t upper n (omega arith))) (λ lt. grind (arith, next_is, place_of_cases next upper n (omega arith))) go.two;
+        three = part_as 0 1 (len - upper - 1) (omega arith) (omega (arith, go.longs)) (omega (arith, go.longs)) (λ lt. grind (arith, place_of_cases t (upper + 1) n (omega arith))) (λ lt. grind (arith, next_is, place_of_cases next (upper + 1) n (omega arith))) go.three;
       }

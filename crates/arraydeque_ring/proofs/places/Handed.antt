@@ -1,31 +1,14 @@
--- A run of values that is handed to another region: behind the items that it has, and out of places that go round the region's end.
-use Rattle.std.proofs.{Common.{◌≡◌, ℕ, ◌+◌, ◌-◌, ◌<◌, ◌≤◌, min, List, ◌++◌, map, length, take, drop, Option, Some, sym, ap, ◌∙◌, arith, rules}, lemmas.{Bool.Decides.nat_tests, Grind.common_steps, List.{places, length-map, length-append, same_lists, take_at, drop_at, drop-map, take-map}}}
-use Rattle.arraydeque_ring.{specs.{Gaps.{IsEmptyRun, run_emptied}, Places.{held_at, IsFilledRun}, Ring.{rotated, values}}, proofs.places.{AndEmpty.{values-map_Some}, Emptied.{length-run_emptied, values-append}, Held.{length_filled, empty_run_of}, Holds.{Holds-first}, Items.{items, get_or-map_Some}, LaidOut.{LaidOut, holds}, Rotated.{place_of-first, MayStartAt, place_of_cases, length-rotated, get_or-rotated}}}
-
-module _ {X : Type 0} {n : ℕ} {xs : List X} {ps : List (Option X)} (m k : ℕ) (l : LaidOut n 0 xs ps) (behind : length xs ≡ m) (room : m + k ≤ n) where
-  -- items that start at the first place have empty places behind them
-  pub IsEmptyRun-behind : IsEmptyRun ps m k
-  IsEmptyRun-behind = empty_run_of ps m k (omega (arith, l.long)) (λ x from to. Holds-first (holds l) x (omega arith) ∙ grind (arith, items))
-
-  -- and values that are put there are items too
-  pub LaidOut-put_run : (ys : List X) → length ys ≡ k → LaidOut n 0 (xs ++ ys) (take m ps ++ (map Some ys ++ drop (m + k) ps))
-  LaidOut-put_run ys many =
-      let long = l.long in
-      let wide : length (map Some ys) ≡ k = length-map ys Some ∙ many in
-      record {
-        long = grind (arith, common_steps);
-        in_region = omega arith;
-        within = omega (arith, length-append xs ys);
-        at = λ x lt. ap (held_at (take m ps ++ (map Some ys ++ drop (m + k) ps))) (place_of-first x n lt) ∙ grind (arith, nat_tests, places, items, get_or-map_Some ys (x - m), Holds-first (holds l) x lt);
-      }
+-- A run of values that is handed over to the first places of another region, in two parts where it goes round the region's end.
+use Rattle.std.{proofs.{Common.{◌≡◌, ℕ, ◌+◌, ◌-◌, ◌<◌, ◌≤◌, min, List, ◌++◌, map, length, take, drop, replicate, Option, Some, None, refl, sym, ap, ◌∙◌, arith, rules}, lemmas.{Bool.Decides.nat_tests, Grind.common_steps, List.{places, length-map, same_lists, take_at, drop_at, take-map, drop-map, drop-drop, append_assoc}}}, specs.declared.alloc.Global.Global}
+use Rattle.arraydeque_ring.{specs.{Gaps.{IsEmptyRun, run_emptied}, Places.{Region, held_at, IsFilledRun}, Ring.{RingState, rotated}, Steps.{no_steps, more_puts}, declared.ring.Ring.TheInside.Inside}, proofs.places.{Emptied.length-run_emptied, Held.{empty_in_run, empty_run_of}, Items.{items, get_or-map_Some}, LaidOut.{HoldsRun-rotated}, Opened.Opened, Rotated.{place_of-first, MayStartAt, place_of_cases, length-rotated, get_or-rotated}}}
 
 -- the len values from the index `at` on can be handed over in two parts, the first of them as far as the region's end, and what that comes to
 pub record Handed {X : Type 0} (t at len place first : ℕ) (ps : List (Option X)) : Type 0 where
   pub here : IsFilledRun ps place first
   pub rest : IsFilledRun (run_emptied place first ps) 0 (len - first)
-  pub many : length (values (take first (drop place ps))) ≡ first
+  pub many : length (take first (drop place ps)) ≡ first
   pub places : rotated t (run_emptied 0 (len - first) (run_emptied place first ps)) ≡ run_emptied at len (rotated t ps)
-  pub all : values (take first (drop place ps)) ++ values (take (len - first) (run_emptied place first ps)) ≡ values (take len (drop at (rotated t ps)))
+  pub all : take first (drop place ps) ++ take (len - first) (run_emptied place first ps) ≡ take len (drop at (rotated t ps))
 
 pub handed : {X : Type 0} (t at len n place first : ℕ) (ps : List (Option X)) → length ps ≡ n → t ≤ n - 1 → IsFilledRun (rotated t ps) at len → MayStartAt t at n place → place ≤ n → first ≡ min len (n - place) → Handed t at len place first ps
 handed t at len n place first ps long in_region run lies before_end cut =
@@ -51,11 +34,55 @@ handed t at len n place first ps long in_region run lies before_end cut =
     record {
       here = (end, (take first zs, here));
       rest = (omega arith, (drop first zs, there));
-      many = ap length (ap values here ∙ values-map_Some (take first zs)) ∙ length_filled ps place first (end, (take first zs, here));
+      many = many;
       places = same_lists (rotated t rs) (run_emptied at len ts) (search (rules, places)) (λ j d lt.
           let within : j < n = omega (arith, lt, length-rotated t rs) in
           let read = get_or-rotated t j n rs d same_rs (omega arith) within in
           let was = get_or-rotated t j n ps d long (omega arith) within in
           grind (arith, places, read, was, place_of_cases t j n (omega arith), lies));
-      all = sym (values-append firsts others) ∙ ap values joined;
+      all = joined;
     }
+
+-- where the first len places of a region are empty, both parts go there, one behind the other
+module _ {X : Type 0} (len first : ℕ) (qs : List (Option X)) (le : first ≤ len) (empty : IsEmptyRun qs 0 len) where
+  pub first_empty : IsEmptyRun qs 0 first
+  first_empty = let all = empty.0 in empty_run_of qs 0 first (omega arith) (λ x from to. let was = empty_in_run qs 0 len x empty (omega arith) in grind (arith, common_steps))
+
+  module _ (firsts others : List (Option X)) (many : length firsts ≡ first) where
+    abbrev put : List (Option X)
+    put = firsts ++ drop (0 + first) qs
+
+    pub rest_empty : IsEmptyRun put first (len - first)
+    rest_empty =
+        let all = empty.0 in
+        empty_run_of put first (len - first) (grind (arith, common_steps)) (λ x from to. let was = empty_in_run qs 0 len x empty (omega arith) in grind (arith, common_steps))
+
+    pub both_put : take first put ++ (others ++ drop (first + (len - first)) put) ≡ (firsts ++ others) ++ drop len qs
+    both_put =
+        let rest = len - first in
+        let behind : drop (first + rest) put ≡ drop len qs = sym (drop-drop rest first put) ∙ ap (drop rest) (drop_at firsts (drop (0 + first) qs) first many) ∙ drop-drop rest (0 + first) qs ∙ ap (λ k. drop k qs) (omega arith) in
+        rw (take_at firsts (drop (0 + first) qs) first many, behind) (sym (append_assoc firsts others (drop len qs)))
+
+-- in a new region the first places are empty
+pub all_empty : {X : Type 0} (len n : ℕ) → len ≤ n → IsEmptyRun {X = X} (replicate n None) 0 len
+all_empty len n le = empty_run_of (replicate n None) 0 len (grind (arith, common_steps)) (λ x from to. grind (arith, common_steps))
+
+-- the len items from the index i on make a ring of their own, in a region that was empty
+pub ring_handed : {X : Type 0} {r : Inside X} {v : RingState X} (o : Opened r v) (i len n : ℕ) (slots : Region X) (alloc : Global) → i + len ≤ length v.items → len ≤ n
+    → slots ≡ record { places = take len (drop i (rotated r.start r.slots.places)) ++ drop len (replicate n None); steps = more_puts len no_steps }
+    → Opened record { slots = slots; start = 0; len = len; alloc = alloc } record { items = take len (drop i v.items); capacity = n; start = 0; steps = more_puts len no_steps }
+ring_handed {v = v} o i len n slots alloc within room is =
+    let ys = take len (drop i v.items) in
+    let many : length ys ≡ len = grind (arith, common_steps) in
+    let wide : length (map Some ys) ≡ len = length-map ys Some ∙ many in
+    rw (is, HoldsRun-rotated o.laid i len within) (record {
+      laid = record {
+        long = grind (arith, common_steps);
+        in_region = omega arith;
+        within = omega (arith, many);
+        at = λ x lt. ap (held_at (map Some ys ++ drop len (replicate n None))) (place_of-first x n lt) ∙ grind (arith, nat_tests, places, items, get_or-map_Some ys x);
+      };
+      len = many;
+      start = refl;
+      steps = refl;
+    })

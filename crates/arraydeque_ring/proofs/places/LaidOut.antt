@@ -66,7 +66,7 @@ module _ {X : Type 0} {n t : ℕ} {xs : List X} {ps : List (Option X)} (l : Laid
   IsFilled-start some = rw (place_of-zero t n l.in_region) at (IsFilled-place_of 0 some)
 
   -- read from the start on, the len items from the index i on are a run
-  HoldsRun-rotated : (i len : ℕ) → i + len ≤ length xs → HoldsRun (rotated t ps) i len (take len (drop i xs))
+  pub HoldsRun-rotated : (i len : ℕ) → i + len ≤ length xs → HoldsRun (rotated t ps) i len (take len (drop i xs))
   HoldsRun-rotated i len le =
       let within = l.within in
       holds_run_of (rotated t ps) i len (take len (drop i xs)) (omega (arith, length-take len (drop i xs), length-drop i xs)) (omega (arith, length-rotated t ps, l.long)) (λ k lt. Holds-rotated (holds l) (i + k) (omega arith) ∙ grind (arith, nat_tests, items))

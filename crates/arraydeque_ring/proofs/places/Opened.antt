@@ -45,8 +45,8 @@ module _ {X : Type 0} where
   from_start {v = v} o k e is = place_at o k e is ∙ ap (λ t. place_of t k v.capacity) o.start
 
   -- and so is that of `Ring::place`
-  pub placed : {r : Inside X} {v : RingState X} {place : ℕ} → Opened r v → (k : ℕ) → place ≡ place_of v.start k v.capacity → place ≡ place_of r.start k v.capacity
-  placed {v = v} o k is = is ∙ ap (λ t. place_of t k v.capacity) (sym o.start)
+  pub by_field : {r : Inside X} {v : RingState X} {place : ℕ} → Opened r v → (k : ℕ) → place ≡ place_of v.start k v.capacity → place ≡ place_of r.start k v.capacity
+  by_field {v = v} o k is = is ∙ ap (λ t. place_of t k v.capacity) (sym o.start)
 
 -- the length by another name
 pub with_len : {X : Type 0} {r : Inside X} {v : RingState X} {n : ℕ} → Opened r v → r.len ≡ n → Opened record r { len = n } v
@@ -57,7 +57,7 @@ module _ {X : Type 0} {r : Inside X} {v : RingState X} (o : Opened r v) {slots :
   pub put_back : (x : X) → length v.items < v.capacity → place ≡ place_of v.start r.len v.capacity → slots.places ≡ set r.slots.places place (Some x) → slots.steps ≡ more_puts 1 r.slots.steps
       → Opened record r { slots = slots; len = r.len + 1 } record v { items = v.items ++ x ∷ []; steps = more_puts 1 v.steps }
   put_back x room is puts steps = record {
-    laid = rw (puts, placed o _ is, ← o.len) (LaidOut-put_back o.laid x room);
+    laid = rw (puts, by_field o _ is, ← o.len) (LaidOut-put_back o.laid x room);
     len = length_push v.items x ∙ ap (λ n. n + 1) o.len;
     start = o.start;
     steps = steps ∙ ap (more_puts 1) o.steps;
@@ -66,7 +66,7 @@ module _ {X : Type 0} {r : Inside X} {v : RingState X} (o : Opened r v) {slots :
   pub put_front : (x : X) → length v.items < v.capacity → place ≡ place_of v.start (v.capacity - 1) v.capacity → slots.places ≡ set r.slots.places place (Some x) → slots.steps ≡ more_puts 1 r.slots.steps
       → Opened record r { slots = slots; start = place; len = r.len + 1 } record v { items = x ∷ v.items; start = place_of v.start (v.capacity - 1) v.capacity; steps = more_puts 1 v.steps }
   put_front x room is puts steps = record {
-    laid = rw (puts, placed o _ is) (LaidOut-put_front o.laid x room);
+    laid = rw (puts, by_field o _ is) (LaidOut-put_front o.laid x room);
     len = ap suc o.len ∙ omega arith;
     start = is;
     steps = steps ∙ ap (more_puts 1) o.steps;
@@ -75,7 +75,7 @@ module _ {X : Type 0} {r : Inside X} {v : RingState X} (o : Opened r v) {slots :
   pub take_back : 0 < r.len → place ≡ place_of v.start (r.len - 1) v.capacity → slots.places ≡ set r.slots.places place None → slots.steps ≡ more_takes 1 r.slots.steps
       → Opened record r { slots = slots; len = r.len - 1 } record v { items = take (length v.items - 1) v.items; steps = more_takes 1 v.steps }
   take_back some is takes steps = record {
-    laid = rw (takes, placed o _ is, ← o.len) (LaidOut-take_back o.laid _ (omega (arith, o.len)));
+    laid = rw (takes, by_field o _ is, ← o.len) (LaidOut-take_back o.laid _ (omega (arith, o.len)));
     len = length-take-le _ v.items (omega arith) ∙ ap (λ n. n - 1) o.len;
     start = o.start;
     steps = steps ∙ ap (more_takes 1) o.steps;
@@ -84,7 +84,7 @@ module _ {X : Type 0} {r : Inside X} {v : RingState X} (o : Opened r v) {slots :
   pub take_front : 0 < r.len → place ≡ place_of v.start 1 v.capacity → slots.places ≡ set r.slots.places r.start None → slots.steps ≡ more_takes 1 r.slots.steps
       → Opened record r { slots = slots; start = place; len = r.len - 1 } record v { items = drop 1 v.items; start = place_of v.start 1 v.capacity; steps = more_takes 1 v.steps }
   take_front some is takes steps = record {
-    laid = rw (takes, placed o _ is) (LaidOut-take_front o.laid (omega (arith, o.len)));
+    laid = rw (takes, by_field o _ is) (LaidOut-take_front o.laid (omega (arith, o.len)));
     len = omega (arith, o.len, length-drop 1 v.items);
     start = is;
     steps = steps ∙ ap (more_takes 1) o.steps;

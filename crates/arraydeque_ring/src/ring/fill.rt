@@ -12,7 +12,7 @@ use crate::wrap::wrap_add;
 impl<T> Ring<T> {
     /// Puts what the iterator gives behind the last item, one by one, while there is room. Returns
     /// whether the iterator ended before that; else it wasn't asked for more.
-    #[inline(always)]
+    #[inline]
     pub fn fill_back<I: Iterator<Item = T>>(&mut self, elements: &mut I) -> bool
         requires { I.can_next elements.old }
         ensures filled { Fills I.next_gives elements.old elements.new
@@ -42,7 +42,7 @@ impl<T> Ring<T> {
     /// Puts what the iterator gives before the first item, one by one, while there is room: the
     /// last one stands first then. Returns whether the iterator ended before that; else it wasn't
     /// asked for more.
-    #[inline(always)]
+    #[inline]
     pub fn fill_front<I: Iterator<Item = T>>(&mut self, elements: &mut I) -> bool
         requires { I.can_next elements.old }
         ensures filled { Fills I.next_gives elements.old elements.new
@@ -71,7 +71,7 @@ impl<T> Ring<T> {
 
     /// Puts what the iterator gives behind the last item of a full ring, one by one, each in the
     /// place of the first item, which is dropped.
-    #[inline(always)]
+    #[inline]
     pub fn displace_first<I: Iterator<Item = T>>(&mut self, elements: I)
     where
         T: Drop,
@@ -94,7 +94,7 @@ impl<T> Ring<T> {
 
     /// Puts what the iterator gives before the first item of a full ring, one by one, each in the
     /// place of the last item, which is dropped.
-    #[inline(always)]
+    #[inline]
     pub fn displace_last<I: Iterator<Item = T>>(&mut self, elements: I)
     where
         T: Drop,
@@ -117,7 +117,7 @@ impl<T> Ring<T> {
 
     /// Takes the first item off a ring that is full, and puts another in its place, so that it
     /// stands behind the last one. The start goes up to the next place, and no kept item moves.
-    #[inline(always)]
+    #[inline]
     fn replace_first(&mut self, element: T) -> T
         requires some { 0 < self.old.capacity }
         requires full { length self.old.items ≡ self.old.capacity }
@@ -136,7 +136,7 @@ impl<T> Ring<T> {
 
     /// Takes the last item off a ring that is full, and puts another in its place, so that it
     /// stands before the first one. The start goes down to that place, and no kept item moves.
-    #[inline(always)]
+    #[inline]
     fn replace_last(&mut self, element: T) -> T
         requires some { 0 < self.old.capacity }
         requires full { length self.old.items ≡ self.old.capacity }
@@ -156,7 +156,7 @@ impl<T> Ring<T> {
 
     /// Puts what the iterator gives behind the last item, into the places from `from` up to `end`,
     /// as long as any is left. Returns whether the iterator ended before that.
-    #[inline(always)]
+    #[inline]
     fn fill_up<I: Iterator<Item = T>>(
         self,
         from: usize,
@@ -208,7 +208,7 @@ impl<T> Ring<T> {
 
     /// Puts what the iterator gives before the first item, into the places below `from` down to
     /// `end`, as long as any is left. Returns whether the iterator ended before that.
-    #[inline(always)]
+    #[inline]
     fn fill_down<I: Iterator<Item = T>>(
         self,
         from: usize,
@@ -263,7 +263,7 @@ impl<T> Ring<T> {
 }
 
 /// Asks an iterator once.
-#[inline(always)]
+#[inline]
 fn ask<T, I: Iterator<Item = T>>(elements: &mut I) -> Option<T>
     requires { I.can_next elements.old }
     ensures steps { I.next_gives elements.old result elements.new }

@@ -33,8 +33,7 @@ impl<T> Ring<T> {
     {
         let start = self.start;
         let len = self.len;
-        let first = len.min(self.slots.capacity - start);
         let slots = &mut self.slots;
-        slots.lend_two(start, first, 0, len - first)
+        slots.lend_round(start, len)
     }
 }

@@ -4,10 +4,10 @@ ghost use Rattle.std.specs.Prelude.{◌≡◌, ◌-◌, ◌+◌, ◌*◌, ◌<�
 ghost use Rattle.std.specs.List.{remove_range};
 ghost use Rattle.std.specs.Mem.{type_size};
 ghost use Rattle.arraydeque_ring.specs.Places.{IsFilledRun};
-ghost use Rattle.arraydeque_ring.specs.Ring.{place_of, rotated, values};
+ghost use Rattle.arraydeque_ring.specs.Ring.{place_of, rotated};
 ghost use Rattle.arraydeque_ring.specs.Sides.{moves_to_drain, start_closed};
 ghost use Rattle.arraydeque_ring.specs.Changed.{DrainMovesFewest};
-ghost use Rattle.arraydeque_ring.specs.Gaps.{run_emptied};
+ghost use Rattle.arraydeque_ring.specs.Gaps.{IsEmptyRun, run_emptied};
 ghost use Rattle.arraydeque_ring.specs.Steps.{no_steps, more_puts, more_takes, more_moves};
 
 use super::Ring;
@@ -51,14 +51,20 @@ impl<T> Ring<T> {
         ensures refused { OnErr result (0 < (to - from) * type_size T.row) }
     {
         let count = to - from;
-        let mut drained = Ring::new(self.alloc, count)?;
         if count == 0 {
-            return Ok(drained);
+            let nothing = Ring::new(self.alloc, 0)?;
+            return Ok(nothing);
         }
-        take_run(&mut self.slots, self.start, from, count, &mut drained);
+        let mut slots = Slots::new(self.alloc, count)?;
+        take_run(&mut self.slots, self.start, from, count, &mut slots);
         self.len -= count;
         self.start = close_gap(&mut self.slots, self.start, from, count, self.len - from);
-        Ok(drained)
+        Ok(Ring {
+            slots,
+            start: 0,
+            len: count,
+            alloc: self.alloc,
+        })
     }
 
     /// Takes out the items from the index `at` on, into a ring of the same capacity, whose region
@@ -79,45 +85,31 @@ impl<T> Ring<T> {
         ensures unchanged { OnErr result (self.new ≡ self.old) }
         ensures refused { OnErr result (0 < self.old.capacity * type_size T.row) }
     {
-        let mut rest = Ring::new(self.alloc, self.slots.capacity())?;
-        take_run(&mut self.slots, self.start, at, self.len - at, &mut rest);
+        let mut slots = Slots::new(self.alloc, self.slots.capacity())?;
+        let len = self.len - at;
+        take_run(&mut self.slots, self.start, at, len, &mut slots);
         self.len = at;
-        Ok(rest)
-    }
-
-    /// Takes the values out of the `len` places from `from` on of a region, and adds them behind
-    /// the items, which start at the first place.
-    fn take_in(&mut self, slots: &mut Slots<T>, from: usize, len: usize)
-        requires filled { IsFilledRun slots.old.places from len }
-        requires room { length self.old.items + len ≤ self.old.capacity }
-        requires first_place { self.old.start ≡ 0 }
-        ensures places { slots.new.places ≡ run_emptied from len slots.old.places }
-        ensures steps { slots.new.steps ≡ more_takes len slots.old.steps }
-        ensures taken { self.new ≡ record self.old {
-          items = self.old.items ++ values (take len (drop from slots.old.places));
-          steps = more_puts len self.old.steps;
-        } }
-    {
-        // That no sum passes `usize::MAX` is known of the capacity.
-        let _capacity = self.slots.capacity();
-        slots.hand_over(from, &mut self.slots, self.len, len);
-        self.len += len;
+        Ok(Ring {
+            slots,
+            start: 0,
+            len,
+            alloc: self.alloc,
+        })
     }
 }
 
-/// Takes the `len` values from the index `at` on out of the region, and adds them to the items of
-/// `taken`, which start at its first place. Indexes count from the place `start`, round the end.
-/// The values up to the region's end are handed over in one run, and the others in a second.
-fn take_run<T>(slots: &mut Slots<T>, start: usize, at: usize, len: usize, taken: &mut Ring<T>)
+/// Hands the `len` values from the index `at` on over to another region, into its first places.
+/// Indexes count from the place `start`, round the end. The values up to the region's end go in one
+/// run, and the others in a second.
+fn take_run<T>(slots: &mut Slots<T>, start: usize, at: usize, len: usize, taken: &mut Slots<T>)
     requires in_region { start ≤ length slots.old.places - 1 }
     requires filled { IsFilledRun (rotated start slots.old.places) at len }
-    requires room { length taken.old.items + len ≤ taken.old.capacity }
-    requires first_place { taken.old.start ≡ 0 }
+    requires empty { IsEmptyRun taken.old.places 0 len }
     ensures places { rotated start slots.new.places ≡
         run_emptied at len (rotated start slots.old.places) }
     ensures steps { slots.new.steps ≡ more_takes len slots.old.steps }
-    ensures taken { taken.new ≡ record taken.old {
-      items = taken.old.items ++ values (take len (drop at (rotated start slots.old.places)));
+    ensures taken { taken.new ≡ record {
+      places = take len (drop at (rotated start slots.old.places)) ++ drop len taken.old.places;
       steps = more_puts len taken.old.steps;
     } }
 {
@@ -127,6 +119,6 @@ fn take_run<T>(slots: &mut Slots<T>, start: usize, at: usize, len: usize, taken:
     let capacity = slots.capacity();
     let place = wrap_add(start, at, capacity);
     let first = len.min(capacity - place);
-    taken.take_in(slots, place, first);
-    taken.take_in(slots, 0, len - first);
+    slots.hand_over(place, taken, 0, first);
+    slots.hand_over(0, taken, first, len - first);
 }

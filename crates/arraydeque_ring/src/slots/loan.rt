@@ -2,9 +2,9 @@
 //!
 //! A contract sees a [`Loan`] as its two slices and its name. What the lender ends as follows that
 //! name, so that a caller who only writes through the loan knows the lender afterwards.
-ghost use Rattle.std.specs.Prelude.{◌≡◌, ◌+◌, ◌^◌, ◌<◌, length};
+ghost use Rattle.std.specs.Prelude.{◌≡◌, ◌-◌, ◌+◌, ◌^◌, ◌<◌, ◌≤◌, length, min};
 ghost use Rattle.std.specs.Borrow.{sem};
-ghost use Rattle.arraydeque_ring.specs.Lends.{lends_run, lends_two_runs};
+ghost use Rattle.arraydeque_ring.specs.Lends.{lends_run, lends_two_runs, lends_loan};
 ghost use Rattle.arraydeque_ring.specs.Loans.{AreApart};
 ghost use Rattle.arraydeque_ring.specs.Places.{HoldsRun, IsFilledRun};
 ghost use base.Fml.{GName};
@@ -111,5 +111,26 @@ impl<T> Slots<T> {
         ensures second { HoldsRun self.old.places b b_len result.1.now }
     {
         self.lend_two(a, a_len, b, b_len).into_slices()
+    }
+
+    /// The values of a run of `len` places, for writing: it starts at the place `start`, and goes on
+    /// from the first place where it comes to the region's end.
+    ///
+    /// Whatever is written, no place is filled or emptied, and no place outside the run changes.
+    pub(crate) fn lend_round(&mut self, start: usize, len: usize) -> Loan<'_, T>
+        requires in_region { start ≤ length self.old.places }
+        requires within { len ≤ length self.old.places }
+        requires first_filled { IsFilledRun self.old.places start
+            (min len (length self.old.places - start)) }
+        requires rest_filled { IsFilledRun self.old.places 0
+            (len - min len (length self.old.places - start)) }
+        ensures* writes_back { sem 𝓛 (lends_loan T.row self.entry start 0 result) }
+        ensures first { HoldsRun self.old.places start
+            (min len (length self.old.places - start)) result.first.now }
+        ensures rest { HoldsRun self.old.places 0
+            (len - min len (length self.old.places - start)) result.second.now }
+    {
+        let first = len.min(self.capacity - start);
+        self.lend_two(start, first, 0, len - first)
     }
 }

@@ -2,8 +2,9 @@
 //!
 //! Each leaf changes what the places hold, or the memory that they lie in, and counts no step, but
 //! for `lend_two`, which counts its two lends.
-ghost use Rattle.std.specs.Prelude.{◌≡◌, ◌+◌, ◌*◌, ◌^◌, ◌<◌, ◌≤◌, ◌++◌, length, take, drop, slice_set, Some, None, IfOk};
+ghost use Rattle.std.specs.Prelude.{◌≡◌, ◌+◌, ◌*◌, ◌^◌, ◌<◌, ◌≤◌, length, take, drop, slice_set, Some, None, IfOk};
 ghost use Rattle.std.specs.Borrow.{sem};
+ghost use Rattle.std.specs.List.{splice};
 ghost use Rattle.std.specs.Mem.{type_size};
 ghost use prog.Memory.{capped};
 ghost use Rattle.arraydeque_ring.specs.Lends.{lends_value, lends_values, lends_loan};
@@ -67,8 +68,7 @@ impl<T> Slots<T> {
           places = run_emptied from len self.old.places;
         } }
         ensures there { other.new ≡ record other.old {
-          places = take to other.old.places
-              ++ (take len (drop from self.old.places) ++ drop (to + len) other.old.places);
+          places = splice other.old.places to (to + len) (take len (drop from self.old.places));
         } }
     {
         unsafe { ptr::copy_nonoverlapping(self.ptr.add(from), other.ptr.add(to), len) }
@@ -102,7 +102,7 @@ impl<T> Slots<T> {
     }
 
     /// Lends two runs of places for writing, which have no place in common, and counts two lends.
-    pub(crate) fn lend_two(&mut self, a: usize, a_len: usize, b: usize, b_len: usize) -> Loan<'_, T>
+    pub(super) fn lend_two(&mut self, a: usize, a_len: usize, b: usize, b_len: usize) -> Loan<'_, T>
         requires a_filled { IsFilledRun self.old.places a a_len }
         requires b_filled { IsFilledRun self.old.places b b_len }
         requires apart { AreApart a a_len b b_len }

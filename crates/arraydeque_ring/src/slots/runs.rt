@@ -3,7 +3,8 @@
 //! To another region a run goes by one copy. Within one it moves by plain copies, each of which
 //! passes the region's end on neither side and is made of blocks, the ones that lie ahead first. No
 //! move touches memory but by `move_block`.
-ghost use Rattle.std.specs.Prelude.{◌≡◌, ◌+◌, ◌-◌, ◌<◌, ◌≤◌, ◌++◌, length, take, drop, if◌then◌else◌, ◌==◌};
+ghost use Rattle.std.specs.Prelude.{◌≡◌, ◌+◌, ◌-◌, ◌<◌, ◌≤◌, length, take, drop, if◌then◌else◌, ◌==◌};
+ghost use Rattle.std.specs.List.{splice};
 ghost use Rattle.arraydeque_ring.specs.Swapped.{runs_swapped};
 ghost use Rattle.arraydeque_ring.specs.Gaps.{IsEmptyRun, run_emptied};
 ghost use Rattle.arraydeque_ring.specs.Moved.{MeetAtOneEndAtMost, IsFilledRound, IsFreeRound, CanCopy, CanMove, run_moved};
@@ -30,8 +31,7 @@ impl<T> Slots<T> {
           steps = more_takes len self.old.steps;
         } }
         ensures there { other.new ≡ record {
-          places = take to other.old.places
-              ++ (take len (drop from self.old.places) ++ drop (to + len) other.old.places);
+          places = splice other.old.places to (to + len) (take len (drop from self.old.places));
           steps = more_puts len other.old.steps;
         } }
     {

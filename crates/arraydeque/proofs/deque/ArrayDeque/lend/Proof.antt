@@ -1,5 +1,5 @@
 -- `lend` lends all items: the ring lends its own, and the deque follows what the ring follows. Assumes `Logic`.
-use Rattle.arraydeque_ring.{proofs.{memory.Kit.{◌≡◌, refl, ap, ◌∙◌, List, [], ◌∷◌, ◌++◌, ℕ, ◌+◌, ◌<◌, ◌≤◌, arith, length, full_share, emp, id⊢, fact_i, Share, GName, ftrue, fsep, flft, fauth, Fn, inst_fn, named, Val, vptr, ◌⊑◌, fact, tables, Borrowed, owns, types_at, ‵, raw, ◌⊛◌, some, later, ◌$◌, ◌∵◌, !, qed, move, keep, use0, use1, use2, drop, split, join, pick, frame, rewrite, await, fsplit, fsplit3, fjoin, fjoin3, fpack, feq_i, suffices, done, enter, addr, stop, fld, no_more, and_then, returns, alloc_all, pass_all, free_all, look_at, get, through, sets, lands_as, no, plain, mem, part_at, Is, shows, peeks, Stays, walk_of, says_two, stay_dropped, ends_at, nothing, heard, calls_at, framed, triple_of, param_laws, RattleType, El, R, el_x, proved}, loans.{Made.renamed, Names.{hands_on, followed_both}, Rings.Rr}, ring.Ring.lend.Met.met}, specs.{Loans.{LoanState, remaining, as_many}, Ring.RingState}}
+use Rattle.arraydeque_ring.{proofs.{memory.Kit.{◌≡◌, refl, ap, ◌∙◌, List, [], ◌∷◌, ◌++◌, ℕ, ◌+◌, ◌<◌, ◌≤◌, arith, length, full_share, emp, id⊢, fact_i, Share, GName, ftrue, fsep, flft, fauth, Fn, inst_fn, named, Val, vptr, ◌⊑◌, fact, tables, Borrowed, owns, types_at, ‵, raw, ◌⊛◌, some, later, ◌$◌, ◌∵◌, !, qed, move, keep, use0, use1, use2, drop, split, join, pick, frame, rewrite, await, fsplit, fsplit3, fjoin, fjoin3, fpack, feq_i, suffices, done, enter, addr, stop, fld, no_more, and_then, returns, alloc_all, pass_all, free_all, look_at, get, through, sets, lands_as, no, plain, mem, part_at, Is, shows, peeks, Stays, walk_of, says_two, stay_dropped, ends_at, nothing, heard, calls_at, framed, triple_of, param_laws, RattleType, El, R, el_x, proved}, loans.{Made.loan_renamed, Names.{hands_on, followed_both}, Rings.Rr}, ring.Ring.lend.Met.met}, specs.{Loans.{LoanState, remaining, as_many}, Ring.RingState}}
 use base.Share
 use base.Logic.{sep}
 use types.Follow as follow
@@ -73,7 +73,7 @@ lend_spec 𝓤 𝓛 𝓜 𝓡 wired X N B L fits LB members dict dict_met =
     rewrite ! 0 (λ (F : List (el_x E) → List (el_x E) → DequeState (el_x E)). ‵ (after₂ (mem (Dr E N B)) Rows Rows ν it.first.ghost_name it.second.ghost_name F)) (λ i us vs. written E N B x d seen kept (as_many it.first.now us ++ as_many it.second.now vs) i) refl $
     -- [what ν follows; half the token; what γ follows; the tokens and the loan; the others]
     let out : LoanState (el_x E) = record it { name = ν } in
-    move ! (2 ∷ 0 ∷ []) $ fjoin ! $ move ! (2 ∷ []) $ split ! $ move ! (1 ∷ []) $ use1 𝓛 (‵ (It.own_val out (v ∷ []))) (renamed α (R E) 𝓛 it ν (v ∷ [])) $
+    move ! (2 ∷ 0 ∷ []) $ fjoin ! $ move ! (2 ∷ []) $ split ! $ move ! (1 ∷ []) $ use1 𝓛 (‵ (It.own_val out (v ∷ []))) (loan_renamed α (R E) 𝓛 it ν (v ∷ [])) $
     peeks ! It (Is It) (shows 𝓛 It) out (v ∷ []) (λ is_it. lands_as ! refl refl (((loan_laws.the_row_laws α (R E) (param_laws 0 X L)).lawful 𝓛).typed out (v ∷ []) is_it).0 $
     -- [the loan; the tokens; what the deque follows; half the token; the others]
     move ! (1 ∷ []) $ split ! $ move ! (4 ∷ 0 ∷ []) $ use2 𝓛 (‵ (flft κ q)) (𝓛.lfts.lft_join κ q) $

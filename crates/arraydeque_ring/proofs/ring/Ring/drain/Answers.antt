@@ -1,5 +1,5 @@
-use Rattle.std.{proofs.{Common.{◌≡◌, ◌+◌, ◌-◌, ◌<◌, length, take, drop, min, nat_lt, if◌then◌else◌, inl, inr, refl, sym, subst, ap, ◌∙◌, arith}, lemmas.{Bool.{cases_lt, cond_below, cond_above, lt-ltb}, List.{length-append, length-take-le, length-drop}}}, specs.List.remove_range}
-use Rattle.arraydeque_ring.{specs.{Changed.IsFewest, Ring.{RingState, place_of}, Steps.{more_takes, more_moves}}, proofs.{gaps.{Fewest.fewest_drain, GapMoves.{may_close, LaidOut-closed}, Gapped.{Gapped, Gapped-taken}}, places.{LaidOut.{length_within, IsFilledRun-rotated, values-run}, Opened.{Opened, opened, closed, kept}, Rotated.{place_of-zero}}, ring.Ring.drain.{Given.Over, Goals.{After-take_run}}}}
+use Rattle.std.{proofs.{Common.{◌≡◌, ◌+◌, ◌-◌, ◌<◌, length, take, drop, slice_range, min, nat_lt, if◌then◌else◌, inl, inr, refl, sym, subst, ap, ◌∙◌, arith}, lemmas.{Bool.{cases_lt, cond_below, cond_above, lt-ltb}, List.{length-append, length-take-le, length-drop}}}, specs.List.remove_range}
+use Rattle.arraydeque_ring.{specs.{Changed.IsFewest, Ring.{RingState, place_of}, Steps.{no_steps, more_puts, more_takes, more_moves}}, proofs.{gaps.{Fewest.fewest_drain, GapMoves.{may_close, LaidOut-closed}, Gapped.{Gapped, Gapped-taken}}, places.{Handed.{all_empty, ring_handed}, LaidOut.{length_within, IsFilledRun-rotated}, Opened.{Opened, opened, closed, kept}, Rotated.{place_of-zero}}, ring.Ring.drain.{Given.Over, Goals.{After-take_run, After-close_gap-self-inside}}}}
 use Rattle.arraydeque_ring.proofs.ring.Ring.drain.Goals as goal
 
 pub returns-then-count-eq0-clause-start : goal.returns-then-count-eq0-clause-start
@@ -11,6 +11,9 @@ returns-then-count-eq0-clause-start g c =
       | inl lt ↦ let none : c.args.to - c.args.from ≡ 0 = omega arith in rw (lt-ltb c.args.from behind lt, none, place_of-zero old.start old.capacity (omega (arith, ring.laid.in_region, ring.start)))
       | inr le ↦ cond_above c.args.from behind _ _ _ le refl
     ]
+
+pub take_run-requires-clause-empty : goal.take_run-requires-clause-empty
+take_run-requires-clause-empty g c = rw c.in_ok-slots.ensures.ok (all_empty (c.args.to - c.args.from) _ (omega arith))
 
 pub take_run-requires-clause-filled : goal.take_run-requires-clause-filled
 take_run-requires-clause-filled g c =
@@ -30,7 +33,7 @@ close_gap-self-inside-requires g c =
     let may = may_close _ _ (gap g (goal.at.close_gap-self-inside-requires g c).After-take_run) (omega arith) (length-take-le c.args.from c.args.self.now.items (omega arith)) (omega (arith, length-drop c.args.to c.args.self.now.items)) in
     record { in_region = may.in_region; some = omega arith; within = may.within; filled_before = may.before; empty = may.empty; filled_behind = may.behind }
 
-after : (g : Over) (c : goal.After-self-2-1 g) → let old = c.args.self.now in let count = c.args.to - c.args.from in let behind = length old.items - c.args.to in
+after : (g : Over) (c : After-close_gap-self-inside g) → let old = c.args.self.now in let count = c.args.to - c.args.from in let behind = length old.items - c.args.to in
     Opened record { slots = c.close_gap-self-inside.new.slots; start = c.close_gap-self-inside.result; len = c.self.inside.len - count; alloc = c.self.inside.alloc } record {
       items = remove_range old.items c.args.from c.args.to;
       capacity = old.capacity;
@@ -41,7 +44,7 @@ after g c =
     let items = c.args.self.now.items in
     let count = c.args.to - c.args.from in
     let ring = opened c.self.inside c.self.invariant c.self.view_is in
-    let gap = gap g (goal.at.invariant_of-self g c).After-take_run in
+    let gap = gap g c.before.before.before in
     let moved = c.close_gap-self-inside in
     let start = rw gap.reads.long at moved.ensures.start in
     let rest : length items - c.args.to ≡ c.self.inside.len - count - c.args.from = omega arith in
@@ -52,16 +55,25 @@ after g c =
       steps = moved.ensures.steps ∙ ap (more_moves (min c.args.from (c.self.inside.len - count - c.args.from))) (c.take_run.ensures.steps ∙ ap (more_takes count) ring.steps);
     })
 
+drained : (g : Over) (c : After-take_run g) → let count = c.args.to - c.args.from in
+    Opened record { slots = c.take_run.new.taken; start = 0; len = count; alloc = c.self.inside.alloc } record { items = slice_range c.args.self.now.items c.args.from c.args.to; capacity = count; start = 0; steps = more_puts count no_steps }
+drained g c =
+    let ring = opened c.self.inside c.self.invariant c.self.view_is in
+    ring_handed ring _ _ _ c.take_run.new.taken c.self.inside.alloc (omega arith) (omega arith) (rw c.in_ok-slots.ensures.ok at c.take_run.ensures.taken)
+
+pub invariant_of-result : goal.invariant_of-result
+invariant_of-result g c = kept (drained g (goal.at.invariant_of-result g c).After-take_run)
+
 pub invariant_of-self : goal.invariant_of-self
-invariant_of-self g c = kept (after g c)
+invariant_of-self g c = kept (after g (goal.at.invariant_of-self g c).After-close_gap-self-inside)
 
 pub returns : goal.returns
 returns g c =
     let ring = opened c.self.inside c.self.invariant c.self.view_is in
-    let now = after g c in
+    let now = after g (goal.at.returns g c).After-close_gap-self-inside in
     let some : c.args.from < c.args.to = omega arith in
     record {
-      drained = rw (c.take_run.ensures.taken, c.in_ok-drained.ensures.ok, values-run ring.laid c.args.from (c.args.to - c.args.from) (omega arith)) refl;
+      drained = closed (drained g (goal.at.returns g c).After-take_run);
       items = ap (λ (r : RingState g.row.T.Denot). r.items) (closed now);
       capacity = now.laid.long;
       start = now.start;

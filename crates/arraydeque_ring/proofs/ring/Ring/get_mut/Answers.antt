@@ -1,5 +1,5 @@
 use mathlib.Core.Path.{fun_ext}
-use Rattle.std.proofs.{Common.{inl, inr, set, Some, refl, sym, ap, ◌∙◌, arith}, lemmas.{List.{length-set}, Option.slice_get_past}}
+use Rattle.std.proofs.{Common.{inl, inr, set, Some, sym, ap, ◌∙◌, arith}, lemmas.{List.{length-set}, Option.slice_get_past}}
 use Rattle.arraydeque_ring.{specs.Steps.more_lends, proofs.{places.{LaidOut.{length_within, IsFilled-place_of, LaidOut-set}, Opened.{Opened, opened, closed, kept, place_at}}, ring.Ring.get_mut.{Given.Over, Goals.{After-get_mut}}}}
 use Rattle.arraydeque_ring.proofs.ring.Ring.get_mut.Goals as goal
 

@@ -1,6 +1,6 @@
 -- `lend` lends all items: its slots lend two runs, and the ring follows what they follow. Assumes `Logic`.
-use Rattle.arraydeque_ring.{proofs.{memory.{Kit.{◌≡◌, refl, ap, List, [], ◌∷◌, ℕ, ◌+◌, ◌<◌, ◌≤◌, ◌^◌, lit<, arith, length, full_share, emp, id⊢, fact_i, Share, GName, ftrue, fsep, fat, flft, fauth, Fn, inst_fn, named, w64, Val, vptr, ◌⊑◌, fact, tables, sem, Borrowed, owns, types_at, ‵, raw, ◌⊛◌, some, later, ◌$◌, ◌∵◌, !, qed, move, keep, use0, use1, use2, drop, split, join, pick, frame, rewrite, await, fsplit, fsplit3, fjoin, fjoin3, fpack, feq_i, feq_l, flt_l, suffices, done, enter, of_opd, lit, bin, addr, load, look, stop, fld, no_more, whole, sub, look_in, only, and_then, returns, alloc_all, pass_all, free_all, look_at, get, through, sets, lands_as, no, plain, usize, uint_vals, mem, part_at, Is, shows, peeks, Stays, walk_of, says_two, stay_dropped, ends_at, nothing, heard, calls_at, framed, triple_of, param_laws, El, R, args, el_x, proved, after₂, split3, group, name_new, Array, both_by, part_in, part_out, lone, MutBor, NamedLft, mut_vals, mut_Tells, mut_ref_to, named_lft, lasts, Lasts, Goes-spent_ref, pure_i}, Regions.{Sr, Seen, slots_val, slots_apart, slots_made, HoldsRun, IsFilledRun}}, loans.{Lending.{Cut, cut_at_end, ended, with_slots, kept_after, seen_after, both_written, lent_items, first_filled, rest_filled, apart}, Made.renamed, Placed.run_length, Names.{hands_on, followed_both}, Rings.{Rr, Fields, Others, Way, fields_out, slots_out, ring_whole}}, places.Opened.{opened, view, Kept}, slots.Slots.lend_two.Met.met}, specs.{Loans.{LoanState, AreApart}, Ring.RingState, RingLends.rewritten}}
-use Rattle.std.{specs.Prelude.{◌-◌, min}, proofs.lemmas.List.nil_from_length, below.core.proofs.int.usize.min.Met.{met as e_met}}
+use Rattle.arraydeque_ring.{proofs.{memory.{Kit.{◌≡◌, refl, List, [], ◌∷◌, ℕ, ◌+◌, ◌<◌, ◌≤◌, ◌^◌, arith, length, full_share, emp, id⊢, fact_i, Share, GName, ftrue, fsep, fat, flft, fauth, Fn, inst_fn, named, w64, Val, vptr, ◌⊑◌, fact, tables, sem, Borrowed, owns, types_at, ‵, raw, ◌⊛◌, some, later, ◌$◌, ◌∵◌, !, qed, move, keep, use0, use1, use2, drop, split, join, pick, frame, rewrite, await, fsplit, fsplit3, fjoin, fjoin3, fpack, feq_i, suffices, done, enter, of_opd, addr, load, look, stop, fld, no_more, and_then, returns, alloc_all, pass_all, free_all, look_at, get, through, sets, lands_as, no, plain, usize, uint_vals, mem, part_at, Is, shows, peeks, Stays, walk_of, says_two, stay_dropped, ends_at, nothing, heard, calls_at, framed, triple_of, param_laws, El, R, args, el_x, proved, after₂, split3, group, name_new, Array, both_by, MutBor, NamedLft, mut_vals, mut_Tells, mut_ref_to, named_lft, lasts, Lasts, Goes-spent_ref, pure_i}, Regions.{Sr, Seen, HoldsRun, IsFilledRun}}, loans.{Lending.{Cut, cut_at_end, ended, with_slots, kept_after, seen_after, both_written, lent_items, first_filled, second_filled}, Made.loan_renamed, Placed.run_length, Names.{hands_on, followed_both}, Rings.{Rr, Fields, Others, Way, fields_out, slots_out, ring_whole}}, places.{LaidOut.length_within, Opened.{opened, view, Kept}}, slots.Slots.lend_round.Met.met}, specs.{Loans.{LoanState}, Ring.RingState, RingLends.rewritten}}
+use Rattle.std.{specs.Prelude.{◌-◌, min}, proofs.lemmas.List.nil_from_length}
 use types.{Follow.after, Late.{ages, bor_new_deep}, Mut.open_ref, Run.well_typed}
 use base.Share
 use base.Logic.{sep}
@@ -9,8 +9,7 @@ use Rattle.arraydeque_ring.specs.Lends as Lends
 use Rattle.arraydeque_ring.specs.contracts.slots.loan.Loan as loan
 use Rattle.arraydeque_ring.specs.contracts.ring.Ring.TheInside as inside
 use Rattle.arraydeque_ring.proofs.slots.loan.Loan.TheLaws as loan_laws
-use Rattle.arraydeque_ring.specs.contracts.slots.Slots.lend_two as g
-use Rattle.std.below.core.specs.contracts.int.usize.min as e
+use Rattle.arraydeque_ring.specs.contracts.slots.Slots.lend_round as g
 use Rattle.arraydeque_ring.specs.contracts.ring.Ring.lend as f
 use Rattle.arraydeque_ring.proofs.ring.Ring.lend.Statement as stated
 use Rattle.arraydeque_ring.proofs.ring.Ring.lend.Code as code
@@ -45,37 +44,24 @@ lend_spec 𝓤 𝓛 𝓜 𝓡 wired X L =
     sets ! (of_opd ! (load ! (through ! refl (fld ! refl (stop !))) (look ! 0 refl))) refl (tt, record { fits = fl }) $ use1 𝓛 (‵ (part_at usize full_share x.len rb (ro + 24))) (uint_in 𝓛 full_share w64 x.len rb (ro + 24)) $
     -- [the length; the start; the allocator; the slots; ..]
     move ! (0 ∷ 2 ∷ []) $ fjoin ! $ move ! (1 ∷ 0 ∷ []) $ fjoin ! $ move ! (1 ∷ []) $
-    use1 𝓛 (some (λ (v : Val). ‵ (fat full_share (lone (Sr E).mir) rb (ro + 0) v) ⊛ ‵ ((Sr E).own_val x.slots (v ∷ [])))) (part_out 𝓛 (Sr E) refl full_share x.slots rb (ro + 0)) $ pick ! (λ v. split ! $ move ! (1 ∷ []) $
-    slots_apart E ! x.slots (v ∷ []) (λ heap p o n ok is. slots_made E ! heap x.slots p o n ok $ rewrite ! 1 (λ (u : Val). ‵ (fat full_share (lone (Sr E).mir) rb (ro + 0) u)) (ap only is) refl $
-    sets ! (of_opd ! (load ! (through ! refl (fld ! refl (fld ! refl (stop !)))) (look_in ! 1 (sub ! 1 refl (whole !))))) refl (tt, record { fits = ok.word }) $
-    move ! (1 ∷ 0 ∷ []) $ use2 𝓛 (‵ (part_at (Sr E) full_share x.slots rb (ro + 0))) (part_in 𝓛 (Sr E) refl full_share x.slots rb (ro + 0) (slots_val p o n)) $
-    -- [the slots; the other fields; the way back; ..]
-    let At = triple_of 𝓛 e.signature (e.spec 𝓛 𝓜.mem 𝓡.returns) in let room : ℕ = n - x.start in let room_fits : room < 2 ^ 64 = omega (arith, ok.word) in
-    sets ! (bin ! (get ! refl) (get ! refl) (let inside = kept.0 in omega (arith, inside, ok.capacity))) refl (tt, record { fits = room_fits }) $
-    let zₑ : At.Ghost = ((tt, tt, tt, (x.len, (room, tt)), (uint_vals w64 x.len, (uint_vals w64 room, tt))), tt) in
-    nothing ! $ pure_i ! (owns (usize ∷ usize ∷ []) zₑ.0.3 zₑ.0.4) ((tt, tt), ((tt, tt), tt)) ((refl, fl), ((refl, room_fits), tt)) $ nothing ! $ join ! $ join ! $ use1 𝓛 (raw (At.pre zₑ)) (id⊢ 𝓤 _) $
-    calls_at ! (framed 𝓤 𝓛.H 𝓜 𝓣) At (e_met 𝓤 𝓛 𝓜 𝓡 (code.calls-core::int::usize::min 𝓡.env wired)) zₑ (and_then ! (get ! refl) (and_then ! (get ! refl) (no_more !))) (λ u.
-    use1 𝓛 (later (some (λ (first : ℕ). (‵ ftrue ⊛ ‵ (usize.own_val first (u ∷ []))) ⊛ some (λ (ws : Lasts e.ended tt zₑ.0.3). ‵ (lasts e.ended tt zₑ.0.3 ws) ⊛ raw (fact 𝓤 (first ≡ min x.len room)))))) (id⊢ 𝓤 _) $
-    await ! tt $ pick ! (λ first. split ! $ split ! $ drop ! $ fsplit ! $ feq_l ! (λ is_first. flt_l ! (λ ff. lands_as ! (ap only is_first) refl (tt, record { fits = ff }) $
-    pick ! (λ ws. split ! $ drop ! $ heard ! (first ≡ min x.len room) (λ cuts.
-    let rest = x.len - first in let fr : rest < 2 ^ 64 = omega arith in let cut : Cut x first rest = cut_at_end x kept n first ok.capacity cuts in let open_ring = opened x kept seen in
+    let room : ℕ = length x.slots.places - x.start in let first : ℕ = min x.len room in let rest : ℕ = x.len - first in let cut : Cut x first rest = cut_at_end x kept in let open_ring = opened x kept seen in
     sets ! (addr ! (through ! refl (fld ! refl (stop !)))) refl (tt, tt) $
     -- [the slots; the other fields; the way back; the open borrow, in three; half its token; the others]
     move ! (3 ∷ []) $ ages ! (λ age. name_new ! tt ((Sr E).coded.code x.slots) (λ δ. sets ! (addr ! (through ! refl (stop !))) refl (tt, tt) $
-    sets ! (bin ! (get ! refl) (get ! refl) (omega arith)) refl (tt, record { fits = fr }) $
     -- [obs δ; auth δ; the open borrow; the slots; the other fields; the way back; obs γ; auth γ; half its token; the others]
     move ! (3 ∷ 1 ∷ []) $ fjoin ! $ fpack ! (Seen E) (λ v. fsep ((mem (Sr E)).own_at v rb (ro + 0)) (fauth δ ((Sr E).coded.code v))) x.slots $ bor_new_deep ! tt age κ {P = Borrowed (mem (Sr E)) rb (ro + 0) δ} $
     -- [the slots' borrow; the right to its end; obs δ; the open borrow; the other fields; the way back; obs γ; auth γ; half its token; the others]
     move ! (2 ∷ 0 ∷ []) $ feq_i ! (List Val) (vptr rb (ro + 0) ∷ []) (vptr rb (ro + 0) ∷ []) refl $ fjoin3 ! $
     let lent : MutBor (Seen E) = record { ref_ptr = (rb, ro + 0); ghost_name = δ; now = x.slots } in let G = triple_of 𝓛 (g.signature X) (g.spec X 𝓛 𝓜.mem 𝓡.returns) in
-    let z : G.Ghost = ((κs, (r, (q₁, tt)), bounds, (lent, (x.start, (first, (0, (rest, tt))))), (mut_vals lent, (uint_vals w64 x.start, (uint_vals w64 first, (uint_vals w64 0, (uint_vals w64 rest, tt)))))), tt) in
-    pure_i ! (owns (usize ∷ usize ∷ usize ∷ usize ∷ []) z.0.3.1 z.0.4.1) ((tt, tt), ((tt, tt), ((tt, tt), ((tt, tt), tt)))) ((refl, fs), ((refl, ff), ((refl, lit< tt), ((refl, fr), tt)))) $
+    let z : G.Ghost = ((κs, (r, (q₁, tt)), bounds, (lent, (x.start, (x.len, tt))), (mut_vals lent, (uint_vals w64 x.start, (uint_vals w64 x.len, tt)))), tt) in
+    pure_i ! (owns (usize ∷ usize ∷ []) z.0.3.1 z.0.4.1) ((tt, tt), ((tt, tt), tt)) ((refl, fs), ((refl, fl), tt)) $
     -- [the words; the lent slots; the right; the open borrow; the other fields; the way back; obs γ; auth γ; half its token; the others]
     move ! (1 ∷ 0 ∷ []) $ fjoin ! $ move ! (7 ∷ 8 ∷ []) $ join ! $ join ! $
-    let One = IsFilledRun x.slots.places x.start first in let Two = IsFilledRun x.slots.places 0 rest in let Apart = AreApart x.start first 0 rest in
-    use0 𝓛 (raw (fact 𝓤 Apart)) (fact_i 𝓤 Apart (emp 𝓤) (apart open_ring cut)) $ use0 𝓛 (raw (fact 𝓤 Two)) (fact_i 𝓤 Two (emp 𝓤) (rest_filled open_ring cut)) $ join ! $ use0 𝓛 (raw (fact 𝓤 One)) (fact_i 𝓤 One (emp 𝓤) (first_filled open_ring cut)) $ join ! $
+    let In = x.start ≤ length x.slots.places in let Within = x.len ≤ length x.slots.places in let One = IsFilledRun x.slots.places x.start first in let Two = IsFilledRun x.slots.places 0 rest in
+    use0 𝓛 (raw (fact 𝓤 Two)) (fact_i 𝓤 Two (emp 𝓤) (second_filled open_ring cut)) $ use0 𝓛 (raw (fact 𝓤 One)) (fact_i 𝓤 One (emp 𝓤) (first_filled open_ring cut)) $ join ! $
+    use0 𝓛 (raw (fact 𝓤 Within)) (fact_i 𝓤 Within (emp 𝓤) (omega (arith, open_ring.len, length_within open_ring.laid))) $ join ! $ use0 𝓛 (raw (fact 𝓤 In)) (fact_i 𝓤 In (emp 𝓤) (let inside = kept.0 in omega (arith, inside))) $ join ! $
     use0 𝓛 (raw (fact 𝓤 (κ₁ ⊑ X.lives))) (fact_i 𝓤 (κ₁ ⊑ X.lives) (emp 𝓤) lives) $ join ! $ move ! (1 ∷ 0 ∷ []) $ use2 𝓛 (raw (G.pre z)) (id⊢ 𝓤 _) $
-    calls_at ! (framed 𝓤 𝓛.H 𝓜 𝓣) G (met 𝓤 𝓛 𝓜 𝓡 (code.calls-arraydeque_ring::slots::Slots::lend_two 𝓡.env wired) X L) z (and_then ! (get ! refl) (and_then ! (get ! refl) (and_then ! (get ! refl) (and_then ! (lit ! tt) (and_then ! (get ! refl) (no_more !)))))) (λ v.
+    calls_at ! (framed 𝓤 𝓛.H 𝓜 𝓣) G (met 𝓤 𝓛 𝓜 𝓡 (code.calls-arraydeque_ring::slots::Slots::lend_round 𝓡.env wired) X L) z (and_then ! (get ! refl) (and_then ! (get ! refl) (and_then ! (get ! refl) (no_more !)))) (λ v.
     let α : NamedLft = named_lft 2 0 tt κs in let It = loan.the_row α (R E) in
     let First : LoanState (el_x E) → Type 0 = λ it. HoldsRun x.slots.places x.start first it.first.now in let Second : LoanState (el_x E) → Type 0 = λ it. HoldsRun x.slots.places 0 rest it.second.now in
     use1 𝓛 (later (some (λ (it : LoanState (el_x E)). ((‵ (flft κ r) ⊛ ‵ (flft κ₁ q₁) ⊛ ‵ ftrue) ⊛ ‵ (It.own_val it (v ∷ []))) ⊛
@@ -93,11 +79,11 @@ lend_spec 𝓤 𝓛 𝓜 𝓡 wired X L =
     rewrite ! 0 (λ (F : List (el_x E) → List (el_x E) → RingState (el_x E)). ‵ (after₂ (mem (Rr E)) Rows Rows ν it.first.ghost_name it.second.ghost_name F)) (λ i us vs. both_written x d seen kept first rest cut it.first.now it.second.now held held' us vs i) refl $
     -- [what ν follows; half the token; what γ follows; the tokens and the loan]
     let out : LoanState (el_x E) = record it { name = ν } in
-    move ! (2 ∷ 0 ∷ []) $ fjoin ! $ move ! (2 ∷ []) $ split ! $ move ! (1 ∷ []) $ use1 𝓛 (‵ (It.own_val out (v ∷ []))) (renamed α (R E) 𝓛 it ν (v ∷ [])) $
+    move ! (2 ∷ 0 ∷ []) $ fjoin ! $ move ! (2 ∷ []) $ split ! $ move ! (1 ∷ []) $ use1 𝓛 (‵ (It.own_val out (v ∷ []))) (loan_renamed α (R E) 𝓛 it ν (v ∷ [])) $
     peeks ! It (Is It) (shows 𝓛 It) out (v ∷ []) (λ is_it. lands_as ! refl refl (((loan_laws.the_row_laws α (R E) (param_laws 0 X L)).lawful 𝓛).typed out (v ∷ []) is_it).0 $
     -- [the loan; the tokens; what the ring follows; half the token]
     move ! (1 ∷ []) $ split ! $ move ! (4 ∷ 0 ∷ []) $ use2 𝓛 (‵ (flft κ q)) (𝓛.lfts.lft_join κ q) $ move ! (0 ∷ 1 ∷ []) $ join ! $
     returns ! (look_at ! 0 refl) $ free_all ! refl $ suffices ! _ (ends_at 𝓛 f_ended stayed c y v out (tt, tt) (tt, tt)) $
     move ! (1 ∷ []) $ nothing ! $ nothing ! $ fjoin ! $ join ! $ move ! (1 ∷ 0 ∷ []) $ join ! $ frame ! $
-    let none : d.start + length d.items ≤ d.capacity → it.second.now ≡ [] = λ in_one_piece. nil_from_length it.second.now (omega (arith, run_length x.slots.places 0 rest it.second.now (rest_filled open_ring cut).0 held', ok.capacity, open_ring.len, open_ring.start, open_ring.laid.long)) in
-    says_two ! (lent_items open_ring cut it.first.now it.second.now held held', none) $ done !)))))))))))))))))))))))
+    let none : d.start + length d.items ≤ d.capacity → it.second.now ≡ [] = λ in_one_piece. nil_from_length it.second.now (omega (arith, run_length x.slots.places 0 rest it.second.now (second_filled open_ring cut).0 held', open_ring.len, open_ring.start, open_ring.laid.long)) in
+    says_two ! (lent_items open_ring cut it.first.now it.second.now held held', none) $ done !)))))))))))))))

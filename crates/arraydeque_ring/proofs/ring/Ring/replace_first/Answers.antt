@@ -1,5 +1,5 @@
 use Rattle.std.proofs.{Common.{◌≡◌, ◌-◌, [], ◌∷◌, ◌++◌, drop, length, ◌<◌, sym, ap, ◌∙◌, arith}, Math.Nat.{mod-eq_of_lt, add-mod_right}}
-use Rattle.arraydeque_ring.{specs.{declared.ring.Ring.TheInside.Inside, Ring.{RingState, place_of}, Steps.{more_puts, more_takes}}, proofs.{moved.Sources.{place_of-sum}, places.{LaidOut.{IsFilled-start, IsEmpty-place_of}, Opened.{Opened, opened, closed, kept, placed, put_back, take_front, from_start, with_len}}, ring.Ring.replace_first.Given.Over}}
+use Rattle.arraydeque_ring.{specs.{declared.ring.Ring.TheInside.Inside, Ring.{RingState, place_of}, Steps.{more_puts, more_takes}}, proofs.{moved.Sources.{place_of-sum}, places.{LaidOut.{IsFilled-start, IsEmpty-place_of}, Opened.{Opened, opened, closed, kept, by_field, put_back, take_front, from_start, with_len}}, ring.Ring.replace_first.Given.Over}}
 use Rattle.arraydeque_ring.proofs.ring.Ring.replace_first.Goals as goal
 
 pub take-first-requires : goal.take-first-requires
@@ -14,7 +14,7 @@ pub put-requires : goal.put-requires
 put-requires g c =
     let ring = opened c.self.inside c.self.invariant c.self.view_is in
     let now = take_front ring (omega (arith, ring.len, c.requires.full, c.requires.some)) (from_start ring _ c.capacity.ensures c.wrap_add-next.ensures) c.take-first.ensures.places c.take-first.ensures.steps in
-    rw (placed now _ (round ring c.requires.some c.requires.full)) (IsEmpty-place_of now.laid _ (omega (arith, now.len)) (omega (arith, ring.len, c.requires.full, c.requires.some)))
+    rw (by_field now _ (round ring c.requires.some c.requires.full)) (IsEmpty-place_of now.laid _ (omega (arith, now.len)) (omega (arith, ring.len, c.requires.full, c.requires.some)))
 
 replaced : (g : Over) (c : goal.After-self-1 g) → let old = c.args.self.now in
     Opened record { slots = c.put.new.self; start = c.wrap_add-next.result; len = c.self.inside.len; alloc = c.self.inside.alloc }
