@@ -155,10 +155,11 @@ pub fn extend_slice<T: Item, D: Peer<T>, const CAP: usize>(rounds: usize) -> u64
 }
 
 pub fn extend_vec<T: Item, D: Peer<T>, const CAP: usize>(rounds: usize) -> u64 {
+    let items = counted::<T>(CAP / 2);
     let mut deque: D = peer_at(0, CAP / 3);
     let mut sum = 0u64;
     for _ in 0..rounds {
-        deque.extend_back(counted::<T>(CAP / 2));
+        deque.extend_back(items.clone());
         sum = sum.wrapping_add(last_number(&deque));
         deque.clear();
     }
@@ -471,9 +472,10 @@ pub fn get_mut<T: Item, D: Peer<T>, const CAP: usize>(rounds: usize) -> u64 {
 }
 
 pub fn from_vec<T: Item, D: Peer<T>, const CAP: usize>(rounds: usize) -> u64 {
+    let items = counted::<T>(CAP / 2);
     let mut sum = 0u64;
     for _ in 0..rounds {
-        let deque = D::from_vec(counted::<T>(CAP / 2));
+        let deque = D::from_vec(items.clone());
         // Else the compiler leaves out the making of a `VecDeque`.
         black_box(&deque);
         sum = sum.wrapping_add(last_number(&deque));

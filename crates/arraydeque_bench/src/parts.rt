@@ -19,15 +19,16 @@ pub(crate) fn extend_slice<T: Item, const CAP: usize>(
     Ok(sum)
 }
 
-/// Each round half the capacity goes in from a new `Vec`, and the deque is cleared.
+/// Each round half the capacity goes in from a copy of a `Vec`, by value, and the deque is cleared.
 pub(crate) fn extend_vec<T: Item, const CAP: usize>(
     alloc: Global,
     rounds: usize,
 ) -> Result<u64, AllocError> {
+    let items = counted::<T>(alloc, CAP / 2)?;
     let mut deque = deque_at::<T, CAP>(alloc, 0, CAP / 3)?;
     let mut sum = 0u64;
     for _ in 0..rounds {
-        deque.extend_back(counted::<T>(alloc, CAP / 2)?);
+        deque.extend_back(Vec::from_slice(alloc, items.as_slice())?);
         sum = sum.wrapping_add(last_number(&deque));
         deque.clear();
     }

@@ -4,15 +4,16 @@ use crate::parts::last_number;
 use arraydeque::{ArrayDeque, Saturating};
 use std::alloc::{AllocError, Global};
 
-/// Each round a deque is made of a new `Vec` of half the capacity.
+/// Each round a deque is made of a copy of a `Vec` of half the capacity.
 pub(crate) fn from_vec<T: Item, const CAP: usize>(
     alloc: Global,
     rounds: usize,
 ) -> Result<u64, AllocError> {
+    let items = counted::<T>(alloc, CAP / 2)?;
     let mut sum = 0u64;
     for _ in 0..rounds {
-        let items = counted::<T>(alloc, CAP / 2)?;
-        let deque = made_of::<T, CAP>(alloc, items)?;
+        let copy = Vec::from_slice(alloc, items.as_slice())?;
+        let deque = made_of::<T, CAP>(alloc, copy)?;
         sum = sum.wrapping_add(last_number(&deque));
     }
     Ok(sum)

@@ -20,9 +20,8 @@ pub(crate) fn wrap_add(place: usize, offset: usize, capacity: usize) -> usize
     }
 }
 
-/// The same without that branch, for places at random: of the sum and the sum less the capacity it
-/// is the lesser, since what would be below 0 wraps round to the largest numbers. A sum that wraps
-/// round itself, as it may in a region of items of size zero, is less than `place`.
+/// The same without that branch, for places at random: off the sum goes the capacity, or nothing. A
+/// sum that wraps round, as it may in a region of items of size zero, is right again after that.
 #[inline(always)]
 pub(crate) fn wrap_add_branchless(place: usize, offset: usize, capacity: usize) -> usize
     requires in_region { place < capacity }
@@ -32,7 +31,10 @@ pub(crate) fn wrap_add_branchless(place: usize, offset: usize, capacity: usize) 
     if capacity & (capacity - 1) == 0 {
         return (place + offset) % capacity;
     }
-    let sum = place.wrapping_add(offset);
-    let less = sum.wrapping_sub(capacity);
-    if sum < place { less } else { sum.min(less) }
+    let past = if offset < capacity - place {
+        0
+    } else {
+        capacity
+    };
+    place.wrapping_add(offset).wrapping_sub(past)
 }

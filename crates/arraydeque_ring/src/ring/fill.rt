@@ -12,7 +12,7 @@ use crate::wrap::wrap_add;
 impl<T> Ring<T> {
     /// Puts what the iterator gives behind the last item, one by one, while there is room. Returns
     /// whether the iterator ended before that; else it wasn't asked for more.
-    #[inline]
+    #[inline(always)]
     pub fn fill_back<I: Iterator<Item = T>>(&mut self, elements: &mut I) -> bool
         requires { I.can_next elements.old }
         ensures filled { Fills I.next_gives elements.old elements.new
@@ -42,7 +42,7 @@ impl<T> Ring<T> {
     /// Puts what the iterator gives before the first item, one by one, while there is room: the
     /// last one stands first then. Returns whether the iterator ended before that; else it wasn't
     /// asked for more.
-    #[inline]
+    #[inline(always)]
     pub fn fill_front<I: Iterator<Item = T>>(&mut self, elements: &mut I) -> bool
         requires { I.can_next elements.old }
         ensures filled { Fills I.next_gives elements.old elements.new

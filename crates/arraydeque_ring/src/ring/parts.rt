@@ -120,5 +120,7 @@ fn take_run<T>(slots: &mut Slots<T>, start: usize, at: usize, len: usize, taken:
     let place = wrap_add(start, at, capacity);
     let first = len.min(capacity - place);
     slots.hand_over(place, taken, 0, first);
-    slots.hand_over(0, taken, first, len - first);
+    if first < len {
+        slots.hand_over(0, taken, first, len - first);
+    }
 }

@@ -1,6 +1,13 @@
-use Rattle.std.proofs.Common.{arith}
-use Rattle.arraydeque_ring.proofs.Masks.{at_most_half}
+use Rattle.std.proofs.Common.{inl, inr, arith}
+use Rattle.arraydeque_ring.proofs.{Masks.at_most_half, places.Rotated.place_of_cases}
 use Rattle.arraydeque_ring.proofs.wrap.wrap_add_branchless.Goals as goal
+use Rattle.arraydeque_ring.proofs.wrap.wrap_add_branchless.Goals.{then-offset-capacity, else-offset-capacity}
 
 pub overflow_add-result : goal.overflow_add-result
 overflow_add-result c = omega (arith, at_most_half c.args.capacity c.ranges.capacity.fits c.if-capacity-eq0.true)
+
+pub returns : goal.returns
+returns c = elim (place_of_cases c.args.place c.args.offset c.args.capacity (omega arith)) [
+  | inl below ↦ elim c.if-offset-capacity.branch [ then-offset-capacity w ↦ omega (arith, below, w.past-is, w.if-offset-capacity, c.ranges.capacity.fits) | else-offset-capacity w ↦ absurd (omega (arith, below, w.if-offset-capacity)) ]
+  | inr over ↦ elim c.if-offset-capacity.branch [ then-offset-capacity w ↦ absurd (omega (arith, over, w.if-offset-capacity)) | else-offset-capacity w ↦ omega (arith, over, w.past-is, w.if-offset-capacity, c.ranges.capacity.fits) ]
+]

@@ -1,4 +1,4 @@
-use Rattle.std.proofs.{Common.{◌≡◌, ◌-◌, ◌+◌, ◌<◌, [], ◌++◌, drop, sym, ap, ap₂, ◌∙◌, arith}}
+use Rattle.std.proofs.{Common.{◌≡◌, ◌-◌, ◌+◌, ◌<◌, [], ◌++◌, drop, sym, ap, ap₂, ◌∙◌, arith}, lemmas.List.append-nil}
 use Rattle.arraydeque_ring.{proofs.{places.{Handed.{Handed, handed, first_empty, rest_empty, both_put}, Rotated.{MayStartAt-place_of, place_of-lt, length-rotated}}, ring.parts.take_run.{Given.Over, Goals.{After-min-first}}}}
 use Rattle.arraydeque_ring.proofs.ring.parts.take_run.Goals as goal
 
@@ -16,23 +16,37 @@ hand_over-requires-clause-filled g c = (parts g (goal.at.hand_over-requires-clau
 pub hand_over-requires-clause-empty : goal.hand_over-requires-clause-empty
 hand_over-requires-clause-empty g c = first_empty c.args.len _ c.args.taken.now.places (omega arith) c.requires.empty
 
-pub hand_over-requires-2-clause-filled : goal.hand_over-requires-2-clause-filled
-hand_over-requires-2-clause-filled g c =
-    rw c.hand_over.ensures.here (parts g (goal.at.hand_over-requires-2-clause-filled g c).After-min-first).rest
+pub hand_over-requires-then-first-len-clause-filled : goal.hand_over-requires-then-first-len-clause-filled
+hand_over-requires-then-first-len-clause-filled g c =
+    rw c.hand_over.ensures.here (parts g (goal.at.hand_over-requires-then-first-len-clause-filled g c).After-min-first).rest
 
-pub hand_over-requires-2-clause-empty : goal.hand_over-requires-2-clause-empty
-hand_over-requires-2-clause-empty g c =
-    let p = parts g (goal.at.hand_over-requires-2-clause-empty g c).After-min-first in
+pub hand_over-requires-then-first-len-clause-empty : goal.hand_over-requires-then-first-len-clause-empty
+hand_over-requires-then-first-len-clause-empty g c =
+    let p = parts g (goal.at.hand_over-requires-then-first-len-clause-empty g c).After-min-first in
     rw c.hand_over.ensures.there (rest_empty c.args.len _ c.args.taken.now.places (omega arith) c.requires.empty _ [] p.many)
 
-pub returns-clause-places : goal.returns-clause-places
-returns-clause-places g c =
-    rw (c.hand_over-2.ensures.here, c.hand_over.ensures.here) (parts g (goal.at.returns-clause-places g c).After-min-first).places
+pub returns-then-first-len-clause-places : goal.returns-then-first-len-clause-places
+returns-then-first-len-clause-places g c =
+    rw (c.hand_over-then-first-len.ensures.here, c.hand_over.ensures.here) (parts g (goal.at.returns-then-first-len-clause-places g c).After-min-first).places
 
-pub returns-clause-taken : goal.returns-clause-taken
-returns-clause-taken g c =
-    let p = parts g (goal.at.returns-clause-taken g c).After-min-first in
+pub returns-then-first-len-clause-taken : goal.returns-then-first-len-clause-taken
+returns-then-first-len-clause-taken g c =
+    let p = parts g (goal.at.returns-then-first-len-clause-taken g c).After-min-first in
     let old = c.args.taken.now in
     let puts : old.steps.puts + c.min-first.result + (c.args.len - c.min-first.result) ≡ old.steps.puts + c.args.len = omega arith in
     let both = both_put c.args.len c.min-first.result old.places (omega arith) c.requires.empty _ _ p.many ∙ ap (λ ps. ps ++ drop c.args.len old.places) p.all in
-    rw (c.hand_over-2.ensures.there, c.hand_over.ensures.there, c.hand_over.ensures.here) (ap₂ (λ ps n. record { places = ps; steps = record old.steps { puts = n } }) both puts)
+    rw (c.hand_over-then-first-len.ensures.there, c.hand_over.ensures.there, c.hand_over.ensures.here) (ap₂ (λ ps n. record { places = ps; steps = record old.steps { puts = n } }) both puts)
+
+pub returns-else-first-len-clause-places : goal.returns-else-first-len-clause-places
+returns-else-first-len-clause-places g c =
+    let none : c.args.len - c.min-first.result ≡ 0 = omega arith in
+    rw c.hand_over.ensures.here (rw none at (parts g (goal.at.returns-else-first-len-clause-places g c).After-min-first).places)
+
+pub returns-else-first-len-clause-taken : goal.returns-else-first-len-clause-taken
+returns-else-first-len-clause-taken g c =
+    let old = c.args.taken.now in
+    let none : c.args.len - c.min-first.result ≡ 0 = omega arith in
+    let behind : 0 + c.min-first.result ≡ c.args.len = omega arith in
+    let puts : old.steps.puts + c.min-first.result ≡ old.steps.puts + c.args.len = omega arith in
+    let all = rw append-nil at (rw none at (parts g (goal.at.returns-else-first-len-clause-taken g c).After-min-first).all) in
+    rw c.hand_over.ensures.there (ap₂ (λ ps n. record { places = ps; steps = record old.steps { puts = n } }) (ap₂ (λ l k. l ++ drop k old.places) all behind) puts)
