@@ -203,7 +203,7 @@ impl<T> Ring<T> {
         if index >= self.len {
             return None;
         }
-        let place = wrap_add_branchless(self.start, index, self.slots.capacity());
+        let place = wrap_add(self.start, index, self.slots.capacity());
         Some(self.slots.get(place))
     }
 
