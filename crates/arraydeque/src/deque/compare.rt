@@ -1,10 +1,9 @@
 //! Equality, order and hashes: those of the lists, wherever the rings start.
-ghost use Rattle.std.specs.Prelude.{◌≡◌, fold, length};
+ghost use Rattle.std.specs.Prelude.{◌≡◌, length};
 ghost use Rattle.std.specs.Cmp.{on_equiv, on_per, on_po, on_total};
 ghost use Rattle.std.specs.Cmp.Lexicographic.{pointwise, slice_cmp, slice_partial_cmp, lists_agrees, lists_equiv, lists_per, lists_po, lists_ties, lists_total};
 ghost use Rattle.std.specs.Hash as fed;
 ghost use Rattle.std.specs.Hash.{items_Alike as alike};
-ghost use Rattle.std.specs.List.{flat_map};
 ghost use Rattle.arraydeque.specs.Compared.{AreSectionsOf};
 
 use super::ArrayDeque;
@@ -163,17 +162,8 @@ impl<T: Hash, const CAP: usize, B: Behavior> Hash for ArrayDeque<T, CAP, B> {
     fn hash<H: Hasher>(&self, state: &mut H) {
         let (front, back) = self.as_slices();
         state.write_usize(self.len());
-        feed(front, state);
-        feed(back, state);
-    }
-}
-
-/// Feeds each item by itself, in order.
-fn feed<T: Hash, H: Hasher>(items: &[T], state: &mut H)
-    ensures { state.new ≡ fold H.write state.old (flat_map T.hash_input items.now) }
-{
-    for item in items {
-        item.hash(state);
+        T::hash_slice(front, state);
+        T::hash_slice(back, state);
     }
 }
 
