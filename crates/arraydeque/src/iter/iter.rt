@@ -40,10 +40,9 @@ impl<'a, T> Iterator for Iter<'a, T> {
             self.first = rest;
             return Some(item);
         }
-        self.first = self.second;
-        self.second = &[];
-        let (item, rest) = self.first.split_first()?;
+        let (item, rest) = self.second.split_first()?;
         self.first = rest;
+        self.second = &[];
         Some(item)
     }
 
@@ -67,10 +66,9 @@ impl<'a, T> DoubleEndedIterator for Iter<'a, T> {
             self.second = rest;
             return Some(item);
         }
-        self.second = self.first;
-        self.first = &[];
-        let (item, rest) = self.second.split_last()?;
+        let (item, rest) = self.first.split_last()?;
         self.second = rest;
+        self.first = &[];
         Some(item)
     }
 }
