@@ -8,10 +8,14 @@ ghost use Rattle.arraydeque.specs.DequeLends.{lends_item, lends_index};
 
 use super::ArrayDeque;
 use crate::behavior::Behavior;
+use std::mem::size_of_val;
 use std::ops::{Index, IndexMut};
 
 /// How many items are compared before the answers are looked at.
 const BLOCK: usize = 64;
+
+/// How many bytes an item takes at most that is compared in a block.
+const SMALL_BYTES: usize = 16;
 
 impl<T, const CAP: usize, B: Behavior> ArrayDeque<T, CAP, B> {
     /// Whether some item equals `x`, by the items' own equality.
@@ -173,10 +177,13 @@ impl<T, const CAP: usize, B: Behavior> IndexMut<usize> for ArrayDeque<T, CAP, B>
     }
 }
 
-/// Whether some item equals `x`, looked for block by block.
+/// Whether some item equals `x`. Small items are looked at block by block, and others one by one.
 fn has_equal<T: PartialEq>(items: &[T], x: &T) -> bool
     ensures { result ≡ list_any (λ y. T.eq y x.now) items.now }
 {
+    if size_of_val(x) > SMALL_BYTES {
+        return items.contains(x);
+    }
     let mut rest = items;
     while BLOCK <= rest.len() {
         let (block, next) = rest.split_at(BLOCK);
