@@ -62,6 +62,24 @@ fn items_are_lent_in_order(rt: HostRuntime) -> Result<(), Fail> {
     Ok(())
 }
 
+/// The last total of a fold which appends each item to the total as a digit.
+fn joined(items: Iter<'_, i64>) -> i64 {
+    items.fold(
+        0,
+        |total: i64, item| total.wrapping_mul(10).wrapping_add(*item),
+    )
+}
+
+#[test]
+fn items_are_folded_in_order(rt: HostRuntime) -> Result<(), Fail> {
+    let deque = deque_at::<5>(rt.alloc(), 3, &[1, 2, 3, 4, 5])?;
+    let mut inner = deque.iter();
+    let ends = (inner.next(), inner.next_back());
+    assert!(rt; ends == (Some(&1), Some(&5)) && joined(inner) == 234);
+    assert!(rt; joined(deque.iter()) == 12345);
+    Ok(())
+}
+
 /// Whether an iterator lends these two items for writing, and no more.
 fn lends_two(mut items: IterMut<'_, i64>, first: i64, second: i64) -> bool {
     items.size_hint() == (2, Some(2))

@@ -1,6 +1,8 @@
 //! The iterator over the items of a deque, lent for reading.
-ghost use Rattle.std.specs.Prelude.{◌≡◌, ◌+◌, ◌^◌, ◌<◌, ◌++◌, length, Some, IfSome, ⊤};
+ghost use Rattle.std.specs.Prelude.{◌≡◌, ◌+◌, ◌^◌, ◌<◌, ◌++◌, fold, length, Some, IfSome, ⊤};
 ghost use Rattle.std.specs.Iterator.{YieldsFirstRef, YieldsLastRef, UpTo, item_count};
+ghost use Rattle.std.specs.Iterator.{CallableInFold, FoldsItems, ActsAsOnTwo};
+ghost use Rattle.std.specs.Iterator.Runs.{WholeRun};
 ghost use Rattle.std.specs.Iterator.SizeHint.{IsWithinCount};
 
 use crate::behavior::Behavior;
@@ -25,6 +27,37 @@ impl<'a, T> Model for Iter<'a, T> {
     ghost view = { λ it. it.first.now ++ it.second.now };
 
     ghost invariant = { λ it. length it.first.now + length it.second.now < 2 ^ 64 };
+}
+
+impl<'a, T> Iter<'a, T> {
+    /// Calls `f` on a total, which begins as `init`, and each item in turn, and returns the last
+    /// total: one call an item. Std's own `fold` asks for one item after the other; this one goes
+    /// over each of the two slices as a whole.
+    ///
+    /// ```
+    /// let mut deque = ArrayDeque::<i64, 3, Saturating>::new(alloc)?;
+    /// deque.extend_back([1, 2, 3]);
+    /// let next = |total: i64, item: &i64| total.wrapping_mul(10).wrapping_add(*item);
+    /// assert!(rt; deque.iter().fold(0, next) == 123);
+    /// ```
+    #[inline]
+    pub fn fold<A, F: FnMut(A, &'a T) -> A>(self, init: A, mut f: F) -> A
+        requires callable { CallableInFold (YieldsFirstRef (λ xs. xs)) F.FnMut self f init }
+        ensures ran { FoldsItems (YieldsFirstRef (λ xs. xs)) F.FnMut self.entry f init result }
+        ensures runs { WholeRun (YieldsFirstRef (λ xs. xs)) self.entry (λ run. (h : A → _ → A)
+            → ActsAsOnTwo F.FnMut f h → result ≡ fold h init run.items) }
+        ensures value { (h : A → T → A) → ActsAsOnTwo F.FnMut f (λ total item. h total item.now)
+            → result ≡ fold h init self.entry }
+    {
+        let mut total = init;
+        for item in self.first {
+            total = f(total, item);
+        }
+        for item in self.second {
+            total = f(total, item);
+        }
+        total
+    }
 }
 
 impl<'a, T> Iterator for Iter<'a, T> {
