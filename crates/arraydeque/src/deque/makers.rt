@@ -60,7 +60,10 @@ impl<T, const CAP: usize> ArrayDeque<T, CAP, Saturating> {
         ensures source { IfErr result (λ refusal. refusal.source ≡ v) }
         ensures refused { OnErr result (0 < CAP * type_size T.row) }
     {
-        Self::from_iter(alloc, v)
+        match Ring::of_vec(alloc, CAP, v) {
+            Ok(ring) => Ok(Self::of(ring)),
+            Err(source) => Err(MakeError { source }),
+        }
     }
 
     /// Returns a deque of the first `CAP` items of an array.

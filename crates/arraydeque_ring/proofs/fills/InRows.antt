@@ -1,5 +1,5 @@
 -- Items that come one by one behind the last item or before the first, into places in a row.
-use Rattle.std.proofs.{Common.{◌≡◌, ℕ, zero, suc, ◌+◌, ◌-◌, ◌*◌, ◌<◌, ◌≤◌, ◌⊎◌, inl, inr, List, [], ◌∷◌, ◌++◌, length, reverse, set, Option, Some, if◌then◌else◌, sym, ap, ◌∙◌, subst, arith}, lemmas.{Bool.{lt-ltb}, List.{append_assoc, append-nil, length-append, length-reverse, reverse-append}}}
+use Rattle.std.proofs.{Common.{◌≡◌, ℕ, zero, suc, ◌+◌, ◌-◌, ◌*◌, ◌<◌, ◌≤◌, ◌⊎◌, inl, inr, List, [], ◌∷◌, ◌++◌, length, take, reverse, set, get_or, Option, Some, if◌then◌else◌, refl, sym, ap, ◌∙◌, subst, arith}, lemmas.{Bool.{lt-ltb}, List.{append_assoc, append-nil, length-append, length-reverse, length-take-le, reverse-append, take_more}}}
 use native.Mathlib.Nat.{suc-mul}
 use Rattle.arraydeque_ring.{specs.{declared.ring.Ring.TheInside.Inside, Places.{Region, IsEmpty}, Ring.{RingState, place_of, down_by}, Steps.{Steps, more_puts}}, proofs.{moved.Sources.{place_of-sum}, places.{LaidOut.{LaidOut, IsEmpty-place_of, LaidOut-put_back}, Opened.{Opened, by_field, with_len, put_front}, Rotated.{MayStartAt, place_of_cases, place_of-run}}}}
 
@@ -84,6 +84,17 @@ module _ {X : Type 0} {n t : ℕ} {ps : List (Option X)} (ys xs : List X) (from 
   LaidOut-behind x =
       let put : LaidOut n t ((ys ++ xs) ++ x ∷ []) (set ps place (Some x)) = subst (λ p. LaidOut n t ((ys ++ xs) ++ x ∷ []) (set ps p (Some x))) behind (LaidOut-put_back l x (omega (arith, length-append ys xs))) in
       subst (λ zs. LaidOut n t zs (set ps place (Some x))) (append_assoc ys xs (x ∷ [])) put
+
+-- the first k of xs came behind the items of a list that begins at the first place, and the next goes into the place behind
+module _ {X : Type 0} {r : Inside X} (v : RingState X) (xs : List X) (k : ℕ) (o : Opened r (filled_back (take k xs) v)) (first : v.start ≡ 0) (some : k < length xs) (room : length v.items + length xs ≤ v.capacity) where
+  many : (length (take k xs) ≡ k) × (r.len ≡ length v.items + length (take k xs))
+  many = let l = length-take-le k xs (omega arith) in (l, omega (arith, o.len, length-append v.items (take k xs)))
+
+  pub next_empty : IsEmpty r.slots.places r.len
+  next_empty = IsEmpty-behind v.items (take k xs) (length v.items) r.len many.1 (omega (arith, many)) (omega (arith, many)) (inl (omega (arith, o.start, first))) o.laid
+
+  pub next_put : {slots : Region X} (x d : X) → x ≡ get_or xs k d → slots.places ≡ set r.slots.places r.len (Some x) → slots.steps ≡ more_puts 1 r.slots.steps → Opened record r { slots = slots; len = r.len + 1 } (filled_back (take (k + 1) xs) v)
+  next_put x d is puts steps = rw (take_more xs k d some, ← is) (back_more v (take k xs) x steps refl o (rw puts (LaidOut-behind v.items (take k xs) (length v.items) r.len many.1 (omega (arith, many)) (omega (arith, many)) (inl (omega (arith, o.start, first))) o.laid x)))
 
 -- a place is that of the first item, or the region's end in its stead
 abbrev pub MayEndAt : ℕ → ℕ → ℕ → Type 0

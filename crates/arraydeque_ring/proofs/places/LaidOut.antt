@@ -74,9 +74,6 @@ module _ {X : Type 0} {n t : ℕ} {xs : List X} {ps : List (Option X)} (l : Laid
   pub IsFilledRun-rotated : (i len : ℕ) → i + len ≤ length xs → IsFilledRun (rotated t ps) i len
   IsFilledRun-rotated i len le = (omega (arith, l.long, length-rotated t ps, length_within), (take len (drop i xs), HoldsRun-rotated i len le))
 
-  pub values-run : (i len : ℕ) → i + len ≤ length xs → values (take len (drop i (rotated t ps))) ≡ take len (drop i xs)
-  values-run i len le = ap values (HoldsRun-rotated i len le) ∙ values-map_Some (take len (drop i xs))
-
   -- they stand from the place p on
   HoldsRun-LaidOut : (i p len : ℕ) → MayStartAt t i n p → i + len ≤ length xs → p + len ≤ n → HoldsRun ps p len (take len (drop i xs))
   HoldsRun-LaidOut i p len at within fits =

@@ -1,5 +1,6 @@
-//! The items once more: a second ring of clones or copies, and a vector.
-ghost use Rattle.std.specs.Prelude.{◌≡◌, ◌⊎◌, ◌*◌, ◌+◌, ◌<◌, ◌≤◌, ◌++◌, length, Any, IfOk, IfErr, OnOk, OnErr};
+//! The items once more: a second ring of clones or copies, a ring of a vector's items, and a vector
+//! of a ring's.
+ghost use Rattle.std.specs.Prelude.{◌≡◌, ◌⊎◌, ◌*◌, ◌+◌, ◌<◌, ◌≤◌, ◌++◌, length, take, Any, IfOk, IfErr, OnOk, OnErr};
 ghost use Rattle.std.specs.Mem.{type_size};
 ghost use Rattle.arraydeque_ring.specs.Cloned.{ClonesAreSame};
 ghost use Rattle.arraydeque_ring.specs.Steps.{no_steps, more_puts};
@@ -33,6 +34,39 @@ impl<T> Ring<T> {
             slots,
             start: 0,
             len: place,
+            alloc,
+        })
+    }
+
+    /// A ring of the items of a vector, in order from the first place on, as many as there are
+    /// places for. The others are dropped, front to back. It is refused where its region is; then
+    /// the vector comes back as it was.
+    pub fn of_vec(alloc: Global, capacity: usize, v: Vec<T>) -> Result<Ring<T>, Vec<T>>
+    where
+        T: Drop,
+        ensures ok { IfOk result (λ ring. ring ≡ record {
+          items = take capacity v.items;
+          capacity = capacity;
+          start = 0;
+          steps = more_puts (length (take capacity v.items)) no_steps;
+        }) }
+        ensures source { IfErr result (λ w. w ≡ v) }
+        ensures refused { OnErr result (0 < capacity * type_size T.row) }
+    {
+        let mut slots = match Slots::new(alloc, capacity) {
+            Ok(slots) => slots,
+            Err(_) => return Err(v),
+        };
+        let mut rest = v;
+        rest.truncate(capacity);
+        let len = rest.len();
+        while let Some(item) = rest.pop() {
+            slots.put(rest.len(), item);
+        }
+        Ok(Ring {
+            slots,
+            start: 0,
+            len,
             alloc,
         })
     }

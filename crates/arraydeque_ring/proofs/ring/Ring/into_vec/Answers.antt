@@ -1,20 +1,24 @@
-use Rattle.std.proofs.{Common.{◌≡◌, ℕ, ◌+◌, ◌-◌, ◌<◌, ◌≤◌, List, [], ◌∷◌, ◌++◌, length, take, set, slice_get, nat_lt, if◌then◌else◌, Option, Some, None, inl, inr, refl, subst, sym, ap, ap₂, ◌∙◌, arith}, Math.Nat.{mod-eq_of_lt}, lemmas.{Bool.Decides.nat_tests, Grind.common_steps, List.{take_all, take_more}, Option.{get_or_from_slice_get, slice_get_past}}}
-use Rattle.arraydeque_ring.{specs.{Places.{held_at, IsFilled}, Ring.place_of}, proofs.places.{Holds.{Holds, Holds-same, Holds-set}, Items.slice_get_some, LaidOut.{holds, length_within, LaidOut-by, AreAllEmpty-LaidOut}, Opened.opened, Rotated.place_of_cases}}
+use Rattle.std.{proofs.{Common.{◌≡◌, ℕ, ◌+◌, ◌-◌, ◌<◌, ◌≤◌, List, [], ◌∷◌, ◌++◌, length, set, slice_get, nat_lt, if◌then◌else◌, Option, Some, None, Vec, Global, vec_len, inl, inr, refl, subst, sym, ap, ap₂, ◌∙◌, arith}, Math.Nat.{mod-eq_of_lt}, lemmas.{Bool.Decides.nat_tests, Grind.common_steps, List.{take_all, take_more}, Option.{get_or_from_slice_get, slice_get_past}}}, specs.Vec.vec_capacity}
+use Rattle.arraydeque_ring.{specs.{declared.ring.Ring.TheInside.Inside, Places.{held_at, IsFilled}, Ring.{RingState, place_of}}, proofs.{places.{Holds.{Holds, Holds-same, Holds-set}, Items.slice_get_some, LaidOut.{holds, length_within, LaidOut-by, AreAllEmpty-LaidOut}, Opened.{Opened, opened}, Rotated.place_of_cases}, ring.Ring.into_vec.Invariants.AreOut}}
 use Rattle.arraydeque_ring.proofs.ring.Ring.into_vec.Goals as goal
 
 -- k are out, and the next is `place`
-module _ {X : Type 0} {ps : List (Option X)} (n t : ℕ) (xs : List X) (k place : ℕ) (lt : k < length xs) (fits : length xs ≤ n) (here : place_of t k n ≡ place) (h : Holds n t (λ j. if nat_lt j k then None else slice_get xs j) ps) where
-  held_next : held_at ps place ≡ slice_get xs k
-  held_next = ap (held_at ps) (sym here) ∙ h.at k (omega arith) ∙ grind (arith, nat_tests)
+module _ {X : Type 0} {r : Inside X} {old : RingState X} (ring : Opened r old) (k place : ℕ) (v : Vec X Global) {ps : List (Option X)} (was : AreOut old k v ps) (lt : k < r.len) (here : place_of old.start k old.capacity ≡ place) where
+  within : (k < length old.items) × (length old.items ≤ old.capacity)
+  within = (omega (arith, ring.len), ring.laid.within)
+
+  held_next : held_at ps place ≡ slice_get old.items k
+  held_next = ap (held_at ps) (sym here) ∙ was.out.at k (omega (arith, within)) ∙ grind (arith, nat_tests)
 
   next_filled : IsFilled ps place
-  next_filled = let some = slice_get_some xs k lt in (some.0, held_next ∙ some.1)
+  next_filled = let some = slice_get_some old.items k within.0 in (some.0, held_next ∙ some.1)
 
-  next_out : Holds n t (λ j. if nat_lt j (k + 1) then None else slice_get xs j) (set ps place None)
-  next_out = subst (λ p. Holds n t (λ j. if nat_lt j (k + 1) then None else slice_get xs j) (set ps p None)) here (Holds-set h k None (omega arith) (grind (arith, nat_tests)) (λ i i_in other. grind (arith, nat_tests)))
-
-  next_item : (x : X) (v : List X) → held_at ps place ≡ Some x → v ≡ take k xs → v ++ x ∷ [] ≡ take (k + 1) xs
-  next_item x v held so_far = ap₂ (λ l y. l ++ y ∷ []) so_far (sym (get_or_from_slice_get xs k x x (sym held_next ∙ held))) ∙ sym (take_more xs k x lt)
+  next_out : (w : Vec X Global) {qs : List (Option X)} (x : X) → held_at ps place ≡ Some x → qs ≡ set ps place None → w.items ≡ v.items ++ x ∷ [] → vec_len w ≡ vec_len v + 1 → vec_capacity w ≡ vec_capacity v → AreOut old (k + 1) w qs
+  next_out w x held taken pushed len capacity = record {
+    room = omega (arith, was.room, within, len, capacity);
+    items = pushed ∙ ap₂ (λ l y. l ++ y ∷ []) was.items (sym (get_or_from_slice_get old.items k x x (sym held_next ∙ held))) ∙ sym (take_more old.items k x within.0);
+    out = rw (taken, ← here) (Holds-set was.out k None (omega (arith, within)) (grind (arith, nat_tests)) (λ i i_in other. grind (arith, nat_tests)));
+  }
 
 -- the next place, before the region's end and past it
 before_end : (t s k n : ℕ) → s ≡ t → s + k < n → place_of t k n ≡ s + k
@@ -31,32 +35,22 @@ loop-k-init g c =
 pub take-requires : goal.take-requires
 take-requires g c =
     let ring = opened c.self.inside c.self.invariant c.self.view_is in
-    next_filled c.args.self.capacity c.args.self.start c.args.self.items c.loop-k.k (c.self.inside.start + c.loop-k.k) (omega (arith, ring.len)) ring.laid.within (before_end c.args.self.start c.self.inside.start c.loop-k.k c.args.self.capacity ring.start (omega (arith, ring.laid.long, ring.laid.in_region, c.capacity.ensures, c.min-first.ensures))) c.loop-k.invariant.out
+    next_filled ring c.loop-k.k _ c.loop-k.v c.loop-k.invariant (omega arith) (before_end c.args.self.start c.self.inside.start c.loop-k.k c.args.self.capacity ring.start (omega (arith, ring.laid.long, ring.laid.in_region, c.capacity.ensures, c.min-first.ensures)))
 
 pub loop-k-preserved : goal.loop-k-preserved
 loop-k-preserved g c =
-    let ring = opened c.self.inside c.self.invariant c.self.view_is in
-    let was = c.loop-k.invariant in
-    record {
-      room = omega (arith, was.room, ring.len, c.push_reserved.ensures.len, c.push_reserved.ensures.capacity);
-      items = c.push_reserved.ensures.items ∙ next_item c.args.self.capacity c.args.self.start c.args.self.items c.loop-k.k (c.self.inside.start + c.loop-k.k) (omega (arith, ring.len)) ring.laid.within (before_end c.args.self.start c.self.inside.start c.loop-k.k c.args.self.capacity ring.start (omega (arith, ring.laid.long, ring.laid.in_region, c.capacity.ensures, c.min-first.ensures))) c.loop-k.invariant.out c.take.result c.loop-k.v.items c.take.ensures.value was.items;
-      out = rw c.take.ensures.places (next_out c.args.self.capacity c.args.self.start c.args.self.items c.loop-k.k (c.self.inside.start + c.loop-k.k) (omega (arith, ring.len)) ring.laid.within (before_end c.args.self.start c.self.inside.start c.loop-k.k c.args.self.capacity ring.start (omega (arith, ring.laid.long, ring.laid.in_region, c.capacity.ensures, c.min-first.ensures))) c.loop-k.invariant.out);
-    }
+    let ring = opened c.self.inside c.self.invariant c.self.view_is in let pushed = c.push_reserved.ensures in
+    next_out ring c.loop-k.k _ c.loop-k.v c.loop-k.invariant (omega arith) (before_end c.args.self.start c.self.inside.start c.loop-k.k c.args.self.capacity ring.start (omega (arith, ring.laid.long, ring.laid.in_region, c.capacity.ensures, c.min-first.ensures))) c.push_reserved.new.self _ c.take.ensures.value c.take.ensures.places pushed.items pushed.len pushed.capacity
 
 pub take-requires-in-loop-k-2 : goal.take-requires-in-loop-k-2
 take-requires-in-loop-k-2 g c =
     let ring = opened c.self.inside c.self.invariant c.self.view_is in
-    next_filled c.args.self.capacity c.args.self.start c.args.self.items c.loop-k-2.k (c.loop-k-2.k - c.min-first.result) (omega (arith, ring.len)) ring.laid.within (past_end c.args.self.start c.self.inside.start c.min-first.result c.loop-k-2.k c.args.self.capacity ring.start (omega (arith, ring.laid.in_region, ring.start)) (omega (arith, ring.laid.long, ring.len, length_within ring.laid, c.capacity.ensures, c.min-first.ensures)) (omega arith) (omega (arith, ring.len, length_within ring.laid))) c.loop-k-2.invariant.out
+    next_filled ring c.loop-k-2.k _ c.loop-k-2.v c.loop-k-2.invariant (omega arith) (past_end c.args.self.start c.self.inside.start c.min-first.result c.loop-k-2.k c.args.self.capacity ring.start (omega (arith, ring.laid.in_region, ring.start)) (omega (arith, ring.laid.long, ring.len, length_within ring.laid, c.capacity.ensures, c.min-first.ensures)) (omega arith) (omega (arith, ring.len, length_within ring.laid)))
 
 pub loop-k-2-preserved : goal.loop-k-2-preserved
 loop-k-2-preserved g c =
-    let ring = opened c.self.inside c.self.invariant c.self.view_is in
-    let was = c.loop-k-2.invariant in
-    record {
-      room = omega (arith, was.room, ring.len, c.push_reserved-in-loop-k-2.ensures.len, c.push_reserved-in-loop-k-2.ensures.capacity);
-      items = c.push_reserved-in-loop-k-2.ensures.items ∙ next_item c.args.self.capacity c.args.self.start c.args.self.items c.loop-k-2.k (c.loop-k-2.k - c.min-first.result) (omega (arith, ring.len)) ring.laid.within (past_end c.args.self.start c.self.inside.start c.min-first.result c.loop-k-2.k c.args.self.capacity ring.start (omega (arith, ring.laid.in_region, ring.start)) (omega (arith, ring.laid.long, ring.len, length_within ring.laid, c.capacity.ensures, c.min-first.ensures)) (omega arith) (omega (arith, ring.len, length_within ring.laid))) c.loop-k-2.invariant.out c.take-in-loop-k-2.result c.loop-k-2.v.items c.take-in-loop-k-2.ensures.value was.items;
-      out = rw c.take-in-loop-k-2.ensures.places (next_out c.args.self.capacity c.args.self.start c.args.self.items c.loop-k-2.k (c.loop-k-2.k - c.min-first.result) (omega (arith, ring.len)) ring.laid.within (past_end c.args.self.start c.self.inside.start c.min-first.result c.loop-k-2.k c.args.self.capacity ring.start (omega (arith, ring.laid.in_region, ring.start)) (omega (arith, ring.laid.long, ring.len, length_within ring.laid, c.capacity.ensures, c.min-first.ensures)) (omega arith) (omega (arith, ring.len, length_within ring.laid))) c.loop-k-2.invariant.out);
-    }
+    let ring = opened c.self.inside c.self.invariant c.self.view_is in let taken = c.take-in-loop-k-2.ensures in let pushed = c.push_reserved-in-loop-k-2.ensures in
+    next_out ring c.loop-k-2.k _ c.loop-k-2.v c.loop-k-2.invariant (omega arith) (past_end c.args.self.start c.self.inside.start c.min-first.result c.loop-k-2.k c.args.self.capacity ring.start (omega (arith, ring.laid.in_region, ring.start)) (omega (arith, ring.laid.long, ring.len, length_within ring.laid, c.capacity.ensures, c.min-first.ensures)) (omega arith) (omega (arith, ring.len, length_within ring.laid))) c.push_reserved-in-loop-k-2.new.self _ taken.value taken.places pushed.items pushed.len pushed.capacity
 
 pub drop-slots-requires : goal.drop-slots-requires
 drop-slots-requires g c =

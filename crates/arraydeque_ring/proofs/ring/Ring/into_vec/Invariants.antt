@@ -1,17 +1,17 @@
-use Rattle.std.{proofs.Common.{◌≡◌, ◌+◌, ◌-◌, ◌≤◌, length, take, slice_get, nat_lt, if◌then◌else◌, None, vec_len}, specs.Vec.vec_capacity}
-use Rattle.arraydeque_ring.proofs.places.Holds.{Holds}
+use Rattle.std.{proofs.Common.{◌≡◌, ℕ, ◌+◌, ◌-◌, ◌≤◌, List, length, take, slice_get, nat_lt, if◌then◌else◌, Option, None, Vec, Global, vec_len}, specs.Vec.vec_capacity}
+use Rattle.arraydeque_ring.{specs.Ring.RingState, proofs.places.Holds.{Holds}}
 use Rattle.arraydeque_ring.proofs.ring.Ring.into_vec.Given as goal
 
-abbrev pub invariant-loop-k : goal.invariant-loop-k
-invariant-loop-k g l = let old = l.fn.self in record {
-  room : vec_len l.v + (length old.items - l.k) ≤ vec_capacity l.v;
-  items : l.v.items ≡ take l.k old.items;
-  out : Holds old.capacity old.start (λ j. if nat_lt j l.k then None else slice_get old.items j) l.slots.places;
+-- the first k items of a ring are out of its places and in a vector, which has room for the others
+abbrev pub AreOut : {X : Type 0} → RingState X → ℕ → Vec X Global → List (Option X) → Type 0
+AreOut old k v ps = record {
+  room : vec_len v + (length old.items - k) ≤ vec_capacity v;
+  items : v.items ≡ take k old.items;
+  out : Holds old.capacity old.start (λ j. if nat_lt j k then None else slice_get old.items j) ps;
 }
 
+abbrev pub invariant-loop-k : goal.invariant-loop-k
+invariant-loop-k g l = AreOut l.fn.self l.k l.v l.slots.places
+
 abbrev pub invariant-loop-k-2 : goal.invariant-loop-k-2
-invariant-loop-k-2 g l = let old = l.fn.self in record {
-  room : vec_len l.v + (length old.items - l.k) ≤ vec_capacity l.v;
-  items : l.v.items ≡ take l.k old.items;
-  out : Holds old.capacity old.start (λ j. if nat_lt j l.k then None else slice_get old.items j) l.slots.places;
-}
+invariant-loop-k-2 g l = AreOut l.fn.self l.k l.v l.slots.places

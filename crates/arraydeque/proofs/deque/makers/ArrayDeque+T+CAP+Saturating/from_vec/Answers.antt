@@ -1,6 +1,12 @@
-use Rattle.std.{proofs.lemmas.Result.{IfOk-weaker}, specs.Vec.Iter.into_iter_items}
-use Rattle.arraydeque.proofs.Taken.{TakesFrom-list}
+use Rattle.std.proofs.{Common.{ap, ◌∙◌, arith, length}, lemmas.List.length-take}
+use Rattle.arraydeque_ring.specs.Ring.{RingState}
+use Rattle.arraydeque.proofs.Pushed.{of_ring}
 use Rattle.arraydeque.proofs.deque.makers.ArrayDeque+T+CAP+Saturating.from_vec.Goals as goal
 
-pub returns-clause-items : goal.returns-clause-items
-returns-clause-items g c = IfOk-weaker c.from_iter.result _ _ (λ deque made. TakesFrom-list _ _ _ _ c.args.v.items into_iter_items g.row.CAP made (λ it became. (became.0, became.3))) c.from_iter.ensures.items
+pub of-requires : goal.of-requires
+of-requires g c =
+    let made = c.in-Ok.ensures.ok in
+    (omega arith, (ap (λ (ring : RingState g.row.T.Denot). ring.capacity) made, omega (arith, ap (λ (ring : RingState g.row.T.Denot). length ring.items) made, length-take g.row.CAP c.args.v.items)))
+
+pub returns-in-Ok-clause-items : goal.returns-in-Ok-clause-items
+returns-in-Ok-clause-items g c = ap of_ring (c.of.ensures ∙ c.in-Ok.ensures.ok)
