@@ -178,16 +178,6 @@ impl<T> Slots<T> {
         self.lend(place)
     }
 
-    /// The values in the `len` places from the place `from` on, in order. An empty run may start at
-    /// the capacity.
-    #[inline]
-    pub fn slice(&self, from: usize, len: usize) -> &[T]
-        requires { IsFilledRun self.now.places from len }
-        ensures { HoldsRun self.now.places from len result.now }
-    {
-        self.run(from, len)
-    }
-
     /// Counts steps of a kind. It does nothing at run time.
     fn count(&mut self, kind: StepKind, times: usize)
         ensures { self.new ≡ record self.old { steps = counted kind times self.old.steps } }

@@ -83,9 +83,10 @@ impl<T> Slots<T> {
         unsafe { &mut *self.ptr.add(place) }
     }
 
-    /// Lends a run of places for reading.
+    /// The values in the `len` places from the place `from` on, in order. An empty run may start at
+    /// the capacity.
     #[inline]
-    pub(super) fn run(&self, from: usize, len: usize) -> &[T]
+    pub fn slice(&self, from: usize, len: usize) -> &[T]
         requires { IsFilledRun self.now.places from len }
         ensures { HoldsRun self.now.places from len result.now }
     {

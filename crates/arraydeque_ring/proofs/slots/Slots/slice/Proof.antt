@@ -1,12 +1,12 @@
 -- `slice` lends the values of a filled run. Assumes `Logic`.
 use Rattle.arraydeque_ring.proofs.{memory.{Kit.{refl, sym, ap, List, [], ◌∷◌, ℕ, ◌+◌, ◌*◌, ◌<◌, ◌^◌, arith, length, ftrue, flft, Fn, inst_fn, named, w64, Val, vint, vptr, Env, ◌⊑◌, fact, tables, owns, types_at, ‵, raw, ◌⊛◌, at_ret, ◌$◌, ◌∵◌, !, qed, move, keep, use1, drop, split, join, fsplit, fjoin, feq_i, flt_i, suffices, done, agg, enter, of_opd, bin, load, look, stop, fld, no_more, and_then, first, blocks, exec, returns, alloc_all, pass_all, free_all, look_at, get, through, sets, sets_last, env, yes, plain, usize, RefOf, uint_vals, uint_Tells, shr_vals, shr_Tells, Stays, walk_of, says, stay_dropped, Goes-dropped, ends_at, nothing, heard, after, El, R, args, el_x, times_below, proved, slice_val, elements_shared, ◌∙◌, looks, shuts, RawPtr, Ptr, ptr_val, ty_ptr, feq_l, rewrite, cell_at}, Lent.slots_seen, Regions.{Sr, Seen, scaled, item_size, run_seen, IsFilledRun}}, places.Held.length_filled}
 use denote.{Copied.plain_Copied, Opens.hide, RawPtr.{coded_ptr, ptr_own, rawptr_pure}, Struct.Laws.{RawPtr-laws}}
-use Rattle.arraydeque_ring.specs.contracts.slots.Slots.run as f
-use Rattle.arraydeque_ring.proofs.slots.Slots.run.Statement as stated
-use Rattle.arraydeque_ring.proofs.slots.Slots.run.Code as code
+use Rattle.arraydeque_ring.specs.contracts.slots.Slots.slice as f
+use Rattle.arraydeque_ring.proofs.slots.Slots.slice.Statement as stated
+use Rattle.arraydeque_ring.proofs.slots.Slots.slice.Code as code
 
-pub run_spec : {M : Type 1} → stated.statement M
-run_spec 𝓤 𝓛 𝓜 𝓡 wired X L =
+pub slice_spec : {M : Type 1} → stated.statement M
+slice_spec 𝓤 𝓛 𝓜 𝓡 wired X L =
     let E : El = record { row = X; laws = L } in let here : Fn = inst_fn (args E) code.function in
     let ended = f.ended X in let stayed : Stays ended.signature.params ended.kept = (stay_dropped (RefOf (0 ∷ []) tt (plain (λ _. Sr E)) (λ _. tt)) yes, (stay_dropped (plain (λ _. usize)) yes, (stay_dropped (plain (λ _. usize)) yes, tt))) in
     let c = f.clauses X 𝓛 𝓜.mem 𝓡.returns in let W = walk_of 𝓛 ended stayed c in let 𝓣 = tables 𝓤 𝓛.H 𝓜 𝓡 𝓡.env in
