@@ -10,7 +10,7 @@ pub(crate) fn wrap_add(place: usize, offset: usize, capacity: usize) -> usize
     ensures { result ≡ (place + offset) % capacity }
 {
     if capacity & (capacity - 1) == 0 {
-        return (place + offset) % capacity;
+        return (place + offset) & (capacity - 1);
     }
     let to_end = capacity - place;
     if offset < to_end {
@@ -29,7 +29,7 @@ pub(crate) fn wrap_add_branchless(place: usize, offset: usize, capacity: usize) 
     ensures { result ≡ (place + offset) % capacity }
 {
     if capacity & (capacity - 1) == 0 {
-        return (place + offset) % capacity;
+        return (place + offset) & (capacity - 1);
     }
     let past = if offset < capacity - place {
         0
