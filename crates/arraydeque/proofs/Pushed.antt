@@ -1,6 +1,6 @@
 -- What pushes leave, one and many.
-use Rattle.std.proofs.{Common.{◌≡◌, ◌<◌, ◌≤◌, ℕ, ◌+◌, ◌-◌, List, [], ◌∷◌, ◌++◌, length, take, drop, reverse, nat_lt, if◌then◌else◌, refl, sym, ap, ap₂, ◌∙◌, arith, inl, inr}, lemmas.{Bool.{cases_lt, lt-ltb, le-ltb}, List.{append_assoc, append-nil, reverse-append, length-append, length-drop, length-reverse, take_all, nil_from_length}}}
-use Rattle.arraydeque_ring.{specs.{Ring.{RingState, place_of, up_by, down_by}, Steps.{more_puts, more_takes}}, proofs.fills.{Displaced.{displaced_first, displaced_last}, InRows.{down_by-both}}}
+use Rattle.std.proofs.{Common.{◌≡◌, ◌<◌, ◌≤◌, ℕ, ◌+◌, ◌-◌, List, [], ◌∷◌, ◌++◌, length, take, drop, reverse, nat_lt, if◌then◌else◌, refl, sym, ap, ap₂, ◌∙◌, arith, inl, inr}, lemmas.{Bool.{cases_lt, lt-ltb, le-ltb}, List.{append_assoc, append-nil, length-append, length-drop, length-reverse, take_all, nil_from_length}}}
+use Rattle.arraydeque_ring.{specs.{Ring.{RingState, place_of, up_by, down_by}, Steps.{more_puts, more_takes}}, proofs.fills.{Displaced.{displaced_first, displaced_last}, InRows.{all_before, down_by-all}}}
 use Rattle.arraydeque.{specs.Deque.{DequeState, keep_last, with_back, with_front, wrapped_back, wrapped_front, WrapsBack}, proofs.KeepLast.{keep_last-all}}
 
 -- what is seen of a deque over a ring
@@ -80,8 +80,8 @@ module _ {X : Type 0} (n : ℕ) (old mid : DequeState X) (xs : List X) (within :
         let first = here ∙ same in
         let total : length (reverse xs ++ old.items) + length ys ≡ length old.items + length (xs ++ ys) = omega (arith, length-append (reverse xs) old.items, length-reverse xs, length-append xs ys) in
         let puts : old.steps.puts + length xs + length ys ≡ old.steps.puts + length (xs ++ ys) = omega (arith, length-append xs ys) in
-        let items = ap (take n) (sym (append_assoc (reverse ys) (reverse xs) old.items) ∙ ap (λ l. l ++ old.items) (sym (reverse-append xs ys))) in
-        let start = down_by-both (length xs) (length ys) old.start n ∙ ap (λ k. down_by k old.start n) (sym (length-append xs ys)) in
+        let items = ap (take n) (all_before xs ys old.items) in
+        let start = down_by-all xs ys old.start n in
         let both : wrapped_front n ys (with_front n xs old) ≡ wrapped_front n (xs ++ ys) old =
         λ i. record { items = items i; start = start i; steps = record old.steps { puts = puts i; takes = old.steps.takes + (total i - n) } } in (
           ap (λ (d : DequeState X). d.items) there ∙ wraps.0 ∙ ap (λ (d : DequeState X). take n (reverse ys ++ d.items)) first ∙ items,

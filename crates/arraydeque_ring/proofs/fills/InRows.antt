@@ -1,27 +1,18 @@
 -- Items that come one by one behind the last item or before the first, into places in a row.
-use Rattle.std.proofs.{Common.{◌≡◌, ℕ, zero, suc, ◌+◌, ◌-◌, ◌*◌, ◌<◌, ◌≤◌, ◌⊎◌, inl, inr, List, [], ◌∷◌, ◌++◌, length, take, reverse, set, get_or, Option, Some, if◌then◌else◌, refl, sym, ap, ◌∙◌, subst, arith}, lemmas.{Bool.{lt-ltb}, List.{append_assoc, append-nil, length-append, length-reverse, length-take-le, reverse-append, take_more}}}
-use native.Mathlib.Nat.{suc-mul}
+use Rattle.std.proofs.{Common.{◌≡◌, ℕ, ◌+◌, ◌-◌, ◌*◌, ◌<◌, ◌≤◌, ◌⊎◌, inl, inr, List, [], ◌∷◌, ◌++◌, length, take, reverse, set, get_or, Option, Some, refl, sym, ap, ◌∙◌, subst, arith}, lemmas.{Bool.Decides.nat_tests, List.{append_assoc, append-nil, length-append, length-reverse, length-take-le, reverse-append, take_more}}}
 use Rattle.arraydeque_ring.{specs.{declared.ring.Ring.TheInside.Inside, Places.{Region, IsEmpty}, Ring.{RingState, place_of, down_by}, Steps.{Steps, more_puts}}, proofs.{moved.Sources.{place_of-sum}, places.{LaidOut.{LaidOut, IsEmpty-place_of, LaidOut-put_back}, Opened.{Opened, by_field, with_len, put_front}, Rotated.{MayStartAt, place_of_cases, place_of-run}}}}
 
--- to go down by k places and then by one is to go down by one more
-down_by-one : (k s n : ℕ) → place_of (down_by k s n) (n - 1) n ≡ down_by (suc k) s n
-down_by-one zero s n = ap (λ m. place_of s m n) (omega arith)
-down_by-one (suc k) s n =
-    let back : (j : ℕ) → down_by (suc j) s n ≡ place_of s (suc j * (n - 1)) n = λ j. ap (λ b. if b then place_of s (suc j * (n - 1)) n else s) (lt-ltb 0 (suc j) (omega arith)) in
-    ap (λ t. place_of t (n - 1) n) (back k) ∙ place_of-sum s (suc k * (n - 1)) (n - 1) n ∙ ap (λ m. place_of s m n) (omega (arith, suc-mul (suc k) (n - 1))) ∙ sym (back (suc k))
-
 -- to go down by j places and then by k is to go down by both
-pub down_by-both : (j k s n : ℕ) → down_by k (down_by j s n) n ≡ down_by (j + k) s n
-down_by-both j zero s n = ap (λ m. down_by m s n) (omega arith)
-down_by-both j (suc k) s n = sym (down_by-one k (down_by j s n) n) ∙ ap (λ t. place_of t (n - 1) n) (down_by-both j k s n) ∙ down_by-one (j + k) s n ∙ ap (λ m. down_by m s n) (omega arith)
+down_by-both : (j k s n : ℕ) → down_by k (down_by j s n) n ≡ down_by (j + k) s n
+down_by-both j k s n = grind (arith, nat_tests, place_of-sum s (j * (n - 1)) (k * (n - 1)) n)
 
-module _ {X : Type 0} (xs : List X) (x : X) where
-  pub down_by-push : (s n : ℕ) → place_of (down_by (length xs) s n) (n - 1) n ≡ down_by (length (xs ++ x ∷ [])) s n
-  down_by-push s n = down_by-one (length xs) s n ∙ ap (λ k. down_by k s n) (omega (arith, length-append xs (x ∷ [])))
+module _ {X : Type 0} (xs ys : List X) where
+  pub down_by-all : (s n : ℕ) → down_by (length ys) (down_by (length xs) s n) n ≡ down_by (length (xs ++ ys)) s n
+  down_by-all s n = down_by-both (length xs) (length ys) s n ∙ ap (λ k. down_by k s n) (sym (length-append xs ys))
 
-  -- an item that goes in before those that went in last
-  pub one_before : (ys : List X) → x ∷ (reverse xs ++ ys) ≡ reverse (xs ++ x ∷ []) ++ ys
-  one_before ys = ap (λ l. l ++ ys) (sym (reverse-append xs (x ∷ [])))
+  -- those that went in last stand first
+  pub all_before : (zs : List X) → reverse ys ++ (reverse xs ++ zs) ≡ reverse (xs ++ ys) ++ zs
+  all_before zs = sym (append_assoc (reverse ys) (reverse xs) zs) ∙ ap (λ l. l ++ zs) (sym (reverse-append xs ys))
 
 -- puts that are counted in two parts
 more_twice : {X : Type 0} (xs ys : List X) (s : Steps) → more_puts (length ys) (more_puts (length xs) s) ≡ more_puts (length (xs ++ ys)) s
@@ -45,8 +36,8 @@ module _ {X : Type 0} where
 
   pub filled_front-both : (xs ys : List X) (v : RingState X) → filled_front ys (filled_front xs v) ≡ filled_front (xs ++ ys) v
   filled_front-both xs ys v = λ i. record v {
-    items = (sym (append_assoc (reverse ys) (reverse xs) v.items) ∙ ap (λ l. l ++ v.items) (sym (reverse-append xs ys))) i;
-    start = (down_by-both (length xs) (length ys) v.start v.capacity ∙ ap (λ k. down_by k v.start v.capacity) (sym (length-append xs ys))) i;
+    items = all_before xs ys v.items i;
+    start = down_by-all xs ys v.start v.capacity i;
     steps = more_twice xs ys v.steps i;
   }
 
@@ -69,7 +60,9 @@ module _ {X : Type 0} where
 
     pub front_more : Opened r (filled_front xs v) → {place : ℕ} → slots.places ≡ set r.slots.places place (Some x) → length (reverse xs ++ v.items) < v.capacity → place ≡ place_of (down_by (length xs) v.start v.capacity) (v.capacity - 1) v.capacity
         → Opened record r { slots = slots; start = place; len = n } (filled_front (xs ++ x ∷ []) v)
-    front_more o {place = place} puts room is = subst (Opened record r { slots = slots; start = place; len = n }) (λ i. record v { items = one_before xs x v.items i; start = down_by-push xs x v.start v.capacity i; steps = more_twice xs (x ∷ []) v.steps i })
+    front_more o {place = place} puts room is =
+        let one = ap (λ k. place_of (down_by (length xs) v.start v.capacity) k v.capacity) (omega arith) ∙ down_by-all xs (x ∷ []) v.start v.capacity in
+        subst (Opened record r { slots = slots; start = place; len = n }) (λ i. record v { items = all_before xs (x ∷ []) v.items i; start = one i; steps = more_twice xs (x ∷ []) v.steps i })
         (with_len (put_front o x room is puts steps) many)
 
 -- xs came behind the items ys into the places from `from` on, and the next one is `place`

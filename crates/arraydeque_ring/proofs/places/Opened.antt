@@ -52,6 +52,10 @@ module _ {X : Type 0} where
 pub with_len : {X : Type 0} {r : Inside X} {v : RingState X} {n : ℕ} → Opened r v → r.len ≡ n → Opened record r { len = n } v
 with_len o e = record { laid = o.laid; len = o.len ∙ e; start = o.start; steps = o.steps }
 
+-- and the start
+pub with_start : {X : Type 0} {r : Inside X} {v : RingState X} {t : ℕ} → Opened r v → r.start ≡ t → Opened record r { start = t } v
+with_start {r = r} {v = v} o e = subst (λ t. Opened record r { start = t } v) e o
+
 -- what is put at an end of an open ring, or taken off there, is an item more, or less
 module _ {X : Type 0} {r : Inside X} {v : RingState X} (o : Opened r v) {slots : Region X} {place : ℕ} where
   pub put_back : (x : X) → length v.items < v.capacity → place ≡ place_of v.start r.len v.capacity → slots.places ≡ set r.slots.places place (Some x) → slots.steps ≡ more_puts 1 r.slots.steps

@@ -1,7 +1,7 @@
 //! The items of an iterator, put behind the last item or before the first, while there is room or
 //! in the places of others.
 ghost use Rattle.std.specs.Prelude.{◌≡◌, ◌-◌, ◌+◌, ◌<◌, ◌≤◌, ◌⊎◌, ◌∷◌, [], ◌++◌, length, take, drop, reverse, false};
-ghost use Rattle.std.specs.Iterator.{IsFinite, MakesProgress};
+ghost use Rattle.std.specs.Iterator.{IsFinite, MakesProgress, size};
 ghost use Rattle.arraydeque_ring.specs.Fills.{Fills, Ends};
 ghost use Rattle.arraydeque_ring.specs.Ring.{place_of, up_by, down_by};
 ghost use Rattle.arraydeque_ring.specs.Steps.{more_puts, more_takes};
@@ -85,9 +85,11 @@ impl<T> Ring<T> {
           steps = more_puts (length xs) (more_takes (length xs) self.old.steps);
         }) }
     {
+        let mut elements = elements;
         let mut ring = self.moved_out();
-        for element in elements {
-            drop(ring.replace_first(element));
+        let mut ended = false;
+        while !ended {
+            (ring, ended) = ring.displace_up(&mut elements);
         }
         self.move_in(ring);
     }
@@ -108,50 +110,116 @@ impl<T> Ring<T> {
           steps = more_puts (length xs) (more_takes (length xs) self.old.steps);
         }) }
     {
+        let mut elements = elements;
         let mut ring = self.moved_out();
-        for element in elements {
-            drop(ring.replace_last(element));
+        let mut ended = false;
+        while !ended {
+            (ring, ended) = ring.displace_down(&mut elements);
         }
         self.move_in(ring);
     }
 
-    /// Takes the first item off a ring that is full, and puts another in its place, so that it
-    /// stands behind the last one. The start goes up to the next place, and no kept item moves.
+    /// Puts what the iterator gives behind the last item of a full ring, each in the place of the
+    /// first item, which is dropped, as far as the region's end. Returns whether the iterator ended
+    /// before that.
     #[inline]
-    fn replace_first(&mut self, element: T) -> T
-        requires some { 0 < self.old.capacity }
-        requires full { length self.old.items ≡ self.old.capacity }
-        ensures { self.new ≡ record self.old {
-          items = drop 1 self.old.items ++ element ∷ [];
-          start = place_of self.old.start 1 self.old.capacity;
-          steps = more_puts 1 (more_takes 1 self.old.steps);
-        } }
+    fn displace_up<I: Iterator<Item = T>>(self, elements: &mut I) -> (Ring<T>, bool)
+    where
+        T: Drop,
+        requires some { 0 < self.capacity }
+        requires full { length self.items ≡ self.capacity }
+        requires may { I.can_next elements.old }
+        ensures filled { Fills I.next_gives elements.old elements.new (self.capacity - self.start)
+            result.1 (λ xs. result.0 ≡ record self {
+              items = drop (length xs) (self.items ++ xs);
+              start = up_by (length xs) self.start self.capacity;
+              steps = more_puts (length xs) (more_takes (length xs) self.steps);
+            }) }
+        ensures goes { result.1 ≡ false → I.can_next elements.new
+            × (IsFinite (I.remaining elements.old) → IsFinite (I.remaining elements.new)
+            × (size (I.remaining elements.new) < size (I.remaining elements.old))) }
     {
-        let next = wrap_add(self.start, 1, self.slots.capacity());
-        let first = self.slots.take(self.start);
-        self.slots.put(self.start, element);
-        self.start = next;
-        first
+        let Ring {
+            slots,
+            start,
+            len,
+            alloc,
+        } = self;
+        let mut slots = slots;
+        let capacity = slots.capacity();
+        let mut place = start;
+        let mut ended = false;
+        while place < capacity {
+            let Some(element) = ask(elements) else {
+                ended = true;
+                break;
+            };
+            let first = slots.take(place);
+            slots.put(place, element);
+            drop(first);
+            place += 1;
+        }
+        let start = wrap_add(start, place - start, capacity);
+        let ring = Ring {
+            slots,
+            start,
+            len,
+            alloc,
+        };
+        (ring, ended)
     }
 
-    /// Takes the last item off a ring that is full, and puts another in its place, so that it
-    /// stands before the first one. The start goes down to that place, and no kept item moves.
+    /// Puts what the iterator gives before the first item of a full ring, each in the place of the
+    /// last item, which is dropped, as far down as the first place. Returns whether the iterator
+    /// ended before that.
     #[inline]
-    fn replace_last(&mut self, element: T) -> T
-        requires some { 0 < self.old.capacity }
-        requires full { length self.old.items ≡ self.old.capacity }
-        ensures { self.new ≡ record self.old {
-          items = take self.old.capacity (element ∷ self.old.items);
-          start = place_of self.old.start (self.old.capacity - 1) self.old.capacity;
-          steps = more_puts 1 (more_takes 1 self.old.steps);
-        } }
+    fn displace_down<I: Iterator<Item = T>>(self, elements: &mut I) -> (Ring<T>, bool)
+    where
+        T: Drop,
+        requires some { 0 < self.capacity }
+        requires full { length self.items ≡ self.capacity }
+        requires may { I.can_next elements.old }
+        ensures filled { Fills I.next_gives elements.old elements.new
+            (place_of self.start (self.capacity - 1) self.capacity + 1)
+            result.1 (λ xs. result.0 ≡ record self {
+              items = take (length self.items) (reverse xs ++ self.items);
+              start = down_by (length xs) self.start self.capacity;
+              steps = more_puts (length xs) (more_takes (length xs) self.steps);
+            }) }
+        ensures goes { result.1 ≡ false → I.can_next elements.new
+            × (IsFinite (I.remaining elements.old) → IsFinite (I.remaining elements.new)
+            × (size (I.remaining elements.new) < size (I.remaining elements.old))) }
     {
-        let capacity = self.slots.capacity();
-        let before = wrap_add(self.start, capacity - 1, capacity);
-        let last = self.slots.take(before);
-        self.slots.put(before, element);
-        self.start = before;
-        last
+        let Ring {
+            slots,
+            start,
+            len,
+            alloc,
+        } = self;
+        let mut slots = slots;
+        let mut start = start;
+        let capacity = slots.capacity();
+        let from = wrap_add(start, capacity - 1, capacity) + 1;
+        let mut displaced = 0;
+        let mut ended = false;
+        while displaced < from {
+            let Some(element) = ask(elements) else {
+                ended = true;
+                break;
+            };
+            displaced += 1;
+            start = from - displaced;
+            let last = slots.take(start);
+            slots.put(start, element);
+            drop(last);
+        }
+        let ring = Ring {
+            slots,
+            start,
+            len,
+            alloc,
+        };
+        (ring, ended)
     }
 
     /// Puts what the iterator gives behind the last item, into the places from `from` up to `end`,

@@ -1,10 +1,12 @@
-use Rattle.std.proofs.Common.{◌≡◌}
-use Rattle.arraydeque_ring.proofs.fills.Displaced.{displaced_first}
+use Rattle.std.{proofs.Common.{◌≡◌, ℕ, suc, if◌then◌else◌, false}, specs.Iterator.{IsFinite, size}}
+use Rattle.arraydeque_ring.{specs.Fills.Fills, proofs.fills.Displaced.displaced_first}
 use Rattle.arraydeque_ring.proofs.ring.Ring.displace_first.Given as goal
 
-abbrev pub invariant-loop-element : goal.invariant-loop-element
-invariant-loop-element g l = record {
-  can_next : (goal.iterator-loop-element g).can_next l.element-iterator;
-  finite : (goal.iterator-loop-element g).is_finite l.element-iterator;
-  is : l.ring ≡ displaced_first l.yielded l.initial.ring;
+abbrev pub invariant-loop-ended : goal.invariant-loop-ended
+invariant-loop-ended g l = record {
+  so_far : (n : ℕ) × Fills g.I.Iterator.next_gives l.fn.elements l.elements n l.ended (λ xs. l.ring ≡ displaced_first xs l.initial.ring);
+  goes : l.ended ≡ false → g.I.Iterator.can_next l.elements × IsFinite (g.I.Iterator.remaining l.elements);
 }
+
+abbrev pub decreases-loop-ended : goal.decreases-loop-ended
+decreases-loop-ended g l = if l.ended then 0 else suc (size (g.I.Iterator.remaining l.elements))

@@ -1,26 +1,13 @@
-use Rattle.std.proofs.Common.{ap, ◌∙◌, rules}
-use Rattle.arraydeque_ring.proofs.fills.Displaced.{displaced_last, displaced_last-none, displaced_last-more}
+use Rattle.std.proofs.Common.{refl, ap, ◌∙◌}
+use Rattle.arraydeque_ring.proofs.fills.{Displaced.{displaced_last, displaced_last-none, displaced_last-both}, FromIterator.{Fills-none, Fills-both}}
 use Rattle.arraydeque_ring.proofs.ring.Ring.displace_last.Goals as goal
 
-pub loop-element-init-derived : goal.loop-element-init-derived
-loop-element-init-derived g c = rw c.into_iter-element-iterator.ensures.into_iter_gives (c.requires.may, c.requires.ends)
+pub loop-ended-init : goal.loop-ended-init
+loop-ended-init g c = record { so_far = (0, Fills-none _ _ _ _ refl (displaced_last-none c.moved_out-ring.result)); goes = λ _. (c.requires.may, c.requires.ends) }
 
-pub loop-element-init : goal.loop-element-init
-loop-element-init g c = let goes = loop-element-init-derived g c in record { can_next = goes.0; finite = goes.1; is = displaced_last-none c.moved_out-ring.result }
-
-pub loop-element-preserved : goal.loop-element-preserved
-loop-element-preserved g c =
-    let was = c.loop-element in let value = c.moved_out-ring.ensures.value in record {
-      can_next = search rules;
-      finite = search rules;
-      is = displaced_last-more c.moved_out-ring.result was.ring c.replace_last.new.self was.yielded c.in-Some.element (rw value c.requires.some) (rw value c.requires.full) was.invariant.is c.replace_last.ensures;
-    }
-
-pub returns : goal.returns
-returns g c =
-    let xs = c.loop-element.yielded in
-    record {
-      items = xs;
-      drains = (c.next.new.self, (c.loop-element.element-iterator, rw c.into_iter-element-iterator.ensures.into_iter_gives at c.loop-element.yielded_by, c.in-None.ensures.steps));
-      holds = c.move_in.ensures ∙ c.loop-element.invariant.is ∙ ap (displaced_last xs) c.moved_out-ring.ensures.value;
+pub loop-ended-preserved : goal.loop-ended-preserved
+loop-ended-preserved g c =
+    let was = c.loop-ended.invariant in let now = c.displace_down.ensures in record {
+      so_far = (_, Fills-both _ was.so_far.1 now.filled _ _ c.loop-ended-test.true refl (λ xs ys one two. two ∙ ap (displaced_last ys) one ∙ displaced_last-both xs ys c.moved_out-ring.result));
+      goes = λ more. let goes = now.goes more in (goes.0, (goes.1 (was.goes c.loop-ended-test.true).1).0);
     }
