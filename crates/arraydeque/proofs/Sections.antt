@@ -1,6 +1,6 @@
 -- Comparisons of lists that are cut into parts.
-use Rattle.std.{proofs.{Common.{◌≡◌, ℕ, ◌&&◌, Bool, true, false, List, [], ◌∷◌, ◌++◌, length, take, drop, Option, Some, None, refl, sym, ap, ap₂, ◌∙◌, arith}, lemmas.List.{length-take, take-append-drop}}, specs.{Cmp.Lexicographic.{pointwise, slice_cmp, slice_partial_cmp}, declared.cmp.Ordering.{Ordering, TheVariants.{Less, Equal, Greater}}, Ordering.{ordering_then, partial_ordering_then}}}
-use Rattle.arraydeque.specs.{Compared.{AreCutAlike, AreSectionsOf}, declared.deque.compare.Sections.Sections}
+use Rattle.std.{proofs.{Common.{◌≡◌, ℕ, ◌&&◌, Bool, true, false, List, [], ◌∷◌, ◌++◌, length, take, drop, Option, Some, None, refl, sym, ap, ap₂, ◌∙◌, arith}, lemmas.List.{append_assoc, take-append-drop}}, specs.{Cmp.Lexicographic.{pointwise, as_long, slice_cmp, slice_partial_cmp, lists_po, lists_ties}, Cmp.{Equal-is, IsPartialOrder}, declared.cmp.Ordering.{Ordering, TheVariants.{Less, Equal, Greater}}, Ordering.{is_eq, ordering_then, partial_ordering_then}}}
+use Rattle.arraydeque.specs.{Compared.{AreCutAlike, AreSectionsOf, AreBehindEqual}, declared.deque.compare.Sections.Sections}
 
 and_assoc : (p q r : Bool) → (p && (q && r)) ≡ ((p && q) && r)
 and_assoc true q r = refl
@@ -40,11 +40,6 @@ module _ {X : Type 0} where
   pub pointwise-both : (E : X → X → Bool) (xs xs' ys ys' : List X) → length xs ≡ length ys → pointwise E (xs ++ xs') (ys ++ ys') ≡ (pointwise E xs ys && pointwise E xs' ys')
   pointwise-both E xs xs' ys ys' long = pointwise-cut E xs xs' ys ys' (even xs xs' ys ys' long)
 
-  -- both cut at one index
-  pub pointwise-split : (E : X → X → Bool) (n : ℕ) (xs ys : List X) → length xs ≡ length ys → pointwise E xs ys ≡ (pointwise E (take n xs) (take n ys) && pointwise E (drop n xs) (drop n ys))
-  pointwise-split E n xs ys long =
-      ap₂ (pointwise E) (sym (take-append-drop n xs)) (sym (take-append-drop n ys)) ∙ pointwise-both E (take n xs) (drop n xs) (take n ys) (drop n ys) (omega (arith, length-take n xs, length-take n ys))
-
   -- one pair more
   pub pointwise-push : (E : X → X → Bool) (xs ys : List X) (x y : X) → length xs ≡ length ys → pointwise E (xs ++ x ∷ []) (ys ++ y ∷ []) ≡ (pointwise E xs ys && E x y)
   pointwise-push E xs ys x y long = pointwise-both E xs (x ∷ []) ys (y ∷ []) long ∙ ap (λ b. pointwise E xs ys && b) (and_true (E x y))
@@ -73,3 +68,39 @@ module _ {X : Type 0} where
     pub slice_partial_cmp_sections : (C : X → X → Option Ordering)
         → slice_partial_cmp C xs ys ≡ partial_ordering_then (slice_partial_cmp C cut.front.0.now cut.front.1.now) (partial_ordering_then (slice_partial_cmp C cut.middle.0.now cut.middle.1.now) (slice_partial_cmp C cut.rest.0.now cut.rest.1.now))
     slice_partial_cmp_sections C = rw (sections.first, sections.second, slice_partial_cmp-cut C _ _ _ _ (even _ _ _ _ sections.front), slice_partial_cmp-cut C _ _ _ _ sections.middle)
+
+  -- the parts that a split at n makes
+  pub split-whole : {xs us xs' : List X} (n : ℕ) → us ≡ take n xs → xs' ≡ drop n xs → xs ≡ us ++ xs'
+  split-whole {xs} n front back = sym (ap₂ (λ ys zs. ys ++ zs) front back ∙ take-append-drop n xs)
+
+  module _ {E : X → X → Bool} where
+    pub behind-none : (xs ys : List X) → AreBehindEqual E xs ys xs ys
+    behind-none xs ys = record { xs-front = []; ys-front = []; first = refl; second = refl; equal = refl }
+
+    module _ {xs ys xs' ys' : List X} (behind : AreBehindEqual E xs ys xs' ys') where
+      long : length behind.xs-front ≡ length behind.ys-front
+      long = as_long E behind.xs-front behind.ys-front behind.equal
+
+      -- behind more pairs
+      pub behind-more : (us vs : List X) {xs'' ys'' : List X} → xs' ≡ us ++ xs'' → ys' ≡ vs ++ ys'' → true ≡ pointwise E us vs → AreBehindEqual E xs ys xs'' ys''
+      behind-more us vs {xs''} {ys''} first second equal = record {
+        xs-front = behind.xs-front ++ us;
+        ys-front = behind.ys-front ++ vs;
+        first = behind.first ∙ ap (λ zs. behind.xs-front ++ zs) first ∙ sym (append_assoc behind.xs-front us xs'');
+        second = behind.second ∙ ap (λ zs. behind.ys-front ++ zs) second ∙ sym (append_assoc behind.ys-front vs ys'');
+        equal = pointwise-both E behind.xs-front us behind.ys-front vs long ∙ ap₂ (λ a b. a && b) behind.equal (sym equal);
+      }
+
+      pub pointwise_behind : pointwise E xs' ys' ≡ pointwise E xs ys
+      pointwise_behind = sym (ap₂ (pointwise E) behind.first behind.second ∙ pointwise-both E _ xs' _ ys' long ∙ ap (λ b. b && pointwise E xs' ys') behind.equal)
+
+      -- where what is equal compares as equal
+      pub slice_cmp_behind : (R : X → X → Ordering) → ((x y : X) → E x y ≡ is_eq (R x y)) → slice_cmp R xs' ys' ≡ slice_cmp R xs ys
+      slice_cmp_behind R ties =
+          let same = (Equal-is _).0 (sym (lists_ties R ties behind.xs-front behind.ys-front) ∙ behind.equal) in
+          sym (ap₂ (slice_cmp R) behind.first behind.second ∙ slice_cmp-cut R _ xs' _ ys' (even _ xs' _ ys' long) ∙ ap (λ o. ordering_then o (slice_cmp R xs' ys')) same)
+
+      pub slice_partial_cmp_behind : (C : X → X → Option Ordering) → IsPartialOrder E C → slice_partial_cmp C xs' ys' ≡ slice_partial_cmp C xs ys
+      slice_partial_cmp_behind C laws =
+          let same = ((lists_po laws).matches_eq behind.xs-front behind.ys-front).0 behind.equal in
+          sym (ap₂ (slice_partial_cmp C) behind.first behind.second ∙ slice_partial_cmp-cut C _ xs' _ ys' (even _ xs' _ ys' long) ∙ ap (λ o. partial_ordering_then o (slice_partial_cmp C xs' ys')) same)

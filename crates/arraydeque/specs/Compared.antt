@@ -1,5 +1,6 @@
--- Two lists in three parts each, which face each other in pairs.
-use Rattle.std.specs.Prelude.{◌≡◌, ◌<◌, List, [], ◌++◌, length}
+-- Two lists in three parts each, which face each other in pairs, and lists behind equal pairs.
+use Rattle.std.specs.Prelude.{◌≡◌, ◌<◌, Bool, true, List, [], ◌++◌, length}
+use Rattle.std.specs.Cmp.Lexicographic.{pointwise}
 use Rattle.arraydeque.specs.declared.deque.compare.Sections.{Sections}
 
 module _ {X : Type 0} where
@@ -15,3 +16,11 @@ module _ {X : Type 0} where
     pub second : ys ≡ cut.front.1.now ++ (cut.middle.1.now ++ cut.rest.1.now)
     pub front : length cut.front.0.now ≡ length cut.front.1.now
     pub middle : AreCutAlike cut.middle.0.now cut.rest.0.now cut.middle.1.now cut.rest.1.now
+
+  -- the rests are those of xs and of ys behind pairs that are all equal
+  pub record AreBehindEqual (E : X → X → Bool) (xs ys xs-rest ys-rest : List X) : Type 0 where
+    pub xs-front : List X
+    pub ys-front : List X
+    pub first : xs ≡ xs-front ++ xs-rest
+    pub second : ys ≡ ys-front ++ ys-rest
+    pub equal : pointwise E xs-front ys-front ≡ true

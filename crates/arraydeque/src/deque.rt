@@ -24,6 +24,9 @@ mod policies;
 mod retain;
 mod swaps;
 
+/// How many bytes an item takes at most that is compared in a block.
+const SMALL_BYTES: usize = 16;
+
 /// A double-ended queue of at most `CAP` items, in one region of memory that is taken when the
 /// deque is made. The policy `B` says what a push into a full deque does.
 ///

@@ -6,16 +6,13 @@ ghost use Rattle.std.specs.Option.{option_copied_mut};
 ghost use Rattle.arraydeque.specs.Deque.{last_item};
 ghost use Rattle.arraydeque.specs.DequeLends.{lends_item, lends_index};
 
-use super::ArrayDeque;
+use super::{ArrayDeque, SMALL_BYTES};
 use crate::behavior::Behavior;
 use std::mem::size_of_val;
 use std::ops::{Index, IndexMut};
 
 /// How many items are compared before the answers are looked at.
 const BLOCK: usize = 64;
-
-/// How many bytes an item takes at most that is compared in a block.
-const SMALL_BYTES: usize = 16;
 
 impl<T, const CAP: usize, B: Behavior> ArrayDeque<T, CAP, B> {
     /// Whether some item equals `x`, by the items' own equality.

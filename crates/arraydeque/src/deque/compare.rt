@@ -4,15 +4,20 @@ ghost use Rattle.std.specs.Cmp.{on_equiv, on_per, on_po, on_total};
 ghost use Rattle.std.specs.Cmp.Lexicographic.{pointwise, slice_cmp, slice_partial_cmp, lists_agrees, lists_equiv, lists_per, lists_po, lists_ties, lists_total};
 ghost use Rattle.std.specs.Hash as fed;
 ghost use Rattle.std.specs.Hash.{items_Alike as alike};
-ghost use Rattle.arraydeque.specs.Compared.{AreSectionsOf};
+ghost use Rattle.arraydeque.specs.Compared.{AreSectionsOf, AreBehindEqual};
 
-use super::ArrayDeque;
+use super::{ArrayDeque, SMALL_BYTES};
 use crate::behavior::Behavior;
 use std::cmp::Ordering;
 use std::hash::{Hash, Hasher};
+use std::mem::size_of_val;
 
 /// How many pairs are compared before the answers are looked at.
 const BLOCK: usize = 32;
+
+/// How many bytes an item takes at least that std's equality and total order compare one by one;
+/// of smaller items they pass blocks themselves.
+const WORD: usize = 8;
 
 /// Two lists in three sections each, which face each other in pairs.
 #[derive(Drop)]
@@ -100,15 +105,15 @@ impl<T: PartialOrd, const CAP: usize, B: Behavior> PartialOrd for ArrayDeque<T, 
     /// ```
     fn partial_cmp(&self, other: &Self) -> Option<Ordering> {
         let cut = self.sections(other);
-        let found = cut.front.0.partial_cmp(&cut.front.1);
+        let found = partial_order(cut.front.0, cut.front.1);
         if found != Some(Ordering::Equal) {
             return found;
         }
-        let found = cut.middle.0.partial_cmp(&cut.middle.1);
+        let found = partial_order(cut.middle.0, cut.middle.1);
         if found != Some(Ordering::Equal) {
             return found;
         }
-        cut.rest.0.partial_cmp(&cut.rest.1)
+        partial_order(cut.rest.0, cut.rest.1)
     }
 }
 
@@ -131,15 +136,15 @@ impl<T: Ord, const CAP: usize, B: Behavior> Ord for ArrayDeque<T, CAP, B> {
     /// ```
     fn cmp(&self, other: &Self) -> Ordering {
         let cut = self.sections(other);
-        let found = cut.front.0.cmp(&cut.front.1);
+        let found = order(cut.front.0, cut.front.1);
         if found.is_ne() {
             return found;
         }
-        let found = cut.middle.0.cmp(&cut.middle.1);
+        let found = order(cut.middle.0, cut.middle.1);
         if found.is_ne() {
             return found;
         }
-        cut.rest.0.cmp(&cut.rest.1)
+        order(cut.rest.0, cut.rest.1)
     }
 }
 
@@ -167,24 +172,62 @@ impl<T: Hash, const CAP: usize, B: Behavior> Hash for ArrayDeque<T, CAP, B> {
     }
 }
 
-/// Whether two slices are equal, compared block by block.
+/// Whether two slices are equal.
 fn are_equal<T: PartialEq>(left: &[T], right: &[T]) -> bool
     ensures { result ≡ pointwise T.eq left.now right.now }
 {
     if left.len() != right.len() {
         return false;
     }
+    let (left, right) = behind_equal(left, right, WORD);
+    left == right
+}
+
+/// How two slices compare, if they are in some order.
+fn partial_order<T: PartialOrd>(left: &[T], right: &[T]) -> Option<Ordering>
+    ensures { result ≡ slice_partial_cmp T.partial_cmp left.now right.now }
+{
+    let (left, right) = behind_equal(left, right, 0);
+    left.partial_cmp(&right)
+}
+
+/// How two slices compare.
+fn order<T: Ord>(left: &[T], right: &[T]) -> Ordering
+    ensures { result ≡ slice_cmp T.cmp left.now right.now }
+{
+    let (left, right) = behind_equal(left, right, WORD);
+    left.cmp(&right)
+}
+
+/// What two slices hold behind blocks of equal pairs. Blocks are passed of items of at least so
+/// many bytes and no more than `SMALL_BYTES`, and none where the first pair differs, as it often
+/// does.
+#[inline(always)]
+fn behind_equal<'a, T: PartialEq>(
+    left: &'a [T],
+    right: &'a [T],
+    least_bytes: usize,
+) -> (&'a [T], &'a [T])
+    ensures { AreBehindEqual T.eq left.now right.now result.0.now result.1.now }
+{
+    if left.len().min(right.len()) < BLOCK {
+        return (left, right);
+    }
+    let bytes = size_of_val(&left[0]);
+    if bytes < least_bytes || bytes > SMALL_BYTES || left[0] != right[0] {
+        return (left, right);
+    }
     let (mut left_rest, mut right_rest) = (left, right);
-    while BLOCK <= left_rest.len() {
+    while BLOCK <= left_rest.len().min(right_rest.len()) {
         let (left_block, left_next) = left_rest.split_at(BLOCK);
         let (right_block, right_next) = right_rest.split_at(BLOCK);
         if !are_all_equal(left_block, right_block) {
-            return false;
+            break;
         }
         left_rest = left_next;
         right_rest = right_next;
     }
-    left_rest == right_rest
+    (left_rest, right_rest)
 }
 
 /// Whether all pairs of two slices of one length are equal. It looks at every pair, so that several
