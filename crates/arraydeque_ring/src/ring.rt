@@ -104,8 +104,8 @@ impl<T> Ring<T> {
         } }
     {
         let behind = wrap_add(self.start, self.len, self.slots.capacity());
-        self.slots.put(behind, element);
         self.len += 1;
+        self.slots.put(behind, element);
     }
 
     /// Adds an element before the first item. The start goes down to its place. No kept item moves.
@@ -120,9 +120,9 @@ impl<T> Ring<T> {
     {
         let capacity = self.slots.capacity();
         let before = wrap_add(self.start, capacity - 1, capacity);
-        self.slots.put(before, element);
         self.start = before;
         self.len += 1;
+        self.slots.put(before, element);
     }
 
     /// Takes the first item off, if there is one. The start goes up to the next place, and no kept
