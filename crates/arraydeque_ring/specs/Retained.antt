@@ -1,5 +1,5 @@
 -- What a ring keeps of its items by the answers of a closure, and what it costs.
-use Rattle.std.specs.{Prelude.{◌≡◌, ℕ, List, [], ◌∷◌, length, slice_get, Some, not, Bool, true, false, count_by}, Borrow.Bor, Fn.{CalledAt, Mut}, List.{items_where_true, Retain.ReturnsInTurn}}
+use Rattle.std.specs.{Prelude.{◌≡◌, ℕ, List, [], ◌∷◌, ◌++◌, length, replicate, slice_get, Some, not, Bool, true, false, count_by, if◌then◌else◌, ◌==◌}, Borrow.Bor, Fn.{CalledAt, Mut}, List.{items_where_true, Retain.ReturnsInTurn}}
 use Rattle.arraydeque_ring.specs.{Ring.RingState, Steps.{more_takes, more_moves}}
 
 -- of how many items the index changes: those answered true, past the first answered false
@@ -7,6 +7,10 @@ abbrev pub count_moved : List Bool → ℕ
 count_moved [] = 0
 count_moved (true ∷ bs) = count_moved bs
 count_moved (false ∷ bs) = count_by (λ b. b) bs
+
+-- what is answered at `kept` of n items that stay, and then at the first that goes, unless all stay
+abbrev pub answers_until : ℕ → ℕ → List Bool
+answers_until kept n = replicate kept true ++ (if kept == n then [] else false ∷ [])
 
 -- R answered once at each item in turn, from f on, and the items answered true stay, in order; each
 -- that goes is taken out, and each whose index changes is moved once

@@ -12,10 +12,6 @@ pub record Gapped {X : Type 0} (n t : ℕ) (xs : List X) (gap : ℕ) (ys : List 
   pub reads : Holds n t (gapped xs gap ys) ps
 
 module _ {X : Type 0} {n t : ℕ} {xs : List X} {ps : List (Option X)} (l : LaidOut n t xs ps) where
-  -- a gap of no places in front of the items
-  pub Gapped-none : Gapped n t [] 0 xs ps
-  Gapped-none = record { within = omega (arith, l.within); reads = Holds-same (holds l) (λ k lt. grind (arith, nat_tests)) }
-
   -- a gap of one place behind the items
   pub Gapped-behind : length xs < n → Gapped n t xs 1 [] ps
   Gapped-behind room = record { within = omega arith; reads = Holds-same (holds l) (λ k lt. grind (arith, nat_tests, items)) }

@@ -1,5 +1,5 @@
 -- The answers of a closure on the first items of a list: which items stay and go by them, with one answer more.
-use Rattle.std.{proofs.{Common.{◌≡◌, ℕ, ◌+◌, ◌≤◌, List, [], ◌∷◌, ◌++◌, length, Bool, true, false, cond, not, count_by, ◌==◌, if◌then◌else◌, refl, sym, ap, ◌∙◌, arith}, lemmas.{Bool.ne_eqb, List.Sums.{sum_by-append, sum_by-cons}}}, specs.List.items_where_true}
+use Rattle.std.{proofs.{Common.{◌≡◌, ◌+◌, ◌<◌, ◌≤◌, List, [], ◌∷◌, ◌++◌, length, Bool, true, false, cond, not, count_by, refl, arith}, lemmas.List.Sums.{sum_by-append, sum_by-cons}}, specs.List.items_where_true}
 use Rattle.arraydeque_ring.specs.Retained.{count_moved}
 
 -- the items that stay and those that go are as many as the answers
@@ -13,11 +13,11 @@ kept_and_gone (false ∷ bs) (x ∷ xs) le = let more : count_by not (false ∷ 
 pub count_by-push : (p : Bool → Bool) (bs : List Bool) (b : Bool) → count_by p (bs ++ b ∷ []) ≡ count_by p bs + cond (p b) 1 0
 count_by-push p bs b = let sum = sum_by-append (λ x. cond (p x) 1 0) bs (b ∷ []) in omega arith
 
--- an item that stays is moved where one has gone before
-pub moved-push_true : (bs : List Bool) (n : ℕ) → n ≡ count_by not bs → count_moved (bs ++ true ∷ []) ≡ count_moved bs + (if n == 0 then 0 else 1)
-moved-push_true [] n e = ap (λ (m : ℕ). 0 + (if m == 0 then 0 else 1)) (sym e)
-moved-push_true (true ∷ bs) n e = moved-push_true bs n (omega arith)
-moved-push_true (false ∷ bs) n e = count_by-push (λ b. b) bs true ∙ ap (λ c. count_by (λ b. b) bs + (if c then 0 else 1)) (sym (ne_eqb n 0 (λ none. let more : count_by not (false ∷ bs) ≡ 1 + count_by not bs = sum_by-cons (λ b. cond (not b) 1 0) false bs in omega arith)))
+-- an item that stays behind one that goes is moved
+pub moved-push_true : (bs : List Bool) → 0 < count_by not bs → count_moved (bs ++ true ∷ []) ≡ count_moved bs + 1
+moved-push_true [] some = absurd (omega arith)
+moved-push_true (true ∷ bs) some = moved-push_true bs some
+moved-push_true (false ∷ bs) some = count_by-push (λ b. b) bs true
 
 -- one that goes moves none
 pub moved-push_false : (bs : List Bool) → count_moved (bs ++ false ∷ []) ≡ count_moved bs

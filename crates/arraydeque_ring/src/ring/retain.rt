@@ -1,10 +1,11 @@
 //! One pass over all items: dropping each, and keeping some.
-ghost use Rattle.std.specs.Prelude.{◌≡◌, ◌≢◌, ◌+◌, ◌-◌, ◌≤◌, [], length, slice_set, None, if◌then◌else◌, ◌==◌};
+ghost use Rattle.std.specs.Prelude.{◌≡◌, ◌-◌, ◌≤◌, [], length};
 ghost use Rattle.std.specs.Fn.{CalledAt};
+ghost use Rattle.std.specs.List.Retain.{ReturnsInTurn};
 ghost use Rattle.arraydeque_ring.specs.Gaps.{run_emptied};
-ghost use Rattle.arraydeque_ring.specs.Places.{held_at, IsFilled, IsEmpty, IsFilledRun};
-ghost use Rattle.arraydeque_ring.specs.Retained.{Retains, MayBeAsked};
-ghost use Rattle.arraydeque_ring.specs.Steps.{more_takes, more_moves};
+ghost use Rattle.arraydeque_ring.specs.Places.{IsFilledRun};
+ghost use Rattle.arraydeque_ring.specs.Retained.{Retains, MayBeAsked, answers_until};
+ghost use Rattle.arraydeque_ring.specs.Steps.{more_takes};
 
 use super::Ring;
 use crate::slots::Slots;
@@ -39,15 +40,19 @@ impl<T> Ring<T> {
         ensures retains { Retains (CalledAt F.FnMut) f self.old self.new }
         ensures no_longer { length self.new.items ≤ length self.old.items }
     {
+        let mut kept = self.kept_first(&mut f);
         let (start, len) = (self.start, self.len);
+        if kept == len {
+            return;
+        }
         let slots = &mut self.slots;
         let capacity = slots.capacity();
-        let mut kept = 0;
-        for index in 0..len {
+        drop(slots.take(wrap_add(start, kept, capacity)));
+        for index in kept + 1..len {
             let place = wrap_add(start, index, capacity);
             let keeps = f(slots.get(place));
             if keeps {
-                settle(slots, wrap_add(start, kept, capacity), place);
+                slots.shift(wrap_add(start, kept, capacity), place);
                 kept += 1;
             } else {
                 drop(slots.take(place));
@@ -55,6 +60,37 @@ impl<T> Ring<T> {
         }
         self.len = kept;
     }
+
+    /// How many items stay before the first that goes, at which `f` is called last. None of them
+    /// moves, so the loop has nothing to count but places.
+    fn kept_first<F: FnMut(&T) -> bool>(&self, f: &mut F) -> usize
+        requires { MayBeAsked F.FnMut f.old self.now.items }
+        ensures within { result ≤ length self.now.items }
+        ensures in_turn { ReturnsInTurn (CalledAt F.FnMut) f.old
+            (answers_until result (length self.now.items)) self.now.items f.new }
+    {
+        let (front, back) = self.as_slices();
+        let kept = kept_run(front, f);
+        if kept < front.len() {
+            return kept;
+        }
+        self.len - back.len() + kept_run(back, f)
+    }
+}
+
+/// How many items of a slice stay before the first that goes.
+fn kept_run<T, F: FnMut(&T) -> bool>(items: &[T], f: &mut F) -> usize
+    requires { MayBeAsked F.FnMut f.old items.now }
+    ensures within { result ≤ length items.now }
+    ensures in_turn { ReturnsInTurn (CalledAt F.FnMut) f.old
+        (answers_until result (length items.now)) items.now f.new }
+{
+    for index in 0..items.len() {
+        if !f(&items[index]) {
+            return index;
+        }
+    }
+    items.len()
 }
 
 /// Drops the values in the places from `from` up to `end`, in order.
@@ -66,19 +102,5 @@ fn drop_run<T: Drop>(slots: &mut Slots<T>, from: usize, end: usize)
 {
     for place in from..end {
         drop(slots.take(place));
-    }
-}
-
-/// Moves the value in the place `src` to the place `dst`, where that is another.
-#[inline]
-fn settle<T>(slots: &mut Slots<T>, dst: usize, src: usize)
-    requires filled { IsFilled slots.old.places src }
-    requires empty { dst ≢ src → IsEmpty slots.old.places dst }
-    ensures places { slots.new.places ≡
-        slice_set (slice_set slots.old.places src None) dst (held_at slots.old.places src) }
-    ensures steps { slots.new.steps ≡ more_moves (if dst == src then 0 else 1) slots.old.steps }
-{
-    if dst != src {
-        slots.shift(dst, src);
     }
 }
