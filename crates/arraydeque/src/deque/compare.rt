@@ -15,9 +15,9 @@ use std::mem::size_of_val;
 /// How many pairs are compared before the answers are looked at.
 const BLOCK: usize = 32;
 
-/// How many bytes an item takes at least that std's equality and total order compare one by one;
-/// of smaller items they pass blocks themselves.
-const WORD: usize = 8;
+/// How many bytes an item takes at least of which equality and a total order pass blocks here: of
+/// items of 1, 2 or 4 bytes std does it.
+const LEAST_BYTES: usize = 5;
 
 /// Two lists in three sections each, which face each other in pairs.
 #[derive(Drop)]
@@ -173,13 +173,14 @@ impl<T: Hash, const CAP: usize, B: Behavior> Hash for ArrayDeque<T, CAP, B> {
 }
 
 /// Whether two slices are equal.
+#[inline(always)]
 fn are_equal<T: PartialEq>(left: &[T], right: &[T]) -> bool
     ensures { result ≡ pointwise T.eq left.now right.now }
 {
     if left.len() != right.len() {
         return false;
     }
-    let (left, right) = behind_equal(left, right, WORD);
+    let (left, right) = behind_equal(left, right, LEAST_BYTES);
     left == right
 }
 
@@ -192,16 +193,16 @@ fn partial_order<T: PartialOrd>(left: &[T], right: &[T]) -> Option<Ordering>
 }
 
 /// How two slices compare.
+#[inline(always)]
 fn order<T: Ord>(left: &[T], right: &[T]) -> Ordering
     ensures { result ≡ slice_cmp T.cmp left.now right.now }
 {
-    let (left, right) = behind_equal(left, right, WORD);
+    let (left, right) = behind_equal(left, right, LEAST_BYTES);
     left.cmp(&right)
 }
 
-/// What two slices hold behind blocks of equal pairs. Blocks are passed of items of at least so
-/// many bytes and no more than `SMALL_BYTES`, and none where the first pair differs, as it often
-/// does.
+/// What two slices hold behind blocks of equal pairs. None is passed of items below `least_bytes`
+/// or above `SMALL_BYTES`, nor where the first pair differs, as it often does.
 #[inline(always)]
 fn behind_equal<'a, T: PartialEq>(
     left: &'a [T],
@@ -210,7 +211,8 @@ fn behind_equal<'a, T: PartialEq>(
 ) -> (&'a [T], &'a [T])
     ensures { AreBehindEqual T.eq left.now right.now result.0.now result.1.now }
 {
-    if left.len().min(right.len()) < BLOCK {
+    let mut pairs = left.len().min(right.len());
+    if pairs < BLOCK {
         return (left, right);
     }
     let bytes = size_of_val(&left[0]);
@@ -218,7 +220,7 @@ fn behind_equal<'a, T: PartialEq>(
         return (left, right);
     }
     let (mut left_rest, mut right_rest) = (left, right);
-    while BLOCK <= left_rest.len().min(right_rest.len()) {
+    while BLOCK <= pairs {
         let (left_block, left_next) = left_rest.split_at(BLOCK);
         let (right_block, right_next) = right_rest.split_at(BLOCK);
         if !are_all_equal(left_block, right_block) {
@@ -226,6 +228,7 @@ fn behind_equal<'a, T: PartialEq>(
         }
         left_rest = left_next;
         right_rest = right_next;
+        pairs -= BLOCK;
     }
     (left_rest, right_rest)
 }

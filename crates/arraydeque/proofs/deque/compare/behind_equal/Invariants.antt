@@ -1,9 +1,13 @@
-use Rattle.std.proofs.Common.{length}
+use Rattle.std.proofs.Common.{◌≤◌, length}
 use Rattle.arraydeque.specs.Compared.{AreBehindEqual}
 use Rattle.arraydeque.proofs.deque.compare.behind_equal.Given as goal
 
-abbrev pub invariant-loop-left_block : goal.invariant-loop-left_block
-invariant-loop-left_block g l = AreBehindEqual g.T.PartialEq.eq l.left l.right l.left_rest l.right_rest
+abbrev pub invariant-loop-pairs : goal.invariant-loop-pairs
+invariant-loop-pairs g l = record {
+  behind : AreBehindEqual g.T.PartialEq.eq l.left l.right l.left_rest l.right_rest;
+  left : l.pairs ≤ length l.left_rest;
+  right : l.pairs ≤ length l.right_rest;
+}
 
-abbrev pub decreases-loop-left_block : goal.decreases-loop-left_block
-decreases-loop-left_block g l = length l.left_rest
+abbrev pub decreases-loop-pairs : goal.decreases-loop-pairs
+decreases-loop-pairs g l = l.pairs
