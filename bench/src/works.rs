@@ -253,12 +253,14 @@ pub fn retain<T: Item, D: Peer<T>, const CAP: usize>(rounds: usize) -> u64 {
     let mut deque: D = peer_at(CAP / 2, 0);
     let mut sum = 0u64;
     let mut state = 1u64;
+    let mut bit = 1u64;
     for _ in 0..rounds {
         while deque.len() < CAP {
             state = scrambled(state);
             deque.push_back(T::of(state));
         }
-        deque.retain(|item| item.number() % 2 == 1);
+        deque.retain(|item| item.number() & bit != 0);
+        bit = if bit == 128 { 1 } else { bit << 1 };
         sum = sum.wrapping_add(deque.len() as u64);
     }
     sum
@@ -638,7 +640,8 @@ pub fn owned_retain<T: Owned, D: Peer<T>, const CAP: usize>(rounds: usize) -> u6
         for number in deque.len()..CAP {
             deque.push_back(T::make((number ^ round) as u64));
         }
-        deque.retain(|item| item.told() % 4 == 1);
+        let turn = round as u64 % 2;
+        deque.retain(|item| item.told() / 2 % 2 == turn);
         sum = sum.wrapping_add(deque.len() as u64);
     }
     sum

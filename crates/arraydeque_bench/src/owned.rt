@@ -124,8 +124,7 @@ pub(crate) fn owned_insert<T: Owned, const CAP: usize>(
     Ok(sum)
 }
 
-/// Each round new items go in to the brim, and some stay: a quarter of
-/// the boxes and half of the texts.
+/// Each round new items go in to the brim, and half of them stay: those of the round before go.
 pub(crate) fn owned_retain<T: Owned, const CAP: usize>(
     alloc: Global,
     rounds: usize,
@@ -136,7 +135,8 @@ pub(crate) fn owned_retain<T: Owned, const CAP: usize>(
         for number in deque.len()..CAP {
             let _ = deque.push_back(T::make(alloc, (number ^ round) as u64)?);
         }
-        deque.retain(|item| item.told() % 4 == 1);
+        let turn = round as u64 % 2;
+        deque.retain(|item| item.told() / 2 % 2 == turn);
         sum = sum.wrapping_add(deque.len() as u64);
     }
     Ok(sum)

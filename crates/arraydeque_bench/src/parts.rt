@@ -161,7 +161,8 @@ pub(crate) fn split_off<T: Item, const CAP: usize>(
     Ok(sum)
 }
 
-/// Each round the deque is filled with new random items, and those of odd numbers stay.
+/// Each round the deque is filled with new random items, and half of all stay: those with a bit set,
+/// another one each round.
 pub(crate) fn retain<T: Item, const CAP: usize>(
     alloc: Global,
     rounds: usize,
@@ -169,12 +170,14 @@ pub(crate) fn retain<T: Item, const CAP: usize>(
     let mut deque = deque_at::<T, CAP>(alloc, CAP / 2, 0)?;
     let mut sum = 0u64;
     let mut state = 1u64;
+    let mut bit = 1u64;
     for _ in 0..rounds {
         for _ in deque.len()..CAP {
             state = scrambled(state);
             let _ = deque.push_back(T::of(state));
         }
-        deque.retain(|item| item.number() % 2 == 1);
+        deque.retain(|item| item.number() & bit != 0);
+        bit = if bit == 128 { 1 } else { bit << 1 };
         sum = sum.wrapping_add(deque.len() as u64);
     }
     Ok(sum)
