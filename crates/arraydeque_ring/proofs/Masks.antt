@@ -1,5 +1,5 @@
 -- A number that shares no bit with the one below it.
-use Rattle.std.proofs.{Common.{◌≡◌, ℕ, suc, ◌+◌, ◌-◌, ◌*◌, ◌/◌, ◌%◌, ◌^◌, ◌<◌, ◌≤◌, inl, inr, bit_and, min, sym, ap, ap₂, ◌∙◌, arith, pow-suc}, lemmas.{Bool.cases_lt, Nat.{and_block, and_mask}}}
+use Rattle.std.proofs.{Common.{◌≡◌, ℕ, suc, ◌+◌, ◌-◌, ◌*◌, ◌/◌, ◌%◌, ◌^◌, ◌<◌, ◌≤◌, inl, inr, bit_and, sym, ap, ap₂, ◌∙◌, arith, pow-suc}, lemmas.{Bool.cases_lt, Nat.{and_block, and_mask}}}
 use lib.{Arith.bin_ind, Bits.{and_step, and_self}}
 
 -- above 2 ^ 63 a number and the one below it share their highest bit

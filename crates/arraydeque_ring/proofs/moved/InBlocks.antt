@@ -11,6 +11,9 @@ further i a x n = ap (λ m. m % n) (add_assoc i a x)
 pub whole_run : {X : Type 0} (dst src len : ℕ) (ps : List (Option X)) → run_moved (dst + 0) (src + 0) (len - 0) ps ≡ run_moved dst src len ps
 whole_run dst src len ps = simp unary_clauses
 
+pub whole_can : {X : Type 0} (dst src len : ℕ) (ps : List (Option X)) → CanCopy dst src len ps → CanCopy (dst + 0) (src + 0) (len - 0) ps
+whole_can dst src len ps can = simp unary_clauses can
+
 -- a run that passes no end moves in two steps, the first values first where it moves down, else the last
 module _ {X : Type 0} (i j k : ℕ) where
   first_is : (m : ℕ) (ps : List (Option X)) → i ≤ j → j + (k + m) ≤ length ps → run_moved (i + k) (j + k) m (run_moved i j k ps) ≡ run_moved i j (k + m) ps

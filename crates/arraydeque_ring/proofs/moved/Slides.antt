@@ -1,6 +1,23 @@
--- A run that passes the end moves by one place, up or down, by three plain copies.
-use Rattle.std.proofs.{Common.{◌≡◌, ℕ, ◌+◌, ◌-◌, ◌<◌, ◌≤◌, ◌⊎◌, inl, inr, List, length, Option, refl, arith}, lemmas.Bool.Decides.nat_tests}
-use Rattle.arraydeque_ring.{specs.{Ring.place_of, Moved.{IsFilledRound, run_moved}}, proofs.{moved.{Flat.distance_is, Parts.{Three, part_as, three_down, three_up}}, places.Rotated.{place_of_cases, place_of-lt}}}
+-- A run moves by one place, up or down: by a plain copy, and by three where it passes the end.
+use Rattle.std.proofs.{Common.{◌≡◌, ℕ, zero, suc, ◌+◌, ◌-◌, ◌<◌, ◌≤◌, ◌⊎◌, inl, inr, List, length, Option, refl, sym, ap, ◌∙◌, subst, arith}, Math.Nat.{mod-eq_of_lt}, lemmas.Bool.Decides.nat_tests}
+use Rattle.arraydeque_ring.{specs.{Places.IsFilled, Ring.place_of, Moved.{IsFilledRound, CanCopy, run_moved}}, proofs.{moved.{Flat.{distance_is, moved_none}, Parts.{Three, part_as, three_down, three_up}}, places.Rotated.{place_of_cases, place_of-lt}}}
+
+-- a run that doesn't pass the end, nor its target; where no value moves, any place will do
+module _ {X : Type 0} (t : ℕ) where
+  pub flat_up : (len : ℕ) (ps : List (Option X)) → t + len < length ps → run_moved (t + 1) t len ps ≡ run_moved (place_of t 1 (length ps)) t len ps
+  flat_up zero ps lt = moved_none _ _ ps ∙ sym (moved_none _ _ ps)
+  flat_up (suc len) ps lt = ap (λ d. run_moved d t (suc len) ps) (sym (mod-eq_of_lt (omega arith)))
+
+  pub flat_down : (len : ℕ) (ps : List (Option X)) → t + len < length ps → run_moved t (t + 1) len ps ≡ run_moved t (place_of t 1 (length ps)) len ps
+  flat_down zero ps lt = moved_none _ _ ps ∙ sym (moved_none _ _ ps)
+  flat_down (suc len) ps lt = ap (λ s. run_moved t s (suc len) ps) (sym (mod-eq_of_lt (omega arith)))
+
+  pub flat_down_can : (len : ℕ) (ps : List (Option X)) → t + len < length ps → IsFilledRound (place_of t 1 (length ps)) len ps → CanCopy t (t + 1) len ps
+  flat_down_can len ps lt filled = record {
+    target = omega arith;
+    source = omega arith;
+    filled = λ k less. subst (λ s. IsFilled ps (place_of s k (length ps))) (mod-eq_of_lt (omega arith)) (filled k less);
+  }
 
 -- a run that passes the end and moves by one place: what lies past the end, the value that crosses it, and what lies before
 module _ {X : Type 0} (t len n : ℕ) (ps : List (Option X)) (long : length ps ≡ n) (t_in : t < n) (wraps : n ≤ t + len) (room : len < n) where

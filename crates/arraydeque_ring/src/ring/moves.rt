@@ -35,15 +35,18 @@ impl<T> Ring<T> {
     {
         let capacity = self.slots.capacity();
         let behind = self.len - index;
-        if index < behind {
-            self.start = wrap_add(self.start, capacity - 1, capacity);
-            move_earlier(&mut self.slots, self.start, 0, index, 1);
+        let place = if index < behind {
+            let start = wrap_add(self.start, capacity - 1, capacity);
+            self.slots.slide_down(start, index);
+            self.start = start;
+            wrap_add(start, index, capacity)
         } else {
-            move_later(&mut self.slots, self.start, index, behind, 1);
-        }
-        self.slots
-            .put(wrap_add(self.start, index, capacity), element);
+            let place = wrap_add(self.start, index, capacity);
+            self.slots.slide_up(place, behind);
+            place
+        };
         self.len += 1;
+        self.slots.put(place, element);
     }
 
     /// Takes out the item at an index. The fewer items on either side of it move: those before it
@@ -60,11 +63,18 @@ impl<T> Ring<T> {
         ensures fewest { RemoveMovesFewest
             index (length self.old.items) self.old.capacity self.old.start self.new.start }
     {
-        let item = self
-            .slots
-            .take(wrap_add(self.start, index, self.slots.capacity()));
+        let capacity = self.slots.capacity();
+        let place = wrap_add(self.start, index, capacity);
+        let item = self.slots.take(place);
         self.len -= 1;
-        self.start = close_gap(&mut self.slots, self.start, index, 1, self.len - index);
+        let behind = self.len - index;
+        self.start = if index < behind {
+            self.slots.slide_up(self.start, index);
+            wrap_add(self.start, 1, capacity)
+        } else {
+            self.slots.slide_down(place, behind);
+            self.start
+        };
         item
     }
 }

@@ -73,11 +73,86 @@ impl<T> Slots<T> {
         if dst == src {
             return;
         }
+        let capacity = self.capacity();
+        if dst == wrap_add(src, 1, capacity) {
+            self.slide_up(src, len);
+            return;
+        }
+        if src == wrap_add(dst, 1, capacity) {
+            self.slide_down(dst, len);
+            return;
+        }
         *self = self.moved_out().moved(dst, src, len);
         self.count(StepKind::Move, len);
     }
 
-    /// Moves a run. The region is a local here, so that its pointer is known not to change.
+    /// Moves the values in the `len` places from `src` on up by one place, round the region's end.
+    pub(crate) fn slide_up(&mut self, src: usize, len: usize)
+        requires in_region { src < length self.old.places }
+        requires room { len < length self.old.places }
+        requires filled { IsFilledRound src len self.old.places }
+        requires free { let n = length self.old.places in
+            IsFreeRound (place_of src 1 n) src len self.old.places }
+        ensures places { let n = length self.old.places in
+            self.new.places ≡ run_moved (place_of src 1 n) src len self.old.places }
+        ensures steps { self.new.steps ≡ more_moves len self.old.steps }
+    {
+        *self = self.moved_out().slid_up(src, len);
+        self.count(StepKind::Move, len);
+    }
+
+    /// Moves the values in the `len` places behind `dst` down by one place, round the region's end.
+    pub(crate) fn slide_down(&mut self, dst: usize, len: usize)
+        requires in_region { dst < length self.old.places }
+        requires room { len < length self.old.places }
+        requires filled { let n = length self.old.places in
+            IsFilledRound (place_of dst 1 n) len self.old.places }
+        requires free { let n = length self.old.places in
+            IsFreeRound dst (place_of dst 1 n) len self.old.places }
+        ensures places { let n = length self.old.places in
+            self.new.places ≡ run_moved dst (place_of dst 1 n) len self.old.places }
+        ensures steps { self.new.steps ≡ more_moves len self.old.steps }
+    {
+        *self = self.moved_out().slid_down(dst, len);
+        self.count(StepKind::Move, len);
+    }
+
+    /// Moves a run up by one place: one value after the other, which becomes one `memmove`. Here, as
+    /// in the next two, the region is a local, so that its pointer is known not to change.
+    fn slid_up(self, src: usize, len: usize) -> Slots<T>
+        requires in_region { src < length self.places }
+        requires room { len < length self.places }
+        requires filled { IsFilledRound src len self.places }
+        ensures { result ≡ record self {
+          places = run_moved (place_of src 1 (length self.places)) src len self.places;
+        } }
+    {
+        if len < self.capacity() - src {
+            let mut slots = self;
+            slots.move_last::<1>(src + 1, src, len);
+            return slots;
+        }
+        self.wrapped_up(src, len)
+    }
+
+    /// Moves a run down by one place.
+    fn slid_down(self, dst: usize, len: usize) -> Slots<T>
+        requires in_region { dst < length self.places }
+        requires room { len < length self.places }
+        requires filled { IsFilledRound (place_of dst 1 (length self.places)) len self.places }
+        ensures { result ≡ record self {
+          places = run_moved dst (place_of dst 1 (length self.places)) len self.places;
+        } }
+    {
+        if len < self.capacity() - dst {
+            let mut slots = self;
+            slots.move_first::<1>(dst, dst + 1, len, 0);
+            return slots;
+        }
+        self.wrapped_down(dst, len)
+    }
+
+    /// Moves a run by more than one place.
     fn moved(self, dst: usize, src: usize, len: usize) -> Slots<T>
         requires { CanMove dst src len self.places }
         ensures { result ≡ record self { places = run_moved dst src len self.places } }
@@ -87,12 +162,6 @@ impl<T> Slots<T> {
             let mut slots = self;
             slots.copy(dst, src, len);
             return slots;
-        }
-        if dst == wrap_add(src, 1, capacity) {
-            return self.wrapped_up(src, len);
-        }
-        if src == wrap_add(dst, 1, capacity) {
-            return self.wrapped_down(dst, len);
         }
         self.moved_in_parts(dst, src, len)
     }
@@ -170,20 +239,13 @@ impl<T> Slots<T> {
         slots
     }
 
-    /// Copies a run to where neither side passes the end. Values that move by one place go one by
-    /// one, which becomes one `memmove`, and others go in blocks.
+    /// Copies a run to where neither side passes the end.
     fn copy(&mut self, dst: usize, src: usize, len: usize)
         requires { CanCopy dst src len self.old.places }
         ensures { self.new ≡ record self.old { places = run_moved dst src len self.old.places } }
     {
         if dst < src {
-            if src - dst == 1 {
-                self.move_first::<1>(dst, dst + 1, len, 0);
-            } else {
-                self.copy_down(dst, src, len);
-            }
-        } else if dst - src == 1 {
-            self.move_last::<1>(src + 1, src, len);
+            self.copy_down(dst, src, len);
         } else {
             self.copy_up(dst, src, len);
         }

@@ -1,11 +1,6 @@
-use native.Mathlib.Numerals.{unary_clauses}
-use Rattle.std.proofs.Common.{ℕ, ◌+◌, ◌-◌, List, Option, sym, refl, arith}
-use Rattle.arraydeque_ring.{specs.{Ring.place_of, Moved.{CanCopy, run_moved}}, proofs.{moved.{InBlocks.whole_run, Parts.Three, Slides.slides_down}, slots.Slots.wrapped_down.{Given.Over, Goals.{After-capacity-last}}}}
+use Rattle.std.proofs.Common.{◌+◌, ◌-◌, sym, refl, arith}
+use Rattle.arraydeque_ring.{specs.{Ring.place_of, Moved.{run_moved}}, proofs.{moved.{InBlocks.{whole_run, whole_can}, Parts.Three, Slides.slides_down}, slots.Slots.wrapped_down.{Given.Over, Goals.{After-capacity-last}}}}
 use Rattle.arraydeque_ring.proofs.slots.Slots.wrapped_down.Goals as goal
-
--- a run is itself from the index 0 on
-whole_can : {X : Type 0} (dst src len : ℕ) (ps : List (Option X)) → CanCopy dst src len ps → CanCopy (dst + 0) (src + 0) (len - 0) ps
-whole_can dst src len ps can = simp unary_clauses can
 
 down : (g : Over) (c : After-capacity-last g) → let n = c.capacity-last.result in let t = c.args.dst in
     Three t (t + 1) (n - 1 - t) (n - 1) 0 1 0 1 (c.args.len - (n - 1 - t) - 1) c.args.self.places (run_moved t (place_of t 1 n) c.args.len c.args.self.places)
