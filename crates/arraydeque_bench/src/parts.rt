@@ -161,8 +161,8 @@ pub(crate) fn split_off<T: Item, const CAP: usize>(
     Ok(sum)
 }
 
-/// Each round the deque is filled with new random items, and half of all stay: those with a bit set,
-/// another one each round.
+/// Each round the deque is filled with new random items, and half of all stay: those that have a
+/// bit set, which is another one each round.
 pub(crate) fn retain<T: Item, const CAP: usize>(
     alloc: Global,
     rounds: usize,

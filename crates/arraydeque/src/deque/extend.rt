@@ -64,6 +64,9 @@ impl<T, const CAP: usize, B: Behavior> ArrayDeque<T, CAP, B> {
         ensures goes { result ≡ false → I.can_next elements.new
             × (IsFinite (I.remaining elements.old) → IsFinite (I.remaining elements.new)) }
     {
+        if self.is_full() {
+            return false;
+        }
         self.ring.fill_back(elements)
     }
 
@@ -78,6 +81,9 @@ impl<T, const CAP: usize, B: Behavior> ArrayDeque<T, CAP, B> {
         ensures goes { result ≡ false → I.can_next elements.new
             × (IsFinite (I.remaining elements.old) → IsFinite (I.remaining elements.new)) }
     {
+        if self.is_full() {
+            return false;
+        }
         self.ring.fill_front(elements)
     }
 }

@@ -117,8 +117,8 @@ impl<T> Slots<T> {
         self.count(StepKind::Move, len);
     }
 
-    /// Moves a run up by one place: one value after the other, which becomes one `memmove`. Here, as
-    /// in the next two, the region is a local, so that its pointer is known not to change.
+    /// Moves a run up by one place: one value after the other, which becomes one `memmove`. Here,
+    /// as in the next two, the region is a local, so that its pointer is known not to change.
     fn slid_up(self, src: usize, len: usize) -> Slots<T>
         requires in_region { src < length self.places }
         requires room { len < length self.places }
