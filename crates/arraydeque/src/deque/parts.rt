@@ -1,5 +1,7 @@
 //! Taking a range out of a deque, and cutting one in two.
 ghost use Rattle.std.specs.Prelude.{◌≡◌, ◌-◌, ◌*◌, ◌<◌, ◌≤◌, length, take, drop, IfOk, OnOk, OnErr};
+ghost use Rattle.std.specs.Iterator.{YieldsFirst};
+ghost use Rattle.std.specs.Iterator.Runs.{YieldsInOrder};
 ghost use Rattle.std.specs.Mem.{type_size};
 ghost use Rattle.arraydeque_ring.specs.Steps.{no_steps, more_puts, more_takes};
 ghost use Rattle.arraydeque.specs.Range.{Drains, span_of};
@@ -50,6 +52,8 @@ impl<T, const CAP: usize, B: Behavior> ArrayDeque<T, CAP, B> {
         ensures drains { let span =
             span_of (R.names_start range) (R.names_end range) self.old.items in
             IfOk result (λ drained. Drains CAP span.from span.to self.old drained self.new) }
+        ensures runs { YieldsInOrder (YieldsFirst {A = T} (λ remaining. remaining))
+            (λ remaining. remaining) }
         ensures unchanged { OnErr result (self.new ≡ self.old) }
         ensures refused { let span =
             span_of (R.names_start range) (R.names_end range) self.old.items in
