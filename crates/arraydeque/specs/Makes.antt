@@ -1,7 +1,7 @@
--- What a call makes of a deque: the list, where it starts, and the steps.
-use Rattle.std.specs.Prelude.{◌≡◌, ℕ, ◌+◌, ◌-◌, List, length, take, Option, Some, None, ◌==◌, nat_le, if◌then◌else◌}
-use Rattle.arraydeque_ring.specs.{Changed.{InsertMovesFewest, RemoveMovesFewest, DrainMovesFewest}, Ring.place_of, Sides.{moves_to_insert, moves_to_remove, moves_to_drain, start_opened, start_closed}, Steps.{Steps, more_puts, more_takes, more_moves, more_exchanges, more_lends, Rearranges}}
-use Rattle.arraydeque.specs.{Deque.{DequeState, with_back, with_front, wrapped_back, wrapped_front}, Machine.{Answer, Answers, done, item, displaced, drained, split}, Policy.{Policy, saturating, wrapping}, declared.run.Call.{Call, TheVariants.{PushFront, PushBack, PopFront, PopBack, Insert, Remove, SwapRemoveBack, SwapRemoveFront, Swap, Replace, Clear, Linearize, ExtendBack, ExtendFront, Extend, Drain, SplitOff}}}
+-- What a call makes of a deque: the list, where it starts, and the steps; and what it hands out.
+use Rattle.std.specs.Prelude.{◌≡◌, ℕ, ◌+◌, ◌-◌, ◌*◌, ◌<◌, List, length, take, drop, Option, Some, None, ◌==◌, nat_le, if◌then◌else◌}
+use Rattle.arraydeque_ring.specs.{Changed.{InsertMovesFewest, RemoveMovesFewest, DrainMovesFewest}, Ring.place_of, Sides.{moves_to_insert, moves_to_remove, moves_to_drain, start_opened, start_closed}, Steps.{Steps, no_steps, more_puts, more_takes, more_moves, more_exchanges, more_lends, Rearranges}}
+use Rattle.arraydeque.specs.{Deque.{DequeState, with_back, with_front, wrapped_back, wrapped_front}, Machine.{Answer, Answers, answer_of, done, item, displaced, drained, split}, Policy.{Policy, saturating, wrapping}, declared.run.{Call.{Call, TheVariants.{PushFront, PushBack, PopFront, PopBack, Insert, Remove, SwapRemoveBack, SwapRemoveFront, Swap, Replace, Clear, Linearize, ExtendBack, ExtendFront, Extend, Drain, SplitOff}}, Reply.{Reply, TheVariants.{Split, NoMemory}}}}
 
 module _ {X : Type 0} where
   -- the deque of capacity n after xs were pushed behind its last item, one by one: saturating stops
@@ -88,10 +88,28 @@ module _ {X : Type 0} (p : Policy) (n : ℕ) where
       DrainMovesFewest from to (length old.items) n old.start start
   MovesFewest _ _ old start = Unit {0}
 
+module _ {X B : Type 0} (p : Policy) (n size : ℕ) where
+  -- a deque that was split off starts at its first place, and each of its items was put there once
+  abbrev pub TailIs : Call X → Reply X n B → DequeState X → Type 0
+  TailIs (SplitOff at) (Split tail) old = tail ≡ record {
+    items = drop at old.items;
+    start = 0;
+    steps = more_puts (length old.items - at) no_steps;
+  }
+  TailIs _ _ old = Unit {0}
+
+  -- memory was refused only where the region for what goes out takes some, at `size` bytes an item
+  abbrev pub MayBeRefused : Call X → Reply X n B → Type 0
+  MayBeRefused (Drain from to) NoMemory = 0 < (to - from) * size
+  MayBeRefused (SplitOff at) NoMemory = 0 < n * size
+  MayBeRefused _ _ = Unit {0}
+
   -- under the policy and the capacity n the call is answered so, and makes the new deque of the old
-  -- one
-  pub record Makes (call : Call X) (answer : Answer X) (old new : DequeState X) : Type 0 where
-    pub list : Answers p n old.items call answer new.items
-    pub start : new.start ≡ start_after call answer old
-    pub steps : StepsAre call answer old new.steps
-    pub fewest : MovesFewest call answer old new.start
+  -- one; an item takes `size` bytes
+  pub record Makes (call : Call X) (reply : Reply X n B) (old new : DequeState X) : Type 0 where
+    pub list : Answers p n old.items call (answer_of reply) new.items
+    pub start : new.start ≡ start_after p n call (answer_of reply) old
+    pub steps : StepsAre p n call (answer_of reply) old new.steps
+    pub fewest : MovesFewest p n call (answer_of reply) old new.start
+    pub tail : TailIs call reply old
+    pub refused : MayBeRefused call reply

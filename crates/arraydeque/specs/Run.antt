@@ -13,10 +13,11 @@ module _ {X B : Type 0} {n : ℕ} (p : Policy) where
       (next : List X) × Answers p n l c (answer_of r) next × MachineRun next cs rs last
 
   -- the calls, made one after another from the old deque, are answered by the replies and leave the
-  -- new deque, and each makes of the deque before it the one after it
-  abbrev pub DequeRun : DequeState X → List (Call X) → List (Reply X n B) → DequeState X → Type 0
-  DequeRun old [] [] new = new ≡ old
-  DequeRun old [] (r ∷ rs) new = ⊥
-  DequeRun old (c ∷ cs) [] new = ⊥
-  DequeRun old (c ∷ cs) (r ∷ rs) new =
-      (next : DequeState X) × Makes p n c (answer_of r) old next × DequeRun next cs rs new
+  -- new deque, and each makes of the deque before it the one after it; an item takes `size` bytes
+  abbrev pub DequeRun : ℕ → DequeState X → List (Call X) → List (Reply X n B) → DequeState X
+      → Type 0
+  DequeRun size old [] [] new = new ≡ old
+  DequeRun size old [] (r ∷ rs) new = ⊥
+  DequeRun size old (c ∷ cs) [] new = ⊥
+  DequeRun size old (c ∷ cs) (r ∷ rs) new =
+      (next : DequeState X) × Makes p n size c r old next × DequeRun size next cs rs new

@@ -1,7 +1,8 @@
 //! A whole list of calls on a deque, as values, and a reply to each.
 ghost use Rattle.std.specs.Prelude.{◌≡◌, ◌<◌, length, IfOk, IfErr, OnErr};
+ghost use Rattle.std.specs.Mem.{type_size};
 ghost use Rattle.arraydeque.specs.Costs.{RunCosts};
-ghost use Rattle.arraydeque.specs.Machine.{answer_of, IsPolicyFree};
+ghost use Rattle.arraydeque.specs.Machine.{IsPolicyFree};
 ghost use Rattle.arraydeque.specs.Makes.{Makes};
 ghost use Rattle.arraydeque.specs.Policy.{Policy, saturating, wrapping};
 ghost use Rattle.arraydeque.specs.Run.{MachineRun, DequeRun};
@@ -109,7 +110,7 @@ impl<T: Drop, const CAP: usize, B: MachinePolicy<T, CAP>> ArrayDeque<T, CAP, B> 
         calls: Vec<Call<T>>,
     ) -> Result<Vec<Reply<T, CAP, B>>, MakeError<Vec<Call<T>>>>
         ensures whole { IfOk result (λ replies.
-            DequeRun B.policy self.old calls.items replies.items self.new) }
+            DequeRun B.policy (type_size T.row) self.old calls.items replies.items self.new) }
         ensures ok { IfOk result (λ replies.
             MachineRun B.policy self.old.items calls.items replies.items self.new.items) }
         ensures costs { IfOk result (λ replies.
@@ -137,7 +138,7 @@ pub(crate) trait MachinePolicy<T, const CAP: usize>: Behavior {
 
     /// Makes one call of the deque and tells its answer. A refused call leaves the list as it was.
     fn answer(deque: &mut ArrayDeque<T, CAP, Self>, call: Call<T>) -> Reply<T, CAP, Self>
-        ensures makes { Makes policy CAP call (answer_of result) deque.old deque.new };
+        ensures makes { Makes policy CAP (type_size T.row) call result deque.old deque.new };
 }
 
 impl<T: Drop, const CAP: usize> MachinePolicy<T, CAP> for Saturating {
@@ -147,7 +148,7 @@ impl<T: Drop, const CAP: usize> MachinePolicy<T, CAP> for Saturating {
         deque: &mut ArrayDeque<T, CAP, Saturating>,
         call: Call<T>,
     ) -> Reply<T, CAP, Saturating>
-        ensures makes { Makes saturating CAP call (answer_of result) deque.old deque.new }
+        ensures makes { Makes saturating CAP (type_size T.row) call result deque.old deque.new }
     {
         match call {
             Call::PushFront(element) => deque.answer_push_front(element),
@@ -169,7 +170,7 @@ impl<T: Drop, const CAP: usize> MachinePolicy<T, CAP> for Saturating {
 impl<T: Drop, const CAP: usize> ArrayDeque<T, CAP, Saturating> {
     /// A push before the first item, where there is room.
     fn answer_push_front(&mut self, element: T) -> Reply<T, CAP, Saturating>
-        ensures makes { Makes saturating CAP (PushFront element) (answer_of result)
+        ensures makes { Makes saturating CAP (type_size T.row) (PushFront element) result
             self.old self.new }
     {
         match self.push_front(element) {
@@ -180,7 +181,7 @@ impl<T: Drop, const CAP: usize> ArrayDeque<T, CAP, Saturating> {
 
     /// A push behind the last item, where there is room.
     fn answer_push_back(&mut self, element: T) -> Reply<T, CAP, Saturating>
-        ensures makes { Makes saturating CAP (PushBack element) (answer_of result)
+        ensures makes { Makes saturating CAP (type_size T.row) (PushBack element) result
             self.old self.new }
     {
         match self.push_back(element) {
@@ -191,7 +192,7 @@ impl<T: Drop, const CAP: usize> ArrayDeque<T, CAP, Saturating> {
 
     /// An insert, where the index is in range and there is room.
     fn answer_insert(&mut self, index: usize, element: T) -> Reply<T, CAP, Saturating>
-        ensures makes { Makes saturating CAP (Insert index element) (answer_of result)
+        ensures makes { Makes saturating CAP (type_size T.row) (Insert index element) result
             self.old self.new }
     {
         if index > self.len() {
@@ -208,7 +209,7 @@ impl<T: Drop, const CAP: usize> MachinePolicy<T, CAP> for Wrapping {
     ghost policy = { wrapping };
 
     fn answer(deque: &mut ArrayDeque<T, CAP, Wrapping>, call: Call<T>) -> Reply<T, CAP, Wrapping>
-        ensures makes { Makes wrapping CAP call (answer_of result) deque.old deque.new }
+        ensures makes { Makes wrapping CAP (type_size T.row) call result deque.old deque.new }
     {
         match call {
             Call::PushFront(element) => Reply::Displaced(deque.push_front(element)),
@@ -232,7 +233,7 @@ impl<T: Drop, const CAP: usize, B: Behavior> ArrayDeque<T, CAP, B> {
     fn answer_policy_free(&mut self, call: Call<T>) -> Reply<T, CAP, B>
         requires { IsPolicyFree call }
         ensures makes { (p : Policy) →
-            Makes p CAP call (answer_of result) self.old self.new }
+            Makes p CAP (type_size T.row) call result self.old self.new }
     {
         match call {
             Call::PopFront => Reply::Item(self.pop_front()),
@@ -268,7 +269,7 @@ impl<T: Drop, const CAP: usize, B: Behavior> ArrayDeque<T, CAP, B> {
     /// An exchange of two items, where both are there.
     fn answer_swap(&mut self, i: usize, j: usize) -> Reply<T, CAP, B>
         ensures makes { (p : Policy) →
-            Makes p CAP (Swap i j) (answer_of result) self.old self.new }
+            Makes p CAP (type_size T.row) (Swap i j) result self.old self.new }
     {
         let len = self.len();
         if i >= len || j >= len {
@@ -281,7 +282,7 @@ impl<T: Drop, const CAP: usize, B: Behavior> ArrayDeque<T, CAP, B> {
     /// Another item in the place of one, where it is there.
     fn answer_replace(&mut self, index: usize, element: T) -> Reply<T, CAP, B>
         ensures makes { (p : Policy) →
-            Makes p CAP (Replace index element) (answer_of result) self.old self.new }
+            Makes p CAP (type_size T.row) (Replace index element) result self.old self.new }
     {
         match self.get_mut(index) {
             Some(item) => Reply::Item(Some(mem::replace(item, element))),
@@ -292,7 +293,7 @@ impl<T: Drop, const CAP: usize, B: Behavior> ArrayDeque<T, CAP, B> {
     /// The items of a range that is there, where memory is granted.
     fn answer_drain(&mut self, from: usize, to: usize) -> Reply<T, CAP, B>
         ensures makes { (p : Policy) →
-            Makes p CAP (Drain from to) (answer_of result) self.old self.new }
+            Makes p CAP (type_size T.row) (Drain from to) result self.old self.new }
     {
         if from > to || to > self.len() {
             return Reply::OutOfRange(None);
@@ -306,7 +307,7 @@ impl<T: Drop, const CAP: usize, B: Behavior> ArrayDeque<T, CAP, B> {
     /// The items from an index on, where it is in range and memory is granted.
     fn answer_split_off(&mut self, at: usize) -> Reply<T, CAP, B>
         ensures makes { (p : Policy) →
-            Makes p CAP (SplitOff at) (answer_of result) self.old self.new }
+            Makes p CAP (type_size T.row) (SplitOff at) result self.old self.new }
     {
         if at > self.len() {
             return Reply::OutOfRange(None);

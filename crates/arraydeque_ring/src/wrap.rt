@@ -21,7 +21,7 @@ pub(crate) fn wrap_add(place: usize, offset: usize, capacity: usize) -> usize
 }
 
 /// The same without that branch, for places at random: off the sum goes the capacity, or nothing. A
-/// sum that wraps round, as it may in a region of items of size zero, is right again after that.
+/// capacity whose sums might pass `usize::MAX`, as only items of size zero allow, keeps the branch.
 #[inline(always)]
 pub(crate) fn wrap_add_branchless(place: usize, offset: usize, capacity: usize) -> usize
     requires in_region { place < capacity }
@@ -31,10 +31,13 @@ pub(crate) fn wrap_add_branchless(place: usize, offset: usize, capacity: usize) 
     if capacity & (capacity - 1) == 0 {
         return (place + offset) & (capacity - 1);
     }
+    if capacity > isize::MAX as usize {
+        return wrap_add(place, offset, capacity);
+    }
     let past = if offset < capacity - place {
         0
     } else {
         capacity
     };
-    place.wrapping_add(offset).wrapping_sub(past)
+    place + offset - past
 }

@@ -37,7 +37,7 @@ impl<'a, T> Iter<'a, T> {
     /// ```
     /// let mut deque = ArrayDeque::<i64, 3, Saturating>::new(alloc)?;
     /// deque.extend_back([1, 2, 3]);
-    /// let next = |total: i64, item: &i64| total.wrapping_mul(10).wrapping_add(*item);
+    /// let next = |total: i64, item: &i64| total.saturating_mul(10).saturating_add(*item);
     /// assert!(rt; deque.iter().fold(0, next) == 123);
     /// ```
     #[inline]

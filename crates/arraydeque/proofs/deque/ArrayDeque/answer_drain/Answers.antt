@@ -9,7 +9,16 @@ some_factor (suc n) size some = omega arith
 pub returns-in-Ok : goal.returns-in-Ok
 returns-in-Ok g c =
     let done = c.in-Ok.ensures.drains in
-    record { makes = λ p. record { list = grind (arith, nat_tests, done.drained, done.items); start = done.start; steps = done.steps; fewest = done.fewest } }
+    record {
+      makes = λ p. record {
+        list = grind (arith, nat_tests, done.drained, done.items);
+        start = done.start;
+        steps = done.steps;
+        fewest = done.fewest;
+        tail = tt;
+        refused = tt;
+      };
+    }
 
 pub returns-in-Err : goal.returns-in-Err
 returns-in-Err g c =

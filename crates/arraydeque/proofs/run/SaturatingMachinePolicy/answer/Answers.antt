@@ -11,13 +11,13 @@ answer_policy_free-requires g c =
 pub returns-in-ExtendBack : goal.returns-in-ExtendBack
 returns-in-ExtendBack g c =
     let added = TakesFrom-list _ _ _ _ c.in-ExtendBack.elements.items into_iter_items _ c.extend_back.ensures (λ it became. (became.0, became.3)) in
-    let made = extended_back-makes saturating g.row.CAP c.in-ExtendBack.elements _ _ (ap (λ (d : DequeState g.row.T.Denot). d.items) added) added in
+    let made = extended_back-makes saturating g.row.CAP _ c.in-ExtendBack.elements _ _ (ap (λ (d : DequeState g.row.T.Denot). d.items) added) added in
     record { makes = elim c.in-ExtendBack.is [ inl back ↦ rw back made.0 | inr std ↦ rw std made.1 ] }
 
 pub returns-in-ExtendFront : goal.returns-in-ExtendFront
 returns-in-ExtendFront g c =
     let added = TakesFrom-list _ _ _ _ c.in-ExtendFront.elements.items into_iter_items _ c.extend_front.ensures (λ it became. (became.0, became.3)) in
-    let made = extended_front-makes saturating g.row.CAP c.in-ExtendFront.elements _ _ (ap (λ (d : DequeState g.row.T.Denot). d.items) added) added in
+    let made = extended_front-makes saturating g.row.CAP _ c.in-ExtendFront.elements _ _ (ap (λ (d : DequeState g.row.T.Denot). d.items) added) added in
     record { makes = rw c.in-ExtendFront.is made }
 
 pub returns-in_default : goal.returns-in_default

@@ -11,13 +11,13 @@ answer_policy_free-requires g c =
 pub returns-in-ExtendBack : goal.returns-in-ExtendBack
 returns-in-ExtendBack g c =
     let added = TakesAll-list _ _ _ _ c.in-ExtendBack.elements.items into_iter_items c.extend_back.ensures (λ it became. (became.0, became.3)) in
-    let made = extended_back-makes wrapping g.row.CAP c.in-ExtendBack.elements _ _ added.0 (at_none g.row.CAP _ _ _ added.2 added.1) in
+    let made = extended_back-makes wrapping g.row.CAP _ c.in-ExtendBack.elements _ _ added.0 (at_none g.row.CAP _ _ _ added.2 added.1) in
     record { makes = elim c.in-ExtendBack.is [ inl back ↦ rw back made.0 | inr std ↦ rw std made.1 ] }
 
 pub returns-in-ExtendFront : goal.returns-in-ExtendFront
 returns-in-ExtendFront g c =
     let added = TakesAll-list _ _ _ _ c.in-ExtendFront.elements.items into_iter_items c.extend_front.ensures (λ it became. (became.0, became.3)) in
-    let made = extended_front-makes wrapping g.row.CAP c.in-ExtendFront.elements _ _ added.0 (at_none g.row.CAP _ _ _ added.2 added.1) in
+    let made = extended_front-makes wrapping g.row.CAP _ c.in-ExtendFront.elements _ _ added.0 (at_none g.row.CAP _ _ _ added.2 added.1) in
     record { makes = rw c.in-ExtendFront.is made }
 
 pub returns-in_default : goal.returns-in_default
