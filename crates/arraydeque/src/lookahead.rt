@@ -133,8 +133,9 @@ impl<I: Iterator, const CAP: usize> Scanner<I, CAP> {
         }
     }
 
-    /// Removes the next item and returns it if `accepts` answers `true` of it. Else, and at the end,
-    /// returns `None`: the item stays the next one, in the buffer. Requires `CAP` of at least 1.
+    /// Removes the next item and returns it if `accepts` answers `true` of it. Otherwise returns
+    /// `None`, as at the end, and the item stays the next one, in the buffer. Requires `CAP` above
+    /// 0.
     ///
     /// ```
     /// let mut scanner = Scanner::<_, 1>::new(alloc, [1, 2, 9].into_iter())?;

@@ -1,7 +1,7 @@
 //! Callers that lay a deque in one piece and work on its items in one slice.
 //!
-//! They are proved with no proof file: by the deque's contracts and those of std's slices each knows
-//! what the deque ends with.
+//! They are proved with no proof file: by the deque's contracts, and those of std's slices, each
+//! knows what the deque ends with.
 ghost use Rattle.std.specs.Prelude.{◌≡◌, length, All, OnOk, IfOk, OnErr, slice_set};
 ghost use Rattle.std.specs.List.Sorted.{IsPermutation, IsSorted};
 

@@ -37,7 +37,8 @@ impl<const CAP: usize> Limiter<CAP> {
     /// Admits a request at a time, or answers `false` where `CAP` requests were admitted within the
     /// span before it.
     pub fn admit(&mut self, now: u64) -> bool
-        ensures possible { IsTrue result ↔ (length (recent self.old.span now self.old.times) < CAP) }
+        ensures possible { IsTrue result
+            ↔ (length (recent self.old.span now self.old.times) < CAP) }
         ensures admitted { IsTrue result →
             self.new.times ≡ recent self.old.span now self.old.times ++ now ∷ [] }
         ensures refused { ¬ IsTrue result →
