@@ -1,6 +1,6 @@
 -- One run of a scanner's calls after another.
-use Rattle.std.{proofs.{Common.{◌≡◌, Bool, true, false, true≢false, List, [], ◌∷◌, ◌++◌, Option, Some, None, IfNone, refl, sym, ◌∙◌, ap, subst, append-nil, append_assoc}, iter.runs.Made.{run, to_end}}, specs.{Iterator.{Yields, Runs.WholeRun}, Option.option_to_list}}
-use Rattle.arraydeque.specs.Lookahead.{ScannerState, fresh_scanner, Reads, HandsOut, HasRest, TakesOff}
+use Rattle.std.{proofs.{Common.{◌≡◌, Bool, true, false, true≢false, List, [], ◌∷◌, ◌++◌, Option, Some, None, IfSome, IfNone, slice_get, refl, sym, ◌∙◌, ap, subst, append-nil, append_assoc}, iter.runs.Made.{run, to_end}}, specs.{Iterator.{Yields, Runs.WholeRun}, Option.option_to_list}}
+use Rattle.arraydeque.specs.Lookahead.{ScannerState, fresh_scanner, Reads, HandsOut, HasRest, TakesOff, NextIs}
 
 module _ {S A : Type 0} (steps : S → Option A → S → Type 0) where
   Yields-append : (s t u : S) (xs ys : List A) → Yields steps s xs t → Yields steps t ys u → Yields steps s (xs ++ ys) u
@@ -51,3 +51,12 @@ module _ {S A : Type 0} (steps : S → Option A → S → Type 0) where
   unfolding HasRest
   HasRest-none old new None given empty ended = (given.0, (new.iter, subst (λ e. Reads steps old.ended old.iter given.0 e new.iter) ended given.1), sym (given.2 ∙ empty))
   HasRest-none old new (Some item) given empty ended = tt
+
+  next_is : (P : A → Type 0) (buffer xs rest : List A) → IfSome (slice_get buffer 0) P → (buffer ≡ [] → xs ≡ []) → rest ≡ buffer ++ xs → IfSome (slice_get rest 0) P
+  next_is P [] xs rest holds none same = rw (same, none refl) tt
+  next_is P (x ∷ buffer) xs rest holds none same = rw same holds
+
+  -- what comes next is the first item of the buffer, or nothing where the iterator has ended
+  pub NextIs-buffer : (P : A → Type 0) (s : ScannerState S A) → IfSome (slice_get s.buffer 0) P → IfNone (slice_get s.buffer 0) (s.ended ≡ true) → NextIs steps P s
+  unfolding HasRest
+  NextIs-buffer P s holds ended rest has = next_is P s.buffer has.0 rest holds (λ empty. (subst (λ e. Reads steps e s.iter has.0 true has.1.0) (rw empty at ended) has.1.1).0) has.2

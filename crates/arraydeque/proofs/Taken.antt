@@ -1,19 +1,26 @@
 -- What is taken of a source of items.
-use Rattle.std.{proofs.{Common.{◌≡◌, ℕ, ◌<◌, ◌≤◌, List, length, take, min, Option, None, Bool, true, false, ◌++◌, refl, sym, subst, ap, ◌∙◌, arith, inl, inr}, iter.runs.{Lists.{Yields-both}, Made.{run, run_of_exit, took}}, lemmas.{Bool.{cases_lt, cases_Bool}, List.{same_lists, length-take, get_or-take}}}, specs.{Option.unwrap_or, Iterator.{Yields, Drains, Runs.{Run, ItemsAre, YieldsInOrder}}}}
+use Rattle.std.{proofs.{Common.{◌≡◌, ℕ, ◌<◌, ◌≤◌, List, length, take, min, Option, Some, None, slice_get, slice_index_or, Bool, true, false, ◌++◌, refl, sym, subst, ap, ◌∙◌, arith, inl, inr}, iter.runs.{Lists.{Yields-both}, Made.{run, run_of_exit, took}}, lemmas.{Bool.{cases_lt, cases_Bool}, List.{same_lists, length-take, get_or-take}, Option.slice_get-get_or}}, specs.{Option.{unwrap_or, option_map}, Iterator.{Yields, Drains, Runs.{Run, ItemsAre, YieldsInOrder}}}}
 use Rattle.arraydeque_ring.specs.Fills.{Fills, Ends}
 use Rattle.arraydeque.specs.Sources.{TakesFrom, TakesAll}
 
 -- a run over a list gives the first n of it, where it gives at most n items, and fewer only at its end
-pub items-first : {S A : Type 0} {gives : S → Option A → S → Type 0} (run : Run gives) (n : ℕ) (xs : List A)
-    → ItemsAre run xs → run.len ≤ n → (run.len < n → run.whole ≡ true) → run.items ≡ take n xs
-items-first run n xs are at_most fewer =
-    let full : run.len ≡ min n (length xs) = elim (cases_lt run.len n) [
-      | inl less ↦ let all = are.1 (fewer less) in omega arith
-      | inr none ↦ let within = are.0 in omega arith
-    ] in
-    same_lists run.items (take n xs) (omega (arith, run.long, length-take n xs)) (λ k d below.
-    let here : k < run.len = omega (arith, run.long) in
-    ap (λ o. unwrap_or o d) (sym (run.reads k d here) ∙ are.2 k d here) ∙ sym (get_or-take n xs k d (omega arith)))
+module _ {S A : Type 0} {gives : S → Option A → S → Type 0} (run : Run gives) (n : ℕ) (at_most : run.len ≤ n) (fewer : run.len < n → run.whole ≡ true) (xs : List A) where
+  first_items : run.len ≤ length xs → (run.whole ≡ true → run.len ≡ length xs) → ((k : ℕ) (d : A) → k < run.len → option_map (λ y. y) (run.at k) ≡ Some (slice_index_or xs k d)) → run.items ≡ take n xs
+  first_items within all reads =
+      let full : run.len ≡ min n (length xs) = elim (cases_lt run.len n) [
+        | inl less ↦ let same = all (fewer less) in omega arith
+        | inr none ↦ omega arith
+      ] in
+      same_lists run.items (take n xs) (omega (arith, run.long, length-take n xs)) (λ k d below.
+      let here : k < run.len = omega (arith, run.long) in
+      ap (λ o. unwrap_or o d) (sym (run.reads k d here) ∙ reads k d here) ∙ sym (get_or-take n xs k d (omega arith)))
+
+  pub items-first : ItemsAre run xs → run.items ≡ take n xs
+  items-first are = first_items are.0 are.1 are.2
+
+  -- the same of items that are read off a list
+  pub items-read : run.len ≤ length xs → (run.whole ≡ true → run.len ≡ length xs) → ((k : ℕ) → k < run.len → run.at k ≡ slice_get xs k) → run.items ≡ take n xs
+  items-read within all reads = first_items within all (λ k d here. ap (option_map (λ y. y)) (reads k here ∙ slice_get-get_or xs k d (omega arith)))
 
 module _ {Source S A : Type 0} (becomes : Source → S → Type 0) (gives : S → Option A → S → Type 0) (source : Source) (P : List A → Type 0) where
   -- of a source whose iterator shows the list xs
@@ -26,7 +33,7 @@ module _ {Source S A : Type 0} (becomes : Source → S → Type 0) (gives : S �
 
     -- its first n items
     pub TakesFrom-list : (n : ℕ) → TakesFrom becomes gives source n P → Shows → P (take n xs)
-    TakesFrom-list n took shows = subst P (items-first took.run n xs (reads shows took.iterator took.run took.became took.from_it) took.at_most took.or_all) took.holds
+    TakesFrom-list n took shows = subst P (items-first took.run n took.at_most took.or_all xs (reads shows took.iterator took.run took.became took.from_it)) took.holds
 
     -- and all of them
     pub TakesAll-list : TakesAll becomes gives source P → Shows → P xs
@@ -50,15 +57,19 @@ module _ {Source S A : Type 0} (becomes : Source → S → Type 0) (gives : S �
   -- by a fill, and by what takes all that it left
   module _ (s t : S) (became : becomes source s) (n : ℕ) (ended : Bool) (Q : List A → Type 0) (filled : Fills gives s t n ended Q) where
     pub TakesFrom-fills : ((xs : List A) → Q xs → P xs) → TakesFrom becomes gives source n P
-    TakesFrom-fills holds = record {
-      iterator = s;
-      became = became;
-      run = run gives s filled.items ended (filled.last, filled.yielded, λ none. (t, filled.none none));
-      from_it = refl;
-      at_most = filled.at_most;
-      or_all = λ less. elim (cases_Bool ended) [ inl none ↦ none | inr some ↦ let all = (filled.all some).1 in absurd (omega arith) ];
-      holds = holds filled.items filled.holds;
-    }
+    TakesFrom-fills holds =
+        let ran = run gives s filled.items ended (filled.last, filled.yielded, λ none. (t, filled.none none)) in
+        let or_all : length filled.items < n → ended ≡ true = λ less. elim (cases_Bool ended) [ inl none ↦ none | inr some ↦ let all = (filled.all some).1 in absurd (omega arith) ] in
+        record {
+          iterator = s;
+          became = became;
+          run = ran;
+          from_it = refl;
+          at_most = filled.at_most;
+          or_all = or_all;
+          holds = holds filled.items filled.holds;
+          first = items-read ran n filled.at_most or_all;
+        }
 
     pub TakesAll-fills : ended ≡ true → ((xs : List A) → length xs ≤ n → Q xs → P xs) → TakesAll becomes gives source P
     TakesAll-fills none holds = TakesAll-loop s became filled.items (holds filled.items filled.at_most filled.holds) filled.last t filled.yielded (filled.none none)

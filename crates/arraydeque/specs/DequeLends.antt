@@ -46,3 +46,11 @@ module _ (T CAP B : RattleType) (deque : MutBor (DequeState T.Denot)) where
       (follows_both (the_row T CAP B) (Array T 0) (Array T 0)
       loan.name loan.first.ghost_name loan.second.ghost_name
       (λ ws vs. rewritten deque.now (as_many loan.first.now ws ++ as_many loan.second.now vs)))
+
+  -- the items end as what was last written through r, and one lend is counted, and nothing else
+  -- changes
+  abbrev pub lends_list : MutBor (List T.Denot) → Fml
+  lends_list r = Lends (the_row T CAP B) (Array T 0) deque r (λ ws. record deque.now {
+    items = as_many deque.now.items ws;
+    steps = more_lends 1 deque.now.steps;
+  })

@@ -1,5 +1,5 @@
 -- What a contract sees of a scanner, what its calls read and hand out, and what it has left.
-use Rattle.std.specs.{Prelude.{◌≡◌, ℕ, ◌+◌, ◌<◌, ◌≤◌, max, List, [], ◌∷◌, ◌++◌, length, drop, slice_get, Option, None, IfNone, OnSome, Bool, true, false}, Option.option_to_list, Iterator.{Count, IsFinite, UpTo, size, count_map, count_unless, Yields, YieldsThen}}
+use Rattle.std.specs.{Prelude.{◌≡◌, ℕ, ◌+◌, ◌<◌, ◌≤◌, max, List, [], ◌∷◌, ◌++◌, length, drop, slice_get, Option, None, IfNone, IfSome, OnSome, Bool, true, false}, Option.option_to_list, Iterator.{Count, IsFinite, UpTo, size, count_map, count_unless, Yields, YieldsThen}}
 
 -- a scanner: its iterator, the items read ahead, and whether the iterator has given its first None
 pub record ScannerState (S A : Type 0) : Type 0 where
@@ -34,6 +34,10 @@ module _ {S A : Type 0} (steps : S → Option A → S → Type 0) where
   unfoldable pub HasRest : ScannerState S A → List A → Type 0
   HasRest s rest =
       (xs : List A) × ((t : S) × Reads s.ended s.iter xs true t) × (rest ≡ s.buffer ++ xs)
+
+  -- P holds of the item that comes next, if one does
+  abbrev pub NextIs : (A → Type 0) → ScannerState S A → Type 0
+  NextIs P s = (rest : List A) → HasRest s rest → IfSome (slice_get rest 0) P
 
   -- the old rest is ys followed by the new one
   abbrev pub TakesOff : ScannerState S A → List A → ScannerState S A → Type 0

@@ -191,6 +191,7 @@ impl<T, const CAP: usize, B: Behavior> ArrayDeque<T, CAP, B> {
         ensures start { OnSome result (self.new.start ≡ place_of self.old.start 1 CAP) }
         ensures steps { OnSome result (self.new.steps ≡ more_takes 1 self.old.steps) }
         ensures none { IfNone result (self.new ≡ self.old) }
+        ensures empty { IfNone result (self.old.items ≡ []) }
     {
         self.ring.pop_front()
     }
@@ -215,6 +216,7 @@ impl<T, const CAP: usize, B: Behavior> ArrayDeque<T, CAP, B> {
         ensures start { self.new.start ≡ self.old.start }
         ensures steps { OnSome result (self.new.steps ≡ more_takes 1 self.old.steps) }
         ensures none { IfNone result (self.new ≡ self.old) }
+        ensures empty { IfNone result (self.old.items ≡ []) }
     {
         self.ring.pop_back()
     }

@@ -1,7 +1,7 @@
 //! What a refused call gives back.
 ghost use Rattle.std.specs.Prelude.{◌≡◌, Some, codes};
 ghost use Rattle.std.specs.IoError.{error_kind};
-ghost use Rattle.std.specs.declared.io.ErrorKind.TheVariants.{OutOfMemory};
+ghost use Rattle.std.specs.declared.io.ErrorKind.TheVariants.{OutOfMemory, StorageFull};
 
 use std::alloc::AllocError;
 use std::error::Error;
@@ -41,6 +41,20 @@ impl<T: Drop> fmt::Debug for CapacityError<T> {
 
     fn fmt<W: fmt::Write>(&self, f: &mut fmt::Formatter<W>) -> fmt::Result {
         f.write_str("CapacityError: insufficient capacity")
+    }
+}
+
+impl<T: Drop> From<CapacityError<T>> for io::Error {
+    ghost from_gives = { λ _ error. error_kind error ≡ StorageFull };
+
+    /// Lets the element go: an error whose kind is that of a store that is full.
+    ///
+    /// ```
+    /// let refusal = CapacityError { element: 7 };
+    /// assert!(rt; std::io::Error::from(refusal).kind() == std::io::ErrorKind::StorageFull);
+    /// ```
+    fn from(_refusal: CapacityError<T>) -> io::Error {
+        io::ErrorKind::StorageFull.into()
     }
 }
 

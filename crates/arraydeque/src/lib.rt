@@ -16,10 +16,11 @@
 //! # Policies
 //!
 //! - [`Saturating`]: a push or an insert into a full deque returns its element in a
-//!   [`CapacityError`]. `extend_back`, `extend_front` and `from_iter` take no more items than there
-//!   is room for.
+//!   [`CapacityError`]. `extend_back`, `extend_front`, `append` and `from_iter` take no more items
+//!   than there is room for.
 //! - [`Wrapping`]: a push into a full deque removes the item at the other end, and returns it. An
-//!   extend pushes each of its items so, and drops what goes. There is no `insert`.
+//!   extend pushes each of its items so, and drops what goes. `append` keeps the last items of both
+//!   deques. There is no `insert`.
 //!
 //! A deque of capacity 0 is always empty and always full, and takes no memory. A push returns its
 //! element: in the error under `Saturating`, in place of an item under `Wrapping`.
@@ -36,13 +37,14 @@
 //!
 //! After each of these the deque is as it was. `deque[index]`, `insert`, `swap`, `drain` and
 //! `split_off` require indexes that are in range: the caller shows that they are, as by a test of
-//! `len`. `run` makes that test itself.
+//! `len`. `run` makes that test itself. `as_mut_slice` requires a list in one piece, as `linearize`
+//! leaves it. `truncate` and `truncate_front` take any length.
 //!
 //! # What a call moves
 //!
 //! | Call | Moves |
 //! |---|---|
-//! | pushes, pops, extends, `split_off`, `clear` | no item that stays |
+//! | pushes, pops, extends, `append`, `split_off`, `clear`, truncates | no item that stays |
 //! | `insert` | the items before the index or those from it on, whichever are fewer |
 //! | `remove`, `drain` | the items before what goes or those behind it, whichever are fewer |
 //! | `swap`, `swap_remove_back`, `swap_remove_front` | two items, by one exchange at most |

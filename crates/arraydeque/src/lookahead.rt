@@ -1,11 +1,12 @@
 //! Looking ahead in an iterator.
-ghost use Rattle.std.specs.Prelude.{◌≡◌, ◌<◌, ◌+◌, ◌-◌, ◌*◌, ◌∷◌, [], List, length, drop, slice_get, option_copied, ⊤, true, IfOk, IfErr, OnOk, OnErr, IsOk, OnSome, IfNone, ◌↔◌};
+ghost use Rattle.std.specs.Prelude.{◌≡◌, ◌<◌, ◌+◌, ◌-◌, ◌*◌, ◌∷◌, [], List, length, drop, slice_get, option_copied, ⊤, true, IfOk, IfErr, OnOk, OnErr, IsOk, OnSome, IfSome, IfNone, false, ◌↔◌};
 ghost use Rattle.std.specs.Borrow.{sem};
+ghost use Rattle.std.specs.Fn.{FnOnceReturnsAt};
 ghost use Rattle.std.specs.Iterator.{IsFinite, MakesProgress, UpTo, count_map, size};
 ghost use Rattle.std.specs.Iterator.Runs.{WholeRun};
 ghost use Rattle.std.specs.Mem.{type_size};
 ghost use Rattle.std.specs.Option.{option_to_list};
-ghost use Rattle.arraydeque.specs.Lookahead.{fresh_scanner, left_of, Reads, HandsOut, HasRest, TakesOff, PutsOn, Peeks, Gives};
+ghost use Rattle.arraydeque.specs.Lookahead.{fresh_scanner, left_of, Reads, HandsOut, HasRest, TakesOff, PutsOn, NextIs, Peeks, Gives};
 
 use crate::behavior::Saturating;
 use crate::deque::ArrayDeque;
@@ -130,6 +131,41 @@ impl<I: Iterator, const CAP: usize> Scanner<I, CAP> {
             Some(item) => Some(item),
             None => self.read(),
         }
+    }
+
+    /// Removes the next item and returns it if `accepts` answers `true` of it. Otherwise returns
+    /// `None`, as at the end, and the item stays the next one, in the buffer. Requires `CAP` above
+    /// 0.
+    ///
+    /// ```
+    /// let mut scanner = Scanner::<_, 1>::new(alloc, [1, 2, 9].into_iter())?;
+    /// let mut small = Vec::new(alloc);
+    /// while let Some(item) = scanner.next_if(|item| *item < 5) {
+    ///     small.push(item)?;
+    /// }
+    /// assert!(rt; small.as_slice() == [1, 2].as_slice());
+    /// assert!(rt; (scanner.next(), scanner.next()) == (Some(9), None));
+    /// ```
+    pub fn next_if<P: FnOnce(&I::Item) -> bool>(&mut self, accepts: P) -> Option<I::Item>
+        requires ahead { 0 < CAP }
+        requires callable { P.IsAlwaysCallable accepts }
+        ensures hands_out { HandsOut I.next_gives self.old (option_to_list result) self.new }
+        ensures rest { TakesOff I.next_gives self.old (option_to_list result) self.new }
+        ensures accepted { IfSome result (λ item.
+            FnOnceReturnsAt P.FnOnce accepts item true) }
+        ensures refused { IfNone result (NextIs I.next_gives
+            (λ item. FnOnceReturnsAt P.FnOnce accepts item false) self.new) }
+        ensures none { IfNone result
+            (self.new.buffer ≡ [] → self.new.ended ≡ true) }
+        ensures goes { MakesProgress (λ _. ⊤) (left_of I.remaining) self.old result self.new }
+        ensures left { IsFinite (left_of I.remaining self.old)
+            → UpTo (left_of I.remaining self.new) (size (left_of I.remaining self.old)) }
+    {
+        let is_accepted = match self.peek(0) {
+            Some(item) => accepts(item),
+            None => false,
+        };
+        if is_accepted { self.next() } else { None }
     }
 
     /// Puts an item back, or another in its place, so that `next` will return it. If the buffer is

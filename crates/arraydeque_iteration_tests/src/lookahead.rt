@@ -35,6 +35,8 @@ impl<I: Iterator> Iterator for Watched<'_, I> {
 enum Call {
     Peek(usize),
     Next,
+    /// The next item, if it is below this.
+    NextBelow(i64),
     Unread(i64),
 }
 
@@ -53,6 +55,8 @@ fn scans<I: Iterator<Item = i64>, const CAP: usize>(
             Call::Peek(k) if k < CAP => scanner.peek(k).copied(),
             Call::Peek(_) => return false,
             Call::Next => scanner.next(),
+            Call::NextBelow(limit) if 0 < CAP => scanner.next_if(|item| *item < limit),
+            Call::NextBelow(_) => return false,
             Call::Unread(item) => match scanner.unread(item) {
                 Ok(()) => None,
                 Err(refusal) => Some(refusal.element),
@@ -128,6 +132,26 @@ fn asks_for_no_more_than_it_wants(alloc: Global) -> Result<bool, Fail> {
     Ok(scans(&mut scanner, &asked, &calls))
 }
 
+/// Whether an item that isn't accepted stays the next one, and is asked for once.
+fn leaves_what_is_not_accepted(alloc: Global) -> Result<bool, Fail> {
+    let calls = [
+        (Call::NextBelow(5), Some(1), 1),
+        (Call::NextBelow(5), None, 2),
+        (Call::NextBelow(5), None, 2),
+        (Call::NextBelow(10), Some(9), 2),
+        (Call::Unread(3), None, 2),
+        (Call::NextBelow(3), None, 2),
+        (Call::Next, Some(3), 2),
+        (Call::NextBelow(5), None, 3),
+        (Call::NextBelow(5), None, 3),
+        (Call::Next, None, 3),
+    ];
+    let asked = Cell::new(0);
+    let iter = Watched::by(&asked, Script::of(&[Some(1), Some(9), None, Some(2)]));
+    let mut scanner = made(Scanner::<_, 1>::new(alloc, iter))?;
+    Ok(scans(&mut scanner, &asked, &calls))
+}
+
 /// Whether a walk that is left early leaves the rest, also of what was looked at.
 fn leaves_the_rest_of_a_walk(alloc: Global) -> Result<bool, Fail> {
     let mut scanner = made(Scanner::<_, 3>::new(alloc, [1, 2, 3, 4].into_iter()))?;
@@ -147,6 +171,7 @@ fn scanners_answer_and_ask_as_they_should(rt: HostRuntime) -> Result<(), Fail> {
     assert!(rt; hands_back_each_item(rt.alloc())?);
     assert!(rt; asks_no_more_after_the_first_none(rt.alloc())?);
     assert!(rt; asks_for_no_more_than_it_wants(rt.alloc())?);
+    assert!(rt; leaves_what_is_not_accepted(rt.alloc())?);
     assert!(rt; leaves_the_rest_of_a_walk(rt.alloc())?);
     Ok(())
 }

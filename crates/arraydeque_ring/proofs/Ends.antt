@@ -4,7 +4,7 @@ use Rattle.arraydeque_ring.specs.{Ring.RingState, Steps.Steps}
 
 module _ {X : Type 0} where
   -- only an empty list has no last item
-  nothing_last : (xs : List X) → None ≡ slice_get xs (length xs - 1) → xs ≡ []
+  pub nothing_last : (xs : List X) → None ≡ slice_get xs (length xs - 1) → xs ≡ []
   nothing_last [] none = refl
   nothing_last (x ∷ xs) none = let some = slice_get-get_or (x ∷ xs) (length (x ∷ xs) - 1) x (omega arith) in cc
 

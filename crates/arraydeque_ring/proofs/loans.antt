@@ -5,3 +5,4 @@ pub mod Placed
 pub mod Rings
 pub mod Runs
 pub mod Slices
+pub mod Written

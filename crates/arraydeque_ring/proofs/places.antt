@@ -8,3 +8,4 @@ pub mod LaidOut
 pub mod Opened
 pub mod Reads
 pub mod Rotated
+pub mod Appended

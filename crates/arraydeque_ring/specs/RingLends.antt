@@ -1,5 +1,5 @@
 -- What a `Ring` ends as, once a `&mut` to one of its items has ended.
-use Rattle.std.specs.{Prelude.{ℕ, List, ◌++◌, slice_set, Option}, Borrow.{Fml, GName, RattleType, MutBor, Array, LendsIf, LendsBoth, fsep, follows, follows_both}}
+use Rattle.std.specs.{Prelude.{ℕ, List, ◌++◌, slice_set, Option}, Borrow.{Fml, GName, RattleType, MutBor, Array, Lends, LendsIf, LendsBoth, fsep, follows, follows_both}}
 use Rattle.arraydeque_ring.specs.{Loans.{LoanState, as_many}, Ring.RingState, Steps.more_lends, contracts.ring.Ring.the_row}
 
 -- the item at the index ends as what was last written through r, and nothing else changes but that
@@ -37,3 +37,11 @@ module _ (R : RattleType) (ring : MutBor (RingState R.Denot)) where
       (follows_both (the_row R) (Array R 0) (Array R 0)
       loan.name loan.first.ghost_name loan.second.ghost_name
       (λ ws vs. rewritten ring.now (as_many loan.first.now ws ++ as_many loan.second.now vs)))
+
+  -- the items end as what was last written through r, and one lend is counted, and nothing else
+  -- changes
+  abbrev pub lends_list : MutBor (List R.Denot) → Fml
+  lends_list r = Lends (the_row R) (Array R 0) ring r (λ ws. record ring.now {
+    items = as_many ring.now.items ws;
+    steps = more_lends 1 ring.now.steps;
+  })

@@ -136,6 +136,7 @@ impl<T> Ring<T> {
           steps = more_takes 1 self.old.steps;
         }) }
         ensures none { IfNone result (self.new ≡ self.old) }
+        ensures empty { IfNone result (self.old.items ≡ []) }
     {
         if self.len == 0 {
             return None;
@@ -186,6 +187,7 @@ impl<T> Ring<T> {
           steps = more_takes 1 self.old.steps;
         }) }
         ensures none { IfNone result (self.new ≡ self.old) }
+        ensures empty { IfNone result (self.old.items ≡ []) }
     {
         if self.len == 0 {
             return None;

@@ -1,6 +1,8 @@
 //! Pushes under both policies, also into a full deque.
 use crate::build::{deque_at, wrapping_at};
 use crate::steps::{End, Row, Step, walk};
+use arraydeque::{ArrayDeque, Saturating};
+use std::io;
 use std::test::Fail;
 
 #[test]
@@ -41,5 +43,21 @@ fn a_full_deque_refuses_or_displaces(rt: HostRuntime) -> Result<(), Fail> {
         &into_two,
         &[2, 3],
     );
+    Ok(())
+}
+
+/// Pushes an item at either end, for a caller who reads and writes.
+fn pushed_for_io<const CAP: usize>(deque: &mut ArrayDeque<i64, CAP, Saturating>) -> io::Result<()> {
+    deque.push_back(1)?;
+    Ok(deque.push_front(0)?)
+}
+
+#[test]
+fn a_push_without_room_becomes_an_error_of_a_full_storage(rt: HostRuntime) -> Result<(), Fail> {
+    let mut deque = deque_at::<3>(rt.alloc(), 0, &[])?;
+    assert!(rt; pushed_for_io(&mut deque).is_ok());
+    let refused = pushed_for_io(&mut deque).map_err(|error| error.kind());
+    assert!(rt; refused == Err(io::ErrorKind::StorageFull));
+    assert!(rt; deque.into_vec()?.as_slice() == [0, 1, 1].as_slice());
     Ok(())
 }

@@ -1,18 +1,10 @@
 -- Where a token ends, and that no two tokens side by side could be one.
-use Rattle.std.{proofs.{Common.{◌≡◌, ℕ, ◌+◌, ◌-◌, ◌<◌, List, [], ◌∷◌, ◌++◌, length, get_or, slice_get, All, Option, IfNone, true, inl, inr, refl, sym, ◌∙◌, subst, arith}, Math.Seq.{get_or-append_seam}, lemmas.{Bool.cases_lt, List.{get_or_append_left, length-append}}}, specs.List.AllAdjacentBelow}
-use Rattle.arraydeque.specs.Lookahead.{ScannerState, Reads, HasRest}
+use Rattle.std.{proofs.{Common.{◌≡◌, ℕ, ◌+◌, ◌-◌, ◌<◌, List, [], ◌∷◌, ◌++◌, length, get_or, All, Option, Some, None, IfSome, inl, inr, sym, ◌∙◌, arith}, Math.Seq.{get_or-append_seam}, lemmas.{Bool.cases_lt, List.{get_or_append_left, length-append}}}, specs.List.AllAdjacentBelow}
 use Rattle.uses.specs.{Tokens.{kind_of, joined, IsOfOneKind, IsOver, AreLongest}, declared.tokens.{Kind.{Kind, TheVariants.Sign}, Token.Token}}
 
-over_behind : (kind : Kind) (buffer xs rest : List ℕ) → IsOver kind buffer → (buffer ≡ [] → xs ≡ []) → rest ≡ buffer ++ xs → IsOver kind rest
-over_behind kind [] xs rest over none same = rw (same, none refl) tt
-over_behind kind (b ∷ bs) xs rest over none same = rw same over
-
--- what comes next is the first byte of the buffer, or nothing where the iterator has ended
-pub IsOver-rest : {S : Type 0} (steps : S → Option ℕ → S → Type 0) (s : ScannerState S ℕ) (kind : Kind) → IsOver kind s.buffer → IfNone (slice_get s.buffer 0) (s.ended ≡ true) → (rest : List ℕ) → HasRest steps s rest → IsOver kind rest
-unfolding HasRest
-IsOver-rest steps s kind over ended rest has =
-    over_behind kind s.buffer has.0 rest over (λ empty.
-    (subst (λ e. Reads steps e s.iter has.0 true has.1.0) (rw empty at ended) has.1.1).0) has.2
+pub some_weaker : {X : Type 0} {P Q : X → Type 0} (o : Option X) → IfSome o P → ((x : X) → P x → Q x) → IfSome o Q
+some_weaker None holds weaker = tt
+some_weaker (Some x) holds weaker = weaker x holds
 
 adjacent_push : {X : Type 0} (R : X → X → Type 0) (xs : List X) (x : X) → AllAdjacentBelow R xs (length xs) → ((d : X) → 0 < length xs → R (get_or xs (length xs - 1) d) x) → AllAdjacentBelow R (xs ++ x ∷ []) (length (xs ++ x ∷ []))
 adjacent_push R xs x each last k d within =

@@ -1,3 +1,4 @@
 pub mod History
+pub mod Limiter
 pub mod Tokens
 pub mod Window

@@ -3,7 +3,9 @@
 #![tactic(auto)]
 
 pub mod history;
+pub mod in_place;
 pub mod jobs;
+pub mod limiter;
 pub mod pipe;
 pub mod scanning;
 pub mod tokens;

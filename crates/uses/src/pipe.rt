@@ -2,11 +2,13 @@
 //!
 //! It stands on `arraydeque` under `Saturating`, and is proved from the deque's public contract
 //! alone: what was written comes out unchanged.
-ghost use Rattle.std.specs.Prelude.{◌≡◌, ◌<◌, ◌-◌, ◌++◌, [], length, take, min, IfOk, OnOk, OnErr};
-ghost use Rattle.std.specs.Io.{StartsWith};
+ghost use Rattle.std.specs.Prelude.{◌≡◌, ◌<◌, ◌-◌, ◌++◌, [], length, take, drop, min, IfOk, OnOk, OnErr};
+ghost use Rattle.std.specs.Io.{StartsWith, WritesAtMost};
+ghost use Rattle.std.specs.Io.KnownBytes.{WriteAppends};
 
 use arraydeque::{ArrayDeque, Saturating};
 use std::alloc::{AllocError, Global};
+use std::io::{self, Write};
 use std::marker::Model;
 
 /// The bytes that were written and not yet read, in order.
@@ -61,6 +63,21 @@ impl<const CAP: usize> Pipe<CAP> {
             self.bytes.pop_front();
         }
         Ok(())
+    }
+
+    /// Hands bytes that wait to a writer, once, and drops as many as it took, which is what is
+    /// returned. Where it fails all still wait.
+    pub fn write_to<W: Write>(&mut self, writer: &mut W) -> io::Result<usize>
+        ensures left { IfOk result (λ count. self.new ≡ drop count self.old) }
+        ensures within { WritesAtMost result self.old }
+        ensures written { WriteAppends (W.contents writer.old) (W.contents writer.new)
+            result self.old }
+        ensures unchanged { OnErr result (self.new ≡ self.old) }
+    {
+        let (first, _wrapped) = self.bytes.as_slices();
+        let count = writer.write(first)?;
+        self.bytes.truncate_front(self.bytes.len() - count);
+        Ok(count)
     }
 
     /// Sends a text through an empty pipe, piece by piece, onto the end of `into`. Where memory is

@@ -88,31 +88,10 @@ fn next_token<I: Iterator<Item = u8>, const AHEAD: usize>(
     let kind = kind_of(first);
     let mut text = Vec::new(alloc);
     text.push(first)?;
-    while let Some(byte) = next_of_kind(scanner, kind) {
+    while let Some(byte) = scanner.next_if(|byte| kind != Kind::Sign && kind_of(*byte) == kind) {
         text.push(byte)?;
     }
     Ok(Some(Token { kind, text }))
-}
-
-/// Takes the next byte if it goes on a token of that kind.
-fn next_of_kind<I: Iterator<Item = u8>, const AHEAD: usize>(
-    scanner: &mut Scanner<I, AHEAD>,
-    kind: Kind,
-) -> Option<u8>
-    requires ahead { 0 < AHEAD }
-    ensures taken { TakesOff I.next_gives scanner.old (option_to_list result) scanner.new }
-    ensures same_kind { IfSome result (λ byte. kind_of byte ≡ kind) }
-    ensures no_sign { IfSome result (λ _. kind ≢ Sign) }
-    ensures over { IfNone result ((rest : List ℕ)
-        → HasRest I.next_gives scanner.new rest → IsOver kind rest) }
-    ensures goes { MakesProgress (λ _. ⊤) (left_of I.remaining) scanner.old result scanner.new }
-    ensures finite { IsFinite (left_of I.remaining scanner.old)
-        → UpTo (left_of I.remaining scanner.new) (size (left_of I.remaining scanner.old)) }
-{
-    match scanner.peek(0) {
-        Some(&byte) if kind != Kind::Sign && kind_of(byte) == kind => scanner.next(),
-        _ => None,
-    }
 }
 
 /// What kind of token a byte stands in.

@@ -4,7 +4,11 @@
 #[cfg(test)]
 mod history;
 #[cfg(test)]
+mod in_place;
+#[cfg(test)]
 mod jobs;
+#[cfg(test)]
+mod limiter;
 #[cfg(test)]
 mod pipe;
 #[cfg(test)]

@@ -1,5 +1,5 @@
 //! Reading and writing items where they stand.
-ghost use Rattle.std.specs.Prelude.{◌≡◌, ◌<◌, ◌-◌, length, slice_get, slice_index_or, option_copied};
+ghost use Rattle.std.specs.Prelude.{◌≡◌, ◌<◌, ◌-◌, [], length, slice_get, slice_index_or, option_copied, IfNone};
 ghost use Rattle.std.specs.Borrow.{sem};
 ghost use Rattle.std.specs.List.{list_any};
 ghost use Rattle.std.specs.Option.{option_copied_mut};
@@ -42,7 +42,8 @@ impl<T, const CAP: usize, B: Behavior> ArrayDeque<T, CAP, B> {
     /// ```
     #[inline]
     pub fn front(&self) -> Option<&T>
-        ensures { option_copied result ≡ slice_get self.now.items 0 }
+        ensures value { option_copied result ≡ slice_get self.now.items 0 }
+        ensures empty { IfNone result (self.now.items ≡ []) }
     {
         self.get(0)
     }
@@ -57,7 +58,8 @@ impl<T, const CAP: usize, B: Behavior> ArrayDeque<T, CAP, B> {
     /// ```
     #[inline]
     pub fn back(&self) -> Option<&T>
-        ensures { option_copied result ≡ last_item self.now.items }
+        ensures value { option_copied result ≡ last_item self.now.items }
+        ensures empty { IfNone result (self.now.items ≡ []) }
     {
         self.get(self.len().saturating_sub(1))
     }
@@ -90,6 +92,7 @@ impl<T, const CAP: usize, B: Behavior> ArrayDeque<T, CAP, B> {
     pub fn front_mut(&mut self) -> Option<&mut T>
         ensures* writes_back { sem 𝓛 (lends_item T.row CAP.row B.row self.entry 0 result) }
         ensures value { option_copied_mut result ≡ slice_get self.old.items 0 }
+        ensures empty { IfNone result (self.old.items ≡ []) }
     {
         self.get_mut(0)
     }
@@ -107,6 +110,7 @@ impl<T, const CAP: usize, B: Behavior> ArrayDeque<T, CAP, B> {
         ensures* writes_back { let last = length self.old.items - 1 in
             sem 𝓛 (lends_item T.row CAP.row B.row self.entry last result) }
         ensures value { option_copied_mut result ≡ last_item self.old.items }
+        ensures empty { IfNone result (self.old.items ≡ []) }
     {
         let last = self.len().saturating_sub(1);
         self.get_mut(last)

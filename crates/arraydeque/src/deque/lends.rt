@@ -1,10 +1,13 @@
 //! All items of a deque, lent for reading or for writing.
-ghost use Rattle.std.specs.Prelude.{◌≡◌, ◌++◌, []};
+ghost use Rattle.std.specs.Prelude.{◌≡◌, ◌≤◌, ◌++◌, [], List, length};
+ghost use Rattle.std.specs.List.{refill};
 ghost use Rattle.std.specs.Borrow.{sem};
+ghost use Rattle.std.specs.Iterator.{YieldsFirstRef};
+ghost use Rattle.std.specs.Iterator.Runs.{YieldsRefsInOrder};
 ghost use Rattle.arraydeque_ring.specs.Loans.{remaining};
 ghost use Rattle.arraydeque_ring.specs.Ring.{IsInOnePiece};
 ghost use Rattle.arraydeque.specs.Deque.{as_ring};
-ghost use Rattle.arraydeque.specs.DequeLends.{lends_items, lends_slices, lends_loan};
+ghost use Rattle.arraydeque.specs.DequeLends.{lends_items, lends_list, lends_slices, lends_loan};
 
 use super::ArrayDeque;
 use crate::behavior::Behavior;
@@ -22,7 +25,10 @@ impl<T, const CAP: usize, B: Behavior> ArrayDeque<T, CAP, B> {
     /// ```
     #[inline]
     pub fn iter(&self) -> Iter<'_, T>
-        ensures { result ≡ self.now.items }
+        ensures value { result ≡ self.now.items }
+        ensures within { length self.now.items ≤ CAP }
+        ensures runs { YieldsRefsInOrder (YieldsFirstRef {A = T} (λ remaining. remaining))
+            (λ remaining. remaining) }
     {
         // That the two slices are within the capacity is known of the length.
         let _len = self.len();
@@ -73,6 +79,31 @@ impl<T, const CAP: usize, B: Behavior> ArrayDeque<T, CAP, B> {
         ensures one_piece { IsInOnePiece (as_ring CAP self.old) → result.1.now ≡ [] }
     {
         self.lend().into_slices()
+    }
+
+    /// Returns the items for writing in one slice. Requires a list in one piece, as
+    /// [`ArrayDeque::linearize`] leaves it.
+    ///
+    /// The list ends as it was written, and starts where it did.
+    ///
+    /// ```
+    /// let mut deque = ArrayDeque::<i64, 3, Saturating>::new(alloc)?;
+    /// deque.extend_back([3, 1]);
+    /// deque.extend_front([2]);
+    /// deque.linearize();
+    /// deque.as_mut_slice().sort(alloc)?;
+    /// assert!(rt; deque.into_vec()?.as_slice() == [1, 2, 3].as_slice());
+    /// ```
+    #[inline]
+    pub fn as_mut_slice(&mut self) -> &mut [T]
+        requires { IsInOnePiece (as_ring CAP self.old) }
+        ensures* writes_back { sem 𝓛 (lends_list T.row CAP.row B.row self.entry result) }
+        ensures value { result.now ≡ self.old.items }
+        ensures same_len { (ws : List T) → length ws ≡ length self.old.items
+            → refill (length self.old.items) self.old.items ws ≡ ws }
+    {
+        let ring = &mut self.ring;
+        ring.as_mut_slice()
     }
 
     /// The items for writing, as one loan of two slices: its clause says what

@@ -1,11 +1,15 @@
-//! Taking a range out of a deque, and cutting one in two.
-ghost use Rattle.std.specs.Prelude.{◌≡◌, ◌-◌, ◌*◌, ◌<◌, ◌≤◌, length, take, drop, IfOk, OnOk, OnErr};
+//! Taking a range out of a deque, cutting one in two, and joining two.
+ghost use Rattle.std.specs.Prelude.{◌≡◌, ◌-◌, ◌*◌, ◌<◌, ◌≤◌, ◌++◌, [], length, take, drop, min, IfOk, OnOk, OnErr};
+ghost use Rattle.std.specs.Iterator.{YieldsFirst};
+ghost use Rattle.std.specs.Iterator.Runs.{YieldsInOrder};
 ghost use Rattle.std.specs.Mem.{type_size};
+ghost use Rattle.arraydeque_ring.specs.Ring.{up_by};
 ghost use Rattle.arraydeque_ring.specs.Steps.{no_steps, more_puts, more_takes};
+ghost use Rattle.arraydeque.specs.Deque.{keep_last};
 ghost use Rattle.arraydeque.specs.Range.{Drains, span_of};
 
 use super::ArrayDeque;
-use crate::behavior::Behavior;
+use crate::behavior::{Behavior, Saturating, Wrapping};
 use crate::iter::Drain;
 use crate::range::RangeArgument;
 use std::alloc::AllocError;
@@ -50,6 +54,8 @@ impl<T, const CAP: usize, B: Behavior> ArrayDeque<T, CAP, B> {
         ensures drains { let span =
             span_of (R.names_start range) (R.names_end range) self.old.items in
             IfOk result (λ drained. Drains CAP span.from span.to self.old drained self.new) }
+        ensures runs { YieldsInOrder (YieldsFirst {A = T} (λ remaining. remaining))
+            (λ remaining. remaining) }
         ensures unchanged { OnErr result (self.new ≡ self.old) }
         ensures refused { let span =
             span_of (R.names_start range) (R.names_end range) self.old.items in
@@ -100,5 +106,76 @@ impl<T, const CAP: usize, B: Behavior> ArrayDeque<T, CAP, B> {
             ring,
             behavior: PhantomData,
         })
+    }
+}
+
+impl<T, const CAP: usize> ArrayDeque<T, CAP, Saturating> {
+    /// Takes the first items of another deque behind the last one, as many as there is room for.
+    /// The others stay there. No memory is taken, and no item that stays moves.
+    ///
+    /// ```
+    /// let mut deque = ArrayDeque::<i64, 3, Saturating>::new(alloc)?;
+    /// deque.extend_back([1, 2]);
+    /// let mut other = ArrayDeque::<i64, 5, Wrapping>::new(alloc)?;
+    /// other.extend_back([3, 4]);
+    /// deque.append(&mut other);
+    /// assert!(rt; deque.into_vec()?.as_slice() == [1, 2, 3].as_slice());
+    /// assert!(rt; other.into_vec()?.as_slice() == [4].as_slice());
+    /// ```
+    pub fn append<const N: usize, P: Behavior>(&mut self, other: &mut ArrayDeque<T, N, P>)
+        ensures items { let room = CAP - length self.old.items in
+            self.new.items ≡ self.old.items ++ take room other.old.items }
+        ensures start { self.new.start ≡ self.old.start }
+        ensures steps { let room = CAP - length self.old.items in
+            self.new.steps ≡ more_puts (min (length other.old.items) room) self.old.steps }
+        ensures other_items { let room = CAP - length self.old.items in
+            other.new.items ≡ drop room other.old.items }
+        ensures other_start { let room = CAP - length self.old.items in
+            other.new.start ≡ up_by (min (length other.old.items) room) other.old.start N }
+        ensures other_steps { let room = CAP - length self.old.items in
+            other.new.steps ≡ more_takes (min (length other.old.items) room) other.old.steps }
+        ensures conserved { self.new.items ++ other.new.items ≡ self.old.items ++ other.old.items }
+        ensures within { length self.new.items ≤ CAP }
+    {
+        let room = CAP - self.len();
+        let len = other.len().min(room);
+        self.ring.append(&mut other.ring, len);
+    }
+}
+
+impl<T: Drop, const CAP: usize> ArrayDeque<T, CAP, Wrapping> {
+    /// Takes all items of another deque behind the last one, and keeps the last `CAP` of both. The
+    /// others are dropped, front to back. No memory is taken, and no item that stays moves.
+    ///
+    /// An item that is kept is put in once, and one that isn't is taken out of where it was and
+    /// dropped. So where the other deque has more than `CAP` items, there are fewer steps than
+    /// pushes would make.
+    ///
+    /// ```
+    /// let mut deque = ArrayDeque::<i64, 3, Wrapping>::new(alloc)?;
+    /// deque.extend_back([1, 2]);
+    /// let mut other = ArrayDeque::<i64, 5, Saturating>::new(alloc)?;
+    /// other.extend_back([3, 4]);
+    /// deque.append(&mut other);
+    /// assert!(rt; deque.into_vec()?.as_slice() == [2, 3, 4].as_slice());
+    /// assert!(rt; other.is_empty());
+    /// ```
+    pub fn append<const N: usize, P: Behavior>(&mut self, other: &mut ArrayDeque<T, N, P>)
+        ensures items { self.new.items ≡ keep_last CAP (self.old.items ++ other.old.items) }
+        ensures start { let gone = length self.old.items - (CAP - length other.old.items) in
+            self.new.start ≡ up_by gone self.old.start CAP }
+        ensures steps { let gone = length self.old.items - (CAP - length other.old.items) in
+            self.new.steps ≡
+            more_puts (min (length other.old.items) CAP) (more_takes gone self.old.steps) }
+        ensures other_items { other.new.items ≡ [] }
+        ensures other_start { other.new.start ≡ up_by (length other.old.items) other.old.start N }
+        ensures other_steps { other.new.steps ≡
+            more_takes (length other.old.items) other.old.steps }
+        ensures within { length self.new.items ≤ CAP }
+    {
+        let len = other.len().min(CAP);
+        self.truncate_front(CAP - len);
+        other.truncate_front(len);
+        self.ring.append(&mut other.ring, len);
     }
 }

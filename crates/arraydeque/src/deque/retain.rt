@@ -1,10 +1,11 @@
-//! One pass over all items: dropping each, and keeping some.
-ghost use Rattle.std.specs.Prelude.{◌≡◌, ◌≤◌, [], length};
+//! Dropping items where they stand: all, those at one end, and those that a closure doesn't want.
+ghost use Rattle.std.specs.Prelude.{◌≡◌, ◌-◌, ◌≤◌, [], length, take};
 ghost use Rattle.std.specs.Fn.{CalledAt};
 ghost use Rattle.std.specs.List.Retain.{IsFiltered};
+ghost use Rattle.arraydeque_ring.specs.Ring.{up_by};
 ghost use Rattle.arraydeque_ring.specs.Retained.{Retains, MayBeAsked};
 ghost use Rattle.arraydeque_ring.specs.Steps.{more_takes};
-ghost use Rattle.arraydeque.specs.Deque.{as_ring};
+ghost use Rattle.arraydeque.specs.Deque.{as_ring, keep_last};
 
 use super::ArrayDeque;
 use crate::behavior::Behavior;
@@ -30,6 +31,44 @@ impl<T, const CAP: usize, B: Behavior> ArrayDeque<T, CAP, B> {
         } }
     {
         self.ring.clear();
+    }
+
+    /// Keeps the first `len` items, or all if there are no more. The others are dropped, front to
+    /// back. No item moves.
+    ///
+    /// ```
+    /// let mut deque = ArrayDeque::<i64, 3, Saturating>::new(alloc)?;
+    /// deque.extend_back([1, 2, 3]);
+    /// deque.truncate(2);
+    /// assert!(rt; deque.into_vec()?.as_slice() == [1, 2].as_slice());
+    /// ```
+    pub fn truncate(&mut self, len: usize)
+    where
+        T: Drop,
+        ensures items { self.new.items ≡ take len self.old.items }
+        ensures start { self.new.start ≡ self.old.start }
+        ensures steps { self.new.steps ≡ more_takes (length self.old.items - len) self.old.steps }
+    {
+        self.ring.truncate(len);
+    }
+
+    /// Keeps the last `len` items, or all if there are no more. The others are dropped, front to
+    /// back. No item moves, and no memory is taken.
+    ///
+    /// ```
+    /// let mut deque = ArrayDeque::<i64, 3, Saturating>::new(alloc)?;
+    /// deque.extend_back([1, 2, 3]);
+    /// deque.truncate_front(2);
+    /// assert!(rt; deque.into_vec()?.as_slice() == [2, 3].as_slice());
+    /// ```
+    pub fn truncate_front(&mut self, len: usize)
+    where
+        T: Drop,
+        ensures items { self.new.items ≡ keep_last len self.old.items }
+        ensures start { self.new.start ≡ up_by (length self.old.items - len) self.old.start CAP }
+        ensures steps { self.new.steps ≡ more_takes (length self.old.items - len) self.old.steps }
+    {
+        self.ring.truncate_front(len);
     }
 
     /// Keeps the items for which `f` returns true, in order, and drops the others. `f` is called

@@ -7,7 +7,7 @@ none : (s : Steps) → s ≡ more_puts 0 (more_takes 0 s)
 none s = let puts : s.puts ≡ s.puts + 0 = omega arith in let takes : s.takes ≡ s.takes + 0 = omega arith in (λ i. record s { puts = puts i; takes = takes i })
 
 -- to go up by j places and then by k is to go up by both
-up_by-both : (j k s n : ℕ) → up_by k (up_by j s n) n ≡ up_by (j + k) s n
+pub up_by-both : (j k s n : ℕ) → up_by k (up_by j s n) n ≡ up_by (j + k) s n
 up_by-both j k s n = grind (arith, nat_tests, place_of-sum s j k n)
 
 -- a list that is cut twice behind others

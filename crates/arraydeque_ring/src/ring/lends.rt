@@ -1,14 +1,31 @@
 //! All items of a ring, lent for writing.
-ghost use Rattle.std.specs.Prelude.{◌≡◌, [], ◌++◌};
+ghost use Rattle.std.specs.Prelude.{◌≡◌, [], ◌++◌, List, length};
+ghost use Rattle.std.specs.List.{refill};
 ghost use Rattle.std.specs.Borrow.{sem};
 ghost use Rattle.arraydeque_ring.specs.Loans.{remaining};
 ghost use Rattle.arraydeque_ring.specs.Ring.{IsInOnePiece};
-ghost use Rattle.arraydeque_ring.specs.RingLends.{lends_slices, lends_loan};
+ghost use Rattle.arraydeque_ring.specs.RingLends.{lends_list, lends_slices, lends_loan};
 
 use super::Ring;
 use crate::slots::loan::Loan;
 
 impl<T> Ring<T> {
+    /// The items for writing in one slice. The list ends as it was written, and starts where it
+    /// did.
+    #[inline]
+    pub fn as_mut_slice(&mut self) -> &mut [T]
+        requires { IsInOnePiece self.old }
+        ensures* writes_back { sem 𝓛 (lends_list T.row self.entry result) }
+        ensures value { result.now ≡ self.old.items }
+        ensures same_len { (ws : List T) → length ws ≡ length self.old.items
+            → refill (length self.old.items) self.old.items ws ≡ ws }
+    {
+        let start = self.start;
+        let len = self.len;
+        let slots = &mut self.slots;
+        slots.slice_mut(start, len)
+    }
+
     /// The items for writing in two slices: those from the start to the region's end, then the
     /// wrapped rest.
     ///

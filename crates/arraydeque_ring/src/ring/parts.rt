@@ -1,10 +1,10 @@
-//! Parts of a ring that become rings of their own: the items of a range, and those from an index
-//! on.
+//! Parts of a ring that go into another: the items of a range and those from an index on into rings
+//! of their own, the first items behind those of a second ring.
 ghost use Rattle.std.specs.Prelude.{◌≡◌, ◌-◌, ◌+◌, ◌*◌, ◌<◌, ◌≤◌, ◌++◌, length, take, drop, slice_range, min, nat_lt, if◌then◌else◌, IfOk, OnOk, OnErr};
 ghost use Rattle.std.specs.List.{remove_range};
 ghost use Rattle.std.specs.Mem.{type_size};
 ghost use Rattle.arraydeque_ring.specs.Places.{IsFilledRun};
-ghost use Rattle.arraydeque_ring.specs.Ring.{place_of, rotated};
+ghost use Rattle.arraydeque_ring.specs.Ring.{place_of, rotated, up_by};
 ghost use Rattle.arraydeque_ring.specs.Sides.{moves_to_drain, start_closed};
 ghost use Rattle.arraydeque_ring.specs.Changed.{DrainMovesFewest};
 ghost use Rattle.arraydeque_ring.specs.Gaps.{IsEmptyRun, run_emptied};
@@ -95,6 +95,61 @@ impl<T> Ring<T> {
             len,
             alloc: self.alloc,
         })
+    }
+
+    /// Takes the first `len` items of another ring behind the last one. They go over in at most
+    /// three copies, since either ring may wrap once.
+    pub fn append(&mut self, other: &mut Ring<T>, len: usize)
+        requires room { length self.old.items + len ≤ self.old.capacity }
+        requires within { len ≤ length other.old.items }
+        ensures here { self.new ≡ record self.old {
+          items = self.old.items ++ take len other.old.items;
+          steps = more_puts len self.old.steps;
+        } }
+        ensures there { other.new ≡ record other.old {
+          items = drop len other.old.items;
+          start = up_by len other.old.start other.old.capacity;
+          steps = more_takes len other.old.steps;
+        } }
+    {
+        let mut left = len;
+        while 0 < left {
+            let capacity = self.slots.capacity();
+            let behind = wrap_add(self.start, self.len, capacity);
+            let to_end = other.slots.capacity() - other.start;
+            let run = left.min(capacity - behind).min(to_end);
+            self.append_run(other, run);
+            left -= run;
+        }
+    }
+
+    /// Takes the first `run` items of another ring behind the last one, by one copy. They go round
+    /// the end in neither ring.
+    fn append_run(&mut self, other: &mut Ring<T>, run: usize)
+        requires some { 0 < run }
+        requires fits_here { place_of self.old.start (length self.old.items) self.old.capacity + run
+            ≤ self.old.capacity }
+        requires fits_there { other.old.start + run ≤ other.old.capacity }
+        requires room { length self.old.items + run ≤ self.old.capacity }
+        requires within { run ≤ length other.old.items }
+        ensures here { self.new ≡ record self.old {
+          items = self.old.items ++ take run other.old.items;
+          steps = more_puts run self.old.steps;
+        } }
+        ensures there { other.new ≡ record other.old {
+          items = drop run other.old.items;
+          start = place_of other.old.start run other.old.capacity;
+          steps = more_takes run other.old.steps;
+        } }
+    {
+        let capacity = self.slots.capacity();
+        let other_capacity = other.slots.capacity();
+        let place = wrap_add(self.start, self.len, capacity);
+        let from = other.start;
+        other.slots.hand_over(from, &mut self.slots, place, run);
+        self.len += run;
+        other.start = wrap_add(from, run, other_capacity);
+        other.len -= run;
     }
 }
 

@@ -1,9 +1,10 @@
-//! One pass over all items: dropping each, and keeping some.
-ghost use Rattle.std.specs.Prelude.{◌≡◌, ◌-◌, ◌≤◌, [], length};
+//! Dropping items where they stand: all, those at one end, and those that a closure doesn't want.
+ghost use Rattle.std.specs.Prelude.{◌≡◌, ◌-◌, ◌≤◌, [], length, take, drop};
 ghost use Rattle.std.specs.Fn.{CalledAt};
 ghost use Rattle.std.specs.List.Retain.{ReturnsInTurn};
 ghost use Rattle.arraydeque_ring.specs.Gaps.{run_emptied};
 ghost use Rattle.arraydeque_ring.specs.Places.{IsFilledRun};
+ghost use Rattle.arraydeque_ring.specs.Ring.{rotated, up_by};
 ghost use Rattle.arraydeque_ring.specs.Retained.{Retains, MayBeAsked, answers_until};
 ghost use Rattle.arraydeque_ring.specs.Steps.{more_takes};
 
@@ -22,11 +23,47 @@ impl<T> Ring<T> {
           steps = more_takes (length self.old.items) self.old.steps;
         } }
     {
-        let first = self.len.min(self.slots.capacity() - self.start);
-        drop_run(&mut self.slots, self.start, self.start + first);
-        drop_run(&mut self.slots, 0, self.len - first);
+        drop_round(&mut self.slots, self.start, 0, self.len);
         self.start = 0;
         self.len = 0;
+    }
+
+    /// Keeps the first `len` items, or all if there are no more. The others are dropped, front to
+    /// back.
+    pub fn truncate(&mut self, len: usize)
+    where
+        T: Drop,
+        ensures { self.new ≡ record self.old {
+          items = take len self.old.items;
+          steps = more_takes (length self.old.items - len) self.old.steps;
+        } }
+    {
+        if self.len <= len {
+            return;
+        }
+        drop_round(&mut self.slots, self.start, len, self.len - len);
+        self.len = len;
+    }
+
+    /// Keeps the last `len` items, or all if there are no more. The others are dropped, front to
+    /// back, and the start goes up by as many places.
+    pub fn truncate_front(&mut self, len: usize)
+    where
+        T: Drop,
+        ensures { let gone = length self.old.items - len in self.new ≡ record self.old {
+          items = drop gone self.old.items;
+          start = up_by gone self.old.start self.old.capacity;
+          steps = more_takes gone self.old.steps;
+        } }
+    {
+        if self.len <= len {
+            return;
+        }
+        let gone = self.len - len;
+        let capacity = self.slots.capacity();
+        drop_round(&mut self.slots, self.start, 0, gone);
+        self.start = wrap_add(self.start, gone, capacity);
+        self.len -= gone;
     }
 
     /// Keeps the items at which `f` answers true, in their order, and drops the others, in place.
@@ -91,6 +128,25 @@ fn kept_run<T, F: FnMut(&T) -> bool>(items: &[T], f: &mut F) -> usize
         }
     }
     items.len()
+}
+
+/// Drops the `len` values from the index `at` on, in order. Indexes count from the place `start`,
+/// round the end.
+fn drop_round<T: Drop>(slots: &mut Slots<T>, start: usize, at: usize, len: usize)
+    requires in_region { start ≤ length slots.old.places - 1 }
+    requires filled { IsFilledRun (rotated start slots.old.places) at len }
+    ensures places { rotated start slots.new.places ≡
+        run_emptied at len (rotated start slots.old.places) }
+    ensures steps { slots.new.steps ≡ more_takes len slots.old.steps }
+{
+    if len == 0 {
+        return;
+    }
+    let capacity = slots.capacity();
+    let place = wrap_add(start, at, capacity);
+    let first = len.min(capacity - place);
+    drop_run(slots, place, place + first);
+    drop_run(slots, 0, len - first);
 }
 
 /// Drops the values in the places from `from` up to `end`, in order.

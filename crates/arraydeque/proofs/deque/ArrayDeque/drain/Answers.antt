@@ -1,4 +1,5 @@
 use Rattle.std.{proofs.{Common.{◌≡◌, length}, lemmas.Result.err_from_is_err_and}, specs.Option.unwrap_or}
+use Rattle.arraydeque.proofs.InOrder.{yields_in_order}
 use Rattle.arraydeque.proofs.deque.ArrayDeque.drain.Goals as goal
 use Rattle.arraydeque.proofs.deque.ArrayDeque.drain.Goals.{in-Some, in-None, in-Some-end, in-None-end}
 
@@ -30,6 +31,9 @@ returns-in_err-ring-clause-unchanged g c =
 pub returns-in_err-ring-clause-drains : goal.returns-in_err-ring-clause-drains
 returns-in_err-ring-clause-drains g c = rw (err_from_is_err_and c.from_residual.result c.from_residual.ensures.1).1 tt
 
+pub returns-in_err-ring-clause-runs : goal.returns-in_err-ring-clause-runs
+returns-in_err-ring-clause-runs g c = yields_in_order
+
 pub returns : goal.returns
 returns g c =
     let from : unwrap_or (g.R.RangeArgument.names_start c.args.range) 0 ≡ c.match-start.from = elim c.match-start.branch [
@@ -49,6 +53,7 @@ returns g c =
         steps = ring.steps;
         fewest = rw c.self-2.invariant.0 at ring.fewest;
       };
+      runs = yields_in_order;
       unchanged = tt;
       refused = tt;
     })

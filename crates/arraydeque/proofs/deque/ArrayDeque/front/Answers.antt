@@ -1,4 +1,5 @@
+use Rattle.arraydeque.proofs.NoEnd.{no_first}
 use Rattle.arraydeque.proofs.deque.ArrayDeque.front.Goals as goal
 
-pub returns : goal.returns
-returns g c = c.get.ensures
+pub returns-clause-empty : goal.returns-clause-empty
+returns-clause-empty g c = no_first _ c.get.result c.args.self.now.items c.get.ensures

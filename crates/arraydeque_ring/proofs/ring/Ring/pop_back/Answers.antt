@@ -1,4 +1,4 @@
-use Rattle.std.proofs.Common.{sym, ap, slice_get, ◌∙◌, arith}
+use Rattle.std.proofs.{Common.{sym, ap, slice_get, ◌∙◌, arith}, lemmas.List.nil_from_length}
 use Rattle.arraydeque_ring.proofs.places.{LaidOut.{IsFilled-place_of}, Opened.{opened, closed, kept, place_at, from_start, take_back}}
 use Rattle.arraydeque_ring.proofs.ring.Ring.pop_back.Goals as goal
 
@@ -17,3 +17,8 @@ returns-clause-value g c =
 
 pub returns-clause-taken : goal.returns-clause-taken
 returns-clause-taken g c = let ring = opened c.self.inside c.self.invariant c.self.view_is in closed (take_back ring (omega arith) (from_start ring _ c.capacity.ensures c.wrap_add-last.ensures) c.take.ensures.places c.take.ensures.steps)
+
+pub returns-then-self-eq0-clause-empty : goal.returns-then-self-eq0-clause-empty
+returns-then-self-eq0-clause-empty g c =
+    let ring = opened c.self.inside c.self.invariant c.self.view_is in
+    nil_from_length c.args.self.now.items (ring.len ∙ c.if-self-eq0.true)

@@ -1,0 +1,79 @@
+-- Items that are laid behind a list, in one run of places.
+use Rattle.std.proofs.{Common.{◌≡◌, ℕ, ◌+◌, ◌-◌, ◌≤◌, List, [], ◌++◌, length, take, drop, get_or, slice_get, nat_lt, if◌then◌else◌, Option, Some, None, sym, ap, ◌∙◌, arith}, lemmas.{Bool.Decides.nat_tests, Grind.common_steps, List.{length-append, length-map, append-nil, append_assoc, drop-drop}, Option.slice_get_past}, Math.Seq.take-add}
+use Rattle.arraydeque_ring.{specs.{Gaps.IsEmptyRun, Loans.with_run, Places.held_at, Ring.{RingState, up_by}, Steps.{more_puts, more_takes}}, proofs.{fills.Displaced.up_by-both, loans.Placed.length-with_run, places.{Items.{items, get_or-map_Some}, Held.empty_run_of, LaidOut.{LaidOut, LaidOut-by}, Rotated.{MayStartAt, place_of_cases, place_of-run}}}}
+
+module _ {X : Type 0} where
+  -- what a place holds once a run is written: the run's value, or what it held
+  get_or-with_run : (at : ℕ) (ys : List X) (ps : List (Option X)) (x : ℕ) → at + length ys ≤ length ps →
+      get_or (with_run at ys ps) x None ≡ (if nat_lt x at then get_or ps x None
+      else (if nat_lt x (at + length ys) then slice_get ys (x - at) else get_or ps x None))
+  get_or-with_run at ys ps x le =
+      let made = get_or-map_Some ys (x - at) in
+      let many = length-map ys Some in
+      grind (arith, nat_tests, common_steps, made, many)
+
+  module _ {n t : ℕ} {xs : List X} {ps : List (Option X)} (l : LaidOut n t xs ps) where
+    pub LaidOut-appended : (ys : List X) (place : ℕ) → MayStartAt t (length xs) n place →
+        place + length ys ≤ n → length xs + length ys ≤ n → LaidOut n t (xs ++ ys) (with_run place ys ps)
+    LaidOut-appended ys place lies fits room =
+        let long = l.long in
+        let in_region = l.in_region in
+        LaidOut-by (omega (arith, length-append xs ys)) (record {
+          long = length-with_run place ys ps (omega arith) ∙ l.long;
+          in_region = l.in_region;
+          at = λ k lt.
+              let was = l.at k lt in
+              let read = get_or-with_run place ys ps in
+              grind (arith, nat_tests, items, read, was, place_of_cases t k n (omega arith), lies);
+        })
+
+    -- the places behind the list are empty
+    pub IsEmptyRun-behind : (place run : ℕ) → MayStartAt t (length xs) n place →
+        place + run ≤ n → length xs + run ≤ n → IsEmptyRun ps place run
+    IsEmptyRun-behind place run lies fits room =
+        let long = l.long in
+        let in_region = l.in_region in
+        empty_run_of ps place run (omega arith) (λ x from to.
+        let j = x - place in
+        let on : x ≡ place + j = omega arith in
+        let at = place_of-run t (length xs) j n place lies (omega arith) (omega arith) (omega arith) in
+        ap (held_at ps) (on ∙ sym at)
+        ∙ l.at (length xs + j) (omega arith)
+        ∙ slice_get_past xs (length xs + j) (omega arith))
+
+module _ {X : Type 0} where
+  -- a ring with the first m items of another behind its own, and that other ring without them
+  abbrev pub joined : ℕ → RingState X → RingState X → RingState X
+  joined m r o = record r { items = r.items ++ take m o.items; steps = more_puts m r.steps }
+
+  abbrev pub shed : ℕ → RingState X → RingState X
+  shed m o = record o { items = drop m o.items; start = up_by m o.start o.capacity; steps = more_takes m o.steps }
+
+  pub joined-none : (r o : RingState X) → r ≡ joined 0 r o
+  joined-none r o =
+      let items : r.items ≡ r.items ++ [] = sym (append-nil r.items) in
+      let puts : r.steps.puts ≡ r.steps.puts + 0 = omega arith in
+      λ i. record r { items = items i; steps = record r.steps { puts = puts i } }
+
+  pub shed-none : (o : RingState X) → o ≡ shed 0 o
+  shed-none o =
+      let takes : o.steps.takes ≡ o.steps.takes + 0 = omega arith in
+      λ i. record o { steps = record o.steps { takes = takes i } }
+
+  pub joined-both : (j k : ℕ) (r o : RingState X) → joined k (joined j r o) (shed j o) ≡ joined (j + k) r o
+  joined-both j k r o =
+      let items : (r.items ++ take j o.items) ++ take k (drop j o.items) ≡ r.items ++ take (j + k) o.items =
+      append_assoc r.items (take j o.items) (take k (drop j o.items))
+      ∙ ap (λ l. r.items ++ l) (sym (take-add j k o.items))
+      in
+      let puts : r.steps.puts + j + k ≡ r.steps.puts + (j + k) = omega arith in
+      λ i. record r { items = items i; steps = record r.steps { puts = puts i } }
+
+  pub shed-both : (j k : ℕ) (o : RingState X) → shed k (shed j o) ≡ shed (j + k) o
+  shed-both j k o =
+      let takes : o.steps.takes + j + k ≡ o.steps.takes + (j + k) = omega arith in
+      λ i. record o {
+        items = drop-drop k j o.items i;
+        start = up_by-both j k o.start o.capacity i;
+        steps = record o.steps { takes = takes i };
+      }

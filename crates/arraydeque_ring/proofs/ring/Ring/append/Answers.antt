@@ -1,0 +1,30 @@
+use Rattle.std.proofs.{Common.{◌≡◌, ℕ, zero, suc, ◌+◌, ◌-◌, ◌≤◌, drop, ap, ap₂, ◌∙◌, arith}, lemmas.Bool.Decides.nat_tests}
+use Rattle.arraydeque_ring.specs.{Ring.{place_of, up_by}, Steps.more_takes}
+use Rattle.arraydeque_ring.proofs.places.{Appended.{joined, shed, joined-both, shed-both}, Opened.opened, Rotated.place_of-zero}
+use Rattle.arraydeque_ring.proofs.ring.Ring.append.Goals as goal
+
+first_up : (k s n : ℕ) → s ≤ n - 1 → place_of s k n ≡ up_by k s n
+first_up zero s n le = place_of-zero s n le
+first_up (suc k) s n le = grind (arith, nat_tests)
+
+pub loop-left-preserved : goal.loop-left-preserved
+loop-left-preserved g c =
+    let inv = c.loop-left.invariant in
+    let r = c.args.self.now in
+    let o = c.args.other.now in
+    let now = c.loop-left.other in
+    let m = c.args.len - c.loop-left.left in
+    let run = c.min-run.result in
+    let total : m + run ≡ c.args.len - (c.loop-left.left - run) =
+    omega (arith, inv.within, c.min-run.ensures, c.min.ensures)
+    in
+    let other = opened c.other.inside c.other.invariant c.other.view_is in
+    let start = first_up run now.start now.capacity (omega (arith, other.laid.in_region, other.start)) in
+    record {
+      within = omega (arith, inv.within);
+      here = c.append_run.ensures.here ∙ ap₂ (joined run) inv.here inv.there
+          ∙ joined-both m run r o ∙ ap (λ k. joined k r o) total;
+      there = c.append_run.ensures.there
+          ∙ ap (λ t. record now { items = drop run now.items; start = t; steps = more_takes run now.steps }) start
+          ∙ ap (shed run) inv.there ∙ shed-both m run o ∙ ap (λ k. shed k o) total;
+    }
