@@ -320,6 +320,25 @@ fn prints_two(alloc: Global, start: usize) -> Result<bool, Fail> {
     )
 }
 
+/// The numbers from 0 up to 40, as a list prints.
+const FORTY: &str = "[0, 1, 2, 3, 4, 5, 6, 7, 8, 9, 10, 11, 12, 13, 14, 15, 16, 17, 18, 19, \
+    20, 21, 22, 23, 24, 25, 26, 27, 28, 29, 30, 31, 32, 33, 34, 35, 36, 37, 38, 39]";
+
+/// Whether a deque of forty items prints them all, with those that its first slice has before the
+/// region's end.
+fn prints_forty(alloc: Global, first: usize) -> Result<bool, Fail> {
+    let deque = deque_at::<41>(alloc, 41_usize.saturating_sub(first), &numbers(alloc, 40)?)?;
+    Ok(deque.as_slices().0.len() == first.min(40) && prints(alloc, &deque, FORTY)?)
+}
+
+#[test]
+fn a_long_deque_prints_as_a_list(rt: HostRuntime) -> Result<(), Fail> {
+    for first in 1..=41 {
+        assert!(rt; prints_forty(rt.alloc(), first)?, "{first}");
+    }
+    Ok(())
+}
+
 #[test]
 fn a_deque_prints_as_a_list(rt: HostRuntime) -> Result<(), Fail> {
     let mut deque = Deque::<5>::new(rt.alloc())?;

@@ -91,6 +91,31 @@ fn moves_and_swaps(deque: &mut ArrayDeque<i64, 4, Saturating>) -> bool {
         && deque.pop_front() == Some(7)
 }
 
+/// Whether an item goes in and out at each index of six, whose list starts at each of eight places,
+/// so that all slides cross the region's end.
+fn slides_from_each_start(deque: &mut ArrayDeque<i64, 8, Saturating>) -> bool {
+    for _ in 0..8 {
+        for index in 0..7 {
+            if deque.len() != 6
+                || deque.insert(index, 9).is_err()
+                || deque.remove(index) != Some(9)
+            {
+                return false;
+            }
+        }
+        deque.pop_front();
+        deque.extend_back([7]);
+    }
+    true
+}
+
+#[test]
+fn slides_across_the_end_1_request_64_bytes(rt: HostRuntime) -> Result<(), Fail> {
+    let mut deque = deque_at::<8>(rt.alloc(), 0, &[1, 2, 3, 4, 5, 6])?;
+    assert!(rt; slides_from_each_start(&mut deque));
+    Ok(())
+}
+
 /// Whether the even ones of the items 8, 9, 6 and 7 are retained, and then cleared.
 fn retains_and_clears(deque: &mut ArrayDeque<i64, 4, Saturating>) -> bool {
     deque.retain(|item| *item % 2 == 0);
@@ -234,7 +259,7 @@ fn walks_of_lists_that_wrap_3_requests_96_bytes(rt: HostRuntime) -> Result<(), F
 }
 
 /// The hash of a deque.
-fn hash_of(deque: &Deque) -> u64 {
+fn hash_of<const CAP: usize>(deque: &ArrayDeque<i64, CAP, Saturating>) -> u64 {
     let mut state = DefaultHasher::new();
     deque.hash(&mut state);
     state.finish()
@@ -246,6 +271,42 @@ fn are_in_order(less: &Deque, more: &Deque) -> bool {
         && less.cmp(more) == Ordering::Less
         && more.partial_cmp(less) == Some(Ordering::Greater)
         && hash_of(less) != hash_of(more)
+}
+
+type Hundred = ArrayDeque<i64, 128, Saturating>;
+
+/// Has a deque hold the numbers from 0 up to 100, the first of which stands at a place.
+fn count_from(deque: &mut Hundred, start: usize) {
+    deque.clear();
+    for _ in 0..start {
+        deque.extend_back([0]);
+        deque.pop_front();
+    }
+    deque.extend_back(0..100);
+}
+
+/// Whether 100 numbers are found, and compared with those of another deque.
+fn reads_a_hundred(deque: &Hundred, other: &Hundred) -> bool {
+    deque.contains(&0)
+        && deque.contains(&99)
+        && !deque.contains(&100)
+        && *deque == *other
+        && deque.cmp(other) == Ordering::Equal
+        && deque.partial_cmp(other) == Some(Ordering::Equal)
+        && hash_of(deque) == hash_of(other)
+}
+
+/// The regions of two deques, of which one has 100 items on either side of the region's end.
+#[test]
+fn reads_of_a_hundred_items_2_requests_2048_bytes(rt: HostRuntime) -> Result<(), Fail> {
+    let mut deque = deque_at::<128>(rt.alloc(), 0, &[])?;
+    let mut other = deque_at::<128>(rt.alloc(), 0, &[])?;
+    for start in [0, 28, 29, 63, 64, 65, 127] {
+        count_from(&mut deque, start);
+        count_from(&mut other, 0);
+        assert!(rt; reads_a_hundred(&deque, &other), "start {start}");
+    }
+    Ok(())
 }
 
 /// Whether a range names these bounds.

@@ -108,6 +108,18 @@ fn a_refused_call_leaves_the_list(rt: HostRuntime) -> Result<(), Fail> {
     Ok(())
 }
 
+#[test]
+fn a_refused_vector_leaves_a_long_list(rt: HostRuntime) -> Result<(), Fail> {
+    let list = [0, 1, 2, 3, 4, 5, 6, 7, 8, 9, 10, 11, 12, 13, 14, 15, 16, 17];
+    let deque = deque_at::<20>(rt.alloc(), 9, &list)?;
+    let is_whole = match deque.into_vec() {
+        Ok(items) => items.as_slice() == list.as_slice(),
+        Err(refusal) => holds(&refusal.source, &list),
+    };
+    assert!(rt; is_whole);
+    Ok(())
+}
+
 /// Whether a scanner over 1, 2 and 3 gives them, and two items put back, as it should.
 fn reads_on(scanner: &mut Scanner<Script<'_>, 2>) -> bool {
     scanner.peek(1) == Some(&2)

@@ -1,10 +1,10 @@
 //! Calls that take memory: how often they ask, and for how much. The name of each test ends in the
 //! requests that it makes and the bytes that it takes; it gives all of them back.
-use crate::build::{deque_at, holds, made};
+use crate::build::{deque_at, holds, made, wrapping_at};
 use crate::in_place::refill;
 use arraydeque::run::Call;
 use arraydeque::{ArrayDeque, Saturating, Wrapping};
-use std::alloc::Global;
+use std::alloc::{AllocError, Global};
 use std::test::Fail;
 
 type Deque = ArrayDeque<i64, 4, Saturating>;
@@ -149,5 +149,71 @@ fn a_run_3_requests_352_bytes(rt: HostRuntime) -> Result<(), Fail> {
     ]?;
     let replies = made(deque.run(calls))?;
     assert!(rt; replies.len() == 4 && holds(&deque, &[0, 2, 3]));
+    Ok(())
+}
+
+/// The calls that ask for no memory, but an `Insert`, which only one policy offers. Those that take
+/// items out leave one of three.
+fn calls_in_place(alloc: Global) -> Result<Vec<Call<i64>>, AllocError> {
+    Ok(vec![in alloc;
+        Call::Len,
+        Call::Capacity,
+        Call::IsEmpty,
+        Call::IsFull,
+        Call::Swap(0, 2),
+        Call::Replace(1, 7),
+        Call::Linearize,
+        Call::Drain(1, 1),
+        Call::PushFront(8),
+        Call::PushBack(9),
+        Call::PopFront,
+        Call::PopBack,
+        Call::PushFront(6),
+        Call::SwapRemoveBack(0),
+        Call::SwapRemoveFront(1),
+        Call::Remove(0),
+        Call::Remove(0),
+        Call::Clear,
+    ]?)
+}
+
+/// Whether each call that asks for no memory is answered on either policy.
+fn answers_in_place(alloc: Global) -> Result<bool, Fail> {
+    let mut refusing = deque_at::<4>(alloc, 2, &[0, 1, 2])?;
+    let mut displacing = wrapping_at::<4>(alloc, 2, &[0, 1, 2])?;
+    let replies = made(refusing.run(calls_in_place(alloc)?))?.len();
+    let other = made(displacing.run(calls_in_place(alloc)?))?.len();
+    let inserted = made(refusing.run(vec![in alloc; Call::Insert(0, 5)]?))?.len();
+    Ok((replies, other, inserted) == (18, 18, 1) && holds(&refusing, &[5]) && displacing.is_empty())
+}
+
+/// The two regions of 32 bytes, two lists of 18 calls of 32 bytes and one of one, and room for as
+/// many replies of 48.
+#[test]
+fn calls_in_place_by_run_8_requests_3024_bytes(rt: HostRuntime) -> Result<(), Fail> {
+    assert!(rt; answers_in_place(rt.alloc())?);
+    Ok(())
+}
+
+/// A list of calls that bring memory with them or ask for it.
+fn calls_with_memory(alloc: Global) -> Result<Vec<Call<i64>>, AllocError> {
+    Ok(vec![in alloc;
+        Call::ExtendBack(vec![in alloc; 1, 2]?),
+        Call::ExtendFront(vec![in alloc; 3]?),
+        Call::Extend(vec![in alloc; 4, 5, 6]?),
+        Call::Drain(0, 3),
+        Call::SplitOff(0),
+    ]?)
+}
+
+/// Beside the two regions of 32 bytes, for each of them: five calls of 32 bytes with vectors of 16,
+/// 8 and 24, room for five replies of 48, three items for the drain and a region for the split.
+#[test]
+fn calls_with_memory_by_run_16_requests_1072_bytes(rt: HostRuntime) -> Result<(), Fail> {
+    let mut refusing = deque_at::<4>(rt.alloc(), 2, &[0])?;
+    let mut displacing = wrapping_at::<4>(rt.alloc(), 2, &[0])?;
+    let replies = made(refusing.run(calls_with_memory(rt.alloc())?))?;
+    let other = made(displacing.run(calls_with_memory(rt.alloc())?))?;
+    assert!(rt; (replies.len(), other.len()) == (5, 5) && refusing.is_empty());
     Ok(())
 }

@@ -5,6 +5,8 @@
 #[cfg(test)]
 mod block_moves;
 #[cfg(test)]
+mod bounds;
+#[cfg(test)]
 mod capacities;
 #[cfg(test)]
 mod items;

@@ -59,7 +59,8 @@ fn passes(ring: &mut Ring<u8>) -> bool {
     is_one_piece && ring.as_slices() == ([6, 2].as_slice(), [].as_slice())
 }
 
-/// Each call of a ring, of which only the first asks for memory.
+/// Calls at both ends, in between and on all items, and those that hand out nothing: only the first
+/// asks for memory.
 #[test]
 fn calls_of_a_ring_1_request_3_bytes(rt: HostRuntime) -> Result<(), Fail> {
     let mut ring = Ring::<u8>::new(rt.alloc(), 3)?;

@@ -1,8 +1,9 @@
 //! The region.
+use crate::bounds::{lent, run_lent};
 use arraydeque_ring::slots::Slots;
 use std::test::Fail;
 
-/// Each call of a region, of which only the first asks for memory.
+/// Each call of a region but `two_slices_mut`, of which only the first asks for memory.
 #[test]
 fn calls_of_a_region_1_request_4_bytes(rt: HostRuntime) -> Result<(), Fail> {
     let mut slots = Slots::<u8>::new(rt.alloc(), 4)?;
@@ -14,8 +15,8 @@ fn calls_of_a_region_1_request_4_bytes(rt: HostRuntime) -> Result<(), Fail> {
     assert!(rt;
         slots.capacity() == 4 && *slots.get(1) == 10 && slots.slice(1, 2) == [10, 20].as_slice()
     );
-    *slots.get_mut(1) = 30;
-    slots.slice_mut(1, 2)[1] = 40;
+    *lent(&mut slots, 1) = 30;
+    run_lent(&mut slots, 1, 2)[1] = 40;
     assert!(rt; slots.slice(4, 0) == [].as_slice() && (slots.take(2), slots.take(1)) == (40, 30));
     Ok(())
 }

@@ -3,7 +3,7 @@ ghost use Rattle.std.specs.Prelude.{◌+◌, ◌^◌, length};
 ghost use Rattle.std.specs.Iterator.{at_most};
 
 use crate::asked::{Count, Script};
-use crate::build::{deque_at, holds, made, wrapping_at};
+use crate::build::{deque_at, holds, made, numbers, wrapping_at};
 use arraydeque::{ArrayDeque, Saturating, Wrapping};
 use std::alloc::Global;
 use std::test::Fail;
@@ -95,42 +95,38 @@ fn extends_into_three_places(rt: HostRuntime) -> Result<(), Fail> {
     Ok(())
 }
 
-/// Whether an endless count from 10 on is asked so often, and the deque is left so.
-fn asks(
-    alloc: Global,
-    items: &[i64],
-    is_front: bool,
-    asked: usize,
-    left: &[i64],
-) -> Result<bool, Fail> {
-    let mut deque = deque_at::<3>(alloc, 0, items)?;
+/// Whether an endless count is asked once for each free place, and not at all once there is none.
+fn asks_for_room(alloc: Global, start: usize, len: usize, way: Way) -> Result<bool, Fail> {
+    let mut deque = deque_at::<4>(alloc, start, &numbers(alloc, len)?)?;
     let mut count = Count::from(10);
-    if is_front {
-        deque.extend_front(&mut count);
-    } else {
-        deque.extend_back(&mut count);
+    for _ in 0..2 {
+        match way {
+            Way::Front => deque.extend_front(&mut count),
+            _ => deque.extend_back(&mut count),
+        }
+        if !deque.is_full() || count.asked != 4_usize.saturating_sub(len) {
+            return Ok(false);
+        }
     }
-    Ok(count.asked == asked && holds(&deque, left))
-}
-
-/// Whether a deque that such a count has filled does not ask it again.
-fn asks_no_more(alloc: Global) -> Result<bool, Fail> {
-    let mut deque = deque_at::<3>(alloc, 0, &[1, 2])?;
-    let mut count = Count::from(10);
-    deque.extend_back(&mut count);
-    let is_filled = count.asked == 1 && holds(&deque, &[1, 2, 10]);
-    deque.extend_back(&mut count);
-    Ok(is_filled && count.asked == 1 && holds(&deque, &[1, 2, 10]))
+    Ok(true)
 }
 
 #[test]
 fn an_extend_asks_for_what_it_has_room_for(rt: HostRuntime) -> Result<(), Fail> {
-    let asks_for_room = asks_no_more(rt.alloc())?
-        && asks(rt.alloc(), &[1], true, 2, &[11, 10, 1])?
-        && asks(rt.alloc(), &[1, 2, 3], true, 0, &[1, 2, 3])?;
+    for start in 0..4 {
+        for len in 0..=4 {
+            assert!(rt;
+                asks_for_room(rt.alloc(), start, len, Way::Back)?
+                    && asks_for_room(rt.alloc(), start, len, Way::Front)?,
+                "start {start}, length {len}"
+            );
+        }
+    }
+    let mut front = deque_at::<3>(rt.alloc(), 0, &[1])?;
+    front.extend_front(Count::from(10));
     let mut count = Count::from(10);
     let deque = made(ArrayDeque::<i64, 3, Saturating>::from_iter(rt.alloc(), &mut count))?;
-    assert!(rt; asks_for_room && count.asked == 3 && holds(&deque, &[10, 11, 12]));
+    assert!(rt; holds(&front, &[11, 10, 1]) && count.asked == 3 && holds(&deque, &[10, 11, 12]));
     Ok(())
 }
 

@@ -8,6 +8,8 @@ use arraydeque_samples::{asked, build};
 #[cfg(test)]
 mod access;
 #[cfg(test)]
+mod bounds;
+#[cfg(test)]
 mod deque;
 #[cfg(test)]
 mod extend;

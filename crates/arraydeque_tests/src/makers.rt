@@ -94,14 +94,37 @@ fn made_alike<const CAP: usize>(alloc: Global, list: &[i64]) -> Result<bool, Fai
     )
 }
 
-/// Whether the deques of an array, under either policy, have the first or the last items of it.
-fn of_an_array<const CAP: usize>(alloc: Global) -> Result<bool, Fail> {
-    let array = [0, 1, 2, 3];
-    let (first, _) = array.as_slice().split_at(CAP.min(4));
-    let (_, last) = array.as_slice().split_at(4 - CAP.min(4));
+/// Whether the deques of an array of so many numbers, under either policy, have the first or the
+/// last of them.
+fn of_an_array<const CAP: usize, const N: usize>(alloc: Global) -> Result<bool, Fail> {
+    let mut array = [0; N];
+    let mut next = 0_i64;
+    for place in &mut array {
+        *place = next;
+        next = next.wrapping_add(1);
+    }
+    let (first, _) = array.as_slice().split_at(CAP.min(N));
+    let (_, last) = array.as_slice().split_at(N.saturating_sub(CAP));
     Ok(
         is_made(Refusing::<CAP>::from_array(alloc, array), first)?
             && is_made(Displacing::<CAP>::from_array(alloc, array), last)?,
+    )
+}
+
+/// Whether those of arrays of up to ten numbers do.
+fn of_arrays<const CAP: usize>(alloc: Global) -> Result<bool, Fail> {
+    Ok(
+        of_an_array::<CAP, 0>(alloc)?
+            && of_an_array::<CAP, 1>(alloc)?
+            && of_an_array::<CAP, 2>(alloc)?
+            && of_an_array::<CAP, 3>(alloc)?
+            && of_an_array::<CAP, 4>(alloc)?
+            && of_an_array::<CAP, 5>(alloc)?
+            && of_an_array::<CAP, 6>(alloc)?
+            && of_an_array::<CAP, 7>(alloc)?
+            && of_an_array::<CAP, 8>(alloc)?
+            && of_an_array::<CAP, 9>(alloc)?
+            && of_an_array::<CAP, 10>(alloc)?,
     )
 }
 
@@ -111,7 +134,7 @@ fn make_all<const CAP: usize>(rt: &impl Abort, alloc: Global) -> Result<(), Fail
         let list = numbers(alloc, len)?;
         assert!(rt; made_alike::<CAP>(alloc, &list)?, "{len} of {CAP}");
     }
-    assert!(rt; of_an_array::<CAP>(alloc)?, "{CAP}");
+    assert!(rt; of_arrays::<CAP>(alloc)?, "{CAP}");
     Ok(())
 }
 

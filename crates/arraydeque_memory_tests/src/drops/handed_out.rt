@@ -1,7 +1,9 @@
 //! What an owned iterator drops, and what moves or changes places without a drop.
 use super::{Drops, deque_at};
 use arraydeque::run::Call;
-use arraydeque::{ArrayDeque, Wrapping};
+use arraydeque::{ArrayDeque, MakeError, Wrapping};
+use std::alloc::AllocError;
+use std::io;
 use std::test::Fail;
 
 #[test]
@@ -81,5 +83,45 @@ fn what_is_handed_out_is_not_dropped(rt: HostRuntime) -> Result<(), Fail> {
     drop(replies);
     let seen = [before, displaced, answered, drops.with(deque)];
     assert!(rt; is_granted && seen == [0, 14, 0, 6523]);
+    Ok(())
+}
+
+#[test]
+fn a_run_drops_what_no_reply_hands_out(rt: HostRuntime) -> Result<(), Fail> {
+    let drops = Drops::new();
+    for start in 0..5 {
+        let mut deque = deque_at::<5>(rt.alloc(), &drops, start, 5)?;
+        let replies = deque.run(vec![in rt.alloc(); Call::Clear]?);
+        let cleared = drops.since();
+        let surplus = vec![in rt.alloc(); drops.item(6), drops.item(7)]?;
+        let mut deque = deque_at::<1>(rt.alloc(), &drops, 0, 0)?;
+        let added = deque.run(vec![in rt.alloc(); Call::ExtendBack(surplus)]?);
+        let seen = [cleared, drops.since(), drops.with(deque)];
+        assert!(rt;
+            seen == [12345, 7, 6] && replies.is_ok() && added.is_ok(),
+            "start {start}"
+        );
+    }
+    Ok(())
+}
+
+/// What a refusal for memory hands back goes once it becomes an error that has no room for it.
+#[test]
+fn a_source_is_dropped_with_its_refusal(rt: HostRuntime) -> Result<(), Fail> {
+    let drops = Drops::new();
+    let refusal = MakeError {
+        source: vec![in rt.alloc(); drops.item(1), drops.item(2)]?,
+    };
+    let other = MakeError {
+        source: drops.item(3),
+    };
+    let before = drops.since();
+    let error: AllocError = refusal.into();
+    let first = drops.since();
+    let io_error: io::Error = other.into();
+    let second = drops.since();
+    let is_told = error == AllocError && io_error.kind() == io::ErrorKind::OutOfMemory;
+    drop(io_error);
+    assert!(rt; is_told && [before, first, second, drops.since()] == [0, 12, 3, 0]);
     Ok(())
 }

@@ -1,0 +1,490 @@
+//! What each call asks of its types. A function here has just the bounds that the calls in it may
+//! ask for: one that asks for more is an error at it. Where no item may be dropped, whatever the
+//! calls hand out is handed on.
+ghost use Rattle.std.specs.Prelude.{◌≡◌, Contains, None};
+ghost use Rattle.std.specs.Iterator.{IsFiniteIterable};
+ghost use Rattle.arraydeque.specs.Sources.{IsIterable};
+
+use crate::build::made;
+use arraydeque::behavior::Behavior;
+use arraydeque::lookahead::Scanner;
+use arraydeque::run::Call;
+use arraydeque::{
+    ArrayDeque, CapacityError, Drain, IntoIter, IterMut, MakeError, RangeArgument, Saturating,
+    Wrapping,
+};
+use std::alloc::{AllocError, Global};
+use std::cmp::Ordering;
+use std::error::Error;
+use std::fmt::Debug;
+use std::hash::{DefaultHasher, Hash, Hasher};
+use std::io;
+use std::test::Fail;
+
+/// Whether a deque of two items is read.
+fn reads<T, const CAP: usize, B: Behavior>(
+    deque: &ArrayDeque<T, CAP, B>,
+) -> Result<bool, AllocError> {
+    let (first, second) = deque.as_slices();
+    let mut items = deque.iter();
+    let mut copy = items.clone()?;
+    let are_lent = (items.len(), items.size_hint()) == (2, (2, Some(2)))
+        && items.next().is_some()
+        && items.next_back().is_some();
+    let count = deque.into_iter().fold(0_u8, |count, _| count | 1);
+    Ok(
+        are_lent
+            && copy.next().is_some()
+            && count == 1
+            && (first.len(), second.len()) == (2, 0)
+            && (deque.len(), deque.capacity()) == (2, CAP)
+            && !deque.is_empty()
+            && deque.is_full() == (CAP == 2)
+            && deque.front().is_some()
+            && deque.back().is_some()
+            && deque.get(2).is_none()
+            && [&deque[1]].len() == 1,
+    )
+}
+
+/// Whether an iterator over two items that are lent for writing walks them from both ends.
+fn walks<T>(mut items: IterMut<'_, T>) -> bool {
+    (items.len(), items.size_hint()) == (2, (2, Some(2)))
+        && items.next().is_some()
+        && items.next_back().is_some()
+        && items.next().is_none()
+}
+
+/// Whether a deque of two items lends them for writing, and has them change places.
+fn writes<T, const CAP: usize, B: Behavior>(deque: &mut ArrayDeque<T, CAP, B>) -> bool {
+    if deque.len() != 2 {
+        return false;
+    }
+    deque.swap(0, 1);
+    deque.linearize();
+    let is_walked = walks(deque.iter_mut()) && walks((&mut *deque).into_iter());
+    let (first, second) = deque.iter_mut().into_slices();
+    let is_cut = (first.len(), second.len()) == (2, 0);
+    let (first, second) = deque.as_mut_slices();
+    is_walked
+        && is_cut
+        && (first.len(), second.len()) == (2, 0)
+        && deque.front_mut().is_some()
+        && deque.back_mut().is_some()
+        && deque.get_mut(1).is_some()
+}
+
+/// The item at an index, lent for writing.
+fn lent<T, const CAP: usize, B: Behavior>(deque: &mut ArrayDeque<T, CAP, B>) -> Option<&mut T> {
+    if deque.len() == 0 {
+        return None;
+    }
+    Some(&mut deque[0])
+}
+
+/// What the calls that take an item out make of a deque.
+fn taken<T, const CAP: usize, B: Behavior>(deque: &mut ArrayDeque<T, CAP, B>) -> [Option<T>; 5] {
+    [
+        deque.pop_front(),
+        deque.pop_back(),
+        deque.remove(0),
+        deque.swap_remove_back(0),
+        deque.swap_remove_front(0),
+    ]
+}
+
+/// The items that a range names, which may be of any type that names all.
+fn drained<T, const CAP: usize, B: Behavior, R: RangeArgument<usize> + Drop>(
+    deque: &mut ArrayDeque<T, CAP, B>,
+    range: R,
+) -> Result<Drain<T>, AllocError>
+    requires from { R.names_start range ≡ None }
+    requires to { R.names_end range ≡ None }
+{
+    deque.drain(range)
+}
+
+/// A second deque, of all items.
+fn split<T, const CAP: usize, B: Behavior>(
+    deque: &mut ArrayDeque<T, CAP, B>,
+) -> Result<ArrayDeque<T, CAP, B>, AllocError> {
+    deque.split_off(0)
+}
+
+/// A new deque.
+fn new<T, const CAP: usize, B: Behavior>(
+    alloc: Global,
+) -> Result<ArrayDeque<T, CAP, B>, AllocError> {
+    ArrayDeque::new(alloc)
+}
+
+/// A vector of all items.
+fn listed<T, const CAP: usize, B: Behavior>(
+    deque: ArrayDeque<T, CAP, B>,
+) -> Result<Vec<T>, MakeError<ArrayDeque<T, CAP, B>>> {
+    deque.into_vec()
+}
+
+/// The same deque, by way of the other policy.
+fn converted<T, const CAP: usize>(
+    deque: ArrayDeque<T, CAP, Saturating>,
+) -> ArrayDeque<T, CAP, Saturating> {
+    let wrapping: ArrayDeque<T, CAP, Wrapping> = deque.into();
+    wrapping.into()
+}
+
+/// What becomes of three elements in a deque that refuses.
+fn refused<T, const CAP: usize>(
+    deque: &mut ArrayDeque<T, CAP, Saturating>,
+    (first, second, third): (T, T, T),
+) -> [Result<(), CapacityError<T>>; 3] {
+    [
+        deque.push_front(first),
+        deque.push_back(second),
+        deque.insert(0, third),
+    ]
+}
+
+/// What becomes of two elements in a deque that displaces.
+fn displaced<T, const CAP: usize>(
+    deque: &mut ArrayDeque<T, CAP, Wrapping>,
+    (first, second): (T, T),
+) -> [Option<T>; 2] {
+    [deque.push_front(first), deque.push_back(second)]
+}
+
+/// Fills a deque from both ends.
+fn fill<T, const CAP: usize, I: IntoIterator<Item = T>>(
+    deque: &mut ArrayDeque<T, CAP, Saturating>,
+    back: I,
+    front: I,
+)
+    requires back { IsIterable I.into_iter_gives I.IntoIter.can_next back }
+    requires front { IsIterable I.into_iter_gives I.IntoIter.can_next front }
+{
+    deque.extend_back(back);
+    deque.extend_front(front);
+}
+
+/// A deque of the first items that come.
+fn first_of<T, const CAP: usize, I: IntoIterator<Item = T>>(
+    alloc: Global,
+    items: I,
+) -> Result<ArrayDeque<T, CAP, Saturating>, MakeError<I>>
+    requires { IsIterable I.into_iter_gives I.IntoIter.can_next items }
+{
+    ArrayDeque::<T, CAP, Saturating>::from_iter(alloc, items)
+}
+
+/// A scanner over an iterator.
+fn scanner<I: Iterator, const CAP: usize>(
+    alloc: Global,
+    items: I,
+) -> Result<Scanner<I, CAP>, MakeError<I>>
+    requires { I.can_next items }
+{
+    Scanner::new(alloc, items)
+}
+
+/// The next item of a scanner, and what becomes of another that is put on.
+fn scanned<I: Iterator, const CAP: usize>(
+    scanner: &mut Scanner<I, CAP>,
+    item: I::Item,
+) -> (Option<I::Item>, Result<(), CapacityError<I::Item>>) {
+    let is_peeked = CAP > 0 && scanner.peek(0).is_some();
+    let next = if is_peeked { scanner.next() } else { None };
+    (next, scanner.unread(item))
+}
+
+/// The bounds that the ranges between two values name.
+fn named<T: Copy>(start: T, end: T) -> [(Option<T>, Option<T>); 3] {
+    let (from, to, both) = (start.., ..end, start..end);
+    [
+        (from.start(), from.end()),
+        (to.start(), to.end()),
+        (both.start(), both.end()),
+    ]
+}
+
+/// The bounds that a range of everything names, whatever they would be.
+fn unnamed<T>() -> (Option<T>, Option<T>) {
+    let all = ..;
+    (
+        RangeArgument::<T>::start(&all),
+        RangeArgument::<T>::end(&all),
+    )
+}
+
+/// Whether a deque keeps none of its items.
+fn lets_go<T: Drop, const CAP: usize, B: Behavior>(mut deque: ArrayDeque<T, CAP, B>) -> bool {
+    deque.retain(|_| false);
+    let is_empty = deque.is_empty();
+    deque.clear();
+    is_empty
+}
+
+/// Whether an owned iterator walks two items from both ends.
+fn gives<T: Drop, const CAP: usize, B: Behavior>(deque: ArrayDeque<T, CAP, B>) -> bool {
+    let mut items: IntoIter<T, CAP, B> = deque.into_iter();
+    (items.len(), items.size_hint()) == (2, (2, Some(2)))
+        && items.next().is_some()
+        && items.next_back().is_some()
+}
+
+/// The same of a drain.
+fn drains<T: Drop>(mut items: Drain<T>) -> bool {
+    (items.len(), items.size_hint()) == (2, (2, Some(2)))
+        && items.next().is_some()
+        && items.next_back().is_some()
+}
+
+/// Adds what comes to deques of either policy.
+fn add<T: Drop, const CAP: usize>(
+    saturating: &mut ArrayDeque<T, CAP, Saturating>,
+    wrapping: &mut ArrayDeque<T, CAP, Wrapping>,
+    [first, second, third, fourth]: [Option<T>; 4],
+) -> Result<(), AllocError> {
+    wrapping.extend_back(first);
+    wrapping.extend_front(second);
+    saturating.extend(third)?;
+    wrapping.extend(fourth)
+}
+
+/// Deques of vectors, under either policy.
+fn of_vectors<T: Drop, const CAP: usize>(
+    alloc: Global,
+    first: Vec<T>,
+    last: Vec<T>,
+) -> Result<(ArrayDeque<T, CAP, Saturating>, ArrayDeque<T, CAP, Wrapping>), MakeError<Vec<T>>> {
+    Ok((
+        ArrayDeque::<T, CAP, Saturating>::from_vec(alloc, first)?,
+        ArrayDeque::<T, CAP, Wrapping>::from_vec(alloc, last)?,
+    ))
+}
+
+/// A deque of the last items that come.
+fn last_of<T: Drop, const CAP: usize, I: IntoIterator<Item = T>>(
+    alloc: Global,
+    items: I,
+) -> Result<ArrayDeque<T, CAP, Wrapping>, MakeError<I>>
+    requires { IsFiniteIterable I.into_iter_gives I.IntoIter.can_next I.IntoIter.remaining items }
+{
+    ArrayDeque::<T, CAP, Wrapping>::from_iter(alloc, items)
+}
+
+/// Whether deques of either policy answer a call each.
+fn answers<T: Drop, const CAP: usize>(
+    saturating: &mut ArrayDeque<T, CAP, Saturating>,
+    wrapping: &mut ArrayDeque<T, CAP, Wrapping>,
+    (calls, other): (Vec<Call<T>>, Vec<Call<T>>),
+) -> bool {
+    saturating.run(calls).is_ok() && wrapping.run(other).is_ok()
+}
+
+/// Deques of arrays, under either policy.
+fn of_arrays<T: Copy, const CAP: usize, const N: usize>(
+    alloc: Global,
+    array: [T; N],
+) -> Result<(ArrayDeque<T, CAP, Saturating>, ArrayDeque<T, CAP, Wrapping>), MakeError<[T; N]>> {
+    Ok((
+        ArrayDeque::<T, CAP, Saturating>::from_array(alloc, array)?,
+        ArrayDeque::<T, CAP, Wrapping>::from_array(alloc, array)?,
+    ))
+}
+
+/// Whether two deques are equal, and have an item.
+fn are_equal<T: PartialEq, const CAP: usize, B: Behavior>(
+    left: &ArrayDeque<T, CAP, B>,
+    right: &ArrayDeque<T, CAP, B>,
+    item: &T,
+) -> bool {
+    *left == *right && left.contains(item)
+}
+
+/// What is equal to itself.
+fn itself<D: Eq>(value: &D) -> &D {
+    value
+}
+
+/// A deque of items each of which is equal to itself is so too.
+fn deque_itself<T: Eq, const CAP: usize, B: Behavior>(
+    deque: &ArrayDeque<T, CAP, B>,
+) -> &ArrayDeque<T, CAP, B> {
+    itself(deque)
+}
+
+/// The order of two deques, if there is one.
+fn partial_order<T: PartialOrd, const CAP: usize, B: Behavior>(
+    left: &ArrayDeque<T, CAP, B>,
+    right: &ArrayDeque<T, CAP, B>,
+) -> Option<Ordering> {
+    left.partial_cmp(right)
+}
+
+/// The order of two deques.
+fn order<T: Ord, const CAP: usize, B: Behavior>(
+    left: &ArrayDeque<T, CAP, B>,
+    right: &ArrayDeque<T, CAP, B>,
+) -> Ordering {
+    left.cmp(right)
+}
+
+/// Feeds a deque to a hasher.
+fn feed<T: Hash, const CAP: usize, B: Behavior>(
+    deque: &ArrayDeque<T, CAP, B>,
+    hasher: &mut DefaultHasher,
+) {
+    deque.hash(hasher);
+}
+
+/// A deque's text.
+fn text<T: Debug, const CAP: usize, B: Behavior>(
+    alloc: Global,
+    deque: &ArrayDeque<T, CAP, B>,
+) -> Result<String, Fail> {
+    Ok(format!(in alloc; "{deque:?}")?)
+}
+
+/// A deque of clones.
+fn cloned<T: Clone, const CAP: usize, B: Behavior>(
+    deque: &ArrayDeque<T, CAP, B>,
+) -> Result<ArrayDeque<T, CAP, B>, AllocError>
+    requires { (x y : T) → Contains deque.now.items x → T.is_clone x y → y ≡ x }
+{
+    deque.clone()
+}
+
+/// What is an error, and its texts.
+fn texts<E: Error>(alloc: Global, error: &E) -> Result<(String, String), Fail> {
+    Ok((
+        format!(in alloc; "{error}")?,
+        format!(in alloc; "{error:?}")?,
+    ))
+}
+
+/// The texts of the errors of anything that can be dropped.
+fn error_texts<S: Drop>(
+    alloc: Global,
+    full: &CapacityError<S>,
+    refused: &MakeError<S>,
+) -> Result<[(String, String); 2], Fail> {
+    Ok([texts(alloc, full)?, texts(alloc, refused)?])
+}
+
+/// The errors that one for memory becomes, whatever it hands back.
+fn errors<S: Drop>(refused: MakeError<S>, other: MakeError<S>) -> (AllocError, io::Error) {
+    (refused.into(), other.into())
+}
+
+/// A range that is neither copied nor cloned.
+#[derive(Drop)]
+struct All;
+
+impl RangeArgument<usize> for All {
+    ghost names_start = { λ _. None };
+
+    ghost names_end = { λ _. None };
+
+    fn start(&self) -> Option<usize> {
+        None
+    }
+
+    fn end(&self) -> Option<usize> {
+        None
+    }
+}
+
+/// Whether calls that ask nothing of the items do what they should to two, and to a third.
+fn asks_nothing(alloc: Global) -> Result<bool, Fail> {
+    let mut deque = made(first_of::<u8, 3, _>(alloc, Some(1)))?;
+    fill(&mut deque, Some(2), None);
+    let mut deque = converted(deque);
+    let is_held = reads(&deque)? && writes(&mut deque) && lent(&mut deque) == Some(&mut 2);
+    let refusals = refused(&mut deque, (3, 4, 5));
+    let mut wrapping: ArrayDeque<u8, 3, Wrapping> = deque.into();
+    let given_up = displaced(&mut wrapping, (6, 7));
+    let items: Vec<u8> = drained(&mut wrapping, All)?.collect(alloc)?;
+    wrapping.push_back(8);
+    let mut tail = split(&mut wrapping)?;
+    let out = taken(&mut tail);
+    Ok(
+        is_held
+            && refusals
+                == [
+                    Ok(()),
+                    Err(CapacityError { element: 4 }),
+                    Err(CapacityError { element: 5 }),
+                ]
+            && given_up == [Some(1), Some(6)]
+            && items.as_slice() == [3, 2, 7].as_slice()
+            && out == [Some(8), None, None, None, None]
+            && made(listed(new::<u8, 3, Wrapping>(alloc)?))?.is_empty(),
+    )
+}
+
+/// Whether calls that may drop an item, or copy one, do what they should.
+fn asks_to_drop(alloc: Global) -> Result<bool, Fail> {
+    let (mut first, mut last) = of_vectors::<u8, 2>(
+        alloc,
+        vec![in alloc; 1, 2, 3]?,
+        vec![in alloc; 1, 2, 3]?,
+    ).map_err(|_| "refused")?;
+    add(&mut first, &mut last, [Some(4), Some(5), Some(6), None])?;
+    let calls = (vec![in alloc; Call::Len]?, vec![in alloc; Call::Len]?);
+    let are_answered = answers(&mut first, &mut last, calls);
+    let (copies, other) = of_arrays::<u8, 2, 3>(alloc, [1, 2, 3]).map_err(|_| "refused")?;
+    let all = made(last_of::<u8, 2, _>(alloc, Some(7)))?.drain(..)?;
+    Ok(
+        are_answered
+            && are_equal(&first, &copies, &2)
+            && !are_equal(&last, &other, &2)
+            && gives(first)
+            && lets_go(last)
+            && !drains(all)
+            && named(1, 2) == [(Some(1), None), (None, Some(2)), (Some(1), Some(2))]
+            && unnamed::<u8>() == (None, None),
+    )
+}
+
+/// Whether comparisons, texts and clones do.
+fn asks_for_traits(alloc: Global) -> Result<bool, Fail> {
+    let deque = made(first_of::<u8, 2, _>(alloc, [1, 2]))?;
+    let copy = cloned(&deque)?;
+    let mut hasher = DefaultHasher::new();
+    feed(&deque, &mut hasher);
+    let mut other = DefaultHasher::new();
+    feed(&copy, &mut other);
+    let [full, refused] = error_texts(
+        alloc,
+        &CapacityError { element: 1 },
+        &MakeError { source: 1 },
+    )?;
+    let (error, io_error) = errors(MakeError { source: 1 }, MakeError { source: 2 });
+    Ok(
+        partial_order(&deque, deque_itself(&copy)) == Some(Ordering::Equal)
+            && order(&deque, &copy) == Ordering::Equal
+            && hasher.finish() == other.finish()
+            && text(alloc, &copy)?.as_str() == "[1, 2]"
+            && full.0.as_str() == "insufficient capacity"
+            && refused.1.as_str() == "out of memory"
+            && error == AllocError
+            && io_error.kind() == io::ErrorKind::OutOfMemory,
+    )
+}
+
+/// Whether a scanner of any items does.
+fn scans(alloc: Global) -> Result<bool, Fail> {
+    let mut scanner = made(scanner::<_, 1>(alloc, [1_u8, 2].into_iter()))?;
+    Ok(scanned(&mut scanner, 3) == (Some(1), Ok(())) && scanner.next() == Some(3))
+}
+
+#[test]
+fn no_call_asks_for_more_than_it_may(rt: HostRuntime) -> Result<(), Fail> {
+    assert!(rt;
+        asks_nothing(rt.alloc())?
+            && asks_to_drop(rt.alloc())?
+            && asks_for_traits(rt.alloc())?
+            && scans(rt.alloc())?
+    );
+    Ok(())
+}
