@@ -1,7 +1,7 @@
 -- The end of a run.
-use Rattle.std.proofs.{Common.{◌≡◌, ◌≢◌, ◌∙◌, ℕ, ℤ, List, [], ◌∷◌, ◌++◌, map, flat_map, get_or, codes, bytes_eq, true, false, ap, append_assoc, refl, Some, None, Result, Ok, Err, IfOk, IfErr, String, string_bytes, Global, sym, subst}, lemmas.Slice.Eq.{bytes_eq-Decides}}
+use Rattle.std.proofs.{Common.{◌≡◌, ◌≢◌, ◌∙◌, ℕ, ℤ, List, [], ◌∷◌, ◌++◌, map, flat_map, get_or, codes, bytes_eq, true, false, ap, append_assoc, refl, Some, None, Result, Ok, Err, IfOk, IfErr, IfSome, Option, String, string_bytes, Global, sym, subst}, lemmas.Slice.Eq.{bytes_eq-Decides}}
 use Rattle.arraydeque.specs.{Machine.answer_of, Policy.Policy, Run.MachineRun, declared.run.{Call.Call, Reply.Reply}}
-use Rattle.adq.specs.{Line.{lines_of, LinesName}, Run.{Ends, Prints, settings_of}, Text.{list_text, text_of}, declared.fault.Fault.{Fault, TheVariants.Memory}}
+use Rattle.adq.specs.{Line.{lines_of, LinesName}, Run.{Ends, Prints, ReadsWhole, settings_of}, Text.{list_text, text_of}, declared.fault.Fault.{Fault, TheVariants.Memory}}
 
 -- the text of replies, line by line, and of the last list
 abbrev pub output_of : {B : Type 0} {n : ℕ} → List (Reply ℤ n B) → List ℤ → List ℕ
@@ -21,6 +21,14 @@ pub ended : {B : Type 0} (p : Policy) (n : ℕ) (read text : List ℕ) (calls : 
 ended p n read text calls replies first last (Ok t) same named none run text_is e =
     (calls, subst (λ t. LinesName (lines_of t) calls) same named, printed p n [] calls replies last (string_bytes t) (subst (λ l. MachineRun p l calls replies last) none run) text_is)
 ended p n read text calls replies first last (Err fault) same named none run printed e = subst (λ f. Ends {A = Global} (Some (p, n)) text (Err f)) (sym e) tt
+
+-- where all was read, whatever the run ends with
+pub read_whole : (known : Option (List ℕ)) (old new : List ℕ) (r : Result (String Global) Fault) → IfSome known (λ xs. new ≡ old ++ xs) → ReadsWhole known old new r
+read_whole known old new (Ok printed) h = h
+read_whole known old new (Err (Fault.Line n)) h = h
+read_whole known old new (Err Fault.Arguments) h = tt
+read_whole known old new (Err Fault.Memory) h = tt
+read_whole known old new (Err Fault.Io) h = tt
 
 unlike : (xs ys : List ℕ) → xs ≢ ys → bytes_eq xs ys ≡ false
 unlike xs ys h = elim (bytes_eq xs ys) as (λ b. bytes_eq xs ys ≡ b → b ≡ false) [ true ↦ λ e. absurd (h ((bytes_eq-Decides xs ys).0 e)) | false ↦ λ e. refl ] refl

@@ -1,5 +1,5 @@
 -- What a run of the program prints, and why another prints nothing.
-use Rattle.std.specs.Prelude.{◌≡◌, ℕ, ℤ, List, [], ◌∷◌, ◌++◌, Option, Some, None, Result, Ok, Err, String, string_bytes, codes, bytes_eq, ◌+◌, ⊤}
+use Rattle.std.specs.Prelude.{◌≡◌, ℕ, ℤ, List, [], ◌∷◌, ◌++◌, Option, Some, None, Result, Ok, Err, String, string_bytes, codes, bytes_eq, ◌+◌, ⊤, IfSome}
 use Rattle.{std.specs.Map.lookup, std.specs.Option.option_zip, arraydeque.specs.Machine.Answer, arraydeque.specs.Machine.Answers, arraydeque.specs.Policy.Policy, arraydeque.specs.declared.run.Call.Call, adq.specs.Line.lines_of, adq.specs.Line.LinesName, adq.specs.Line.IsFirstBad, adq.specs.Text.text_of, adq.specs.Text.list_text, adq.specs.declared.fault.Fault.Fault}
 
 -- the policy and the capacity that the arguments name
@@ -25,3 +25,10 @@ Ends (Some s) text (Ok printed) = (calls : List (Call ℤ)) × LinesName (lines_
 Ends (Some s) text (Err Fault.Arguments) = ⊥
 Ends (Some s) text (Err (Fault.Line n)) = (k : ℕ) × (n ≡ k + 1) × IsFirstBad (lines_of text) k
 Ends (Some s) text (Err _) = ⊤
+
+-- where anything is printed, or a line is blamed, all that the reader had is behind the old text
+abbrev pub ReadsWhole : {A : Type 0} → Option (List ℕ) → List ℕ → List ℕ
+    → Result (String A) Fault → Type 0
+ReadsWhole known old new (Ok printed) = IfSome known (λ xs. new ≡ old ++ xs)
+ReadsWhole known old new (Err (Fault.Line n)) = IfSome known (λ xs. new ≡ old ++ xs)
+ReadsWhole known old new (Err _) = ⊤

@@ -1,9 +1,9 @@
 //! The whole program, over any streams.
-ghost use Rattle.std.specs.Prelude.{◌≡◌, ◌≤◌, ◌⊎◌, ◌∷◌, [], ◌++◌, IfOk, IfErr, OnOk, Some, None, codes, flat_map, map, string_bytes};
-ghost use Rattle.std.specs.Io.KnownBytes.{Appends};
+ghost use Rattle.std.specs.Prelude.{◌≡◌, ◌≤◌, ◌⊎◌, ◌∷◌, [], ◌++◌, IfOk, IfErr, IfSome, OnOk, Some, None, codes, flat_map, map, string_bytes};
+ghost use Rattle.std.specs.Io.KnownBytes.{Appends, IsAtEnd};
 ghost use Rattle.arraydeque.specs.Policy.{saturating, wrapping};
 ghost use Rattle.arraydeque.specs.Machine.{answer_of};
-ghost use Rattle.adq.specs.Run.{settings_of, Ends};
+ghost use Rattle.adq.specs.Run.{settings_of, Ends, ReadsWhole};
 ghost use Rattle.adq.specs.Text.{text_of, list_text};
 ghost use Rattle.adq.specs.declared.fault.Fault.TheVariants.{Memory, Io};
 
@@ -14,13 +14,13 @@ use arraydeque::behavior::Behavior;
 use arraydeque::run::Reply;
 use arraydeque::{ArrayDeque, Saturating, Wrapping};
 use std::alloc::Global;
-use std::io::{Read, Write};
+use std::io::{ErrorKind, Read, Write};
 
 #[cfg(test)]
 mod tests;
 
-/// How many bytes of the input are read into the room that was made for them.
-const PIECE: usize = 65_536;
+/// How many bytes of the input a read may give.
+const PIECE: usize = 8192;
 
 /// Runs the program on the words after its name, and answers its status.
 ///
@@ -51,7 +51,9 @@ fn dispatch<R: Read>(
     input: &mut R,
     text: &mut Vec<u8>,
 ) -> Result<String, Fault>
-    ensures { Ends (settings_of (map (λ word. string_bytes word) args.now)) text.new.items result }
+    ensures ends { Ends (settings_of (map (λ word. string_bytes word) args.now)) text.new.items
+        result }
+    ensures whole { ReadsWhole (R.remaining input.old) text.old.items text.new.items result }
 {
     let [policy, capacity] = args else {
         return Err(Fault::Arguments);
@@ -70,7 +72,8 @@ fn saturating<R: Read>(
     input: &mut R,
     text: &mut Vec<u8>,
 ) -> Result<String, Fault>
-    ensures { Ends (settings_of (codes "sat" ∷ capacity.now ∷ [])) text.new.items result }
+    ensures ends { Ends (settings_of (codes "sat" ∷ capacity.now ∷ [])) text.new.items result }
+    ensures whole { ReadsWhole (R.remaining input.old) text.old.items text.new.items result }
 {
     match capacity {
         "0" => saturating_of::<R, 0>(alloc, input, text),
@@ -91,7 +94,8 @@ fn wrapping<R: Read>(
     input: &mut R,
     text: &mut Vec<u8>,
 ) -> Result<String, Fault>
-    ensures { Ends (settings_of (codes "wrap" ∷ capacity.now ∷ [])) text.new.items result }
+    ensures ends { Ends (settings_of (codes "wrap" ∷ capacity.now ∷ [])) text.new.items result }
+    ensures whole { ReadsWhole (R.remaining input.old) text.old.items text.new.items result }
 {
     match capacity {
         "0" => wrapping_of::<R, 0>(alloc, input, text),
@@ -111,7 +115,8 @@ fn saturating_of<R: Read, const CAP: usize>(
     input: &mut R,
     text: &mut Vec<u8>,
 ) -> Result<String, Fault>
-    ensures { Ends (Some (saturating, CAP)) text.new.items result }
+    ensures ends { Ends (Some (saturating, CAP)) text.new.items result }
+    ensures whole { ReadsWhole (R.remaining input.old) text.old.items text.new.items result }
 {
     let mut deque = ArrayDeque::<i64, CAP, Saturating>::new(alloc)?;
     read(input, text)?;
@@ -125,7 +130,8 @@ fn wrapping_of<R: Read, const CAP: usize>(
     input: &mut R,
     text: &mut Vec<u8>,
 ) -> Result<String, Fault>
-    ensures { Ends (Some (wrapping, CAP)) text.new.items result }
+    ensures ends { Ends (Some (wrapping, CAP)) text.new.items result }
+    ensures whole { ReadsWhole (R.remaining input.old) text.old.items text.new.items result }
 {
     let mut deque = ArrayDeque::<i64, CAP, Wrapping>::new(alloc)?;
     read(input, text)?;
@@ -134,16 +140,21 @@ fn wrapping_of<R: Read, const CAP: usize>(
     print(alloc, replies, &deque)
 }
 
-/// Reads the input to its end. Room is made before each read, so that a read that fails was not
-/// refused memory of the program's own.
+/// Reads the input to its end, behind what is there. No read asks for memory, so what a failing one
+/// tells of is the stream's.
 fn read<R: Read>(input: &mut R, text: &mut Vec<u8>) -> Result<(), Fault>
-    ensures { IfErr result (λ fault. (fault ≡ Memory) ⊎ (fault ≡ Io)) }
+    ensures bytes { OnOk result (IfSome (R.remaining input.old)
+        (λ xs. text.new.items ≡ text.old.items ++ xs)) }
+    ensures end { OnOk result (IsAtEnd (R.remaining input.new)) }
+    ensures failed { IfErr result (λ fault. (fault ≡ Memory) ⊎ (fault ≡ Io)) }
 {
+    let mut piece = [0; PIECE];
     for _ in 0..u64::MAX {
-        text.reserve(PIECE + 1)?;
-        let piece = input.by_ref().take(PIECE as u64).read_to_end(text)?;
-        if piece < PIECE {
-            return Ok(());
+        match input.read(&mut piece) {
+            Ok(0) => return Ok(()),
+            Ok(count) => text.extend_from_slice(&piece[..count])?,
+            Err(error) if error.kind() == ErrorKind::Interrupted => {}
+            Err(_) => return Err(Fault::Io),
         }
     }
     Err(Fault::Memory)

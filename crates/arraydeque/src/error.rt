@@ -31,6 +31,10 @@ impl<T: Drop> Error for CapacityError<T> {}
 impl<T: Drop> fmt::Display for CapacityError<T> {
     ghost output = { λ _. Some (codes "insufficient capacity") };
 
+    /// ```
+    /// let text = format!(in alloc; "{}", CapacityError { element: 7 })?;
+    /// assert!(rt; text.as_str() == "insufficient capacity");
+    /// ```
     fn fmt<W: fmt::Write>(&self, f: &mut fmt::Formatter<W>) -> fmt::Result {
         f.write_str("insufficient capacity")
     }
@@ -39,6 +43,10 @@ impl<T: Drop> fmt::Display for CapacityError<T> {
 impl<T: Drop> fmt::Debug for CapacityError<T> {
     ghost debug_output = { λ _. Some (codes "CapacityError: insufficient capacity") };
 
+    /// ```
+    /// let text = format!(in alloc; "{:?}", CapacityError { element: 7 })?;
+    /// assert!(rt; text.as_str() == "CapacityError: insufficient capacity");
+    /// ```
     fn fmt<W: fmt::Write>(&self, f: &mut fmt::Formatter<W>) -> fmt::Result {
         f.write_str("CapacityError: insufficient capacity")
     }
@@ -81,6 +89,10 @@ impl<S: Drop> Error for MakeError<S> {}
 impl<S: Drop> fmt::Display for MakeError<S> {
     ghost output = { λ _. Some (codes "out of memory") };
 
+    /// ```
+    /// let text = format!(in alloc; "{}", MakeError { source: [1, 2] })?;
+    /// assert!(rt; text.as_str() == "out of memory");
+    /// ```
     fn fmt<W: fmt::Write>(&self, f: &mut fmt::Formatter<W>) -> fmt::Result {
         f.write_str("out of memory")
     }
@@ -89,6 +101,10 @@ impl<S: Drop> fmt::Display for MakeError<S> {
 impl<S: Drop> fmt::Debug for MakeError<S> {
     ghost debug_output = { λ _. Some (codes "out of memory") };
 
+    /// ```
+    /// let text = format!(in alloc; "{:?}", MakeError { source: [1, 2] })?;
+    /// assert!(rt; text.as_str() == "out of memory");
+    /// ```
     fn fmt<W: fmt::Write>(&self, f: &mut fmt::Formatter<W>) -> fmt::Result {
         fmt::Display::fmt(self, f)
     }
@@ -110,6 +126,11 @@ impl<S: Drop> From<MakeError<S>> for io::Error {
     ghost from_gives = { λ _ error. error_kind error ≡ OutOfMemory };
 
     /// Lets what was handed in go: an error whose kind is that of memory that was refused.
+    ///
+    /// ```
+    /// let error = std::io::Error::from(MakeError { source: [1, 2] });
+    /// assert!(rt; error.kind() == std::io::ErrorKind::OutOfMemory);
+    /// ```
     fn from(_refusal: MakeError<S>) -> io::Error {
         AllocError.into()
     }

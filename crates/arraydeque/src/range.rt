@@ -37,6 +37,11 @@ impl<T> RangeArgument<T> for RangeFull {
 
     ghost names_end = { λ _. None };
 
+    /// ```
+    /// let mut deque = ArrayDeque::<i64, 3, Saturating>::new(alloc)?;
+    /// deque.extend_back([1, 2, 3]);
+    /// assert!(rt; (deque.drain(..)?.len(), deque.len()) == (3, 0));
+    /// ```
     fn start(&self) -> Option<T> {
         None
     }
@@ -51,6 +56,12 @@ impl<T: Copy> RangeArgument<T> for RangeFrom<T> {
 
     ghost names_end = { λ _. None };
 
+    /// ```
+    /// let mut deque = ArrayDeque::<i64, 3, Saturating>::new(alloc)?;
+    /// deque.extend_back([1, 2, 3]);
+    /// assert!(rt; deque.drain(1..)?.len() == 2);
+    /// assert!(rt; deque.back() == Some(&1));
+    /// ```
     fn start(&self) -> Option<T> {
         Some(self.start)
     }
@@ -65,6 +76,12 @@ impl<T: Copy> RangeArgument<T> for RangeTo<T> {
 
     ghost names_end = { λ range. Some range.end };
 
+    /// ```
+    /// let mut deque = ArrayDeque::<i64, 3, Saturating>::new(alloc)?;
+    /// deque.extend_back([1, 2, 3]);
+    /// assert!(rt; deque.drain(..1)?.len() == 1);
+    /// assert!(rt; deque.front() == Some(&2));
+    /// ```
     fn start(&self) -> Option<T> {
         None
     }
@@ -79,6 +96,12 @@ impl<T: Copy> RangeArgument<T> for Range<T> {
 
     ghost names_end = { λ range. Some range.end };
 
+    /// ```
+    /// let mut deque = ArrayDeque::<i64, 3, Saturating>::new(alloc)?;
+    /// deque.extend_back([1, 2, 3]);
+    /// assert!(rt; deque.drain(1..2)?.next() == Some(2));
+    /// assert!(rt; deque.into_vec()?.as_slice() == [1, 3].as_slice());
+    /// ```
     fn start(&self) -> Option<T> {
         Some(self.start)
     }

@@ -2,7 +2,9 @@
 mod rows;
 mod streams;
 
-use self::rows::{BAD, BAD_ARGUMENTS, CALLS, FAILED, NOT_TEXT, REPLIES, RUNS};
+use self::rows::{
+    BAD, BAD_ARGUMENTS, CALLS, EVERY_CALL, FAILED, NOT_TEXT, ON_EACH, REPLIES, RUNS, WORDS,
+};
 use self::streams::{Calls, Input, Output};
 use super::drive;
 use std::alloc::{AllocError, Global};
@@ -26,7 +28,7 @@ fn args_of(alloc: Global, words: &str) -> Result<Vec<String>, AllocError> {
 fn ends(
     alloc: Global,
     words: &str,
-    input: Input<'_>,
+    input: &mut Input<'_>,
     mut output: Output<'_>,
     mut faults: Output<'_>,
     status: u8,
@@ -41,14 +43,21 @@ fn prints(alloc: Global, words: &str, input: &[u8], text: &str) -> Result<bool, 
     let whole = Calls::whole();
     let output = Output::new(alloc, text, whole);
     let faults = Output::new(alloc, "", whole);
-    ends(alloc, words, Input::new(input, whole), output, faults, 0)
+    ends(
+        alloc,
+        words,
+        &mut Input::new(input, whole),
+        output,
+        faults,
+        0,
+    )
 }
 
 /// Whether the run ends with this fault and prints nothing.
 fn refuses(
     alloc: Global,
     words: &str,
-    input: Input<'_>,
+    input: &mut Input<'_>,
     fault: &str,
     status: u8,
 ) -> Result<bool, AllocError> {
@@ -60,8 +69,8 @@ fn refuses(
 /// Whether the first bad line of this input has this number.
 fn blames(alloc: Global, words: &str, input: &[u8], number: usize) -> Result<bool, AllocError> {
     let fault = format!(in alloc; "adq: bad line {number}\n")?;
-    let input = Input::new(input, Calls::whole());
-    refuses(alloc, words, input, fault.as_str(), 2)
+    let mut input = Input::new(input, Calls::whole());
+    refuses(alloc, words, &mut input, fault.as_str(), 2)
 }
 
 #[test]
@@ -70,6 +79,63 @@ fn runs_have_their_outputs(rt: HostRuntime) -> Result<(), Fail> {
         assert!(rt;
             prints(rt.alloc(), words, input.as_bytes(), text)?,
             "{words}: {input}"
+        );
+    }
+    for (words, text) in ON_EACH {
+        assert!(rt;
+            prints(rt.alloc(), words, EVERY_CALL.as_bytes(), text)?,
+            "{words}"
+        );
+    }
+    Ok(())
+}
+
+/// A line of this word and so many numbers.
+fn line_of(alloc: Global, word: &str, count: usize) -> Result<String, AllocError> {
+    let mut line = String::from_str(alloc, word)?;
+    for _ in 0..count {
+        line.push_str(" 0")?;
+    }
+    Ok(line)
+}
+
+/// Whether a line of this word and so many numbers is no bad one.
+fn names(alloc: Global, word: &str, count: usize) -> Result<bool, AllocError> {
+    let args = args_of(alloc, "sat 3")?;
+    let line = line_of(alloc, word, count)?;
+    let ended = drive(
+        alloc,
+        args.as_slice(),
+        line.as_bytes(),
+        io::sink(),
+        io::sink(),
+    );
+    Ok(ended == 0)
+}
+
+/// Whether a line of this word and so many numbers is a bad one.
+fn is_bad(alloc: Global, word: &str, count: usize) -> Result<bool, AllocError> {
+    blames(alloc, "sat 3", line_of(alloc, word, count)?.as_bytes(), 1)
+}
+
+/// Each word names a call with its count of numbers alone, and neither in capitals nor cut short by
+/// a letter.
+#[test]
+fn each_word_has_its_spelling(rt: HostRuntime) -> Result<(), Fail> {
+    let alloc = rt.alloc();
+    for (word, count) in WORDS {
+        let capitals = word.to_ascii_uppercase(alloc)?;
+        let mut short = String::from_str(alloc, word)?;
+        short.pop();
+        assert!(rt; names(alloc, word, count)?, "{word}");
+        assert!(rt;
+            is_bad(alloc, capitals.as_str(), count)? && is_bad(alloc, short.as_str(), count)?,
+            "{word}"
+        );
+        assert!(rt;
+            word.starts_with("extend") == names(alloc, word, count.saturating_add(1))?
+                && (count == 0 || is_bad(alloc, word, count - 1)?),
+            "{word}"
         );
     }
     Ok(())
@@ -91,16 +157,19 @@ fn bad_lines_are_blamed(rt: HostRuntime) -> Result<(), Fail> {
     Ok(())
 }
 
-/// Where the arguments are bad, nothing is read: it would fail.
+/// Where the arguments are bad, nothing is read, whether it could be or not.
 #[test]
 fn bad_arguments_are_refused(rt: HostRuntime) -> Result<(), Fail> {
-    let calls = Calls::failing(1, 0, usize::MAX, ErrorKind::Other);
+    let fails = Calls::failing(1, 0, usize::MAX, ErrorKind::Other);
     for words in BAD_ARGUMENTS {
-        let input = Input::new(b"len", calls);
-        assert!(rt;
-            refuses(rt.alloc(), words, input, "adq: bad arguments\n", 2)?,
-            "{words}"
-        );
+        for calls in [Calls::whole(), fails] {
+            let mut input = Input::new(b"len", calls);
+            assert!(rt;
+                refuses(rt.alloc(), words, &mut input, "adq: bad arguments\n", 2)?
+                    && input.reads() == 0,
+                "{words}"
+            );
+        }
     }
     Ok(())
 }
@@ -116,33 +185,30 @@ fn fails(
 ) -> Result<bool, AllocError> {
     let output = Output::new(alloc, text, calls);
     let faults = Output::new(alloc, FAILED, Calls::whole());
-    ends(
-        alloc,
-        words,
-        Input::new(input, Calls::whole()),
-        output,
-        faults,
-        1,
-    )
+    let mut input = Input::new(input, Calls::whole());
+    ends(alloc, words, &mut input, output, faults, 1)
 }
 
-/// Where each call moves one byte, all is read and written. Then each call of the input fails in
-/// turn, alone or with all that follow, also that which would find its end; and each of the output,
-/// its flush too.
+/// Where each call moves one byte, all is read and written, and a read that is interrupted is made
+/// again. Then each call of the input fails in turn, alone or with all that follow, also that which
+/// would find its end; and each of the output, its flush too.
 #[test]
 fn a_read_or_a_write_that_fails_ends_the_run(rt: HostRuntime) -> Result<(), Fail> {
     let input = CALLS.as_bytes();
     let slow = Calls::failing(1, usize::MAX, 0, ErrorKind::Other);
-    let output = Output::new(rt.alloc(), REPLIES, slow);
-    let faults = Output::new(rt.alloc(), "", slow);
-    let source = Input::new(input, slow);
-    assert!(rt; ends(rt.alloc(), "sat 3", source, output, faults, 0)?);
+    for reads in [slow, Calls::failing(1, 3, 5, ErrorKind::Interrupted)] {
+        let output = Output::new(rt.alloc(), REPLIES, slow);
+        let faults = Output::new(rt.alloc(), "", slow);
+        let mut source = Input::new(input, reads);
+        assert!(rt; ends(rt.alloc(), "sat 3", &mut source, output, faults, 0)?);
+    }
     for kind in [ErrorKind::BrokenPipe, ErrorKind::OutOfMemory] {
         for call in 0..=input.len() {
             for last in [call, usize::MAX] {
                 let calls = Calls::failing(1, call, last, kind);
+                let mut source = Input::new(input, calls);
                 assert!(rt;
-                    refuses(rt.alloc(), "sat 3", Input::new(input, calls), FAILED, 1)?
+                    refuses(rt.alloc(), "sat 3", &mut source, FAILED, 1)?
                         && (call > REPLIES.len()
                             || fails(rt.alloc(), "sat 3", input, REPLIES, calls)?),
                     "{kind:?} at {call}"
@@ -153,15 +219,15 @@ fn a_read_or_a_write_that_fails_ends_the_run(rt: HostRuntime) -> Result<(), Fail
     Ok(())
 }
 
-/// More lines, replies and numbers than a buffer holds at once, and each write of them fails in
-/// turn.
+/// More lines, replies and numbers than a reader's piece or a writer's buffer holds, some 200,000
+/// bytes, and each write of the replies fails in turn.
 #[test]
 fn a_long_run_is_whole(rt: HostRuntime) -> Result<(), Fail> {
     let mut lines = String::from_str(rt.alloc(), "push_back 0\n")?;
     let mut extend = String::from_str(rt.alloc(), "extend_back")?;
     let mut refused = String::from_str(rt.alloc(), "full 0\n")?;
     let mut displaced = String::from_str(rt.alloc(), "none\n")?;
-    for number in 0..5000 {
+    for number in 0..10_000 {
         let next = number + 1;
         write!(lines, "push_back {next}\n")?;
         write!(extend, " {next}")?;
@@ -170,16 +236,32 @@ fn a_long_run_is_whole(rt: HostRuntime) -> Result<(), Fail> {
     }
     write!(lines, "{extend}")?;
     write!(refused, "ok\nlist: []\n")?;
-    write!(displaced, "ok\nlist: [5000]\n")?;
+    write!(displaced, "ok\nlist: [10000]\n")?;
     let input = lines.as_bytes();
     assert!(rt; prints(rt.alloc(), "sat 0", input, refused.as_str())?);
     assert!(rt; prints(rt.alloc(), "wrap 1", input, displaced.as_str())?);
-    for call in 0..10 {
+    for call in 0..20 {
         let calls = Calls::failing(4096, call, call, ErrorKind::Other);
         assert!(rt;
             fails(rt.alloc(), "sat 0", input, refused.as_str(), calls)?,
             "at {call}"
         );
+    }
+    Ok(())
+}
+
+/// A line whose word stands behind so many spaces that a read ends within it, or beside it.
+#[test]
+fn an_input_is_read_to_its_end(rt: HostRuntime) -> Result<(), Fail> {
+    for piece in [8192, 65_536, 131_072, 262_144] {
+        for size in piece - 4..piece + 2 {
+            let mut line = Vec::new(rt.alloc());
+            line.resize(size, b' ')?;
+            line.extend_from_slice(b"len")?;
+            assert!(rt; prints(rt.alloc(), "wrap 5", line.as_slice(), "0\nlist: []\n")?);
+            line.extend_from_slice(b"x")?;
+            assert!(rt; blames(rt.alloc(), "wrap 5", line.as_slice(), 1)?);
+        }
     }
     Ok(())
 }
@@ -195,19 +277,13 @@ fn a_fault_that_is_not_told_has_the_same_status(rt: HostRuntime) -> Result<(), F
     for (words, read, fault, status) in rows {
         for call in 0..=fault.len() {
             for last in [call, usize::MAX] {
-                let input = Calls::failing(1, read, usize::MAX, ErrorKind::Other);
+                let reads = Calls::failing(1, read, usize::MAX, ErrorKind::Other);
+                let mut input = Input::new(b"x", reads);
                 let output = Output::new(rt.alloc(), "", Calls::whole());
                 let calls = Calls::failing(1, call, last, ErrorKind::OutOfMemory);
                 let faults = Output::new(rt.alloc(), fault, calls);
                 assert!(rt;
-                    ends(
-                        rt.alloc(),
-                        words,
-                        Input::new(b"x", input),
-                        output,
-                        faults,
-                        status
-                    )?,
+                    ends(rt.alloc(), words, &mut input, output, faults, status)?,
                     "{words} at {call}"
                 );
             }
@@ -216,16 +292,24 @@ fn a_fault_that_is_not_told_has_the_same_status(rt: HostRuntime) -> Result<(), F
     Ok(())
 }
 
-/// The words, the deque's region and the room for the input were asked for when the first read
-/// fails.
+/// Under either policy, at each capacity, the words and the deque's region, and nothing else, were
+/// asked for when the first read fails.
 #[test]
-fn a_deque_is_made_before_the_input_is_read_5_requests_65701_bytes(
+fn a_deque_is_made_before_the_input_is_read_54_requests_1823_bytes(
     rt: HostRuntime,
 ) -> Result<(), Fail> {
-    let args = args_of(rt.alloc(), "sat 8")?;
     let calls = Calls::failing(1, 0, 0, ErrorKind::Other);
-    let input = Input::new(b"len", calls);
-    let status = drive(rt.alloc(), args.as_slice(), input, io::sink(), io::sink());
-    assert!(rt; status == 1);
+    for (words, _) in ON_EACH {
+        let args = args_of(rt.alloc(), words)?;
+        let mut input = Input::new(b"len", calls);
+        let status = drive(
+            rt.alloc(),
+            args.as_slice(),
+            &mut input,
+            io::sink(),
+            io::sink(),
+        );
+        assert!(rt; status == 1 && input.reads() == 1, "{words}");
+    }
     Ok(())
 }

@@ -48,6 +48,13 @@ impl<T: Drop> Iterator for Drain<T> {
 
     ghost remaining = { item_count (λ remaining. remaining) };
 
+    /// ```
+    /// let mut deque = ArrayDeque::<i64, 3, Saturating>::new(alloc)?;
+    /// deque.extend_back([1, 2, 3]);
+    /// let mut drained = deque.drain(1..)?;
+    /// assert!(rt; (drained.next(), drained.size_hint()) == (Some(2), (1, Some(1))));
+    /// assert!(rt; (drained.next(), drained.next()) == (Some(3), None));
+    /// ```
     #[inline]
     fn next(&mut self) -> Option<T> {
         self.items.next()
@@ -64,6 +71,12 @@ impl<T: Drop> Iterator for Drain<T> {
 impl<T: Drop> DoubleEndedIterator for Drain<T> {
     ghost next_back_gives = { YieldsLast (λ remaining. remaining) };
 
+    /// ```
+    /// let mut deque = ArrayDeque::<i64, 3, Saturating>::new(alloc)?;
+    /// deque.extend_back([1, 2, 3]);
+    /// let mut drained = deque.drain(..2)?.rev();
+    /// assert!(rt; (drained.next(), drained.next(), drained.next()) == (Some(2), Some(1), None));
+    /// ```
     #[inline]
     fn next_back(&mut self) -> Option<T> {
         self.items.next_back()
@@ -71,6 +84,11 @@ impl<T: Drop> DoubleEndedIterator for Drain<T> {
 }
 
 impl<T: Drop> ExactSizeIterator for Drain<T> {
+    /// ```
+    /// let mut deque = ArrayDeque::<i64, 3, Saturating>::new(alloc)?;
+    /// deque.extend_back([1, 2, 3]);
+    /// assert!(rt; deque.drain(1..)?.len() == 2);
+    /// ```
     fn len(&self) -> usize {
         self.items.len()
     }

@@ -40,6 +40,13 @@ impl<T: Drop, const CAP: usize, B: Behavior> Iterator for IntoIter<T, CAP, B> {
 
     ghost remaining = { item_count (λ remaining. remaining) };
 
+    /// ```
+    /// let mut deque = ArrayDeque::<i64, 3, Saturating>::new(alloc)?;
+    /// deque.extend_back([1, 2, 3]);
+    /// let mut items = deque.into_iter();
+    /// assert!(rt; (items.next(), items.size_hint()) == (Some(1), (2, Some(2))));
+    /// assert!(rt; (items.next(), items.next(), items.next()) == (Some(2), Some(3), None));
+    /// ```
     #[inline]
     fn next(&mut self) -> Option<T> {
         self.items.next()
@@ -59,6 +66,13 @@ impl<T: Drop, const CAP: usize, B: Behavior> Iterator for IntoIter<T, CAP, B> {
 impl<T: Drop, const CAP: usize, B: Behavior> DoubleEndedIterator for IntoIter<T, CAP, B> {
     ghost next_back_gives = { YieldsLast (λ remaining. remaining) };
 
+    /// ```
+    /// let mut deque = ArrayDeque::<i64, 3, Saturating>::new(alloc)?;
+    /// deque.extend_back([1, 2, 3]);
+    /// let mut items = deque.into_iter();
+    /// assert!(rt; (items.next_back(), items.next_back()) == (Some(3), Some(2)));
+    /// assert!(rt; (items.next(), items.next_back()) == (Some(1), None));
+    /// ```
     #[inline]
     fn next_back(&mut self) -> Option<T> {
         self.items.next_back()
@@ -66,6 +80,11 @@ impl<T: Drop, const CAP: usize, B: Behavior> DoubleEndedIterator for IntoIter<T,
 }
 
 impl<T: Drop, const CAP: usize, B: Behavior> ExactSizeIterator for IntoIter<T, CAP, B> {
+    /// ```
+    /// let mut deque = ArrayDeque::<i64, 3, Saturating>::new(alloc)?;
+    /// deque.extend_back([1, 2, 3]);
+    /// assert!(rt; deque.into_iter().len() == 3);
+    /// ```
     #[inline]
     fn len(&self) -> usize {
         self.items.len()
@@ -81,6 +100,15 @@ impl<T: Drop, const CAP: usize, B: Behavior> IntoIterator for ArrayDeque<T, CAP,
 
     ghost into_iter_gives = { λ deque it. it ≡ deque.items };
 
+    /// ```
+    /// let mut deque = ArrayDeque::<i64, 3, Saturating>::new(alloc)?;
+    /// deque.extend_back([1, 2, 3]);
+    /// let mut sum = 0i64;
+    /// for item in deque {
+    ///     sum = sum.wrapping_add(item);
+    /// }
+    /// assert!(rt; sum == 6);
+    /// ```
     #[inline]
     fn into_iter(self) -> IntoIter<T, CAP, B> {
         IntoIter {

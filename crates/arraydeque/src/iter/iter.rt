@@ -67,6 +67,13 @@ impl<'a, T> Iterator for Iter<'a, T> {
 
     ghost remaining = { item_count (λ remaining. remaining) };
 
+    /// ```
+    /// let mut deque = ArrayDeque::<i64, 3, Saturating>::new(alloc)?;
+    /// deque.extend_back([1, 2, 3]);
+    /// let mut items = deque.iter();
+    /// assert!(rt; (items.next(), items.size_hint()) == (Some(&1), (2, Some(2))));
+    /// assert!(rt; (items.next(), items.next(), items.next()) == (Some(&2), Some(&3), None));
+    /// ```
     #[inline]
     fn next(&mut self) -> Option<&'a T> {
         if let Some((item, rest)) = self.first.split_first() {
@@ -93,6 +100,13 @@ impl<'a, T> Iterator for Iter<'a, T> {
 impl<'a, T> DoubleEndedIterator for Iter<'a, T> {
     ghost next_back_gives = { YieldsLastRef (λ remaining. remaining) };
 
+    /// ```
+    /// let mut deque = ArrayDeque::<i64, 3, Saturating>::new(alloc)?;
+    /// deque.extend_back([1, 2, 3]);
+    /// let mut items = deque.iter();
+    /// assert!(rt; (items.next_back(), items.next_back()) == (Some(&3), Some(&2)));
+    /// assert!(rt; (items.next(), items.next_back()) == (Some(&1), None));
+    /// ```
     #[inline]
     fn next_back(&mut self) -> Option<&'a T> {
         if let Some((item, rest)) = self.second.split_last() {
@@ -107,6 +121,13 @@ impl<'a, T> DoubleEndedIterator for Iter<'a, T> {
 }
 
 impl<'a, T> ExactSizeIterator for Iter<'a, T> {
+    /// ```
+    /// let mut deque = ArrayDeque::<i64, 3, Saturating>::new(alloc)?;
+    /// deque.extend_back([1, 2, 3]);
+    /// let mut items = deque.iter();
+    /// items.next();
+    /// assert!(rt; items.len() == 2);
+    /// ```
     #[inline]
     fn len(&self) -> usize {
         self.first.len() + self.second.len()
@@ -120,6 +141,16 @@ impl<'a, T> Clone for Iter<'a, T> {
 
     ghost is_infallible = { λ _. ⊤ };
 
+    /// The copy goes over the items that are left, by itself. It takes no memory, and never fails.
+    ///
+    /// ```
+    /// let mut deque = ArrayDeque::<i64, 3, Saturating>::new(alloc)?;
+    /// deque.extend_back([1, 2, 3]);
+    /// let mut items = deque.iter();
+    /// items.next();
+    /// let mut again = items.clone()?;
+    /// assert!(rt; (items.next(), again.next()) == (Some(&2), Some(&2)));
+    /// ```
     fn clone(&self) -> Result<Iter<'a, T>, AllocError> {
         Ok(Iter {
             first: self.first,

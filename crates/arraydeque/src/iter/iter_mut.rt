@@ -84,6 +84,16 @@ impl<'a, T> Iterator for IterMut<'a, T> {
 
     ghost remaining = { item_count remaining };
 
+    /// ```
+    /// let mut deque = ArrayDeque::<i64, 3, Saturating>::new(alloc)?;
+    /// deque.extend_back([1, 2, 3]);
+    /// let mut items = deque.iter_mut();
+    /// assert!(rt; (items.next(), items.size_hint()) == (Some(&mut 1), (2, Some(2))));
+    /// if let Some(item) = items.next() {
+    ///     *item = 7;
+    /// }
+    /// assert!(rt; deque.get(1) == Some(&7));
+    /// ```
     #[inline]
     fn next(&mut self) -> Option<&'a mut T> {
         if let Some((item, rest)) = mem::take(&mut self.first).split_first_mut() {
@@ -109,6 +119,13 @@ impl<'a, T> Iterator for IterMut<'a, T> {
 impl<'a, T> DoubleEndedIterator for IterMut<'a, T> {
     ghost next_back_gives = { YieldsLastMut remaining };
 
+    /// ```
+    /// let mut deque = ArrayDeque::<i64, 3, Saturating>::new(alloc)?;
+    /// deque.extend_back([1, 2, 3]);
+    /// let mut items = deque.iter_mut();
+    /// assert!(rt; (items.next_back(), items.next()) == (Some(&mut 3), Some(&mut 1)));
+    /// assert!(rt; (items.next_back(), items.next_back()) == (Some(&mut 2), None));
+    /// ```
     #[inline]
     fn next_back(&mut self) -> Option<&'a mut T> {
         if let Some((item, rest)) = mem::take(&mut self.second).split_last_mut() {
@@ -122,6 +139,13 @@ impl<'a, T> DoubleEndedIterator for IterMut<'a, T> {
 }
 
 impl<'a, T> ExactSizeIterator for IterMut<'a, T> {
+    /// ```
+    /// let mut deque = ArrayDeque::<i64, 3, Saturating>::new(alloc)?;
+    /// deque.extend_back([1, 2, 3]);
+    /// let mut items = deque.iter_mut();
+    /// items.next_back();
+    /// assert!(rt; items.len() == 2);
+    /// ```
     #[inline]
     fn len(&self) -> usize {
         self.first.len() + self.second.len()
@@ -137,6 +161,14 @@ impl<'a, T, const CAP: usize, B: Behavior> IntoIterator for &'a mut ArrayDeque<T
 
     ghost into_iter_gives = { λ deque it. remaining it ≡ deque.now.items };
 
+    /// ```
+    /// let mut deque = ArrayDeque::<i64, 3, Saturating>::new(alloc)?;
+    /// deque.extend_back([1, 2, 3]);
+    /// for item in &mut deque {
+    ///     *item = item.wrapping_mul(2);
+    /// }
+    /// assert!(rt; deque.into_vec()?.as_slice() == [2, 4, 6].as_slice());
+    /// ```
     #[inline]
     fn into_iter(self) -> IterMut<'a, T>
         ensures* writes_back { sem 𝓛 (lends_items T.row CAP.row B.row self.entry result.name) }

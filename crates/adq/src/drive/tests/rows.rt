@@ -14,7 +14,7 @@ pub(crate) const CALLS: &str =
 pub(crate) const REPLIES: &str = "ok\nok\nok\nfull 4\n1\n2\nlist: [3, 2]\n";
 
 /// Runs that end well.
-pub(crate) const RUNS: [Row; 14] = [
+pub(crate) const RUNS: [Row; 20] = [
     ("sat 3", CALLS, REPLIES),
     (
         "sat 3",
@@ -71,22 +71,140 @@ pub(crate) const RUNS: [Row; 14] = [
     ),
     ("sat 3", "  push_back   1  \r\n", "ok\nlist: [1]\n"),
     (
+        "wrap 3",
+        "extend_back 1 2\nextend 3 4 5\n",
+        "ok\nok\nlist: [3, 4, 5]\n",
+    ),
+    ("wrap 0", "extend 1 2\n", "ok\nlist: []\n"),
+    ("sat 3", "push_back -0\n", "ok\nlist: [0]\n"),
+    ("sat 3", "push_back 007\n", "ok\nlist: [7]\n"),
+    ("sat 3", "extend_back\n", "ok\nlist: []\n"),
+    (
         "sat 3",
         "extend_back -9223372036854775808 -0009223372036854775808  9223372036854775807 ",
         "ok\nlist: [-9223372036854775808, -9223372036854775808, 9223372036854775807]\n",
     ),
+    ("sat 3", "remove 18446744073709551615\n", "none\nlist: []\n"),
+    ("sat 3", "remove 000", "none\nlist: []\n"),
+];
+
+/// One line after another of every call.
+pub(crate) const EVERY_CALL: &str =
+    "capacity\nis_empty\npush_back 1\npush_front 2\nextend_back 3 4 5 6 7 8 9\nis_full\n\
+     insert 1 10\nremove 1\ninsert 1 11\nswap 0 1\nreplace 0 -12\nswap_remove_back 0\n\
+     swap_remove_front 1\nextend_front 13 14 15\nlinearize\ndrain 1 3\nlen\nsplit_off 2\n\
+     pop_back\npop_front\nclear\nextend 16 17 18 19 20 21 22 23 24\n";
+
+/// What these lines print, on each capacity under each policy.
+pub(crate) const ON_EACH: [(&str, &str); 14] = [
+    (
+        "sat 0",
+        "0\ntrue\nfull 1\nfull 2\nok\ntrue\nrange\nnone\nrange\nrange\nrange\nnone\nnone\nok\n\
+         ok\nrange\n0\nrange\nnone\nnone\nok\nok\nlist: []\n",
+    ),
+    (
+        "sat 1",
+        "1\ntrue\nok\nfull 2\nok\ntrue\nfull 10\nnone\nfull 11\nrange\n1\n-12\nnone\nok\nok\n\
+         range\n1\nrange\n13\nnone\nok\nok\nlist: [16]\n",
+    ),
+    (
+        "sat 2",
+        "2\ntrue\nok\nok\nok\ntrue\nfull 10\n1\nok\nok\n11\n-12\nnone\nok\nok\nrange\n2\n[]\n2\n\
+         13\nok\nok\nlist: [16, 17]\n",
+    ),
     (
         "sat 3",
-        "remove 18446744073709551615\nremove 000",
-        "none\nnone\nlist: []\n",
+        "3\ntrue\nok\nok\nok\ntrue\nfull 10\n1\nok\nok\n11\n-12\n2\nok\nok\n[13, 3]\n1\nrange\n\
+         14\nnone\nok\nok\nlist: [16, 17, 18]\n",
+    ),
+    (
+        "sat 5",
+        "5\ntrue\nok\nok\nok\ntrue\nfull 10\n1\nok\nok\n11\n-12\n2\nok\nok\n[13, 5]\n3\n[4]\n3\n\
+         14\nok\nok\nlist: [16, 17, 18, 19, 20]\n",
+    ),
+    (
+        "sat 7",
+        "7\ntrue\nok\nok\nok\ntrue\nfull 10\n1\nok\nok\n11\n-12\n2\nok\nok\n[13, 7]\n5\n\
+         [4, 5, 6]\n3\n14\nok\nok\nlist: [16, 17, 18, 19, 20, 21, 22]\n",
+    ),
+    (
+        "sat 8",
+        "8\ntrue\nok\nok\nok\ntrue\nfull 10\n1\nok\nok\n11\n-12\n2\nok\nok\n[13, 8]\n6\n\
+         [4, 5, 6, 7]\n3\n14\nok\nok\nlist: [16, 17, 18, 19, 20, 21, 22, 23]\n",
+    ),
+    (
+        "wrap 0",
+        "0\ntrue\n1\n2\nok\ntrue\nunoffered\nnone\nunoffered\nrange\nrange\nnone\nnone\nok\nok\n\
+         range\n0\nrange\nnone\nnone\nok\nok\nlist: []\n",
+    ),
+    (
+        "wrap 1",
+        "1\ntrue\nnone\n1\nok\ntrue\nunoffered\nnone\nunoffered\nrange\n9\n-12\nnone\nok\nok\n\
+         range\n1\nrange\n15\nnone\nok\nok\nlist: [24]\n",
+    ),
+    (
+        "wrap 2",
+        "2\ntrue\nnone\nnone\nok\ntrue\nunoffered\n9\nunoffered\nrange\n8\n-12\nnone\nok\nok\n\
+         range\n2\n[]\n14\n15\nok\nok\nlist: [23, 24]\n",
+    ),
+    (
+        "wrap 3",
+        "3\ntrue\nnone\nnone\nok\ntrue\nunoffered\n8\nunoffered\nok\n9\n-12\nnone\nok\nok\n\
+         [14, 13]\n1\nrange\n15\nnone\nok\nok\nlist: [22, 23, 24]\n",
+    ),
+    (
+        "wrap 5",
+        "5\ntrue\nnone\nnone\nok\ntrue\nunoffered\n6\nunoffered\nok\n7\n-12\n5\nok\nok\n\
+         [14, 13]\n3\n[8]\n9\n15\nok\nok\nlist: [20, 21, 22, 23, 24]\n",
+    ),
+    (
+        "wrap 7",
+        "7\ntrue\nnone\nnone\nok\ntrue\nunoffered\n4\nunoffered\nok\n5\n-12\n3\nok\nok\n\
+         [14, 13]\n5\n[6, 7, 8]\n9\n15\nok\nok\nlist: [18, 19, 20, 21, 22, 23, 24]\n",
+    ),
+    (
+        "wrap 8",
+        "8\ntrue\nnone\nnone\nok\ntrue\nunoffered\n3\nunoffered\nok\n4\n-12\n1\nok\nok\n\
+         [14, 13]\n6\n[5, 6, 7, 8]\n9\n15\nok\nok\nlist: [17, 18, 19, 20, 21, 22, 23, 24]\n",
     ),
 ];
 
+/// Each word that names a call, and how many numbers stand behind it. Of an extend any count may.
+pub(crate) const WORDS: [(&str, usize); 21] = [
+    ("push_front", 1),
+    ("push_back", 1),
+    ("pop_front", 0),
+    ("pop_back", 0),
+    ("insert", 2),
+    ("remove", 1),
+    ("swap_remove_back", 1),
+    ("swap_remove_front", 1),
+    ("swap", 2),
+    ("replace", 2),
+    ("clear", 0),
+    ("linearize", 0),
+    ("extend_back", 0),
+    ("extend_front", 0),
+    ("extend", 0),
+    ("drain", 2),
+    ("split_off", 1),
+    ("len", 0),
+    ("capacity", 0),
+    ("is_empty", 0),
+    ("is_full", 0),
+];
+
 /// Inputs that have a bad line, and the number of that line.
-pub(crate) const BAD: [(&str, usize); 16] = [
+pub(crate) const BAD: [(&str, usize); 23] = [
     ("push_back 1\npush_back x\n", 2),
     ("\n  \npush_back 1\r\npush_back 007\nremove x", 5),
     ("push_back", 1),
+    ("push_back 1 2", 1),
+    ("PUSH_BACK 1", 1),
+    ("Push_back 1", 1),
+    ("swap 1", 1),
+    ("extend x", 1),
+    ("extend_back 1 2x 3", 1),
     ("LEN", 1),
     ("extend_", 1),
     ("len 1", 1),
@@ -95,6 +213,7 @@ pub(crate) const BAD: [(&str, usize); 16] = [
     ("push_back -", 1),
     ("push_back 1.0", 1),
     ("push_back 9223372036854775808\n", 1),
+    ("push_back -9223372036854775809", 1),
     ("remove 18446744073709551616", 1),
     ("push_back\t1", 1),
     ("push_back 1\r\r", 1),

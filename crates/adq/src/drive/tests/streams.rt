@@ -57,6 +57,11 @@ impl<'a> Input<'a> {
             calls,
         }
     }
+
+    /// How often it was read.
+    pub(crate) fn reads(&self) -> usize {
+        self.made
+    }
 }
 
 impl Read for Input<'_> {
