@@ -22,6 +22,8 @@ fn reads_nothing<const CAP: usize, B: Behavior>(deque: &mut ArrayDeque<i64, CAP,
 /// Whether nothing can be taken out of it, and nothing is there to be moved.
 fn takes_nothing_out<const CAP: usize, B: Behavior>(deque: &mut ArrayDeque<i64, CAP, B>) -> bool {
     deque.retain(|_| true);
+    deque.truncate(0);
+    deque.truncate_front(0);
     deque.clear();
     deque.linearize();
     (deque.pop_front(), deque.pop_back()) == (None, None)
@@ -97,6 +99,8 @@ fn no_items_of_no_places_0_requests_0_bytes(rt: HostRuntime) -> Result<(), Fail>
 
 /// Whether the one item is read.
 fn reads_one<B: Behavior>(deque: &mut ArrayDeque<i64, 1, B>) -> bool {
+    deque.truncate(1);
+    deque.truncate_front(2);
     deque.linearize();
     (deque.len(), deque.capacity()) == (1, 1)
         && (deque.is_empty(), deque.is_full()) == (false, true)
@@ -195,6 +199,8 @@ enum Out {
     SwapBack,
     SwapFront,
     Clear,
+    Truncate,
+    TruncateFront,
     Retain,
 }
 
@@ -208,6 +214,14 @@ fn take_out<B: Behavior>(deque: &mut ArrayDeque<i64, 1, B>, out: Out) -> Option<
         Out::SwapFront => deque.swap_remove_front(0),
         Out::Clear => {
             deque.clear();
+            Some(6)
+        }
+        Out::Truncate => {
+            deque.truncate(0);
+            Some(6)
+        }
+        Out::TruncateFront => {
+            deque.truncate_front(0);
             Some(6)
         }
         Out::Retain => {
@@ -242,6 +256,8 @@ fn one_place_is_free_once_its_item_goes(rt: HostRuntime) -> Result<(), Fail> {
         Out::SwapBack,
         Out::SwapFront,
         Out::Clear,
+        Out::Truncate,
+        Out::TruncateFront,
         Out::Retain,
     ];
     for out in ways {

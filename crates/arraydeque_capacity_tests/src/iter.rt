@@ -30,7 +30,9 @@ fn lends_nothing<const CAP: usize, B: Behavior>(
     let is_written = has_nothing_to_write(deque.iter_mut())
         && has_nothing_to_write((&mut *deque).into_iter());
     let (front, back) = deque.as_mut_slices();
-    Ok(front.is_empty() && back.is_empty() && is_read && is_written)
+    let is_cut = front.is_empty() && back.is_empty();
+    deque.linearize();
+    Ok(deque.as_mut_slice().is_empty() && is_cut && is_read && is_written)
 }
 
 /// Whether an owned iterator has nothing to give.
@@ -111,9 +113,18 @@ fn writes_in_slices<B: Behavior>(deque: &mut ArrayDeque<i64, 1, B>) -> bool {
     is_whole
 }
 
+/// Whether the one item is written over in the one slice of a list that is in one piece.
+fn is_written_in_one_slice<B: Behavior>(mut deque: ArrayDeque<i64, 1, B>) -> bool {
+    deque.linearize();
+    deque.as_mut_slice().fill(5);
+    holds(&deque, &[5])
+}
+
 /// Whether the one item is written over in every way.
 fn writes_over_one<B: Behavior>(mut deque: ArrayDeque<i64, 1, B>) -> Result<bool, Fail> {
-    let is_lent = is_written_by_iter_mut(deque.clone()?) && is_written_by_a_loan(deque.clone()?);
+    let is_lent = is_written_by_iter_mut(deque.clone()?)
+        && is_written_by_a_loan(deque.clone()?)
+        && is_written_in_one_slice(deque.clone()?);
     let is_whole = writes_in_slices(&mut deque);
     Ok(is_lent && is_whole && holds(&deque, &[9]))
 }

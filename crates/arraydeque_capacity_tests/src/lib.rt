@@ -8,10 +8,11 @@
 //! |---|---|---|
 //! | | in `alike`: | |
 //! | lengths, `as_slices`, all of `access` | `reads_nothing` | `reads_one`, `writes_one` |
-//! | pops, `remove`, removals by exchange, `retain` | `takes_nothing_out` | `is_free_after` |
+//! | pops, `remove`, removals by exchange | `takes_nothing_out` | `is_free_after` |
+//! | all of `retain` | `takes_nothing_out` | `is_free_after`, `reads_one` |
 //! | `swap` and `[i]`, which ask for an item | | `reads_one`, `writes_one` |
 //! | `linearize` | `takes_nothing_out` | `reads_one` |
-//! | `parts`, and a drain's both ends | `has_no_parts` | `has_two_parts`, `drains_one` |
+//! | `drain`, its both ends, `split_off` | `has_no_parts` | `has_two_parts`, `drains_one` |
 //! | `compare`, `clone` | `compares_as` | `compares_as` |
 //! | debug texts | `prints` | `prints` |
 //! | | in `iter`: | |
@@ -22,6 +23,8 @@
 //! | pushes under `Wrapping` | `displaces_all` | `displaces_at_one` |
 //! | `extend` under `Saturating` | `refusing_extends` | `refusing_extends` |
 //! | `extend` under `Wrapping` | `displacing_extends` | `displacing_extends` |
+//! | `append` under `Saturating` | `refusing_appends` | `refusing_appends` |
+//! | `append` under `Wrapping` | `displacing_appends` | `displacing_appends` |
 //! | makers under `Saturating` | `refusing_makers` | `refusing_makers` |
 //! | makers under `Wrapping` | `displacing_makers` | `displacing_makers` |
 //! | both conversions | `are_converted` | `are_converted` |

@@ -1,4 +1,4 @@
-//! Calls that differ by the policy: pushes, inserts, extends, makers and conversions.
+//! Calls that differ by the policy: pushes, inserts, extends, appends, makers and conversions.
 use arraydeque::behavior::Behavior;
 use arraydeque::{ArrayDeque, CapacityError, Saturating, Wrapping};
 use arraydeque_samples::build::{deque_at, holds, is_cut, made, wrapping_at};
@@ -101,6 +101,32 @@ fn displacing_extends<const CAP: usize>(
     Ok(holds(&back, left) && holds(&front, left) && holds(&by_trait, left))
 }
 
+/// Whether a deque of these items takes from another what leaves these two lists.
+fn refusing_appends<const CAP: usize, const N: usize>(
+    alloc: Global,
+    items: &[i64],
+    other: &[i64],
+    left: (&[i64], &[i64]),
+) -> Result<bool, Fail> {
+    let mut deque = deque_at::<CAP>(alloc, 0, items)?;
+    let mut other = wrapping_at::<N>(alloc, 0, other)?;
+    deque.append(&mut other);
+    Ok(holds(&deque, left.0) && holds(&other, left.1))
+}
+
+/// Whether a deque of these items takes all of another, and keeps that list.
+fn displacing_appends<const CAP: usize, const N: usize>(
+    alloc: Global,
+    items: &[i64],
+    other: &[i64],
+    left: &[i64],
+) -> Result<bool, Fail> {
+    let mut deque = wrapping_at::<CAP>(alloc, 0, items)?;
+    let mut other = deque_at::<N>(alloc, 0, other)?;
+    deque.append(&mut other);
+    Ok(holds(&deque, left) && other.is_empty())
+}
+
 /// Whether the deques of 1 and 2 keep these items, and that of a vector keeps those.
 fn refusing_makers<const CAP: usize>(
     alloc: Global,
@@ -148,6 +174,8 @@ fn no_places_0_requests_0_bytes(rt: HostRuntime) -> Result<(), Fail> {
             && displaces_all(alloc)?
             && refusing_extends::<0>(alloc, &[], &[])?
             && displacing_extends::<0>(alloc, &[], &[])?
+            && refusing_appends::<0, 0>(alloc, &[], &[], (&[], &[]))?
+            && displacing_appends::<0, 0>(alloc, &[], &[], &[])?
             && refusing_makers::<0>(alloc, &[], Vec::new(alloc), &[])?
             && displacing_makers::<0>(alloc, &[], Vec::new(alloc), &[])?
             && are_converted::<0>(alloc, &[])?
@@ -156,11 +184,27 @@ fn no_places_0_requests_0_bytes(rt: HostRuntime) -> Result<(), Fail> {
 }
 
 #[test]
-fn a_vector_into_no_places(rt: HostRuntime) -> Result<(), Fail> {
+fn a_vector_and_a_deque_into_no_places(rt: HostRuntime) -> Result<(), Fail> {
     let (list, other) = (vec![in rt.alloc(); 1, 2]?, vec![in rt.alloc(); 1, 2]?);
     assert!(rt;
         refusing_makers::<0>(rt.alloc(), &[], list, &[])?
             && displacing_makers::<0>(rt.alloc(), &[], other, &[])?
+            && refusing_appends::<0, 2>(rt.alloc(), &[], &[3, 4], (&[], &[3, 4]))?
+            && displacing_appends::<0, 2>(rt.alloc(), &[], &[3, 4], &[])?
+    );
+    Ok(())
+}
+
+#[test]
+fn a_deque_into_one_place(rt: HostRuntime) -> Result<(), Fail> {
+    let alloc = rt.alloc();
+    assert!(rt;
+        refusing_appends::<1, 2>(alloc, &[], &[3, 4], (&[3], &[4]))?
+            && refusing_appends::<1, 2>(alloc, &[1], &[3, 4], (&[1], &[3, 4]))?
+            && refusing_appends::<1, 0>(alloc, &[1], &[], (&[1], &[]))?
+            && displacing_appends::<1, 2>(alloc, &[], &[3, 4], &[4])?
+            && displacing_appends::<1, 2>(alloc, &[1], &[3, 4], &[4])?
+            && displacing_appends::<1, 0>(alloc, &[1], &[], &[1])?
     );
     Ok(())
 }

@@ -246,6 +246,20 @@ fn write_over_list(list: &mut [i64], mut ends: u32) {
     }
 }
 
+/// Whether the items stand in one slice for writing once they are in one piece, and are turned
+/// round there as those of a plain list.
+fn turns_alike<const CAP: usize>(
+    deque: &mut ArrayDeque<i64, CAP, Saturating>,
+    list: &mut [i64],
+) -> bool {
+    deque.linearize();
+    let slice = deque.as_mut_slice();
+    let is_whole = *slice == *list;
+    slice.reverse();
+    list.reverse();
+    is_whole && holds(deque, list)
+}
+
 /// Whether the three walks over a deque do what they do over a plain list.
 fn walks_alike<const CAP: usize>(
     alloc: Global,
@@ -259,7 +273,8 @@ fn walks_alike<const CAP: usize>(
     write_over(deque.iter_mut(), ends);
     write_over_list(&mut list, ends);
     let written = holds(&deque, &list);
-    Ok(read && written && gives_alike(deque.into_iter(), &list, ends))
+    let turned = turns_alike(&mut deque, &mut list);
+    Ok(read && written && turned && gives_alike(deque.into_iter(), &list, ends))
 }
 
 /// The walks at each start and length, by each mixture of four ends, and so of fewer too: what is

@@ -101,6 +101,80 @@ fn whole_deques_drop_front_to_back(rt: HostRuntime) -> Result<(), Fail> {
     Ok(())
 }
 
+/// What a truncate to the first two of the items 1 to 5 drops, one to the last two, and the deques
+/// that are left.
+#[test]
+fn truncates_drop_front_to_back(rt: HostRuntime) -> Result<(), Fail> {
+    let drops = Drops::new();
+    for start in 0..5 {
+        let mut first = deque_at::<5>(rt.alloc(), &drops, start, 5)?;
+        let mut last = deque_at::<5>(rt.alloc(), &drops, start, 5)?;
+        drops.since();
+        first.truncate(2);
+        let of_first = [drops.since(), drops.with(first)];
+        last.truncate_front(2);
+        let of_last = [drops.since(), drops.with(last)];
+        assert!(rt;
+            [of_first, of_last] == [[345, 12], [123, 45]],
+            "start {start}"
+        );
+    }
+    Ok(())
+}
+
+/// What an append of the items 1 to 5 to a deque of the items 8 and 9 drops, and what the deque and
+/// the other drop then.
+fn append_to<const CAP: usize>(
+    alloc: Global,
+    drops: &Drops,
+    start: usize,
+) -> Result<[u64; 3], AllocError> {
+    let mut other = deque_at::<5>(alloc, drops, start, 5)?;
+    let mut deque = ArrayDeque::<Noted<'_>, CAP, Wrapping>::new(alloc)?;
+    deque.extend_back([drops.item(8), drops.item(9)]);
+    drops.since();
+    deque.append(&mut other);
+    Ok([drops.since(), drops.with(deque), drops.with(other)])
+}
+
+#[test]
+fn appends_drop_what_is_displaced(rt: HostRuntime) -> Result<(), Fail> {
+    let drops = Drops::new();
+    for start in 0..5 {
+        let of_eight = append_to::<8>(rt.alloc(), &drops, start)?;
+        let of_six = append_to::<6>(rt.alloc(), &drops, start)?;
+        let of_three = append_to::<3>(rt.alloc(), &drops, start)?;
+        let of_none = append_to::<0>(rt.alloc(), &drops, start)?;
+        assert!(rt;
+            [of_eight, of_six, of_three, of_none]
+                == [
+                    [0, 8912345, 0],
+                    [8, 912345, 0],
+                    [8912, 345, 0],
+                    [12345, 0, 0]
+                ],
+            "start {start}"
+        );
+    }
+    Ok(())
+}
+
+/// The item 1 goes to a deque with room for one, and the others stay.
+#[test]
+fn an_append_with_little_room_drops_nothing(rt: HostRuntime) -> Result<(), Fail> {
+    let drops = Drops::new();
+    for start in 0..5 {
+        let mut other = deque_at::<5>(rt.alloc(), &drops, start, 5)?;
+        let mut deque = ArrayDeque::<Noted<'_>, 3, Saturating>::new(rt.alloc())?;
+        deque.extend_back([drops.item(8), drops.item(9)]);
+        drops.since();
+        deque.append(&mut other);
+        let seen = [drops.since(), drops.with(deque), drops.with(other)];
+        assert!(rt; seen == [0, 891, 2345], "start {start}");
+    }
+    Ok(())
+}
+
 #[test]
 fn pops_and_refused_pushes_drop_nothing(rt: HostRuntime) -> Result<(), Fail> {
     let drops = Drops::new();

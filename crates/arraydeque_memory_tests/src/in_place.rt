@@ -2,7 +2,7 @@
 //! of each test ends in the requests that it makes and the bytes that it takes; it gives all of it
 //! back.
 use crate::asked::Script;
-use crate::build::{deque_at, holds, is_cut, made};
+use crate::build::{deque_at, holds, is_cut, made, wrapping_at};
 use arraydeque::lookahead::Scanner;
 use arraydeque::{ArrayDeque, IterMut, RangeArgument, Saturating, Wrapping};
 use std::alloc::{AllocError, Global};
@@ -99,6 +99,13 @@ fn retains_and_clears(deque: &mut ArrayDeque<i64, 4, Saturating>) -> bool {
     is_retained && deque.is_empty()
 }
 
+/// Whether two of the items 6, 7, 8 and 9 stay after an item goes at either end.
+fn truncates(deque: &mut ArrayDeque<i64, 4, Saturating>) -> bool {
+    deque.truncate(3);
+    deque.truncate_front(2);
+    holds(deque, &[7, 8])
+}
+
 /// Whether two items are left alone where nothing is to be handed out, and no list is made of none.
 fn hands_out_nothing(alloc: Global, mut deque: Deque) -> Result<bool, Fail> {
     let is_left_alone = deque.len() == 2
@@ -136,8 +143,11 @@ fn calls_in_place_1_request_32_bytes(rt: HostRuntime) -> Result<(), Fail> {
     let is_moved = moves_and_swaps(&mut deque);
     refill(&mut deque, &[8, 9, 6, 7]);
     let is_retained = retains_and_clears(&mut deque);
+    refill(&mut deque, &[6, 7, 8, 9]);
+    let is_truncated = truncates(&mut deque);
     refill(&mut deque, &[1, 2]);
-    assert!(rt; hands_out_nothing(rt.alloc(), deque)? && is_written && is_moved && is_retained);
+    let are_edited = is_written && is_moved && is_retained && is_truncated;
+    assert!(rt; hands_out_nothing(rt.alloc(), deque)? && are_edited);
     Ok(())
 }
 
@@ -219,7 +229,10 @@ fn writes_in_every_way(mut deque: Deque) -> bool {
         *first = 0;
         *third = 9;
     }
-    by_iterator && by_loop && is_cut(&deque, &[0, 8], &[9, 7])
+    let in_two_slices = is_cut(&deque, &[0, 8], &[9, 7]);
+    deque.linearize();
+    deque.as_mut_slice().reverse();
+    by_iterator && by_loop && in_two_slices && is_cut(&deque, &[7, 9, 8, 0], &[])
 }
 
 /// The regions of three deques, whose lists wrap.
@@ -229,6 +242,30 @@ fn walks_of_lists_that_wrap_3_requests_96_bytes(rt: HostRuntime) -> Result<(), F
         gives_all(deque_at::<4>(rt.alloc(), 2, &[1, 2, 3, 4])?)
             && gives_all_from_the_back(deque_at::<4>(rt.alloc(), 2, &[1, 2, 3, 4])?)
             && writes_in_every_way(deque_at::<4>(rt.alloc(), 2, &[1, 2, 3, 4])?)
+    );
+    Ok(())
+}
+
+/// Whether 3 and 4 go behind 1 and 2, where there is room, and 5 and 6 in the place of 1 and 2.
+fn appends(mut deque: Deque, mut two: Deque, mut last: ArrayDeque<i64, 2, Wrapping>) -> bool {
+    deque.append(&mut two);
+    let is_full = holds(&deque, &[1, 2, 3, 4]) && two.is_empty();
+    deque.append(&mut last);
+    let is_left = holds(&deque, &[1, 2, 3, 4]) && holds(&last, &[5, 6]);
+    let mut deque: ArrayDeque<i64, 4, Wrapping> = deque.into();
+    deque.append(&mut last);
+    is_full && is_left && holds(&deque, &[3, 4, 5, 6]) && last.is_empty()
+}
+
+/// The regions of three deques, whose lists wrap.
+#[test]
+fn appends_of_lists_that_wrap_3_requests_80_bytes(rt: HostRuntime) -> Result<(), Fail> {
+    assert!(rt;
+        appends(
+            deque_at::<4>(rt.alloc(), 3, &[1, 2])?,
+            deque_at::<4>(rt.alloc(), 3, &[3, 4])?,
+            wrapping_at::<2>(rt.alloc(), 1, &[5, 6])?,
+        )
     );
     Ok(())
 }

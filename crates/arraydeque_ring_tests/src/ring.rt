@@ -55,16 +55,36 @@ fn passes(ring: &mut Ring<u8>) -> bool {
     }
     ring.linearize();
     let is_one_piece = ring.as_slices() == ([6, 7, 2].as_slice(), [].as_slice());
+    ring.as_mut_slice().reverse();
     ring.retain(|item| *item % 2 == 0);
-    is_one_piece && ring.as_slices() == ([6, 2].as_slice(), [].as_slice())
+    is_one_piece && ring.as_slices() == ([2, 6].as_slice(), [].as_slice())
 }
 
-/// Each call of a ring, of which only the first asks for memory.
+/// Whether a ring takes over from another what it has room for, and both are cut to one item.
+fn hands_over(ring: &mut Ring<u8>, other: &mut Ring<u8>) -> bool {
+    if ring.len() != 2 || ring.capacity() != 3 || other.len() != 0 || other.capacity() != 3 {
+        return false;
+    }
+    other.push_back(4);
+    other.push_front(5);
+    ring.append(other, 1);
+    ring.truncate_front(1);
+    other.truncate(1);
+    ring.as_slices() == ([5].as_slice(), [].as_slice())
+        && other.as_slices() == ([4].as_slice(), [].as_slice())
+}
+
+/// Each call of a ring, of which only those that make one ask for memory.
 #[test]
-fn calls_of_a_ring_1_request_3_bytes(rt: HostRuntime) -> Result<(), Fail> {
+fn calls_of_a_ring_2_requests_6_bytes(rt: HostRuntime) -> Result<(), Fail> {
     let mut ring = Ring::<u8>::new(rt.alloc(), 3)?;
+    let mut other = Ring::<u8>::new(rt.alloc(), 3)?;
     assert!(rt;
-        pushes_and_pops(&mut ring) && edits(&mut ring) && passes(&mut ring) && ring.len() == 2
+        pushes_and_pops(&mut ring)
+            && edits(&mut ring)
+            && passes(&mut ring)
+            && hands_over(&mut ring, &mut other)
+            && ring.len() == 1
     );
     let drained = ring.drain(1, 1)?;
     let mut empty = Ring::<u8>::new(ring.alloc(), 0)?;

@@ -1,7 +1,7 @@
-//! Draining a part, and splitting; these and edits beside a plain list.
+//! Draining a part, splitting and appending; these and edits beside a plain list.
 ghost use Rattle.std.specs.Prelude.{Some, ◌+◌};
 
-use crate::build::{deque_at, holds, numbers};
+use crate::build::{deque_at, holds, numbers, wrapping_at};
 use crate::moves::{inserts_alike, removes_alike};
 use arraydeque::RangeArgument;
 use std::alloc::Global;
@@ -199,5 +199,64 @@ fn every_start_length_and_stretch(rt: HostRuntime) -> Result<(), Fail> {
     compare_all::<7>(&rt, rt.alloc())?;
     compare_all::<8>(&rt, rt.alloc())?;
     compare_all::<16>(&rt, rt.alloc())?;
+    Ok(())
+}
+
+/// Whether two deques, one of the first `at` items of a plain list and one of the others, become
+/// what their capacities make of that list, under either policy.
+fn appends_alike<const CAP: usize, const N: usize>(
+    alloc: Global,
+    starts: (usize, usize),
+    at: usize,
+    len: usize,
+) -> Result<bool, Fail> {
+    let list = numbers(alloc, len)?;
+    if at > list.len() {
+        return Ok(false);
+    }
+    let mut saturating = deque_at::<CAP>(alloc, starts.0, &list[..at])?;
+    let mut left = wrapping_at::<N>(alloc, starts.1, &list[at..])?;
+    saturating.append(&mut left);
+    let mut wrapping = wrapping_at::<CAP>(alloc, starts.0, &list[..at])?;
+    let mut emptied = deque_at::<N>(alloc, starts.1, &list[at..])?;
+    wrapping.append(&mut emptied);
+    let kept = list.len().min(CAP);
+    Ok(
+        holds(&saturating, &list[..kept])
+            && holds(&left, &list[kept..])
+            && holds(&wrapping, &list[list.len() - kept..])
+            && emptied.is_empty(),
+    )
+}
+
+/// Appends at each start and length of either deque.
+fn append_all<const CAP: usize, const N: usize>(
+    rt: &impl Abort,
+    alloc: Global,
+) -> Result<(), Fail> {
+    for start in 0..CAP {
+        for other_start in 0..N {
+            for at in 0..=CAP {
+                for more in 0..=N {
+                    let starts = (start, other_start);
+                    assert!(rt;
+                        appends_alike::<CAP, N>(alloc, starts, at, at.wrapping_add(more))?,
+                        "{at} of {CAP} and {more} of {N}, starts {starts:?}"
+                    );
+                }
+            }
+        }
+    }
+    Ok(())
+}
+
+#[test]
+fn appends_at_every_start_and_length(rt: HostRuntime) -> Result<(), Fail> {
+    append_all::<1, 1>(&rt, rt.alloc())?;
+    append_all::<1, 4>(&rt, rt.alloc())?;
+    append_all::<3, 2>(&rt, rt.alloc())?;
+    append_all::<3, 5>(&rt, rt.alloc())?;
+    append_all::<4, 4>(&rt, rt.alloc())?;
+    append_all::<5, 3>(&rt, rt.alloc())?;
     Ok(())
 }

@@ -1,6 +1,7 @@
-//! Clearing and retaining.
-use crate::build::{deque_at, holds, made};
+//! Clearing, truncating and retaining.
+use crate::build::{deque_at, holds, made, numbers};
 use std::alloc::Global;
+use std::process::Abort;
 use std::test::Fail;
 
 /// Whether the even ones of these items are left.
@@ -120,5 +121,47 @@ fn clear_leaves_an_empty_deque(rt: HostRuntime) -> Result<(), Fail> {
             "start {start}"
         );
     }
+    Ok(())
+}
+
+/// Whether each truncate leaves that end of a plain list.
+fn truncates_alike<const CAP: usize>(
+    alloc: Global,
+    start: usize,
+    len: usize,
+    kept: usize,
+) -> Result<bool, Fail> {
+    let list = numbers(alloc, len)?;
+    let mut first = deque_at::<CAP>(alloc, start, &list)?;
+    first.truncate(kept);
+    let mut last = deque_at::<CAP>(alloc, start, &list)?;
+    last.truncate_front(kept);
+    let kept = list.len().min(kept);
+    Ok(holds(&first, &list[..kept]) && holds(&last, &list[list.len() - kept..]))
+}
+
+/// Truncates to each length up to the capacity, at each start and length.
+fn truncate_all<const CAP: usize>(rt: &impl Abort, alloc: Global) -> Result<(), Fail> {
+    for start in 0..CAP {
+        for len in 0..=CAP {
+            for kept in 0..=CAP {
+                assert!(rt;
+                    truncates_alike::<CAP>(alloc, start, len, kept)?,
+                    "{kept} of {CAP}, start {start}, length {len}"
+                );
+            }
+        }
+    }
+    Ok(())
+}
+
+#[test]
+fn truncates_at_every_start_and_length(rt: HostRuntime) -> Result<(), Fail> {
+    truncate_all::<1>(&rt, rt.alloc())?;
+    truncate_all::<2>(&rt, rt.alloc())?;
+    truncate_all::<3>(&rt, rt.alloc())?;
+    truncate_all::<5>(&rt, rt.alloc())?;
+    truncate_all::<8>(&rt, rt.alloc())?;
+    assert!(rt; truncates_alike::<5>(rt.alloc(), 3, 4, usize::MAX)?);
     Ok(())
 }
