@@ -2,12 +2,11 @@
 //!
 //! It stands on `arraydeque::lookahead::Scanner`, and is proved from the scanner's public contract
 //! alone: the tokens of an input, joined, are the input, and no two side by side could be one.
-ghost use Rattle.std.specs.Prelude.{◌≡◌, ◌≢◌, ◌<◌, ℕ, List, [], IfOk, IfSome, IfNone, All, ⊤};
-ghost use Rattle.std.specs.Iterator.{IsFinite, MakesProgress, UpTo, size};
+ghost use Rattle.std.specs.Prelude.{◌≡◌, ◌<◌, ℕ, List, [], IfOk, IfSome, IfNone, All, ⊤};
+ghost use Rattle.std.specs.Iterator.{IsFinite, MakesProgress};
 ghost use Rattle.std.specs.Option.{option_to_list};
 ghost use Rattle.arraydeque.specs.Lookahead.{HasRest, TakesOff, left_of};
 ghost use Rattle.uses.specs.Tokens.{kind_of, joined, IsOfOneKind, IsOneByteIfSign, IsOver, AreLongest};
-ghost use Rattle.uses.specs.declared.tokens.Kind.TheVariants.{Sign};
 
 use arraydeque::lookahead::Scanner;
 use std::alloc::{AllocError, Global};

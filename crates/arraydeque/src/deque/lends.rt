@@ -2,8 +2,6 @@
 ghost use Rattle.std.specs.Prelude.{◌≡◌, ◌≤◌, ◌++◌, [], List, length};
 ghost use Rattle.std.specs.List.{refill};
 ghost use Rattle.std.specs.Borrow.{sem};
-ghost use Rattle.std.specs.Iterator.{YieldsFirstRef};
-ghost use Rattle.std.specs.Iterator.Runs.{YieldsRefsInOrder};
 ghost use Rattle.arraydeque_ring.specs.Loans.{remaining};
 ghost use Rattle.arraydeque_ring.specs.Ring.{IsInOnePiece};
 ghost use Rattle.arraydeque.specs.Deque.{as_ring};
@@ -27,8 +25,6 @@ impl<T, const CAP: usize, B: Behavior> ArrayDeque<T, CAP, B> {
     pub fn iter(&self) -> Iter<'_, T>
         ensures value { result ≡ self.now.items }
         ensures within { length self.now.items ≤ CAP }
-        ensures runs { YieldsRefsInOrder (YieldsFirstRef {A = T} (λ remaining. remaining))
-            (λ remaining. remaining) }
     {
         // That the two slices are within the capacity is known of the length.
         let _len = self.len();

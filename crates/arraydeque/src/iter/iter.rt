@@ -1,5 +1,5 @@
 //! The iterator over the items of a deque, lent for reading.
-ghost use Rattle.std.specs.Prelude.{◌≡◌, ◌+◌, ◌^◌, ◌<◌, ◌++◌, fold, length, Some, IfSome, ⊤};
+ghost use Rattle.std.specs.Prelude.{◌≡◌, ◌+◌, ◌^◌, ◌<◌, ◌≤◌, ◌++◌, fold, length, Some, IfSome, ⊤};
 ghost use Rattle.std.specs.Iterator.{YieldsFirstRef, YieldsLastRef, UpTo, item_count};
 ghost use Rattle.std.specs.Iterator.{CallableInFold, FoldsItems, ActsAsOnTwo};
 ghost use Rattle.std.specs.Iterator.Runs.{WholeRun};
@@ -164,7 +164,7 @@ impl<'a, T, const CAP: usize, B: Behavior> IntoIterator for &'a ArrayDeque<T, CA
 
     type IntoIter = Iter<'a, T>;
 
-    ghost into_iter_gives = { λ deque it. it ≡ deque.now.items };
+    ghost into_iter_gives = { λ deque it. (it ≡ deque.now.items) × (length deque.now.items ≤ CAP) };
 
     /// ```
     /// let mut deque = ArrayDeque::<i64, 3, Saturating>::new(alloc)?;
