@@ -178,13 +178,17 @@ fn further_workloads() -> Vec<Workload> {
     of_all_lists!(list, lent_history, arraydeque_bench_lent_history);
     of_all_lists!(list, drain_four, arraydeque_bench_drain_four);
     of_all_lists!(list, split_append, arraydeque_bench_split_append);
+    of_all_lists!(list, split_rejoin, arraydeque_bench_split_rejoin);
+    of_all_lists!(list, truncate, arraydeque_bench_truncate);
     of_owned_items!(list, owned_queue, arraydeque_bench_owned_queue);
     of_owned_items!(list, owned_clone, arraydeque_bench_owned_clone);
     of_owned_items!(list, owned_clear, arraydeque_bench_owned_clear);
+    of_owned_items!(list, owned_truncate, arraydeque_bench_owned_truncate);
     of_owned_items!(list, owned_insert, arraydeque_bench_owned_insert);
     of_owned_items!(list, owned_retain, arraydeque_bench_owned_retain);
     of_owned_items!(list, owned_drain, arraydeque_bench_owned_drain);
     of_pieces!(list, pipe, arraydeque_bench_pipe);
+    of_pieces!(list, pipe_truncating, arraydeque_bench_pipe_truncating);
     of_pieces!(list, pipe_popping, arraydeque_bench_pipe_popping);
     of_pieces!(list, pipe_wrapping, arraydeque_bench_pipe_wrapping);
     workloads!(list, linearize_1, arraydeque_bench_linearize_1, true, (1, u8, 1024), (8, u64, 1024), (64, Block, 1024));
@@ -241,6 +245,11 @@ fn measured(workload: &Workload, repetitions: usize) -> Figures {
     let nanoseconds = [0, 1, 2].map(|column| {
         (least[column].saturating_sub(setup[column])).as_secs_f64() * 1e9 / rounds[column] as f64
     });
+    assert!(
+        nanoseconds.iter().all(|&time| time > 0.0),
+        "{}: a round takes no time: {nanoseconds:?}",
+        workload.name
+    );
     Figures { name: workload.name.clone(), nanoseconds }
 }
 
@@ -342,6 +351,6 @@ fn main() {
     // A peer lies on the stack whole, and the largest has a million items.
     let measuring =
         std::thread::Builder::new().stack_size(1 << 28).spawn(move || measure(&wanted, repetitions, writes));
-    let ended = measuring.expect("a thread").join().expect("all sums agree");
+    let ended = measuring.expect("a thread").join().expect("all sums agree, and each round takes time");
     ended.expect("the figures can be written");
 }

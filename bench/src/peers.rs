@@ -37,6 +37,8 @@ pub trait Peer<T>: Sized {
     fn clear(&mut self);
     fn drain(&mut self, range: Range<usize>) -> impl Iterator<Item = T>;
     fn split_off(&mut self, at: usize) -> Self;
+    fn append(&mut self, other: Self);
+    fn truncate(&mut self, len: usize);
     fn into_items(self) -> impl DoubleEndedIterator<Item = T>;
     fn retain(&mut self, keeps: impl FnMut(&T) -> bool);
     fn iter<'a>(&'a self) -> impl DoubleEndedIterator<Item = &'a T>
@@ -210,6 +212,16 @@ impl<T, const CAP: usize> Peer<T> for Crate<T, CAP> {
         self.0.extend_front(items);
     }
     #[inline]
+    fn append(&mut self, other: Self) {
+        self.0.extend_back(other.0);
+    }
+    #[inline]
+    fn truncate(&mut self, len: usize) {
+        if len < self.0.len() {
+            self.0.drain(len..);
+        }
+    }
+    #[inline]
     fn linearize(&mut self) {
         self.0.linearize();
     }
@@ -280,6 +292,15 @@ impl<T, const CAP: usize> Peer<T> for Bounded<T, CAP> {
         for item in items.into_iter().take(room) {
             self.0.push_front(item);
         }
+    }
+    #[inline]
+    fn append(&mut self, mut other: Self) {
+        other.0.truncate(CAP - self.0.len());
+        self.0.append(&mut other.0);
+    }
+    #[inline]
+    fn truncate(&mut self, len: usize) {
+        self.0.truncate(len);
     }
     #[inline]
     fn linearize(&mut self) {

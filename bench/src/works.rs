@@ -621,6 +621,20 @@ pub fn owned_clear<T: Owned, D: Peer<T>, const CAP: usize>(rounds: usize) -> u64
     sum
 }
 
+pub fn owned_truncate<T: Owned, D: Peer<T>, const CAP: usize>(rounds: usize) -> u64 {
+    let mut deque: D = filled(CAP - CAP / 4);
+    drop(deque.drain(0..CAP / 2));
+    let mut sum = 0u64;
+    for round in 0..rounds {
+        for number in 0..CAP / 2 {
+            deque.push_back(T::make((number ^ round) as u64));
+        }
+        sum = sum.wrapping_add(deque.back().map_or(0, Owned::told));
+        deque.truncate(CAP / 4);
+    }
+    sum
+}
+
 pub fn owned_insert<T: Owned, D: Peer<T>, const CAP: usize>(rounds: usize) -> u64 {
     let mut deque: D = filled(CAP);
     let mut sum = 0u64;
@@ -690,6 +704,30 @@ pub fn split_append<T: Item, D: Peer<T>, const CAP: usize>(rounds: usize) -> u64
     sum
 }
 
+pub fn split_rejoin<T: Item, D: Peer<T>, const CAP: usize>(rounds: usize) -> u64 {
+    let mut deque: D = peer_at(CAP / 2, CAP);
+    let mut sum = 0u64;
+    for _ in 0..rounds {
+        let middle = deque.len() / 2;
+        let tail = deque.split_off(middle);
+        deque.append(tail);
+        sum = sum.wrapping_add(last_number(&deque));
+    }
+    sum
+}
+
+pub fn truncate<T: Item, D: Peer<T>, const CAP: usize>(rounds: usize) -> u64 {
+    let items = counted::<T>(CAP / 2);
+    let mut deque: D = peer_at(CAP / 4, CAP);
+    let mut sum = 0u64;
+    for _ in 0..rounds {
+        deque.truncate(CAP / 2);
+        sum = sum.wrapping_add(last_number(&deque));
+        deque.extend_back(items.iter().copied());
+    }
+    sum
+}
+
 fn linearize_some<T: Item, D: Peer<T>, const CAP: usize>(rounds: usize, turned: usize) -> u64 {
     let mut deque: D = peer_at(0, CAP - CAP / 4);
     let mut sum = 0u64;
@@ -733,6 +771,9 @@ pub fn pipe<T: Piece, D: Peer<u8>, const CAP: usize>(rounds: usize) -> u64 {
     }
     sum
 }
+
+/// Neither peer drops items at the front without a `Drain`.
+pub use self::pipe as pipe_truncating;
 
 pub fn pipe_popping<T: Piece, D: Peer<u8>, const CAP: usize>(rounds: usize) -> u64 {
     let piece = counted::<u8>(T::LEN);

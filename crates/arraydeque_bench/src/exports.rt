@@ -592,7 +592,7 @@ pub extern "C" fn arraydeque_bench_drain_four(
     every!(tasks, drain_four, alloc, rounds, (bytes, capacity))
 }
 
-/// The back half cut off, and put back.
+/// The back half cut off, and put back by `extend_back`.
 #[unsafe(no_mangle)]
 pub extern "C" fn arraydeque_bench_split_append(
     alloc: Global,
@@ -601,6 +601,39 @@ pub extern "C" fn arraydeque_bench_split_append(
     rounds: usize,
 ) -> u64 {
     every!(tasks, split_append, alloc, rounds, (bytes, capacity))
+}
+
+/// The back half cut off, and put back by `append`.
+#[unsafe(no_mangle)]
+pub extern "C" fn arraydeque_bench_split_rejoin(
+    alloc: Global,
+    bytes: usize,
+    capacity: usize,
+    rounds: usize,
+) -> u64 {
+    every!(tasks, split_rejoin, alloc, rounds, (bytes, capacity))
+}
+
+/// The back half dropped, and as many in.
+#[unsafe(no_mangle)]
+pub extern "C" fn arraydeque_bench_truncate(
+    alloc: Global,
+    bytes: usize,
+    capacity: usize,
+    rounds: usize,
+) -> u64 {
+    every!(parts, truncate, alloc, rounds, (bytes, capacity))
+}
+
+/// Half the capacity of boxes or texts in, and dropped behind a quarter that stays.
+#[unsafe(no_mangle)]
+pub extern "C" fn arraydeque_bench_owned_truncate(
+    alloc: Global,
+    bytes: usize,
+    capacity: usize,
+    rounds: usize,
+) -> u64 {
+    owning!(owned, owned_truncate, alloc, rounds, (bytes, capacity))
 }
 
 /// A second deque of clones of boxes or texts.
@@ -626,6 +659,22 @@ pub extern "C" fn arraydeque_bench_pipe(
         (16, 8192) => tasks::pipe::<16, 8192>(alloc, rounds).unwrap_or(0),
         (256, 8192) => tasks::pipe::<256, 8192>(alloc, rounds).unwrap_or(0),
         (4096, 8192) => tasks::pipe::<4096, 8192>(alloc, rounds).unwrap_or(0),
+        _ => 0,
+    }
+}
+
+/// A piece of bytes in, and as many dropped at the front.
+#[unsafe(no_mangle)]
+pub extern "C" fn arraydeque_bench_pipe_truncating(
+    alloc: Global,
+    bytes: usize,
+    capacity: usize,
+    rounds: usize,
+) -> u64 {
+    match (bytes, capacity) {
+        (16, 8192) => tasks::pipe_truncating::<16, 8192>(alloc, rounds).unwrap_or(0),
+        (256, 8192) => tasks::pipe_truncating::<256, 8192>(alloc, rounds).unwrap_or(0),
+        (4096, 8192) => tasks::pipe_truncating::<4096, 8192>(alloc, rounds).unwrap_or(0),
         _ => 0,
     }
 }

@@ -106,6 +106,27 @@ pub(crate) fn owned_clear<T: Owned, const CAP: usize>(
     Ok(sum)
 }
 
+/// A deque that is a quarter full: each round half the capacity of new items goes in, in two runs
+/// of places, and all of these are dropped.
+pub(crate) fn owned_truncate<T: Owned, const CAP: usize>(
+    alloc: Global,
+    rounds: usize,
+) -> Result<u64, AllocError> {
+    let mut deque = filled::<T, CAP>(alloc, CAP - CAP / 4)?;
+    deque.truncate_front(CAP / 4);
+    let mut sum = 0u64;
+    for round in 0..rounds {
+        for number in 0..CAP / 2 {
+            let _ = deque.push_back(T::make(alloc, (number ^ round) as u64)?);
+        }
+        if let Some(item) = deque.back() {
+            sum = sum.wrapping_add(item.told());
+        }
+        deque.truncate(CAP / 4);
+    }
+    Ok(sum)
+}
+
 /// Each round an item comes out at the middle, and goes in at a quarter.
 pub(crate) fn owned_insert<T: Owned, const CAP: usize>(
     alloc: Global,

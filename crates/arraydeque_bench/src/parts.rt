@@ -161,6 +161,23 @@ pub(crate) fn split_off<T: Item, const CAP: usize>(
     Ok(sum)
 }
 
+/// A full deque, whose back half stands in two runs of places: each round that half is dropped, and
+/// as many items go in from a slice's iterator.
+pub(crate) fn truncate<T: Item, const CAP: usize>(
+    alloc: Global,
+    rounds: usize,
+) -> Result<u64, AllocError> {
+    let items = counted::<T>(alloc, CAP / 2)?;
+    let mut deque = deque_at::<T, CAP>(alloc, CAP / 4, CAP)?;
+    let mut sum = 0u64;
+    for _ in 0..rounds {
+        deque.truncate(CAP / 2);
+        sum = sum.wrapping_add(last_number(&deque));
+        deque.extend_back(items.iter().copied());
+    }
+    Ok(sum)
+}
+
 /// Each round the deque is filled with new random items, and half of all stay: those that have a
 /// bit set, which is another one each round.
 pub(crate) fn retain<T: Item, const CAP: usize>(

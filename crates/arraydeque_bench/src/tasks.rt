@@ -5,8 +5,8 @@ use arraydeque::run::{Call, Reply};
 use arraydeque::{ArrayDeque, Saturating, Wrapping};
 use std::alloc::{AllocError, Global};
 
-/// A pipe that holds a hundred bytes: each round a piece goes in, and as many bytes are read where
-/// they stand and then drained.
+/// A pipe that holds a hundred bytes: each round a piece goes in, all bytes are read where they
+/// stand, and as many as went in are drained.
 pub(crate) fn pipe<const PIECE: usize, const CAP: usize>(
     alloc: Global,
     rounds: usize,
@@ -25,6 +25,31 @@ pub(crate) fn pipe<const PIECE: usize, const CAP: usize>(
         }
         if PIECE <= deque.len() {
             let _ = deque.drain(..PIECE)?;
+        }
+    }
+    Ok(sum)
+}
+
+/// A pipe that holds a hundred bytes: each round a piece goes in, all bytes are read where they
+/// stand, and as many as went in are dropped there.
+pub(crate) fn pipe_truncating<const PIECE: usize, const CAP: usize>(
+    alloc: Global,
+    rounds: usize,
+) -> Result<u64, AllocError> {
+    let piece = counted::<u8>(alloc, PIECE)?;
+    let mut deque = deque_at::<u8, CAP>(alloc, 0, 100)?;
+    let mut sum = 0u64;
+    for _ in 0..rounds {
+        deque.extend_back(piece.iter().copied());
+        let (front, back) = deque.as_slices();
+        for byte in front {
+            sum = sum.wrapping_add(*byte as u64);
+        }
+        for byte in back {
+            sum = sum.wrapping_add(*byte as u64);
+        }
+        if PIECE <= deque.len() {
+            deque.truncate_front(deque.len() - PIECE);
         }
     }
     Ok(sum)
@@ -104,7 +129,7 @@ pub(crate) fn drain_four<T: Item, const CAP: usize>(
     Ok(sum)
 }
 
-/// Each round the back half is cut off, and put back.
+/// Each round the back half is cut off, and put back by `extend_back`.
 pub(crate) fn split_append<T: Item, const CAP: usize>(
     alloc: Global,
     rounds: usize,
@@ -115,6 +140,24 @@ pub(crate) fn split_append<T: Item, const CAP: usize>(
         let middle = deque.len() / 2;
         let tail = deque.split_off(middle)?;
         deque.extend_back(tail);
+        if let Some(item) = deque.back() {
+            sum = sum.wrapping_add(item.number());
+        }
+    }
+    Ok(sum)
+}
+
+/// Each round the back half is cut off, and put back by `append`.
+pub(crate) fn split_rejoin<T: Item, const CAP: usize>(
+    alloc: Global,
+    rounds: usize,
+) -> Result<u64, AllocError> {
+    let mut deque = deque_at::<T, CAP>(alloc, CAP / 2, CAP)?;
+    let mut sum = 0u64;
+    for _ in 0..rounds {
+        let middle = deque.len() / 2;
+        let mut tail = deque.split_off(middle)?;
+        deque.append(&mut tail);
         if let Some(item) = deque.back() {
             sum = sum.wrapping_add(item.number());
         }
