@@ -74,8 +74,8 @@ fn hands_over(ring: &mut Ring<u8>, other: &mut Ring<u8>) -> bool {
         && other.as_slices() == ([4].as_slice(), [].as_slice())
 }
 
-/// Calls at both ends, in between and on all items, and those that hand out nothing: only those that
-/// make a ring ask for memory.
+/// Calls at both ends, in between and on all items, and those that hand out nothing: only those
+/// that make a ring ask for memory.
 #[test]
 fn calls_of_a_ring_2_requests_6_bytes(rt: HostRuntime) -> Result<(), Fail> {
     let mut ring = Ring::<u8>::new(rt.alloc(), 3)?;
