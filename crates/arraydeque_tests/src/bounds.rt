@@ -8,7 +8,6 @@ ghost use Rattle.arraydeque.specs.Sources.{IsIterable};
 use crate::build::made;
 use arraydeque::behavior::Behavior;
 use arraydeque::lookahead::Scanner;
-use arraydeque::run::Call;
 use arraydeque::{
     ArrayDeque, CapacityError, Drain, IntoIter, IterMut, MakeError, RangeArgument, Saturating,
     Wrapping,
@@ -43,8 +42,13 @@ fn reads<T, const CAP: usize, B: Behavior>(
             && deque.front().is_some()
             && deque.back().is_some()
             && deque.get(2).is_none()
-            && [&deque[1]].len() == 1,
+            && is_there(&deque[1]),
     )
+}
+
+/// Whether an item is lent: it is.
+fn is_there<T>(_item: &T) -> bool {
+    true
 }
 
 /// Whether an iterator over two items that are lent for writing walks them from both ends.
@@ -55,6 +59,31 @@ fn walks<T>(mut items: IterMut<'_, T>) -> bool {
         && items.next().is_none()
 }
 
+/// Whether the first of two slices has two items, and the second none.
+fn are_cut<T>((first, second): (&mut [T], &mut [T])) -> bool {
+    (first.len(), second.len()) == (2, 0)
+}
+
+/// Whether a walk for writing goes over two items.
+fn is_walked<T, const CAP: usize, B: Behavior>(deque: &mut ArrayDeque<T, CAP, B>) -> bool {
+    walks(deque.iter_mut())
+}
+
+/// The same of a loop's.
+fn is_walked_over<T, const CAP: usize, B: Behavior>(deque: &mut ArrayDeque<T, CAP, B>) -> bool {
+    walks(deque.into_iter())
+}
+
+/// Whether a walk's two slices have two items and none.
+fn is_cut_in_a_walk<T, const CAP: usize, B: Behavior>(deque: &mut ArrayDeque<T, CAP, B>) -> bool {
+    are_cut(deque.iter_mut().into_slices())
+}
+
+/// The same of the deque's.
+fn is_cut<T, const CAP: usize, B: Behavior>(deque: &mut ArrayDeque<T, CAP, B>) -> bool {
+    are_cut(deque.as_mut_slices())
+}
+
 /// Whether a deque of two items lends them for writing, and has them change places.
 fn writes<T, const CAP: usize, B: Behavior>(deque: &mut ArrayDeque<T, CAP, B>) -> bool {
     if deque.len() != 2 {
@@ -62,13 +91,10 @@ fn writes<T, const CAP: usize, B: Behavior>(deque: &mut ArrayDeque<T, CAP, B>) -
     }
     deque.swap(0, 1);
     deque.linearize();
-    let is_walked = walks(deque.iter_mut()) && walks((&mut *deque).into_iter());
-    let (first, second) = deque.iter_mut().into_slices();
-    let is_cut = (first.len(), second.len()) == (2, 0);
-    let (first, second) = deque.as_mut_slices();
-    is_walked
-        && is_cut
-        && (first.len(), second.len()) == (2, 0)
+    is_walked(deque)
+        && is_walked_over(deque)
+        && is_cut_in_a_walk(deque)
+        && is_cut(deque)
         && deque.front_mut().is_some()
         && deque.back_mut().is_some()
         && deque.get_mut(1).is_some()
@@ -272,15 +298,6 @@ fn last_of<T: Drop, const CAP: usize, I: IntoIterator<Item = T>>(
     ArrayDeque::<T, CAP, Wrapping>::from_iter(alloc, items)
 }
 
-/// Whether deques of either policy answer a call each.
-fn answers<T: Drop, const CAP: usize>(
-    saturating: &mut ArrayDeque<T, CAP, Saturating>,
-    wrapping: &mut ArrayDeque<T, CAP, Wrapping>,
-    (calls, other): (Vec<Call<T>>, Vec<Call<T>>),
-) -> bool {
-    saturating.run(calls).is_ok() && wrapping.run(other).is_ok()
-}
-
 /// Deques of arrays, under either policy.
 fn of_arrays<T: Copy, const CAP: usize, const N: usize>(
     alloc: Global,
@@ -363,12 +380,14 @@ fn texts<E: Error>(alloc: Global, error: &E) -> Result<(String, String), Fail> {
 }
 
 /// The texts of the errors of anything that can be dropped.
-fn error_texts<S: Drop>(
+fn have_texts<S: Drop>(
     alloc: Global,
     full: &CapacityError<S>,
     refused: &MakeError<S>,
-) -> Result<[(String, String); 2], Fail> {
-    Ok([texts(alloc, full)?, texts(alloc, refused)?])
+) -> Result<bool, Fail> {
+    let (display, _debug) = texts(alloc, full)?;
+    let (_display, debug) = texts(alloc, refused)?;
+    Ok(display.as_str() == "insufficient capacity" && debug.as_str() == "out of memory")
 }
 
 /// The errors that one for memory becomes, whatever it hands back.
@@ -430,13 +449,10 @@ fn asks_to_drop(alloc: Global) -> Result<bool, Fail> {
         vec![in alloc; 1, 2, 3]?,
     ).map_err(|_| "refused")?;
     add(&mut first, &mut last, [Some(4), Some(5), Some(6), None])?;
-    let calls = (vec![in alloc; Call::Len]?, vec![in alloc; Call::Len]?);
-    let are_answered = answers(&mut first, &mut last, calls);
     let (copies, other) = of_arrays::<u8, 2, 3>(alloc, [1, 2, 3]).map_err(|_| "refused")?;
     let all = made(last_of::<u8, 2, _>(alloc, Some(7)))?.drain(..)?;
     Ok(
-        are_answered
-            && are_equal(&first, &copies, &2)
+        are_equal(&first, &copies, &2)
             && !are_equal(&last, &other, &2)
             && gives(first)
             && lets_go(last)
@@ -454,19 +470,17 @@ fn asks_for_traits(alloc: Global) -> Result<bool, Fail> {
     feed(&deque, &mut hasher);
     let mut other = DefaultHasher::new();
     feed(&copy, &mut other);
-    let [full, refused] = error_texts(
-        alloc,
-        &CapacityError { element: 1 },
-        &MakeError { source: 1 },
-    )?;
     let (error, io_error) = errors(MakeError { source: 1 }, MakeError { source: 2 });
     Ok(
         partial_order(&deque, deque_itself(&copy)) == Some(Ordering::Equal)
             && order(&deque, &copy) == Ordering::Equal
             && hasher.finish() == other.finish()
             && text(alloc, &copy)?.as_str() == "[1, 2]"
-            && full.0.as_str() == "insufficient capacity"
-            && refused.1.as_str() == "out of memory"
+            && have_texts(
+                alloc,
+                &CapacityError { element: 1 },
+                &MakeError { source: 1 },
+            )?
             && error == AllocError
             && io_error.kind() == io::ErrorKind::OutOfMemory,
     )

@@ -94,15 +94,11 @@ fn made_alike<const CAP: usize>(alloc: Global, list: &[i64]) -> Result<bool, Fai
     )
 }
 
-/// Whether the deques of an array of so many numbers, under either policy, have the first or the
-/// last of them.
-fn of_an_array<const CAP: usize, const N: usize>(alloc: Global) -> Result<bool, Fail> {
-    let mut array = [0; N];
-    let mut next = 0_i64;
-    for place in &mut array {
-        *place = next;
-        next = next.wrapping_add(1);
-    }
+/// Whether the deques of an array, under either policy, have its first or its last numbers.
+fn of_an_array<const CAP: usize, const N: usize>(
+    alloc: Global,
+    array: [i64; N],
+) -> Result<bool, Fail> {
     let (first, _) = array.as_slice().split_at(CAP.min(N));
     let (_, last) = array.as_slice().split_at(N.saturating_sub(CAP));
     Ok(
@@ -114,17 +110,17 @@ fn of_an_array<const CAP: usize, const N: usize>(alloc: Global) -> Result<bool, 
 /// Whether those of arrays of up to ten numbers do.
 fn of_arrays<const CAP: usize>(alloc: Global) -> Result<bool, Fail> {
     Ok(
-        of_an_array::<CAP, 0>(alloc)?
-            && of_an_array::<CAP, 1>(alloc)?
-            && of_an_array::<CAP, 2>(alloc)?
-            && of_an_array::<CAP, 3>(alloc)?
-            && of_an_array::<CAP, 4>(alloc)?
-            && of_an_array::<CAP, 5>(alloc)?
-            && of_an_array::<CAP, 6>(alloc)?
-            && of_an_array::<CAP, 7>(alloc)?
-            && of_an_array::<CAP, 8>(alloc)?
-            && of_an_array::<CAP, 9>(alloc)?
-            && of_an_array::<CAP, 10>(alloc)?,
+        of_an_array::<CAP, 0>(alloc, [])?
+            && of_an_array::<CAP, 1>(alloc, [0])?
+            && of_an_array::<CAP, 2>(alloc, [0, 1])?
+            && of_an_array::<CAP, 3>(alloc, [0, 1, 2])?
+            && of_an_array::<CAP, 4>(alloc, [0, 1, 2, 3])?
+            && of_an_array::<CAP, 5>(alloc, [0, 1, 2, 3, 4])?
+            && of_an_array::<CAP, 6>(alloc, [0, 1, 2, 3, 4, 5])?
+            && of_an_array::<CAP, 7>(alloc, [0, 1, 2, 3, 4, 5, 6])?
+            && of_an_array::<CAP, 8>(alloc, [0, 1, 2, 3, 4, 5, 6, 7])?
+            && of_an_array::<CAP, 9>(alloc, [0, 1, 2, 3, 4, 5, 6, 7, 8])?
+            && of_an_array::<CAP, 10>(alloc, [0, 1, 2, 3, 4, 5, 6, 7, 8, 9])?,
     )
 }
 
