@@ -105,7 +105,7 @@ impl<T: Drop, const CAP: usize, B: Behavior> IntoIterator for ArrayDeque<T, CAP,
     /// deque.extend_back([1, 2, 3]);
     /// let mut sum = 0i64;
     /// for item in deque {
-    ///     sum = sum.wrapping_add(item);
+    ///     sum = sum.saturating_add(item);
     /// }
     /// assert!(rt; sum == 6);
     /// ```

@@ -165,7 +165,7 @@ impl<'a, T, const CAP: usize, B: Behavior> IntoIterator for &'a mut ArrayDeque<T
     /// let mut deque = ArrayDeque::<i64, 3, Saturating>::new(alloc)?;
     /// deque.extend_back([1, 2, 3]);
     /// for item in &mut deque {
-    ///     *item = item.wrapping_mul(2);
+    ///     *item = item.saturating_mul(2);
     /// }
     /// assert!(rt; deque.into_vec()?.as_slice() == [2, 4, 6].as_slice());
     /// ```
