@@ -140,8 +140,8 @@ fn wrapping_of<R: Read, const CAP: usize>(
     print(alloc, replies, &deque)
 }
 
-/// Reads the input to its end, behind what is there. No read asks for memory, so what a failing one
-/// tells of is the stream's.
+/// Reads the input to its end, behind what is there. The program asks for no memory in a read, so a
+/// read that fails is a fault of the stream.
 fn read<R: Read>(input: &mut R, text: &mut Vec<u8>) -> Result<(), Fault>
     ensures bytes { OnOk result (IfSome (R.remaining input.old)
         (λ xs. text.new.items ≡ text.old.items ++ xs)) }

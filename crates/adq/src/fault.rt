@@ -82,8 +82,8 @@ impl<S: Drop> From<MakeError<S>> for Fault {
     }
 }
 
-/// A stream that fails, whatever kind of failure it tells of: refused memory of the program's own
-/// is never told by an `io::Error` that comes here.
+/// A failed stream, whatever its error says. Where memory is refused to the program itself, no
+/// `io::Error` comes here.
 impl From<io::Error> for Fault {
     ghost from_gives = { λ _ fault. fault ≡ Io };
 

@@ -147,8 +147,8 @@ impl<T> Ring<T> {
         Some(self.slots.take(first))
     }
 
-    /// How many items stand in the region's last place and, round its end, behind it. All others
-    /// can be taken off by [`Ring::take_before_end`], one after the other.
+    /// How many items [`Ring::take_before_end`] can't take: the one in the region's last place, and
+    /// those past its end.
     #[inline(always)]
     fn len_from_last_place(&self) -> usize
         ensures { result ≡ length self.now.items - (self.now.capacity - 1 - self.now.start) }
@@ -224,7 +224,7 @@ impl<T> Ring<T> {
         Some(slots.get_mut(place))
     }
 
-    /// The items in two slices: those from the start to the region's end, then the wrapped rest.
+    /// The items in two slices: those from the start to the region's end, then those past it.
     #[inline]
     pub fn as_slices(&self) -> (&[T], &[T])
         ensures joined { result.0.now ++ result.1.now ≡ self.now.items }

@@ -15,8 +15,8 @@ use std::mem::size_of_val;
 /// How many pairs are compared before the answers are looked at.
 const BLOCK: usize = 32;
 
-/// How many bytes an item takes at least of which equality and a total order pass blocks here: of
-/// items of 1, 2 or 4 bytes std does it.
+/// The least bytes of an item for which equality and a total order skip equal blocks here: for 1, 2
+/// or 4 bytes std does so.
 const LEAST_BYTES: usize = 5;
 
 /// Two lists in three sections each, which face each other in pairs.
@@ -201,8 +201,9 @@ fn order<T: Ord>(left: &[T], right: &[T]) -> Ordering
     left.cmp(&right)
 }
 
-/// What two slices hold behind blocks of equal pairs. None is passed of items below `least_bytes`
-/// or above `SMALL_BYTES`, nor where the first pair differs, as it often does.
+/// Two slices without the blocks of equal pairs that they begin with. They stay whole where an item
+/// has fewer than `least_bytes` or more than `SMALL_BYTES`, or where the first pair differs, as it
+/// often does.
 #[inline(always)]
 fn behind_equal<'a, T: PartialEq>(
     left: &'a [T],
@@ -233,8 +234,8 @@ fn behind_equal<'a, T: PartialEq>(
     (left_rest, right_rest)
 }
 
-/// Whether all pairs of two slices of one length are equal. It looks at every pair, so that several
-/// can be compared at once.
+/// Whether all pairs of two slices of one length are equal. It looks at every pair, so that the
+/// compiler can compare several together.
 #[inline(always)]
 fn are_all_equal<T: PartialEq>(left: &[T], right: &[T]) -> bool
     requires { length left.now ≡ length right.now }

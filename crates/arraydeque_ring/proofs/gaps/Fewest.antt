@@ -8,7 +8,7 @@ count_sides : (p : ℕ → Bool) (f b : Bool) (s e n : ℕ) → s ≤ e → ((k 
 count_sides p f b s e zero le each = grind (arith, nat_tests)
 count_sides p f b s e (suc n) le each = let rest = count_sides p f b s e n le (λ k lt. each k (omega arith)) in grind (arith, nat_tests, each n, rest)
 
--- from two starts an item has one place uply where they are one
+-- from two starts an item has the same place only where they are one
 one_start : (c t u k : ℕ) → t < c → u < c → k ≤ c → (place_of t k c == place_of u k c) ≡ (t == u)
 one_start c t u k a b le =
     let at_t : t + k ≡ k + t = omega arith in

@@ -44,7 +44,7 @@ module _ {X : Type 0} where
   pub from_start : {r : Inside X} {v : RingState X} {place capacity : ℕ} → Opened r v → (k : ℕ) → capacity ≡ length r.slots.places → place ≡ (r.start + k) % capacity → place ≡ place_of v.start k v.capacity
   from_start {v = v} o k e is = place_at o k e is ∙ ap (λ t. place_of t k v.capacity) o.start
 
-  -- and so is that of `Ring::place`
+  -- and the place that is counted from where the list starts is that from the field
   pub by_field : {r : Inside X} {v : RingState X} {place : ℕ} → Opened r v → (k : ℕ) → place ≡ place_of v.start k v.capacity → place ≡ place_of r.start k v.capacity
   by_field {v = v} o k is = is ∙ ap (λ t. place_of t k v.capacity) (sym o.start)
 

@@ -69,7 +69,7 @@ impl<T> Ring<T> {
         ended
     }
 
-    /// Puts what the iterator gives behind the last item of a full ring, one by one, each in the
+    /// Puts what the iterator gives behind the last item of a full ring, one by one. Each takes the
     /// place of the first item, which is dropped.
     #[inline]
     pub fn displace_first<I: Iterator<Item = T>>(&mut self, elements: I)
@@ -94,8 +94,8 @@ impl<T> Ring<T> {
         self.move_in(ring);
     }
 
-    /// Puts what the iterator gives before the first item of a full ring, one by one, each in the
-    /// place of the last item, which is dropped.
+    /// Puts what the iterator gives before the first item of a full ring, one by one. Each takes
+    /// the place of the last item, which is dropped.
     #[inline]
     pub fn displace_last<I: Iterator<Item = T>>(&mut self, elements: I)
     where
@@ -119,9 +119,8 @@ impl<T> Ring<T> {
         self.move_in(ring);
     }
 
-    /// Puts what the iterator gives behind the last item of a full ring, each in the place of the
-    /// first item, which is dropped, as far as the region's end. Returns whether the iterator ended
-    /// before that.
+    /// Does what [`Ring::displace_first`] does, at the places from the start to the region's end,
+    /// one after the other. Returns whether the iterator ended first.
     #[inline]
     fn displace_up<I: Iterator<Item = T>>(self, elements: &mut I) -> (Ring<T>, bool)
     where
@@ -169,9 +168,8 @@ impl<T> Ring<T> {
         (ring, ended)
     }
 
-    /// Puts what the iterator gives before the first item of a full ring, each in the place of the
-    /// last item, which is dropped, as far down as the first place. Returns whether the iterator
-    /// ended before that.
+    /// Does what [`Ring::displace_last`] does, at the places from the last item's down to the
+    /// region's first, one after the other. Returns whether the iterator ended first.
     #[inline]
     fn displace_down<I: Iterator<Item = T>>(self, elements: &mut I) -> (Ring<T>, bool)
     where

@@ -12,7 +12,7 @@ use std::marker::Model;
 #[derive(Drop)]
 pub struct IntoIter<T> {
     ring: Ring<T>,
-    /// How many items at most stand in the region's last place and, round its end, behind it.
+    /// The most items that [`Ring::take_before_end`] can't take.
     rest: usize,
 }
 

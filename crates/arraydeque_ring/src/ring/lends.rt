@@ -26,8 +26,8 @@ impl<T> Ring<T> {
         slots.slice_mut(start, len)
     }
 
-    /// The items for writing in two slices: those from the start to the region's end, then the
-    /// wrapped rest.
+    /// The items for writing in two slices: those from the start to the region's end, then those
+    /// past it.
     ///
     /// Whatever is written, there are as many items as before, and they start where they did. A
     /// caller whose proof needs that writes `lend().into_slices()`: the prover follows the one name

@@ -31,8 +31,8 @@ impl<T> Ring<T> {
     }
 }
 
-/// Turns the region, in which `len` values stand from the place `start` on, round the end, so that
-/// they stand from the first place on. Seven values, in a region of 8 places:
+/// Rotates the region, whose `len` values begin at the place `start` and wrap, so that they begin
+/// at the first place. Seven values, in a region of 8 places:
 ///
 ///     place             0 1 2 3 4 5 6 7
 ///     before, from 5 on d e f g . a b c
@@ -47,8 +47,8 @@ fn turn<T>(slots: Slots<T>, start: usize, len: usize) -> Slots<T>
 {
     let capacity = slots.capacity();
     let mut slots = slots;
-    // The values before `dst` are in their places. Of the others the first stand from `next` to the
-    // end, and the rest, wrapped, from `dst` on.
+    // The values before `dst` are in their places. The ones that come next are in the places from
+    // `next` to the end, and those after them in the places from `dst` on.
     let mut dst = 0;
     let mut next = start;
     while next < len && capacity - next < len - dst {
@@ -65,8 +65,8 @@ fn turn<T>(slots: Slots<T>, start: usize, len: usize) -> Slots<T>
     place_rest(slots, dst, next, len)
 }
 
-/// Brings the values that aren't in their places yet to these by moves alone: they stand in one
-/// piece from `next` on, or there is room before `next` for those that stand before it.
+/// Moves the values that aren't in their places yet to these, without an exchange: they are in one
+/// piece from `next` on, or there is room before `next` for those that come after the end.
 fn place_rest<T>(slots: Slots<T>, dst: usize, next: usize, len: usize) -> Slots<T>
     requires in_order { dst ≤ next }
     requires in_region { next < length slots.places }

@@ -15,12 +15,7 @@ use crate::wrap::wrap_add;
 impl<T> Ring<T> {
     /// Adds an element before the item at an index, or behind the last one. The fewer items on
     /// either side of it move: those before it where they are the fewer, and the start with them,
-    /// else those behind it. In a ring of 8 places:
-    ///
-    ///     place                    0 1 2 3 4 5 6 7
-    ///     before, from 5 on        d e . . . a b c
-    ///     x at index 1, from 4 on  d e . . a x b c
-    ///     x at index 4, from 5 on  d x e . . a b c
+    /// else those behind it.
     pub fn insert(&mut self, index: usize, element: T)
         requires in_bounds { index ≤ length self.old.items }
         requires room { length self.old.items < self.old.capacity }

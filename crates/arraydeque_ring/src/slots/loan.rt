@@ -1,7 +1,7 @@
 //! Values that are lent for writing: a run of them in a slice, or two runs in two slices.
 //!
-//! A contract sees a [`Loan`] as its two slices and its name. What the lender ends as follows that
-//! name, so that a caller who only writes through the loan knows the lender afterwards.
+//! A contract sees a [`Loan`] as its two slices and its name. By that name a clause says what the
+//! lender is once the loan has ended, so that a caller who only writes through the loan knows it.
 ghost use Rattle.std.specs.Prelude.{◌≡◌, ◌-◌, ◌+◌, ◌^◌, ◌<◌, ◌≤◌, length, min};
 ghost use Rattle.std.specs.Borrow.{sem};
 ghost use Rattle.arraydeque_ring.specs.Lends.{lends_run, lends_two_runs, lends_loan};

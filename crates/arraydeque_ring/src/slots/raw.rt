@@ -42,8 +42,8 @@ impl<T> Slots<T> {
         unsafe { self.ptr.add(place).read() }
     }
 
-    /// Moves `N` values at once, those from the index `at` on of the places from `src` on, to those
-    /// of the places from `dst` on. It reads its sources whole, and then writes its targets.
+    /// Moves `N` values from the place `src + at` on to the places from `dst + at` on. All are read
+    /// before one is written, so the two runs may overlap.
     #[inline(always)]
     pub(super) fn move_block<const N: usize>(&mut self, dst: usize, src: usize, at: usize)
         requires filled { IsFilledRun self.old.places (src + at) N }

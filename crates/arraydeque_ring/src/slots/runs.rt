@@ -1,8 +1,8 @@
-//! Runs of values that go to other places at once.
+//! Runs of values that move to other places.
 //!
-//! To another region a run goes by one copy. Within one it moves by plain copies, each of which
-//! passes the region's end on neither side and is made of blocks, the ones that lie ahead first. No
-//! move touches memory but by `move_block`.
+//! Between two regions a run goes by one copy. Within a region it is cut into parts that don't pass
+//! the region's end, and each part is copied in blocks by `move_block`, in an order that overwrites
+//! no value that has still to move.
 ghost use Rattle.std.specs.Prelude.{◌≡◌, ◌+◌, ◌-◌, ◌<◌, ◌≤◌, length, take, drop, if◌then◌else◌, ◌==◌};
 ghost use Rattle.std.specs.List.{splice};
 ghost use Rattle.arraydeque_ring.specs.Swapped.{runs_swapped};
@@ -16,8 +16,7 @@ use super::raw::size_of_item;
 use super::{Slots, StepKind};
 use crate::wrap::wrap_add;
 
-/// How many bytes a block takes at most: so many that the C library copies a large one its fastest
-/// way.
+/// The most bytes that a block may have: above the 8 kB from which on the C library copies fastest.
 const BLOCK_BYTES: usize = 32_768;
 
 impl<T> Slots<T> {
@@ -117,8 +116,9 @@ impl<T> Slots<T> {
         self.count(StepKind::Move, len);
     }
 
-    /// Moves a run up by one place: one value after the other, which becomes one `memmove`. Here,
-    /// as in the next two, the region is a local, so that its pointer is known not to change.
+    /// Moves a run up by one place: one value after the other, of which the compiler makes one
+    /// `memmove`. Here, as in the next two, the region is a local, so that its pointer is known to
+    /// stay.
     fn slid_up(self, src: usize, len: usize) -> Slots<T>
         requires in_region { src < length self.places }
         requires room { len < length self.places }
