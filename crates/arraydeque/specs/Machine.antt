@@ -85,16 +85,6 @@ module _ {X : Type 0} where
   extended_front saturating n l xs = reverse (take (n - length l) xs) ++ l
   extended_front wrapping n l xs = take n (reverse xs ++ l)
 
-  -- no policy changes what the call means
-  abbrev pub IsPolicyFree : Call X → Type 0
-  IsPolicyFree (PushFront x) = ⊥
-  IsPolicyFree (PushBack x) = ⊥
-  IsPolicyFree (Insert i x) = ⊥
-  IsPolicyFree (ExtendBack v) = ⊥
-  IsPolicyFree (ExtendFront v) = ⊥
-  IsPolicyFree (Extend v) = ⊥
-  IsPolicyFree _ = Unit {0}
-
   -- under the policy and the capacity n the call is answered so, and takes the list l to `left`
   abbrev pub Answers : Policy → ℕ → List X → Call X → Outcome X
   Answers p n l (PushFront x) = PushesFront p n l x

@@ -12,6 +12,7 @@ use std::fmt;
 use std::marker::{Model, PhantomData};
 
 mod access;
+mod blocks;
 mod clone;
 mod compare;
 mod extend;
@@ -23,9 +24,6 @@ mod parts;
 mod policies;
 mod retain;
 mod swaps;
-
-/// How many bytes an item takes at most that is compared in a block.
-const SMALL_BYTES: usize = 16;
 
 /// A double-ended queue of at most `CAP` items, in one region of memory that is taken when the
 /// deque is made. The policy `B` says what a push into a full deque does.

@@ -2,11 +2,10 @@
 ghost use Rattle.std.specs.Prelude.{◌≡◌, ◌<◌, length, IfOk, IfErr, OnErr};
 ghost use Rattle.std.specs.Mem.{type_size};
 ghost use Rattle.arraydeque.specs.Costs.{RunCosts};
-ghost use Rattle.arraydeque.specs.Machine.{IsPolicyFree};
 ghost use Rattle.arraydeque.specs.Makes.{Makes};
 ghost use Rattle.arraydeque.specs.Policy.{Policy, saturating, wrapping};
 ghost use Rattle.arraydeque.specs.Run.{MachineRun, DequeRun};
-ghost use Rattle.arraydeque.specs.declared.run.Call.TheVariants.{PushFront, PushBack, Insert, Swap, Replace, Drain, SplitOff};
+ghost use Rattle.arraydeque.specs.declared.run.Call.TheVariants.{PushFront, PushBack, Insert, Swap, Replace, ExtendBack, ExtendFront, Extend, Drain, SplitOff};
 
 use crate::behavior::{Behavior, Saturating, Wrapping};
 use crate::deque::ArrayDeque;
@@ -124,120 +123,198 @@ impl<T: Drop, const CAP: usize, B: MachinePolicy<T, CAP>> ArrayDeque<T, CAP, B> 
             Err(_) => return Err(MakeError { source: calls }),
         };
         for call in calls {
-            let reply = B::answer(self, call);
+            let reply = self.answer(call);
             replies.push_reserved(reply);
         }
         Ok(replies)
     }
 }
 
-/// A policy of the list machine, whose deques answer every call.
+/// A policy of the list machine: the answers to the calls that differ by the policy. A refused call
+/// leaves the list as it was.
 pub(crate) trait MachinePolicy<T, const CAP: usize>: Behavior {
     // What the list machine calls it.
     ghost policy: { Policy };
 
-    /// Makes one call of the deque and tells its answer. A refused call leaves the list as it was.
-    fn answer(deque: &mut ArrayDeque<T, CAP, Self>, call: Call<T>) -> Reply<T, CAP, Self>
-        ensures makes { Makes policy CAP (type_size T.row) call result deque.old deque.new };
+    /// A push before the first item.
+    fn answer_push_front(deque: &mut ArrayDeque<T, CAP, Self>, element: T) -> Reply<T, CAP, Self>
+        ensures makes { Makes policy CAP (type_size T.row) (PushFront element) result
+            deque.old deque.new };
+
+    /// A push behind the last item.
+    fn answer_push_back(deque: &mut ArrayDeque<T, CAP, Self>, element: T) -> Reply<T, CAP, Self>
+        ensures makes { Makes policy CAP (type_size T.row) (PushBack element) result
+            deque.old deque.new };
+
+    /// An insert, where the policy offers it.
+    fn answer_insert(
+        deque: &mut ArrayDeque<T, CAP, Self>,
+        index: usize,
+        element: T,
+    ) -> Reply<T, CAP, Self>
+        ensures makes { Makes policy CAP (type_size T.row) (Insert index element) result
+            deque.old deque.new };
+
+    /// Elements added at the back, by either call.
+    fn answer_extend_back(
+        deque: &mut ArrayDeque<T, CAP, Self>,
+        elements: Vec<T>,
+    ) -> Reply<T, CAP, Self>
+        ensures makes { Makes policy CAP (type_size T.row) (ExtendBack elements) result
+            deque.old deque.new }
+        ensures makes_extend { Makes policy CAP (type_size T.row) (Extend elements) result
+            deque.old deque.new };
+
+    /// Elements added at the front.
+    fn answer_extend_front(
+        deque: &mut ArrayDeque<T, CAP, Self>,
+        elements: Vec<T>,
+    ) -> Reply<T, CAP, Self>
+        ensures makes { Makes policy CAP (type_size T.row) (ExtendFront elements) result
+            deque.old deque.new };
 }
 
 impl<T: Drop, const CAP: usize> MachinePolicy<T, CAP> for Saturating {
     ghost policy = { saturating };
 
-    fn answer(
+    fn answer_push_front(
         deque: &mut ArrayDeque<T, CAP, Saturating>,
-        call: Call<T>,
+        element: T,
     ) -> Reply<T, CAP, Saturating>
-        ensures makes { Makes saturating CAP (type_size T.row) call result deque.old deque.new }
-    {
-        match call {
-            Call::PushFront(element) => deque.answer_push_front(element),
-            Call::PushBack(element) => deque.answer_push_back(element),
-            Call::Insert(index, element) => deque.answer_insert(index, element),
-            Call::ExtendBack(elements) | Call::Extend(elements) => {
-                deque.extend_back(elements);
-                Reply::Done
-            }
-            Call::ExtendFront(elements) => {
-                deque.extend_front(elements);
-                Reply::Done
-            }
-            call => deque.answer_policy_free(call),
-        }
-    }
-}
-
-impl<T: Drop, const CAP: usize> ArrayDeque<T, CAP, Saturating> {
-    /// A push before the first item, where there is room.
-    fn answer_push_front(&mut self, element: T) -> Reply<T, CAP, Saturating>
         ensures makes { Makes saturating CAP (type_size T.row) (PushFront element) result
-            self.old self.new }
+            deque.old deque.new }
     {
-        match self.push_front(element) {
+        match deque.push_front(element) {
             Ok(()) => Reply::Done,
             Err(refusal) => Reply::Full(refusal),
         }
     }
 
-    /// A push behind the last item, where there is room.
-    fn answer_push_back(&mut self, element: T) -> Reply<T, CAP, Saturating>
+    fn answer_push_back(
+        deque: &mut ArrayDeque<T, CAP, Saturating>,
+        element: T,
+    ) -> Reply<T, CAP, Saturating>
         ensures makes { Makes saturating CAP (type_size T.row) (PushBack element) result
-            self.old self.new }
+            deque.old deque.new }
     {
-        match self.push_back(element) {
+        match deque.push_back(element) {
             Ok(()) => Reply::Done,
             Err(refusal) => Reply::Full(refusal),
         }
     }
 
-    /// An insert, where the index is in range and there is room.
-    fn answer_insert(&mut self, index: usize, element: T) -> Reply<T, CAP, Saturating>
+    fn answer_insert(
+        deque: &mut ArrayDeque<T, CAP, Saturating>,
+        index: usize,
+        element: T,
+    ) -> Reply<T, CAP, Saturating>
         ensures makes { Makes saturating CAP (type_size T.row) (Insert index element) result
-            self.old self.new }
+            deque.old deque.new }
     {
-        if index > self.len() {
+        if index > deque.len() {
             return Reply::OutOfRange(Some(element));
         }
-        match self.insert(index, element) {
+        match deque.insert(index, element) {
             Ok(()) => Reply::Done,
             Err(refusal) => Reply::Full(refusal),
         }
+    }
+
+    fn answer_extend_back(
+        deque: &mut ArrayDeque<T, CAP, Saturating>,
+        elements: Vec<T>,
+    ) -> Reply<T, CAP, Saturating>
+        ensures makes { Makes saturating CAP (type_size T.row) (ExtendBack elements) result
+            deque.old deque.new }
+        ensures makes_extend { Makes saturating CAP (type_size T.row) (Extend elements) result
+            deque.old deque.new }
+    {
+        deque.extend_back(elements);
+        Reply::Done
+    }
+
+    fn answer_extend_front(
+        deque: &mut ArrayDeque<T, CAP, Saturating>,
+        elements: Vec<T>,
+    ) -> Reply<T, CAP, Saturating>
+        ensures makes { Makes saturating CAP (type_size T.row) (ExtendFront elements) result
+            deque.old deque.new }
+    {
+        deque.extend_front(elements);
+        Reply::Done
     }
 }
 
 impl<T: Drop, const CAP: usize> MachinePolicy<T, CAP> for Wrapping {
     ghost policy = { wrapping };
 
-    fn answer(deque: &mut ArrayDeque<T, CAP, Wrapping>, call: Call<T>) -> Reply<T, CAP, Wrapping>
-        ensures makes { Makes wrapping CAP (type_size T.row) call result deque.old deque.new }
+    fn answer_push_front(
+        deque: &mut ArrayDeque<T, CAP, Wrapping>,
+        element: T,
+    ) -> Reply<T, CAP, Wrapping>
+        ensures makes { Makes wrapping CAP (type_size T.row) (PushFront element) result
+            deque.old deque.new }
     {
-        match call {
-            Call::PushFront(element) => Reply::Displaced(deque.push_front(element)),
-            Call::PushBack(element) => Reply::Displaced(deque.push_back(element)),
-            Call::Insert(_, element) => Reply::NotOffered(element),
-            Call::ExtendBack(elements) | Call::Extend(elements) => {
-                deque.extend_back(elements);
-                Reply::Done
-            }
-            Call::ExtendFront(elements) => {
-                deque.extend_front(elements);
-                Reply::Done
-            }
-            call => deque.answer_policy_free(call),
-        }
+        Reply::Displaced(deque.push_front(element))
+    }
+
+    fn answer_push_back(
+        deque: &mut ArrayDeque<T, CAP, Wrapping>,
+        element: T,
+    ) -> Reply<T, CAP, Wrapping>
+        ensures makes { Makes wrapping CAP (type_size T.row) (PushBack element) result
+            deque.old deque.new }
+    {
+        Reply::Displaced(deque.push_back(element))
+    }
+
+    fn answer_insert(
+        deque: &mut ArrayDeque<T, CAP, Wrapping>,
+        index: usize,
+        element: T,
+    ) -> Reply<T, CAP, Wrapping>
+        ensures makes { Makes wrapping CAP (type_size T.row) (Insert index element) result
+            deque.old deque.new }
+    {
+        Reply::NotOffered(element)
+    }
+
+    fn answer_extend_back(
+        deque: &mut ArrayDeque<T, CAP, Wrapping>,
+        elements: Vec<T>,
+    ) -> Reply<T, CAP, Wrapping>
+        ensures makes { Makes wrapping CAP (type_size T.row) (ExtendBack elements) result
+            deque.old deque.new }
+        ensures makes_extend { Makes wrapping CAP (type_size T.row) (Extend elements) result
+            deque.old deque.new }
+    {
+        deque.extend_back(elements);
+        Reply::Done
+    }
+
+    fn answer_extend_front(
+        deque: &mut ArrayDeque<T, CAP, Wrapping>,
+        elements: Vec<T>,
+    ) -> Reply<T, CAP, Wrapping>
+        ensures makes { Makes wrapping CAP (type_size T.row) (ExtendFront elements) result
+            deque.old deque.new }
+    {
+        deque.extend_front(elements);
+        Reply::Done
     }
 }
 
-impl<T: Drop, const CAP: usize, B: Behavior> ArrayDeque<T, CAP, B> {
-    /// A call whose meaning no policy changes.
-    fn answer_policy_free(&mut self, call: Call<T>) -> Reply<T, CAP, B>
-        requires { IsPolicyFree call }
-        ensures makes { (p : Policy) →
-            Makes p CAP (type_size T.row) call result self.old self.new }
+impl<T: Drop, const CAP: usize, B: MachinePolicy<T, CAP>> ArrayDeque<T, CAP, B> {
+    /// Makes one call and tells its answer. A refused call leaves the list as it was.
+    fn answer(&mut self, call: Call<T>) -> Reply<T, CAP, B>
+        ensures makes { Makes B.policy CAP (type_size T.row) call result self.old self.new }
     {
         match call {
+            Call::PushFront(element) => B::answer_push_front(self, element),
+            Call::PushBack(element) => B::answer_push_back(self, element),
             Call::PopFront => Reply::Item(self.pop_front()),
             Call::PopBack => Reply::Item(self.pop_back()),
+            Call::Insert(index, element) => B::answer_insert(self, index, element),
             Call::Remove(index) => Reply::Item(self.remove(index)),
             Call::SwapRemoveBack(index) => Reply::Item(self.swap_remove_back(index)),
             Call::SwapRemoveFront(index) => Reply::Item(self.swap_remove_front(index)),
@@ -251,21 +328,21 @@ impl<T: Drop, const CAP: usize, B: Behavior> ArrayDeque<T, CAP, B> {
                 self.linearize();
                 Reply::Done
             }
+            Call::ExtendBack(elements) | Call::Extend(elements) => {
+                B::answer_extend_back(self, elements)
+            }
+            Call::ExtendFront(elements) => B::answer_extend_front(self, elements),
             Call::Drain(from, to) => self.answer_drain(from, to),
             Call::SplitOff(at) => self.answer_split_off(at),
             Call::Len => Reply::Number(self.len()),
             Call::Capacity => Reply::Number(self.capacity()),
             Call::IsEmpty => Reply::Truth(self.is_empty()),
             Call::IsFull => Reply::Truth(self.is_full()),
-            Call::PushFront(_)
-            | Call::PushBack(_)
-            | Call::Insert(_, _)
-            | Call::ExtendBack(_)
-            | Call::ExtendFront(_)
-            | Call::Extend(_) => unreachable!(),
         }
     }
+}
 
+impl<T: Drop, const CAP: usize, B: Behavior> ArrayDeque<T, CAP, B> {
     /// An exchange of two items, where both are there.
     fn answer_swap(&mut self, i: usize, j: usize) -> Reply<T, CAP, B>
         ensures makes { (p : Policy) →

@@ -1,12 +1,12 @@
 //! Tests of the smallest and the largest capacities; there is nothing here to call.
 //!
 //! Which function shows which calls on no items, at the capacities 0 and 1, and which on the one
-//! item of a deque of capacity 1. Those of `alike` and `iter` are called for either policy. Lists
+//! item of a deque of capacity 1. Those of `either_policy` and `iter` are called for either policy. Lists
 //! of calls for `run` are in `arraydeque_run_tests`.
 //!
 //! | Calls | on no items | on one item |
 //! |---|---|---|
-//! | | in `alike`: | |
+//! | | in `either_policy`: | |
 //! | lengths, `as_slices`, all of `access` | `reads_nothing` | `reads_one`, `writes_one` |
 //! | pops, `remove`, removals by exchange | `takes_nothing_out` | `is_free_after` |
 //! | all of `retain` | `takes_nothing_out` | `is_free_after`, `reads_one` |
@@ -31,10 +31,10 @@
 #![tactic(auto)]
 
 #[cfg(test)]
-mod alike;
+mod either_policy;
 #[cfg(test)]
 mod iter;
 #[cfg(test)]
-mod most;
+mod largest;
 #[cfg(test)]
 mod policies;

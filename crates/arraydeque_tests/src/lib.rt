@@ -26,8 +26,8 @@ mod policies;
 #[cfg(test)]
 mod retain;
 #[cfg(test)]
-mod sent;
-#[cfg(test)]
 mod steps;
 #[cfg(test)]
 mod swaps;
+#[cfg(test)]
+mod threads;

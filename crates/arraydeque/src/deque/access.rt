@@ -6,13 +6,10 @@ ghost use Rattle.std.specs.Option.{option_copied_mut};
 ghost use Rattle.arraydeque.specs.Deque.{last_item};
 ghost use Rattle.arraydeque.specs.DequeLends.{lends_item, lends_index};
 
-use super::{ArrayDeque, SMALL_BYTES};
+use super::ArrayDeque;
+use super::blocks::has_equal;
 use crate::behavior::Behavior;
-use std::mem::size_of_val;
 use std::ops::{Index, IndexMut};
-
-/// How many items are compared before the answers are looked at.
-const BLOCK: usize = 64;
 
 impl<T, const CAP: usize, B: Behavior> ArrayDeque<T, CAP, B> {
     /// Whether some item equals `x`, by the items' own equality.
@@ -176,34 +173,4 @@ impl<T, const CAP: usize, B: Behavior> IndexMut<usize> for ArrayDeque<T, CAP, B>
     {
         self.get_mut(index).unwrap()
     }
-}
-
-/// Whether some item equals `x`. Small items are looked at block by block, and others one by one.
-fn has_equal<T: PartialEq>(items: &[T], x: &T) -> bool
-    ensures { result ≡ list_any (λ y. T.eq y x.now) items.now }
-{
-    if size_of_val(x) > SMALL_BYTES {
-        return items.contains(x);
-    }
-    let mut rest = items;
-    while BLOCK <= rest.len() {
-        let (block, next) = rest.split_at(BLOCK);
-        if is_any_equal(block, x) {
-            return true;
-        }
-        rest = next;
-    }
-    is_any_equal(rest, x)
-}
-
-/// Whether some item equals `x`. It looks at every item, so that several can be compared at once.
-#[inline(always)]
-fn is_any_equal<T: PartialEq>(items: &[T], x: &T) -> bool
-    ensures { result ≡ list_any (λ y. T.eq y x.now) items.now }
-{
-    let mut found = false;
-    for k in 0..items.len() {
-        found |= items[k] == *x;
-    }
-    found
 }

@@ -4,20 +4,13 @@ ghost use Rattle.std.specs.Cmp.{on_equiv, on_per, on_po, on_total};
 ghost use Rattle.std.specs.Cmp.Lexicographic.{pointwise, slice_cmp, slice_partial_cmp, lists_agrees, lists_equiv, lists_per, lists_po, lists_ties, lists_total};
 ghost use Rattle.std.specs.Hash as fed;
 ghost use Rattle.std.specs.Hash.{items_Alike as alike};
-ghost use Rattle.arraydeque.specs.Compared.{AreSectionsOf, AreBehindEqual};
+ghost use Rattle.arraydeque.specs.Compared.{AreSectionsOf};
 
-use super::{ArrayDeque, SMALL_BYTES};
+use super::ArrayDeque;
+use super::blocks::{are_equal, order, partial_order};
 use crate::behavior::Behavior;
 use std::cmp::Ordering;
 use std::hash::{Hash, Hasher};
-use std::mem::size_of_val;
-
-/// How many pairs are compared before the answers are looked at.
-const BLOCK: usize = 32;
-
-/// The least bytes of an item for which equality and a total order skip equal blocks here: for 1, 2
-/// or 4 bytes std does so.
-const LEAST_BYTES: usize = 5;
 
 /// Two lists in three sections each, which face each other in pairs.
 #[derive(Drop)]
@@ -170,80 +163,4 @@ impl<T: Hash, const CAP: usize, B: Behavior> Hash for ArrayDeque<T, CAP, B> {
         T::hash_slice(front, state);
         T::hash_slice(back, state);
     }
-}
-
-/// Whether two slices are equal.
-#[inline(always)]
-fn are_equal<T: PartialEq>(left: &[T], right: &[T]) -> bool
-    ensures { result ≡ pointwise T.eq left.now right.now }
-{
-    if left.len() != right.len() {
-        return false;
-    }
-    let (left, right) = behind_equal(left, right, LEAST_BYTES);
-    left == right
-}
-
-/// How two slices compare, if they are in some order.
-fn partial_order<T: PartialOrd>(left: &[T], right: &[T]) -> Option<Ordering>
-    ensures { result ≡ slice_partial_cmp T.partial_cmp left.now right.now }
-{
-    let (left, right) = behind_equal(left, right, 0);
-    left.partial_cmp(&right)
-}
-
-/// How two slices compare.
-#[inline(always)]
-fn order<T: Ord>(left: &[T], right: &[T]) -> Ordering
-    ensures { result ≡ slice_cmp T.cmp left.now right.now }
-{
-    let (left, right) = behind_equal(left, right, LEAST_BYTES);
-    left.cmp(&right)
-}
-
-/// Two slices without the blocks of equal pairs that they begin with. They stay whole where an item
-/// has fewer than `least_bytes` or more than `SMALL_BYTES`, or where the first pair differs, as it
-/// often does.
-#[inline(always)]
-fn behind_equal<'a, T: PartialEq>(
-    left: &'a [T],
-    right: &'a [T],
-    least_bytes: usize,
-) -> (&'a [T], &'a [T])
-    ensures { AreBehindEqual T.eq left.now right.now result.0.now result.1.now }
-{
-    let mut pairs = left.len().min(right.len());
-    if pairs < BLOCK {
-        return (left, right);
-    }
-    let bytes = size_of_val(&left[0]);
-    if bytes < least_bytes || bytes > SMALL_BYTES || left[0] != right[0] {
-        return (left, right);
-    }
-    let (mut left_rest, mut right_rest) = (left, right);
-    while BLOCK <= pairs {
-        let (left_block, left_next) = left_rest.split_at(BLOCK);
-        let (right_block, right_next) = right_rest.split_at(BLOCK);
-        if !are_all_equal(left_block, right_block) {
-            break;
-        }
-        left_rest = left_next;
-        right_rest = right_next;
-        pairs -= BLOCK;
-    }
-    (left_rest, right_rest)
-}
-
-/// Whether all pairs of two slices of one length are equal. It looks at every pair, so that the
-/// compiler can compare several together.
-#[inline(always)]
-fn are_all_equal<T: PartialEq>(left: &[T], right: &[T]) -> bool
-    requires { length left.now ≡ length right.now }
-    ensures { result ≡ pointwise T.eq left.now right.now }
-{
-    let mut equal = true;
-    for k in 0..left.len() {
-        equal &= left[k] == right[k];
-    }
-    equal
 }

@@ -1,5 +1,5 @@
 use Rattle.std.{proofs.Common.{◌≡◌, length}, specs.List.list_any}
-use Rattle.arraydeque.proofs.deque.access.has_equal.Given as goal
+use Rattle.arraydeque.proofs.deque.blocks.has_equal.Given as goal
 
 abbrev pub invariant-loop-rest : goal.invariant-loop-rest
 invariant-loop-rest g l =

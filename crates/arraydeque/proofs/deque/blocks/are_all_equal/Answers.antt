@@ -1,6 +1,6 @@
 use Rattle.std.{proofs.{Common.{◌≡◌, ◌+◌, ◌&&◌, length, take, [], ◌∷◌, ◌++◌, sym, ap, ap₂, ◌∙◌, arith}, lemmas.List.{length-take-le, take_more}}, specs.Cmp.Lexicographic.pointwise}
 use Rattle.arraydeque.proofs.Sections.{pointwise-push}
-use Rattle.arraydeque.proofs.deque.compare.are_all_equal.Goals as goal
+use Rattle.arraydeque.proofs.deque.blocks.are_all_equal.Goals as goal
 
 pub loop-k-preserved : goal.loop-k-preserved
 loop-k-preserved g c =

@@ -1,9 +1,9 @@
 use Rattle.std.proofs.Common.{arith}
 use Rattle.arraydeque.proofs.Sections.{behind-none, behind-more, split-whole}
-use Rattle.arraydeque.proofs.deque.compare.behind_equal.Goals as goal
+use Rattle.arraydeque.proofs.deque.blocks.behind_equal.Goals as goal
 
-pub returns-then-pairs-lt-BLOCK : goal.returns-then-pairs-lt-BLOCK
-returns-then-pairs-lt-BLOCK g c = behind-none c.args.left.now c.args.right.now
+pub returns-then-pairs-lt-BLOCK_PAIRS : goal.returns-then-pairs-lt-BLOCK_PAIRS
+returns-then-pairs-lt-BLOCK_PAIRS g c = behind-none c.args.left.now c.args.right.now
 
 pub returns-then-bytes-least_bytes : goal.returns-then-bytes-least_bytes
 returns-then-bytes-least_bytes g c = behind-none c.args.left.now c.args.right.now

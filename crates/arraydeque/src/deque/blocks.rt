@@ -1,0 +1,128 @@
+//! Slices looked at in blocks: many small items are compared before an answer is looked at, so that
+//! the compiler can compare several together. It knows no deque.
+ghost use Rattle.std.specs.Prelude.{◌≡◌, length};
+ghost use Rattle.std.specs.Cmp.Lexicographic.{pointwise, slice_cmp, slice_partial_cmp};
+ghost use Rattle.std.specs.List.{list_any};
+ghost use Rattle.arraydeque.specs.Compared.{AreBehindEqual};
+
+use std::cmp::Ordering;
+use std::mem::size_of_val;
+
+/// How many items a block has in which one is looked for.
+const BLOCK_ITEMS: usize = 64;
+
+/// How many pairs a block has that are compared.
+const BLOCK_PAIRS: usize = 32;
+
+/// The most bytes of an item that is compared in a block.
+const SMALL_BYTES: usize = 16;
+
+/// The least bytes of an item for which equality and a total order skip equal blocks here: for 1, 2
+/// or 4 bytes std does so.
+const LEAST_BYTES: usize = 5;
+
+/// Whether some item equals `x`. Small items are looked at block by block, and others one by one.
+pub(super) fn has_equal<T: PartialEq>(items: &[T], x: &T) -> bool
+    ensures { result ≡ list_any (λ y. T.eq y x.now) items.now }
+{
+    if size_of_val(x) > SMALL_BYTES {
+        return items.contains(x);
+    }
+    let mut rest = items;
+    while BLOCK_ITEMS <= rest.len() {
+        let (block, next) = rest.split_at(BLOCK_ITEMS);
+        if is_any_equal(block, x) {
+            return true;
+        }
+        rest = next;
+    }
+    is_any_equal(rest, x)
+}
+
+/// Whether some item equals `x`. It looks at every item, so that several can be compared at once.
+#[inline(always)]
+fn is_any_equal<T: PartialEq>(items: &[T], x: &T) -> bool
+    ensures { result ≡ list_any (λ y. T.eq y x.now) items.now }
+{
+    let mut found = false;
+    for k in 0..items.len() {
+        found |= items[k] == *x;
+    }
+    found
+}
+
+/// Whether two slices are equal.
+#[inline(always)]
+pub(super) fn are_equal<T: PartialEq>(left: &[T], right: &[T]) -> bool
+    ensures { result ≡ pointwise T.eq left.now right.now }
+{
+    if left.len() != right.len() {
+        return false;
+    }
+    let (left, right) = behind_equal(left, right, LEAST_BYTES);
+    left == right
+}
+
+/// How two slices compare, if they are in some order.
+pub(super) fn partial_order<T: PartialOrd>(left: &[T], right: &[T]) -> Option<Ordering>
+    ensures { result ≡ slice_partial_cmp T.partial_cmp left.now right.now }
+{
+    let (left, right) = behind_equal(left, right, 0);
+    left.partial_cmp(&right)
+}
+
+/// How two slices compare.
+#[inline(always)]
+pub(super) fn order<T: Ord>(left: &[T], right: &[T]) -> Ordering
+    ensures { result ≡ slice_cmp T.cmp left.now right.now }
+{
+    let (left, right) = behind_equal(left, right, LEAST_BYTES);
+    left.cmp(&right)
+}
+
+/// Two slices without the blocks of equal pairs that they begin with. They stay whole where an item
+/// has fewer than `least_bytes` or more than `SMALL_BYTES`, or where the first pair differs, as it
+/// often does.
+#[inline(always)]
+fn behind_equal<'a, T: PartialEq>(
+    left: &'a [T],
+    right: &'a [T],
+    least_bytes: usize,
+) -> (&'a [T], &'a [T])
+    ensures { AreBehindEqual T.eq left.now right.now result.0.now result.1.now }
+{
+    let mut pairs = left.len().min(right.len());
+    if pairs < BLOCK_PAIRS {
+        return (left, right);
+    }
+    let bytes = size_of_val(&left[0]);
+    if bytes < least_bytes || bytes > SMALL_BYTES || left[0] != right[0] {
+        return (left, right);
+    }
+    let (mut left_rest, mut right_rest) = (left, right);
+    while BLOCK_PAIRS <= pairs {
+        let (left_block, left_next) = left_rest.split_at(BLOCK_PAIRS);
+        let (right_block, right_next) = right_rest.split_at(BLOCK_PAIRS);
+        if !are_all_equal(left_block, right_block) {
+            break;
+        }
+        left_rest = left_next;
+        right_rest = right_next;
+        pairs -= BLOCK_PAIRS;
+    }
+    (left_rest, right_rest)
+}
+
+/// Whether all pairs of two slices of one length are equal. It looks at every pair, so that the
+/// compiler can compare several together.
+#[inline(always)]
+fn are_all_equal<T: PartialEq>(left: &[T], right: &[T]) -> bool
+    requires { length left.now ≡ length right.now }
+    ensures { result ≡ pointwise T.eq left.now right.now }
+{
+    let mut equal = true;
+    for k in 0..left.len() {
+        equal &= left[k] == right[k];
+    }
+    equal
+}
