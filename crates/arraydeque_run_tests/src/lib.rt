@@ -8,4 +8,4 @@ mod replies;
 #[cfg(test)]
 mod run;
 #[cfg(test)]
-mod small;
+mod smallest;

@@ -3,8 +3,8 @@ use Rattle.std.proofs.{Common.{◌≡◌, ◌<◌, ◌≤◌, ℕ, zero, suc, �
 use Rattle.arraydeque_ring.{specs.{declared.ring.Ring.TheInside.Inside, Places.Region, Ring.{RingState, place_of, up_by, down_by}, Steps.{Steps, more_puts, more_takes}}, proofs.{moved.Sources.{place_of-sum}, places.{LaidOut.{LaidOut-take_back, LaidOut-put_front}, Opened.{Opened, put_back, take_front, with_len}}, fills.InRows.{all_before, down_by-all}}}
 
 -- nothing more was put and taken
-none : (s : Steps) → s ≡ more_puts 0 (more_takes 0 s)
-none s = let puts : s.puts ≡ s.puts + 0 = omega arith in let takes : s.takes ≡ s.takes + 0 = omega arith in (λ i. record s { puts = puts i; takes = takes i })
+more_none : (s : Steps) → s ≡ more_puts 0 (more_takes 0 s)
+more_none s = let puts : s.puts ≡ s.puts + 0 = omega arith in let takes : s.takes ≡ s.takes + 0 = omega arith in (λ i. record s { puts = puts i; takes = takes i })
 
 -- to go up by j places and then by k is to go up by both
 pub up_by-both : (j k s n : ℕ) → up_by k (up_by j s n) n ≡ up_by (j + k) s n
@@ -27,10 +27,10 @@ module _ {X : Type 0} where
 
   -- none came
   pub displaced_first-none : (r : RingState X) → r ≡ displaced_first [] r
-  displaced_first-none r = λ i. record r { items = sym (append-nil r.items) i; steps = none r.steps i }
+  displaced_first-none r = λ i. record r { items = sym (append-nil r.items) i; steps = more_none r.steps i }
 
   pub displaced_last-none : (r : RingState X) → r ≡ displaced_last [] r
-  displaced_last-none r = λ i. record r { items = sym (take_all (length r.items) r.items (omega arith)) i; steps = none r.steps i }
+  displaced_last-none r = λ i. record r { items = sym (take_all (length r.items) r.items (omega arith)) i; steps = more_none r.steps i }
 
   -- ys came after xs
   module _ (xs ys : List X) where

@@ -4,9 +4,9 @@ use Rattle.arraydeque_ring.{specs.{Gaps.{IsEmptyRun, run_rotated}, Places.{held_
 
 module _ {X : Type 0} {dst gap behind len : ℕ} {ps : List (Option X)} (next : ℕ) (u : Underway dst gap behind len ps) (here : dst + gap ≡ next) where
   -- after a pass of `run` values to their places, two runs have still to change places
-  passed : (run left last : ℕ) → ((run ≡ behind) × (left + run ≡ gap) × (last ≡ behind)) ⊎ ((run ≡ gap) × (left ≡ gap) × (last + run ≡ behind))
+  rotated_by_pass : (run left last : ℕ) → ((run ≡ behind) × (left + run ≡ gap) × (last ≡ behind)) ⊎ ((run ≡ gap) × (left ≡ gap) × (last + run ≡ behind))
       → run_rotated (dst + run) left last (runs_swapped dst next run ps) ≡ run_rotated dst gap behind ps
-  passed run left last ways =
+  rotated_by_pass run left last ways =
       let rs = runs_swapped dst next run ps in
       let within : (dst + run ≤ next) × (next + run ≤ length ps) × (dst + run + left + last ≤ length ps) = elim ways [ inl w ↦ omega (arith, u.whole) | inr w ↦ omega (arith, u.whole) ] in
       let long = length-runs_swapped dst next run ps within.0 within.1 in
@@ -71,7 +71,7 @@ module _ {X : Type 0} {capacity start len dst next : ℕ} {old ps : List (Option
       in_order = elim ways [ inl w ↦ omega (arith, t.in_order) | inr w ↦ omega (arith, t.in_order) ];
       in_region = elim ways [ inl w ↦ omega (arith, t.in_region) | inr w ↦ omega arith ];
       placed = omega arith;
-      left = t.left ∙ sym (passed next before (omega (arith, t.in_order)) run (next_then - (dst + run)) (capacity - next_then) (elim ways [
+      left = t.left ∙ sym (rotated_by_pass next before (omega (arith, t.in_order)) run (next_then - (dst + run)) (capacity - next_then) (elim ways [
         | inl w ↦ inl (omega arith, omega (arith, t.in_order), omega arith)
         | inr w ↦ inr (omega (arith, t.in_order), omega (arith, t.in_order), omega arith)
       ]));

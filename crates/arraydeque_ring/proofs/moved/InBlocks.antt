@@ -4,8 +4,8 @@ use native.Mathlib.Numerals.{unary_clauses}
 use Rattle.arraydeque_ring.{specs.{Ring.place_of, Moved.{CanCopy, run_moved}}, proofs.{moved.{Flat.{length-moved, moved_none}, Round.{first_then_rest, last_then_rest}, Sources.rest_filled}, places.Rotated.{place_of-first}}}
 
 -- to go on from i + a is to go on from i by so much more
-further : (i a x n : ℕ) → place_of (i + a) x n ≡ place_of i (a + x) n
-further i a x n = ap (λ m. m % n) (add_assoc i a x)
+place_of-from : (i a x n : ℕ) → place_of (i + a) x n ≡ place_of i (a + x) n
+place_of-from i a x n = ap (λ m. m % n) (add_assoc i a x)
 
 -- a run from its index 0 on is the run
 pub whole_run : {X : Type 0} (dst src len : ℕ) (ps : List (Option X)) → run_moved (dst + 0) (src + 0) (len - 0) ps ≡ run_moved dst src len ps
@@ -46,7 +46,7 @@ module _ {X : Type 0} (i j k m l : ℕ) (ps : List (Option X)) (all : k + m ≡ 
         then = record {
           target = omega arith;
           source = omega arith;
-          filled = rest_filled (i + k) (j + k) m i j l k ps _ long is (λ x. further i k x (length ps)) (omega arith) (omega arith) (omega arith) (omega arith) can.filled;
+          filled = rest_filled (i + k) (j + k) m i j l k ps _ long is (λ x. place_of-from i k x (length ps)) (omega arith) (omega arith) (omega arith) (omega arith) can.filled;
         };
         is = is;
       }
@@ -58,7 +58,7 @@ module _ {X : Type 0} (i j k m l : ℕ) (ps : List (Option X)) (all : k + m ≡ 
       let long = length-moved (i + k) (j + k) m ps in
       let is = last_is i j k m ps up (omega arith) ∙ ap (λ n. run_moved i j n ps) all in
       record {
-        can = record { target = omega arith; source = omega arith; filled = λ x lt. rw (further j k x (length ps)) (can.filled (k + x) (omega arith)) };
+        can = record { target = omega arith; source = omega arith; filled = λ x lt. rw (place_of-from j k x (length ps)) (can.filled (k + x) (omega arith)) };
         then = record {
           target = omega arith;
           source = omega arith;

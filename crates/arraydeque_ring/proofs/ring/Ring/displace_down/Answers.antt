@@ -40,13 +40,13 @@ pub invariant_of-ring : goal.invariant_of-ring
 invariant_of-ring g c = kept c.loop-displaced.invariant.filled.holds
 
 -- as many places as there are down to the first one
-many : (g : Over) (c : Left-loop-displaced g) → c.wrap_add-from.result + 1 ≡ place_of c.args.self.start (c.args.self.capacity - 1) c.args.self.capacity + 1
-many g c = let ring = opened c.self.inside c.self.invariant c.self.view_is in ap (λ p. p + 1) (from_start ring _ c.capacity-capacity.ensures c.wrap_add-from.ensures ∙ ap (λ n. place_of c.args.self.start (n - 1) c.args.self.capacity) (c.capacity-capacity.ensures ∙ ring.laid.long))
+down_to_first : (g : Over) (c : Left-loop-displaced g) → c.wrap_add-from.result + 1 ≡ place_of c.args.self.start (c.args.self.capacity - 1) c.args.self.capacity + 1
+down_to_first g c = let ring = opened c.self.inside c.self.invariant c.self.view_is in ap (λ p. p + 1) (from_start ring _ c.capacity-capacity.ensures c.wrap_add-from.ensures ∙ ap (λ n. place_of c.args.self.start (n - 1) c.args.self.capacity) (c.capacity-capacity.ensures ∙ ring.laid.long))
 
 pub returns-clause-filled : goal.returns-clause-filled
 returns-clause-filled g c =
     let was = c.loop-displaced.invariant in
     elim c.loop-displaced-test.branch [
-      | else-loop-displaced-test w ↦ Fills-to _ (Fills-as _ was.filled _ _ (omega (arith, was.within, many g c)) (λ xs. closed)) w.elements-is (w.ended-is ∙ was.goes_on)
-      | then-loop-displaced-test+in_default w ↦ Fills-to _ (Fills-as _ (Fills-over _ was.filled w.in_default.ensures.steps _ was.within) _ _ (many g c) (λ xs. closed)) w.elements-is w.ended-is
+      | else-loop-displaced-test w ↦ Fills-to _ (Fills-as _ was.filled _ _ (omega (arith, was.within, down_to_first g c)) (λ xs. closed)) w.elements-is (w.ended-is ∙ was.goes_on)
+      | then-loop-displaced-test+in_default w ↦ Fills-to _ (Fills-as _ (Fills-over _ was.filled w.in_default.ensures.steps _ was.within) _ _ (down_to_first g c) (λ xs. closed)) w.elements-is w.ended-is
     ]

@@ -14,7 +14,7 @@ use std::test::Fail;
 type Row = (Call<i64>, [&'static str; 3], [&'static str; 3]);
 
 /// The row of a call that means the same under either policy.
-fn alike(call: Call<i64>, told: [&'static str; 3]) -> Row {
+fn under_both(call: Call<i64>, told: [&'static str; 3]) -> Row {
     (call, told, told)
 }
 
@@ -31,8 +31,8 @@ fn rows(alloc: Global) -> Result<Vec<Row>, Fail> {
             ["full 5 []", "done [5]", "full 5 [7]"],
             ["displaced 5 []", "displaced none [5]", "displaced 7 [5]"]
         ),
-        alike(Call::PopFront, ["none []", "none []", "7 []"]),
-        alike(Call::PopBack, ["none []", "none []", "7 []"]),
+        under_both(Call::PopFront, ["none []", "none []", "7 []"]),
+        under_both(Call::PopBack, ["none []", "none []", "7 []"]),
         (
             Call::Insert(0, 5),
             ["full 5 []", "done [5]", "full 5 [7]"],
@@ -48,22 +48,22 @@ fn rows(alloc: Global) -> Result<Vec<Row>, Fail> {
             ["range 5 []", "range 5 []", "range 5 [7]"],
             ["unoffered 5 []", "unoffered 5 []", "unoffered 5 [7]"]
         ),
-        alike(Call::Remove(0), ["none []", "none []", "7 []"]),
-        alike(Call::Remove(1), ["none []", "none []", "none [7]"]),
-        alike(Call::SwapRemoveBack(0), ["none []", "none []", "7 []"]),
-        alike(Call::SwapRemoveBack(1), ["none []", "none []", "none [7]"]),
-        alike(Call::SwapRemoveFront(0), ["none []", "none []", "7 []"]),
-        alike(Call::SwapRemoveFront(1), ["none []", "none []", "none [7]"]),
-        alike(Call::Swap(0, 0), ["range []", "range []", "done [7]"]),
-        alike(Call::Swap(0, 1), ["range []", "range []", "range [7]"]),
-        alike(Call::Swap(1, 0), ["range []", "range []", "range [7]"]),
-        alike(Call::Replace(0, 5), ["range 5 []", "range 5 []", "7 [5]"]),
-        alike(
+        under_both(Call::Remove(0), ["none []", "none []", "7 []"]),
+        under_both(Call::Remove(1), ["none []", "none []", "none [7]"]),
+        under_both(Call::SwapRemoveBack(0), ["none []", "none []", "7 []"]),
+        under_both(Call::SwapRemoveBack(1), ["none []", "none []", "none [7]"]),
+        under_both(Call::SwapRemoveFront(0), ["none []", "none []", "7 []"]),
+        under_both(Call::SwapRemoveFront(1), ["none []", "none []", "none [7]"]),
+        under_both(Call::Swap(0, 0), ["range []", "range []", "done [7]"]),
+        under_both(Call::Swap(0, 1), ["range []", "range []", "range [7]"]),
+        under_both(Call::Swap(1, 0), ["range []", "range []", "range [7]"]),
+        under_both(Call::Replace(0, 5), ["range 5 []", "range 5 []", "7 [5]"]),
+        under_both(
             Call::Replace(1, 5),
             ["range 5 []", "range 5 []", "range 5 [7]"]
         ),
-        alike(Call::Clear, ["done []", "done []", "done []"]),
-        alike(Call::Linearize, ["done []", "done []", "done [7]"]),
+        under_both(Call::Clear, ["done []", "done []", "done []"]),
+        under_both(Call::Linearize, ["done []", "done []", "done [7]"]),
         (
             Call::ExtendBack(vec![in alloc; 1, 2]?),
             ["done []", "done [1]", "done [7]"],
@@ -79,33 +79,33 @@ fn rows(alloc: Global) -> Result<Vec<Row>, Fail> {
             ["done []", "done [1]", "done [7]"],
             ["done []", "done [2]", "done [2]"]
         ),
-        alike(
+        under_both(
             Call::Drain(0, 0),
             ["drained [] []", "drained [] []", "drained [] [7]"]
         ),
-        alike(
+        under_both(
             Call::Drain(0, 1),
             ["range []", "range []", "drained [7] []"]
         ),
-        alike(Call::Drain(1, 0), ["range []", "range []", "range [7]"]),
-        alike(
+        under_both(Call::Drain(1, 0), ["range []", "range []", "range [7]"]),
+        under_both(
             Call::Drain(1, 1),
             ["range []", "range []", "drained [] [7]"]
         ),
-        alike(Call::Drain(0, 2), ["range []", "range []", "range [7]"]),
-        alike(
+        under_both(Call::Drain(0, 2), ["range []", "range []", "range [7]"]),
+        under_both(
             Call::SplitOff(0),
             ["split [] []", "split [] []", "split [7] []"]
         ),
-        alike(Call::SplitOff(1), ["range []", "range []", "split [] [7]"]),
-        alike(Call::SplitOff(2), ["range []", "range []", "range [7]"]),
-        alike(Call::Len, ["number 0 []", "number 0 []", "number 1 [7]"]),
-        alike(
+        under_both(Call::SplitOff(1), ["range []", "range []", "split [] [7]"]),
+        under_both(Call::SplitOff(2), ["range []", "range []", "range [7]"]),
+        under_both(Call::Len, ["number 0 []", "number 0 []", "number 1 [7]"]),
+        under_both(
             Call::Capacity,
             ["number 0 []", "number 1 []", "number 1 [7]"]
         ),
-        alike(Call::IsEmpty, ["true []", "true []", "false [7]"]),
-        alike(Call::IsFull, ["true []", "false []", "true [7]"]),
+        under_both(Call::IsEmpty, ["true []", "true []", "false [7]"]),
+        under_both(Call::IsFull, ["true []", "false []", "true [7]"]),
     ]?)
 }
 
