@@ -8,7 +8,7 @@ ghost use Rattle.std.specs.Prelude.{◌≡◌, ◌-◌, ◌*◌, ◌+◌, ◌<�
 ghost use Rattle.std.specs.Borrow.{sem};
 ghost use Rattle.std.specs.Mem.{type_size};
 ghost use Rattle.std.specs.Option.{option_copied_mut};
-ghost use Rattle.arraydeque_ring.specs.Ring.{empty_ring, place_of, IsInOnePiece};
+ghost use Rattle.arraydeque_ring.specs.Ring.{empty_ring, place_of};
 ghost use Rattle.arraydeque_ring.specs.Steps.{more_puts, more_takes};
 
 mod copies;
@@ -222,23 +222,6 @@ impl<T> Ring<T> {
         let place = wrap_add_branchless(self.start, index, self.slots.capacity());
         let slots = &mut self.slots;
         Some(slots.get_mut(place))
-    }
-
-    /// The items in two slices: those from the start to the region's end, then those past it.
-    #[inline]
-    pub fn as_slices(&self) -> (&[T], &[T])
-        ensures joined { result.0.now ++ result.1.now ≡ self.now.items }
-        ensures one_piece { IsInOnePiece self.now → result.1.now ≡ [] }
-    {
-        let to_end = self.slots.capacity() - self.start;
-        if self.len <= to_end {
-            (self.slots.slice(self.start, self.len), &[])
-        } else {
-            (
-                self.slots.slice(self.start, to_end),
-                self.slots.slice(0, self.len - to_end),
-            )
-        }
     }
 
     /// The ring itself, in whose place one of no places is left.

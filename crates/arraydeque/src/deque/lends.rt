@@ -52,6 +52,26 @@ impl<T, const CAP: usize, B: Behavior> ArrayDeque<T, CAP, B> {
         IterMut::of(self.lend())
     }
 
+    /// Returns the items in two slices: those from the front to the region's end, and then the
+    /// rest, which stand from the region's first place on. If all lie in one piece, the second is
+    /// empty.
+    ///
+    /// ```
+    /// let mut deque = ArrayDeque::<i64, 3, Saturating>::new(alloc)?;
+    /// deque.extend_back([1, 2, 3]);
+    /// // 4 goes to the place that 1 has left, which is the region's first.
+    /// assert!(rt; (deque.pop_front(), deque.push_back(4)) == (Some(1), Ok(())));
+    /// let (front, rest) = deque.as_slices();
+    /// assert!(rt; (front, rest) == ([2, 3].as_slice(), [4].as_slice()));
+    /// ```
+    #[inline]
+    pub fn as_slices(&self) -> (&[T], &[T])
+        ensures joined { result.0.now ++ result.1.now ≡ self.now.items }
+        ensures one_piece { IsInOnePiece (as_ring CAP self.now) → result.1.now ≡ [] }
+    {
+        self.ring.as_slices()
+    }
+
     /// Returns the items in two mutable slices: those from the front to the region's end, and then
     /// the rest, which stand from the region's first place on. If all lie in one piece, the second
     /// is empty.

@@ -1,4 +1,4 @@
-//! All items of a ring, lent for writing.
+//! All items of a ring, lent for reading or for writing.
 ghost use Rattle.std.specs.Prelude.{◌≡◌, [], ◌++◌, List, length};
 ghost use Rattle.std.specs.List.{refill};
 ghost use Rattle.std.specs.Borrow.{sem};
@@ -10,6 +10,23 @@ use super::Ring;
 use crate::slots::loan::Loan;
 
 impl<T> Ring<T> {
+    /// The items in two slices: those from the start to the region's end, then those past it.
+    #[inline]
+    pub fn as_slices(&self) -> (&[T], &[T])
+        ensures joined { result.0.now ++ result.1.now ≡ self.now.items }
+        ensures one_piece { IsInOnePiece self.now → result.1.now ≡ [] }
+    {
+        let to_end = self.slots.capacity() - self.start;
+        if self.len <= to_end {
+            (self.slots.slice(self.start, self.len), &[])
+        } else {
+            (
+                self.slots.slice(self.start, to_end),
+                self.slots.slice(0, self.len - to_end),
+            )
+        }
+    }
+
     /// The items for writing in one slice. The list ends as it was written, and starts where it
     /// did.
     #[inline]
