@@ -4,7 +4,7 @@ use Rattle.arraydeque.specs.{Machine.answer_of, Policy.Policy, Run.MachineRun, d
 use Rattle.adq.specs.{Line.{lines_of, LinesName}, Run.{Ends, Prints, ReadsWhole, settings_of}, Text.{list_text, text_of}, declared.fault.Fault.{Fault, TheVariants.Memory}}
 
 -- the text of replies, line by line, and of the last list
-abbrev pub output_of : {B : Type 0} {n : ℕ} → List (Reply ℤ n B) → List ℤ → List ℕ
+abbrev output_of : {B : Type 0} {n : ℕ} → List (Reply ℤ n B) → List ℤ → List ℕ
 output_of replies last = flat_map (λ reply. text_of (answer_of reply) ++ 10 ∷ []) replies ++ codes "list: " ++ list_text last ++ 10 ∷ []
 
 -- what a run answers, printed line by line

@@ -1,5 +1,5 @@
 -- Words that were read as values, one after another.
-use Rattle.std.{proofs.Common.{◌≡◌, ℕ, ℤ, List, [], ◌∷◌, ◌++◌, map, sym, ◌∙◌, subst, append_assoc, append-nil}, specs.List.AllZip}
+use Rattle.std.{proofs.Common.{◌≡◌, ℕ, ℤ, List, [], ◌∷◌, ◌++◌, map, sym, ◌∙◌, subst, append_assoc}, specs.List.AllZip}
 use Rattle.adq.specs.Line.{Spells, value}
 
 -- the words are those that spell the values, and then those that are left
@@ -15,10 +15,6 @@ zip_more (w ∷ front) (y ∷ xs) word x z h = (z.0, zip_more front xs word x z.
 
 pub parted_more : (words : List (List ℕ)) (xs : List ℤ) (word : List ℕ) (left : List (List ℕ)) (x : ℤ) → Parted words xs (word ∷ left) → Spells word (value x) → Parted words (xs ++ x ∷ []) left
 parted_more words xs word left x (front, e, z) h = (front ++ word ∷ [], e ∙ sym (append_assoc front (word ∷ []) left), zip_more front xs word x z h)
-
--- the end
-pub parted_all : (words : List (List ℕ)) (xs : List ℤ) → Parted words xs [] → AllZip Spells words (map value xs)
-parted_all words xs (front, e, z) = subst (λ ws. AllZip Spells ws (map value xs)) (sym (e ∙ append-nil front)) z
 
 -- and a word that spells no value
 zip_bad : (front : List (List ℕ)) (word : List ℕ) (left : List (List ℕ)) (ys : List ℤ) → ((x : ℤ) → ¬ (Spells word (value x))) → ¬ (AllZip Spells (front ++ word ∷ left) (map value ys))

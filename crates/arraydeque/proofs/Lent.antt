@@ -32,7 +32,7 @@ module _ (E : El) (N : ℕ) (B : RattleType) where
   abbrev pub Kept : Fields → Type 0
   Kept x = (x.ring.capacity ≡ N) × (length x.ring.items ≤ N)
 
-  abbrev pub with_ring : Fields → RingState (el_x E) → Fields
+  abbrev with_ring : Fields → RingState (el_x E) → Fields
   with_ring x r = record { ring = r; behavior = x.behavior }
 
 module _ (E : El) (N : ℕ) (B : RattleType) (LB : Laws B) {M : Type 1} {𝓤 : Ura M} (𝓛 : Logic 𝓤) (b o : ℕ) where

@@ -8,7 +8,7 @@ abbrev pub of_ring : {X : Type 0} → RingState X → DequeState X
 of_ring ring = record { items = ring.items; start = ring.start; steps = ring.steps }
 
 -- xs were pushed one by one before the first item of the old deque of capacity n, which stays as it was if it has no places
-abbrev pub WrapsFront : {X : Type 0} → ℕ → DequeState X → List X → DequeState X → Type 0
+abbrev WrapsFront : {X : Type 0} → ℕ → DequeState X → List X → DequeState X → Type 0
 WrapsFront n old xs new = (new.items ≡ take n (reverse xs ++ old.items)) × (0 < n → new ≡ wrapped_front n xs old) × (n ≡ 0 → new ≡ old)
 
 nothing_behind : {X : Type 0} (xs ys : List X) → length ys ≤ 0 → xs ++ ys ≡ xs

@@ -15,11 +15,11 @@ module _ {S A : Type 0} {gives : S → Option A → S → Type 0} (run : Run giv
       let here : k < run.len = omega (arith, run.long) in
       ap (λ o. unwrap_or o d) (sym (run.reads k d here) ∙ reads k d here) ∙ sym (get_or-take n xs k d (omega arith)))
 
-  pub items-first : ItemsAre run xs → run.items ≡ take n xs
+  items-first : ItemsAre run xs → run.items ≡ take n xs
   items-first are = first_items are.0 are.1 are.2
 
   -- the same of items that are read off a list
-  pub items-read : run.len ≤ length xs → (run.whole ≡ true → run.len ≡ length xs) → ((k : ℕ) → k < run.len → run.at k ≡ slice_get xs k) → run.items ≡ take n xs
+  items-read : run.len ≤ length xs → (run.whole ≡ true → run.len ≡ length xs) → ((k : ℕ) → k < run.len → run.at k ≡ slice_get xs k) → run.items ≡ take n xs
   items-read within all reads = first_items within all (λ k d here. ap (option_map (λ y. y)) (reads k here ∙ slice_get-get_or xs k d (omega arith)))
 
 module _ {Source S A : Type 0} (becomes : Source → S → Type 0) (gives : S → Option A → S → Type 0) (source : Source) (P : List A → Type 0) where
@@ -49,7 +49,7 @@ module _ {Source S A : Type 0} (becomes : Source → S → Type 0) (gives : S �
   -- by a loop over the iterator s, at whose exit P holds of the items that came
   module _ (s : S) (became : becomes source s) (xs : List A) (holds : P xs) where
     -- over all of it
-    pub TakesAll-loop : (last end : S) → Yields gives s xs last → gives last None end → TakesAll becomes gives source P
+    TakesAll-loop : (last end : S) → Yields gives s xs last → gives last None end → TakesAll becomes gives source P
     TakesAll-loop last end yielded ended =
         let ran = run_of_exit gives s xs last yielded end ended in
         record { iterator = s; became = became; run = ran.0; from_it = ran.1; to_end = ran.2; holds = subst P (sym ran.3.0) holds }

@@ -10,7 +10,6 @@ use crate::behavior::{Behavior, Saturating, Wrapping};
 use crate::error::MakeError;
 use arraydeque_ring::ring::Ring;
 use std::alloc::Global;
-use std::marker::PhantomData;
 
 impl<T, const CAP: usize> ArrayDeque<T, CAP, Saturating> {
     /// Returns a deque of the first `CAP` items of an iterator, which is asked for no more.
@@ -183,11 +182,10 @@ impl<T, const CAP: usize, B: Behavior> ArrayDeque<T, CAP, B> {
         ensures source { IfErr result (λ refusal. refusal.source ≡ self) }
         ensures refused { OnErr result (0 < length self.items) }
     {
-        let ArrayDeque { ring, behavior } = self;
-        match ring.into_vec() {
+        match self.into_ring().into_vec() {
             Ok(v) => Ok(v),
             Err(ring) => Err(MakeError {
-                source: ArrayDeque { ring, behavior },
+                source: Self::of(ring),
             }),
         }
     }
@@ -207,11 +205,7 @@ impl<T, const CAP: usize> From<ArrayDeque<T, CAP, Wrapping>> for ArrayDeque<T, C
     /// assert!(rt; deque.into_vec()?.as_slice() == [2, 3].as_slice());
     /// ```
     fn from(deque: ArrayDeque<T, CAP, Wrapping>) -> Self {
-        let ArrayDeque { ring, behavior: _ } = deque;
-        ArrayDeque {
-            ring,
-            behavior: PhantomData,
-        }
+        Self::of(deque.into_ring())
     }
 }
 
@@ -229,10 +223,6 @@ impl<T, const CAP: usize> From<ArrayDeque<T, CAP, Saturating>> for ArrayDeque<T,
     /// assert!(rt; deque.into_vec()?.as_slice() == [2, 4].as_slice());
     /// ```
     fn from(deque: ArrayDeque<T, CAP, Saturating>) -> Self {
-        let ArrayDeque { ring, behavior: _ } = deque;
-        ArrayDeque {
-            ring,
-            behavior: PhantomData,
-        }
+        Self::of(deque.into_ring())
     }
 }

@@ -13,7 +13,6 @@ use crate::behavior::{Behavior, Saturating, Wrapping};
 use crate::iter::Drain;
 use crate::range::RangeArgument;
 use std::alloc::AllocError;
-use std::marker::PhantomData;
 
 impl<T, const CAP: usize, B: Behavior> ArrayDeque<T, CAP, B> {
     /// Removes the items of a range, and returns them in a [`Drain`], which owns them in a region
@@ -61,14 +60,8 @@ impl<T, const CAP: usize, B: Behavior> ArrayDeque<T, CAP, B> {
             span_of (R.names_start range) (R.names_end range) self.old.items in
             OnErr result (0 < (span.to - span.from) * type_size T.row) }
     {
-        let from = match range.start() {
-            Some(from) => from,
-            None => 0,
-        };
-        let to = match range.end() {
-            Some(to) => to,
-            None => self.len(),
-        };
+        let from = range.start().unwrap_or(0);
+        let to = range.end().unwrap_or(self.len());
         let ring = self.ring.drain(from, to)?;
         Ok(Drain::of(ring))
     }
@@ -102,10 +95,7 @@ impl<T, const CAP: usize, B: Behavior> ArrayDeque<T, CAP, B> {
         ensures refused { OnErr result (0 < CAP * type_size T.row) }
     {
         let ring = self.ring.split_off(at)?;
-        Ok(ArrayDeque {
-            ring,
-            behavior: PhantomData,
-        })
+        Ok(Self::of(ring))
     }
 }
 

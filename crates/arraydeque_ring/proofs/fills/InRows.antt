@@ -19,7 +19,7 @@ more_twice : {X : Type 0} (xs ys : List X) (s : Steps) → more_puts (length ys)
 more_twice xs ys s = ap (λ n. record s { puts = n }) (omega (arith, length-append xs ys))
 
 -- nothing more was put
-pub more_none : (s : Steps) → s ≡ more_puts 0 s
+more_none : (s : Steps) → s ≡ more_puts 0 s
 more_none s = ap (λ n. record s { puts = n }) (omega arith)
 
 module _ {X : Type 0} where

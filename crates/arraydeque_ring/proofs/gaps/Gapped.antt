@@ -3,7 +3,7 @@ use Rattle.std.proofs.{Common.{◌≡◌, ℕ, zero, suc, ◌+◌, ◌-◌, ◌<
 use Rattle.arraydeque_ring.{specs.{Places.{held_at, IsEmpty}, Ring.{place_of, rotated}, Gaps.run_emptied}, proofs.places.{Emptied.{length-run_emptied, get_or-run_emptied}, Holds.{Holds, Holds-of_rotated, Holds-rotated, Holds-same, Holds-from, Holds-set}, Items.{items, slice_get-cons}, LaidOut.{LaidOut, LaidOut-by, holds}, Rotated.{place_of_cases, place_of-lt, place_of-zero, length-rotated}}}
 
 -- what is read at an index: one of the items xs, nothing in the gap, and one of the items ys behind it
-abbrev pub gapped : {X : Type 0} → List X → ℕ → List X → ℕ → Option X
+abbrev gapped : {X : Type 0} → List X → ℕ → List X → ℕ → Option X
 gapped xs gap ys k = if nat_lt k (length xs) then slice_get xs k else (if nat_lt k (length xs + gap) then None else slice_get ys (k - (length xs + gap)))
 
 -- from the place t on, round the end, the n places hold the items xs, then nothing at `gap` places, then the items ys, and nothing else

@@ -46,7 +46,7 @@ module _ {M : Type 1} {𝓤 : Ura M} (𝓛 : Logic 𝓤) (R T U : SemTy) (F : R.
       move ! (1 ∷ 0 ∷ []) $ use2 𝓛 (‵ (fauth γ (R.coded.code (F (V w₁ w₂))))) (apply∗ 𝓤 (A.auth ν (R.coded.code (V w₁ w₂))) (A.auth γ (R.coded.code (F (V w₁ w₂))))) $
       move ! (1 ∷ 0 ∷ []) $ fjoin ! $ fpack ! R.rep (λ z. fsep (R.own_at z b o) (fauth γ (R.coded.code z))) (F (V w₁ w₂)) $ keep ! (0 ∷ []) $ done !))
 
-  abbrev pub Took : T.rep → U.rep → GName × (GName × GName) → SProp 𝓤
+  abbrev Took : T.rep → U.rep → GName × (GName × GName) → SProp 𝓤
   Took y z νs = sep 𝓤 (sep 𝓤 (A.obs νs.1.0 (T.coded.code y)) (A.bor κ (Body T b₁ o₁ νs.1.0))) (sep 𝓤 (sep 𝓤 (A.obs νs.1.1 (U.coded.code z)) (A.bor κ (Body U b₂ o₂ νs.1.1)))
       (sep 𝓤 (A.lft κ q) (sep 𝓤 (sem 𝓛 (after R R γ νs.0 F)) (sem 𝓛 (after₂ R T U νs.0 νs.1.0 νs.1.1 V)))))
 

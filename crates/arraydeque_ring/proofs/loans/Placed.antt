@@ -8,7 +8,7 @@ module _ {Y : Type 0} where
   placed i n ws ps = splice ps i (i + n) ws
 
   -- the items that are there already
-  pub placed_same : (i n : ℕ) (ps : List Y) → placed i n (take n (drop i ps)) ps ≡ ps
+  placed_same : (i n : ℕ) (ps : List Y) → placed i n (take n (drop i ps)) ps ≡ ps
   placed_same i n ps = ap (λ l. take i ps ++ (take n (drop i ps) ++ l)) (sym (drop-drop n i ps)) ∙ ap (λ l. take i ps ++ l) (take-append-drop n (drop i ps)) ∙ take-append-drop i ps
 
   -- no item changes nothing
@@ -79,7 +79,7 @@ module _ {X : Type 0} where
       ∙ ap₂ (λ l r. l ++ r) (sym (take-map is_some from ps)) (map-append is_some (map Some ws) (drop (from + length ws) ps) ∙ ap₂ (λ l r. l ++ r) (filled-map_Some ws) (sym (drop-map is_some (from + length ws) ps)))
 
   -- as many values in the stead of a run of values fill no place and empty none
-  pub run_filled : (from : ℕ) (xs ws : List X) (ps qs : List (Option X)) → HoldsRun ps from (length xs) xs → length ws ≡ length xs → filled qs ≡ filled ps → filled (with_run from ws qs) ≡ filled ps
+  run_filled : (from : ℕ) (xs ws : List X) (ps qs : List (Option X)) → HoldsRun ps from (length xs) xs → length ws ≡ length xs → filled qs ≡ filled ps → filled (with_run from ws qs) ≡ filled ps
   run_filled from xs ws ps qs run e same =
       let n = length xs in
       let held : replicate n true ≡ take n (drop from (filled ps)) = sym (ap (take n) (drop-map is_some from ps) ∙ take-map is_some n (drop from ps) ∙ ap filled run ∙ filled-map_Some xs) in

@@ -44,7 +44,7 @@ pub use denote.Plain.{uint_vals, uint_Tells}
 pub use denote.RawPtr.{Ptr, RawPtr, block_ptr, null_ptr, ptr_val, in_a_block}
 pub use denote.Ref.{shr_vals, shr_Tells, MutBor, NamedLft, mut_Tells, mut_vals}
 pub use denote.Builtin.{usize, unit, RefOf}
-pub use denote.Signature.{plain, types_at, mut_ref_to, named_lft}
+pub use denote.Signature.{plain, types_at, named_lft}
 pub use denote.Steps.{heard, nothing, owned, opens, closes, peeks, looks, shuts, only}
 pub use denote.Triple.Call.{calls_at, calls_at_last}
 pub use denote.Triple.Entry.{Vals, on_entry}

@@ -11,7 +11,7 @@ pub use Rattle.arraydeque_ring.proofs.memory.Owned.{Place, Row, item_size, of_no
 pub use Rattle.arraydeque_ring.proofs.memory.Rows.{Around, run_out, run_in, place_out, place_in, row_room, to_array, of_array}
 
 -- the words of a `Slots`: the pointer, the capacity and the allocator
-abbrev pub words_val : Ptr → ℕ → Val
+abbrev words_val : Ptr → ℕ → Val
 words_val p n = vstruct (vcons (ptr_val p) (vcons (vint w64 n) (vcons heap_val vnil)))
 
 abbrev pub slots_val : ℕ → ℕ → ℕ → Val
@@ -52,7 +52,7 @@ module _ (E : El) where
 
   module _ {r : Seen} {o n : ℕ} (ok : Fits r o n) where
     -- they say it of any region of as many places
-    pub Fits-as : (r' : Seen) → length r.places ≡ length r'.places → Fits r' o n
+    Fits-as : (r' : Seen) → length r.places ≡ length r'.places → Fits r' o n
     Fits-as r' same = record { capacity = ok.capacity ∙ same; word = ok.word; reach = subst (λ k. k * item_size E + o < 2 ^ 63) same ok.reach }
 
     -- the bytes before a place fit a word, and those of a run are in reach
@@ -94,7 +94,7 @@ module _ (E : El) {M : Type 1} {𝓤 : Ura M} {𝓛 : Logic 𝓤} {K : Type 0} {
       fpack t ((x : Inside (el_x E)) × ((record { places = x.places; steps = x.steps } ≡ r) × (x.capacity ≡ length x.places))) (λ x. fsep ((inside.the_row (R E)).own_val x.0 vs) ftrue) (a, (refl, ok.capacity)) $ s)
 
   -- other places in the stead of those of r, as many: takes [the new places; the right of r]
-  pub slots_remade : K → (g : Global) (r new : Seen E) (b o n : ℕ) → Fits E r o n → length r.places ≡ length new.places
+  slots_remade : K → (g : Global) (r new : Seen E) (b o n : ℕ) → Fits E r o n → length r.places ≡ length new.places
       → Step K 𝓛 (‵ ((Sr E).own_val new (slots_val b o n ∷ [])) ∷ Γ) G (‵ (places E new b o) ∷ ‵ (right E g r b o) ∷ Γ) G
   slots_remade t g r new b o n ok same = step (λ s. move t (1 ∷ []) $ rewrite t 0 (λ (k : ℕ). ‵ (right_to_free (R E) g k (block_ptr b o))) same refl $ move t (1 ∷ 0 ∷ []) $ slots_made t g new b o n (Fits-as E ok new same) $ s)
 

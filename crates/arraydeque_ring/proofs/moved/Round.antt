@@ -11,7 +11,7 @@ distance-rotated t i x n a b c =
 
 -- what is read once a run has moved from the index j on to the index i on
 module _ {X : Type 0} {n t : ℕ} {f : ℕ → Option X} {ps : List (Option X)} (h : Holds n t f ps) (i j len : ℕ) (t_in : t < n) (i_in : i + len ≤ n) (j_in : j + len ≤ n) where
-  pub Holds-moved_to : (d s : ℕ) → d ≡ place_of t i n → s ≡ place_of t j n → Holds n t (look f i j len) (run_moved d s len ps)
+  Holds-moved_to : (d s : ℕ) → d ≡ place_of t i n → s ≡ place_of t j n → Holds n t (look f i j len) (run_moved d s len ps)
   Holds-moved_to d s at_d at_s = record {
     long = length-moved d s len ps ∙ h.long;
     in_region = h.in_region;

@@ -1,5 +1,5 @@
 -- Items that are laid behind a list, in one run of places.
-use Rattle.std.proofs.{Common.{◌≡◌, ℕ, ◌+◌, ◌-◌, ◌≤◌, List, [], ◌++◌, length, take, drop, get_or, slice_get, nat_lt, if◌then◌else◌, Option, Some, None, sym, ap, ◌∙◌, arith}, lemmas.{Bool.Decides.nat_tests, Grind.common_steps, List.{length-append, length-map, append-nil, append_assoc, drop-drop}, Option.slice_get_past}, Math.Seq.take-add}
+use Rattle.std.proofs.{Common.{◌≡◌, ℕ, ◌+◌, ◌-◌, ◌≤◌, List, [], ◌++◌, length, take, drop, get_or, slice_get, nat_lt, if◌then◌else◌, Option, Some, None, sym, ap, ◌∙◌, arith}, lemmas.{Bool.Decides.nat_tests, Grind.common_steps, List.{length-append, length-map, append_assoc, drop-drop}, Option.slice_get_past}, Math.Seq.take-add}
 use Rattle.arraydeque_ring.{specs.{Gaps.IsEmptyRun, Loans.with_run, Places.held_at, Ring.{RingState, up_by}, Steps.{more_puts, more_takes}}, proofs.{fills.Displaced.up_by-both, loans.Placed.length-with_run, places.{Items.{items, get_or-map_Some}, Held.empty_run_of, LaidOut.{LaidOut, LaidOut-by}, Rotated.{MayStartAt, place_of_cases, place_of-run}}}}
 
 module _ {X : Type 0} where
@@ -48,17 +48,6 @@ module _ {X : Type 0} where
 
   abbrev pub shed : ℕ → RingState X → RingState X
   shed m o = record o { items = drop m o.items; start = up_by m o.start o.capacity; steps = more_takes m o.steps }
-
-  pub joined-none : (r o : RingState X) → r ≡ joined 0 r o
-  joined-none r o =
-      let items : r.items ≡ r.items ++ [] = sym (append-nil r.items) in
-      let puts : r.steps.puts ≡ r.steps.puts + 0 = omega arith in
-      λ i. record r { items = items i; steps = record r.steps { puts = puts i } }
-
-  pub shed-none : (o : RingState X) → o ≡ shed 0 o
-  shed-none o =
-      let takes : o.steps.takes ≡ o.steps.takes + 0 = omega arith in
-      λ i. record o { steps = record o.steps { takes = takes i } }
 
   pub joined-both : (j k : ℕ) (r o : RingState X) → joined k (joined j r o) (shed j o) ≡ joined (j + k) r o
   joined-both j k r o =

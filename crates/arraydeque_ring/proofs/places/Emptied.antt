@@ -3,7 +3,7 @@ use Rattle.std.proofs.{Common.{◌≡◌, ℕ, ◌+◌, ◌<◌, ◌≤◌, ◌=
 use Rattle.arraydeque_ring.{specs.{Ring.values, Gaps.run_emptied}, proofs.moved.Flat.same_places}
 
 module _ {X : Type 0} where
-  pub values-append : (ps qs : List (Option X)) → values (ps ++ qs) ≡ values ps ++ values qs
+  values-append : (ps qs : List (Option X)) → values (ps ++ qs) ≡ values ps ++ values qs
   values-append [] qs = refl
   values-append (None ∷ ps) qs = values-append ps qs
   values-append (Some x ∷ ps) qs = ap (λ l. x ∷ l) (values-append ps qs)

@@ -102,7 +102,7 @@ module _ {X : Type 0} {n t : ℕ} {xs : List X} {ps : List (Option X)} (l : Laid
   LaidOut-restart none = let empty : replicate n None ≡ ps = ap (λ m. replicate m None) (sym l.long) ∙ sym (AreAllEmpty-LaidOut none) in subst (LaidOut {X = X} n 0 []) empty (LaidOut-nothing n)
 
   -- c is written at the place of the index k
-  pub LaidOut-write : {ys : List X} (k : ℕ) (c : Option X) → k < n → length ys ≤ n → c ≡ slice_get ys k → ((i : ℕ) → i < n → i ≢ k → slice_get xs i ≡ slice_get ys i) → LaidOut n t ys (set ps (place_of t k n) c)
+  LaidOut-write : {ys : List X} (k : ℕ) (c : Option X) → k < n → length ys ≤ n → c ≡ slice_get ys k → ((i : ℕ) → i < n → i ≢ k → slice_get xs i ≡ slice_get ys i) → LaidOut n t ys (set ps (place_of t k n) c)
   LaidOut-write k c lt within here others = LaidOut-by within (Holds-set (holds l) k c lt here others)
 
   pub LaidOut-put_back : (x : X) → length xs < n → LaidOut n t (xs ++ x ∷ []) (set ps (place_of t (length xs) n) (Some x))

@@ -5,11 +5,11 @@ use Rattle.arraydeque_ring.{specs.Retained.{answers_until, count_moved, MayBeAsk
 pub until_goes : (k n : ℕ) → k < n → answers_until k n ≡ replicate k true ++ false ∷ []
 until_goes k n lt = ap (λ b. replicate k true ++ (if b then [] else false ∷ [])) (ne_eqb k n (omega arith))
 
-pub until_all : (n : ℕ) → answers_until n n ≡ replicate n true
+until_all : (n : ℕ) → answers_until n n ≡ replicate n true
 until_all n = ap (λ b. replicate n true ++ (if b then [] else false ∷ [])) (eq-eqb n n refl) ∙ append-nil (replicate n true)
 
 -- n items that stay stand before
-pub until_behind : (n k m : ℕ) → answers_until (n + k) (n + m) ≡ replicate n true ++ answers_until k m
+until_behind : (n k m : ℕ) → answers_until (n + k) (n + m) ≡ replicate n true ++ answers_until k m
 until_behind n k m =
     let test : (n + k == n + m) ≡ (k == m) = elim (cases_eq k m) [
       | inl same ↦ eq-eqb (n + k) (n + m) (omega arith) ∙ sym (eq-eqb k m same)
@@ -37,13 +37,13 @@ module _ {X F : Type 0} (R : F → X → Bool → F → Type 0) where
   answer_next f g h k xs x b lt is told said = let long = length-replicate k true in answers_push R f g h (replicate k true) xs x b (omega arith) (rw long is) told said
 
   -- what is answered at a list is so at a longer one
-  pub told_longer : (f g : F) (bs : List Bool) (xs ys : List X) → ReturnsInTurn R f bs xs g → ReturnsInTurn R f bs (xs ++ ys) g
+  told_longer : (f g : F) (bs : List Bool) (xs ys : List X) → ReturnsInTurn R f bs xs g → ReturnsInTurn R f bs (xs ++ ys) g
   told_longer f g [] xs ys told = told
   told_longer f g (b ∷ bs) [] ys told = absurd told
   told_longer f g (b ∷ bs) (x ∷ xs) ys told = (told.0, told.1, told_longer told.0 g bs xs ys told.2)
 
   -- answers at all of one list, and then at another
-  pub told_behind : (f g h : F) (bs cs : List Bool) (xs ys : List X) → length bs ≡ length xs → ReturnsInTurn R f bs xs g → ReturnsInTurn R g cs ys h → ReturnsInTurn R f (bs ++ cs) (xs ++ ys) h
+  told_behind : (f g h : F) (bs cs : List Bool) (xs ys : List X) → length bs ≡ length xs → ReturnsInTurn R f bs xs g → ReturnsInTurn R g cs ys h → ReturnsInTurn R f (bs ++ cs) (xs ++ ys) h
   told_behind f g h [] cs [] ys long told after = rw told after
   told_behind f g h [] cs (x ∷ xs) ys long told after = absurd (omega arith)
   told_behind f g h (b ∷ bs) cs [] ys long told after = absurd told

@@ -3,7 +3,7 @@ use Rattle.arraydeque_ring.{proofs.{memory.Kit.{◌≡◌, refl, sym, ap, ◌∙
 use mathlib.Core.Path.{ap₂}
 use types.{Follow.after₂, Kit.split3}
 use contract.Lifetimes.{Lfts, AllOutlive}
-use denote.{Array.Array, Follow.both_by, Param.{bounded, number}, Ref.{MutBor, NamedLft, mut_vals, mut_Tells}, Signature.{mut_ref_to, named_lft}, Triple.{Clauses.{lasts, Lasts}, Entry.on_entry, Walked.{Goes-spent_ref}}}
+use denote.{Array.Array, Follow.both_by, Param.{bounded, number}, Ref.{MutBor, NamedLft, mut_vals, mut_Tells}, Signature.{named_lft}, Triple.{Clauses.{lasts, Lasts}, Entry.on_entry, Walked.{Goes-spent_ref}}}
 use mir.Syntax.{dcons, dnil, a_type, a_number}
 use Rattle.arraydeque_ring.specs.contracts.slots.loan.Loan as loan
 use Rattle.arraydeque_ring.proofs.slots.loan.Loan.TheLaws as loan_laws
@@ -19,7 +19,7 @@ unfolding both_by
 as_mut_slices_spec 𝓤 𝓛 𝓜 𝓡 wired X N B L fits LB members dict dict_met =
     let E : El = record { row = X; laws = L } in let C : RattleType = number N in
     let ended = f.ended X C B members dict in let c = f.clauses X C B members dict 𝓛 𝓜.mem 𝓡.returns in
-    let stayed : Stays ended.signature.params ended.kept = (stay_dropped (mut_ref_to (0 ∷ []) tt (plain (λ _. Dr E N B))) no, tt) in
+    let stayed : Stays ended.signature.params ended.kept = (stay_dropped _ no, tt) in
     let W = walk_of 𝓛 ended stayed c in let 𝓣 = tables 𝓤 𝓛.H 𝓜 𝓡 𝓡.env in
     let args = bounded (a_type ∷ a_number ∷ a_type ∷ []) (X, (C, (B, tt))) (dcons dict dnil) in let here : Fn = inst_fn args code.function in
     proved 𝓛 ended stayed c 𝓜 𝓡 (Goes-spent_ref 𝓛 4 (0 ∷ []) tt (plain (λ _. Dr E N B)), tt)

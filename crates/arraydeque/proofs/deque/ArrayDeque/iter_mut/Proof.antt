@@ -2,7 +2,7 @@
 use Rattle.arraydeque_ring.{proofs.memory.Kit.{◌≡◌, refl, sym, ap, ◌∙◌, [], ◌∷◌, ◌+◌, ◌<◌, ◌≤◌, length, emp, id⊢, fact_i, ftrue, flft, Fn, inst_fn, named, ◌⊑◌, fact, tables, ‵, raw, ◌⊛◌, some, later, ◌$◌, ◌∵◌, !, qed, move, use0, use1, use2, drop, split, join, pick, frame, rewrite, await, fsplit, fjoin, suffices, done, enter, addr, stop, no_more, and_then, returns, alloc_all, pass_all, free_all, look_at, get, through, sets, lands_as, no, plain, Is, shows, peeks, Stays, walk_of, says, stay_dropped, ends_at, nothing, heard, calls_at, framed, triple_of, param_laws, RattleType, El, R, el_x, proved}, specs.Loans.{LoanState, remaining}}
 use types.Kit.{split3}
 use contract.Lifetimes.{Lfts, AllOutlive}
-use denote.{Param.{bounded, number}, Ref.{NamedLft, mut_vals, mut_Tells}, Signature.{mut_ref_to, named_lft}, Triple.{Clauses.{lasts, Lasts}, Entry.on_entry, Walked.{Goes-spent_ref}}}
+use denote.{Param.{bounded, number}, Ref.{NamedLft, mut_vals, mut_Tells}, Signature.{named_lft}, Triple.{Clauses.{lasts, Lasts}, Entry.on_entry, Walked.{Goes-spent_ref}}}
 use mir.Syntax.{dcons, dnil, a_type, a_number}
 use Rattle.arraydeque_ring.specs.contracts.slots.loan.Loan as loan
 use Rattle.arraydeque_ring.proofs.slots.loan.Loan.TheLaws as loan_laws
@@ -19,7 +19,7 @@ pub iter_mut_spec : {M : Type 1} → stated.statement M
 iter_mut_spec 𝓤 𝓛 𝓜 𝓡 wired X N B L fits LB members dict dict_met =
     let E : El = record { row = X; laws = L } in let C : RattleType = number N in
     let ended = f.ended X C B members dict in let c = f.clauses X C B members dict 𝓛 𝓜.mem 𝓡.returns in
-    let stayed : Stays ended.signature.params ended.kept = (stay_dropped (mut_ref_to (0 ∷ []) tt (plain (λ _. Dr E N B))) no, tt) in
+    let stayed : Stays ended.signature.params ended.kept = (stay_dropped _ no, tt) in
     let W = walk_of 𝓛 ended stayed c in let 𝓣 = tables 𝓤 𝓛.H 𝓜 𝓡 𝓡.env in
     let args = bounded (a_type ∷ a_number ∷ a_type ∷ []) (X, (C, (B, tt))) (dcons dict dnil) in let here : Fn = inst_fn args code.function in
     proved 𝓛 ended stayed c 𝓜 𝓡 (Goes-spent_ref 𝓛 4 (0 ∷ []) tt (plain (λ _. Dr E N B)), tt)

@@ -5,7 +5,7 @@ use base.Logic.{sep}
 use types.Follow as follow
 use types.{Follow.after₂, Kit.{split3, group}, Late.{ages, bor_new_deep}, Logic.sem, Mut.open_ref, Tokens.name_new}
 use contract.Lifetimes.{Lfts, AllOutlive}
-use denote.{Array.Array, Follow.both_by, Param.{bounded, number}, Ref.{MutBor, NamedLft, mut_vals, mut_Tells}, Signature.{mut_ref_to, named_lft}, Triple.{Clauses.{lasts, Lasts}, Walked.{Goes-spent_ref}}}
+use denote.{Array.Array, Follow.both_by, Param.{bounded, number}, Ref.{MutBor, NamedLft, mut_vals, mut_Tells}, Signature.{named_lft}, Triple.{Clauses.{lasts, Lasts}, Walked.{Goes-spent_ref}}}
 use mir.Syntax.{dcons, dnil, a_type, a_number}
 use Rattle.arraydeque_ring.specs.RingLends as ring
 use Rattle.arraydeque_ring.specs.contracts.slots.loan.Loan as loan
@@ -21,7 +21,7 @@ unfolding both_by
 lend_spec 𝓤 𝓛 𝓜 𝓡 wired X N B L fits LB members dict dict_met =
     let E : El = record { row = X; laws = L } in let C : RattleType = number N in
     let f_ended = f.ended X C B members dict in let c = f.clauses X C B members dict 𝓛 𝓜.mem 𝓡.returns in
-    let stayed : Stays f_ended.signature.params f_ended.kept = (stay_dropped (mut_ref_to (0 ∷ []) tt (plain (λ _. Dr E N B))) no, tt) in
+    let stayed : Stays f_ended.signature.params f_ended.kept = (stay_dropped _ no, tt) in
     let W = walk_of 𝓛 f_ended stayed c in let 𝓣 = tables 𝓤 𝓛.H 𝓜 𝓡 𝓡.env in
     let args = bounded (a_type ∷ a_number ∷ a_type ∷ []) (X, (C, (B, tt))) (dcons dict dnil) in let here : Fn = inst_fn args code.function in
     proved 𝓛 f_ended stayed c 𝓜 𝓡 (Goes-spent_ref 𝓛 4 (0 ∷ []) tt (plain (λ _. Dr E N B)), tt)

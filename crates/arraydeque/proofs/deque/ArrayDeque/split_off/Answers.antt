@@ -11,7 +11,7 @@ pub returns : goal.returns
 returns g c =
     let cut = c.in_ok-ring.ensures in
     rw (← c.self.view_is) (record {
-      tail = ap of_ring cut.tail;
+      tail = ap of_ring (c.of.ensures ∙ cut.tail);
       items = ap (λ (r : RingState g.row.T.Denot). r.items) cut.kept;
       start = ap (λ (r : RingState g.row.T.Denot). r.start) cut.kept;
       steps = ap (λ (r : RingState g.row.T.Denot). r.steps) cut.kept;

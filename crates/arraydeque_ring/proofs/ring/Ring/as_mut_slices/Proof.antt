@@ -1,5 +1,5 @@
 -- `as_mut_slices` is `lend`, and the ring follows the loan's slices. Assumes `Logic`.
-use Rattle.arraydeque_ring.{proofs.{memory.Kit.{◌≡◌, refl, sym, ap, ◌∙◌, List, [], ◌∷◌, ◌++◌, ◌+◌, ◌≤◌, length, emp, id⊢, fact_i, ftrue, flft, Fn, inst_fn, named, ◌⊑◌, fact, tables, ‵, raw, ◌⊛◌, some, later, ◌$◌, ◌∵◌, !, qed, move, use0, use1, use2, drop, split, join, pick, frame, rewrite, await, fsplit, fjoin, suffices, done, enter, addr, stop, no_more, and_then, returns, alloc_all, pass_all, free_all, look_at, get, through, sets, lands_as, no, plain, mem, Is, shows, peeks, Stays, walk_of, says_two, stay_dropped, ends_at, nothing, heard, calls_at, framed, triple_of, param_laws, El, R, args, el_x, proved, ap₂, after₂, split3, Array, both_by, MutBor, NamedLft, mut_vals, mut_Tells, mut_ref_to, named_lft, lasts, Lasts, on_entry, Goes-spent_ref}, loans.{Names.followed_both, Placed.{as_many-twice}, Rings.Rr, Slices.{Slices, slices_lawful}}, ring.Ring.lend.Met.met, slots.loan.Loan.into_slices.Met.{met as into_met}}, specs.{Loans.{LoanState, remaining, as_many}, Ring.RingState, RingLends.{rewritten, lends_loan, lends_slices}}}
+use Rattle.arraydeque_ring.{proofs.{memory.Kit.{◌≡◌, refl, sym, ap, ◌∙◌, List, [], ◌∷◌, ◌++◌, ◌+◌, ◌≤◌, length, emp, id⊢, fact_i, ftrue, flft, Fn, inst_fn, named, ◌⊑◌, fact, tables, ‵, raw, ◌⊛◌, some, later, ◌$◌, ◌∵◌, !, qed, move, use0, use1, use2, drop, split, join, pick, frame, rewrite, await, fsplit, fjoin, suffices, done, enter, addr, stop, no_more, and_then, returns, alloc_all, pass_all, free_all, look_at, get, through, sets, lands_as, no, plain, mem, Is, shows, peeks, Stays, walk_of, says_two, stay_dropped, ends_at, nothing, heard, calls_at, framed, triple_of, param_laws, El, R, args, el_x, proved, ap₂, after₂, split3, Array, both_by, MutBor, NamedLft, mut_vals, mut_Tells, named_lft, lasts, Lasts, on_entry, Goes-spent_ref}, loans.{Names.followed_both, Placed.{as_many-twice}, Rings.Rr, Slices.{Slices, slices_lawful}}, ring.Ring.lend.Met.met, slots.loan.Loan.into_slices.Met.{met as into_met}}, specs.{Loans.{LoanState, remaining, as_many}, Ring.RingState, RingLends.{rewritten, lends_loan, lends_slices}}}
 use Rattle.arraydeque_ring.specs.contracts.slots.loan.Loan as loan
 use Rattle.arraydeque_ring.proofs.slots.loan.Loan.TheLaws as loan_laws
 use Rattle.arraydeque_ring.specs.contracts.ring.Ring.lend as g
@@ -12,7 +12,7 @@ pub as_mut_slices_spec : {M : Type 1} → stated.statement M
 unfolding both_by
 as_mut_slices_spec 𝓤 𝓛 𝓜 𝓡 wired X L =
     let E : El = record { row = X; laws = L } in let here : Fn = inst_fn (args E) code.function in
-    let ended = f.ended X in let stayed : Stays ended.signature.params ended.kept = (stay_dropped (mut_ref_to (0 ∷ []) tt (plain (λ _. Rr E))) no, tt) in
+    let ended = f.ended X in let stayed : Stays ended.signature.params ended.kept = (stay_dropped _ no, tt) in
     let c = f.clauses X 𝓛 𝓜.mem 𝓡.returns in let W = walk_of 𝓛 ended stayed c in let 𝓣 = tables 𝓤 𝓛.H 𝓜 𝓡 𝓡.env in
     proved 𝓛 ended stayed c 𝓜 𝓡 (Goes-spent_ref 𝓛 2 (0 ∷ []) tt (plain (λ _. Rr E)), tt)
     (f.Key.name (args E)) here (code.unfolded 𝓤 𝓛.H 𝓜 𝓡 wired (X, tt))

@@ -1,5 +1,5 @@
 -- `lend` lends all items: its slots lend two runs, and the ring follows what they follow. Assumes `Logic`.
-use Rattle.arraydeque_ring.{proofs.{memory.{Kit.{◌≡◌, refl, List, [], ◌∷◌, ℕ, ◌+◌, ◌<◌, ◌≤◌, ◌^◌, arith, length, full_share, emp, id⊢, fact_i, Share, GName, ftrue, fsep, fat, flft, fauth, Fn, inst_fn, named, w64, Val, vptr, ◌⊑◌, fact, tables, sem, Borrowed, owns, types_at, ‵, raw, ◌⊛◌, some, later, ◌$◌, ◌∵◌, !, qed, move, keep, use0, use1, use2, drop, split, join, pick, frame, rewrite, await, fsplit, fsplit3, fjoin, fjoin3, fpack, feq_i, suffices, done, enter, of_opd, addr, load, look, stop, fld, no_more, and_then, returns, alloc_all, pass_all, free_all, look_at, get, through, sets, lands_as, no, plain, usize, uint_vals, mem, part_at, Is, shows, peeks, Stays, walk_of, says_two, stay_dropped, ends_at, nothing, heard, calls_at, framed, triple_of, param_laws, El, R, args, el_x, proved, after₂, split3, group, name_new, Array, both_by, MutBor, NamedLft, mut_vals, mut_Tells, mut_ref_to, named_lft, lasts, Lasts, Goes-spent_ref, pure_i}, Regions.{Sr, Seen, HoldsRun, IsFilledRun}}, loans.{Lending.{Cut, cut_at_end, ended, with_slots, kept_after, seen_after, both_written, lent_items, first_filled, second_filled}, Made.loan_renamed, Placed.run_length, Names.{hands_on, followed_both}, Rings.{Rr, Fields, Others, Way, fields_out, slots_out, ring_whole}}, places.{LaidOut.length_within, Opened.{opened, view, Kept}}, slots.Slots.lend_round.Met.met}, specs.{Loans.{LoanState}, Ring.RingState, RingLends.rewritten}}
+use Rattle.arraydeque_ring.{proofs.{memory.{Kit.{◌≡◌, refl, List, [], ◌∷◌, ℕ, ◌+◌, ◌<◌, ◌≤◌, ◌^◌, arith, length, full_share, emp, id⊢, fact_i, Share, GName, ftrue, fsep, fat, flft, fauth, Fn, inst_fn, named, w64, Val, vptr, ◌⊑◌, fact, tables, sem, Borrowed, owns, types_at, ‵, raw, ◌⊛◌, some, later, ◌$◌, ◌∵◌, !, qed, move, keep, use0, use1, use2, drop, split, join, pick, frame, rewrite, await, fsplit, fsplit3, fjoin, fjoin3, fpack, feq_i, suffices, done, enter, of_opd, addr, load, look, stop, fld, no_more, and_then, returns, alloc_all, pass_all, free_all, look_at, get, through, sets, lands_as, no, plain, usize, uint_vals, mem, part_at, Is, shows, peeks, Stays, walk_of, says_two, stay_dropped, ends_at, nothing, heard, calls_at, framed, triple_of, param_laws, El, R, args, el_x, proved, after₂, split3, group, name_new, Array, both_by, MutBor, NamedLft, mut_vals, mut_Tells, named_lft, lasts, Lasts, Goes-spent_ref, pure_i}, Regions.{Sr, Seen, HoldsRun, IsFilledRun}}, loans.{Lending.{Cut, cut_at_end, ended, with_slots, kept_after, seen_after, both_written, lent_items, first_filled, second_filled}, Made.loan_renamed, Placed.run_length, Names.{hands_on, followed_both}, Rings.{Rr, Fields, Others, Way, fields_out, slots_out, ring_whole}}, places.{LaidOut.length_within, Opened.{opened, view, Kept}}, slots.Slots.lend_round.Met.met}, specs.{Loans.{LoanState}, Ring.RingState, RingLends.rewritten}}
 use Rattle.std.{specs.Prelude.{◌-◌, min}, proofs.lemmas.List.nil_from_length}
 use types.{Follow.after, Late.{ages, bor_new_deep}, Mut.open_ref, Run.well_typed}
 use base.Share
@@ -18,7 +18,7 @@ pub lend_spec : {M : Type 1} → stated.statement M
 unfolding both_by
 lend_spec 𝓤 𝓛 𝓜 𝓡 wired X L =
     let E : El = record { row = X; laws = L } in let here : Fn = inst_fn (args E) code.function in
-    let f_ended = f.ended X in let stayed : Stays f_ended.signature.params f_ended.kept = (stay_dropped (mut_ref_to (0 ∷ []) tt (plain (λ _. Rr E))) no, tt) in
+    let f_ended = f.ended X in let stayed : Stays f_ended.signature.params f_ended.kept = (stay_dropped _ no, tt) in
     let c = f.clauses X 𝓛 𝓜.mem 𝓡.returns in let W = walk_of 𝓛 f_ended stayed c in let 𝓣 = tables 𝓤 𝓛.H 𝓜 𝓡 𝓡.env in
     proved 𝓛 f_ended stayed c 𝓜 𝓡 (Goes-spent_ref 𝓛 2 (0 ∷ []) tt (plain (λ _. Rr E)), tt)
     (f.Key.name (args E)) here (code.unfolded 𝓤 𝓛.H 𝓜 𝓡 wired (X, tt))

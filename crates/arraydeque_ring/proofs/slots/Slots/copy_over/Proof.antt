@@ -10,7 +10,7 @@ use Rattle.arraydeque_ring.proofs.slots.Slots.copy_over.Code as code
 pub copy_over_spec : {M : Type 1} → stated.statement M
 copy_over_spec 𝓤 𝓛 𝓜 𝓡 wired X L =
     let E : El = record { row = X; laws = L } in let here : Fn = inst_fn (args E) code.function in
-    let ended = f.ended X in let stayed : Stays ended.signature.params ended.kept = (stay_ref (0 ∷ []) tt (plain (λ _. Sr E)), (stay_dropped (plain (λ _. usize)) yes, (stay_ref (1 ∷ []) tt (plain (λ _. Sr E)), (stay_dropped (plain (λ _. usize)) yes, (stay_dropped (plain (λ _. usize)) yes, tt))))) in
+    let ended = f.ended X in let stayed : Stays ended.signature.params ended.kept = (stay_ref (0 ∷ []) tt (plain (λ _. Sr E)), (stay_dropped _ yes, (stay_ref (1 ∷ []) tt (plain (λ _. Sr E)), (stay_dropped _ yes, (stay_dropped _ yes, tt))))) in
     let c = f.clauses X 𝓛 𝓜.mem 𝓡.returns in let W = walk_of 𝓛 ended stayed c in let 𝓣 = tables 𝓤 𝓛.H 𝓜 𝓡 𝓡.env in
     let Copies = triple_of 𝓛 (copy.signature X) (copy.spec X 𝓛 𝓜.mem 𝓡.returns) in
     let word = Goes-dropped 𝓛 3 (plain (λ _. usize)) yes (λ κs x w. refl) in

@@ -9,7 +9,7 @@ use Rattle.arraydeque_ring.proofs.slots.Slots.give_back.Code as code
 pub give_back_spec : {M : Type 1} → stated.statement M
 give_back_spec 𝓤 𝓛 𝓜 𝓡 wired X L =
     let E : El = record { row = X; laws = L } in let here : Fn = inst_fn (args E) code.function in
-    let ended = f.ended X in let stayed : Stays ended.signature.params ended.kept = (stay_dropped (plain (λ _. Sr E)) no, (stay_dropped (RefOf (0 ∷ []) tt (plain (λ _. heap.the_row)) (λ _. tt)) yes, tt)) in
+    let ended = f.ended X in let stayed : Stays ended.signature.params ended.kept = (stay_dropped _ no, (stay_dropped _ yes, tt)) in
     let c = f.clauses X 𝓛 𝓜.mem 𝓡.returns in let W = walk_of 𝓛 ended stayed c in let 𝓣 = tables 𝓤 𝓛.H 𝓜 𝓡 𝓡.env in
     proved_at 𝓛 ended stayed c 𝓜 𝓡 (Goes-dropped 𝓛 2 (plain (λ _. Sr E)) no (λ κs x w. refl), (Goes-dropped 𝓛 2 (RefOf (0 ∷ []) tt (plain (λ _. heap.the_row)) (λ _. tt)) yes (λ κs x w. refl), tt))
     (f.Key.name (args E)) here (code.unfolded 𝓤 𝓛.H 𝓜 𝓡 wired (X, tt))

@@ -1,5 +1,5 @@
 -- `lend_round` cuts a run that goes round the region's end in two, and lends both. Assumes `Logic`.
-use Rattle.arraydeque_ring.{proofs.{memory.{Kit.{◌≡◌, refl, sym, ap, subst, ◌∙◌, List, [], ◌∷◌, ℕ, ◌<◌, ◌≤◌, ◌^◌, lit<, arith, length, emp, id⊢, fact_i, ftrue, flft, Fn, inst_fn, named, w64, Val, vptr, ◌⊑◌, fact, tables, owns, types_at, ‵, raw, ◌⊛◌, some, later, ◌$◌, ◌∵◌, !, qed, move, keep, use0, use1, use2, drop, split, join, pick, frame, await, fsplit, fsplit3, fjoin, fjoin3, feq_i, feq_l, flt_l, suffices, done, enter, of_opd, lit, bin, addr, load, stop, fld, no_more, whole, sub, look_in, only, and_then, returns, alloc_all, pass_all, free_all, look_at, get, through, sets, lands_as, yes, no, plain, usize, uint_vals, uint_Tells, Is, shows, peeks, Stays, walk_of, says_two, stay_dropped, Goes-dropped, ends_at, nothing, heard, calls_at, framed, triple_of, param_laws, El, R, args, el_x, proved, split3, both_by, NamedLft, mut_vals, mut_Tells, mut_ref_to, named_lft, lasts, Lasts, Goes-spent_ref, pure_i}, Regions.{Sr, Seen, slots_open, slots_close, HoldsRun, IsFilledRun}}, slots.Slots.lend_two.Met.met}, specs.{Lends.lends_loan, Loans.{LoanState, AreApart}}}
+use Rattle.arraydeque_ring.{proofs.{memory.{Kit.{◌≡◌, refl, sym, ap, subst, ◌∙◌, List, [], ◌∷◌, ℕ, ◌<◌, ◌≤◌, ◌^◌, lit<, arith, length, emp, id⊢, fact_i, ftrue, flft, Fn, inst_fn, named, w64, Val, vptr, ◌⊑◌, fact, tables, owns, types_at, ‵, raw, ◌⊛◌, some, later, ◌$◌, ◌∵◌, !, qed, move, keep, use0, use1, use2, drop, split, join, pick, frame, await, fsplit, fsplit3, fjoin, fjoin3, feq_i, feq_l, flt_l, suffices, done, enter, of_opd, lit, bin, addr, load, stop, fld, no_more, whole, sub, look_in, only, and_then, returns, alloc_all, pass_all, free_all, look_at, get, through, sets, lands_as, yes, no, plain, usize, uint_vals, uint_Tells, Is, shows, peeks, Stays, walk_of, says_two, stay_dropped, Goes-dropped, ends_at, nothing, heard, calls_at, framed, triple_of, param_laws, El, R, args, el_x, proved, split3, both_by, NamedLft, mut_vals, mut_Tells, named_lft, lasts, Lasts, Goes-spent_ref, pure_i}, Regions.{Sr, Seen, slots_open, slots_close, HoldsRun, IsFilledRun}}, slots.Slots.lend_two.Met.met}, specs.{Lends.lends_loan, Loans.{LoanState, AreApart}}}
 use Rattle.std.{specs.Prelude.{◌-◌, min}, below.core.proofs.int.usize.min.Met.{met as e_met}}
 use Rattle.arraydeque_ring.specs.contracts.slots.loan.Loan as loan
 use Rattle.arraydeque_ring.proofs.slots.loan.Loan.TheLaws as loan_laws
@@ -13,7 +13,7 @@ pub lend_round_spec : {M : Type 1} → stated.statement M
 unfolding both_by
 lend_round_spec 𝓤 𝓛 𝓜 𝓡 wired X L =
     let E : El = record { row = X; laws = L } in let here : Fn = inst_fn (args E) code.function in
-    let ended = f.ended X in let stayed : Stays ended.signature.params ended.kept = (stay_dropped (mut_ref_to (0 ∷ []) tt (plain (λ _. Sr E))) no, (stay_dropped (plain (λ _. usize)) yes, (stay_dropped (plain (λ _. usize)) yes, tt))) in
+    let ended = f.ended X in let stayed : Stays ended.signature.params ended.kept = (stay_dropped _ no, (stay_dropped _ yes, (stay_dropped _ yes, tt))) in
     let c = f.clauses X 𝓛 𝓜.mem 𝓡.returns in let W = walk_of 𝓛 ended stayed c in let 𝓣 = tables 𝓤 𝓛.H 𝓜 𝓡 𝓡.env in
     let word = Goes-dropped 𝓛 2 (plain (λ _. usize)) yes (λ κs x w. refl) in
     proved 𝓛 ended stayed c 𝓜 𝓡 (Goes-spent_ref 𝓛 2 (0 ∷ []) tt (plain (λ _. Sr E)), (word, (word, tt)))

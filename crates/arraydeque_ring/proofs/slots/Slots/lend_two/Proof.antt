@@ -1,5 +1,5 @@
 -- `lend_two` lends the values of two runs, and the region follows them under one name. Assumes `Logic`.
-use Rattle.arraydeque_ring.{proofs.{memory.{Kit.{◌≡◌, refl, sym, ap, subst, ◌∙◌, List, [], ◌∷◌, map, ℕ, ◌+◌, ◌*◌, ◌<◌, ◌≤◌, ◌^◌, arith, length, take, length-map, drop_list, Some, Ura, SProp, ent, sep, GName, ftrue, flft, fobs, fbor, Fn, inst_fn, named, w64, vint, vptr, Env, ◌⊑◌, fact, tables, Logic, sem, Borrowed, owns, types_at, ‵, raw, ◌⊛◌, some, later, at_ret, ◌$◌, ◌∵◌, !, qed, by, move, keep, use1, use2, drop, split, join, pick, frame, rewrite, await, fsplit, fsplit3, fjoin, feq_i, feq_l, suffices, done, whole, sub, look_in, agg, enter, of_opd, bin, load, stop, fld, no_more, and_then, first, blocks, exec, returns, alloc_all, pass_all, free_all, look_at, get, through, sets, sets_last, env, yes, no, plain, usize, uint_vals, uint_Tells, mem, Stays, walk_of, says_two, stay_dropped, Goes-dropped, ends_at, nothing, heard, after, El, R, args, el_x, proved, after₂, split3, group, SemTy, all, all_e, apply∗, follows, both_by, MutBor, NamedLft, mut_vals, mut_Tells, mut_ref_to, named_lft, MutSlice, slice_val, Goes-spent_ref, Global, Fml}, Regions.{Sr, Seen, Fits, near, run_fits, Frame, slots_whole, slots_open, scaled, item_size, Place, places_owned, IsFilledRun, HoldsRun}}, loans.{Made.{loan_val, loan_made}, Names.takes_named, Placed.{placed, apart_within, as_many-same, two_filled, length-written_over, written_over-same}, Runs.{run, News, Filling, two_out, same_cells}}, places.Held.length_filled}, specs.{Loans.{LoanState, as_many, with_run, written_over, AreApart}, Steps.more_lends}}
+use Rattle.arraydeque_ring.{proofs.{memory.{Kit.{◌≡◌, refl, sym, ap, subst, ◌∙◌, List, [], ◌∷◌, map, ℕ, ◌+◌, ◌*◌, ◌<◌, ◌≤◌, ◌^◌, arith, length, take, length-map, drop_list, Some, Ura, SProp, ent, sep, GName, ftrue, flft, fobs, fbor, Fn, inst_fn, named, w64, vint, vptr, Env, ◌⊑◌, fact, tables, Logic, sem, Borrowed, owns, types_at, ‵, raw, ◌⊛◌, some, later, at_ret, ◌$◌, ◌∵◌, !, qed, by, move, keep, use1, use2, drop, split, join, pick, frame, rewrite, await, fsplit, fsplit3, fjoin, feq_i, feq_l, suffices, done, whole, sub, look_in, agg, enter, of_opd, bin, load, stop, fld, no_more, and_then, first, blocks, exec, returns, alloc_all, pass_all, free_all, look_at, get, through, sets, sets_last, env, yes, no, plain, usize, uint_vals, uint_Tells, mem, Stays, walk_of, says_two, stay_dropped, Goes-dropped, ends_at, nothing, heard, after, El, R, args, el_x, proved, after₂, split3, group, SemTy, all, all_e, apply∗, follows, both_by, MutBor, NamedLft, mut_vals, mut_Tells, named_lft, MutSlice, slice_val, Goes-spent_ref, Global, Fml}, Regions.{Sr, Seen, Fits, near, run_fits, Frame, slots_whole, slots_open, scaled, item_size, Place, places_owned, IsFilledRun, HoldsRun}}, loans.{Made.{loan_val, loan_made}, Names.takes_named, Placed.{placed, apart_within, as_many-same, two_filled, length-written_over, written_over-same}, Runs.{run, News, Filling, two_out, same_cells}}, places.Held.length_filled}, specs.{Loans.{LoanState, as_many, with_run, written_over, AreApart}, Steps.more_lends}}
 use types.SemTy.{Arr}
 use base.Stored.{coded_list}
 use denote.FollowSlice.{slice_of}
@@ -54,7 +54,7 @@ pub lend_two_spec : {M : Type 1} → stated.statement M
 unfolding both_by
 lend_two_spec 𝓤 𝓛 𝓜 𝓡 wired X L =
     let E : El = record { row = X; laws = L } in let here : Fn = inst_fn (args E) code.function in
-    let ended = f.ended X in let stayed : Stays ended.signature.params ended.kept = (stay_dropped (mut_ref_to (0 ∷ []) tt (plain (λ _. Sr E))) no, (stay_dropped (plain (λ _. usize)) yes, (stay_dropped (plain (λ _. usize)) yes, (stay_dropped (plain (λ _. usize)) yes, (stay_dropped (plain (λ _. usize)) yes, tt))))) in
+    let ended = f.ended X in let stayed : Stays ended.signature.params ended.kept = (stay_dropped _ no, (stay_dropped _ yes, (stay_dropped _ yes, (stay_dropped _ yes, (stay_dropped _ yes, tt))))) in
     let c = f.clauses X 𝓛 𝓜.mem 𝓡.returns in let W = walk_of 𝓛 ended stayed c in let 𝓣 = tables 𝓤 𝓛.H 𝓜 𝓡 𝓡.env in
     let word = Goes-dropped 𝓛 2 (plain (λ _. usize)) yes (λ κs x w. refl) in
     proved 𝓛 ended stayed c 𝓜 𝓡 (Goes-spent_ref 𝓛 2 (0 ∷ []) tt (plain (λ _. Sr E)), (word, (word, (word, (word, tt)))))

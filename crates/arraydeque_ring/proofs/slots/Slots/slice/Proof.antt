@@ -8,7 +8,7 @@ use Rattle.arraydeque_ring.proofs.slots.Slots.slice.Code as code
 pub slice_spec : {M : Type 1} → stated.statement M
 slice_spec 𝓤 𝓛 𝓜 𝓡 wired X L =
     let E : El = record { row = X; laws = L } in let here : Fn = inst_fn (args E) code.function in
-    let ended = f.ended X in let stayed : Stays ended.signature.params ended.kept = (stay_dropped (RefOf (0 ∷ []) tt (plain (λ _. Sr E)) (λ _. tt)) yes, (stay_dropped (plain (λ _. usize)) yes, (stay_dropped (plain (λ _. usize)) yes, tt))) in
+    let ended = f.ended X in let stayed : Stays ended.signature.params ended.kept = (stay_dropped _ yes, (stay_dropped _ yes, (stay_dropped _ yes, tt))) in
     let c = f.clauses X 𝓛 𝓜.mem 𝓡.returns in let W = walk_of 𝓛 ended stayed c in let 𝓣 = tables 𝓤 𝓛.H 𝓜 𝓡 𝓡.env in
     let word_goes = Goes-dropped 𝓛 2 (plain (λ _. usize)) yes (λ κs x w. refl) in
     proved 𝓛 ended stayed c 𝓜 𝓡 (Goes-dropped 𝓛 2 (RefOf (0 ∷ []) tt (plain (λ _. Sr E)) (λ _. tt)) yes (λ κs x w. refl), (word_goes, (word_goes, tt)))

@@ -1,5 +1,5 @@
 -- `two_slices_mut` lends two runs, and the region follows their slices. Assumes `Logic`.
-use Rattle.arraydeque_ring.{proofs.{memory.{Kit.{◌≡◌, refl, sym, ap, subst, List, [], ◌∷◌, ℕ, emp, id⊢, fact_i, ftrue, flft, Fn, inst_fn, named, w64, ◌⊑◌, fact, tables, ‵, raw, ◌⊛◌, some, later, ◌$◌, ◌∵◌, !, qed, move, use0, use1, use2, drop, split, join, pick, frame, rewrite, await, fsplit, fjoin, suffices, done, enter, addr, stop, no_more, and_then, returns, alloc_all, pass_all, free_all, look_at, get, through, sets, lands_as, yes, no, plain, usize, uint_vals, uint_Tells, mem, Is, shows, peeks, Stays, walk_of, says_two, stay_dropped, Goes-dropped, ends_at, nothing, heard, calls_at, framed, triple_of, param_laws, El, R, args, el_x, proved, after₂, split3, Array, both_by, MutBor, NamedLft, mut_vals, mut_Tells, mut_ref_to, named_lft, lasts, Lasts, Goes-spent_ref, on_entry}, Regions.{Sr, Seen, Place, IsFilledRun, HoldsRun}}, loans.{Names.followed_both, Slices.{Slices, slices_lawful}, Placed.two_alike}, slots.{Slots.lend_two.Met.met, loan.Loan.into_slices.Met.{met as into_met}}}, specs.{Lends.{lends_loan, lends_two_runs, two_written}, Loans.{LoanState, written_over, AreApart}, Steps.more_lends}}
+use Rattle.arraydeque_ring.{proofs.{memory.{Kit.{◌≡◌, refl, sym, ap, subst, List, [], ◌∷◌, ℕ, emp, id⊢, fact_i, ftrue, flft, Fn, inst_fn, named, w64, ◌⊑◌, fact, tables, ‵, raw, ◌⊛◌, some, later, ◌$◌, ◌∵◌, !, qed, move, use0, use1, use2, drop, split, join, pick, frame, rewrite, await, fsplit, fjoin, suffices, done, enter, addr, stop, no_more, and_then, returns, alloc_all, pass_all, free_all, look_at, get, through, sets, lands_as, yes, no, plain, usize, uint_vals, uint_Tells, mem, Is, shows, peeks, Stays, walk_of, says_two, stay_dropped, Goes-dropped, ends_at, nothing, heard, calls_at, framed, triple_of, param_laws, El, R, args, el_x, proved, after₂, split3, Array, both_by, MutBor, NamedLft, mut_vals, mut_Tells, named_lft, lasts, Lasts, Goes-spent_ref, on_entry}, Regions.{Sr, Seen, Place, IsFilledRun, HoldsRun}}, loans.{Names.followed_both, Slices.{Slices, slices_lawful}, Placed.two_alike}, slots.{Slots.lend_two.Met.met, loan.Loan.into_slices.Met.{met as into_met}}}, specs.{Lends.{lends_loan, lends_two_runs, two_written}, Loans.{LoanState, written_over, AreApart}, Steps.more_lends}}
 use Rattle.arraydeque_ring.specs.contracts.slots.loan.Loan as loan
 use Rattle.arraydeque_ring.proofs.slots.loan.Loan.TheLaws as loan_laws
 use Rattle.arraydeque_ring.specs.contracts.slots.Slots.lend_two as g
@@ -12,7 +12,7 @@ pub two_slices_mut_spec : {M : Type 1} → stated.statement M
 unfolding both_by
 two_slices_mut_spec 𝓤 𝓛 𝓜 𝓡 wired X L =
     let E : El = record { row = X; laws = L } in let here : Fn = inst_fn (args E) code.function in
-    let ended = f.ended X in let stayed : Stays ended.signature.params ended.kept = (stay_dropped (mut_ref_to (0 ∷ []) tt (plain (λ _. Sr E))) no, (stay_dropped (plain (λ _. usize)) yes, (stay_dropped (plain (λ _. usize)) yes, (stay_dropped (plain (λ _. usize)) yes, (stay_dropped (plain (λ _. usize)) yes, tt))))) in
+    let ended = f.ended X in let stayed : Stays ended.signature.params ended.kept = (stay_dropped _ no, (stay_dropped _ yes, (stay_dropped _ yes, (stay_dropped _ yes, (stay_dropped _ yes, tt))))) in
     let c = f.clauses X 𝓛 𝓜.mem 𝓡.returns in let W = walk_of 𝓛 ended stayed c in let 𝓣 = tables 𝓤 𝓛.H 𝓜 𝓡 𝓡.env in
     let word = Goes-dropped 𝓛 2 (plain (λ _. usize)) yes (λ κs x w. refl) in
     proved 𝓛 ended stayed c 𝓜 𝓡 (Goes-spent_ref 𝓛 2 (0 ∷ []) tt (plain (λ _. Sr E)), (word, (word, (word, (word, tt)))))
