@@ -158,6 +158,7 @@ fn further_workloads() -> Vec<Workload> {
     of_all_lists!(list, reversed, arraydeque_bench_reversed);
     of_all_lists!(list, zipped, arraydeque_bench_zipped);
     of_all_lists!(list, add_each, arraydeque_bench_add_each, (8, u64, 1000000));
+    of_all_lists!(list, for_each_mut, arraydeque_bench_for_each_mut, (8, u64, 1000000));
     of_all_lists!(list, contains, arraydeque_bench_contains, (8, u64, 1000000));
     workloads!(
         list, compare, arraydeque_bench_compare, true,
@@ -172,10 +173,12 @@ fn further_workloads() -> Vec<Workload> {
     of_all_lists!(list, into_vec, arraydeque_bench_into_vec);
     of_all_lists!(list, vec_and_back, arraydeque_bench_vec_and_back);
     of_all_lists!(list, into_items, arraydeque_bench_into_items);
+    of_all_lists!(list, into_fold, arraydeque_bench_into_fold);
     of_all_lists!(list, into_ends, arraydeque_bench_into_ends);
     of_few_items!(list, from_array, arraydeque_bench_from_array, (8, u64, 1000), (8, u64, 1024));
     of_all_lists!(list, lent_queue, arraydeque_bench_lent_queue);
     of_all_lists!(list, lent_history, arraydeque_bench_lent_history);
+    of_all_lists!(list, drain_fold, arraydeque_bench_drain_fold);
     of_all_lists!(list, drain_four, arraydeque_bench_drain_four);
     of_all_lists!(list, split_append, arraydeque_bench_split_append);
     of_all_lists!(list, split_rejoin, arraydeque_bench_split_rejoin);
@@ -194,6 +197,7 @@ fn further_workloads() -> Vec<Workload> {
     workloads!(list, linearize_1, arraydeque_bench_linearize_1, true, (1, u8, 1024), (8, u64, 1024), (64, Block, 1024));
     workloads!(list, linearize_8, arraydeque_bench_linearize_8, true, (1, u8, 1024), (8, u64, 1024), (64, Block, 1024));
     workloads!(list, linearize_64, arraydeque_bench_linearize_64, true, (1, u8, 1024), (8, u64, 1024), (64, Block, 1024));
+    of_all_items!(list, linearize_full, arraydeque_bench_linearize_full);
     workloads!(list, window, arraydeque_bench_window, true, (8, u64, 64), (8, u64, 1000), (8, u64, 1024));
     workloads!(list, run, arraydeque_bench_run, true, (8, u64, 64), (8, u64, 1000), (8, u64, 1024));
     workloads!(list, scan, arraydeque_bench_scan, true, (1, u8, 1));

@@ -235,6 +235,18 @@ pub fn drain_all<T: Item, D: Peer<T>, const CAP: usize>(rounds: usize) -> u64 {
     sum
 }
 
+pub fn drain_fold<T: Item, D: Peer<T>, const CAP: usize>(rounds: usize) -> u64 {
+    let items = counted::<T>(CAP / 2);
+    let mut deque: D = peer_at(CAP / 2, 0);
+    let mut sum = 0u64;
+    for _ in 0..rounds {
+        deque.extend_back(items.iter().copied());
+        let len = deque.len();
+        sum = deque.drain(0..len).fold(sum, |sum, item| sum.wrapping_add(item.number()));
+    }
+    sum
+}
+
 pub fn split_off<T: Item, D: Peer<T>, const CAP: usize>(rounds: usize) -> u64 {
     let items = counted::<T>(CAP / 2);
     let mut deque: D = peer_at(CAP / 2, CAP);
@@ -287,6 +299,21 @@ pub fn linearize_one<T: Item, D: Peer<T>, const CAP: usize>(rounds: usize) -> u6
     for _ in 0..rounds {
         if let Some(item) = deque.pop_back() {
             deque.push_front(item);
+        }
+        deque.linearize();
+        sum = sum.wrapping_add(deque.first_slice().len() as u64);
+    }
+    sum
+}
+
+pub fn linearize_full<T: Item, D: Peer<T>, const CAP: usize>(rounds: usize) -> u64 {
+    let mut deque: D = peer_at(0, CAP - CAP / 64);
+    let mut sum = 0u64;
+    for _ in 0..rounds {
+        for _ in 0..CAP / 32 {
+            if let Some(item) = deque.pop_front() {
+                deque.push_back(item);
+            }
         }
         deque.linearize();
         sum = sum.wrapping_add(deque.first_slice().len() as u64);
@@ -371,6 +398,16 @@ pub fn add_each<T: Item, D: Peer<T>, const CAP: usize>(rounds: usize) -> u64 {
         for item in deque.iter_mut() {
             *item = T::of(item.number().wrapping_add(1));
         }
+        sum = sum.wrapping_add(last_number(&deque));
+    }
+    sum
+}
+
+pub fn for_each_mut<T: Item, D: Peer<T>, const CAP: usize>(rounds: usize) -> u64 {
+    let mut deque: D = peer_at(CAP / 2, CAP);
+    let mut sum = 0u64;
+    for _ in 0..rounds {
+        deque.iter_mut().for_each(|item| *item = T::of(item.number().wrapping_add(1)));
         sum = sum.wrapping_add(last_number(&deque));
     }
     sum
@@ -525,6 +562,17 @@ pub fn into_items<T: Item, D: Peer<T>, const CAP: usize>(rounds: usize) -> u64 {
         for item in deque.into_items() {
             sum = sum.wrapping_add(item.number());
         }
+    }
+    sum
+}
+
+pub fn into_fold<T: Item, D: Peer<T>, const CAP: usize>(rounds: usize) -> u64 {
+    let items = counted::<T>(CAP / 2);
+    let mut sum = 0u64;
+    for _ in 0..rounds {
+        let mut deque = D::new();
+        deque.extend_back(items.iter().copied());
+        sum = deque.into_items().fold(sum, |sum, item| sum.wrapping_add(item.number()));
     }
     sum
 }

@@ -233,6 +233,17 @@ pub extern "C" fn arraydeque_bench_drain_all(
     every!(parts, drain_all, alloc, rounds, (bytes, capacity))
 }
 
+/// Half the capacity in, and all out, summed by `fold`.
+#[unsafe(no_mangle)]
+pub extern "C" fn arraydeque_bench_drain_fold(
+    alloc: Global,
+    bytes: usize,
+    capacity: usize,
+    rounds: usize,
+) -> u64 {
+    every!(parts, drain_fold, alloc, rounds, (bytes, capacity))
+}
+
 /// The back half cut off and read by value, and as many items in.
 #[unsafe(no_mangle)]
 pub extern "C" fn arraydeque_bench_split_off(
@@ -275,6 +286,17 @@ pub extern "C" fn arraydeque_bench_linearize_one(
     rounds: usize,
 ) -> u64 {
     every!(lists, linearize_one, alloc, rounds, (bytes, capacity))
+}
+
+/// A list that nearly fills its places and wraps by little, brought into one piece.
+#[unsafe(no_mangle)]
+pub extern "C" fn arraydeque_bench_linearize_full(
+    alloc: Global,
+    bytes: usize,
+    capacity: usize,
+    rounds: usize,
+) -> u64 {
+    every!(lists, linearize_full, alloc, rounds, (bytes, capacity))
 }
 
 /// Two equal lists at different starts, compared.
@@ -358,6 +380,17 @@ pub extern "C" fn arraydeque_bench_add_each(
     rounds: usize,
 ) -> u64 {
     every!(walks, add_each, alloc, rounds, (bytes, capacity))
+}
+
+/// One added to each item by `for_each`.
+#[unsafe(no_mangle)]
+pub extern "C" fn arraydeque_bench_for_each_mut(
+    alloc: Global,
+    bytes: usize,
+    capacity: usize,
+    rounds: usize,
+) -> u64 {
+    every!(walks, for_each_mut, alloc, rounds, (bytes, capacity))
 }
 
 /// An item looked for that is not there.
@@ -491,6 +524,17 @@ pub extern "C" fn arraydeque_bench_into_items(
     rounds: usize,
 ) -> u64 {
     every!(turns, into_items, alloc, rounds, (bytes, capacity))
+}
+
+/// Half the capacity in, and all summed by value by `fold`.
+#[unsafe(no_mangle)]
+pub extern "C" fn arraydeque_bench_into_fold(
+    alloc: Global,
+    bytes: usize,
+    capacity: usize,
+    rounds: usize,
+) -> u64 {
+    every!(turns, into_fold, alloc, rounds, (bytes, capacity))
 }
 
 /// Half the capacity in, and all read by value from both ends.

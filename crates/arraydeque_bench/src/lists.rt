@@ -75,6 +75,26 @@ pub(crate) fn linearize_one<T: Item, const CAP: usize>(
     Ok(sum)
 }
 
+/// A list that fills all but a sixty-fourth of the places: each round a thirty-second of them goes
+/// from the front to the back, so that it wraps by little, and it is brought into one piece.
+pub(crate) fn linearize_full<T: Item, const CAP: usize>(
+    alloc: Global,
+    rounds: usize,
+) -> Result<u64, AllocError> {
+    let mut deque = deque_at::<T, CAP>(alloc, 0, CAP - CAP / 64)?;
+    let mut sum = 0u64;
+    for _ in 0..rounds {
+        for _ in 0..CAP / 32 {
+            if let Some(item) = deque.pop_front() {
+                let _ = deque.push_back(item);
+            }
+        }
+        deque.linearize();
+        sum = sum.wrapping_add(deque.as_slices().0.len() as u64);
+    }
+    Ok(sum)
+}
+
 /// Two deques of equal lists, the one in one piece and the other not: each round they are compared.
 pub(crate) fn equal<T: Item + Eq, const CAP: usize>(
     alloc: Global,

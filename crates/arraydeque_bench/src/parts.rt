@@ -143,6 +143,23 @@ pub(crate) fn drain_all<T: Item, const CAP: usize>(
     Ok(sum)
 }
 
+/// Each round half the capacity goes in, and all comes out, summed by `fold`.
+pub(crate) fn drain_fold<T: Item, const CAP: usize>(
+    alloc: Global,
+    rounds: usize,
+) -> Result<u64, AllocError> {
+    let items = counted::<T>(alloc, CAP / 2)?;
+    let mut deque = deque_at::<T, CAP>(alloc, CAP / 2, 0)?;
+    let mut sum = 0u64;
+    for _ in 0..rounds {
+        deque.extend_back(items.iter().copied());
+        sum = deque
+            .drain(..)?
+            .fold(sum, |sum: u64, item: T| sum.wrapping_add(item.number()));
+    }
+    Ok(sum)
+}
+
 /// Each round the back half is cut off and read by value, and as many items go in at the back.
 pub(crate) fn split_off<T: Item, const CAP: usize>(
     alloc: Global,

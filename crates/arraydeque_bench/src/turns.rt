@@ -105,6 +105,23 @@ pub(crate) fn into_items<T: Item, const CAP: usize>(
     Ok(sum)
 }
 
+/// Each round a new deque is filled to half from a slice's iterator, and summed by value by `fold`.
+pub(crate) fn into_fold<T: Item, const CAP: usize>(
+    alloc: Global,
+    rounds: usize,
+) -> Result<u64, AllocError> {
+    let items = counted::<T>(alloc, CAP / 2)?;
+    let mut sum = 0u64;
+    for _ in 0..rounds {
+        let mut deque = deque_at::<T, CAP>(alloc, 0, 0)?;
+        deque.extend_back(items.iter().copied());
+        sum = deque
+            .into_iter()
+            .fold(sum, |sum: u64, item: T| sum.wrapping_add(item.number()));
+    }
+    Ok(sum)
+}
+
 /// Each round a new deque is filled to half from a slice's iterator, and read by value from both
 /// ends in turn.
 pub(crate) fn into_ends<T: Item, const CAP: usize>(

@@ -67,6 +67,22 @@ pub(crate) fn add_each<T: Item, const CAP: usize>(
     Ok(sum)
 }
 
+/// A list that wraps: each round one is added to each item by `for_each`.
+pub(crate) fn for_each_mut<T: Item, const CAP: usize>(
+    alloc: Global,
+    rounds: usize,
+) -> Result<u64, AllocError> {
+    let mut deque = deque_at::<T, CAP>(alloc, CAP / 2, CAP)?;
+    let mut sum = 0u64;
+    for _ in 0..rounds {
+        deque.iter_mut().for_each(|item: &mut T| *item = T::of(item.number().wrapping_add(1)));
+        if let Some(item) = deque.back() {
+            sum = sum.wrapping_add(item.number());
+        }
+    }
+    Ok(sum)
+}
+
 /// A list that wraps, of numbers below 128: each round a larger one is looked for.
 pub(crate) fn contains<T: Item + PartialEq, const CAP: usize>(
     alloc: Global,

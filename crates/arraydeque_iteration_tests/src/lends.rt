@@ -80,6 +80,40 @@ fn items_are_folded_in_order(rt: HostRuntime) -> Result<(), Fail> {
     Ok(())
 }
 
+/// The items on which a `for_each` calls, each appended as a digit.
+fn called(items: Iter<'_, i64>) -> i64 {
+    let mut total = 0i64;
+    items.for_each(|item| total = total.wrapping_mul(10).wrapping_add(*item));
+    total
+}
+
+/// Appends to each item on which a `for_each` calls how many it has called on by then.
+fn number_each(items: IterMut<'_, i64>) {
+    let mut count = 0i64;
+    items.for_each(
+        |item| {
+            count = count.wrapping_add(1);
+            *item = item.wrapping_mul(10).wrapping_add(count);
+        },
+    );
+}
+
+#[test]
+fn each_item_is_called_on_in_order(rt: HostRuntime) -> Result<(), Fail> {
+    let mut deque = deque_at::<5>(rt.alloc(), 3, &[1, 2, 3, 4, 5])?;
+    let is_whole = called(deque.iter()) == 12345;
+    let mut inner = deque.iter();
+    let ends = (inner.next(), inner.next_back());
+    assert!(rt; is_whole && ends == (Some(&1), Some(&5)) && called(inner) == 234);
+    let mut inner = deque.iter_mut();
+    let _ = (inner.next(), inner.next_back());
+    number_each(inner);
+    let is_inner = holds(&deque, &[1, 21, 32, 43, 5]);
+    number_each(deque.iter_mut());
+    assert!(rt; is_inner && holds(&deque, &[11, 212, 323, 434, 55]));
+    Ok(())
+}
+
 /// Whether an iterator lends these two items for writing, and no more.
 fn lends_two(mut items: IterMut<'_, i64>, first: i64, second: i64) -> bool {
     items.size_hint() == (2, Some(2))

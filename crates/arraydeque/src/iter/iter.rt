@@ -2,9 +2,11 @@
 ghost use Rattle.std.specs.Prelude.{◌≡◌, ◌+◌, ◌^◌, ◌<◌, ◌≤◌, ◌++◌, fold, length, Some, IfSome, ⊤};
 ghost use Rattle.std.specs.Iterator.{YieldsFirstRef, YieldsLastRef, UpTo, item_count};
 ghost use Rattle.std.specs.Iterator.{CallableInFold, FoldsItems, ActsAsOnTwo};
-ghost use Rattle.std.specs.Iterator.Runs.{WholeRun};
+ghost use Rattle.std.specs.Iterator.{CallableInForEach, CallsOnEach};
+ghost use Rattle.std.specs.Iterator.Runs.{WholeRun, AllItemsGive};
 ghost use Rattle.std.specs.Iterator.SizeHint.{IsWithinCount};
 
+use super::each::call_on_each;
 use crate::behavior::Behavior;
 use crate::deque::ArrayDeque;
 use std::alloc::AllocError;
@@ -57,6 +59,26 @@ impl<'a, T> Iter<'a, T> {
             total = f(total, item);
         }
         total
+    }
+
+    /// Calls `f` on each item in turn, over each of the two slices as a whole.
+    ///
+    /// ```
+    /// let mut deque = ArrayDeque::<i64, 3, Saturating>::new(alloc)?;
+    /// deque.extend_back([1, 2, 3]);
+    /// let mut sum = 0i64;
+    /// deque.iter().for_each(|item| sum = sum.wrapping_add(*item));
+    /// assert!(rt; sum == 6);
+    /// ```
+    #[inline]
+    pub fn for_each<F: FnMut(&'a T)>(self, f: F)
+        requires callable { CallableInForEach (YieldsFirstRef (λ xs. xs)) F.FnMut self f }
+        ensures ran { CallsOnEach (YieldsFirstRef (λ xs. xs)) F.FnMut self.entry f }
+        ensures runs { WholeRun (YieldsFirstRef (λ xs. xs)) self.entry
+            (λ run. AllItemsGive run F.FnMut f tt) }
+    {
+        let f = call_on_each(self.first.into_iter(), f);
+        call_on_each(self.second.into_iter(), f);
     }
 }
 

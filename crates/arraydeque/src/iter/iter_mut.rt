@@ -2,10 +2,13 @@
 ghost use Rattle.std.specs.Prelude.{◌≡◌, ◌+◌, ◌^◌, ◌<◌, ◌++◌, length, Some, IfSome};
 ghost use Rattle.std.specs.Borrow.{sem};
 ghost use Rattle.std.specs.Iterator.{YieldsFirstMut, YieldsLastMut, UpTo, item_count};
+ghost use Rattle.std.specs.Iterator.{CallableInForEach, CallsOnEach};
+ghost use Rattle.std.specs.Iterator.Runs.{WholeRun, AllItemsGive};
 ghost use Rattle.std.specs.Iterator.SizeHint.{IsWithinCount};
 ghost use Rattle.arraydeque_ring.specs.Loans.{remaining};
 ghost use Rattle.arraydeque.specs.DequeLends.{lends_items};
 
+use super::each::call_on_each;
 use crate::behavior::Behavior;
 use crate::deque::ArrayDeque;
 use arraydeque_ring::slots::loan::{Loan, LoanName};
@@ -74,6 +77,27 @@ impl<'a, T> IterMut<'a, T> {
             name: _,
         } = self;
         (first, second)
+    }
+
+    /// Calls `f` on each item in turn. Std's own `for_each` asks for one item after the other; this
+    /// one goes over each of the two slices as a whole.
+    ///
+    /// ```
+    /// let mut deque = ArrayDeque::<i64, 3, Saturating>::new(alloc)?;
+    /// deque.extend_back([1, 2, 3]);
+    /// deque.iter_mut().for_each(|item| *item = item.wrapping_mul(2));
+    /// assert!(rt; deque.into_vec()?.as_slice() == [2, 4, 6].as_slice());
+    /// ```
+    #[inline]
+    pub fn for_each<F: FnMut(&'a mut T)>(self, f: F)
+        requires callable { CallableInForEach (YieldsFirstMut remaining) F.FnMut self f }
+        ensures ran { CallsOnEach (YieldsFirstMut remaining) F.FnMut self.entry f }
+        ensures runs { WholeRun (YieldsFirstMut remaining) self.entry
+            (λ run. AllItemsGive run F.FnMut f tt) }
+    {
+        let (first, second) = self.into_slices();
+        let f = call_on_each(first.into_iter(), f);
+        call_on_each(second.into_iter(), f);
     }
 }
 
