@@ -8,7 +8,7 @@ const TOP: f64 = 62.0;
 const ROW: f64 = 15.0;
 
 /// The width of a doubling.
-const DOUBLING: f64 = 44.0;
+const DOUBLING: f64 = 36.0;
 
 /// The peers, by the class of their marks.
 const PEERS: [(&str, &str); 2] = [("crate", "the Rust crate"), ("std", "VecDeque")];
@@ -44,7 +44,7 @@ impl Scale {
 
 pub fn drawn(summaries: &[Summary]) -> String {
     let scale = Scale::of(summaries);
-    let (width, height) = (scale.right() + 90.0, TOP + ROW * summaries.len() as f64 + 8.0);
+    let (width, height) = (scale.right() + 94.0, TOP + ROW * summaries.len() as f64 + 8.0);
     let mut svg = format!(
         "<svg xmlns=\"http://www.w3.org/2000/svg\" width=\"{width}\" height=\"{height}\" viewBox=\"0 0 {width} {height}\">\n\
          <style>{STYLE}</style>\n<rect class=\"paper\" width=\"100%\" height=\"100%\"/>\n"
@@ -120,7 +120,7 @@ fn put_row(svg: &mut String, scale: &Scale, middle: f64, summary: &Summary) {
 
 /// Where a peer's means stand as numbers.
 fn number_at(scale: &Scale, peer: usize) -> f64 {
-    scale.right() + 45.0 + 38.0 * peer as f64
+    scale.right() + 50.0 + 38.0 * peer as f64
 }
 
 /// A disc beside the Rust crate, a square beside `VecDeque`.

@@ -108,7 +108,7 @@ fn short_table(summaries: &[Summary]) -> String {
 pub fn write(all: &[Figures], count_first: usize) -> Result<()> {
     let mut csv = String::from("workload;ours ns;crate ns;VecDeque ns\n");
     for Figures { name, nanoseconds: [ours, rust, std] } in all {
-        let _ = writeln!(csv, "{name};{ours:.3};{rust:.3};{std:.3}");
+        let _ = writeln!(csv, "{name};{ours:.6};{rust:.6};{std:.6}");
     }
     std::fs::write("figures.csv", csv)?;
     write_drawn(all, count_first)

@@ -46,20 +46,23 @@ struct Room {
 
 /// Where the two sides differ on a script, whose request of that number is refused, if it isn't 0.
 fn difference(pair: &Pair, script: &[u64], refused: u64, ours: &mut Told, theirs: &mut Told) -> Option<usize> {
-    pair.play_ours(script, refused, ours);
-    if refused == 0 {
+    let requests = pair.play_ours(script, refused, ours);
+    if refused == 0 || requests < refused {
         pair.play_theirs(script, theirs);
         return ours.difference(theirs);
     }
     if ours.end == REFUSED {
         return None;
     }
-    let Some(call) = ours.replies.iter().position(|&reply| reply == REFUSED || reply == BROKEN) else {
+    let mut refusals = (0..script.len()).filter(|&call| [REFUSED, BROKEN].contains(&ours.replies[call]));
+    let Some(call) = refusals.next() else {
         return Some(script.len() - 1);
     };
+    if let Some(other) = refusals.next() {
+        return Some(other);
+    }
     let before = if call == 0 { folded(0, 0) } else { ours.lists[call - 1] };
-    let again = ours.replies[call + 1..].iter().any(|&reply| reply == REFUSED || reply == BROKEN);
-    if ours.replies[call] == BROKEN || ours.lists[call] != before || again {
+    if ours.replies[call] == BROKEN || ours.lists[call] != before {
         return Some(call);
     }
     // A refused call is as if it had not been made.

@@ -7,8 +7,11 @@ pub const REFUSED: u64 = u64::MAX;
 /// What our side tells where its source came back as another, or where it has no such capacity.
 pub const BROKEN: u64 = u64::MAX - 1;
 
+/// How many of the calls don't ask for items that can be copied.
+const COPIED: usize = 44;
+
 /// Which calls there are, by kind, with how often one is chosen.
-const CALLS: [(u64, &str, u64); 47] = [
+const CALLS: [(u64, &str, u64); COPIED + 6] = [
     (0, "pop_front", 40),
     (1, "pop_back", 40),
     (2, "front, back", 10),
@@ -40,6 +43,7 @@ const CALLS: [(u64, &str, u64); 47] = [
     (28, "as_mut_slices", 5),
     (29, "truncate", 4),
     (30, "truncate_front", 4),
+    (31, "iter, fold", 5),
     (32, "push_back", 90),
     (33, "push_front", 90),
     (34, "insert", 60),
@@ -50,12 +54,14 @@ const CALLS: [(u64, &str, u64); 47] = [
     (39, "from Vec", 2),
     (40, "append", 10),
     (41, "a push under the other policy", 10),
+    (42, "split_off, extend_front", 5),
+    (43, "drain, extend_front", 5),
     (48, "contains", 10),
     (49, "clone", 5),
     (50, "==, partial_cmp, cmp", 5),
     (51, "from array", 2),
     (52, "debug text", 1),
-    (255, "nothing", 0),
+    (53, "extend_back by a slice", 20),
 ];
 
 /// A call: which one, two numbers below 4096, and the number of an item.
@@ -127,24 +133,28 @@ impl Random {
     }
 }
 
-/// A script of so many calls on a deque of that capacity. Only items that can be copied have the calls
-/// from 48 on.
+/// The kind of a call, where each takes as many of the numbers as it is chosen often.
+fn kind_at(calls: &[(u64, &str, u64)], mut number: u64) -> u64 {
+    for (kind, _, often) in calls {
+        if number < *often {
+            return *kind;
+        }
+        number -= often;
+    }
+    unreachable!("the number is below their sum")
+}
+
+/// A script of so many calls on a deque of that capacity.
 pub fn script(random: &mut Random, len: usize, capacity: usize, copied: bool, script: &mut Vec<u64>) {
     script.clear();
-    let chosen = &CALLS[..if copied { CALLS.len() - 1 } else { 41 }];
+    let chosen = &CALLS[..if copied { CALLS.len() } else { COPIED }];
     let all: u64 = chosen.iter().map(|(.., often)| often).sum();
     for _ in 0..len {
-        let mut left = random.below(all);
-        let kind = chosen.iter().find(|(.., often)| {
-            let found = left < *often;
-            left = left.wrapping_sub(*often);
-            found
-        });
-        let kind = kind.map_or(255, |(kind, ..)| *kind);
+        let kind = kind_at(chosen, random.below(all));
         let word = random.next();
         // A source has a few items, or as many as fill the deque and three more.
         let first = match kind {
-            35..=40 => (word >> 8 & 0xFFF) % if word & 7 == 0 { capacity as u64 + 4 } else { 4 },
+            35..=40 | 53 => (word >> 8 & 0xFFF) % if word & 7 == 0 { capacity as u64 + 4 } else { 4 },
             _ => word >> 8 & 0xFFF,
         };
         // A small number is often there already.

@@ -86,7 +86,7 @@ fn shared<T: Item, const CAP: usize, B: Behavior>(deque: &mut ArrayDeque<T, CAP,
         4 => written(deque.back_mut(), call.number),
         5 => seen(deque.get(index)),
         6 => written(deque.get_mut(index), call.number),
-        7 if index < len => deque[index].told(),
+        7 if index < len => seen(Some(&deque[index])),
         8 if index < len => {
             deque[index].set(call.number);
             1
@@ -176,6 +176,7 @@ fn list_reply<T: Item, const CAP: usize, B: Behavior>(deque: &mut ArrayDeque<T, 
                 sum = folded(sum, seen(items.next_back()));
             }
             sum = folded(sum, items.len() as u64);
+            sum = items.clone().fold(sum, |sum, item| folded(sum, item.told()));
             items.rev().fold(sum, |sum, item| folded(sum, item.told()))
         }
         25 => {
@@ -206,6 +207,7 @@ fn list_reply<T: Item, const CAP: usize, B: Behavior>(deque: &mut ArrayDeque<T, 
             }
             number
         }
+        31 => deque.iter().fold(1, |sum, item| folded(sum, item.told())),
         _ => 0,
     }
 }
@@ -216,7 +218,8 @@ fn saturating<T: Item, const CAP: usize>(
     deque: &mut ArrayDeque<T, CAP, Saturating>,
     call: Call,
 ) -> u64 {
-    let (index, source) = (call.index(deque.len()), || counted(alive, call.number, call.first));
+    let (index, place) = (call.index(deque.len()), call.place(deque.len()));
+    let source = || counted(alive, call.number, call.first);
     match call.kind {
         32 => replied(deque.push_back(T::make(alive, call.number))),
         33 => replied(deque.push_front(T::make(alive, call.number))),
@@ -254,12 +257,20 @@ fn saturating<T: Item, const CAP: usize>(
             *deque = other.into();
             reply
         }
+        42 | 43 => {
+            // The crate's drain lends the deque, so its items are taken first.
+            let rest: Vec<T> =
+                if call.kind == 42 { deque.split_off(place).into() } else { deque.drain(place..).collect() };
+            deque.extend_front(rest);
+            1
+        }
         _ => shared(deque, call),
     }
 }
 
 /// The calls of `Wrapping`.
 fn wrapping<T: Item, const CAP: usize>(alive: &Alive, deque: &mut ArrayDeque<T, CAP, Wrapping>, call: Call) -> u64 {
+    let place = call.place(deque.len());
     let source = || counted(alive, call.number, call.first);
     match call.kind {
         32 => told(deque.push_back(T::make(alive, call.number))),
@@ -291,6 +302,13 @@ fn wrapping<T: Item, const CAP: usize>(alive: &Alive, deque: &mut ArrayDeque<T, 
             *deque = other.into();
             reply
         }
+        42 | 43 => {
+            // The crate's drain lends the deque, so its items are taken first.
+            let rest: Vec<T> =
+                if call.kind == 42 { deque.split_off(place).into() } else { deque.drain(place..).collect() };
+            deque.extend_front(rest);
+            1
+        }
         _ => shared(deque, call),
     }
 }
@@ -310,6 +328,7 @@ fn copied<T, const CAP: usize, B>(
     deque: &mut ArrayDeque<T, CAP, B>,
     call: Call,
     others: fn(&Alive, &mut ArrayDeque<T, CAP, B>, Call) -> u64,
+    extend_back: fn(&mut ArrayDeque<T, CAP, B>, &[T]),
 ) -> u64
 where
     T: Item + Ord + Debug,
@@ -341,6 +360,11 @@ where
             let text = format!("{deque:?}");
             slice_of(text.len() as u64, text.as_bytes())
         }
+        53 => {
+            let items: Vec<T> = counted(alive, call.number, call.first);
+            extend_back(deque, &items);
+            1
+        }
         _ => others(alive, deque, call),
     }
 }
@@ -349,13 +373,13 @@ macro_rules! answers {
     ($($item:ty),+) => {
         $(impl<const CAP: usize> Answers<$item, CAP> for Saturating {
             fn answer(alive: &Alive, deque: &mut ArrayDeque<$item, CAP, Self>, call: Call) -> u64 {
-                copied(alive, deque, call, saturating)
+                copied(alive, deque, call, saturating, |deque, items| deque.extend_back(items.iter().copied()))
             }
         }
 
         impl<const CAP: usize> Answers<$item, CAP> for Wrapping {
             fn answer(alive: &Alive, deque: &mut ArrayDeque<$item, CAP, Self>, call: Call) -> u64 {
-                copied(alive, deque, call, wrapping)
+                copied(alive, deque, call, wrapping, |deque, items| deque.extend_back(items.iter().copied()))
             }
         })+
     };

@@ -88,7 +88,7 @@ fn item_reply<T: Item, const CAP: usize, B: Behavior>(
         4 => written(deque.back_mut(), call.number),
         5 => seen(deque.get(index)),
         6 => written(deque.get_mut(index), call.number),
-        7 if index < deque.len() => deque[index].told(),
+        7 if index < deque.len() => seen(Some(&deque[index])),
         8 if index < deque.len() => {
             deque[index].set(call.number);
             1
@@ -239,6 +239,7 @@ fn list_reply<T: Item, const CAP: usize, B: Behavior>(
             deque.truncate_front(call.index(deque.len()));
             1
         }
+        31 => deque.iter().fold(1, |sum, item| folded(sum, item.told())),
         _ => 0,
     }
 }
@@ -251,7 +252,8 @@ fn lengths<T: Item, const CAP: usize, B: Behavior>(deque: &ArrayDeque<T, CAP, B>
     )
 }
 
-/// Items read from both ends in turn, and then what is left, from the back.
+/// Items read from both ends in turn, and then what is left, from the front by a clone and from the
+/// back.
 fn both_ends<T: Item, const CAP: usize, B: Behavior>(
     deque: &ArrayDeque<T, CAP, B>,
     call: Call,
@@ -263,6 +265,11 @@ fn both_ends<T: Item, const CAP: usize, B: Behavior>(
         sum = folded(sum, seen(items.next_back()));
     }
     sum = folded(sum, items.len() as u64);
+    if let Ok(copy) = items.clone() {
+        for item in copy {
+            sum = folded(sum, item.told());
+        }
+    }
     for item in items.rev() {
         sum = folded(sum, item.told());
     }

@@ -1,5 +1,5 @@
 //! The calls that ask more of the items: that they can be copied, compared and written as text.
-use crate::items::{Alive, Block, Item, Owned};
+use crate::items::{Alive, Block, Item, Owned, counted};
 use crate::script::{Call, folded, word_of};
 use crate::{calls, saturating, wrapping};
 use arraydeque::behavior::Behavior;
@@ -28,6 +28,10 @@ macro_rules! answered {
             50 => Ok(compared($deque, $deque.clone()?, $call)),
             51 => $own::made_of_array($alloc, $deque, five($alloc, $alive, $call.number)?),
             52 => Ok(text_of(format!(in $alloc; "{:?}", $deque)?.as_str())),
+            53 => {
+                let items = counted($alloc, $alive, $call.number, $call.first)?;
+                Ok($own::extended_by_slice($deque, items.as_slice()))
+            }
             _ => $own::answer($alloc, $alive, $deque, $call),
         }
     };

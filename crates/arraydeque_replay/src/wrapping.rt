@@ -36,6 +36,7 @@ pub(crate) fn answer<T: Item, const CAP: usize>(
             counted(alloc, alive, call.number, call.first)?,
         ),
         41 => turned(alloc, deque, T::make(alloc, alive, call.number)?),
+        42 | 43 => rejoined(deque, call),
         _ => crate::calls::answer(alloc, deque, call),
     }
 }
@@ -135,4 +136,32 @@ fn turned<T: Item, const CAP: usize>(
     };
     *deque = Deque::<T, CAP>::from(other);
     Ok(reply)
+}
+
+/// What is behind an index taken out and put in at the front, by a deque or by a drain.
+fn rejoined<T: Item, const CAP: usize>(
+    deque: &mut Deque<T, CAP>,
+    call: Call,
+) -> Result<u64, AllocError> {
+    let at = call.place(deque.len());
+    if deque.len() < at {
+        return Ok(0);
+    }
+    if call.kind == 42 {
+        let rest = deque.split_off(at)?;
+        deque.extend_front(rest);
+    } else {
+        let rest = deque.drain(at..)?;
+        deque.extend_front(rest);
+    }
+    Ok(1)
+}
+
+/// Items in at the back from a slice's iterator.
+pub(crate) fn extended_by_slice<T: Item + Copy, const CAP: usize>(
+    deque: &mut Deque<T, CAP>,
+    items: &[T],
+) -> u64 {
+    deque.extend_back(items.iter().copied());
+    1
 }
