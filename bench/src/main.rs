@@ -1,13 +1,15 @@
 //! Times the proved deque beside the Rust crate arraydeque and std's `VecDeque`, all in one process.
 mod chart;
+mod figures;
 mod items;
 mod peers;
 mod works;
 
+use figures::Figures;
 use items::{Block, Bytes};
 use peers::{Bounded, Crate};
 use std::hint::black_box;
-use std::io::Write;
+use std::io::IsTerminal;
 use std::time::{Duration, Instant};
 
 /// How long one timed run of a workload is to take, about.
@@ -20,19 +22,6 @@ pub struct Workload {
     peers: [fn(usize) -> u64; 2],
     /// Whether all three come to the same sum.
     agrees: bool,
-}
-
-/// What was measured of a workload: the least nanoseconds of a round, ours first.
-pub struct Figures {
-    pub name: String,
-    pub nanoseconds: [f64; 3],
-}
-
-impl Figures {
-    /// Our time as a part of the Rust crate's (0) or of `VecDeque`'s (1).
-    pub fn ratio(&self, peer: usize) -> f64 {
-        self.nanoseconds[0] / self.nanoseconds[peer + 1]
-    }
 }
 
 /// The items of a workload, unless it names another kind to go by.
@@ -257,58 +246,27 @@ fn measured(workload: &Workload, repetitions: usize) -> Figures {
     Figures { name: workload.name.clone(), nanoseconds }
 }
 
-fn geometric_mean(ratios: impl Iterator<Item = f64>) -> f64 {
-    let logarithms: Vec<f64> = ratios.map(f64::ln).collect();
-    (logarithms.iter().sum::<f64>() / logarithms.len() as f64).exp()
-}
-
-/// A line that goes to the terminal and into the table.
-fn put(table: &mut String, line: &str) {
-    println!("{line}");
-    table.push_str(line);
-    table.push('\n');
-}
-
-fn mean_line(what: &str, figures: &[Figures]) -> String {
-    let means = [0, 1].map(|peer| geometric_mean(figures.iter().map(|figures| figures.ratio(peer))));
-    format!("| geometric mean of {what} {} | | | | {:.2} | {:.2} |", figures.len(), means[0], means[1])
-}
-
 fn measure(wanted: &str, repetitions: usize, writes: bool) -> std::io::Result<()> {
     let (first, further) = (first_workloads(), further_workloads());
     let fits = |workload: &Workload| workload.name.contains(wanted);
     let count_first = first.iter().filter(|workload| fits(workload)).count();
     let workloads: Vec<Workload> = first.into_iter().chain(further).filter(fits).collect();
-    let mut table = String::new();
-    put(&mut table, "| Workload | ours, ns | crate, ns | `VecDeque`, ns | ours / crate | ours / `VecDeque` |");
-    put(&mut table, "|---|---|---|---|---|---|");
+    let is_watched = std::io::stderr().is_terminal();
+    println!("{}", figures::HEAD);
     let mut all = Vec::new();
     for (done, workload) in workloads.iter().enumerate() {
-        eprint!("\r{}/{} {:<60}", done + 1, workloads.len(), workload.name);
+        if is_watched {
+            eprint!("\r{}/{} {:<60}", done + 1, workloads.len(), workload.name);
+        }
         let figures = measured(workload, repetitions);
-        let [ours, rust, std] = figures.nanoseconds;
-        let (to_rust, to_std) = (figures.ratio(0), figures.ratio(1));
-        eprint!("\r{:<70}\r", "");
-        put(
-            &mut table,
-            &format!("| {} | {ours:.2} | {rust:.2} | {std:.2} | {to_rust:.2} | {to_std:.2} |", figures.name),
-        );
+        if is_watched {
+            eprint!("\r{:<70}\r", "");
+        }
+        println!("{}", figures.line());
         all.push(figures);
     }
-    if count_first > 0 && count_first < all.len() {
-        put(&mut table, &mean_line("the first", &all[..count_first]));
-    }
-    put(&mut table, &mean_line("all", &all));
-    if !writes || !wanted.is_empty() {
-        return Ok(());
-    }
-    let mut csv = std::fs::File::create("figures.csv")?;
-    writeln!(csv, "workload;ours ns;crate ns;VecDeque ns")?;
-    for Figures { name, nanoseconds: [ours, rust, std] } in &all {
-        writeln!(csv, "{name};{ours:.3};{rust:.3};{std:.3}")?;
-    }
-    std::fs::write("figures.md", format!("# The figures\n\nWritten by `bench/run`; [README.md](README.md) says what they mean.\n\n{table}"))?;
-    std::fs::write("chart.svg", chart::drawn(&all))
+    print!("{}", figures::mean_lines(&all, count_first));
+    if writes && wanted.is_empty() { figures::write(&all, count_first) } else { Ok(()) }
 }
 
 /// Makes rounds of one workload by ours alone, for another program to count its instructions.
@@ -348,6 +306,9 @@ fn main() {
         && word == "--once"
     {
         return once(name, rounds.parse().expect("a number of rounds"));
+    }
+    if words.first().is_some_and(|word| word == "--draw") {
+        return figures::draw(first_workloads().len()).expect("figures.csv can be read, and what is drawn be written");
     }
     let writes = std::env::var_os("ARRAYDEQUE_BENCH_CPU").is_none();
     let wanted = words.first().cloned().unwrap_or_default();

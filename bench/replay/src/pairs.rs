@@ -1,0 +1,134 @@
+//! A deque of each side: the same items, policy and capacity.
+use crate::items::{Block, Owned};
+use crate::memory;
+use crate::script::{BROKEN, REFUSED};
+use crate::theirs;
+use arraydeque::{Saturating, Wrapping};
+
+type Export = unsafe extern "C" fn(
+    capacity: usize,
+    script: *const u64,
+    script_len: usize,
+    replies: *mut u64,
+    replies_len: usize,
+    lists: *mut u64,
+    lists_len: usize,
+) -> u64;
+
+/// What a side tells of a script: for each call the reply, and the list behind it.
+#[derive(Default)]
+pub struct Told {
+    pub replies: Vec<u64>,
+    pub lists: Vec<u64>,
+    /// What is left of the sum of the items alive, or `REFUSED`.
+    pub end: u64,
+}
+
+impl Told {
+    /// Room for so many calls.
+    fn clear(&mut self, calls: usize) {
+        for words in [&mut self.replies, &mut self.lists] {
+            words.clear();
+            words.resize(calls, BROKEN);
+        }
+    }
+
+    /// The first call of which two sides tell different things.
+    pub fn difference(&self, other: &Told) -> Option<usize> {
+        (0..self.replies.len()).find(|&i| (self.replies[i], self.lists[i]) != (other.replies[i], other.lists[i]))
+    }
+}
+
+/// The items, the policy, the capacity, and how each side plays.
+pub struct Pair {
+    pub items: &'static str,
+    pub policy: &'static str,
+    pub capacity: usize,
+    pub copied: bool,
+    ours: Export,
+    theirs: fn(&[u64], &mut [u64], &mut [u64]) -> u64,
+    pub list_behind: fn(&[u64]) -> Vec<u64>,
+}
+
+impl Pair {
+    /// Plays a script on our side, where that request for memory is refused. Returns how many were made.
+    pub fn play_ours(&self, script: &[u64], refused: u64, told: &mut Told) -> u64 {
+        told.clear(script.len());
+        memory::begin(refused);
+        // SAFETY: the export is handed three slices, and keeps none.
+        told.end = unsafe {
+            (self.ours)(
+                self.capacity,
+                script.as_ptr(),
+                script.len(),
+                told.replies.as_mut_ptr(),
+                told.replies.len(),
+                told.lists.as_mut_ptr(),
+                told.lists.len(),
+            )
+        };
+        let (requests, blocks) = memory::counted();
+        assert!(blocks == 0, "{}, {}, capacity {}: {blocks} blocks are left", self.items, self.policy, self.capacity);
+        assert!(
+            told.end == 0 || told.end == REFUSED,
+            "{}, {}, capacity {}: drops are uneven on our side: {}",
+            self.items,
+            self.policy,
+            self.capacity,
+            told.end
+        );
+        requests
+    }
+
+    /// Plays a script on the Rust crate's side.
+    pub fn play_theirs(&self, script: &[u64], told: &mut Told) {
+        told.clear(script.len());
+        told.end = (self.theirs)(script, &mut told.replies, &mut told.lists);
+        assert!(told.end == 0, "{}, {}, capacity {}: the crate's drops are uneven", self.items, self.policy, self.capacity);
+    }
+}
+
+macro_rules! pairs {
+    ($list:ident, $items:literal, $copied:literal, $item:ty, $policy:ident, $export:ident, $($capacity:literal),+) => {{
+        unsafe extern "C" {
+            fn $export(
+                capacity: usize,
+                script: *const u64,
+                script_len: usize,
+                replies: *mut u64,
+                replies_len: usize,
+                lists: *mut u64,
+                lists_len: usize,
+            ) -> u64;
+        }
+        $($list.push(Pair {
+            items: $items,
+            policy: stringify!($policy),
+            capacity: $capacity,
+            copied: $copied,
+            ours: $export,
+            theirs: theirs::play::<$item, $capacity, $policy>,
+            list_behind: theirs::list_behind::<$item, $capacity, $policy>,
+        });)+
+    }};
+}
+
+macro_rules! at_all_capacities {
+    ($list:ident, $items:literal, $copied:literal, $item:ty, $policy:ident, $export:ident) => {
+        pairs!($list, $items, $copied, $item, $policy, $export, 1, 2, 3, 4, 5, 7, 8, 16, 31, 64, 100, 200)
+    };
+}
+
+/// All pairs.
+pub fn all() -> Vec<Pair> {
+    let mut list = Vec::new();
+    at_all_capacities!(list, "bytes", true, u8, Saturating, arraydeque_replay_bytes_saturating);
+    at_all_capacities!(list, "bytes", true, u8, Wrapping, arraydeque_replay_bytes_wrapping);
+    at_all_capacities!(list, "words", true, u64, Saturating, arraydeque_replay_words_saturating);
+    at_all_capacities!(list, "words", true, u64, Wrapping, arraydeque_replay_words_wrapping);
+    at_all_capacities!(list, "blocks", true, Block, Saturating, arraydeque_replay_blocks_saturating);
+    at_all_capacities!(list, "blocks", true, Block, Wrapping, arraydeque_replay_blocks_wrapping);
+    at_all_capacities!(list, "owned", false, Owned, Saturating, arraydeque_replay_owned_saturating);
+    at_all_capacities!(list, "owned", false, Owned, Wrapping, arraydeque_replay_owned_wrapping);
+    list
+}

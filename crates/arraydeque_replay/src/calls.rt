@@ -1,0 +1,315 @@
+//! The calls that mean the same under both policies. A call that has to be in range is left out
+//! where it isn't.
+use crate::items::{Alive, Item};
+use crate::script::{Call, folded, word_of};
+use arraydeque::behavior::Behavior;
+use arraydeque::{ArrayDeque, Drain};
+use std::alloc::{AllocError, Global};
+use std::mem;
+use std::rc::Rc;
+
+/// What is told of an item that came out.
+pub(crate) fn told<T: Item>(item: Option<T>) -> u64 {
+    match item {
+        Some(item) => folded(1, item.told()),
+        None => 0,
+    }
+}
+
+/// What is told of an item that was read.
+pub(crate) fn seen<T: Item>(item: Option<&T>) -> u64 {
+    match item {
+        Some(item) => folded(1, item.told()),
+        None => 0,
+    }
+}
+
+/// What is told of an item that is read, and written.
+fn written<T: Item>(item: Option<&mut T>, number: u64) -> u64 {
+    match item {
+        Some(item) => {
+            let before = folded(1, item.told());
+            item.set(number);
+            before
+        }
+        None => 0,
+    }
+}
+
+/// A list's length and all of its items.
+pub(crate) fn list_of<T: Item, const CAP: usize, B: Behavior>(
+    deque: &ArrayDeque<T, CAP, B>,
+) -> u64 {
+    let mut sum = deque.len() as u64;
+    for item in deque {
+        sum = folded(sum, item.told());
+    }
+    sum
+}
+
+/// The items of a slice, behind a sum.
+pub(crate) fn slice_of<T: Item>(sum: u64, items: &[T]) -> u64 {
+    let mut sum = sum;
+    for item in items {
+        sum = folded(sum, item.told());
+    }
+    sum
+}
+
+/// What a call that both policies have replies. An error says that memory was refused, and nothing
+/// has changed.
+pub(crate) fn answer<T: Item, const CAP: usize, B: Behavior>(
+    alloc: Global,
+    deque: &mut ArrayDeque<T, CAP, B>,
+    call: Call,
+) -> Result<u64, AllocError> {
+    match call.kind {
+        0 => Ok(told(deque.pop_front())),
+        1 => Ok(told(deque.pop_back())),
+        2..=8 => Ok(item_reply(deque, call)),
+        9..=15 => Ok(moved(deque, call)),
+        16..=19 => drained(deque, call),
+        20 => split(deque, call),
+        21 => vector_of(alloc, deque),
+        22 => taken_apart(alloc, deque, call),
+        _ => Ok(list_reply(deque, call)),
+    }
+}
+
+/// Single items, read or written where they stand.
+fn item_reply<T: Item, const CAP: usize, B: Behavior>(
+    deque: &mut ArrayDeque<T, CAP, B>,
+    call: Call,
+) -> u64 {
+    let index = call.index(deque.len());
+    match call.kind {
+        2 => folded(seen(deque.front()), seen(deque.back())),
+        3 => written(deque.front_mut(), call.number),
+        4 => written(deque.back_mut(), call.number),
+        5 => seen(deque.get(index)),
+        6 => written(deque.get_mut(index), call.number),
+        7 if index < deque.len() => seen(Some(&deque[index])),
+        8 if index < deque.len() => {
+            deque[index].set(call.number);
+            1
+        }
+        _ => 0,
+    }
+}
+
+/// Calls that take items out, or have them change places.
+fn moved<T: Item, const CAP: usize, B: Behavior>(
+    deque: &mut ArrayDeque<T, CAP, B>,
+    call: Call,
+) -> u64 {
+    let index = call.index(deque.len());
+    match call.kind {
+        9 => told(deque.remove(index)),
+        10 => told(deque.swap_remove_back(index)),
+        11 => told(deque.swap_remove_front(index)),
+        12 => swapped(deque, call),
+        13 => {
+            let bits = call.first as u64;
+            deque.retain(|item| (item.told() ^ bits) % 3 != 0);
+            deque.len() as u64
+        }
+        14 => {
+            deque.clear();
+            1
+        }
+        15 => {
+            deque.linearize();
+            word_of(deque.as_slices().1.is_empty())
+        }
+        _ => 0,
+    }
+}
+
+fn swapped<T: Item, const CAP: usize, B: Behavior>(
+    deque: &mut ArrayDeque<T, CAP, B>,
+    call: Call,
+) -> u64 {
+    let (i, j) = (call.place(deque.len()), call.other_place(deque.len()));
+    if i < deque.len() && j < deque.len() {
+        deque.swap(i, j);
+        1
+    } else {
+        0
+    }
+}
+
+/// A drain of a range with each kind of bounds.
+fn drained<T: Item, const CAP: usize, B: Behavior>(
+    deque: &mut ArrayDeque<T, CAP, B>,
+    call: Call,
+) -> Result<u64, AllocError> {
+    let len = deque.len();
+    let (one, other) = (call.place(len), call.other_place(len));
+    let (from, to) = (one.min(other), one.max(other));
+    if len < to {
+        return Ok(0);
+    }
+    match call.kind {
+        16 => Ok(drain_of(deque.drain(from..to)?, call)),
+        17 => Ok(drain_of(deque.drain(from..)?, call)),
+        18 => Ok(drain_of(deque.drain(..to)?, call)),
+        _ => Ok(drain_of(deque.drain(..)?, call)),
+    }
+}
+
+/// What a drain gives from both ends; the others are dropped.
+fn drain_of<T: Item>(mut drain: Drain<T>, call: Call) -> u64 {
+    let mut sum = drain.len() as u64;
+    for _ in 0..call.number % 4 {
+        sum = folded(sum, told(drain.next()));
+        sum = folded(sum, told(drain.next_back()));
+    }
+    folded(sum, drain.len() as u64)
+}
+
+/// The list cut in two: one part is told, and the other stays.
+fn split<T: Item, const CAP: usize, B: Behavior>(
+    deque: &mut ArrayDeque<T, CAP, B>,
+    call: Call,
+) -> Result<u64, AllocError> {
+    let at = call.place(deque.len());
+    if deque.len() < at {
+        return Ok(0);
+    }
+    let mut rest = deque.split_off(at)?;
+    if call.number % 2 == 0 {
+        mem::swap(deque, &mut rest);
+    }
+    Ok(list_of(&rest))
+}
+
+/// All items, as a vector. None stays.
+fn vector_of<T: Item, const CAP: usize, B: Behavior>(
+    alloc: Global,
+    deque: &mut ArrayDeque<T, CAP, B>,
+) -> Result<u64, AllocError> {
+    let whole = mem::replace(deque, ArrayDeque::<T, CAP, B>::new(alloc)?);
+    match whole.into_vec() {
+        Ok(items) => Ok(slice_of(items.len() as u64, items.as_slice())),
+        Err(refusal) => {
+            *deque = refusal.source;
+            Err(AllocError)
+        }
+    }
+}
+
+/// The items by value from both ends; the others are dropped.
+fn taken_apart<T: Item, const CAP: usize, B: Behavior>(
+    alloc: Global,
+    deque: &mut ArrayDeque<T, CAP, B>,
+    call: Call,
+) -> Result<u64, AllocError> {
+    let whole = mem::replace(deque, ArrayDeque::<T, CAP, B>::new(alloc)?);
+    let mut items = whole.into_iter();
+    let mut sum = items.len() as u64;
+    for _ in 0..call.number % 4 {
+        sum = folded(sum, told(items.next_back()));
+        sum = folded(sum, told(items.next()));
+    }
+    Ok(folded(sum, items.len() as u64))
+}
+
+/// Calls that read or write the whole list.
+fn list_reply<T: Item, const CAP: usize, B: Behavior>(
+    deque: &mut ArrayDeque<T, CAP, B>,
+    call: Call,
+) -> u64 {
+    match call.kind {
+        23 => lengths(deque),
+        24 => both_ends(deque, call),
+        25 => written_from_both_ends(deque, call),
+        26 => {
+            for item in &mut *deque {
+                item.set(item.told() ^ call.number);
+            }
+            1
+        }
+        27 => joined(deque),
+        28 => written_in_slices(deque, call),
+        29 => {
+            deque.truncate(call.index(deque.len()));
+            1
+        }
+        30 => {
+            deque.truncate_front(call.index(deque.len()));
+            1
+        }
+        31 => deque.iter().fold(1, |sum, item| folded(sum, item.told())),
+        _ => 0,
+    }
+}
+
+fn lengths<T: Item, const CAP: usize, B: Behavior>(deque: &ArrayDeque<T, CAP, B>) -> u64 {
+    let sum = folded(deque.len() as u64, deque.capacity() as u64);
+    folded(
+        folded(sum, word_of(deque.is_empty())),
+        word_of(deque.is_full()),
+    )
+}
+
+/// Items read from both ends in turn, and then what is left, from the front by a clone and from the
+/// back.
+fn both_ends<T: Item, const CAP: usize, B: Behavior>(
+    deque: &ArrayDeque<T, CAP, B>,
+    call: Call,
+) -> u64 {
+    let mut items = deque.iter();
+    let mut sum = 0u64;
+    for _ in 0..call.number % 4 {
+        sum = folded(sum, seen(items.next()));
+        sum = folded(sum, seen(items.next_back()));
+    }
+    sum = folded(sum, items.len() as u64);
+    if let Ok(copy) = items.clone() {
+        for item in copy {
+            sum = folded(sum, item.told());
+        }
+    }
+    for item in items.rev() {
+        sum = folded(sum, item.told());
+    }
+    sum
+}
+
+/// Items written from both ends in turn.
+fn written_from_both_ends<T: Item, const CAP: usize, B: Behavior>(
+    deque: &mut ArrayDeque<T, CAP, B>,
+    call: Call,
+) -> u64 {
+    let mut items = deque.iter_mut();
+    let mut sum = 0u64;
+    for _ in 0..call.first % 8 {
+        sum = folded(sum, written(items.next_back(), call.number));
+        sum = folded(sum, written(items.next(), call.number ^ 1));
+    }
+    folded(sum, items.len() as u64)
+}
+
+/// The items of the two slices, joined.
+fn joined<T: Item, const CAP: usize, B: Behavior>(deque: &ArrayDeque<T, CAP, B>) -> u64 {
+    let (front, back) = deque.as_slices();
+    slice_of(slice_of(0, front), back)
+}
+
+/// The items written in the two slices, each by where it stands in the list.
+fn written_in_slices<T: Item, const CAP: usize, B: Behavior>(
+    deque: &mut ArrayDeque<T, CAP, B>,
+    call: Call,
+) -> u64 {
+    let (front, back) = deque.as_mut_slices();
+    let mut number = call.number;
+    for item in front {
+        item.set(number);
+        number = number.wrapping_add(1);
+    }
+    for item in back {
+        item.set(number);
+        number = number.wrapping_add(1);
+    }
+    number
+}
