@@ -30,6 +30,7 @@ impl<T, const CAP: usize> ArrayDeque<T, CAP, Saturating> {
         requires { index ≤ length self.old.items }
         ensures room { IsOk result ↔ (length self.old.items < CAP) }
         ensures items { OnOk result (self.new.items ≡ insert self.old.items index element) }
+        ensures within { length self.new.items ≤ CAP }
         ensures start { OnOk result (self.new.start ≡
             start_opened index (length self.old.items - index) CAP self.old.start) }
         ensures steps { OnOk result (self.new.steps ≡ more_puts 1

@@ -23,6 +23,7 @@ impl<T, const CAP: usize> ArrayDeque<T, CAP, Saturating> {
     pub fn push_front(&mut self, element: T) -> Result<(), CapacityError<T>>
         ensures room { IsOk result ↔ (length self.old.items < CAP) }
         ensures items { OnOk result (self.new.items ≡ element ∷ self.old.items) }
+        ensures within { length self.new.items ≤ CAP }
         ensures start { OnOk result (self.new.start ≡ place_of self.old.start (CAP - 1) CAP) }
         ensures steps { OnOk result (self.new.steps ≡ more_puts 1 self.old.steps) }
         ensures full { IfErr result (λ refusal. refusal.element ≡ element) }
@@ -48,6 +49,7 @@ impl<T, const CAP: usize> ArrayDeque<T, CAP, Saturating> {
     pub fn push_back(&mut self, element: T) -> Result<(), CapacityError<T>>
         ensures room { IsOk result ↔ (length self.old.items < CAP) }
         ensures items { OnOk result (self.new.items ≡ self.old.items ++ element ∷ []) }
+        ensures within { length self.new.items ≤ CAP }
         ensures start { self.new.start ≡ self.old.start }
         ensures steps { OnOk result (self.new.steps ≡ more_puts 1 self.old.steps) }
         ensures full { IfErr result (λ refusal. refusal.element ≡ element) }

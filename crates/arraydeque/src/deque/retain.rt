@@ -46,6 +46,7 @@ impl<T, const CAP: usize, B: Behavior> ArrayDeque<T, CAP, B> {
     where
         T: Drop,
         ensures items { self.new.items ≡ take len self.old.items }
+        ensures within { length self.new.items ≤ CAP }
         ensures start { self.new.start ≡ self.old.start }
         ensures steps { self.new.steps ≡ more_takes (length self.old.items - len) self.old.steps }
     {
@@ -65,6 +66,7 @@ impl<T, const CAP: usize, B: Behavior> ArrayDeque<T, CAP, B> {
     where
         T: Drop,
         ensures items { self.new.items ≡ keep_last len self.old.items }
+        ensures within { length self.new.items ≤ CAP }
         ensures start { self.new.start ≡ up_by (length self.old.items - len) self.old.start CAP }
         ensures steps { self.new.steps ≡ more_takes (length self.old.items - len) self.old.steps }
     {
@@ -92,6 +94,7 @@ impl<T, const CAP: usize, B: Behavior> ArrayDeque<T, CAP, B> {
             (as_ring CAP self.old) (as_ring CAP self.new) }
         ensures filtered { IsFiltered (CalledAt F.FnMut) f self.old.items self.new.items }
         ensures no_longer { length self.new.items ≤ length self.old.items }
+        ensures within { length self.new.items ≤ CAP }
     {
         self.ring.retain(f);
     }
