@@ -21,7 +21,7 @@ mod linearize;
 mod makers;
 mod moves;
 mod parts;
-mod policies;
+mod pushes;
 mod retain;
 mod swaps;
 

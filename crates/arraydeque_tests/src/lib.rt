@@ -22,7 +22,7 @@ mod moves;
 #[cfg(test)]
 mod parts;
 #[cfg(test)]
-mod policies;
+mod pushes;
 #[cfg(test)]
 mod retain;
 #[cfg(test)]

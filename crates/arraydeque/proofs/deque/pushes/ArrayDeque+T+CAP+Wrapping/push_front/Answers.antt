@@ -1,9 +1,10 @@
-use Rattle.std.proofs.{Common.{◌≡◌, slice_get, arith}, lemmas.Grind.common_steps}
-use Rattle.arraydeque.proofs.deque.policies.ArrayDeque+T+CAP+Wrapping.push_back.Goals as goal
+use Rattle.std.proofs.{Common.{◌≡◌, arith}, lemmas.Grind.common_steps}
+use Rattle.arraydeque.specs.Deque.{last_item}
+use Rattle.arraydeque.proofs.deque.pushes.ArrayDeque+T+CAP+Wrapping.push_front.Goals as goal
 
 pub returns : goal.returns
 returns g c =
-    let value : c.pop_front-displaced.result ≡ slice_get c.args.self.now.items 0 = c.pop_front-displaced.ensures.value in
+    let value : c.pop_back-displaced.result ≡ last_item c.args.self.now.items = c.pop_back-displaced.ensures.value in
     record {
       items = grind (arith, common_steps);
       value = grind (arith, common_steps);
