@@ -1,7 +1,8 @@
 //! The iterator that owns the items of a ring. A contract sees the list of those that remain.
-ghost use Rattle.std.specs.Prelude.{◌≡◌, length, Some, IfSome};
+ghost use Rattle.std.specs.Prelude.{◌≡◌, ◌<◌, ◌+◌, ◌-◌, length, drop, slice_get, Some, IfSome};
 ghost use Rattle.std.specs.Iterator.{YieldsFirst, YieldsLast, UpTo, item_count};
 ghost use Rattle.std.specs.Iterator.SizeHint.{IsWithinCount};
+ghost use Rattle.arraydeque_ring.specs.Steps.{more_takes};
 
 use super::Ring;
 use std::iter::FusedIterator;
@@ -83,3 +84,36 @@ impl<T: Drop> ExactSizeIterator for IntoIter<T> {
 }
 
 impl<T: Drop> FusedIterator for IntoIter<T> {}
+
+impl<T> Ring<T> {
+    /// How many items [`Ring::take_before_end`] can't take: the one in the region's last place, and
+    /// those past its end.
+    #[inline(always)]
+    fn len_from_last_place(&self) -> usize
+        ensures { result ≡ length self.now.items - (self.now.capacity - 1 - self.now.start) }
+    {
+        let to_end = self.slots.capacity() - self.start;
+        self.len.saturating_sub(to_end.saturating_sub(1))
+    }
+
+    /// Takes the first item off, as [`Ring::pop_front`] does, where the next place is before the
+    /// region's end. Many such in a row empty places in a row.
+    #[inline(always)]
+    fn take_before_end(&mut self) -> T
+        requires some { 0 < length self.old.items }
+        requires before_end { self.old.start + 1 < self.old.capacity }
+        ensures value { Some result ≡ slice_get self.old.items 0 }
+        ensures taken { self.new ≡ record self.old {
+          items = drop 1 self.old.items;
+          start = self.old.start + 1;
+          steps = more_takes 1 self.old.steps;
+        } }
+    {
+        // That no sum passes `usize::MAX` is known of the capacity.
+        let _capacity = self.slots.capacity();
+        let place = self.start;
+        self.start = place + 1;
+        self.len -= 1;
+        self.slots.take(place)
+    }
+}
