@@ -1,5 +1,5 @@
 -- The last items of a list.
-use Rattle.std.proofs.{Common.{◌≡◌, ℕ, ◌+◌, ◌-◌, ◌≤◌, List, ◌++◌, length, take, drop, min, inl, inr, ap, ap₂, sym, ◌∙◌, arith}, lemmas.{Bool.cases_lt, List.{length-append, length-drop, drop-append-le, drop-drop, drop_all, drop_min, take_all}}, Math.Seq.drop-append-add}
+use Rattle.std.proofs.{Common.{◌≡◌, ℕ, ◌+◌, ◌-◌, ◌≤◌, List, [], ◌∷◌, ◌<◌, ◌++◌, length, take, drop, min, inl, inr, ap, ap₂, sym, ◌∙◌, arith}, lemmas.{Bool.cases_lt, List.{length-append, length-drop, drop-append-le, drop-drop, drop_all, drop_min, take_all}}, Math.Seq.drop-append-add}
 use Rattle.arraydeque.specs.Deque.{keep_last}
 
 -- all of a list that is short enough
@@ -13,6 +13,15 @@ keep_last-append n xs ys =
     let then = length (keep_last n xs ++ ys) - n in
     let both : first + then ≡ length (xs ++ ys) - n = omega (arith, length-append xs ys, length-append (keep_last n xs) ys, length-drop first xs) in
     ap (drop then) (sym (drop-append-le first xs ys (omega arith))) ∙ drop-drop then first (xs ++ ys) ∙ ap (λ k. drop k (xs ++ ys)) both
+
+-- where there are n already, an item more goes behind them, and the first of them goes
+pub keep_last-full : {X : Type 0} (n : ℕ) (xs : List X) (y : X) → 0 < n → n ≤ length xs → keep_last n (xs ++ y ∷ []) ≡ drop 1 (keep_last n xs) ++ y ∷ []
+keep_last-full n xs y some full =
+    let gone : length (xs ++ y ∷ []) - n ≡ (length xs - n) + 1 = omega (arith, length-append xs (y ∷ [])) in
+    ap (λ k. drop k (xs ++ y ∷ [])) gone ∙ drop-append-le ((length xs - n) + 1) xs (y ∷ []) (omega arith) ∙ ap (λ ys. ys ++ y ∷ []) (sym (drop-drop 1 (length xs - n) xs))
+
+-- what becomes of the last items, one extend or push after another
+pub ruleset keep_last_rules = (keep_last-all, keep_last-append, keep_last-full)
 
 -- what is dropped of two lists is dropped of the first, and the rest of the second
 drop-append : {X : Type 0} (k : ℕ) (xs ys : List X) → drop k (xs ++ ys) ≡ drop k xs ++ drop (k - length xs) ys

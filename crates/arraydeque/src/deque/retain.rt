@@ -1,5 +1,6 @@
 //! Dropping items where they stand: all, those at one end, and those that a closure doesn't want.
-ghost use Rattle.std.specs.Prelude.{◌≡◌, ◌-◌, ◌≤◌, [], length, take};
+ghost use Rattle.std.specs.Prelude.{◌≡◌, ◌-◌, ◌≤◌, Bool, [], length, take};
+ghost use Rattle.std.specs.List.{filter};
 ghost use Rattle.std.specs.Fn.{CalledAt};
 ghost use Rattle.std.specs.List.Retain.{IsFiltered};
 ghost use Rattle.arraydeque_ring.specs.Ring.{up_by};
@@ -93,6 +94,9 @@ impl<T, const CAP: usize, B: Behavior> ArrayDeque<T, CAP, B> {
         ensures retains { Retains (CalledAt F.FnMut) f
             (as_ring CAP self.old) (as_ring CAP self.new) }
         ensures filtered { IsFiltered (CalledAt F.FnMut) f self.old.items self.new.items }
+        ensures tested { (test : T → Bool) → ((item : T) (answer : Bool) (after : F) →
+            CalledAt F.FnMut f item answer after → (answer ≡ test item) × (after ≡ f))
+            → filter test self.old.items ≡ self.new.items }
         ensures no_longer { length self.new.items ≤ length self.old.items }
         ensures within { length self.new.items ≤ CAP }
     {

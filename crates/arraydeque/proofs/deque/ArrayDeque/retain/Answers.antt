@@ -1,4 +1,4 @@
-use Rattle.std.proofs.Common.{ap}
+use Rattle.std.proofs.{Common.{ap, sym}, lemmas.Fn.filter_same}
 use Rattle.arraydeque_ring.specs.Ring.{RingState}
 use Rattle.arraydeque.{specs.Deque.as_ring, proofs.Pushed.of_ring}
 use Rattle.arraydeque.proofs.deque.ArrayDeque.retain.Goals as goal
@@ -16,3 +16,8 @@ pub returns-clause-filtered : goal.returns-clause-filtered
 returns-clause-filtered g c =
     let r = c.retain.ensures.retains in
     rw (← c.self.view_is) (r.answers, r.last, r.one_each, r.in_turn, ap (λ (ring : RingState g.row.T.Denot). ring.items) r.kept)
+
+pub returns-clause-tested : goal.returns-clause-tested
+returns-clause-tested g c =
+    let r = c.retain.ensures.retains in
+    λ test says. rw (← c.self.view_is) (sym (filter_same _ test _ says _ _ (r.answers, r.last, r.one_each, r.in_turn, ap (λ (ring : RingState g.row.T.Denot). ring.items) r.kept)))
