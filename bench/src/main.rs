@@ -147,7 +147,8 @@ fn further_workloads() -> Vec<Workload> {
     of_all_lists!(list, reversed, arraydeque_bench_reversed);
     of_all_lists!(list, zipped, arraydeque_bench_zipped);
     of_all_lists!(list, add_each, arraydeque_bench_add_each, (8, u64, 1000000));
-    of_all_lists!(list, for_each_mut, arraydeque_bench_for_each_mut, (8, u64, 1000000));
+    // Not at capacity 16, whose rounds the compiler sums without making them.
+    of_all_items!(list, for_each_mut, arraydeque_bench_for_each_mut, (8, u64, 64), (8, u64, 1000000));
     of_all_lists!(list, contains, arraydeque_bench_contains, (8, u64, 1000000));
     workloads!(
         list, compare, arraydeque_bench_compare, true,

@@ -90,12 +90,10 @@ fn called(items: Iter<'_, i64>) -> i64 {
 /// Appends to each item on which a `for_each` calls how many it has called on by then.
 fn number_each(items: IterMut<'_, i64>) {
     let mut count = 0i64;
-    items.for_each(
-        |item| {
-            count = count.wrapping_add(1);
-            *item = item.wrapping_mul(10).wrapping_add(count);
-        },
-    );
+    items.for_each(|item| {
+        count = count.wrapping_add(1);
+        *item = item.wrapping_mul(10).wrapping_add(count);
+    });
 }
 
 #[test]
