@@ -52,7 +52,7 @@ fn difference(pair: &Pair, script: &[u64], refused: u64, ours: &mut Told, theirs
         return ours.difference(theirs);
     }
     if ours.end == REFUSED {
-        return None;
+        return if ours.is_even() { None } else { Some(0) };
     }
     let mut refusals = (0..script.len()).filter(|&call| [REFUSED, BROKEN].contains(&ours.replies[call]));
     let Some(call) = refusals.next() else {
@@ -112,6 +112,11 @@ fn told_of(pair: &Pair, script: &[u64], refused: u64) -> String {
         text += &format!("  {}\n", Call::of(*word));
         text += &format!("    ours   {:016x}, list {:016x}\n", ours.replies[i], ours.lists[i]);
         text += &format!("    theirs {:016x}, list {:016x}\n", theirs.replies[i], theirs.lists[i]);
+    }
+    for (side, told) in [("ours", &ours), ("theirs", &theirs)] {
+        if !told.is_even() {
+            text += &format!("  {side}: not each item is dropped once, and its memory given back\n");
+        }
     }
     text + &format!("  the crate's list before it {:?}\n", (pair.list_behind)(&short[..short.len() - 1]))
         + &format!("  and behind it              {:?}\n", (pair.list_behind)(&short))

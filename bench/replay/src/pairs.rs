@@ -22,6 +22,8 @@ pub struct Told {
     pub lists: Vec<u64>,
     /// What is left of the sum of the items alive, or `REFUSED`.
     pub end: u64,
+    /// How many blocks of memory were not given back.
+    blocks: i64,
 }
 
 impl Told {
@@ -33,9 +35,17 @@ impl Told {
         }
     }
 
-    /// The first call of which two sides tell different things.
+    /// Whether each item that was made was dropped, and each block given back.
+    pub fn is_even(&self) -> bool {
+        [0, REFUSED].contains(&self.end) && self.blocks == 0
+    }
+
+    /// The first call of which two sides tell different things, or the last one, if drops are uneven.
     pub fn difference(&self, other: &Told) -> Option<usize> {
-        (0..self.replies.len()).find(|&i| (self.replies[i], self.lists[i]) != (other.replies[i], other.lists[i]))
+        let mut calls = 0..self.replies.len();
+        let told = calls.find(|&i| (self.replies[i], self.lists[i]) != (other.replies[i], other.lists[i]));
+        let is_even = self.is_even() && other.is_even();
+        told.or_else(|| if is_even { None } else { self.replies.len().checked_sub(1) })
     }
 }
 
@@ -68,15 +78,7 @@ impl Pair {
             )
         };
         let (requests, blocks) = memory::counted();
-        assert!(blocks == 0, "{}, {}, capacity {}: {blocks} blocks are left", self.items, self.policy, self.capacity);
-        assert!(
-            told.end == 0 || told.end == REFUSED,
-            "{}, {}, capacity {}: drops are uneven on our side: {}",
-            self.items,
-            self.policy,
-            self.capacity,
-            told.end
-        );
+        told.blocks = blocks;
         requests
     }
 
@@ -84,7 +86,6 @@ impl Pair {
     pub fn play_theirs(&self, script: &[u64], told: &mut Told) {
         told.clear(script.len());
         told.end = (self.theirs)(script, &mut told.replies, &mut told.lists);
-        assert!(told.end == 0, "{}, {}, capacity {}: the crate's drops are uneven", self.items, self.policy, self.capacity);
     }
 }
 
