@@ -10,7 +10,9 @@ within n xs ys made = omega (arith, ap length made, length-take n xs)
 pub of-requires : goal.of-requires
 of-requires g c =
     let made = c.in-Ok.ensures.ok in
-    (omega arith, (ap (λ (ring : RingState g.row.T.Denot). ring.capacity) made, within _ _ _ (ap (λ (ring : RingState g.row.T.Denot). ring.items) made)))
+    let capacity = ap (λ (ring : RingState g.row.T.Denot). ring.capacity) made in
+    let items = ap (λ (ring : RingState g.row.T.Denot). ring.items) made in
+    (omega arith, (capacity, within _ _ _ items))
 
 pub returns-in-Ok-clause-items : goal.returns-in-Ok-clause-items
 returns-in-Ok-clause-items g c = ap of_ring (c.of.ensures ∙ c.in-Ok.ensures.ok)
