@@ -4,13 +4,17 @@ use Rattle.arraydeque_ring.specs.Fills.{Fills, Ends}
 use Rattle.arraydeque.specs.Sources.{TakesFrom, TakesAll}
 
 -- the items of a run that are read off a list are its first ones, as many as they are
-module _ {S A : Type 0} {gives : S → Option A → S → Type 0} (run : Run gives) (m : ℕ) (xs : List A) (as_many : m ≡ run.len) (within : m ≤ length xs) (reads : (k : ℕ) → k < run.len → run.at k ≡ slice_get xs k) where
+module _ {S A : Type 0} {gives : S → Option A → S → Type 0} (run : Run gives) (m : ℕ) (xs : List A)
+    (as_many : m ≡ run.len) (within : m ≤ length xs)
+    (reads : (k : ℕ) → k < run.len → run.at k ≡ slice_get xs k) where
   pub items-taken : take m xs ≡ run.items
   items-taken =
       same_lists (take m xs) run.items (omega (arith, as_many, within, run.long, length-take m xs)) (λ k d below.
       let here : k < run.len = omega (arith, as_many, length-take m xs) in
       let in_list : k < length xs = omega (arith, as_many, within) in
-      get_or-take m xs k d (omega (arith, as_many)) ∙ sym (ap (λ o. unwrap_or o d) (sym (run.reads k d here) ∙ ap (option_map (λ y. y)) (reads k here ∙ slice_get-get_or xs k d in_list))))
+      let read = ap (option_map (λ y. y)) (reads k here ∙ slice_get-get_or xs k d in_list) in
+      let same = ap (λ o. unwrap_or o d) (sym (run.reads k d here) ∙ read) in
+      get_or-take m xs k d (omega (arith, as_many)) ∙ sym same)
 
 -- a run over a list gives the first n of it, where it gives at most n items, and fewer only at its end
 module _ {S A : Type 0} {gives : S → Option A → S → Type 0} (run : Run gives) (n : ℕ) (at_most : run.len ≤ n) (fewer : run.len < n → run.whole ≡ true) (xs : List A) where
