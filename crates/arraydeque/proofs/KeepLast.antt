@@ -15,10 +15,12 @@ keep_last-append n xs ys =
     ap (drop then) (sym (drop-append-le first xs ys (omega arith))) ∙ drop-drop then first (xs ++ ys) ∙ ap (λ k. drop k (xs ++ ys)) both
 
 -- where there are n already, an item more goes behind them, and the first of them goes
-pub keep_last-full : {X : Type 0} (n : ℕ) (xs : List X) (y : X) → 0 < n → n ≤ length xs → keep_last n (xs ++ y ∷ []) ≡ drop 1 (keep_last n xs) ++ y ∷ []
+pub keep_last-full : {X : Type 0} (n : ℕ) (xs : List X) (y : X) → 0 < n → n ≤ length xs →
+    keep_last n (xs ++ y ∷ []) ≡ drop 1 (keep_last n xs) ++ y ∷ []
 keep_last-full n xs y some full =
     let gone : length (xs ++ y ∷ []) - n ≡ (length xs - n) + 1 = omega (arith, length-append xs (y ∷ [])) in
-    ap (λ k. drop k (xs ++ y ∷ [])) gone ∙ drop-append-le ((length xs - n) + 1) xs (y ∷ []) (omega arith) ∙ ap (λ ys. ys ++ y ∷ []) (sym (drop-drop 1 (length xs - n) xs))
+    let first = drop-append-le ((length xs - n) + 1) xs (y ∷ []) (omega arith) in
+    ap (λ k. drop k (xs ++ y ∷ [])) gone ∙ first ∙ ap (λ ys. ys ++ y ∷ []) (sym (drop-drop 1 (length xs - n) xs))
 
 -- what becomes of the last items, one extend or push after another
 pub ruleset keep_last_rules = (keep_last-all, keep_last-append, keep_last-full)

@@ -1,19 +1,20 @@
 -- What is taken of a source of items.
-use Rattle.std.{proofs.{Common.{◌≡◌, ℕ, ◌<◌, ◌≤◌, List, length, take, drop, min, Option, Some, None, slice_get, slice_index_or, Bool, true, false, ◌++◌, refl, sym, subst, ap, ◌∙◌, arith, inl, inr}, iter.runs.{Lists.{Yields-both}, Made.{run, run_of_exit, took}}, lemmas.{Bool.{cases_lt, cases_Bool}, List.{same_lists, length-take, get_or-take, take-append-drop}, Option.slice_get-get_or}}, specs.{Option.{unwrap_or, option_map}, Iterator.{Yields, Drains, Runs.{Run, ItemsAre, YieldsInOrder}}}}
+use Rattle.std.{proofs.{Common.{◌≡◌, ℕ, ◌<◌, ◌≤◌, List, length, take, min, Option, Some, None, slice_get, slice_index_or, Bool, true, false, ◌++◌, refl, sym, subst, ap, ◌∙◌, arith, inl, inr}, iter.runs.{Lists.{Yields-both}, Made.{run, run_of_exit, took}}, lemmas.{Bool.{cases_lt, cases_Bool}, List.{same_lists, length-take, get_or-take}, Option.slice_get-get_or}}, specs.{Option.{unwrap_or, option_map}, Iterator.{Yields, Drains, Runs.{Run, ItemsAre, YieldsInOrder}}}}
 use Rattle.arraydeque_ring.specs.Fills.{Fills, Ends}
 use Rattle.arraydeque.specs.Sources.{TakesFrom, TakesAll}
 
--- the items of a run that are read off a list are its first ones, as many as they are, and the others are the rest
-module _ {S A : Type 0} {gives : S → Option A → S → Type 0} (run : Run gives) (m : ℕ) (xs : List A) (as_many : m ≡ run.len) (within : m ≤ length xs) (reads : (k : ℕ) → k < run.len → run.at k ≡ slice_get xs k) where
+-- the items of a run that are read off a list are its first ones, as many as they are
+module _ {S A : Type 0} {gives : S → Option A → S → Type 0} (run : Run gives) (m : ℕ) (xs : List A)
+    (as_many : m ≡ run.len) (within : m ≤ length xs)
+    (reads : (k : ℕ) → k < run.len → run.at k ≡ slice_get xs k) where
   pub items-taken : take m xs ≡ run.items
   items-taken =
       same_lists (take m xs) run.items (omega (arith, as_many, within, run.long, length-take m xs)) (λ k d below.
       let here : k < run.len = omega (arith, as_many, length-take m xs) in
       let in_list : k < length xs = omega (arith, as_many, within) in
-      get_or-take m xs k d (omega (arith, as_many)) ∙ sym (ap (λ o. unwrap_or o d) (sym (run.reads k d here) ∙ ap (option_map (λ y. y)) (reads k here ∙ slice_get-get_or xs k d in_list))))
-
-  pub items-rest : run.items ++ drop m xs ≡ xs
-  items-rest = ap (λ ys. ys ++ drop m xs) (sym items-taken) ∙ take-append-drop m xs
+      let read = ap (option_map (λ y. y)) (reads k here ∙ slice_get-get_or xs k d in_list) in
+      let same = ap (λ o. unwrap_or o d) (sym (run.reads k d here) ∙ read) in
+      get_or-take m xs k d (omega (arith, as_many)) ∙ sym same)
 
 -- a run over a list gives the first n of it, where it gives at most n items, and fewer only at its end
 module _ {S A : Type 0} {gives : S → Option A → S → Type 0} (run : Run gives) (n : ℕ) (at_most : run.len ≤ n) (fewer : run.len < n → run.whole ≡ true) (xs : List A) where
@@ -82,7 +83,6 @@ module _ {Source S A : Type 0} (becomes : Source → S → Type 0) (gives : S �
           holds = holds filled.items filled.holds;
           first = items-read ran n filled.at_most or_all;
           as_many = items-taken ran;
-          rest = items-rest ran;
         }
 
     pub TakesAll-fills : ended ≡ true → ((xs : List A) → length xs ≤ n → Q xs → P xs) → TakesAll becomes gives source P

@@ -1,5 +1,5 @@
 -- What a source of items gives, once it is turned into an iterator.
-use Rattle.std.specs.{Prelude.{◌≡◌, ℕ, ◌<◌, ◌≤◌, List, ◌++◌, length, take, drop, slice_get, Option, true}, Iterator.Runs.Run}
+use Rattle.std.specs.{Prelude.{◌≡◌, ℕ, ◌<◌, ◌≤◌, List, length, take, slice_get, Option, true}, Iterator.Runs.Run}
 
 -- whatever iterator the source becomes may be called
 abbrev pub IsIterable : {Source S : Type 0} → (Source → S → Type 0) → (S → Type 0) → Source → Type 0
@@ -9,7 +9,7 @@ module _ {Source S A : Type 0} (becomes : Source → S → Type 0)
     (gives : S → Option A → S → Type 0) (source : Source) where
   -- the source became an iterator whose calls gave at most n items, and fewer only where a None
   -- came after them, and P holds of these items; of a list that they were read off, they are the
-  -- first n, and, as many as they are, they are the first and the others are the rest
+  -- first n, and the first m for each m that is their number
   pub record TakesFrom (n : ℕ) (P : List A → Type 0) : Type 0 where
     pub iterator : S
     pub became : becomes source iterator
@@ -22,8 +22,6 @@ module _ {Source S A : Type 0} (becomes : Source → S → Type 0)
         → ((k : ℕ) → k < run.len → run.at k ≡ slice_get xs k) → run.items ≡ take n xs
     pub as_many : (m : ℕ) (xs : List A) → m ≡ run.len → m ≤ length xs
         → ((k : ℕ) → k < run.len → run.at k ≡ slice_get xs k) → take m xs ≡ run.items
-    pub rest : (m : ℕ) (xs : List A) → m ≡ run.len → m ≤ length xs
-        → ((k : ℕ) → k < run.len → run.at k ≡ slice_get xs k) → run.items ++ drop m xs ≡ xs
 
   -- the source became an iterator whose calls gave items and then the first None, and P holds of
   -- these items

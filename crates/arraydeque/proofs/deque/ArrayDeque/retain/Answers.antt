@@ -20,4 +20,6 @@ returns-clause-filtered g c =
 pub returns-clause-tested : goal.returns-clause-tested
 returns-clause-tested g c =
     let r = c.retain.ensures.retains in
-    λ test says. rw (← c.self.view_is) (sym (filter_same _ test _ says _ _ (r.answers, r.last, r.one_each, r.in_turn, ap (λ (ring : RingState g.row.T.Denot). ring.items) r.kept)))
+    let kept = ap (λ (ring : RingState g.row.T.Denot). ring.items) r.kept in
+    λ test says. rw (← c.self.view_is)
+    (sym (filter_same _ test _ says _ _ (r.answers, r.last, r.one_each, r.in_turn, kept)))
