@@ -7,8 +7,9 @@ pub loop-item-preserved : goal.loop-item-preserved
 loop-item-preserved g c =
     let gave = it.said g.I.Iterator.next_gives c.in-Some.is c.next.ensures.steps in
     let called = it.called g.F.FnMut c.f.ensures refl in
-    let (walked, callable) = c.loop-item.invariant in (
-      it.again walked c.in-Some.item c.in-Some.is (c.next.ensures.steps, c.next.ensures.goes)
-          (chained_more (λ p x q. Called g.F.FnMut p (x, tt) tt q) _ walked.seen _ c.in-Some.item _ walked.holds called),
+    let (walked, callable) = c.loop-item.invariant in
+    let led = chained_more (λ p x q. Called g.F.FnMut p (x, tt) tt q) _ walked.seen _ c.in-Some.item _
+    walked.holds called in (
+      it.again walked c.in-Some.item c.in-Some.is (c.next.ensures.steps, c.next.ensures.goes) led,
       it.Serves-on callable c.in-Some.item _ gave _ called,
     )

@@ -11,23 +11,25 @@ left loan xs ys = record loan { first = record loan.first { now = xs }; second =
 pub call_on_each-f-requires-clause-callable : goal.call_on_each-f-requires-clause-callable
 call_on_each-f-requires-clause-callable g c =
     let loan = c.args.self in
-    let begun = c.into_iter.ensures.into_iter_gives.0 ∙ ap (λ slice. slice.now) c.into_slices-first.ensures.first in
-    callable_first (λ x. x.now) remaining (left loan) (λ xs ys. refl) (λ z. z.s.now) (λ z w. length w.s.now ≡ 0) _ loan.first.now loan.second.now
-    c.into_iter.result begun c.requires.callable
+    let begun = c.into_iter.ensures.into_iter_gives.0 ∙ ap (λ s. s.now) c.into_slices-first.ensures.first in
+    callable_first (λ x. x.now) remaining (left loan) (λ xs ys. refl) (λ z. z.s.now) (λ z w. length w.s.now ≡ 0) _
+    loan.first.now loan.second.now c.into_iter.result begun c.requires.callable
 
 pub call_on_each-requires-clause-callable : goal.call_on_each-requires-clause-callable
 call_on_each-requires-clause-callable g c =
     let loan = c.args.self in
-    let begun = c.into_iter.ensures.into_iter_gives.0 ∙ ap (λ slice. slice.now) c.into_slices-first.ensures.first in
-    let next = c.into_iter-2.ensures.into_iter_gives.0 ∙ ap (λ slice. slice.now) c.into_slices-first.ensures.second in
-    callable_second (λ x. x.now) remaining (left loan) (λ xs ys. refl) (λ z. z.s.now) (λ z w. length w.s.now ≡ 0) _ loan.first.now loan.second.now
-    c.into_iter.result begun c.call_on_each-f.ensures c.into_iter-2.result next c.requires.callable
+    let begun = c.into_iter.ensures.into_iter_gives.0 ∙ ap (λ s. s.now) c.into_slices-first.ensures.first in
+    let next = c.into_iter-2.ensures.into_iter_gives.0 ∙ ap (λ s. s.now) c.into_slices-first.ensures.second in
+    callable_second (λ x. x.now) remaining (left loan) (λ xs ys. refl) (λ z. z.s.now) (λ z w. length w.s.now ≡ 0) _
+    loan.first.now loan.second.now c.into_iter.result begun c.call_on_each-f.ensures
+    c.into_iter-2.result next c.requires.callable
 
 pub returns : goal.returns
 returns g c =
     let loan = c.args.self in
-    let begun = c.into_iter.ensures.into_iter_gives.0 ∙ ap (λ slice. slice.now) c.into_slices-first.ensures.first in
-    let next = c.into_iter-2.ensures.into_iter_gives.0 ∙ ap (λ slice. slice.now) c.into_slices-first.ensures.second in
-    let ran = walked_both (λ x. x.now) remaining (left loan) (λ xs ys. refl) (λ z. z.s.now) (λ z w. length w.s.now ≡ 0) _ loan.first.now loan.second.now
+    let begun = c.into_iter.ensures.into_iter_gives.0 ∙ ap (λ s. s.now) c.into_slices-first.ensures.first in
+    let next = c.into_iter-2.ensures.into_iter_gives.0 ∙ ap (λ s. s.now) c.into_slices-first.ensures.second in
+    let ran = walked_both (λ x. x.now) remaining (left loan) (λ xs ys. refl) (λ z. z.s.now)
+    (λ z w. length w.s.now ≡ 0) _ loan.first.now loan.second.now
     c.into_iter.result begun c.call_on_each-f.ensures c.into_iter-2.result next c.call_on_each.ensures in
     record { ran = ran; runs = for_each_runs (YieldsFirstMut remaining) loan g.F.FnMut c.args.f ran }
