@@ -1,6 +1,16 @@
 -- One run of a scanner's calls after another.
-use Rattle.std.{proofs.{Common.{◌≡◌, Bool, true, false, true≢false, List, [], ◌∷◌, ◌++◌, Option, Some, None, IfSome, IfNone, slice_get, refl, sym, ◌∙◌, ap, subst, append-nil, append_assoc}, iter.runs.Made.{run, to_end}}, specs.{Iterator.{Yields, Runs.WholeRun}, Option.option_to_list}}
-use Rattle.arraydeque.specs.Lookahead.{ScannerState, fresh_scanner, Reads, HandsOut, HasRest, TakesOff, NextIs}
+use Rattle.std.{proofs.{Common.{◌≡◌, ℕ, ◌+◌, arith, Bool, true, false, true≢false, List, [], ◌∷◌, ◌++◌, Option, Some, None, IfSome, IfNone, slice_get, refl, sym, ◌∙◌, ap, subst, append-nil, append_assoc}, iter.runs.Made.{run, to_end}}, specs.{Iterator.{Count, Yields, Runs.WholeRun}, Option.option_to_list}}
+use Rattle.arraydeque.specs.Lookahead.{ScannerState, left_of, fresh_scanner, Reads, HandsOut, HasRest, TakesOff, NextIs}
+
+-- a scanner that is made over an empty buffer is fresh
+pub fresh_made : {S A : Type 0} (remaining : S → Count) (iter : S) (buffer : List A) → buffer ≡ []
+    → fresh_scanner {S = S} {A = A} remaining iter ≡ record { iter = iter; buffer = buffer; ended = false; left = left_of remaining iter buffer false }
+unfolding left_of
+fresh_made remaining iter [] empty =
+    let count = remaining iter in
+    let same : count.bound ≡ count.bound + 0 = omega arith in
+    ap (λ (n : ℕ). record { iter = iter; buffer = []; ended = false; left = record { bounded = count.bounded; bound = n } }) same
+fresh_made remaining iter (x ∷ buffer) empty = cc
 
 module _ {S A : Type 0} (steps : S → Option A → S → Type 0) where
   Yields-append : (s t u : S) (xs ys : List A) → Yields steps s xs t → Yields steps t ys u → Yields steps s (xs ++ ys) u
@@ -40,9 +50,9 @@ module _ {S A : Type 0} (steps : S → Option A → S → Type 0) where
   )
 
   -- the rest of a fresh scanner is what a whole run of its iterator gives
-  pub WholeRun-fresh : (s : ScannerState S A) (iter : S) → s ≡ fresh_scanner iter → (rest : List A) → HasRest steps s rest → WholeRun steps iter (λ p. p.items ≡ rest)
+  pub WholeRun-fresh : (remaining : S → Count) (s : ScannerState S A) (iter : S) → s ≡ fresh_scanner remaining iter → (rest : List A) → HasRest steps s rest → WholeRun steps iter (λ p. p.items ≡ rest)
   unfolding HasRest
-  WholeRun-fresh s iter fresh rest has =
+  WholeRun-fresh remaining s iter fresh rest has =
       let read = subst (λ t. HasRest steps t rest) fresh has in
       (run steps iter read.0 true (to_end steps iter read.0 read.1), refl, refl, sym read.2)
 

@@ -1,21 +1,32 @@
 -- What a contract sees of a scanner, what its calls read and hand out, and what it has left.
-use Rattle.std.specs.{Prelude.{◌≡◌, ℕ, ◌+◌, ◌<◌, ◌≤◌, max, List, [], ◌∷◌, ◌++◌, length, drop, slice_get, Option, None, IfNone, IfSome, OnSome, Bool, true, false}, Option.option_to_list, Iterator.{Count, IsFinite, UpTo, size, count_map, count_unless, Yields, YieldsThen}}
+use Rattle.std.specs.{Prelude.{◌≡◌, ℕ, ◌+◌, ◌<◌, ◌≤◌, max, List, [], ◌∷◌, ◌++◌, length, drop, slice_get, Option, None, IfNone, IfSome, OnSome, MatchOption, Bool, true, false}, Option.option_to_list, Iterator.{Count, IsFinite, UpTo, size, count_map, count_unless, Yields, YieldsThen}}
 
--- a scanner: its iterator, the items read ahead, and whether the iterator has given its first None
+-- a scanner: its iterator, the items read ahead, whether the iterator has given its first None, and
+-- how many items are left at most
 pub record ScannerState (S A : Type 0) : Type 0 where
   pub iter : S
   pub buffer : List A
   pub ended : Bool
+  pub left : Count
 
-module _ {S A : Type 0} where
+module _ {S A : Type 0} (remaining : S → Count) where
+  -- how many items an iterator and a buffer have together at most
+  unfoldable pub left_of : S → List A → Bool → Count
+  left_of iter buffer ended =
+      count_map (λ n. n + length buffer) (count_unless ended (remaining iter))
+
   -- a scanner that has not asked its iterator yet
   abbrev pub fresh_scanner : S → ScannerState S A
-  fresh_scanner iter = record { iter = iter; buffer = []; ended = false }
+  fresh_scanner iter = record { iter = iter; buffer = []; ended = false; left = remaining iter }
 
-  -- how many items it has left at most, where `remaining` says so of its iterator
-  unfoldable pub left_of : (S → Count) → ScannerState S A → Count
-  left_of remaining s =
-      count_map (λ n. n + length s.buffer) (count_unless s.ended (remaining s.iter))
+  -- `left` counts what the iterator and the buffer have
+  abbrev pub CountsLeft : ScannerState S A → Type 0
+  CountsLeft s = s.left ≡ left_of s.iter s.buffer s.ended
+
+  -- of an iterator that ends, an item that was given lowers the count, and None doesn't raise it
+  abbrev pub Lowers : ScannerState S A → Option A → ScannerState S A → Type 0
+  Lowers old item new = IsFinite (remaining old.iter) → IsFinite (remaining new.iter)
+      × MatchOption item (size new.left ≤ size old.left) (λ _. size new.left < size old.left)
 
 module _ {S A : Type 0} (steps : S → Option A → S → Type 0) where
   -- the iterator gave xs, and then None exactly where it ended; one that had ended wasn't asked
@@ -66,5 +77,6 @@ module _ {S A : Type 0} (steps : S → Option A → S → Type 0) where
     pub some : OnSome seen (new.ended ≡ old.ended)
     pub within : length new.buffer ≤ max (length old.buffer) (k + 1)
     pub unchanged : k < length old.buffer → new ≡ old
-    pub goes : IsFinite (left_of remaining old)
-        → UpTo (left_of remaining new) (size (left_of remaining old))
+    pub left : IsFinite old.left → UpTo new.left (size old.left)
+    pub lowers : Lowers remaining old None new
+    pub counts : CountsLeft remaining new

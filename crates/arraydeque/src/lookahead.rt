@@ -6,7 +6,7 @@ ghost use Rattle.std.specs.Iterator.{IsFinite, MakesProgress, UpTo, count_map, s
 ghost use Rattle.std.specs.Iterator.Runs.{WholeRun};
 ghost use Rattle.std.specs.Mem.{type_size};
 ghost use Rattle.std.specs.Option.{option_to_list};
-ghost use Rattle.arraydeque.specs.Lookahead.{fresh_scanner, left_of, Reads, HandsOut, HasRest, TakesOff, PutsOn, NextIs, Peeks, Gives};
+ghost use Rattle.arraydeque.specs.Lookahead.{fresh_scanner, CountsLeft, Lowers, Reads, HandsOut, HasRest, TakesOff, PutsOn, NextIs, Peeks, Gives};
 
 use crate::behavior::Saturating;
 use crate::deque::ArrayDeque;
@@ -33,11 +33,16 @@ pub struct Scanner<I: Iterator, const CAP: usize> {
 
 impl<I: Iterator, const CAP: usize> Model for Scanner<I, CAP> {
     ghost use Rattle.std.specs.Prelude.{◌≡◌, false};
-    ghost use Rattle.arraydeque.specs.Lookahead.{ScannerState};
+    ghost use Rattle.arraydeque.specs.Lookahead.{ScannerState, left_of};
 
     ghost Value = { ScannerState I I.Item };
 
-    ghost view = { λ s. record { iter = s.iter; buffer = s.buffer.items; ended = s.ended } };
+    ghost view = { λ s. record {
+      iter = s.iter;
+      buffer = s.buffer.items;
+      ended = s.ended;
+      left = left_of I.remaining s.iter s.buffer.items s.ended;
+    } };
 
     ghost invariant = { λ s. s.ended ≡ false → I.can_next s.iter };
 }
@@ -60,11 +65,11 @@ impl<I: Iterator, const CAP: usize> Scanner<I, CAP> {
     #[tactic(auto, unfolding(crate::specs::Lookahead::HasRest, crate::specs::Lookahead::left_of))]
     pub fn new(alloc: Global, iter: I) -> Result<Self, MakeError<I>>
         requires { I.can_next iter }
-        ensures ok { IfOk result (λ scanner. scanner ≡ fresh_scanner iter) }
+        ensures ok { IfOk result (λ scanner. scanner ≡ fresh_scanner I.remaining iter) }
         ensures rest { IfOk result (λ scanner. (rest : List I.Item)
             → HasRest I.next_gives scanner rest
             → WholeRun I.next_gives iter (λ run. run.items ≡ rest)) }
-        ensures left { IfOk result (λ scanner. left_of I.remaining scanner ≡ I.remaining iter) }
+        ensures counts { IfOk result (CountsLeft I.remaining) }
         ensures source { IfErr result (λ refusal. refusal.source ≡ iter) }
         ensures refused { OnErr result (0 < CAP * type_size I.Item.row) }
     {
@@ -121,9 +126,10 @@ impl<I: Iterator, const CAP: usize> Scanner<I, CAP> {
         ensures none { IfNone result (self.new.ended ≡ true) }
         ensures over { IfNone result (HasRest I.next_gives self.old []) }
         ensures some { OnSome result (self.new.ended ≡ self.old.ended) }
-        ensures goes { MakesProgress (λ _. ⊤) (left_of I.remaining) self.old result self.new }
-        ensures left { IsFinite (left_of I.remaining self.old)
-            → UpTo (left_of I.remaining self.new) (size (left_of I.remaining self.old)) }
+        ensures goes { MakesProgress (λ _. ⊤) (λ s. s.left) self.old result self.new }
+        ensures left { IsFinite self.old.left → UpTo self.new.left (size self.old.left) }
+        ensures lowers { Lowers I.remaining self.old result self.new }
+        ensures counts { CountsLeft I.remaining self.new }
     {
         // That the buffer is within the capacity is what `len` promises.
         let _len = self.buffer.len();
@@ -157,9 +163,10 @@ impl<I: Iterator, const CAP: usize> Scanner<I, CAP> {
             (λ item. FnOnceReturnsAt P.FnOnce accepts item false) self.new) }
         ensures none { IfNone result
             (self.new.buffer ≡ [] → self.new.ended ≡ true) }
-        ensures goes { MakesProgress (λ _. ⊤) (left_of I.remaining) self.old result self.new }
-        ensures left { IsFinite (left_of I.remaining self.old)
-            → UpTo (left_of I.remaining self.new) (size (left_of I.remaining self.old)) }
+        ensures goes { MakesProgress (λ _. ⊤) (λ s. s.left) self.old result self.new }
+        ensures left { IsFinite self.old.left → UpTo self.new.left (size self.old.left) }
+        ensures lowers { Lowers I.remaining self.old result self.new }
+        ensures counts { CountsLeft I.remaining self.new }
     {
         let is_accepted = match self.peek(0) {
             Some(item) => accepts(item),
@@ -181,10 +188,10 @@ impl<I: Iterator, const CAP: usize> Scanner<I, CAP> {
     pub fn unread(&mut self, item: I::Item) -> Result<(), CapacityError<I::Item>>
         ensures room { IsOk result ↔ (length self.old.buffer < CAP) }
         ensures buffer { OnOk result (self.new ≡
-            record self.old { buffer = item ∷ self.old.buffer }) }
+            record self.old { buffer = item ∷ self.old.buffer; left = self.new.left }) }
         ensures rest { OnOk result (PutsOn I.next_gives self.old item self.new) }
-        ensures left { OnOk result (left_of I.remaining self.new
-            ≡ count_map (λ n. n + 1) (left_of I.remaining self.old)) }
+        ensures left { OnOk result (self.new.left ≡ count_map (λ n. n + 1) self.old.left) }
+        ensures counts { CountsLeft I.remaining self.new }
         ensures full { IfErr result (λ refusal. refusal.element ≡ item) }
         ensures unchanged { OnErr result (self.new ≡ self.old) }
     {
@@ -216,7 +223,10 @@ impl<I: Iterator, const CAP: usize> Scanner<I, CAP> {
         ensures buffer { self.new.buffer ≡ self.old.buffer }
         ensures none { IfNone result (self.new.ended ≡ true) }
         ensures some { OnSome result (self.new.ended ≡ self.old.ended) }
-        ensures goes { MakesProgress (λ _. ⊤) (left_of I.remaining) self.old result self.new }
+        ensures goes { MakesProgress (λ _. ⊤) (λ s. s.left) self.old result self.new }
+        ensures left { IsFinite self.old.left → UpTo self.new.left (size self.old.left) }
+        ensures lowers { Lowers I.remaining self.old result self.new }
+        ensures counts { CountsLeft I.remaining self.new }
     {
         if self.ended {
             return None;
@@ -236,7 +246,7 @@ impl<I: Iterator<Item: Drop>, const CAP: usize> Iterator for Scanner<I, CAP> {
 
     ghost next_gives = { Gives I.next_gives };
 
-    ghost remaining = { left_of I.remaining };
+    ghost remaining = { λ s. s.left };
 
     /// Goes by the scanner's own `next`, so that a `for` takes what is left, and what came before
     /// it was left early stays taken.

@@ -1,7 +1,7 @@
 //! What a caller knows of what a scanner has left, also where it gave no item.
 ghost use Rattle.std.specs.Prelude.{◌≡◌, ◌⊎◌, ◌∷◌, []};
 ghost use Rattle.std.specs.Iterator.{IsFinite, UpTo, size};
-ghost use Rattle.arraydeque.specs.Lookahead.{HasRest, TakesOff, left_of};
+ghost use Rattle.arraydeque.specs.Lookahead.{HasRest, TakesOff};
 
 use arraydeque::lookahead::Scanner;
 
@@ -10,11 +10,10 @@ pub fn next_or<I: Iterator<Item: Drop>, const AHEAD: usize>(
     scanner: &mut Scanner<I, AHEAD>,
     other: I::Item,
 ) -> I::Item
-    requires finite { IsFinite (left_of I.remaining scanner.old) }
+    requires finite { IsFinite scanner.old.left }
     ensures answer { TakesOff I.next_gives scanner.old (result ∷ []) scanner.new
         ⊎ (HasRest I.next_gives scanner.old [] × (result ≡ other)) }
-    ensures finite { UpTo (left_of I.remaining scanner.new)
-        (size (left_of I.remaining scanner.old)) }
+    ensures finite { UpTo scanner.new.left (size scanner.old.left) }
 {
     match scanner.next() {
         Some(item) => item,

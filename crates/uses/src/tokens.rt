@@ -5,7 +5,7 @@
 ghost use Rattle.std.specs.Prelude.{◌≡◌, ◌<◌, ℕ, List, [], IfOk, IfSome, IfNone, All, ⊤};
 ghost use Rattle.std.specs.Iterator.{IsFinite, MakesProgress};
 ghost use Rattle.std.specs.Option.{option_to_list};
-ghost use Rattle.arraydeque.specs.Lookahead.{HasRest, TakesOff, left_of};
+ghost use Rattle.arraydeque.specs.Lookahead.{HasRest, TakesOff};
 ghost use Rattle.uses.specs.Tokens.{kind_of, joined, IsOfOneKind, IsOneByteIfSign, IsOver, AreLongest};
 
 use arraydeque::lookahead::Scanner;
@@ -39,7 +39,7 @@ pub fn tokenize<I: Iterator<Item = u8>, const AHEAD: usize>(
     scanner: &mut Scanner<I, AHEAD>,
 ) -> Result<Vec<Token>, AllocError>
     requires ahead { 0 < AHEAD }
-    requires finite { IsFinite (left_of I.remaining scanner.old) }
+    requires finite { IsFinite scanner.old.left }
     ensures joined { IfOk result (λ tokens.
         HasRest I.next_gives scanner.old (joined tokens.items)) }
     ensures one_kind { IfOk result (λ tokens. All IsOfOneKind tokens.items) }
@@ -70,7 +70,7 @@ fn next_token<I: Iterator<Item = u8>, const AHEAD: usize>(
     scanner: &mut Scanner<I, AHEAD>,
 ) -> Result<Option<Token>, AllocError>
     requires ahead { 0 < AHEAD }
-    requires finite { IsFinite (left_of I.remaining scanner.old) }
+    requires finite { IsFinite scanner.old.left }
     ensures taken { IfOk result (λ token.
         TakesOff I.next_gives scanner.old (joined (option_to_list token)) scanner.new) }
     ensures over { IfOk result (λ token. IfNone token (HasRest I.next_gives scanner.old [])) }
@@ -79,7 +79,7 @@ fn next_token<I: Iterator<Item = u8>, const AHEAD: usize>(
     ensures longest { IfOk result (λ token. IfSome token (λ token. (rest : List ℕ)
         → HasRest I.next_gives scanner.new rest → IsOver token.kind rest)) }
     ensures goes { IfOk result (λ token.
-        MakesProgress (λ _. ⊤) (left_of I.remaining) scanner.old token scanner.new) }
+        MakesProgress (λ _. ⊤) (λ s. s.left) scanner.old token scanner.new) }
 {
     let Some(first) = scanner.next() else {
         return Ok(None);

@@ -1,5 +1,5 @@
 use Rattle.std.{proofs.Common.{◌≡◌, ◌<◌, All, length}, specs.Iterator.{IsFinite, size}}
-use Rattle.arraydeque.specs.Lookahead.{TakesOff, left_of}
+use Rattle.arraydeque.specs.Lookahead.{TakesOff}
 use Rattle.uses.specs.{Tokens.kind_of, declared.tokens.Kind.TheVariants.Sign}
 use Rattle.uses.proofs.tokens.next_token.Given as goal
 
@@ -9,9 +9,9 @@ invariant-loop-byte g l = record {
   some : 0 < length l.text.items;
   one_kind : All (λ byte. kind_of byte ≡ l.kind) l.text.items;
   signs : l.kind ≡ Sign → length l.text.items ≡ 1;
-  finite : IsFinite (left_of g.I.Iterator.remaining l.scanner);
-  goes : size (left_of g.I.Iterator.remaining l.scanner) < size (left_of g.I.Iterator.remaining l.fn.scanner);
+  finite : IsFinite l.scanner.left;
+  goes : size l.scanner.left < size l.fn.scanner.left;
 }
 
 abbrev pub decreases-loop-byte : goal.decreases-loop-byte
-decreases-loop-byte g l = size (left_of g.I.Iterator.remaining l.scanner)
+decreases-loop-byte g l = size l.scanner.left

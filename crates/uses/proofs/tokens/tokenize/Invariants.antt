@@ -1,5 +1,5 @@
 use Rattle.std.{proofs.Common.{ℕ, List, All}, specs.Iterator.{IsFinite, size}}
-use Rattle.arraydeque.specs.Lookahead.{HasRest, TakesOff, left_of}
+use Rattle.arraydeque.specs.Lookahead.{HasRest, TakesOff}
 use Rattle.uses.{specs.Tokens.{joined, IsOfOneKind, IsOneByteIfSign}, proofs.Cut.AreCut}
 use Rattle.uses.proofs.tokens.tokenize.Given as goal
 
@@ -9,8 +9,8 @@ invariant-loop-tokens g l = record {
   one_kind : All IsOfOneKind l.tokens.items;
   signs : All IsOneByteIfSign l.tokens.items;
   longest : (rest : List ℕ) → HasRest g.I.Iterator.next_gives l.scanner rest → AreCut l.tokens.items rest;
-  finite : IsFinite (left_of g.I.Iterator.remaining l.scanner);
+  finite : IsFinite l.scanner.left;
 }
 
 abbrev pub decreases-loop-tokens : goal.decreases-loop-tokens
-decreases-loop-tokens g l = size (left_of g.I.Iterator.remaining l.scanner)
+decreases-loop-tokens g l = size l.scanner.left

@@ -7,11 +7,12 @@ unfolding left_of
 loop-self-preserved g c =
     let read = rw (← c.self-in-loop-self.view_is) at c.in-Some.ensures.reads in
     record {
-      hands_out = HandsOut-append g.I.Iterator.next_gives c.args.self.now c.loop-self.self _ [] [] c.loop-self.invariant.hands_out (c.in-Some.item ∷ [], read, grind (arith, common_steps));
+      hands_out = HandsOut-append g.I.Iterator.next_gives c.args.self.now c.loop-self.self (record { iter = _; buffer = _; ended = _; left = c.read.new.self.left }) [] [] c.loop-self.invariant.hands_out (c.in-Some.item ∷ [], read, grind (arith, common_steps));
       ended = grind (arith, common_steps);
       within = grind (arith, common_steps);
       unchanged = λ there. absurd (grind (arith, common_steps));
-      goes = grind (arith, common_steps);
+      left = grind (arith, common_steps);
+      lowers = grind (arith, common_steps);
     }
 
 pub returns-in_default : goal.returns-in_default
@@ -28,10 +29,13 @@ returns-in_default g c =
       some = grind (arith, past);
       within = grind (arith, common_steps);
       unchanged = λ there. absurd (grind (arith, common_steps));
-      goes = grind (arith, common_steps);
+      left = grind (arith, common_steps);
+      lowers = grind (arith, common_steps);
+      counts = c.in_default.ensures.counts;
     }
 
 pub returns : goal.returns
+unfolding left_of
 returns g c =
     let was = c.loop-self.invariant in
     let there : c.args.k < length c.loop-self.self.buffer = grind (arith, common_steps) in
@@ -44,7 +48,9 @@ returns g c =
         some = grind (arith, was.ended);
         within = was.within;
         unchanged = was.unchanged;
-        goes = was.goes;
+        left = was.left;
+        lowers = was.lowers;
+        counts = grind (arith, common_steps);
       }
       | inr past ↦ absurd (omega arith)
     ]

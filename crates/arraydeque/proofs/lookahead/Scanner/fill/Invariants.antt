@@ -1,5 +1,5 @@
-use Rattle.std.{proofs.Common.{◌≡◌, ◌+◌, ◌-◌, ◌<◌, ◌≤◌, [], length, max}, specs.Iterator.{IsFinite, UpTo, size}}
-use Rattle.arraydeque.specs.Lookahead.{HandsOut, left_of}
+use Rattle.std.{proofs.Common.{◌≡◌, ◌+◌, ◌-◌, ◌<◌, ◌≤◌, [], length, max, None}, specs.Iterator.{IsFinite, UpTo, size}}
+use Rattle.arraydeque.specs.Lookahead.{HandsOut, Lowers}
 use Rattle.arraydeque.proofs.lookahead.Scanner.fill.Given as goal
 
 abbrev pub invariant-loop-self : goal.invariant-loop-self
@@ -8,7 +8,8 @@ invariant-loop-self g l = record {
   ended : l.self.ended ≡ l.fn.self.ended;
   within : length l.self.buffer ≤ max (length l.fn.self.buffer) (l.k + 1);
   unchanged : l.k < length l.fn.self.buffer → l.self ≡ l.fn.self;
-  goes : IsFinite (left_of g.I.Iterator.remaining l.fn.self) → UpTo (left_of g.I.Iterator.remaining l.self) (size (left_of g.I.Iterator.remaining l.fn.self));
+  left : IsFinite l.fn.self.left → UpTo l.self.left (size l.fn.self.left);
+  lowers : Lowers g.I.Iterator.remaining l.fn.self None l.self;
 }
 
 abbrev pub decreases-loop-self : goal.decreases-loop-self
