@@ -46,7 +46,8 @@ pub fn drawn(summaries: &[Summary]) -> String {
     let scale = Scale::of(summaries);
     let (width, height) = (scale.right() + 94.0, TOP + ROW * summaries.len() as f64 + 8.0);
     let mut svg = format!(
-        "<svg xmlns=\"http://www.w3.org/2000/svg\" width=\"{width}\" height=\"{height}\" viewBox=\"0 0 {width} {height}\">\n\
+        "<svg xmlns=\"http://www.w3.org/2000/svg\" width=\"{width}\" height=\"{height}\" \
+         viewBox=\"0 0 {width} {height}\">\n\
          <style>{STYLE}</style>\n<rect class=\"paper\" width=\"100%\" height=\"100%\"/>\n"
     );
     put_head(&mut svg, &scale);

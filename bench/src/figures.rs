@@ -84,7 +84,8 @@ fn mean_line(what: &str, figures: &[Figures]) -> String {
 
 /// The last lines of the whole table: the means over the first rows, if these aren't all, and over all.
 pub fn mean_lines(all: &[Figures], count_first: usize) -> String {
-    let first = if count_first > 0 && count_first < all.len() { mean_line("the first", &all[..count_first]) } else { String::new() };
+    let is_part = count_first > 0 && count_first < all.len();
+    let first = if is_part { mean_line("the first", &all[..count_first]) } else { String::new() };
     first + &mean_line("all", all)
 }
 

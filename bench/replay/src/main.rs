@@ -181,8 +181,11 @@ fn main() -> ExitCode {
     let (millions, seed) = (number(0, 100), number(1, 1));
     let pairs = pairs::all();
     let (count, difference) = play_all(&pairs, millions * 1_000_000, seed, refuses);
-    let refused = if refuses { format!(", where each of {} requests was refused in turn", count.refusals) } else { String::new() };
-    println!("{} calls of {} scripts went alike{refused}", count.calls, count.scripts);
+    print!("{} calls of {} scripts went alike", count.calls, count.scripts);
+    if refuses {
+        print!(", where each of {} requests was refused in turn", count.refusals);
+    }
+    println!();
     match difference {
         None => ExitCode::SUCCESS,
         Some((script, told)) => {

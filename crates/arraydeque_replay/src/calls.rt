@@ -1,12 +1,11 @@
 //! The calls that mean the same under both policies. A call that has to be in range is left out
 //! where it isn't.
-use crate::items::{Alive, Item};
+use crate::items::Item;
 use crate::script::{Call, folded, word_of};
 use arraydeque::behavior::Behavior;
 use arraydeque::{ArrayDeque, Drain};
 use std::alloc::{AllocError, Global};
 use std::mem;
-use std::rc::Rc;
 
 /// What is told of an item that came out.
 pub(crate) fn told<T: Item>(item: Option<T>) -> u64 {
