@@ -1,5 +1,5 @@
-use Rattle.std.{proofs.Common.{◌≡◌, ◌<◌, length, IfSome, IfNone, slice_get, Option, Some, None, true, false, true≢false, option_copied, refl, sym, ap, subst, ◌∙◌, arith}, proofs.lemmas.{Grind.common_steps, Option.slice_get_within}, specs.Fn.FnOnceReturnsAt}
-use Rattle.arraydeque.{specs.Lookahead.NextIs, proofs.Scanned.NextIs-buffer}
+use Rattle.std.{proofs.Common.{◌≡◌, slice_get, Some, None, true≢false, option_copied, refl, sym, ap, subst, ◌∙◌}, proofs.lemmas.{Option.slice_get_within}}
+use Rattle.arraydeque.{proofs.Scanned.NextIs-buffer}
 use Rattle.arraydeque.proofs.lookahead.Scanner.next_if.Goals as goal
 use Rattle.arraydeque.proofs.lookahead.Scanner.next_if.Goals.{in-Some, in-None}
 
