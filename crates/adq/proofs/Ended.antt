@@ -1,14 +1,27 @@
 -- The end of a run.
-use Rattle.std.proofs.{Common.{◌≡◌, ◌≢◌, ◌∙◌, ℕ, ℤ, List, [], ◌∷◌, ◌++◌, map, flat_map, get_or, codes, bytes_eq, true, false, ap, append_assoc, refl, Some, None, Result, Ok, Err, IfOk, IfErr, IfSome, Option, String, string_bytes, Global, sym, subst}, lemmas.Slice.Eq.{bytes_eq-Decides}}
+use Rattle.std.proofs.{
+  Common.{◌≡◌, ◌≢◌, ◌∙◌, ℕ, ℤ, List, [], ◌∷◌, ◌++◌, map, flat_map, get_or, codes, bytes_eq, true, false, ap},
+  Common.{append_assoc, refl, Some, None, Result, Ok, Err, IfOk, IfErr, IfSome, Option, String, string_bytes, Global},
+  Common.{sym, subst},
+  lemmas.Slice.Eq.{bytes_eq-Decides},
+}
 use Rattle.arraydeque.specs.{Machine.answer_of, Policy.Policy, Run.MachineRun, declared.run.{Call.Call, Reply.Reply}}
-use Rattle.adq.specs.{Line.{lines_of, LinesName}, Run.{Ends, Prints, ReadsWhole, settings_of}, Text.{list_text, text_of}, declared.fault.Fault.{Fault, TheVariants.Memory}}
+use Rattle.adq.specs.{
+  Line.{lines_of, LinesName},
+  Run.{Ends, Prints, ReadsWhole, settings_of},
+  Text.{list_text, text_of},
+  declared.fault.Fault.{Fault, TheVariants.Memory},
+}
 
 -- the text of replies, line by line, and of the last list
 abbrev output_of : {B : Type 0} {n : ℕ} → List (Reply ℤ n B) → List ℤ → List ℕ
-output_of replies last = flat_map (λ reply. text_of (answer_of reply) ++ 10 ∷ []) replies ++ codes "list: " ++ list_text last ++ 10 ∷ []
+output_of replies last =
+    flat_map (λ reply. text_of (answer_of reply) ++ 10 ∷ []) replies ++ codes "list: " ++ list_text last ++ 10 ∷ []
 
 -- what a run answers, printed line by line
-printed : {B : Type 0} (p : Policy) (n : ℕ) (l : List ℤ) (calls : List (Call ℤ)) (replies : List (Reply ℤ n B)) (last : List ℤ) (text : List ℕ) → MachineRun p l calls replies last → text ≡ output_of replies last → Prints p n l calls text
+printed : {B : Type 0} (p : Policy) (n : ℕ) (l : List ℤ) (calls : List (Call ℤ)) (replies : List (Reply ℤ n B))
+    (last : List ℤ) (text : List ℕ) → MachineRun p l calls replies last → text ≡ output_of replies last
+    → Prints p n l calls text
 printed p n l [] [] last text run e = e ∙ ap (λ l. codes "list: " ++ list_text l ++ 10 ∷ []) run
 printed p n l [] (r ∷ replies) last text run e = absurd run
 printed p n l (call ∷ calls) [] last text run e = absurd run
@@ -17,13 +30,22 @@ printed p n l (call ∷ calls) (r ∷ replies) last text (next, answers, run) e 
     (answer_of r, next, rest, answers, printed p n next calls replies last rest run refl, e ∙ simp append_assoc)
 
 -- where the calls were run, only the printing is left
-pub ended : {B : Type 0} (p : Policy) (n : ℕ) (read text : List ℕ) (calls : List (Call ℤ)) (replies : List (Reply ℤ n B)) (first last : List ℤ) (r : Result (String Global) Fault) → read ≡ text → LinesName (lines_of read) calls → first ≡ [] → MachineRun p first calls replies last → IfOk r (λ t. string_bytes t ≡ output_of replies last) → IfErr r (λ fault. fault ≡ Memory) → Ends (Some (p, n)) text r
-ended p n read text calls replies first last (Ok t) same named none run text_is e =
-    (calls, subst (λ t. LinesName (lines_of t) calls) same named, printed p n [] calls replies last (string_bytes t) (subst (λ l. MachineRun p l calls replies last) none run) text_is)
-ended p n read text calls replies first last (Err fault) same named none run printed e = subst (λ f. Ends {A = Global} (Some (p, n)) text (Err f)) (sym e) tt
+pub ended : {B : Type 0} (p : Policy) (n : ℕ) (read text : List ℕ) (calls : List (Call ℤ))
+    (replies : List (Reply ℤ n B)) (first last : List ℤ) (r : Result (String Global) Fault)
+    → read ≡ text → LinesName (lines_of read) calls → first ≡ [] → MachineRun p first calls replies last
+    → IfOk r (λ t. string_bytes t ≡ output_of replies last) → IfErr r (λ fault. fault ≡ Memory)
+    → Ends (Some (p, n)) text r
+ended p n read text calls replies first last (Ok t) same named none run text_is e = (
+  calls,
+  subst (λ t. LinesName (lines_of t) calls) same named,
+  printed p n [] calls replies last (string_bytes t) (subst (λ l. MachineRun p l calls replies last) none run) text_is,
+)
+ended p n read text calls replies first last (Err fault) same named none run printed e =
+    subst (λ f. Ends {A = Global} (Some (p, n)) text (Err f)) (sym e) tt
 
 -- where all was read, whatever the run ends with
-pub read_whole : (known : Option (List ℕ)) (old new : List ℕ) (r : Result (String Global) Fault) → IfSome known (λ xs. new ≡ old ++ xs) → ReadsWhole known old new r
+pub read_whole : (known : Option (List ℕ)) (old new : List ℕ) (r : Result (String Global) Fault)
+    → IfSome known (λ xs. new ≡ old ++ xs) → ReadsWhole known old new r
 read_whole known old new (Ok printed) h = h
 read_whole known old new (Err (Fault.Line n)) h = h
 read_whole known old new (Err Fault.Arguments) h = tt
@@ -31,10 +53,14 @@ read_whole known old new (Err Fault.Memory) h = tt
 read_whole known old new (Err Fault.Io) h = tt
 
 unlike : (xs ys : List ℕ) → xs ≢ ys → bytes_eq xs ys ≡ false
-unlike xs ys h = elim (bytes_eq xs ys) as (λ b. bytes_eq xs ys ≡ b → b ≡ false) [ true ↦ λ e. absurd (h ((bytes_eq-Decides xs ys).0 e)) | false ↦ λ e. refl ] refl
+unlike xs ys h = elim (bytes_eq xs ys) as (λ b. bytes_eq xs ys ≡ b → b ≡ false) [
+  | true ↦ λ e. absurd (h ((bytes_eq-Decides xs ys).0 e))
+  | false ↦ λ e. refl
+] refl
 
 -- the first argument names no policy
-pub unsettled : (args : List (String Global)) (a : String Global) → a ≡ get_or args 0 a → string_bytes a ≢ codes "sat" → string_bytes a ≢ codes "wrap" → settings_of (map (λ word. string_bytes word) args) ≡ None
+pub unsettled : (args : List (String Global)) (a : String Global) → a ≡ get_or args 0 a → string_bytes a ≢ codes "sat"
+    → string_bytes a ≢ codes "wrap" → settings_of (map (λ word. string_bytes word) args) ≡ None
 unsettled [] a e s w = refl
 unsettled (x ∷ []) a e s w = refl
 unsettled (x ∷ y ∷ z ∷ zs) a e s w = refl

@@ -1,5 +1,8 @@
 -- The text of a list, item by item.
-use Rattle.std.{proofs.Common.{ℤ, ℕ, Bool, true, false, List, ◌++◌, codes, flat_map}, specs.{Fmt.signed_decimal, List.join_by}}
+use Rattle.std.{
+  proofs.Common.{ℤ, ℕ, Bool, true, false, List, ◌++◌, codes, flat_map},
+  specs.{Fmt.signed_decimal, List.join_by},
+}
 
 -- what is yet to be printed of a list, at its first item or later
 abbrev pub text_left : Bool → List ℤ → List ℕ

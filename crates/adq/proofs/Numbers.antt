@@ -1,5 +1,17 @@
 -- What `parse` reads, as a word spells it.
-use Rattle.std.{proofs.{Common.{◌≡◌, ◌≢◌, ℕ, ℤ, pos, negsuc, neg_ℤ, ◌^◌, ◌<◌, ◌≤ℤ◌, ◌<ℤ◌, ◌==◌, List, drop, get_or, true, false, cond, Option, MatchOption, Result, Ok, Err, refl, subst, sym, arith}, lemmas.{Int.ints, Str.Parse.{digit_at, without_leading_plus_none}}}, specs.{Result.result_ok, Int.RustNames.FitsSigned, Str.Parse.{IsNumeral, digits_value, starts_with_minus, without_leading_plus, without_leading_sign, ParsesUnsigned, ParsesSigned}}}
+use Rattle.std.{
+  proofs.{
+    Common.{◌≡◌, ◌≢◌, ℕ, ℤ, pos, negsuc, neg_ℤ, ◌^◌, ◌<◌, ◌≤ℤ◌, ◌<ℤ◌, ◌==◌, List, drop, get_or, true, false, cond},
+    Common.{Option, MatchOption, Result, Ok, Err, refl, subst, sym, arith},
+    lemmas.{Int.ints, Str.Parse.{digit_at, without_leading_plus_none}},
+  },
+  specs.{
+    Result.result_ok,
+    Int.RustNames.FitsSigned,
+    Str.Parse.{IsNumeral, digits_value, starts_with_minus, without_leading_plus, without_leading_sign, ParsesUnsigned},
+    Str.Parse.{ParsesSigned},
+  },
+}
 use mir.Syntax.{w64}
 use Rattle.adq.specs.Line.{Token, Spells, index, value}
 
@@ -17,20 +29,30 @@ fits (pos n) low high = record { sfits = omega (arith, ints) }
 fits (negsuc n) low high = record { sfits = omega (arith, ints) }
 
 -- a word without a plus is digits behind its minus
-behind : (word : List ℕ) → get_or word 0 0 ≢ 43 → without_leading_sign word ≡ drop (cond (starts_with_minus word) 1 0) word
-behind word n = elim (starts_with_minus word) as (λ b. cond b (drop 1 word) (without_leading_plus word) ≡ drop (cond b 1 0) word) [ true ↦ refl | false ↦ without_leading_plus_none word n ]
+behind : (word : List ℕ) → get_or word 0 0 ≢ 43
+    → without_leading_sign word ≡ drop (cond (starts_with_minus word) 1 0) word
+behind word n =
+    elim (starts_with_minus word) as (λ b. cond b (drop 1 word) (without_leading_plus word) ≡ drop (cond b 1 0) word) [
+      | true ↦ refl
+      | false ↦ without_leading_plus_none word n
+    ]
 
-pub index_read : {E : Type 0} (word : List ℕ) (r : Result ℕ E) → get_or word 0 0 ≢ 43 → ParsesUnsigned 64 10 word r → Reads index word (result_ok r)
+pub index_read : {E : Type 0} (word : List ℕ) (r : Result ℕ E) → get_or word 0 0 ≢ 43 → ParsesUnsigned 64 10 word r
+    → Reads index word (result_ok r)
 index_read word (Ok i) n h =
-    let p = subst (λ ds. (IsNumeral 10 ds × (digits_value 10 ds < 2 ^ 64)) × (i ≡ digits_value 10 ds)) (without_leading_plus_none word n) h in
+    let p = subst (λ ds. (IsNumeral 10 ds × (digits_value 10 ds < 2 ^ 64)) × (i ≡ digits_value 10 ds))
+    (without_leading_plus_none word n) h in
     (p.0.0, sym p.1, subst (λ m. m < 2 ^ 64) (sym p.1) p.0.1)
-index_read word (Err e) n h = λ i s. h (subst (λ ds. IsNumeral 10 ds × (digits_value 10 ds < 2 ^ 64)) (sym (without_leading_plus_none word n)) (s.0, subst (λ m. m < 2 ^ 64) (sym s.1) s.2))
+index_read word (Err e) n h = λ i s. h (subst (λ ds. IsNumeral 10 ds × (digits_value 10 ds < 2 ^ 64))
+    (sym (without_leading_plus_none word n)) (s.0, subst (λ m. m < 2 ^ 64) (sym s.1) s.2))
 
-pub value_read : {E : Type 0} (word : List ℕ) (r : Result ℤ E) → get_or word 0 0 ≢ 43 → ParsesSigned w64 10 word r → Reads value word (result_ok r)
+pub value_read : {E : Type 0} (word : List ℕ) (r : Result ℤ E) → get_or word 0 0 ≢ 43 → ParsesSigned w64 10 word r
+    → Reads value word (result_ok r)
 value_read word (Ok x) n h =
     let p = bounded x (subst (FitsSigned w64) (sym h.1) h.0.1) in
     (subst (IsNumeral 10) (behind word n) h.0.0, sym h.1, p.0, p.1)
-value_read word (Err e) n h = λ x s. h (subst (IsNumeral 10) (sym (behind word n)) s.0, subst (FitsSigned w64) (sym s.1) (fits x s.2 s.3))
+value_read word (Err e) n h =
+    λ x s. h (subst (IsNumeral 10) (sym (behind word n)) s.0, subst (FitsSigned w64) (sym s.1) (fits x s.2 s.3))
 
 -- one with a plus spells no number
 plus_bad : (word : List ℕ) → get_or word 0 0 ≡ 43 → ¬ (IsNumeral 10 word)

@@ -26,15 +26,18 @@ one_token word (index i) (index j) a b alike = ap index (sym a.1 ∙ b.1)
 one_token word (value x) (value y) a b alike = ap value (sym a.1 ∙ b.1)
 one_token word _ _ a b alike = absurd alike
 
-same_tokens : (words : List (List ℕ)) (ts us : List Token) → AllZip Spells words ts → AllZip Spells words us → AreAlike ts us → ts ≡ us
+same_tokens : (words : List (List ℕ)) (ts us : List Token) → AllZip Spells words ts → AllZip Spells words us
+    → AreAlike ts us → ts ≡ us
 same_tokens [] [] [] a b alike = refl
-same_tokens (w ∷ words) (t ∷ ts) (u ∷ us) a b alike = ap (λ t. t ∷ ts) (one_token w t u a.0 b.0 alike.0) ∙ ap (λ ts. u ∷ ts) (same_tokens words ts us a.1 b.1 alike.1)
+same_tokens (w ∷ words) (t ∷ ts) (u ∷ us) a b alike =
+    ap (λ t. t ∷ ts) (one_token w t u a.0 b.0 alike.0) ∙ ap (λ ts. u ∷ ts) (same_tokens words ts us a.1 b.1 alike.1)
 same_tokens [] (t ∷ ts) us a b alike = absurd a
 same_tokens [] [] (u ∷ us) a b alike = absurd b
 same_tokens (w ∷ words) [] us a b alike = absurd a
 same_tokens (w ∷ words) (t ∷ ts) [] a b alike = absurd b
 
-alike : (name : List ℕ) (words : List (List ℕ)) (call other : Call ℤ) → AllZip Spells (name ∷ words) (tokens_of call) → AllZip Spells (name ∷ words) (tokens_of other) → AreAlike (tokens_of call) (tokens_of other)
+alike : (name : List ℕ) (words : List (List ℕ)) (call other : Call ℤ) → AllZip Spells (name ∷ words) (tokens_of call)
+    → AllZip Spells (name ∷ words) (tokens_of other) → AreAlike (tokens_of call) (tokens_of other)
 alike name words (Call.PushFront x) other a b = search rules
 alike name words (Call.PushBack x) other a b = search rules
 alike name words Call.PopFront other a b = search rules
@@ -57,5 +60,8 @@ alike name words Call.Capacity other a b = search rules
 alike name words Call.IsEmpty other a b = search rules
 alike name words Call.IsFull other a b = search rules
 
-pub spelled_once : (name : List ℕ) (words : List (List ℕ)) (call other : Call ℤ) → AllZip Spells (name ∷ words) (tokens_of call) → AllZip Spells (name ∷ words) (tokens_of other) → tokens_of call ≡ tokens_of other
-spelled_once name words call other a b = same_tokens (name ∷ words) (tokens_of call) (tokens_of other) a b (alike name words call other a b)
+pub spelled_once : (name : List ℕ) (words : List (List ℕ)) (call other : Call ℤ)
+    → AllZip Spells (name ∷ words) (tokens_of call) → AllZip Spells (name ∷ words) (tokens_of other)
+    → tokens_of call ≡ tokens_of other
+spelled_once name words call other a b =
+    same_tokens (name ∷ words) (tokens_of call) (tokens_of other) a b (alike name words call other a b)

@@ -7,21 +7,27 @@ abbrev pub Parted : List (List ℕ) → List ℤ → List (List ℕ) → Type 0
 Parted words xs left = (front : List (List ℕ)) × (words ≡ front ++ left) × AllZip Spells front (map value xs)
 
 -- one value more
-zip_more : (front : List (List ℕ)) (xs : List ℤ) (word : List ℕ) (x : ℤ) → AllZip Spells front (map value xs) → Spells word (value x) → AllZip Spells (front ++ word ∷ []) (map value (xs ++ x ∷ []))
+zip_more : (front : List (List ℕ)) (xs : List ℤ) (word : List ℕ) (x : ℤ) → AllZip Spells front (map value xs)
+    → Spells word (value x) → AllZip Spells (front ++ word ∷ []) (map value (xs ++ x ∷ []))
 zip_more [] [] word x z h = (h, tt)
 zip_more [] (y ∷ xs) word x z h = absurd z
 zip_more (w ∷ front) [] word x z h = absurd z
 zip_more (w ∷ front) (y ∷ xs) word x z h = (z.0, zip_more front xs word x z.1 h)
 
-pub parted_more : (words : List (List ℕ)) (xs : List ℤ) (word : List ℕ) (left : List (List ℕ)) (x : ℤ) → Parted words xs (word ∷ left) → Spells word (value x) → Parted words (xs ++ x ∷ []) left
-parted_more words xs word left x (front, e, z) h = (front ++ word ∷ [], e ∙ sym (append_assoc front (word ∷ []) left), zip_more front xs word x z h)
+pub parted_more : (words : List (List ℕ)) (xs : List ℤ) (word : List ℕ) (left : List (List ℕ)) (x : ℤ)
+    → Parted words xs (word ∷ left) → Spells word (value x) → Parted words (xs ++ x ∷ []) left
+parted_more words xs word left x (front, e, z) h =
+    (front ++ word ∷ [], e ∙ sym (append_assoc front (word ∷ []) left), zip_more front xs word x z h)
 
 -- and a word that spells no value
-zip_bad : (front : List (List ℕ)) (word : List ℕ) (left : List (List ℕ)) (ys : List ℤ) → ((x : ℤ) → ¬ (Spells word (value x))) → ¬ (AllZip Spells (front ++ word ∷ left) (map value ys))
+zip_bad : (front : List (List ℕ)) (word : List ℕ) (left : List (List ℕ)) (ys : List ℤ)
+    → ((x : ℤ) → ¬ (Spells word (value x))) → ¬ (AllZip Spells (front ++ word ∷ left) (map value ys))
 zip_bad [] word left [] h z = z
 zip_bad [] word left (y ∷ ys) h z = h y z.0
 zip_bad (w ∷ front) word left [] h z = z
 zip_bad (w ∷ front) word left (y ∷ ys) h z = zip_bad front word left ys h z.1
 
-pub parted_bad : (words : List (List ℕ)) (xs : List ℤ) (word : List ℕ) (left : List (List ℕ)) (ys : List ℤ) → Parted words xs (word ∷ left) → ((x : ℤ) → ¬ (Spells word (value x))) → ¬ (AllZip Spells words (map value ys))
-parted_bad words xs word left ys (front, e, z) h s = zip_bad front word left ys h (subst (λ ws. AllZip Spells ws (map value ys)) e s)
+pub parted_bad : (words : List (List ℕ)) (xs : List ℤ) (word : List ℕ) (left : List (List ℕ)) (ys : List ℤ)
+    → Parted words xs (word ∷ left) → ((x : ℤ) → ¬ (Spells word (value x))) → ¬ (AllZip Spells words (map value ys))
+parted_bad words xs word left ys (front, e, z) h s =
+    zip_bad front word left ys h (subst (λ ws. AllZip Spells ws (map value ys)) e s)

@@ -1,5 +1,9 @@
 -- The last items of a list.
-use Rattle.std.proofs.{Common.{◌≡◌, ℕ, ◌+◌, ◌-◌, ◌≤◌, List, [], ◌∷◌, ◌<◌, ◌++◌, length, take, drop, min, inl, inr, ap, ap₂, sym, ◌∙◌, arith}, lemmas.{Bool.cases_lt, List.{length-append, length-drop, drop-append-le, drop-drop, drop_all, drop_min, take_all}}, Math.Seq.drop-append-add}
+use Rattle.std.proofs.{
+  Common.{◌≡◌, ℕ, ◌+◌, ◌-◌, ◌≤◌, List, [], ◌∷◌, ◌<◌, ◌++◌, length, take, drop, min, inl, inr, ap, ap₂, sym, ◌∙◌, arith},
+  lemmas.{Bool.cases_lt, List.{length-append, length-drop, drop-append-le, drop-drop, drop_all, drop_min, take_all}},
+  Math.Seq.drop-append-add,
+}
 use Rattle.arraydeque.specs.Deque.{keep_last}
 
 -- all of a list that is short enough
@@ -7,12 +11,15 @@ pub keep_last-all : {X : Type 0} (n : ℕ) (xs : List X) → length xs ≤ n →
 keep_last-all n xs short = let none : length xs - n ≡ 0 = omega arith in ap (λ k. drop k xs) none
 
 -- to keep the last n, to add items and to keep the last n again is to add them and to keep the last n
-pub keep_last-append : {X : Type 0} (n : ℕ) (xs ys : List X) → keep_last n (keep_last n xs ++ ys) ≡ keep_last n (xs ++ ys)
+pub keep_last-append : {X : Type 0} (n : ℕ) (xs ys : List X)
+    → keep_last n (keep_last n xs ++ ys) ≡ keep_last n (xs ++ ys)
 keep_last-append n xs ys =
     let first = length xs - n in
     let then = length (keep_last n xs ++ ys) - n in
-    let both : first + then ≡ length (xs ++ ys) - n = omega (arith, length-append xs ys, length-append (keep_last n xs) ys, length-drop first xs) in
-    ap (drop then) (sym (drop-append-le first xs ys (omega arith))) ∙ drop-drop then first (xs ++ ys) ∙ ap (λ k. drop k (xs ++ ys)) both
+    let both : first + then ≡ length (xs ++ ys) - n =
+    omega (arith, length-append xs ys, length-append (keep_last n xs) ys, length-drop first xs) in
+    ap (drop then) (sym (drop-append-le first xs ys (omega arith))) ∙ drop-drop then first (xs ++ ys)
+    ∙ ap (λ k. drop k (xs ++ ys)) both
 
 -- where there are n already, an item more goes behind them, and the first of them goes
 pub keep_last-full : {X : Type 0} (n : ℕ) (xs : List X) (y : X) → 0 < n → n ≤ length xs →

@@ -1,6 +1,21 @@
--- A deque in memory is taken apart into its ring, and made of it again. All its items are lent as its ring lends them. Assumes `Logic`.
-use Rattle.arraydeque_ring.{proofs.{memory.Kit.{◌≡◌, sym, ap, subst, ◌∙◌, List, [], ◌∷◌, ℕ, ◌+◌, ◌≤◌, length, Ura, full_share, SProp, ent, sep, ex, Logic, sem, ‵, raw, ◌⊛◌, ◌$◌, ◌∵◌, !, qed, by, use2, RattleType, part_at, param, param_laws, Fml, El, R, el_x}, loans.{Placed.{as_many-same, as_many-twice, length-as_many}, Rings.Rr}}, specs.{Loans.as_many, Ring.RingState}}
-use denote.{Laws.Lawfuls, Memory.{part_of, lone}, Model.Fields.{plain_out, Plain-in, view_made}, Param.{number, Laws.Laws}, Struct.{Members.{Member, rows_of}, Parts.PartsBack, Pick.{rest_at, field_out, field_back}}}
+-- A deque in memory is taken apart into its ring, and made of it again.
+-- All its items are lent as its ring lends them. Assumes `Logic`.
+use Rattle.arraydeque_ring.{
+  proofs.{
+    memory.Kit.{◌≡◌, sym, ap, subst, ◌∙◌, List, [], ◌∷◌, ℕ, ◌+◌, ◌≤◌, length, Ura, full_share, SProp, ent, sep, ex},
+    memory.Kit.{Logic, sem, ‵, raw, ◌⊛◌, ◌$◌, ◌∵◌, !, qed, by, use2, RattleType, part_at, param, param_laws, Fml, El},
+    memory.Kit.{R, el_x},
+    loans.{Placed.{as_many-same, as_many-twice, length-as_many}, Rings.Rr},
+  },
+  specs.{Loans.as_many, Ring.RingState},
+}
+use denote.{
+  Laws.Lawfuls,
+  Memory.{part_of, lone},
+  Model.Fields.{plain_out, Plain-in, view_made},
+  Param.{number, Laws.Laws},
+  Struct.{Members.{Member, rows_of}, Parts.PartsBack, Pick.{rest_at, field_out, field_back}},
+}
 use Rattle.std.specs.contracts.marker.PhantomData as phantom
 use Rattle.std.proofs.marker.PhantomData.TheLaws as phantom_laws
 use Rattle.arraydeque_ring.specs.RingLends as ring
@@ -37,7 +52,10 @@ module _ (E : El) (N : ℕ) (B : RattleType) where
 
 module _ (E : El) (N : ℕ) (B : RattleType) (LB : Laws B) {M : Type 1} {𝓤 : Ura M} (𝓛 : Logic 𝓤) (b o : ℕ) where
   lawful : Lawfuls 𝓛 (rows_of (members E N B))
-  lawful = ((ring_laws.the_row_laws (R E) (param_laws 0 E.row E.laws)).lawful 𝓛, ((phantom_laws.the_row_laws (param 2 B) (param_laws 2 B LB)).lawful 𝓛, tt))
+  lawful = (
+    (ring_laws.the_row_laws (R E) (param_laws 0 E.row E.laws)).lawful 𝓛,
+    ((phantom_laws.the_row_laws (param 2 B) (param_laws 2 B LB)).lawful 𝓛, tt),
+  )
 
   -- the other field, and the way back from both
   abbrev pub Other : Fields E N B → Fml
@@ -46,24 +64,34 @@ module _ (E : El) (N : ℕ) (B : RattleType) (LB : Laws B) {M : Type 1} {𝓤 : 
   abbrev pub Way : SProp 𝓤
   Way = PartsBack 𝓛 full_share [] (members E N B) b o
 
-  pub fields_out : (d : DequeState (el_x E)) → ent 𝓤 (sem 𝓛 (part_at (Dr E N B) full_share d b o)) (ex 𝓤 (λ (x : (x : Fields E N B) × ((view E N B x ≡ d) × Kept E N B x)). sem 𝓛 (part_at (FieldsRow E N B) full_share x.0 b o)))
-  fields_out d = plain_out (Dr E N B) (FieldsRow E N B) (deque_laws.the_opens (R E) (param 1 (number N)) (param 2 B)) 𝓛 full_share d b o
+  pub fields_out : (d : DequeState (el_x E)) → ent 𝓤 (sem 𝓛 (part_at (Dr E N B) full_share d b o))
+      (ex 𝓤 (λ (x : (x : Fields E N B) × ((view E N B x ≡ d) × Kept E N B x)).
+      sem 𝓛 (part_at (FieldsRow E N B) full_share x.0 b o)))
+  fields_out d = plain_out (Dr E N B) (FieldsRow E N B)
+      (deque_laws.the_opens (R E) (param 1 (number N)) (param 2 B)) 𝓛 full_share d b o
 
-  pub ring_out : (x : Fields E N B) → ent 𝓤 (sem 𝓛 (part_at (FieldsRow E N B) full_share x b o)) (sep 𝓤 (sem 𝓛 (part_at (Rr E) full_share x.ring b (o + 0))) (sep 𝓤 (sem 𝓛 (Other x)) Way))
+  pub ring_out : (x : Fields E N B) → ent 𝓤 (sem 𝓛 (part_at (FieldsRow E N B) full_share x b o))
+      (sep 𝓤 (sem 𝓛 (part_at (Rr E) full_share x.ring b (o + 0))) (sep 𝓤 (sem 𝓛 (Other x)) Way))
   unfolding part_of
   ring_out x = field_out 𝓛 full_share [] (members E N B) lawful (x.ring, (x.behavior, tt)) b o 0
 
   -- whatever the ring is, with which the invariant holds, the deque is whole again
-  pub deque_whole : (d : DequeState (el_x E)) (x : Fields E N B) (r : RingState (el_x E)) → view E N B (with_ring E N B x r) ≡ d → Kept E N B (with_ring E N B x r)
-      → ent 𝓤 (sep 𝓤 (sem 𝓛 (part_at (Rr E) full_share r b (o + 0))) (sep 𝓤 (sem 𝓛 (Other x)) Way)) (sem 𝓛 (part_at (Dr E N B) full_share d b o))
+  pub deque_whole : (d : DequeState (el_x E)) (x : Fields E N B) (r : RingState (el_x E))
+      → view E N B (with_ring E N B x r) ≡ d → Kept E N B (with_ring E N B x r)
+      → ent 𝓤 (sep 𝓤 (sem 𝓛 (part_at (Rr E) full_share r b (o + 0))) (sep 𝓤 (sem 𝓛 (Other x)) Way))
+      (sem 𝓛 (part_at (Dr E N B) full_share d b o))
   unfolding part_of
   deque_whole d x r seen kept =
       let y = with_ring E N B x r in
       qed 𝓛 (‵ (part_at (Rr E) full_share r b (o + 0)) ∷ (‵ (Other x) ⊛ raw Way) ∷ []) ∵
-      use2 𝓛 (‵ (part_at (FieldsRow E N B) full_share y b o)) (field_back 𝓛 full_share [] (members E N B) (y.ring, (y.behavior, tt)) b o 0) $
-      by ! (Plain-in (Dr E N B) (FieldsRow E N B) (deque_laws.the_opens (R E) (param 1 (number N)) (param 2 B)) 𝓛 full_share d y (view_made (FieldsRow E N B) (DequeState (el_x E)) (Dr E N B).coded (view E N B) (Kept E N B) 𝓛 d y (seen, kept)) b o)
+      use2 𝓛 (‵ (part_at (FieldsRow E N B) full_share y b o))
+      (field_back 𝓛 full_share [] (members E N B) (y.ring, (y.behavior, tt)) b o 0) $
+      by ! (Plain-in (Dr E N B) (FieldsRow E N B)
+      (deque_laws.the_opens (R E) (param 1 (number N)) (param 2 B)) 𝓛 full_share d y (view_made (FieldsRow E N B)
+      (DequeState (el_x E)) (Dr E N B).coded (view E N B) (Kept E N B) 𝓛 d y (seen, kept)) b o)
 
-module _ (E : El) (N : ℕ) (B : RattleType) (x : Fields E N B) (d : DequeState (el_x E)) (seen : view E N B x ≡ d) (kept : Kept E N B x) where
+module _ (E : El) (N : ℕ) (B : RattleType) (x : Fields E N B) (d : DequeState (el_x E)) (seen : view E N B x ≡ d)
+    (kept : Kept E N B x) where
   -- the ring and the deque after any writing
   abbrev pub after : List (el_x E) → Fields E N B
   after ws = with_ring E N B x (ring.rewritten x.ring ws)
@@ -75,8 +103,17 @@ module _ (E : El) (N : ℕ) (B : RattleType) (x : Fields E N B) (d : DequeState 
   kept_after ws = (kept.0, subst (λ n. n ≤ N) (sym (length-as_many x.ring.items ws)) kept.1)
 
   pub seen_after : (ws : List (el_x E)) → view E N B (after ws) ≡ rewritten d (view E N B (after ws)).items
-  seen_after ws = rw (as_many-same d.items (view E N B (after ws)).items (length-as_many x.ring.items ws ∙ ap length same_items), ap (λ (v : DequeState (el_x E)). v.start) seen, ap (λ (v : DequeState (el_x E)). v.steps) seen)
+  seen_after ws = rw (
+    as_many-same d.items (view E N B (after ws)).items (length-as_many x.ring.items ws ∙ ap length same_items),
+    ap (λ (v : DequeState (el_x E)). v.start) seen,
+    ap (λ (v : DequeState (el_x E)). v.steps) seen,
+  )
 
   -- the same where what the ring ends as is said twice
   pub written : (ws : List (el_x E)) → view E N B (after (as_many x.ring.items ws)) ≡ rewritten d ws
-  written ws = rw (as_many-twice x.ring.items ws, same_items, ap (λ (v : DequeState (el_x E)). v.start) seen, ap (λ (v : DequeState (el_x E)). v.steps) seen)
+  written ws = rw (
+    as_many-twice x.ring.items ws,
+    same_items,
+    ap (λ (v : DequeState (el_x E)). v.start) seen,
+    ap (λ (v : DequeState (el_x E)). v.steps) seen,
+  )

@@ -1,15 +1,26 @@
 -- What extends make of a deque.
-use Rattle.std.proofs.{Common.{◌≡◌, ◌<◌, ℕ, zero, suc, ◌==◌, if◌then◌else◌, Vec, Global, refl, ap, sym, ◌∙◌, arith}, lemmas.Bool.{cond-false, ne_eqb}}
-use Rattle.arraydeque.specs.{Deque.DequeState, Machine.{extended_back, extended_front}, Makes.{Makes, pushed_back, pushed_front}, Policy.Policy, declared.run.{Call.TheVariants.{ExtendBack, ExtendFront, Extend}, Reply.TheVariants.Done}}
+use Rattle.std.proofs.{
+  Common.{◌≡◌, ◌<◌, ℕ, zero, suc, ◌==◌, if◌then◌else◌, Vec, Global, refl, ap, sym, ◌∙◌, arith},
+  lemmas.Bool.{cond-false, ne_eqb},
+}
+use Rattle.arraydeque.specs.{
+  Deque.DequeState,
+  Machine.{extended_back, extended_front},
+  Makes.{Makes, pushed_back, pushed_front},
+  Policy.Policy,
+  declared.run.{Call.TheVariants.{ExtendBack, ExtendFront, Extend}, Reply.TheVariants.Done},
+}
 
 -- one thing at capacity 0, and another at any other
 pub at_none : {A : Type 0} (n : ℕ) (a b c : A) → (n ≡ 0 → c ≡ a) → (0 < n → c ≡ b) → c ≡ (if n == 0 then a else b)
 at_none zero a b c none some = none refl
-at_none (suc n) a b c none some = some (omega arith) ∙ sym (cond-false (suc n == 0) a b (ne_eqb (suc n) 0 (λ no. absurd (omega arith))))
+at_none (suc n) a b c none some =
+    some (omega arith) ∙ sym (cond-false (suc n == 0) a b (ne_eqb (suc n) 0 (λ no. absurd (omega arith))))
 
 module _ {X B : Type 0} (p : Policy) (n size : ℕ) (v : Vec X Global) (old new : DequeState X) where
   pub extended_back-makes : new.items ≡ extended_back p n old.items v.items → new ≡ pushed_back p n v.items old
-      → Makes {X = X} {B = B} p n size (ExtendBack v) Done old new × Makes {X = X} {B = B} p n size (Extend v) Done old new
+      → Makes {X = X} {B = B} p n size (ExtendBack v) Done old new
+      × Makes {X = X} {B = B} p n size (Extend v) Done old new
   extended_back-makes items same =
       let start = ap (λ (d : DequeState X). d.start) same in
       let steps = ap (λ (d : DequeState X). d.steps) same in (

@@ -1,5 +1,8 @@
 -- Only an empty list has no item at its ends.
-use Rattle.std.{proofs.Common.{◌≡◌, ◌-◌, List, [], ◌∷◌, length, slice_get, Option, Some, None, refl}, specs.Option.{option_map, IfNone}}
+use Rattle.std.{
+  proofs.Common.{◌≡◌, ◌-◌, List, [], ◌∷◌, length, slice_get, Option, Some, None, refl},
+  specs.Option.{option_map, IfNone},
+}
 use Rattle.arraydeque_ring.proofs.Ends.{nothing_last}
 
 module _ {B X : Type 0} (v : B → X) where

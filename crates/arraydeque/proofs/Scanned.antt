@@ -1,15 +1,32 @@
 -- One run of a scanner's calls after another.
-use Rattle.std.{proofs.{Common.{◌≡◌, ℕ, ◌+◌, arith, Bool, true, false, true≢false, List, [], ◌∷◌, ◌++◌, Option, Some, None, IfSome, IfNone, slice_get, refl, sym, ◌∙◌, ap, subst, append-nil, append_assoc}, iter.runs.Made.{run, to_end}}, specs.{Iterator.{Count, Yields, Runs.WholeRun}, Option.option_to_list}}
+use Rattle.std.{
+  proofs.{
+    Common.{◌≡◌, ℕ, ◌+◌, arith, Bool, true, false, true≢false, List, [], ◌∷◌, ◌++◌, Option, Some, None, IfSome, IfNone},
+    Common.{slice_get, refl, sym, ◌∙◌, ap, subst, append-nil, append_assoc},
+    iter.runs.Made.{run, to_end},
+  },
+  specs.{Iterator.{Count, Yields, Runs.WholeRun}, Option.option_to_list},
+}
 use Rattle.arraydeque.specs.Lookahead.{ScannerState, left_of, fresh_scanner, Reads, HandsOut, HasRest, TakesOff, NextIs}
 
 -- a scanner that is made over an empty buffer is fresh
 pub fresh_made : {S A : Type 0} (remaining : S → Count) (iter : S) (buffer : List A) → buffer ≡ []
-    → fresh_scanner {S = S} {A = A} remaining iter ≡ record { iter = iter; buffer = buffer; ended = false; left = left_of remaining iter buffer false }
+    → fresh_scanner {S = S} {A = A} remaining iter ≡ record {
+      iter = iter;
+      buffer = buffer;
+      ended = false;
+      left = left_of remaining iter buffer false;
+    }
 unfolding left_of
 fresh_made remaining iter [] empty =
     let count = remaining iter in
     let same : count.bound ≡ count.bound + 0 = omega arith in
-    ap (λ (n : ℕ). record { iter = iter; buffer = []; ended = false; left = record { bounded = count.bounded; bound = n } }) same
+    ap (λ (n : ℕ). record {
+      iter = iter;
+      buffer = [];
+      ended = false;
+      left = record { bounded = count.bounded; bound = n };
+    }) same
 fresh_made remaining iter (x ∷ buffer) empty = cc
 
 module _ {S A : Type 0} (steps : S → Option A → S → Type 0) where
@@ -18,12 +35,14 @@ module _ {S A : Type 0} (steps : S → Option A → S → Type 0) where
   Yields-append s t u (x ∷ xs) ys first second = (first.0, first.1, Yields-append first.0 t u xs ys first.2 second)
 
   -- what is read in two runs is read in one
-  Reads-append : (a b c : Bool) (s t u : S) (xs ys : List A) → Reads steps a s xs b t → Reads steps b t ys c u → Reads steps a s (xs ++ ys) c u
+  Reads-append : (a b c : Bool) (s t u : S) (xs ys : List A) → Reads steps a s xs b t → Reads steps b t ys c u
+      → Reads steps a s (xs ++ ys) c u
   Reads-append true true c s t u xs ys first second = ((λ i. first.0 i ++ second.0 i), second.1 ∙ first.1, second.2)
   Reads-append true false c s t u xs ys first second = absurd (true≢false (sym first.2))
   Reads-append false true true s t u xs ys first second = rw (second.0, append-nil, second.1) first
   Reads-append false true false s t u xs ys first second = absurd (true≢false (sym second.2))
-  Reads-append false false true s t u xs ys first second = (second.0, Yields-append s t second.0 xs ys first second.1, second.2)
+  Reads-append false false true s t u xs ys first second =
+      (second.0, Yields-append s t second.0 xs ys first second.1, second.2)
   Reads-append false false false s t u xs ys first second = Yields-append s t u xs ys first second
 
   -- a call that leaves the iterator alone has read nothing
@@ -37,36 +56,48 @@ module _ {S A : Type 0} (steps : S → Option A → S → Type 0) where
     HandsOut-append first second = (
       first.0 ++ second.0,
       Reads-append old.ended mid.ended new.ended old.iter mid.iter new.iter first.0 second.0 first.1 second.1,
-      sym (append_assoc old.buffer first.0 second.0) ∙ ap (λ l. l ++ second.0) first.2 ∙ append_assoc xs mid.buffer second.0 ∙ ap (λ l. xs ++ l) second.2 ∙ sym (append_assoc xs ys new.buffer),
+      sym (append_assoc old.buffer first.0 second.0) ∙ ap (λ l. l ++ second.0) first.2
+          ∙ append_assoc xs mid.buffer second.0 ∙ ap (λ l. xs ++ l) second.2 ∙ sym (append_assoc xs ys new.buffer),
     )
 
   -- what is handed out goes off the rest
-  pub TakesOff-from_out : (old new : ScannerState S A) (ys : List A) → HandsOut steps old ys new → TakesOff steps old ys new
+  pub TakesOff-from_out : (old new : ScannerState S A) (ys : List A) → HandsOut steps old ys new
+      → TakesOff steps old ys new
   unfolding HasRest
   TakesOff-from_out old new ys given rest after = (
     given.0 ++ after.0,
     (after.1.0, Reads-append old.ended new.ended true old.iter new.iter after.1.0 given.0 after.0 given.1 after.1.1),
-    ap (λ l. ys ++ l) after.2 ∙ sym (append_assoc ys new.buffer after.0) ∙ ap (λ l. l ++ after.0) (sym given.2) ∙ append_assoc old.buffer given.0 after.0,
+    ap (λ l. ys ++ l) after.2 ∙ sym (append_assoc ys new.buffer after.0) ∙ ap (λ l. l ++ after.0) (sym given.2)
+        ∙ append_assoc old.buffer given.0 after.0,
   )
 
   -- the rest of a fresh scanner is what a whole run of its iterator gives
-  pub WholeRun-fresh : (remaining : S → Count) (s : ScannerState S A) (iter : S) → s ≡ fresh_scanner remaining iter → (rest : List A) → HasRest steps s rest → WholeRun steps iter (λ p. p.items ≡ rest)
+  pub WholeRun-fresh : (remaining : S → Count) (s : ScannerState S A) (iter : S) → s ≡ fresh_scanner remaining iter
+      → (rest : List A) → HasRest steps s rest → WholeRun steps iter (λ p. p.items ≡ rest)
   unfolding HasRest
   WholeRun-fresh remaining s iter fresh rest has =
       let read = subst (λ t. HasRest steps t rest) fresh has in
       (run steps iter read.0 true (to_end steps iter read.0 read.1), refl, refl, sym read.2)
 
   -- where no item is handed out and the scanner is spent, it had nothing left
-  pub HasRest-none : (old new : ScannerState S A) (item : Option A) → HandsOut steps old (option_to_list item) new → new.buffer ≡ [] → IfNone item (new.ended ≡ true) → IfNone item (HasRest steps old [])
+  pub HasRest-none : (old new : ScannerState S A) (item : Option A) → HandsOut steps old (option_to_list item) new
+      → new.buffer ≡ [] → IfNone item (new.ended ≡ true) → IfNone item (HasRest steps old [])
   unfolding HasRest
-  HasRest-none old new None given empty ended = (given.0, (new.iter, subst (λ e. Reads steps old.ended old.iter given.0 e new.iter) ended given.1), sym (given.2 ∙ empty))
+  HasRest-none old new None given empty ended = (
+    given.0,
+    (new.iter, subst (λ e. Reads steps old.ended old.iter given.0 e new.iter) ended given.1),
+    sym (given.2 ∙ empty),
+  )
   HasRest-none old new (Some item) given empty ended = tt
 
-  next_is : (P : A → Type 0) (buffer xs rest : List A) → IfSome (slice_get buffer 0) P → (buffer ≡ [] → xs ≡ []) → rest ≡ buffer ++ xs → IfSome (slice_get rest 0) P
+  next_is : (P : A → Type 0) (buffer xs rest : List A) → IfSome (slice_get buffer 0) P → (buffer ≡ [] → xs ≡ [])
+      → rest ≡ buffer ++ xs → IfSome (slice_get rest 0) P
   next_is P [] xs rest holds none same = rw (same, none refl) tt
   next_is P (x ∷ buffer) xs rest holds none same = rw same holds
 
   -- what comes next is the first item of the buffer, or nothing where the iterator has ended
-  pub NextIs-buffer : (P : A → Type 0) (s : ScannerState S A) → IfSome (slice_get s.buffer 0) P → IfNone (slice_get s.buffer 0) (s.ended ≡ true) → NextIs steps P s
+  pub NextIs-buffer : (P : A → Type 0) (s : ScannerState S A) → IfSome (slice_get s.buffer 0) P
+      → IfNone (slice_get s.buffer 0) (s.ended ≡ true) → NextIs steps P s
   unfolding HasRest
-  NextIs-buffer P s holds ended rest has = next_is P s.buffer has.0 rest holds (λ empty. (subst (λ e. Reads steps e s.iter has.0 true has.1.0) (rw empty at ended) has.1.1).0) has.2
+  NextIs-buffer P s holds ended rest has = next_is P s.buffer has.0 rest holds
+      (λ empty. (subst (λ e. Reads steps e s.iter has.0 true has.1.0) (rw empty at ended) has.1.1).0) has.2

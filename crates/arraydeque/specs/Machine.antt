@@ -1,6 +1,26 @@
 -- The plain list machine: what one call answers, and what list it leaves.
-use Rattle.std.specs.{Prelude.{◌≡◌, ℕ, ◌-◌, List, [], ◌∷◌, ◌++◌, length, take, drop, reverse, slice_get, slice_set, slice_range, insert, remove, Option, Some, None, Bool, true, ◌&&◌, nat_lt, nat_le, eqb, if◌then◌else◌, ◌⊎◌}, Bool.MatchBool, List.{swap, remove_range}}
-use Rattle.arraydeque.specs.{Deque.{keep_last, last_item}, Policy.{Policy, saturating, wrapping}, declared.run.{Call.{Call, TheVariants.{PushFront, PushBack, PopFront, PopBack, Insert, Remove, SwapRemoveBack, SwapRemoveFront, Swap, Replace, Clear, Linearize, ExtendBack, ExtendFront, Extend, Drain, SplitOff, Len, Capacity, IsEmpty, IsFull}}, Reply.{Reply, TheVariants.{Done, Item, Displaced, Number, Truth, Drained, Split, Full, OutOfRange, NoMemory, NotOffered}}}}
+use Rattle.std.specs.{
+  Prelude.{◌≡◌, ℕ, ◌-◌, List, [], ◌∷◌, ◌++◌, length, take, drop, reverse, slice_get, slice_set, slice_range, insert},
+  Prelude.{remove, Option, Some, None, Bool, true, ◌&&◌, nat_lt, nat_le, eqb, if◌then◌else◌, ◌⊎◌},
+  Bool.MatchBool,
+  List.{swap, remove_range},
+}
+use Rattle.arraydeque.specs.{
+  Deque.{keep_last, last_item},
+  Policy.{Policy, saturating, wrapping},
+  declared.run.{
+    Call.{
+      Call,
+      TheVariants.{PushFront, PushBack, PopFront, PopBack, Insert, Remove, SwapRemoveBack, SwapRemoveFront, Swap},
+      TheVariants.{Replace, Clear, Linearize, ExtendBack, ExtendFront, Extend, Drain, SplitOff, Len, Capacity, IsEmpty},
+      TheVariants.{IsFull},
+    },
+    Reply.{
+      Reply,
+      TheVariants.{Done, Item, Displaced, Number, Truth, Drained, Split, Full, OutOfRange, NoMemory, NotOffered},
+    },
+  },
+}
 
 -- a reply as the list machine gives it, with a list in place of what owns items
 pub data Answer (X : Type 0) : Type 0 where

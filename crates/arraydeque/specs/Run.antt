@@ -1,6 +1,12 @@
 -- A run over a list of calls: one reply a call, in order.
 use Rattle.std.specs.Prelude.{◌≡◌, ℕ, List, [], ◌∷◌}
-use Rattle.arraydeque.specs.{Deque.DequeState, Machine.{Answers, answer_of}, Makes.Makes, Policy.Policy, declared.run.{Call.Call, Reply.Reply}}
+use Rattle.arraydeque.specs.{
+  Deque.DequeState,
+  Machine.{Answers, answer_of},
+  Makes.Makes,
+  Policy.Policy,
+  declared.run.{Call.Call, Reply.Reply},
+}
 
 module _ {X B : Type 0} {n : ℕ} (p : Policy) where
   -- the calls, made one after another from the list l, are answered by the replies and leave the

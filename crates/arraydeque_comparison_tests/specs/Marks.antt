@@ -1,6 +1,13 @@
 -- How marks compare. A mark is a number, or `None`, which is equal to nothing and in no order with
 -- anything.
-use Rattle.std.specs.{Prelude.{◌≡◌, ℤ, Bool, true, false, Option, Some, None, refl}, Bool.Decides, Cmp.{IsPartialEquivalence, IsPartialOrder, partial_equiv_from_equiv, int_eq_equiv, signed_po}, Option.option_map, Ordering.{int_cmp, int_eq, ordering_reverse}, declared.cmp.Ordering.{Ordering, TheVariants.{Less, Equal}}}
+use Rattle.std.specs.{
+  Prelude.{◌≡◌, ℤ, Bool, true, false, Option, Some, None, refl},
+  Bool.Decides,
+  Cmp.{IsPartialEquivalence, IsPartialOrder, partial_equiv_from_equiv, int_eq_equiv, signed_po},
+  Option.option_map,
+  Ordering.{int_cmp, int_eq, ordering_reverse},
+  declared.cmp.Ordering.{Ordering, TheVariants.{Less, Equal}},
+}
 
 -- equal are two numbers that are the same
 abbrev pub marks_eq : Option ℤ → Option ℤ → Bool

@@ -1,5 +1,12 @@
 -- A list and its last item.
-use Rattle.std.{proofs.{Common.{◌≡◌, ◌-◌, ◌+◌, List, [], ◌∷◌, ◌++◌, length, take, slice_get, option_to_list, Option, Some, None, ap, ◌∙◌, refl, arith, sym}, lemmas.{List.{append-nil, take_more, take_all}, Option.{slice_get_within, slice_get-get_or, get_or_from_slice_get}}}, specs.{Option.{OnSome, IfNone}, Iterator.YieldsLast}}
+use Rattle.std.{
+  proofs.{
+    Common.{◌≡◌, ◌-◌, ◌+◌, List, [], ◌∷◌, ◌++◌, length, take, slice_get, option_to_list, Option, Some, None, ap, ◌∙◌},
+    Common.{refl, arith, sym},
+    lemmas.{List.{append-nil, take_more, take_all}, Option.{slice_get_within, slice_get-get_or, get_or_from_slice_get}},
+  },
+  specs.{Option.{OnSome, IfNone}, Iterator.YieldsLast},
+}
 use Rattle.arraydeque_ring.specs.{Ring.RingState, Steps.Steps}
 
 module _ {X : Type 0} where
@@ -13,16 +20,21 @@ module _ {X : Type 0} where
   last_and_rest xs x last =
       let k = length xs - 1 in
       let within = slice_get_within xs k x (sym last) in
-      ap (λ y. take k xs ++ y ∷ []) (sym (get_or_from_slice_get xs k x x (sym last))) ∙ sym (take_more xs k x within) ∙ take_all (k + 1) xs (omega arith)
+      ap (λ y. take k xs ++ y ∷ []) (sym (get_or_from_slice_get xs k x x (sym last))) ∙ sym (take_more xs k x within)
+      ∙ take_all (k + 1) xs (omega arith)
 
   -- what a ring's pop of its last item says: that nothing is lost, and the same in an iterator's words
   module _ (old new : RingState X) (st : Steps) where
     pub conserved-pop_back : (popped : Option X) → popped ≡ slice_get old.items (length old.items - 1)
-        → OnSome popped (new ≡ record old { items = take (length old.items - 1) old.items; steps = st }) → IfNone popped (new ≡ old) → new.items ++ option_to_list popped ≡ old.items
+        → OnSome popped (new ≡ record old { items = take (length old.items - 1) old.items; steps = st })
+        → IfNone popped (new ≡ old) → new.items ++ option_to_list popped ≡ old.items
     conserved-pop_back None last taken kept = append-nil new.items ∙ ap (λ (r : RingState X). r.items) kept
-    conserved-pop_back (Some x) last taken kept = ap (λ (r : RingState X). r.items ++ x ∷ []) taken ∙ last_and_rest old.items x last
+    conserved-pop_back (Some x) last taken kept =
+        ap (λ (r : RingState X). r.items ++ x ∷ []) taken ∙ last_and_rest old.items x last
 
     pub YieldsLast-pop : (popped : Option X) → popped ≡ slice_get old.items (length old.items - 1)
-        → OnSome popped (new ≡ record old { items = take (length old.items - 1) old.items; steps = st }) → IfNone popped (new ≡ old) → YieldsLast (λ (l : List X). l) old.items popped new.items
-    YieldsLast-pop None last taken kept = (nothing_last old.items last, ap (λ (r : RingState X). r.items) kept ∙ nothing_last old.items last)
+        → OnSome popped (new ≡ record old { items = take (length old.items - 1) old.items; steps = st })
+        → IfNone popped (new ≡ old) → YieldsLast (λ (l : List X). l) old.items popped new.items
+    YieldsLast-pop None last taken kept =
+        (nothing_last old.items last, ap (λ (r : RingState X). r.items) kept ∙ nothing_last old.items last)
     YieldsLast-pop (Some x) last taken kept = sym (conserved-pop_back (Some x) last taken kept)

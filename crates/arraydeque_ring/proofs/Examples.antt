@@ -1,6 +1,9 @@
 -- How many items move, and how many would have to, in small lists.
 use Rattle.std.{proofs.Common.{◌≡◌, [], ◌∷◌, map, refl}, specs.List.range_with_len}
-use Rattle.arraydeque_ring.specs.{Sides.{moves_to_insert, moves_to_remove, moves_to_drain}, Changed.{changed_insert, changed_remove, changed_drain}}
+use Rattle.arraydeque_ring.specs.{
+  Sides.{moves_to_insert, moves_to_remove, moves_to_drain},
+  Changed.{changed_insert, changed_remove, changed_drain},
+}
 
 -- one comes in at each index of six items
 inserts_into_six : map (λ i. moves_to_insert i 6) (range_with_len 0 7) ≡ 0 ∷ 1 ∷ 2 ∷ 3 ∷ 2 ∷ 1 ∷ 0 ∷ []
@@ -15,7 +18,8 @@ remove_on_a_tie : moves_to_remove 1 2 ≡ 0
 remove_on_a_tie = refl
 
 -- of eight items those from the middle, from the front, and to the end go, and none
-drains_of_eight : moves_to_drain 2 5 8 ∷ moves_to_drain 0 3 8 ∷ moves_to_drain 3 8 8 ∷ moves_to_drain 3 3 8 ∷ [] ≡ 2 ∷ 0 ∷ 0 ∷ 0 ∷ []
+drains_of_eight : moves_to_drain 2 5 8 ∷ moves_to_drain 0 3 8 ∷ moves_to_drain 3 8 8 ∷ moves_to_drain 3 3 8 ∷ []
+    ≡ 2 ∷ 0 ∷ 0 ∷ 0 ∷ []
 drains_of_eight = refl
 
 -- six items in eight places from place 6 on, and one that comes in before item 2: how many of the

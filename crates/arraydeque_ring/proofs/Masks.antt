@@ -1,5 +1,8 @@
 -- A number that shares no bit with the one below it.
-use Rattle.std.proofs.{Common.{◌≡◌, ℕ, suc, ◌+◌, ◌-◌, ◌*◌, ◌/◌, ◌%◌, ◌^◌, ◌<◌, ◌≤◌, inl, inr, bit_and, sym, ap, ap₂, ◌∙◌, arith, pow-suc}, lemmas.{Bool.cases_lt, Nat.{and_block, and_mask}}}
+use Rattle.std.proofs.{
+  Common.{◌≡◌, ℕ, suc, ◌+◌, ◌-◌, ◌*◌, ◌/◌, ◌%◌, ◌^◌, ◌<◌, ◌≤◌, inl, inr, bit_and, sym, ap, ap₂, ◌∙◌, arith, pow-suc},
+  lemmas.{Bool.cases_lt, Nat.{and_block, and_mask}},
+}
 use lib.{Arith.bin_ind, Bits.{and_step, and_self}}
 
 -- above 2 ^ 63 a number and the one below it share their highest bit
@@ -16,18 +19,21 @@ at_most_half n within e = elim (cases_lt (2 ^ 63) n) [
 
 -- it is a power of two
 power_of_two : (n : ℕ) → 0 < n → bit_and n (n - 1) ≡ 0 → (k : ℕ) × (n ≡ 2 ^ k)
-power_of_two = bin_ind (λ (n : ℕ). 0 < n → bit_and n (n - 1) ≡ 0 → (k : ℕ) × (n ≡ 2 ^ k)) (λ some _. absurd (omega arith)) (λ n half some e.
+power_of_two = bin_ind (λ (n : ℕ). 0 < n → bit_and n (n - 1) ≡ 0 → (k : ℕ) × (n ≡ 2 ^ k))
+    (λ some _. absurd (omega arith)) (λ n half some e.
     let step = and_step n (n - 1) in
     elim (cases_lt 0 (n % 2)) [
       | inl odd ↦
           let same : bit_and (n / 2) ((n - 1) / 2) ≡ n / 2 = ap (bit_and (n / 2)) (omega arith) ∙ and_self (n / 2) in
           (0, omega (arith, step, same))
       | inr even ↦
-          let below : bit_and (n / 2) ((n - 1) / 2) ≡ bit_and (n / 2) (n / 2 - 1) = ap (bit_and (n / 2)) (omega arith) in
+          let below : bit_and (n / 2) ((n - 1) / 2) ≡ bit_and (n / 2) (n / 2 - 1) =
+          ap (bit_and (n / 2)) (omega arith) in
           let k = half (omega arith) (omega (arith, step, below)) in
           (suc k.0, omega (arith, k.1, pow-suc 2 k.0))
     ])
 
 -- so the one below it masks what is left of a number by a division
 pub masked : (x n : ℕ) → 0 < n → bit_and n (n - 1) ≡ 0 → bit_and x (n - 1) ≡ x % n
-masked x n some e = let k = power_of_two n some e in ap (λ m. bit_and x (m - 1)) k.1 ∙ and_mask x k.0 ∙ ap (λ m. x % m) (sym k.1)
+masked x n some e = let k = power_of_two n some e in
+    ap (λ m. bit_and x (m - 1)) k.1 ∙ and_mask x k.0 ∙ ap (λ m. x % m) (sym k.1)

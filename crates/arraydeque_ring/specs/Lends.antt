@@ -1,6 +1,14 @@
 -- What a `Slots` ends as, once a `&mut` into it has ended.
-use Rattle.std.specs.{Prelude.{ℕ, List, slice_set, Some}, Borrow.{Fml, RattleType, MutBor, Array, Lends, LendsBoth, fsep, follows, follows_both}}
-use Rattle.arraydeque_ring.specs.{Loans.{LoanState, as_many, with_run, written_over}, Places.Region, Steps.more_lends, contracts.slots.Slots.the_row}
+use Rattle.std.specs.{
+  Prelude.{ℕ, List, slice_set, Some},
+  Borrow.{Fml, RattleType, MutBor, Array, Lends, LendsBoth, fsep, follows, follows_both},
+}
+use Rattle.arraydeque_ring.specs.{
+  Loans.{LoanState, as_many, with_run, written_over},
+  Places.Region,
+  Steps.more_lends,
+  contracts.slots.Slots.the_row,
+}
 
 module _ (R : RattleType) (region : MutBor (Region R.Denot)) where
   module _ (place : ℕ) (r : MutBor R.Denot) where

@@ -1,5 +1,9 @@
 -- Values that are lent for writing, in one slice or in two, and what writing leaves.
-use Rattle.std.specs.{Prelude.{ℕ, ◌+◌, ◌<◌, ◌≤◌, List, [], ◌∷◌, ◌++◌, length, map, Option, Some, None}, Borrow.{GName, MutBor}, List.{refill, splice}}
+use Rattle.std.specs.{
+  Prelude.{ℕ, ◌+◌, ◌<◌, ◌≤◌, List, [], ◌∷◌, ◌++◌, length, map, Option, Some, None},
+  Borrow.{GName, MutBor},
+  List.{refill, splice},
+}
 
 -- a loan: its two slices as they are now, and the name that the lender follows
 pub record LoanState (X : Type 0) : Type 0 where

@@ -1,5 +1,7 @@
 -- What the places of a region hold.
-use Rattle.std.specs.Prelude.{◌≡◌, ℕ, ◌+◌, ◌<◌, ◌≤◌, List, length, map, take, drop, replicate, slice_index_or, Option, Some, None}
+use Rattle.std.specs.{
+  Prelude.{◌≡◌, ℕ, ◌+◌, ◌<◌, ◌≤◌, List, length, map, take, drop, replicate, slice_index_or, Option, Some, None},
+}
 use Rattle.arraydeque_ring.specs.Steps.{Steps, no_steps}
 
 -- a region: what each place holds, from the first to the last, and the steps so far

@@ -1,5 +1,11 @@
 -- What a ring keeps of its items by the answers of a closure, and what it costs.
-use Rattle.std.specs.{Prelude.{◌≡◌, ℕ, List, [], ◌∷◌, ◌++◌, length, replicate, slice_get, Some, not, Bool, true, false, count_by, if◌then◌else◌, ◌==◌}, Borrow.Bor, Fn.{CalledAt, Mut}, List.{items_where_true, Retain.ReturnsInTurn}}
+use Rattle.std.specs.{
+  Prelude.{◌≡◌, ℕ, List, [], ◌∷◌, ◌++◌, length, replicate, slice_get, Some, not, Bool, true, false, count_by},
+  Prelude.{if◌then◌else◌, ◌==◌},
+  Borrow.Bor,
+  Fn.{CalledAt, Mut},
+  List.{items_where_true, Retain.ReturnsInTurn},
+}
 use Rattle.arraydeque_ring.specs.{Ring.RingState, Steps.{more_takes, more_moves}}
 
 -- of how many items the index changes: those answered true, past the first answered false

@@ -1,5 +1,8 @@
 -- A list in the places of a region, round the region's end.
-use Rattle.std.specs.Prelude.{◌≡◌, ℕ, ◌+◌, ◌-◌, ◌*◌, ◌%◌, ◌≤◌, nat_lt, if◌then◌else◌, List, [], ◌∷◌, ◌++◌, length, map, take, drop, replicate, Option, Some, None, Bool, true, false, is_some}
+use Rattle.std.specs.{
+  Prelude.{◌≡◌, ℕ, ◌+◌, ◌-◌, ◌*◌, ◌%◌, ◌≤◌, nat_lt, if◌then◌else◌, List, [], ◌∷◌, ◌++◌, length, map, take, drop},
+  Prelude.{replicate, Option, Some, None, Bool, true, false, is_some},
+}
 use Rattle.arraydeque_ring.specs.Steps.{Steps, no_steps}
 
 -- a ring: its items from front to back, how many there may be, the place of the first, and the

@@ -1,6 +1,14 @@
 -- What a `Ring` ends as, once a `&mut` to one of its items has ended.
-use Rattle.std.specs.{Prelude.{ℕ, List, ◌++◌, slice_set, Option}, Borrow.{Fml, GName, RattleType, MutBor, Array, Lends, LendsIf, LendsBoth, fsep, follows, follows_both}}
-use Rattle.arraydeque_ring.specs.{Loans.{LoanState, as_many}, Ring.RingState, Steps.more_lends, contracts.ring.Ring.the_row}
+use Rattle.std.specs.{
+  Prelude.{ℕ, List, ◌++◌, slice_set, Option},
+  Borrow.{Fml, GName, RattleType, MutBor, Array, Lends, LendsIf, LendsBoth, fsep, follows, follows_both},
+}
+use Rattle.arraydeque_ring.specs.{
+  Loans.{LoanState, as_many},
+  Ring.RingState,
+  Steps.more_lends,
+  contracts.ring.Ring.the_row,
+}
 
 -- the item at the index ends as what was last written through r, and nothing else changes but that
 -- one lend is counted; with no r nothing changes

@@ -1,10 +1,15 @@
 -- The sum of the samples, as one comes and another leaves.
-use Rattle.std.proofs.{Common.{◌≡◌, ℕ, ◌+◌, ◌-◌, ◌*◌, ◌≤◌, ◌<◌, ◌^◌, List, [], ◌∷◌, ◌++◌, All, length, sum, get_or, Option, Some, None, option_to_list, unwrap_or, zero-add, subst, refl, sym, ap, ◌∙◌, arith}, lemmas.List.{length-append, get_or-append-add, Sums.{sum_by-append, sum_by_push, sum_by-le}}}
+use Rattle.std.proofs.{
+  Common.{◌≡◌, ℕ, ◌+◌, ◌-◌, ◌*◌, ◌≤◌, ◌<◌, ◌^◌, List, [], ◌∷◌, ◌++◌, All, length, sum, get_or, Option, Some, None},
+  Common.{option_to_list, unwrap_or, zero-add, subst, refl, sym, ap, ◌∙◌, arith},
+  lemmas.List.{length-append, get_or-append-add, Sums.{sum_by-append, sum_by_push, sum_by-le}},
+}
 
 -- what is true of each that was there is true of each that is kept
 pub All-kept : {X : Type 0} (P : X → Type 0) (out kept all : List X) → out ++ kept ≡ all → All P all → All P kept
 All-kept P out kept all same each k d within =
-    let here : get_or kept k d ≡ get_or all (length out + k) d = sym (get_or-append-add out kept k d) ∙ ap (λ l. get_or l (length out + k) d) same in
+    let here : get_or kept k d ≡ get_or all (length out + k) d =
+    sym (get_or-append-add out kept k d) ∙ ap (λ l. get_or l (length out + k) d) same in
     subst P (sym here) (each (length out + k) d (omega (arith, length-append out kept, ap length same)))
 
 -- the kept ones sum up to what was there and what came, without what left
@@ -16,7 +21,8 @@ sum-option None = refl
 sum-option (Some x) = zero-add x
 
 -- few small samples have a sum that fits, also with one more
-pub sum-fits : (n : ℕ) (old : List ℕ) (x : ℕ) → length old ≤ n → n ≤ 2 ^ 32 → All (λ y. y < 2 ^ 32) old → x < 2 ^ 32 → sum old + x < 2 ^ 64
+pub sum-fits : (n : ℕ) (old : List ℕ) (x : ℕ) → length old ≤ n → n ≤ 2 ^ 32 → All (λ y. y < 2 ^ 32) old → x < 2 ^ 32
+    → sum old + x < 2 ^ 64
 sum-fits n old x within few small fits =
     let each : All (λ y. y ≤ 2 ^ 32 - 1) old = λ k d h. let y = small k d h in omega arith in
     let most : sum old ≤ length old * (2 ^ 32 - 1) = sum_by-le (λ y. y) (2 ^ 32 - 1) old each in

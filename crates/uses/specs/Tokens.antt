@@ -1,5 +1,9 @@
 -- What the tokens of an input are.
-use Rattle.std.specs.{Prelude.{◌≡◌, ◌<◌, ℕ, List, length, slice_get, All, IfSome, if◌then◌else◌}, List.{flat_map, AllAdjacentBelow}, Char.{is_ascii_alphabetic, is_ascii_digit}}
+use Rattle.std.specs.{
+  Prelude.{◌≡◌, ◌<◌, ℕ, List, length, slice_get, All, IfSome, if◌then◌else◌},
+  List.{flat_map, AllAdjacentBelow},
+  Char.{is_ascii_alphabetic, is_ascii_digit},
+}
 use Rattle.uses.specs.declared.tokens.{Kind.{Kind, TheVariants.{Letters, Digits, Sign}}, Token.Token}
 
 -- what kind of token a byte stands in

@@ -1,12 +1,26 @@
--- No placement of a list after an edit gives fewer items another place than the lesser side has, and the one that the ring leaves just so many.
-use Rattle.std.proofs.{Common.{◌≡◌, ℕ, zero, suc, ◌+◌, ◌-◌, ◌%◌, ◌<◌, ◌≤◌, inl, inr, min, Bool, false, not, nat_lt, ◌==◌, if◌then◌else◌, ap, ap₂, ◌∙◌, arith}, lemmas.Bool.{cases_lt, Decides.nat_tests}}
-use Rattle.arraydeque_ring.{specs.{Changed.{count_below, changed_insert, changed_remove, changed_drain, IsFewest}, Ring.place_of, Sides.{moves_to_insert, moves_to_remove, moves_to_drain, start_opened, start_closed}}, proofs.{moved.Sources.{place_of-sum}, places.Rotated.{one_place, place_of_cases, place_of-lt}}}
+-- No placement of a list after an edit gives fewer items another place than the lesser side has,
+-- and the one that the ring leaves just so many.
+use Rattle.std.proofs.{
+  Common.{◌≡◌, ℕ, zero, suc, ◌+◌, ◌-◌, ◌%◌, ◌<◌, ◌≤◌, inl, inr, min, Bool, false, not, nat_lt, ◌==◌, if◌then◌else◌, ap},
+  Common.{ap₂, ◌∙◌, arith},
+  lemmas.Bool.{cases_lt, Decides.nat_tests},
+}
+use Rattle.arraydeque_ring.{
+  specs.{
+    Changed.{count_below, changed_insert, changed_remove, changed_drain, IsFewest},
+    Ring.place_of,
+    Sides.{moves_to_insert, moves_to_remove, moves_to_drain, start_opened, start_closed},
+  },
+  proofs.{moved.Sources.{place_of-sum}, places.Rotated.{one_place, place_of_cases, place_of-lt}},
+}
 
 -- a test that is one below s, another from e on, and fails between them
-count_sides : (p : ℕ → Bool) (f b : Bool) (s e n : ℕ) → s ≤ e → ((k : ℕ) → k < n → p k ≡ (if nat_lt k s then f else (if nat_lt k e then false else b)))
+count_sides : (p : ℕ → Bool) (f b : Bool) (s e n : ℕ) → s ≤ e
+    → ((k : ℕ) → k < n → p k ≡ (if nat_lt k s then f else (if nat_lt k e then false else b)))
     → count_below p n ≡ (if f then min s n else 0) + (if b then n - e else 0)
 count_sides p f b s e zero le each = grind (arith, nat_tests)
-count_sides p f b s e (suc n) le each = let rest = count_sides p f b s e n le (λ k lt. each k (omega arith)) in grind (arith, nat_tests, each n, rest)
+count_sides p f b s e (suc n) le each = let rest = count_sides p f b s e n le (λ k lt. each k (omega arith)) in
+    grind (arith, nat_tests, each n, rest)
 
 -- from two starts an item has the same place only where they are one
 one_start : (c t u k : ℕ) → t < c → u < c → k ≤ c → (place_of t k c == place_of u k c) ≡ (t == u)
@@ -17,12 +31,20 @@ one_start c t u k a b le =
 
 module _ (i n c t : ℕ) (t_in : t < c) (i_in : i ≤ n) (room : n < c) where
   -- the items before the index stay where the start stays, those behind it where the start goes one place down
-  inserted : (u : ℕ) → u < c → changed_insert i n c t u ≡ (if not (t == u) then i else 0) + (if not (t == place_of u 1 c) then n - i else 0)
+  inserted : (u : ℕ) → u < c
+      → changed_insert i n c t u ≡ (if not (t == u) then i else 0) + (if not (t == place_of u 1 c) then n - i else 0)
   inserted u u_in =
       let next = place_of-lt u 1 c (omega arith) in
-      let at : (k : ℕ) → place_of (place_of u 1 c) k c ≡ place_of u (k + 1) c = λ k. place_of-sum u 1 k c ∙ ap (λ x. place_of u x c) (omega arith) in
+      let at : (k : ℕ) → place_of (place_of u 1 c) k c ≡ place_of u (k + 1) c =
+      λ k. place_of-sum u 1 k c ∙ ap (λ x. place_of u x c) (omega arith) in
       count_sides _ (not (t == u)) (not (t == place_of u 1 c)) i i n (omega arith)
-      (λ k lt. grind (arith, nat_tests, one_start c t u k t_in u_in (omega arith), one_start c t (place_of u 1 c) k t_in next (omega arith), at k)) ∙ grind (arith, nat_tests)
+      (λ k lt. grind (
+        arith,
+        nat_tests,
+        one_start c t u k t_in u_in (omega arith),
+        one_start c t (place_of u 1 c) k t_in next (omega arith),
+        at k,
+      )) ∙ grind (arith, nat_tests)
 
   pub fewest_insert : IsFewest (moves_to_insert i n) c (changed_insert i n c t) (start_opened i (n - i) c t)
   fewest_insert = record {
@@ -30,20 +52,34 @@ module _ (i n c t : ℕ) (t_in : t < c) (i_in : i ≤ n) (room : n < c) where
     met =
         let back = place_of-lt t (c - 1) c (omega arith) in
         elim (cases_lt i (n - i)) [
-          | inl fewer ↦ grind (arith, nat_tests, inserted (place_of t (c - 1) c) back, place_of_cases t (c - 1) c (omega arith), place_of_cases (place_of t (c - 1) c) 1 c (omega arith))
+          | inl fewer ↦ grind (
+            arith,
+            nat_tests,
+            inserted (place_of t (c - 1) c) back,
+            place_of_cases t (c - 1) c (omega arith),
+            place_of_cases (place_of t (c - 1) c) 1 c (omega arith),
+          )
           | inr more ↦ grind (arith, nat_tests, inserted t t_in, place_of_cases t 1 c (omega arith))
         ];
   }
 
 module _ (s e n c t : ℕ) (t_in : t < c) (in_order : s ≤ e) (e_in : e ≤ n) (within : n ≤ c) where
   -- the items before the range stay where the start stays, those behind it where the start goes on by so many places
-  drained : (u : ℕ) → u < c → changed_drain s e n c t u ≡ (if not (t == u) then s else 0) + (if not (place_of t (e - s) c == u) then n - e else 0)
+  drained : (u : ℕ) → u < c → changed_drain s e n c t u
+      ≡ (if not (t == u) then s else 0) + (if not (place_of t (e - s) c == u) then n - e else 0)
   drained u u_in =
       let gap = e - s in
       let next = place_of-lt t gap c (omega arith) in
-      let at : (k : ℕ) → e ≤ k → place_of (place_of t gap c) (k - gap) c ≡ place_of t k c = λ k le. place_of-sum t gap (k - gap) c ∙ ap (λ x. place_of t x c) (omega arith) in
+      let at : (k : ℕ) → e ≤ k → place_of (place_of t gap c) (k - gap) c ≡ place_of t k c =
+      λ k le. place_of-sum t gap (k - gap) c ∙ ap (λ x. place_of t x c) (omega arith) in
       count_sides _ (not (t == u)) (not (place_of t gap c == u)) s e n in_order
-      (λ k lt. grind (arith, nat_tests, one_start c t u k t_in u_in (omega arith), one_start c (place_of t gap c) u (k - gap) next u_in (omega arith), at k)) ∙ grind (arith, nat_tests)
+      (λ k lt. grind (
+        arith,
+        nat_tests,
+        one_start c t u k t_in u_in (omega arith),
+        one_start c (place_of t gap c) u (k - gap) next u_in (omega arith),
+        at k,
+      )) ∙ grind (arith, nat_tests)
 
   started : IsFewest (moves_to_drain s e n) c (changed_drain s e n c t) (start_closed s (e - s) (n - e) c t)
   started = record {
@@ -51,17 +87,21 @@ module _ (s e n c t : ℕ) (t_in : t < c) (in_order : s ≤ e) (e_in : e ≤ n) 
     met =
         let next = place_of-lt t (e - s) c (omega arith) in
         elim (cases_lt s (n - e)) [
-          | inl fewer ↦ grind (arith, nat_tests, drained (place_of t (e - s) c) next, place_of_cases t (e - s) c (omega arith))
+          | inl fewer ↦
+              grind (arith, nat_tests, drained (place_of t (e - s) c) next, place_of_cases t (e - s) c (omega arith))
           | inr more ↦ grind (arith, nat_tests, drained t t_in, place_of_cases t (e - s) c (omega arith))
         ];
   }
 
-pub fewest_drain : (s e n c t : ℕ) → t ≤ c - 1 → s ≤ e → e ≤ n → n ≤ c → IsFewest (moves_to_drain s e n) c (changed_drain s e n c t) (start_closed s (e - s) (n - e) c t)
-fewest_drain s e zero zero t t_in in_order e_in within = record { least = λ u lt. absurd (omega arith); met = grind (arith, nat_tests) }
+pub fewest_drain : (s e n c t : ℕ) → t ≤ c - 1 → s ≤ e → e ≤ n → n ≤ c
+    → IsFewest (moves_to_drain s e n) c (changed_drain s e n c t) (start_closed s (e - s) (n - e) c t)
+fewest_drain s e zero zero t t_in in_order e_in within =
+    record { least = λ u lt. absurd (omega arith); met = grind (arith, nat_tests) }
 fewest_drain s e (suc n) zero t t_in in_order e_in within = absurd (omega arith)
 fewest_drain s e n (suc c) t t_in in_order e_in within = started s e n (suc c) t (omega arith) in_order e_in within
 
-pub fewest_remove : (i n c t : ℕ) → t < c → i < n → n ≤ c → IsFewest (moves_to_remove i n) c (changed_remove i n c t) (start_closed i 1 (n - 1 - i) c t)
+pub fewest_remove : (i n c t : ℕ) → t < c → i < n → n ≤ c
+    → IsFewest (moves_to_remove i n) c (changed_remove i n c t) (start_closed i 1 (n - 1 - i) c t)
 fewest_remove i n c t t_in i_in within =
     let all = started i (i + 1) n c t t_in (omega arith) (omega arith) within in
     let count : moves_to_drain i (i + 1) n ≡ moves_to_remove i n = grind (arith, nat_tests) in

@@ -1,17 +1,44 @@
 -- A region while it is rotated: pass after pass, values come to their places.
-use Rattle.std.proofs.{Common.{◌≡◌, ℕ, ◌+◌, ◌-◌, ◌<◌, ◌≤◌, ◌⊎◌, inl, inr, List, ◌++◌, length, min, replicate, Option, true, false, is_some, sym, ap, ◌∙◌, subst, arith}, lemmas.{Bool.Decides.nat_tests, List.{append-nil}}}
-use Rattle.arraydeque_ring.{specs.{Gaps.{IsEmptyRun, run_rotated}, Places.{held_at, IsFilledRun}, Ring.{rotated, filled, FilledFrom}, Swapped.runs_swapped}, proofs.{places.{Reads.{rotated_from, length-run_rotated, get_or-run_rotated, swapped_from, length-runs_swapped, get_or-runs_swapped, runs_swapped_both}, Rotated.{length-rotated, rotated-map}, Held.{filled_run_of, empty_run_of}}, linearize.Underway.{Underway, underway, reads}}}
+use Rattle.std.proofs.{
+  Common.{◌≡◌, ℕ, ◌+◌, ◌-◌, ◌<◌, ◌≤◌, ◌⊎◌, inl, inr, List, ◌++◌, length, min, replicate, Option, true, false, is_some},
+  Common.{sym, ap, ◌∙◌, subst, arith},
+  lemmas.{Bool.Decides.nat_tests, List.{append-nil}},
+}
+use Rattle.arraydeque_ring.{
+  specs.{
+    Gaps.{IsEmptyRun, run_rotated},
+    Places.{held_at, IsFilledRun},
+    Ring.{rotated, filled, FilledFrom},
+    Swapped.runs_swapped,
+  },
+  proofs.{
+    places.{
+      Reads.{rotated_from, length-run_rotated, get_or-run_rotated, swapped_from, length-runs_swapped},
+      Reads.{get_or-runs_swapped, runs_swapped_both},
+      Rotated.{length-rotated, rotated-map},
+      Held.{filled_run_of, empty_run_of},
+    },
+    linearize.Underway.{Underway, underway, reads},
+  },
+}
 
-module _ {X : Type 0} {dst gap behind len : ℕ} {ps : List (Option X)} (next : ℕ) (u : Underway dst gap behind len ps) (here : dst + gap ≡ next) where
+module _ {X : Type 0} {dst gap behind len : ℕ} {ps : List (Option X)} (next : ℕ) (u : Underway dst gap behind len ps)
+    (here : dst + gap ≡ next) where
   -- after a pass of `run` values to their places, two runs have still to change places
-  rotated_by_pass : (run left last : ℕ) → ((run ≡ behind) × (left + run ≡ gap) × (last ≡ behind)) ⊎ ((run ≡ gap) × (left ≡ gap) × (last + run ≡ behind))
+  rotated_by_pass : (run left last : ℕ)
+      → ((run ≡ behind) × (left + run ≡ gap) × (last ≡ behind)) ⊎ ((run ≡ gap) × (left ≡ gap) × (last + run ≡ behind))
       → run_rotated (dst + run) left last (runs_swapped dst next run ps) ≡ run_rotated dst gap behind ps
   rotated_by_pass run left last ways =
       let rs = runs_swapped dst next run ps in
-      let within : (dst + run ≤ next) × (next + run ≤ length ps) × (dst + run + left + last ≤ length ps) = elim ways [ inl w ↦ omega (arith, u.whole) | inr w ↦ omega (arith, u.whole) ] in
+      let within : (dst + run ≤ next) × (next + run ≤ length ps) × (dst + run + left + last ≤ length ps) = elim ways [
+        | inl w ↦ omega (arith, u.whole)
+        | inr w ↦ omega (arith, u.whole)
+      ] in
       let long = length-runs_swapped dst next run ps within.0 within.1 in
       let fits : dst + run + left + last ≤ length rs = omega (arith, long, within.2) in
-      reads next u here _ (length-run_rotated (dst + run) left last rs fits ∙ long) (λ x lt. get_or-run_rotated (dst + run) left last rs fits x ∙ get_or-runs_swapped dst next run ps within.0 within.1 (rotated_from (dst + run) left last x)
+      reads next u here _ (length-run_rotated (dst + run) left last rs fits
+      ∙ long) (λ x lt. get_or-run_rotated (dst + run) left last rs fits x
+      ∙ get_or-runs_swapped dst next run ps within.0 within.1 (rotated_from (dst + run) left last x)
       ∙ ap (held_at ps) (elim ways [ inl w ↦ grind (arith, nat_tests) | inr w ↦ grind (arith, nat_tests) ]))
 
 -- a pass: `run` values come to their places, x of them by an exchange and the others into empty places
@@ -22,25 +49,36 @@ pub record Pass {X : Type 0} (dst next run x : ℕ) (ps : List (Option X)) : Typ
   pub filled : IsFilledRun (runs_swapped dst next x ps) (next + x) (run - x)
   pub all : runs_swapped (dst + x) (next + x) (run - x) (runs_swapped dst next x ps) ≡ runs_swapped dst next run ps
 
-pass_of : {X : Type 0} {dst gap behind len : ℕ} {ps : List (Option X)} (next run x : ℕ) → Underway dst gap behind len ps → dst + gap ≡ next → behind < len - dst → run ≡ min behind gap → x ≡ min (len - dst - behind) run → Pass dst next run x ps
+pass_of : {X : Type 0} {dst gap behind len : ℕ} {ps : List (Option X)} (next run x : ℕ) → Underway dst gap behind len ps
+    → dst + gap ≡ next → behind < len - dst → run ≡ min behind gap → x ≡ min (len - dst - behind) run
+    → Pass dst next run x ps
 pass_of {dst = dst} {gap = gap} {behind = behind} {len = len} {ps = ps} next run x u here wraps most both =
     let rs = runs_swapped dst next x ps in
     let within : next + x ≤ length ps = omega (arith, u.whole) in
     let long = length-runs_swapped dst next x ps (omega arith) within in
-    let stays : (y : ℕ) → swapped_from dst next x y ≡ y → held_at rs y ≡ held_at ps y = λ y same. get_or-runs_swapped dst next x ps (omega arith) within y ∙ ap (held_at ps) same in
+    let stays : (y : ℕ) → swapped_from dst next x y ≡ y → held_at rs y ≡ held_at ps y =
+    λ y same. get_or-runs_swapped dst next x ps (omega arith) within y ∙ ap (held_at ps) same in
     record {
-      a_filled = filled_run_of ps dst x (omega arith) (λ y a b. u.filled_at y (y + behind) (omega arith) (grind (arith, nat_tests)));
-      b_filled = filled_run_of ps next x within (λ y a b. u.filled_at y (y - gap) (omega arith) (grind (arith, nat_tests)));
-      empty = empty_run_of rs (dst + x) (run - x) (omega (arith, long, u.whole)) (λ y a b. stays y (grind (arith, nat_tests)) ∙ u.empty_at y (y + behind) (omega arith) (grind (arith, nat_tests)));
-      filled = filled_run_of rs (next + x) (run - x) (omega (arith, long, u.whole)) (λ y a b. let is = u.filled_at y (y - gap) (omega arith) (grind (arith, nat_tests)) in (is.0, stays y (grind (arith, nat_tests)) ∙ is.1));
-      all = runs_swapped_both dst next ps x (run - x) (omega arith) (omega (arith, u.whole)) ∙ ap (λ n. runs_swapped dst next n ps) (omega arith);
+      a_filled = filled_run_of ps dst x (omega arith)
+          (λ y a b. u.filled_at y (y + behind) (omega arith) (grind (arith, nat_tests)));
+      b_filled =
+          filled_run_of ps next x within (λ y a b. u.filled_at y (y - gap) (omega arith) (grind (arith, nat_tests)));
+      empty = empty_run_of rs (dst + x) (run - x) (omega (arith, long, u.whole)) (λ y a b.
+          stays y (grind (arith, nat_tests)) ∙ u.empty_at y (y + behind) (omega arith) (grind (arith, nat_tests)));
+      filled = filled_run_of rs (next + x) (run - x) (omega (arith, long, u.whole))
+          (λ y a b. let is = u.filled_at y (y - gap) (omega arith) (grind (arith, nat_tests)) in
+          (is.0, stays y (grind (arith, nat_tests)) ∙ is.1));
+      all = runs_swapped_both dst next ps x (run - x) (omega arith) (omega (arith, u.whole))
+          ∙ ap (λ n. runs_swapped dst next n ps) (omega arith);
     }
 
 -- of the places read from t on the first len are filled
-FilledFrom-rotated : {X : Type 0} (t len : ℕ) (ps : List (Option X)) → FilledFrom t len (filled ps) → FilledFrom 0 len (filled (rotated t ps))
+FilledFrom-rotated : {X : Type 0} (t len : ℕ) (ps : List (Option X)) → FilledFrom t len (filled ps)
+    → FilledFrom 0 len (filled (rotated t ps))
 FilledFrom-rotated t len ps fills =
     let same : filled (rotated t ps) ≡ rotated t (filled ps) = sym (rotated-map is_some t ps) in
-    append-nil (filled (rotated t ps)) ∙ same ∙ fills ∙ ap (λ n. replicate len true ++ replicate (n - len) false) (sym (length-rotated t (filled ps)) ∙ ap length (sym same))
+    append-nil (filled (rotated t ps)) ∙ same ∙ fills ∙ ap (λ n. replicate len true ++ replicate (n - len) false)
+    (sym (length-rotated t (filled ps)) ∙ ap length (sym same))
 
 -- the places are on their way from `old` to these read from the start on
 pub record Turning {X : Type 0} (capacity start len dst next : ℕ) (old ps : List (Option X)) : Type 0 where
@@ -50,12 +88,14 @@ pub record Turning {X : Type 0} (capacity start len dst next : ℕ) (old ps : Li
   pub placed : dst ≤ len
   pub left : rotated start old ≡ run_rotated dst (next - dst) (capacity - next) ps
 
-module _ {X : Type 0} {capacity start len dst next : ℕ} {old ps : List (Option X)} (fills : FilledFrom start len (filled old)) (t : Turning capacity start len dst next old ps) where
+module _ {X : Type 0} {capacity start len dst next : ℕ} {old ps : List (Option X)}
+    (fills : FilledFrom start len (filled old)) (t : Turning capacity start len dst next old ps) where
   pub still_fills : FilledFrom 0 len (filled (run_rotated dst (next - dst) (capacity - next) ps))
   still_fills = subst (λ qs. FilledFrom 0 len (filled qs)) t.left (FilledFrom-rotated start len old fills)
 
   before : Underway dst (next - dst) (capacity - next) len ps
-  before = underway dst (next - dst) (capacity - next) len ps (omega (arith, t.long, t.in_order, t.in_region)) still_fills
+  before =
+      underway dst (next - dst) (capacity - next) len ps (omega (arith, t.long, t.in_order, t.in_region)) still_fills
 
   pub Turning-fits : len ≤ capacity
   Turning-fits = omega (arith, before.fits, t.long)
@@ -65,14 +105,17 @@ module _ {X : Type 0} {capacity start len dst next : ℕ} {old ps : List (Option
     Turning-pass both = pass_of next run x before (omega (arith, t.in_order)) wraps pass both
 
     -- after it the others stand where they did, or one run further on
-    pub Turning-passed : (next_then : ℕ) → ((capacity - next ≤ run) × (next_then ≡ next)) ⊎ ((run < capacity - next) × (next_then ≡ next + run)) → Turning capacity start len (dst + run) next_then old (runs_swapped dst next run ps)
+    pub Turning-passed : (next_then : ℕ)
+        → ((capacity - next ≤ run) × (next_then ≡ next)) ⊎ ((run < capacity - next) × (next_then ≡ next + run))
+        → Turning capacity start len (dst + run) next_then old (runs_swapped dst next run ps)
     Turning-passed next_then ways = record {
       long = length-runs_swapped dst next run ps (omega (arith, t.in_order)) (omega (arith, t.long)) ∙ t.long;
       in_order = elim ways [ inl w ↦ omega (arith, t.in_order) | inr w ↦ omega (arith, t.in_order) ];
       in_region = elim ways [ inl w ↦ omega (arith, t.in_region) | inr w ↦ omega arith ];
       placed = omega arith;
-      left = t.left ∙ sym (rotated_by_pass next before (omega (arith, t.in_order)) run (next_then - (dst + run)) (capacity - next_then) (elim ways [
-        | inl w ↦ inl (omega arith, omega (arith, t.in_order), omega arith)
-        | inr w ↦ inr (omega (arith, t.in_order), omega (arith, t.in_order), omega arith)
-      ]));
+      left = t.left ∙ sym (rotated_by_pass next before (omega (arith, t.in_order)) run (next_then - (dst + run))
+          (capacity - next_then) (elim ways [
+            | inl w ↦ inl (omega arith, omega (arith, t.in_order), omega arith)
+            | inr w ↦ inr (omega (arith, t.in_order), omega (arith, t.in_order), omega arith)
+          ]));
     }

@@ -1,6 +1,31 @@
 -- All items of a ring are lent in two runs of its places: what the runs hold, and what the ring is after any writing.
-use Rattle.std.{proofs.{Common.{◌≡◌, ℕ, ◌+◌, ◌-◌, ◌≤◌, ◌⊎◌, inl, inr, List, [], ◌++◌, map, length, take, drop, Option, Some, refl, sym, ap, ap₂, ◌∙◌, subst, arith}, lemmas.{Bool.cases_lt, List.{nil_from_length, length-drop, length-take, length-map, take_all, take_at, drop_at, take-append-drop, drop-drop}}}, specs.Prelude.min}
-use Rattle.arraydeque_ring.{specs.{Loans.{as_many, with_run, written_over, AreApart}, Places.{HoldsRun, IsFilledRun, Region}, Ring.{RingState, FilledFrom}, RingLends.rewritten, Steps.more_lends, declared.ring.Ring.TheInside.Inside}, proofs.{loans.Placed.{as_many-same, length-as_many, filled-written_over, length-written_over, length-with_run, two_alike, run_length}, places.{LaidOut.{length_within, IsFilledRun-LaidOut, same_run}, Opened.{Opened, opened, view, Kept}}}}
+use Rattle.std.{
+  proofs.{
+    Common.{◌≡◌, ℕ, ◌+◌, ◌-◌, ◌≤◌, ◌⊎◌, inl, inr, List, [], ◌++◌, map, length, take, drop, Option, Some, refl, sym, ap},
+    Common.{ap₂, ◌∙◌, subst, arith},
+    lemmas.{
+      Bool.cases_lt,
+      List.{nil_from_length, length-drop, length-take, length-map, take_all, take_at, drop_at, take-append-drop},
+      List.{drop-drop},
+    },
+  },
+  specs.Prelude.min,
+}
+use Rattle.arraydeque_ring.{
+  specs.{
+    Loans.{as_many, with_run, written_over, AreApart},
+    Places.{HoldsRun, IsFilledRun, Region},
+    Ring.{RingState, FilledFrom},
+    RingLends.rewritten,
+    Steps.more_lends,
+    declared.ring.Ring.TheInside.Inside,
+  },
+  proofs.{
+    loans.Placed.{as_many-same, length-as_many, filled-written_over, length-written_over, length-with_run, two_alike},
+    loans.Placed.{run_length},
+    places.{LaidOut.{length_within, IsFilledRun-LaidOut, same_run}, Opened.{Opened, opened, view, Kept}},
+  },
+}
 
 module _ {X : Type 0} where
   -- the items up to the region's end, and the others from the first place on
@@ -14,16 +39,21 @@ module _ {X : Type 0} where
     ps = r.slots.places
 
     low : rest ≤ r.start
-    low = elim c.to_end [ inl none ↦ omega arith | inr end ↦ omega (arith, c.all, o.len, o.laid.long, length_within o.laid) ]
+    low = elim c.to_end [
+      | inl none ↦ omega arith
+      | inr end ↦ omega (arith, c.all, o.len, o.laid.long, length_within o.laid)
+    ]
 
     -- the two runs are filled, and lie apart
     pub first_filled : IsFilledRun ps r.start first
-    first_filled = IsFilledRun-LaidOut o.laid 0 r.start first (inl (omega arith)) (omega (arith, c.all, o.len)) (omega (arith, c.fits, o.laid.long))
+    first_filled = IsFilledRun-LaidOut o.laid 0 r.start first (inl (omega arith)) (omega (arith, c.all, o.len))
+        (omega (arith, c.fits, o.laid.long))
 
     pub second_filled : IsFilledRun ps 0 rest
     second_filled = elim c.to_end [
       | inl none ↦ (omega arith, ([], ap (λ k. take k (drop 0 ps)) none))
-      | inr end ↦ IsFilledRun-LaidOut o.laid first 0 rest (inr (omega (arith, o.laid.long))) (omega (arith, c.all, o.len)) (omega (arith, low, c.fits, o.laid.long))
+      | inr end ↦ IsFilledRun-LaidOut o.laid first 0 rest (inr (omega (arith, o.laid.long)))
+          (omega (arith, c.all, o.len)) (omega (arith, low, c.fits, o.laid.long))
     ]
 
     pub apart : AreApart r.start first 0 rest
@@ -32,10 +62,13 @@ module _ {X : Type 0} where
     -- what they hold, joined, are the items
     pub lent_items : (xs ys : List X) → HoldsRun ps r.start first xs → HoldsRun ps 0 rest ys → xs ++ ys ≡ v.items
     lent_items xs ys held held' =
-        let front = same_run o.laid 0 r.start first xs (inl (omega arith)) (omega (arith, c.all, o.len)) (omega (arith, c.fits, o.laid.long)) held in
+        let front = same_run o.laid 0 r.start first xs (inl (omega arith)) (omega (arith, c.all, o.len))
+        (omega (arith, c.fits, o.laid.long)) held in
         let behind : ys ≡ drop first v.items = elim c.to_end [
-          | inl none ↦ nil_from_length ys (omega (arith, none, run_length ps 0 rest ys (omega (arith, none)) held')) ∙ sym (nil_from_length (drop first v.items) (omega (arith, none, c.all, o.len, length-drop first v.items)))
-          | inr end ↦ same_run o.laid first 0 rest ys (inr (omega (arith, o.laid.long))) (omega (arith, c.all, o.len)) (omega (arith, low, c.fits, o.laid.long)) held'
+          | inl none ↦ nil_from_length ys (omega (arith, none, run_length ps 0 rest ys (omega (arith, none)) held')) ∙
+              sym (nil_from_length (drop first v.items) (omega (arith, none, c.all, o.len, length-drop first v.items)))
+          | inr end ↦ same_run o.laid first 0 rest ys (inr (omega (arith, o.laid.long))) (omega (arith, c.all, o.len))
+              (omega (arith, low, c.fits, o.laid.long)) held'
               ∙ take_all rest (drop first v.items) (omega (arith, c.all, o.len, length-drop first v.items))
         ] in
         ap₂ (λ l m. l ++ m) front behind ∙ take-append-drop first v.items
@@ -52,26 +85,45 @@ module _ {X : Type 0} where
     after = with_slots r (ended r.slots w)
 
     pub kept_after : Kept after
-    kept_after = (subst (λ n. r.start ≤ n - 1) (sym (length-written_over r.slots.places w.places)) kept.0, subst (FilledFrom r.start r.len) (sym (filled-written_over r.slots.places w.places)) kept.1)
+    kept_after = (
+      subst (λ n. r.start ≤ n - 1) (sym (length-written_over r.slots.places w.places)) kept.0,
+      subst (FilledFrom r.start r.len) (sym (filled-written_over r.slots.places w.places)) kept.1,
+    )
 
     -- as many items are seen
     pub seen_after : view after ≡ rewritten v (view after).items
-    seen_after = rw (as_many-same v.items (view after).items ((opened after kept_after refl).len ∙ sym (opened r kept seen).len), length-written_over r.slots.places w.places, ap (λ (u : RingState X). u.capacity) seen, ap (λ (u : RingState X). u.start) seen, ap (λ (u : RingState X). u.steps) seen)
+    seen_after = rw (
+      as_many-same v.items (view after).items ((opened after kept_after refl).len ∙ sym (opened r kept seen).len),
+      length-written_over r.slots.places w.places,
+      ap (λ (u : RingState X). u.capacity) seen,
+      ap (λ (u : RingState X). u.start) seen,
+      ap (λ (u : RingState X). u.steps) seen,
+    )
 
   -- a run that was written holds what was written, also where another was written before it
-  held_there : (from n : ℕ) (ws : List X) (ps : List (Option X)) → length ws ≡ n → from + n ≤ length ps → HoldsRun (with_run from ws ps) from n ws
+  held_there : (from n : ℕ) (ws : List X) (ps : List (Option X)) → length ws ≡ n → from + n ≤ length ps
+      → HoldsRun (with_run from ws ps) from n ws
   held_there from n ws ps e within =
-      ap (take n) (drop_at (take from ps) (map Some ws ++ drop (from + length ws) ps) from (omega (arith, length-take from ps)))
+      ap (take n)
+      (drop_at (take from ps) (map Some ws ++ drop (from + length ws) ps) from (omega (arith, length-take from ps)))
       ∙ take_at (map Some ws) (drop (from + length ws) ps) n (length-map ws Some ∙ e)
 
-  held_behind : (from n : ℕ) (ws us : List X) (ps : List (Option X)) → length us ≤ from → HoldsRun ps from n ws → HoldsRun (with_run 0 us ps) from n ws
+  held_behind : (from n : ℕ) (ws us : List X) (ps : List (Option X)) → length us ≤ from → HoldsRun ps from n ws
+      → HoldsRun (with_run 0 us ps) from n ws
   held_behind from n ws us ps below held =
       let m = length us in let k = from - m in let e : from ≡ m + k = omega arith in
-      ap (take n) (ap (λ j. drop j (with_run 0 us ps)) e ∙ sym (drop-drop k m (with_run 0 us ps)) ∙ ap (drop k) (drop_at (map Some us) (drop (0 + m) ps) m (length-map us Some)) ∙ drop-drop k (0 + m) ps ∙ ap (λ j. drop j ps) (omega arith)) ∙ held
+      ap (take n) (ap (λ j. drop j (with_run 0 us ps)) e ∙ sym (drop-drop k m (with_run 0 us ps))
+      ∙ ap (drop k) (drop_at (map Some us) (drop (0 + m) ps) m (length-map us Some)) ∙ drop-drop k (0 + m) ps
+      ∙ ap (λ j. drop j ps) (omega arith)) ∙ held
 
   -- the ring once both slices were written
-  pub both_written : (r : Inside X) (v : RingState X) (seen : view r ≡ v) (kept : Kept r) (first rest : ℕ) → Cut r first rest → (xs ys : List X) → HoldsRun r.slots.places r.start first xs → HoldsRun r.slots.places 0 rest ys
-      → (us vs : List X) → view (after r v seen kept (record { places = with_run 0 (as_many ys vs) (with_run r.start (as_many xs us) r.slots.places); steps = more_lends 2 r.slots.steps })) ≡ rewritten v (as_many xs us ++ as_many ys vs)
+  pub both_written : (r : Inside X) (v : RingState X) (seen : view r ≡ v) (kept : Kept r) (first rest : ℕ)
+      → Cut r first rest → (xs ys : List X) → HoldsRun r.slots.places r.start first xs
+      → HoldsRun r.slots.places 0 rest ys
+      → (us vs : List X) → view (after r v seen kept (record {
+        places = with_run 0 (as_many ys vs) (with_run r.start (as_many xs us) r.slots.places);
+        steps = more_lends 2 r.slots.steps;
+      })) ≡ rewritten v (as_many xs us ++ as_many ys vs)
   both_written r v seen kept first rest c xs ys held held' us vs =
       let ps = r.slots.places in let o = opened r kept seen in
       let us' = as_many xs us in let vs' = as_many ys vs in
@@ -80,14 +132,25 @@ module _ {X : Type 0} where
       let new = after r v seen kept w in
       let many : length us' ≡ first = length-as_many xs us ∙ run_length ps r.start first xs c.fits held in
       let many' : length vs' ≡ rest = length-as_many ys vs ∙ run_length ps 0 rest ys (second_filled o c).0 held' in
-      let same : all_of ≡ new.slots.places = sym (two_alike ps r.start first xs c.fits held 0 rest ys (second_filled o c).0 held' us vs) in
-      let cut : Cut new first rest = record { all = c.all; fits = omega (arith, c.fits, length-written_over ps all_of); to_end = subst (λ n. (rest ≡ 0) ⊎ (r.start + first ≡ n)) (sym (length-written_over ps all_of)) c.to_end } in
-      let first_held : HoldsRun new.slots.places r.start first us' = subst (λ qs. HoldsRun qs r.start first us') same (held_behind r.start first us' vs' front (omega (arith, low o c)) (held_there r.start first us' ps many c.fits)) in
-      let rest_held : HoldsRun new.slots.places 0 rest vs' = subst (λ qs. HoldsRun qs 0 rest vs') same (held_there 0 rest vs' front many' (omega (arith, (second_filled o c).0, length-with_run r.start us' ps (omega (arith, many, c.fits))))) in
-      seen_after r v seen kept w ∙ ap (rewritten v) (sym (lent_items (opened new (kept_after r v seen kept w) refl) cut us' vs' first_held rest_held))
+      let same : all_of ≡ new.slots.places =
+      sym (two_alike ps r.start first xs c.fits held 0 rest ys (second_filled o c).0 held' us vs) in
+      let cut : Cut new first rest = record {
+        all = c.all;
+        fits = omega (arith, c.fits, length-written_over ps all_of);
+        to_end = subst (λ n. (rest ≡ 0) ⊎ (r.start + first ≡ n)) (sym (length-written_over ps all_of)) c.to_end;
+      } in
+      let first_held : HoldsRun new.slots.places r.start first us' =
+      subst (λ qs. HoldsRun qs r.start first us') same (held_behind r.start first us' vs' front
+      (omega (arith, low o c)) (held_there r.start first us' ps many c.fits)) in
+      let rest_held : HoldsRun new.slots.places 0 rest vs' =
+      subst (λ qs. HoldsRun qs 0 rest vs') same (held_there 0 rest vs' front many'
+      (omega (arith, (second_filled o c).0, length-with_run r.start us' ps (omega (arith, many, c.fits))))) in
+      seen_after r v seen kept w ∙ ap (rewritten v)
+      (sym (lent_items (opened new (kept_after r v seen kept w) refl) cut us' vs' first_held rest_held))
 
   -- as many items as fit come before the region's end
-  pub cut_at_end : (r : Inside X) → Kept r → let first = min r.len (length r.slots.places - r.start) in Cut r first (r.len - first)
+  pub cut_at_end : (r : Inside X) → Kept r → let first = min r.len (length r.slots.places - r.start) in
+      Cut r first (r.len - first)
   cut_at_end r kept =
       let n = length r.slots.places in let inside = kept.0 in record {
         all = omega arith;

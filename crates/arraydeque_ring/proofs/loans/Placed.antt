@@ -1,5 +1,16 @@
 -- Values that are written into runs of places: as many places are filled as before, and the same.
-use Rattle.std.{proofs.{Common.{◌≡◌, ℕ, zero, suc, ◌+◌, ◌-◌, ◌≤◌, ◌⊎◌, inl, inr, List, [], ◌∷◌, ◌++◌, map, length, take, drop, replicate, Option, Some, None, is_some, true, false, refl, sym, ap, ap₂, ◌∙◌, arith}, lemmas.{Bool.cases_lt, List.{length-map, nil_from_length, length-append, length-take, length-drop, map-append, append_assoc, take_at, drop_at, drop-take, take-take, take-append-drop, take-append-le, drop-append-le, drop-drop}}}, specs.List.{length_refill, splice, take-map, drop-map}}
+use Rattle.std.{
+  proofs.{
+    Common.{◌≡◌, ℕ, zero, suc, ◌+◌, ◌-◌, ◌≤◌, ◌⊎◌, inl, inr, List, [], ◌∷◌, ◌++◌, map, length, take, drop, replicate},
+    Common.{Option, Some, None, is_some, true, false, refl, sym, ap, ap₂, ◌∙◌, arith},
+    lemmas.{
+      Bool.cases_lt,
+      List.{length-map, nil_from_length, length-append, length-take, length-drop, map-append, append_assoc, take_at},
+      List.{drop_at, drop-take, take-take, take-append-drop, take-append-le, drop-append-le, drop-drop},
+    },
+  },
+  specs.List.{length_refill, splice, take-map, drop-map},
+}
 use Rattle.arraydeque_ring.specs.{Loans.{as_many, with_run, written_over, AreApart}, Places.HoldsRun, Ring.filled}
 
 module _ {Y : Type 0} where
@@ -9,29 +20,44 @@ module _ {Y : Type 0} where
 
   -- the items that are there already
   placed_same : (i n : ℕ) (ps : List Y) → placed i n (take n (drop i ps)) ps ≡ ps
-  placed_same i n ps = ap (λ l. take i ps ++ (take n (drop i ps) ++ l)) (sym (drop-drop n i ps)) ∙ ap (λ l. take i ps ++ l) (take-append-drop n (drop i ps)) ∙ take-append-drop i ps
+  placed_same i n ps = ap (λ l. take i ps ++ (take n (drop i ps) ++ l)) (sym (drop-drop n i ps))
+      ∙ ap (λ l. take i ps ++ l) (take-append-drop n (drop i ps)) ∙ take-append-drop i ps
 
   -- no item changes nothing
   pub placed_nothing : (i : ℕ) (ws ps : List Y) → length ws ≡ 0 → placed i 0 ws ps ≡ ps
   placed_nothing i ws ps e = ap (λ l. placed i 0 l ps) (nil_from_length ws e) ∙ placed_same i 0 ps
 
-  pub length-placed : (i n : ℕ) (ws ps : List Y) → i + n ≤ length ps → length ws ≡ n → length (placed i n ws ps) ≡ length ps
-  length-placed i n ws ps le e = omega (arith, e, le, length-append (take i ps) (ws ++ drop (i + n) ps), length-append ws (drop (i + n) ps), length-take i ps, length-drop (i + n) ps)
+  pub length-placed : (i n : ℕ) (ws ps : List Y) → i + n ≤ length ps → length ws ≡ n
+      → length (placed i n ws ps) ≡ length ps
+  length-placed i n ws ps le e = omega (
+    arith,
+    e,
+    le,
+    length-append (take i ps) (ws ++ drop (i + n) ps),
+    length-append ws (drop (i + n) ps),
+    length-take i ps,
+    length-drop (i + n) ps,
+  )
 
   -- what is placed in the first part of a list leaves the second
-  pub placed-append : (i n : ℕ) (ws xs ys : List Y) → i + n ≤ length xs → placed i n ws (xs ++ ys) ≡ placed i n ws xs ++ ys
+  pub placed-append : (i n : ℕ) (ws xs ys : List Y) → i + n ≤ length xs
+      → placed i n ws (xs ++ ys) ≡ placed i n ws xs ++ ys
   placed-append i n ws xs ys le =
       ap₂ (λ a b. a ++ (ws ++ b)) (take-append-le i xs ys (omega arith)) (drop-append-le (i + n) xs ys le)
-      ∙ ap (λ l. take i xs ++ l) (sym (append_assoc ws (drop (i + n) xs) ys)) ∙ sym (append_assoc (take i xs) (ws ++ drop (i + n) xs) ys)
+      ∙ ap (λ l. take i xs ++ l) (sym (append_assoc ws (drop (i + n) xs) ys))
+      ∙ sym (append_assoc (take i xs) (ws ++ drop (i + n) xs) ys)
 
   -- what is placed behind a run can be placed after it
-  pub placed_behind : (a m b n : ℕ) (us vs ps : List Y) → a + m ≤ b → b + n ≤ length ps → length us ≡ m → placed b n vs (placed a m us ps) ≡ placed a m us (take b ps) ++ (vs ++ drop (b + n) ps)
+  pub placed_behind : (a m b n : ℕ) (us vs ps : List Y) → a + m ≤ b → b + n ≤ length ps → length us ≡ m
+      → placed b n vs (placed a m us ps) ≡ placed a m us (take b ps) ++ (vs ++ drop (b + n) ps)
   placed_behind a m b n us vs ps apart within e =
       let front = placed a m us (take b ps) in
       let below : a + m ≤ length (take b ps) = omega (arith, length-take b ps) in
       let long : length front ≡ b = length-placed a m us (take b ps) below e ∙ omega (arith, length-take b ps) in
-      ap (placed b n vs) (ap (placed a m us) (sym (take-append-drop b ps)) ∙ placed-append a m us (take b ps) (drop b ps) below)
-      ∙ ap₂ (λ l r. l ++ (vs ++ r)) (take_at front (drop b ps) b long) (sym (drop-drop n b (front ++ drop b ps)) ∙ ap (drop n) (drop_at front (drop b ps) b long) ∙ drop-drop n b ps)
+      ap (placed b n vs)
+      (ap (placed a m us) (sym (take-append-drop b ps)) ∙ placed-append a m us (take b ps) (drop b ps) below)
+      ∙ ap₂ (λ l r. l ++ (vs ++ r)) (take_at front (drop b ps) b long)
+      (sym (drop-drop n b (front ++ drop b ps)) ∙ ap (drop n) (drop_at front (drop b ps) b long) ∙ drop-drop n b ps)
 
 -- two runs apart: one lies before the other, or one is empty
 pub apart_cases : (a m b n : ℕ) → AreApart a m b n → ((a + m ≤ b) ⊎ (b + n ≤ a)) ⊎ ((m ≡ 0) ⊎ (n ≡ 0))
@@ -66,27 +92,37 @@ module _ {X : Type 0} where
   pub as_many-twice : (xs ws : List X) → as_many xs (as_many xs ws) ≡ as_many xs ws
   as_many-twice xs ws = as_many-same xs (as_many xs ws) (length-as_many xs ws)
 
-  pub length-with_run : (from : ℕ) (ws : List X) (ps : List (Option X)) → from + length ws ≤ length ps → length (with_run from ws ps) ≡ length ps
+  pub length-with_run : (from : ℕ) (ws : List X) (ps : List (Option X)) → from + length ws ≤ length ps
+      → length (with_run from ws ps) ≡ length ps
   length-with_run from ws ps within = length-placed from (length ws) (map Some ws) ps within (length-map ws Some)
 
   filled-map_Some : (ws : List X) → filled (map Some ws) ≡ replicate (length ws) true
   filled-map_Some [] = refl
   filled-map_Some (w ∷ ws) = ap (λ l. true ∷ l) (filled-map_Some ws)
 
-  filled-with_run : (from : ℕ) (ws : List X) (ps : List (Option X)) → filled (with_run from ws ps) ≡ placed from (length ws) (replicate (length ws) true) (filled ps)
+  filled-with_run : (from : ℕ) (ws : List X) (ps : List (Option X))
+      → filled (with_run from ws ps) ≡ placed from (length ws) (replicate (length ws) true) (filled ps)
   filled-with_run from ws ps =
       map-append is_some (take from ps) (map Some ws ++ drop (from + length ws) ps)
-      ∙ ap₂ (λ l r. l ++ r) (sym (take-map is_some from ps)) (map-append is_some (map Some ws) (drop (from + length ws) ps) ∙ ap₂ (λ l r. l ++ r) (filled-map_Some ws) (sym (drop-map is_some (from + length ws) ps)))
+      ∙ ap₂ (λ l r. l ++ r) (sym (take-map is_some from ps))
+      (map-append is_some (map Some ws) (drop (from + length ws) ps)
+      ∙ ap₂ (λ l r. l ++ r) (filled-map_Some ws) (sym (drop-map is_some (from + length ws) ps)))
 
   -- as many values in the stead of a run of values fill no place and empty none
-  run_filled : (from : ℕ) (xs ws : List X) (ps qs : List (Option X)) → HoldsRun ps from (length xs) xs → length ws ≡ length xs → filled qs ≡ filled ps → filled (with_run from ws qs) ≡ filled ps
+  run_filled : (from : ℕ) (xs ws : List X) (ps qs : List (Option X)) → HoldsRun ps from (length xs) xs
+      → length ws ≡ length xs → filled qs ≡ filled ps → filled (with_run from ws qs) ≡ filled ps
   run_filled from xs ws ps qs run e same =
       let n = length xs in
-      let held : replicate n true ≡ take n (drop from (filled ps)) = sym (ap (take n) (drop-map is_some from ps) ∙ take-map is_some n (drop from ps) ∙ ap filled run ∙ filled-map_Some xs) in
-      filled-with_run from ws qs ∙ ap (λ k. placed from k (replicate k true) (filled qs)) e ∙ ap₂ (placed from n) held same ∙ placed_same from n (filled ps)
+      let held : replicate n true ≡ take n (drop from (filled ps)) = sym (ap (take n) (drop-map is_some from ps)
+      ∙ take-map is_some n (drop from ps) ∙ ap filled run ∙ filled-map_Some xs) in
+      filled-with_run from ws qs ∙ ap (λ k. placed from k (replicate k true) (filled qs)) e
+      ∙ ap₂ (placed from n) held same ∙ placed_same from n (filled ps)
 
-  pub two_filled : (a b : ℕ) (xs us ys vs : List X) (ps : List (Option X)) → HoldsRun ps a (length xs) xs → length us ≡ length xs → HoldsRun ps b (length ys) ys → length vs ≡ length ys → filled (with_run b vs (with_run a us ps)) ≡ filled ps
-  two_filled a b xs us ys vs ps run e run' e' = run_filled b ys vs ps (with_run a us ps) run' e' (run_filled a xs us ps ps run e refl)
+  pub two_filled : (a b : ℕ) (xs us ys vs : List X) (ps : List (Option X)) → HoldsRun ps a (length xs) xs
+      → length us ≡ length xs → HoldsRun ps b (length ys) ys → length vs ≡ length ys
+      → filled (with_run b vs (with_run a us ps)) ≡ filled ps
+  two_filled a b xs us ys vs ps run e run' e' =
+      run_filled b ys vs ps (with_run a us ps) run' e' (run_filled a xs us ps ps run e refl)
 
   pub filled-written_over : (ps ws : List (Option X)) → filled (written_over ps ws) ≡ filled ps
   filled-written_over [] ws = refl
@@ -96,7 +132,8 @@ module _ {X : Type 0} where
   filled-written_over (Some x ∷ ps) (Some y ∷ ws) = ap (λ l. true ∷ l) (filled-written_over ps ws)
 
   pub length-written_over : (ps ws : List (Option X)) → length (written_over ps ws) ≡ length ps
-  length-written_over ps ws = sym (length-map (written_over ps ws) is_some) ∙ ap length (filled-written_over ps ws) ∙ length-map ps is_some
+  length-written_over ps ws = sym (length-map (written_over ps ws) is_some) ∙ ap length (filled-written_over ps ws)
+      ∙ length-map ps is_some
 
   -- where the same places are filled, all is as written
   pub written_over-same : (ps ws : List (Option X)) → filled ws ≡ filled ps → written_over ps ws ≡ ws
@@ -112,17 +149,22 @@ module _ {X : Type 0} where
 pub run_before : {Y : Type 0} (ps : List Y) (i m j : ℕ) → i + m ≤ j → take m (drop i (take j ps)) ≡ take m (drop i ps)
 run_before ps i m j le =
     let e : j ≡ i + (j - i) = omega arith in
-    ap (λ k. take m (drop i (take k ps))) e ∙ ap (take m) (drop-take i (j - i) ps) ∙ take-take m (j - i) (drop i ps) (omega arith)
+    ap (λ k. take m (drop i (take k ps))) e ∙ ap (take m) (drop-take i (j - i) ps)
+    ∙ take-take m (j - i) (drop i ps) (omega arith)
 
 module _ {X : Type 0} (ps : List (Option X)) where
   -- a run has as many values as places
   pub run_length : (from len : ℕ) (xs : List X) → from + len ≤ length ps → HoldsRun ps from len xs → length xs ≡ len
-  run_length from len xs within run = omega (arith, ap length run, length-map xs Some, length-take len (drop from ps), length-drop from ps)
+  run_length from len xs within run =
+      omega (arith, ap length run, length-map xs Some, length-take len (drop from ps), length-drop from ps)
 
   -- of two runs of values all is as written
-  pub two_alike : (a la : ℕ) (xs : List X) → a + la ≤ length ps → HoldsRun ps a la xs → (b lb : ℕ) (ys : List X) → b + lb ≤ length ps → HoldsRun ps b lb ys
-      → (us vs : List X) → written_over ps (with_run b (as_many ys vs) (with_run a (as_many xs us) ps)) ≡ with_run b (as_many ys vs) (with_run a (as_many xs us) ps)
+  pub two_alike : (a la : ℕ) (xs : List X) → a + la ≤ length ps → HoldsRun ps a la xs → (b lb : ℕ) (ys : List X)
+      → b + lb ≤ length ps → HoldsRun ps b lb ys
+      → (us vs : List X) → written_over ps (with_run b (as_many ys vs) (with_run a (as_many xs us) ps))
+      ≡ with_run b (as_many ys vs) (with_run a (as_many xs us) ps)
   two_alike a la xs in_a run b lb ys in_b run' us vs =
       let held : HoldsRun ps a (length xs) xs = ap (λ k. take k (drop a ps)) (run_length a la xs in_a run) ∙ run in
       let held' : HoldsRun ps b (length ys) ys = ap (λ k. take k (drop b ps)) (run_length b lb ys in_b run') ∙ run' in
-      written_over-same ps _ (two_filled a b xs (as_many xs us) ys (as_many ys vs) ps held (length-as_many xs us) held' (length-as_many ys vs))
+      written_over-same ps _ (two_filled a b xs (as_many xs us) ys (as_many ys vs) ps held (length-as_many xs us) held'
+      (length-as_many ys vs))

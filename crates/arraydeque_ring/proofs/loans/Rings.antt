@@ -1,6 +1,44 @@
 -- A `Ring` in memory is taken apart into its slots and its other fields, and made of them again. Assumes `Logic`.
-use Rattle.arraydeque_ring.{proofs.{memory.{Kit.{◌≡◌, List, [], ◌∷◌, ℕ, ◌+◌, Ura, full_share, SProp, ent, sep, ex, w64, Logic, sem, ‵, raw, ◌⊛◌, ◌$◌, ◌∵◌, !, qed, by, use2, RattleType, part_at, usize, param_laws, Fml, El, R, el_x, part_of, lone}, Regions.Sr}, loans.Lending.with_slots, places.Opened.{view, Kept}}, specs.{Places.Region, Ring.RingState, declared.ring.Ring.TheInside.Inside}}
-use denote.{Laws.Lawfuls, Model.Fields.{plain_out, Plain-in, view_made}, Plain.uint_Lawful, Struct.{Members.{Member, rows_of}, Parts.PartsBack, Pick.{rest_at, field_out, field_back}}}
+use Rattle.arraydeque_ring.{
+  proofs.{
+    memory.{
+      Kit.{
+        ◌≡◌,
+        List,
+        [],
+        ◌∷◌,
+        ℕ,
+        ◌+◌,
+        Ura,
+        full_share,
+        SProp,
+        ent,
+        sep,
+        ex,
+        w64,
+        Logic,
+        sem,
+        ‵,
+        raw,
+        ◌⊛◌,
+        ◌$◌,
+        ◌∵◌,
+        !,
+      },
+      Kit.{qed, by, use2, RattleType, part_at, usize, param_laws, Fml, El, R, el_x, part_of, lone},
+      Regions.Sr,
+    },
+    loans.Lending.with_slots,
+    places.Opened.{view, Kept},
+  },
+  specs.{Places.Region, Ring.RingState, declared.ring.Ring.TheInside.Inside},
+}
+use denote.{
+  Laws.Lawfuls,
+  Model.Fields.{plain_out, Plain-in, view_made},
+  Plain.uint_Lawful,
+  Struct.{Members.{Member, rows_of}, Parts.PartsBack, Pick.{rest_at, field_out, field_back}},
+}
 use Rattle.std.specs.contracts.alloc.Global as heap
 use Rattle.std.proofs.alloc.Global.TheLaws as heap_laws
 use Rattle.arraydeque_ring.specs.contracts.ring.Ring as ring
@@ -16,11 +54,15 @@ module _ (E : El) where
   Fields = Inside (el_x E)
 
   abbrev members : List Member
-  members = record { row = Sr E; ty = lone (Sr E).mir } ∷ record { row = usize; ty = lone usize.mir } ∷ record { row = usize; ty = lone usize.mir } ∷ record { row = heap.the_row; ty = lone heap.the_row.mir } ∷ []
+  members = record { row = Sr E; ty = lone (Sr E).mir } ∷ record { row = usize; ty = lone usize.mir }
+      ∷ record { row = usize; ty = lone usize.mir } ∷ record { row = heap.the_row; ty = lone heap.the_row.mir } ∷ []
 
 module _ (E : El) {M : Type 1} {𝓤 : Ura M} (𝓛 : Logic 𝓤) (rb ro : ℕ) where
   lawful : Lawfuls 𝓛 (rows_of (members E))
-  lawful = ((slots_laws.the_row_laws (R E) (param_laws 0 E.row E.laws)).lawful 𝓛, (uint_Lawful 𝓛 w64, (uint_Lawful 𝓛 w64, (heap_laws.the_row_laws.lawful 𝓛, tt))))
+  lawful = (
+    (slots_laws.the_row_laws (R E) (param_laws 0 E.row E.laws)).lawful 𝓛,
+    (uint_Lawful 𝓛 w64, (uint_Lawful 𝓛 w64, (heap_laws.the_row_laws.lawful 𝓛, tt))),
+  )
 
   -- the fields but for the slots, and the way back from all
   abbrev pub Others : Fields E → Fml
@@ -29,19 +71,25 @@ module _ (E : El) {M : Type 1} {𝓤 : Ura M} (𝓛 : Logic 𝓤) (rb ro : ℕ) 
   abbrev pub Way : SProp 𝓤
   Way = PartsBack 𝓛 full_share [] (members E) rb ro
 
-  pub fields_out : (d : RingState (el_x E)) → ent 𝓤 (sem 𝓛 (part_at (Rr E) full_share d rb ro)) (ex 𝓤 (λ (x : (x : Fields E) × ((view x ≡ d) × Kept x)). sem 𝓛 (part_at (inside.the_row (R E)) full_share x.0 rb ro)))
+  pub fields_out : (d : RingState (el_x E)) → ent 𝓤 (sem 𝓛 (part_at (Rr E) full_share d rb ro)) (ex 𝓤
+      (λ (x : (x : Fields E) × ((view x ≡ d) × Kept x)). sem 𝓛 (part_at (inside.the_row (R E)) full_share x.0 rb ro)))
   fields_out d = plain_out (Rr E) (inside.the_row (R E)) (ring_laws.the_opens (R E)) 𝓛 full_share d rb ro
 
-  pub slots_out : (x : Fields E) → ent 𝓤 (sem 𝓛 (part_at (inside.the_row (R E)) full_share x rb ro)) (sep 𝓤 (sem 𝓛 (part_at (Sr E) full_share x.slots rb (ro + 0))) (sep 𝓤 (sem 𝓛 (Others x)) Way))
+  pub slots_out : (x : Fields E) → ent 𝓤 (sem 𝓛 (part_at (inside.the_row (R E)) full_share x rb ro))
+      (sep 𝓤 (sem 𝓛 (part_at (Sr E) full_share x.slots rb (ro + 0))) (sep 𝓤 (sem 𝓛 (Others x)) Way))
   unfolding part_of
   slots_out x = field_out 𝓛 full_share [] (members E) lawful (x.slots, (x.start, (x.len, (x.alloc, tt)))) rb ro 0
 
   -- whatever the slots are, with which the other fields keep the invariant, the ring is whole again
-  pub ring_whole : (d : RingState (el_x E)) (x : Fields E) (w : Region (el_x E)) → view (with_slots x w) ≡ d → Kept (with_slots x w)
-      → ent 𝓤 (sep 𝓤 (sem 𝓛 (part_at (Sr E) full_share w rb (ro + 0))) (sep 𝓤 (sem 𝓛 (Others x)) Way)) (sem 𝓛 (part_at (Rr E) full_share d rb ro))
+  pub ring_whole : (d : RingState (el_x E)) (x : Fields E) (w : Region (el_x E)) → view (with_slots x w) ≡ d
+      → Kept (with_slots x w)
+      → ent 𝓤 (sep 𝓤 (sem 𝓛 (part_at (Sr E) full_share w rb (ro + 0))) (sep 𝓤 (sem 𝓛 (Others x)) Way))
+      (sem 𝓛 (part_at (Rr E) full_share d rb ro))
   unfolding part_of
   ring_whole d x w seen kept =
       let y = with_slots x w in
       qed 𝓛 (‵ (part_at (Sr E) full_share w rb (ro + 0)) ∷ (‵ (Others x) ⊛ raw Way) ∷ []) ∵
-      use2 𝓛 (‵ (part_at (inside.the_row (R E)) full_share y rb ro)) (field_back 𝓛 full_share [] (members E) (y.slots, (y.start, (y.len, (y.alloc, tt)))) rb ro 0) $
-      by ! (Plain-in (Rr E) (inside.the_row (R E)) (ring_laws.the_opens (R E)) 𝓛 full_share d y (view_made (inside.the_row (R E)) (RingState (el_x E)) (Rr E).coded view Kept 𝓛 d y (seen, kept)) rb ro)
+      use2 𝓛 (‵ (part_at (inside.the_row (R E)) full_share y rb ro))
+      (field_back 𝓛 full_share [] (members E) (y.slots, (y.start, (y.len, (y.alloc, tt)))) rb ro 0) $
+      by ! (Plain-in (Rr E) (inside.the_row (R E)) (ring_laws.the_opens (R E)) 𝓛 full_share d y
+      (view_made (inside.the_row (R E)) (RingState (el_x E)) (Rr E).coded view Kept 𝓛 d y (seen, kept)) rb ro)

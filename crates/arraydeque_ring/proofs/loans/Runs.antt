@@ -1,5 +1,18 @@
 -- Runs of the places of a block, taken out and put back. Assumes `Logic`.
-use Rattle.arraydeque_ring.{proofs.{memory.{Kit.{◌≡◌, refl, sym, ap, subst, ◌∙◌, via, List, [], ◌∷◌, ◌++◌, map, ℕ, ◌+◌, ◌*◌, ◌≤◌, arith, length, take, drop_list, length-take, Some, Ura, full_share, SProp, ent, sep, wand, Fml, part_at, mem, Logic, sem, ‵, raw, ◌⊛◌, ◌$◌, ◌∵◌, !, qed, by, move, keep, use1, use2, split, join, fsplit, rewrite, done, nothing, El, R, el_x, inl, inr, all, all_e, apply∗, each, assume, group, cells, fsep}, Owned.{item_size, Place, glue}, Rows.{Around, run_out, run_in}}, loans.Placed.{placed, placed_nothing, placed_behind, placed-append, length-placed, run_before, apart_cases}}, specs.{Loans.AreApart, Ownership.places_owned}}
+use Rattle.arraydeque_ring.{
+  proofs.{
+    memory.{
+      Kit.{◌≡◌, refl, sym, ap, subst, ◌∙◌, via, List, [], ◌∷◌, ◌++◌, map, ℕ, ◌+◌, ◌*◌, ◌≤◌, arith, length, take},
+      Kit.{drop_list, length-take, Some, Ura, full_share, SProp, ent, sep, wand, Fml, part_at, mem, Logic, sem, ‵, raw},
+      Kit.{◌⊛◌, ◌$◌, ◌∵◌, !, qed, by, move, keep, use1, use2, split, join, fsplit, rewrite, done, nothing, El, R, el_x},
+      Kit.{inl, inr, all, all_e, apply∗, each, assume, group, cells, fsep},
+      Owned.{item_size, Place, glue},
+      Rows.{Around, run_out, run_in},
+    },
+    loans.Placed.{placed, placed_nothing, placed_behind, placed-append, length-placed, run_before, apart_cases},
+  },
+  specs.{Loans.AreApart, Ownership.places_owned},
+}
 
 module _ (E : El) {M : Type 1} {𝓤 : Ura M} (𝓛 : Logic 𝓤) (b : ℕ) where
   abbrev s : ℕ
@@ -22,11 +35,14 @@ module _ (E : El) {M : Type 1} {𝓤 : Ura M} (𝓛 : Logic 𝓤) (b : ℕ) wher
 
     -- as many are put back, and the places before may have changed
     run_behind : (i n : ℕ) (front ws : List (Place E)) → length front ≡ i → n ≡ length ws
-        → ent 𝓤 (sep 𝓤 (sem 𝓛 (Row (at i) ws)) (sep 𝓤 (sem 𝓛 (Row o front)) (sem 𝓛 (Row (n * s + at i) (drop_list (i + n) ps))))) (sem 𝓛 (Row o (front ++ (ws ++ drop_list (i + n) ps))))
+        → ent 𝓤 (sep 𝓤 (sem 𝓛 (Row (at i) ws))
+        (sep 𝓤 (sem 𝓛 (Row o front)) (sem 𝓛 (Row (n * s + at i) (drop_list (i + n) ps)))))
+        (sem 𝓛 (Row o (front ++ (ws ++ drop_list (i + n) ps))))
     run_behind i n front ws e long =
         let rest = drop_list (i + n) ps in
         qed 𝓛 (‵ (Row (at i) ws) ∷ ‵ (Row o front) ∷ ‵ (Row (n * s + at i) rest) ∷ []) ∵ move ! (0 ∷ 2 ∷ []) $
-        use2 𝓛 (‵ (Row (at i) (ws ++ rest))) (glue E 𝓛 b ws rest (at i) (n * s + at i) (ap (λ k. k * s + at i) long)) $ move ! (1 ∷ 0 ∷ []) $
+        use2 𝓛 (‵ (Row (at i) (ws ++ rest))) (glue E 𝓛 b ws rest (at i) (n * s + at i) (ap (λ k. k * s + at i) long)) $
+        move ! (1 ∷ 0 ∷ []) $
         by ! (glue E 𝓛 b front (ws ++ rest) o (at i) (ap (λ k. k * s + o) (sym e)))
 
   -- two runs apart: with as many in the stead of both, the places again
@@ -35,29 +51,42 @@ module _ (E : El) {M : Type 1} {𝓤 : Ura M} (𝓛 : Logic 𝓤) (b : ℕ) wher
     News = (us : List (Place E)) × (vs : List (Place E)) × (m ≡ length us) × (n ≡ length vs)
 
     abbrev pub Filling : News → SProp 𝓤
-    Filling w = wand 𝓤 (sep 𝓤 (sem 𝓛 (Row (at o ps i) w.0)) (sem 𝓛 (Row (at o ps j) w.1))) (sem 𝓛 (Row o (placed j n w.1 (placed i m w.0 ps))))
+    Filling w = wand 𝓤 (sep 𝓤 (sem 𝓛 (Row (at o ps i) w.0)) (sem 𝓛 (Row (at o ps j) w.1)))
+        (sem 𝓛 (Row o (placed j n w.1 (placed i m w.0 ps))))
 
     abbrev pub Apart : SProp 𝓤
-    Apart = sep 𝓤 (sem 𝓛 (Row (at o ps i) (run o ps i m))) (sep 𝓤 (sem 𝓛 (Row (at o ps j) (run o ps j n))) (all 𝓤 Filling))
+    Apart =
+        sep 𝓤 (sem 𝓛 (Row (at o ps i) (run o ps i m))) (sep 𝓤 (sem 𝓛 (Row (at o ps j) (run o ps j n))) (all 𝓤 Filling))
 
   module _ (o : ℕ) (ps : List (Place E)) where
     -- one of the two is empty
     first_none : (i j n : ℕ) (in_j : j + n ≤ length ps) → ent 𝓤 (sem 𝓛 (Row o ps)) (Apart o ps i 0 j n)
     first_none i j n in_j =
-        qed 𝓛 (‵ (Row o ps) ∷ []) ∵ use1 𝓛 (‵ (Row (at o ps j) (run o ps j n)) ⊛ ‵ (Around E 𝓛 b o ps j n)) (run_out E 𝓛 b o ps j n in_j) $ split ! $ move ! (1 ∷ []) $
-        use1 𝓛 (raw (all 𝓤 (Filling o ps i 0 j n))) (qed 𝓛 (‵ (Around E 𝓛 b o ps j n) ∷ []) ∵ each ! (Filling o ps i 0 j n) (λ w.
-        assume ! (‵ (Row (at o ps i) w.0) ⊛ ‵ (Row (at o ps j) w.1)) $ split ! $ keep ! (1 ∷ 2 ∷ []) $ use2 𝓛 (‵ (Row o (placed j n w.1 ps))) (run_in E 𝓛 b o ps j n in_j w.1 (sym w.3)) $
-        rewrite ! 0 (λ (qs : List (Place E)). ‵ (Row o (placed j n w.1 qs))) (sym (placed_nothing i w.0 ps (sym w.2))) refl $ done !)) $
+        qed 𝓛 (‵ (Row o ps) ∷ []) ∵ use1 𝓛 (‵ (Row (at o ps j) (run o ps j n)) ⊛ ‵ (Around E 𝓛 b o ps j n))
+        (run_out E 𝓛 b o ps j n in_j) $ split ! $ move ! (1 ∷ []) $
+        use1 𝓛 (raw (all 𝓤 (Filling o ps i 0 j n))) (qed 𝓛 (‵ (Around E 𝓛 b o ps j n) ∷ []) ∵
+        each ! (Filling o ps i 0 j n) (λ w.
+        assume ! (‵ (Row (at o ps i) w.0) ⊛ ‵ (Row (at o ps j) w.1)) $ split ! $ keep ! (1 ∷ 2 ∷ []) $
+        use2 𝓛 (‵ (Row o (placed j n w.1 ps))) (run_in E 𝓛 b o ps j n in_j w.1 (sym w.3)) $
+        rewrite ! 0 (λ (qs : List (Place E)). ‵ (Row o (placed j n w.1 qs)))
+        (sym (placed_nothing i w.0 ps (sym w.2))) refl $ done !)) $
         nothing ! $ move ! (0 ∷ 2 ∷ 1 ∷ []) $ done !
 
     -- which of two runs comes first is all one, where what is written into both may come in either order
-    other_way : (i m j n : ℕ) → ((us vs : List (Place E)) → length us ≡ m → length vs ≡ n → placed i m us (placed j n vs ps) ≡ placed j n vs (placed i m us ps)) → ent 𝓤 (Apart o ps j n i m) (Apart o ps i m j n)
+    other_way : (i m j n : ℕ) → ((us vs : List (Place E)) → length us ≡ m → length vs ≡ n
+        → placed i m us (placed j n vs ps) ≡ placed j n vs (placed i m us ps))
+        → ent 𝓤 (Apart o ps j n i m) (Apart o ps i m j n)
     other_way i m j n same =
-        qed 𝓛 (‵ (Row (at o ps j) (run o ps j n)) ∷ ‵ (Row (at o ps i) (run o ps i m)) ∷ raw (all 𝓤 (Filling o ps j n i m)) ∷ []) ∵ move ! (2 ∷ []) $
-        use1 𝓛 (raw (all 𝓤 (Filling o ps i m j n))) (qed 𝓛 (raw (all 𝓤 (Filling o ps j n i m)) ∷ []) ∵ each ! (Filling o ps i m j n) (λ w.
-        assume ! (‵ (Row (at o ps i) w.0) ⊛ ‵ (Row (at o ps j) w.1)) $ split ! $ move ! (1 ∷ 0 ∷ []) $ join ! $ move ! (1 ∷ []) $
+        qed 𝓛 (‵ (Row (at o ps j) (run o ps j n)) ∷ ‵ (Row (at o ps i) (run o ps i m)) ∷ raw
+        (all 𝓤 (Filling o ps j n i m)) ∷ []) ∵ move ! (2 ∷ []) $
+        use1 𝓛 (raw (all 𝓤 (Filling o ps i m j n))) (qed 𝓛 (raw (all 𝓤 (Filling o ps j n i m)) ∷ []) ∵
+        each ! (Filling o ps i m j n) (λ w.
+        assume ! (‵ (Row (at o ps i) w.0) ⊛ ‵ (Row (at o ps j) w.1)) $ split ! $ move ! (1 ∷ 0 ∷ []) $ join ! $
+        move ! (1 ∷ []) $
         use1 𝓛 (raw (Filling o ps j n i m (w.1, w.0, w.3, w.2))) (all_e 𝓤 (Filling o ps j n i m) (w.1, w.0, w.3, w.2)) $
-        move ! (1 ∷ 0 ∷ []) $ use2 𝓛 (‵ (Row o (placed i m w.0 (placed j n w.1 ps)))) (apply∗ 𝓤 (sep 𝓤 (sem 𝓛 (Row (at o ps j) w.1)) (sem 𝓛 (Row (at o ps i) w.0))) (sem 𝓛 (Row o (placed i m w.0 (placed j n w.1 ps))))) $
+        move ! (1 ∷ 0 ∷ []) $
+        use2 𝓛 (‵ (Row o (placed i m w.0 (placed j n w.1 ps)))) (apply∗ 𝓤 (sep 𝓤 (sem 𝓛 (Row (at o ps j) w.1))
+        (sem 𝓛 (Row (at o ps i) w.0))) (sem 𝓛 (Row o (placed i m w.0 (placed j n w.1 ps))))) $
         rewrite ! 0 (λ (qs : List (Place E)). ‵ (Row o qs)) (same w.0 w.1 (sym w.2) (sym w.3)) refl $ done !)) $
         move ! (2 ∷ 1 ∷ 0 ∷ []) $ done !
 
@@ -68,24 +97,38 @@ module _ (E : El) {M : Type 1} {𝓤 : Ura M} (𝓛 : Logic 𝓤) (b : ℕ) wher
           let front = take j ps in
           let below : i + m ≤ length front = omega (arith, length-take j ps) in
           let here : run o front i m ≡ run o ps i m = run_before ps i m j apart in
-          qed 𝓛 (‵ (Row o ps) ∷ []) ∵ use1 𝓛 (‵ (Row (at o ps j) (run o ps j n)) ⊛ ‵ (Around E 𝓛 b o ps j n)) (run_out E 𝓛 b o ps j n in_j) $ split ! $ move ! (1 ∷ []) $ fsplit ! $
-          use1 𝓛 (‵ (Row (at o ps i) (run o front i m)) ⊛ ‵ (Around E 𝓛 b o front i m)) (run_out E 𝓛 b o front i m below) $ split ! $ rewrite ! 0 (λ (qs : List (Place E)). ‵ (Row (at o ps i) qs)) here refl $
+          qed 𝓛 (‵ (Row o ps) ∷ []) ∵ use1 𝓛 (‵ (Row (at o ps j) (run o ps j n)) ⊛ ‵ (Around E 𝓛 b o ps j n))
+          (run_out E 𝓛 b o ps j n in_j) $ split ! $ move ! (1 ∷ []) $ fsplit ! $
+          use1 𝓛 (‵ (Row (at o ps i) (run o front i m)) ⊛ ‵ (Around E 𝓛 b o front i m))
+          (run_out E 𝓛 b o front i m below) $ split ! $
+          rewrite ! 0 (λ (qs : List (Place E)). ‵ (Row (at o ps i) qs)) here refl $
           -- [the first; around it; what is behind the second; the second]
-          move ! (1 ∷ 2 ∷ []) $ join ! $ use1 𝓛 (raw (all 𝓤 (Filling o ps i m j n))) (qed 𝓛 (‵ (Around E 𝓛 b o front i m) ∷ ‵ (Row (n * s + at o ps j) (drop_list (j + n) ps)) ∷ []) ∵ each ! (Filling o ps i m j n) (λ w.
-          assume ! (‵ (Row (at o ps i) w.0) ⊛ ‵ (Row (at o ps j) w.1)) $ split ! $ move ! (0 ∷ 2 ∷ []) $ use2 𝓛 (‵ (Row o (placed i m w.0 front))) (run_in E 𝓛 b o front i m below w.0 (sym w.2)) $ move ! (1 ∷ 0 ∷ 2 ∷ []) $ group ! 3 $
-          use1 𝓛 (‵ (Row o (placed i m w.0 front ++ (w.1 ++ drop_list (j + n) ps)))) (run_behind o ps j n (placed i m w.0 front) w.1 (omega (arith, length-take j ps, length-placed i m w.0 front below (sym w.2))) w.3) $
-          rewrite ! 0 (λ (qs : List (Place E)). ‵ (Row o qs)) (sym (placed_behind i m j n w.0 w.1 ps apart in_j (sym w.2))) refl $ done !)) $
+          move ! (1 ∷ 2 ∷ []) $ join ! $ use1 𝓛 (raw (all 𝓤 (Filling o ps i m j n)))
+          (qed 𝓛 (‵ (Around E 𝓛 b o front i m) ∷ ‵ (Row (n * s + at o ps j) (drop_list (j + n) ps)) ∷ []) ∵
+          each ! (Filling o ps i m j n) (λ w.
+          assume ! (‵ (Row (at o ps i) w.0) ⊛ ‵ (Row (at o ps j) w.1)) $ split ! $ move ! (0 ∷ 2 ∷ []) $
+          use2 𝓛 (‵ (Row o (placed i m w.0 front))) (run_in E 𝓛 b o front i m below w.0 (sym w.2)) $
+          move ! (1 ∷ 0 ∷ 2 ∷ []) $ group ! 3 $
+          use1 𝓛 (‵ (Row o (placed i m w.0 front ++ (w.1 ++ drop_list (j + n) ps)))) (run_behind o ps j n (placed i m
+          w.0 front) w.1 (omega (arith, length-take j ps, length-placed i m w.0 front below (sym w.2))) w.3) $
+          rewrite ! 0 (λ (qs : List (Place E)). ‵ (Row o qs))
+          (sym (placed_behind i m j n w.0 w.1 ps apart in_j (sym w.2))) refl $ done !)) $
           move ! (1 ∷ 2 ∷ []) $ done !
 
-    pub two_out : (i m j n : ℕ) (in_i : i + m ≤ length ps) (in_j : j + n ≤ length ps) → AreApart i m j n → ent 𝓤 (sem 𝓛 (Row o ps)) (Apart o ps i m j n)
+    pub two_out : (i m j n : ℕ) (in_i : i + m ≤ length ps) (in_j : j + n ≤ length ps) → AreApart i m j n
+        → ent 𝓤 (sem 𝓛 (Row o ps)) (Apart o ps i m j n)
     two_out i m j n in_i in_j apart = elim (apart_cases i m j n apart) [
       | inl in_order ↦ elim in_order [
         | inl low ↦ first_low i m j n in_i in_j low
-        | inr low ↦ via 𝓤 (Apart o ps j n i m) (first_low j n i m in_j in_i low) (other_way i m j n (λ us vs e e'. placed_behind j n i m vs us ps low in_i e' ∙ sym (placed-append j n vs (take i ps) (us ++ drop_list (i + m) ps) (omega (arith, length-take i ps)))))
+        | inr low ↦ via 𝓤 (Apart o ps j n i m) (first_low j n i m in_j in_i low)
+            (other_way i m j n (λ us vs e e'. placed_behind j n i m vs us ps low in_i e'
+            ∙ sym (placed-append j n vs (take i ps) (us ++ drop_list (i + m) ps) (omega (arith, length-take i ps)))))
       ]
       | inr one ↦ elim one [
         | inl none ↦ subst (λ k. ent 𝓤 (sem 𝓛 (Row o ps)) (Apart o ps i k j n)) (sym none) (first_none i j n in_j)
-        | inr none ↦ subst (λ k. ent 𝓤 (sem 𝓛 (Row o ps)) (Apart o ps i m j k)) (sym none) (via 𝓤 (Apart o ps j 0 i m) (first_none j i m in_i)
-            (other_way i m j 0 (λ us vs e e'. ap (placed i m us) (placed_nothing j vs ps e') ∙ sym (placed_nothing j vs (placed i m us ps) e'))))
+        | inr none ↦ subst (λ k. ent 𝓤 (sem 𝓛 (Row o ps)) (Apart o ps i m j k)) (sym none)
+            (via 𝓤 (Apart o ps j 0 i m) (first_none j i m in_i)
+            (other_way i m j 0 (λ us vs e e'. ap (placed i m us) (placed_nothing j vs ps e')
+            ∙ sym (placed_nothing j vs (placed i m us ps) e'))))
       ]
     ]

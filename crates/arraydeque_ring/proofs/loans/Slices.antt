@@ -1,6 +1,10 @@
 -- A pair of two slices for writing. Assumes `Logic`.
 use Rattle.arraydeque_ring.proofs.memory.Kit.{List, [], ◌∷◌, Ura, Logic, RattleType, NamedLft, MutSlice, Struct}
-use denote.{Laws.Lawful, Slice.mut_slice_Lawful, Struct.{Declared.{Declared, shape}, Recorded.recorded_lawful, Struct.{Struct-Lawful}, Tuple.{Tuple, tuple_type}}}
+use denote.{
+  Laws.Lawful,
+  Slice.mut_slice_Lawful,
+  Struct.{Declared.{Declared, shape}, Recorded.recorded_lawful, Struct.{Struct-Lawful}, Tuple.{Tuple, tuple_type}},
+}
 
 module _ (α : NamedLft) (T : RattleType) where
   abbrev Two : List RattleType

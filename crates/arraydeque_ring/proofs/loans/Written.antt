@@ -1,8 +1,16 @@
 -- A list in one piece, with other items written in its places.
-use Rattle.std.proofs.Common.{◌≡◌, ℕ, ◌+◌, ◌-◌, ◌≤◌, List, ◌++◌, map, length, take, drop, replicate, Option, Some, None, sym, ap, ap₂, ◌∙◌, arith}
-use Rattle.std.proofs.lemmas.List.{length-map, length-take, length-drop, take_at, drop_at, drop-append-le, drop-drop, append_assoc}
+use Rattle.std.proofs.{
+  Common.{◌≡◌, ℕ, ◌+◌, ◌-◌, ◌≤◌, List, ◌++◌, map, length, take, drop, replicate, Option, Some, None, sym, ap, ap₂, ◌∙◌},
+  Common.{arith},
+}
+use Rattle.std.proofs.lemmas.{
+  List.{length-map, length-take, length-drop, take_at, drop_at, drop-append-le, drop-drop, append_assoc},
+}
 use Rattle.arraydeque_ring.specs.{Loans.with_run, Ring.rotated}
-use Rattle.arraydeque_ring.proofs.{places.{AndEmpty.and_empty, LaidOut.{LaidOut, LaidOut-from, rotated-LaidOut}}, loans.Placed.length-with_run}
+use Rattle.arraydeque_ring.proofs.{
+  places.{AndEmpty.and_empty, LaidOut.{LaidOut, LaidOut-from, rotated-LaidOut}},
+  loans.Placed.length-with_run,
+}
 
 module _ {X : Type 0} {n t : ℕ} {xs : List X} {ps : List (Option X)} (l : LaidOut n t xs ps) where
   -- what follows the items, round the end, is empty

@@ -6,16 +6,25 @@ pub use Prim.Native.Nat.{ℕ, zero, suc, ◌+◌, ◌*◌, ◌<◌, ◌≤◌, �
 pub use native.Mathlib.Omega.{arith}
 pub use native.Mathlib.Nat.{zero-mul, suc-mul}
 pub use lib.Dec.{T, lit<}
-pub use lib.ListN.{length, take, drop as drop_list, set, get_or, replicate, take-append-drop, length-take, length-drop, length-map, length-set, length-replicate}
+pub use lib.{
+  ListN.{length, take, drop as drop_list, set, get_or, replicate, take-append-drop, length-take, length-drop},
+  ListN.{length-map, length-set, length-replicate},
+}
 pub use lib.Seq.{drop-cons, set_split}
 pub use Rattle.std.specs.Prelude.{Option, Some, None, Ok, Err}
 pub use Rattle.std.specs.Mem.{type_size}
 pub use seplogic.Ra.Ura.{Ura}
 pub use base.Fraction.{full_share}
 pub use base.Stored.{Gv}
-pub use base.Logic.{SProp, ent, sep, emp, ex, guard, guard_i, wand, via, id⊢, never, snd∗, mono_r, all, all_e, apply∗, upd_i, wand_i}
+pub use base.{
+  Logic.{SProp, ent, sep, emp, ex, guard, guard_i, wand, via, id⊢, never, snd∗, mono_r, all, all_e, apply∗, upd_i},
+  Logic.{wand_i},
+}
 unfoldable pub use base.Fml.{fseps}
-pub use base.Fml.{Lft, Share, GName, Fml, ftrue, fsep, fat, froom, flft, fobs, fauth, fbor, fobor, fhide, fdead, fex, flent, fres, fupd, fwand}
+pub use base.{
+  Fml.{Lft, Share, GName, Fml, ftrue, fsep, fat, froom, flft, fobs, fauth, fbor, fobor, fhide, fdead, fex, flent, fres},
+  Fml.{fupd, fwand},
+}
 pub use mir.Syntax.{Fn, Body, Ty, named, w64, ty_array, ty_ptr, ty_unit, Args, a_number, a_type}
 pub use mir.MapTy.{inst_fn}
 pub use mir.Val.{Val, vunit, vint, vptr, vstruct, vcons, vnil, of_list, has_ty, WT}
@@ -28,11 +37,22 @@ pub use contract.Monad.{Fun, fact, fact_i, fact_use}
 pub use contract.Running.{tables}
 pub use types.Logic.{Logic, sem}
 pub use types.SemTy.{Body as Borrowed, SemTy, cells}
-pub use types.Kit.{Goal, Soaks, Step, step, Seq, Item, Post as After, ‵, raw, ◌⊛◌, some, given, later, at_ret, any_q, ◌$◌, ◌∵◌, !, qed, by, move, keep, drop, use0, use1, use2, use3, split, join, pick, learn, check, show, frame, fsplit, fsplit3, fjoin, fjoin3, fpick, fpack, feq_i, feq_l, flt_i, flt_l, rewrite, suffices, await, updating, now as at_once, done, assume, each, group, split3}
+pub use types.{
+  Kit.{Goal, Soaks, Step, step, Seq, Item, Post as After, ‵, raw, ◌⊛◌, some, given, later, at_ret, any_q, ◌$◌, ◌∵◌, ! },
+  Kit.{qed, by, move, keep, drop, use0, use1, use2, use3, split, join, pick, learn, check, show, frame, fsplit},
+  Kit.{fsplit3, fjoin, fjoin3, fpick, fpack, feq_i, feq_l, flt_i, flt_l, rewrite, suffices, await, updating},
+  Kit.{now as at_once, done, assume, each, group, split3},
+}
 pub use types.Part.{whole, sub, look_in, agg}
 pub use types.Match.{live, vrt, in_variant}
-pub use types.Run.{enter, of_opd, lit, unit_lit, size_word, align_word, size_lit, bin, addr, from, load, look, init, stop, fld, no_more, and_then, assigns_last, first, blocks, branches, skips, switches_on, exec, returns}
-pub use types.ByLocal.{alloc_all, pass_all, free_all, look_at, get, get_in, get_tag, through, sets, sets_last, lands_as, lands_last, is, env}
+pub use types.{
+  Run.{enter, of_opd, lit, unit_lit, size_word, align_word, size_lit, bin, addr, from, load, look, init, stop, fld},
+  Run.{no_more, and_then, assigns_last, first, blocks, branches, skips, switches_on, exec, returns},
+}
+pub use types.{
+  ByLocal.{alloc_all, pass_all, free_all, look_at, get, get_in, get_tag, through, sets, sets_last, lands_as},
+  ByLocal.{lands_last, is, env},
+}
 pub use denote.Exit.{yes, no}
 pub use denote.RattleType.{RattleType, Valss, owns}
 pub use denote.Laws.{Is, shows}
@@ -51,7 +71,9 @@ pub use denote.Triple.Entry.{Vals, on_entry}
 pub use denote.Triple.Spec.{triple_of}
 pub use denote.Triple.Statement.{Contract}
 pub use denote.Triple.Table.{framed}
-pub use denote.Triple.Walked.{Stays, walk_of, says, stay_dropped, stay_ref, Goes-dropped, Goes-ref, ends_at, Goes-spent_ref}
+pub use denote.Triple.{
+  Walked.{Stays, walk_of, says, stay_dropped, stay_ref, Goes-dropped, Goes-ref, ends_at, Goes-spent_ref},
+}
 pub use Rattle.std.proofs.Handle.{heap_val, heap_Tells}
 pub use Rattle.std.proofs.RawLayout.{as_written, as_raw}
 pub use Rattle.std.proofs.RcSteps.{Good, first_Good}

@@ -1,28 +1,42 @@
 -- What a `&` to a `Slots` shows: its pointer, and a `&` to each value in its places. Assumes `Logic`.
-use Rattle.arraydeque_ring.{proofs.memory.{Kit.{◌≡◌, refl, ap, List, [], ◌∷◌, ℕ, ◌+◌, ◌*◌, ◌<◌, ◌^◌, length, Option, Ura, ent, sep, never, id⊢, Lft, fhide, Logic, sem, Goal, Seq, Item, ‵, ◌⊛◌, ◌$◌, ◌∵◌, !, qed, keep, done, move, drop, use1, split, rewrite, fsplit, fpick, flt_l, hidden_shr, Ptr, RawPtr, block_ptr, in_a_block, El, R, el_x, Struct}, Owned.item_size, Regions.{Sr, Seen, owning}}, specs.{Ownership.{places_lent, slots_lent}, declared.slots.Slots.TheInside.Inside}}
+use Rattle.arraydeque_ring.{
+  proofs.memory.{
+    Kit.{◌≡◌, refl, ap, List, [], ◌∷◌, ℕ, ◌+◌, ◌*◌, ◌<◌, ◌^◌, length, Option, Ura, ent, sep, never, id⊢, Lft, fhide},
+    Kit.{Logic, sem, Goal, Seq, Item, ‵, ◌⊛◌, ◌$◌, ◌∵◌, !, qed, keep, done, move, drop, use1, split, rewrite, fsplit},
+    Kit.{fpick, flt_l, hidden_shr, Ptr, RawPtr, block_ptr, in_a_block, El, R, el_x, Struct},
+    Owned.item_size,
+    Regions.{Sr, Seen, owning},
+  },
+  specs.{Ownership.{places_lent, slots_lent}, declared.slots.Slots.TheInside.Inside},
+}
 use denote.{Struct.{Lending.lent_out, Owning.{to, shape}}, Opens.unhide}
 use Rattle.std.specs.contracts.alloc.Global as heap
 use Rattle.arraydeque_ring.specs.contracts.slots.Slots.TheInside as inside
 
 module _ (E : El) {M : Type 1} {𝓤 : Ura M} (𝓛 : Logic 𝓤) (κ : Lft) where
-  fields_seen : (a : Inside (el_x E)) (b o : ℕ) → ent 𝓤 (sem 𝓛 (hidden_shr (inside.the_row (R E)) κ a b o)) (sep 𝓤 (sem 𝓛 (slots_lent (R E) a.ptr a.places κ)) (sem 𝓛 (hidden_shr RawPtr κ a.ptr b (o + 0))))
+  fields_seen : (a : Inside (el_x E)) (b o : ℕ) → ent 𝓤 (sem 𝓛 (hidden_shr (inside.the_row (R E)) κ a b o))
+      (sep 𝓤 (sem 𝓛 (slots_lent (R E) a.ptr a.places κ)) (sem 𝓛 (hidden_shr RawPtr κ a.ptr b (o + 0))))
   fields_seen a b o =
       let own = owning E in
       let lent = inside.the_lent (R E) in
       qed 𝓛 (‵ (hidden_shr (inside.the_row (R E)) κ a b o) ∷ []) ∵
       use1 𝓛 (‵ (hidden_shr (Struct (shape own)) κ (to own a) b o) ⊛ ‵ (fhide (lent a a.ptr κ)))
-      (lent_out 𝓛 (inside.struct (R E)) (inside.the_codes (el_x E) (R E).coded heap.the_row.coded) (inside.the_heap (R E)) lent κ a b o) $ split ! $
+      (lent_out 𝓛 (inside.struct (R E)) (inside.the_codes (el_x E) (R E).coded heap.the_row.coded)
+      (inside.the_heap (R E)) lent κ a b o) $ split ! $
       unhide ! $ fsplit ! $ fsplit ! $ keep ! (3 ∷ 0 ∷ []) $ unhide ! $ done !
 
 module _ (E : El) {M : Type 1} {𝓤 : Ura M} {𝓛 : Logic 𝓤} {K : Type 0} {Γ : List (Item 𝓤)} {G : Goal 𝓤 𝓛.H} where
   -- leaves [the places, lent; the pointer's field, lent]
   pub slots_seen : K → {κ : Lft} (r : Seen E) (rb ro : ℕ)
-      → ((p : Ptr) (b o : ℕ) → p ≡ block_ptr b o → length r.places * item_size E + o < 2 ^ 63 → Seq K 𝓛 (‵ (places_lent (R E) b o r.places κ) ∷ ‵ (hidden_shr RawPtr κ p rb (ro + 0)) ∷ Γ) G)
+      → ((p : Ptr) (b o : ℕ) → p ≡ block_ptr b o → length r.places * item_size E + o < 2 ^ 63
+      → Seq K 𝓛 (‵ (places_lent (R E) b o r.places κ) ∷ ‵ (hidden_shr RawPtr κ p rb (ro + 0)) ∷ Γ) G)
       → Seq K 𝓛 (‵ (hidden_shr (Sr E) κ r rb ro) ∷ Γ) G
   slots_seen t {κ} r rb ro then =
       unhide t $ fpick t (λ x. fsplit t $ move t (1 ∷ []) $ drop t $
       let a = x.0 in
-      use1 𝓛 (‵ (slots_lent (R E) a.ptr a.places κ) ⊛ ‵ (hidden_shr RawPtr κ a.ptr rb (ro + 0))) (fields_seen E 𝓛 κ a rb ro) $ split t $
+      use1 𝓛 (‵ (slots_lent (R E) a.ptr a.places κ) ⊛ ‵ (hidden_shr RawPtr κ a.ptr rb (ro + 0)))
+      (fields_seen E 𝓛 κ a rb ro) $ split t $
       in_a_block t a.ptr (λ p. slots_lent (R E) p a.places κ) (id⊢ 𝓤 (never 𝓤)) (λ b o at.
-      rewrite t 0 (λ (ps : List (Option (el_x E))). ‵ (slots_lent (R E) (block_ptr b o) ps κ)) (ap (λ (v : Seen E). v.places) x.1.0) refl $
+      rewrite t 0 (λ (ps : List (Option (el_x E))). ‵ (slots_lent (R E) (block_ptr b o) ps κ))
+      (ap (λ (v : Seen E). v.places) x.1.0) refl $
       fsplit t $ flt_l t (λ reach. then a.ptr b o at reach)))

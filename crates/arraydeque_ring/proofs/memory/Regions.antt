@@ -1,5 +1,15 @@
--- A `Slots` is taken apart into its words, its places and its right to free, and made of them; a `&mut` to one is opened and closed. Assumes `Logic`.
-use Rattle.arraydeque_ring.{proofs.memory.Kit.{◌≡◌, refl, ap, subst, ◌∙◌, List, [], ◌∷◌, ◌++◌, ℕ, ◌+◌, ◌*◌, ◌<◌, ◌≤◌, ◌^◌, arith, length, Option, Ura, full_share, Gv, ent, sep, emp, id⊢, never, Lft, Share, GName, Fml, fsep, flft, fobs, fauth, fbor, fobor, ftrue, w64, Val, vunit, vint, vptr, vstruct, vcons, vnil, of_list, Logic, sem, Borrowed, Goal, Soaks, Step, step, Seq, Item, ‵, ◌$◌, ◌∵◌, !, qed, move, drop, rewrite, use0, fsplit, fjoin, fpick, fpack, feq_l, feq_i, flt_l, flt_i, RattleType, Valss, Is, shows, layout, cell_at, mem, Ptr, block_ptr, ptr_val, in_a_block, nothing, opens, closes, peeks, Good, heap_val, heap_Tells, times_below, done, El, R, el_x, part_of, makes_shadow, Global}, specs.{Places.Region, Ownership.slots_owned, declared.slots.Slots.TheInside.Inside}}
+-- A `Slots` is taken apart into its words, its places and its right to free, and made of them;
+-- a `&mut` to one is opened and closed. Assumes `Logic`.
+use Rattle.arraydeque_ring.{
+  proofs.memory.Kit.{◌≡◌, refl, ap, subst, ◌∙◌, List, [], ◌∷◌, ◌++◌, ℕ, ◌+◌, ◌*◌, ◌<◌, ◌≤◌, ◌^◌, arith, length, Option},
+  proofs.memory.Kit.{Ura, full_share, Gv, ent, sep, emp, id⊢, never, Lft, Share, GName, Fml, fsep, flft, fobs, fauth},
+  proofs.memory.Kit.{fbor, fobor, ftrue, w64, Val, vunit, vint, vptr, vstruct, vcons, vnil, of_list, Logic, sem},
+  proofs.memory.Kit.{Borrowed, Goal, Soaks, Step, step, Seq, Item, ‵, ◌$◌, ◌∵◌, !, qed, move, drop, rewrite, use0},
+  proofs.memory.Kit.{fsplit, fjoin, fpick, fpack, feq_l, feq_i, flt_l, flt_i, RattleType, Valss, Is, shows, layout},
+  proofs.memory.Kit.{cell_at, mem, Ptr, block_ptr, ptr_val, in_a_block, nothing, opens, closes, peeks, Good, heap_val},
+  proofs.memory.Kit.{heap_Tells, times_below, done, El, R, el_x, part_of, makes_shadow, Global},
+  specs.{Places.Region, Ownership.slots_owned, declared.slots.Slots.TheInside.Inside},
+}
 use denote.Struct.{Struct.within, Owning.{Owning, shape}}
 use Rattle.std.specs.contracts.alloc.Global as heap
 pub use Rattle.arraydeque_ring.specs.Places.{AreAllEmpty, HoldsRun, IsEmpty, IsFilled, IsFilledRun, empty_region}
@@ -7,8 +17,12 @@ pub use Rattle.arraydeque_ring.specs.Ownership.{owned_if, place_owned, places_ow
 use Rattle.arraydeque_ring.specs.contracts.slots.Slots as slots
 use Rattle.arraydeque_ring.specs.contracts.slots.Slots.TheInside as inside
 pub use Rattle.arraydeque_ring.proofs.memory.Blocks.{scaled}
-pub use Rattle.arraydeque_ring.proofs.memory.Owned.{Place, Row, item_size, of_nothing, of_room, run_seen, to_room, value_in, value_out}
-pub use Rattle.arraydeque_ring.proofs.memory.Rows.{Around, run_out, run_in, place_out, place_in, row_room, to_array, of_array}
+pub use Rattle.arraydeque_ring.proofs.memory.{
+  Owned.{Place, Row, item_size, of_nothing, of_room, run_seen, to_room, value_in, value_out},
+}
+pub use Rattle.arraydeque_ring.proofs.memory.{
+  Rows.{Around, run_out, run_in, place_out, place_in, row_room, to_array, of_array},
+}
 
 -- the words of a `Slots`: the pointer, the capacity and the allocator
 abbrev words_val : Ptr → ℕ → Val
@@ -20,7 +34,8 @@ slots_val b o n = words_val (block_ptr b o) n
 pub heap_Good : Good (layout heap.the_row) heap_val
 heap_Good = (tt, ((tt, tt), tt))
 
-heap_made : {M : Type 1} {𝓤 : Ura M} (𝓛 : Logic 𝓤) (g : Global) → ent 𝓤 (emp 𝓤) (sem 𝓛 (heap.the_row.own_val g (heap_val ∷ [])))
+heap_made : {M : Type 1} {𝓤 : Ura M} (𝓛 : Logic 𝓤) (g : Global)
+    → ent 𝓤 (emp 𝓤) (sem 𝓛 (heap.the_row.own_val g (heap_val ∷ [])))
 heap_made 𝓛 g = makes_shadow 𝓛 (heap.the_row.own_val g (heap_val ∷ [])) (λ vss. (tt, ((λ uss. (tt, (tt, tt))), tt)))
     ((vstruct (vcons vunit vnil) ∷ [], tt), (refl, (((vunit ∷ [], tt), (refl, (refl, tt))), tt)))
 
@@ -53,11 +68,16 @@ module _ (E : El) where
   module _ {r : Seen} {o n : ℕ} (ok : Fits r o n) where
     -- they say it of any region of as many places
     Fits-as : (r' : Seen) → length r.places ≡ length r'.places → Fits r' o n
-    Fits-as r' same = record { capacity = ok.capacity ∙ same; word = ok.word; reach = subst (λ k. k * item_size E + o < 2 ^ 63) same ok.reach }
+    Fits-as r' same = record {
+      capacity = ok.capacity ∙ same;
+      word = ok.word;
+      reach = subst (λ k. k * item_size E + o < 2 ^ 63) same ok.reach;
+    }
 
     -- the bytes before a place fit a word, and those of a run are in reach
     pub run_fits : (k : ℕ) → k ≤ length r.places → (k < 2 ^ 64) × (k * item_size E < 2 ^ 63)
-    run_fits k le = let same = ok.capacity in let word = ok.word in let reach = ok.reach in (omega arith, times_below k (length r.places) (item_size E) (2 ^ 63) le (omega arith))
+    run_fits k le = let same = ok.capacity in let word = ok.word in let reach = ok.reach in
+        (omega arith, times_below k (length r.places) (item_size E) (2 ^ 63) le (omega arith))
 
     pub near : (k : ℕ) → k ≤ length r.places → k * item_size E < 2 ^ 64
     near k le = let below = (run_fits k le).1 in omega arith
@@ -65,63 +85,86 @@ module _ (E : El) where
 module _ (E : El) {M : Type 1} {𝓤 : Ura M} {𝓛 : Logic 𝓤} {K : Type 0} {Γ : List (Item 𝓤)} {G : Goal 𝓤 𝓛.H} where
   -- leaves [the places; the right]
   pub slots_apart : K → (r : Seen E) (vs : List Val)
-      → ((g : Global) (b o n : ℕ) → Fits E r o n → vs ≡ slots_val b o n ∷ [] → Seq K 𝓛 (‵ (places E r b o) ∷ ‵ (right E g r b o) ∷ Γ) G)
+      → ((g : Global) (b o n : ℕ) → Fits E r o n → vs ≡ slots_val b o n ∷ []
+      → Seq K 𝓛 (‵ (places E r b o) ∷ ‵ (right E g r b o) ∷ Γ) G)
       → Seq K 𝓛 (‵ ((Sr E).own_val r vs) ∷ Γ) G
   slots_apart t r vs then =
       fpick t (λ x. fsplit t $ move t (1 ∷ []) $ drop t $
       let a = x.0 in
       let same : a.places ≡ r.places = ap (λ (v : Seen E). v.places) x.1.0 in
-      fsplit t $ fpick t (λ vss. fsplit t $ feq_l t (λ all. fsplit t $ feq_l t (λ pointer. fsplit t $ fsplit t $ feq_l t (λ word. flt_l t (λ fits. fsplit t $
+      fsplit t $ fpick t (λ vss. fsplit t $ feq_l t (λ all. fsplit t $
+      feq_l t (λ pointer. fsplit t $ fsplit t $ feq_l t (λ word. flt_l t (λ fits. fsplit t $
       peeks t heap.the_row (Is heap.the_row) (shows 𝓛 heap.the_row) a.alloc vss.1.1.0 (λ is. drop t $ drop t $
       in_a_block t a.ptr (λ p. slots_owned (R E) a.alloc p a.places) (id⊢ 𝓤 (never 𝓤)) (λ b o at.
       rewrite t 0 (λ (ps : List (Option (el_x E))). ‵ (slots_owned (R E) a.alloc (block_ptr b o) ps)) same refl $
       fsplit t $ flt_l t (λ reach. fsplit t $
       then a.alloc b o a.capacity (record { capacity = x.1.1 ∙ ap length same; word = fits; reach = reach })
-      (all ∙ ((λ i. vstruct (of_list (pointer i ++ (word i ++ (heap_Tells a.alloc vss.1.1.0 is i ++ [])))) ∷ []) ∙ ap (λ (p : Ptr). words_val p a.capacity ∷ []) at)))))))))))
+      (all ∙ ((λ i. vstruct (of_list (pointer i ++ (word i ++ (heap_Tells a.alloc vss.1.1.0 is i ++ [])))) ∷ [])
+      ∙ ap (λ (p : Ptr). words_val p a.capacity ∷ []) at)))))))))))
 
   -- takes [the places; the right]
   pub slots_made : K → (g : Global) (r : Seen E) (b o n : ℕ) → Fits E r o n
       → Step K 𝓛 (‵ ((Sr E).own_val r (slots_val b o n ∷ [])) ∷ Γ) G (‵ (places E r b o) ∷ ‵ (right E g r b o) ∷ Γ) G
   slots_made t g r b o n ok = step (λ s.
-      let a : Inside (el_x E) = record { ptr = block_ptr b o; capacity = n; alloc = g; places = r.places; steps = r.steps } in
+      let a : Inside (el_x E) = record {
+        ptr = block_ptr b o;
+        capacity = n;
+        alloc = g;
+        places = r.places;
+        steps = r.steps;
+      } in
       let vs : List Val = slots_val b o n ∷ [] in
       fjoin t $ flt_i t (length r.places * item_size E + o) (2 ^ 63) ok.reach $ fjoin t $
       nothing t $ use0 𝓛 (‵ (heap.the_row.own_val g (heap_val ∷ []))) (heap_made 𝓛 g) $ fjoin t $
       flt_i t n (2 ^ 64) ok.word $ feq_i t (List Val) (vint w64 n ∷ []) (vint w64 n ∷ []) refl $ fjoin t $ fjoin t $
       feq_i t (List Val) (vptr b o ∷ []) (vptr b o ∷ []) refl $ fjoin t $ feq_i t (List Val) vs vs refl $ fjoin t $
-      fpack t (Valss (shape (owning E)).fields) (within (shape (owning E)) (block_ptr b o, (n, (heap.the_type.to g, tt))) vs) (vptr b o ∷ [], (vint w64 n ∷ [], (heap_val ∷ [], tt))) $ fjoin t $
+      fpack t (Valss (shape (owning E)).fields)
+      (within (shape (owning E)) (block_ptr b o, (n, (heap.the_type.to g, tt))) vs)
+      (vptr b o ∷ [], (vint w64 n ∷ [], (heap_val ∷ [], tt))) $ fjoin t $
       nothing t $ move t (1 ∷ 0 ∷ []) $ fjoin t $
-      fpack t ((x : Inside (el_x E)) × ((record { places = x.places; steps = x.steps } ≡ r) × (x.capacity ≡ length x.places))) (λ x. fsep ((inside.the_row (R E)).own_val x.0 vs) ftrue) (a, (refl, ok.capacity)) $ s)
+      fpack t ((x : Inside (el_x E)) × ((record { places = x.places; steps = x.steps } ≡ r) × (x.capacity
+      ≡ length x.places))) (λ x. fsep ((inside.the_row (R E)).own_val x.0 vs) ftrue) (a, (refl, ok.capacity)) $ s)
 
   -- other places in the stead of those of r, as many: takes [the new places; the right of r]
   slots_remade : K → (g : Global) (r new : Seen E) (b o n : ℕ) → Fits E r o n → length r.places ≡ length new.places
-      → Step K 𝓛 (‵ ((Sr E).own_val new (slots_val b o n ∷ [])) ∷ Γ) G (‵ (places E new b o) ∷ ‵ (right E g r b o) ∷ Γ) G
-  slots_remade t g r new b o n ok same = step (λ s. move t (1 ∷ []) $ rewrite t 0 (λ (k : ℕ). ‵ (right_to_free (R E) g k (block_ptr b o))) same refl $ move t (1 ∷ 0 ∷ []) $ slots_made t g new b o n (Fits-as E ok new same) $ s)
+      → Step K 𝓛 (‵ ((Sr E).own_val new (slots_val b o n ∷ [])) ∷ Γ) G
+      (‵ (places E new b o) ∷ ‵ (right E g r b o) ∷ Γ) G
+  slots_remade t g r new b o n ok same =
+      step (λ s. move t (1 ∷ []) $ rewrite t 0 (λ (k : ℕ). ‵ (right_to_free (R E) g k (block_ptr b o))) same refl $
+      move t (1 ∷ 0 ∷ []) $ slots_made t g new b o n (Fits-as E ok new same) $ s)
 
 module _ (E : El) {M : Type 1} {𝓤 : Ura M} {𝓛 : Logic 𝓤} {K : Type 0} {Γ : List (Item 𝓤)} {G : Goal 𝓤 𝓛.H} where
   -- a `&mut` is opened: [the places; the right; the words; the open borrow, in three]
   pub slots_open : K → Soaks G → {κ : Lft} {q : Share} {γ : GName} (r : Seen E) (rb ro : ℕ)
       → ((g : Global) (b o n : ℕ) → Fits E r o n
-      → Seq K 𝓛 (‵ (places E r b o) ∷ ‵ (right E g r b o) ∷ ‵ (cell_at full_share (Sr E).mir (slots_val b o n ∷ []) rb ro)
-      ∷ ‵ (fobor κ q (Borrowed (mem (Sr E)) rb ro γ)) ∷ ‵ (fobs γ ((Sr E).coded.code r)) ∷ ‵ (fauth γ ((Sr E).coded.code r)) ∷ Γ) G)
+      → Seq K 𝓛 (‵ (places E r b o) ∷ ‵ (right E g r b o)
+      ∷ ‵ (cell_at full_share (Sr E).mir (slots_val b o n ∷ []) rb ro)
+      ∷ ‵ (fobor κ q (Borrowed (mem (Sr E)) rb ro γ)) ∷ ‵ (fobs γ ((Sr E).coded.code r))
+      ∷ ‵ (fauth γ ((Sr E).coded.code r)) ∷ Γ) G)
       → Seq K 𝓛 (‵ (fobs γ ((Sr E).coded.code r)) ∷ ‵ (fbor κ (Borrowed (mem (Sr E)) rb ro γ)) ∷ ‵ (flft κ q) ∷ Γ) G
   slots_open t z r rb ro then =
       opens t z (Sr E) {h = r} rb ro (λ vs. move t (1 ∷ []) $ slots_apart E t r vs (λ g b o n ok is.
       rewrite t 2 (λ (ws : List Val). ‵ (cell_at full_share (Sr E).mir ws rb ro)) is refl $ then g b o n ok))
 
   -- and closed with other places in the stead of those of r, as many
-  pub slots_close : K → Soaks G → {κ : Lft} {q : Share} {u v : Gv} {γ : GName} (g : Global) (r new : Seen E) (b o n rb ro : ℕ) → Fits E r o n → length r.places ≡ length new.places
+  pub slots_close : K → Soaks G → {κ : Lft} {q : Share} {u v : Gv} {γ : GName} (g : Global) (r new : Seen E)
+      (b o n rb ro : ℕ) → Fits E r o n → length r.places ≡ length new.places
       → Step K 𝓛 (‵ (fobs γ ((Sr E).coded.code new)) ∷ ‵ (fbor κ (Borrowed (mem (Sr E)) rb ro γ)) ∷ ‵ (flft κ q) ∷ Γ) G
-      (‵ (places E new b o) ∷ ‵ (right E g r b o) ∷ ‵ (cell_at full_share (Sr E).mir (slots_val b o n ∷ []) rb ro) ∷ ‵ (fobor κ q (Borrowed (mem (Sr E)) rb ro γ)) ∷ ‵ (fobs γ u) ∷ ‵ (fauth γ v) ∷ Γ) G
-  slots_close t z g r new b o n rb ro ok same = step (λ s. slots_remade E t g r new b o n ok same $ move t (1 ∷ 0 ∷ []) $ closes t z (Sr E) new (slots_val b o n ∷ []) rb ro $ s)
+      (‵ (places E new b o) ∷ ‵ (right E g r b o) ∷ ‵ (cell_at full_share (Sr E).mir (slots_val b o n ∷ []) rb ro)
+      ∷ ‵ (fobor κ q (Borrowed (mem (Sr E)) rb ro γ)) ∷ ‵ (fobs γ u) ∷ ‵ (fauth γ v) ∷ Γ) G
+  slots_close t z g r new b o n rb ro ok same = step (λ s. slots_remade E t g r new b o n ok same $
+      move t (1 ∷ 0 ∷ []) $ closes t z (Sr E) new (slots_val b o n ∷ []) rb ro $ s)
 
 -- what a region owns but for its places, while it lies open
 module _ (E : El) {M : Type 1} {𝓤 : Ura M} (𝓛 : Logic 𝓤) (rb ro : ℕ) (g : Global) (r : Seen E) (b o n : ℕ) where
   abbrev pub Frame : Fml
   Frame = fsep (right E g r b o) (cell_at full_share (Sr E).mir (slots_val b o n ∷ []) rb ro)
 
-  pub slots_whole : Fits E r o n → (new : Seen E) → length r.places ≡ length new.places → ent 𝓤 (sep 𝓤 (sem 𝓛 (places E new b o)) (sem 𝓛 Frame)) (sem 𝓛 ((mem (Sr E)).own_at new rb ro))
+  pub slots_whole : Fits E r o n → (new : Seen E) → length r.places ≡ length new.places
+      → ent 𝓤 (sep 𝓤 (sem 𝓛 (places E new b o)) (sem 𝓛 Frame)) (sem 𝓛 ((mem (Sr E)).own_at new rb ro))
   unfolding part_of
   slots_whole ok new same =
-      qed 𝓛 (‵ (places E new b o) ∷ ‵ Frame ∷ []) ∵ move ! (1 ∷ []) $ fsplit ! $ move ! (2 ∷ 0 ∷ []) $ slots_remade E ! g r new b o n ok same $ move ! (1 ∷ 0 ∷ []) $ fjoin ! $
-      fpack ! (List Val) (λ vs. fsep (cell_at full_share (Sr E).mir vs rb ro) ((Sr E).own_val new vs)) (slots_val b o n ∷ []) $ done !
+      qed 𝓛 (‵ (places E new b o) ∷ ‵ Frame ∷ []) ∵ move ! (1 ∷ []) $ fsplit ! $ move ! (2 ∷ 0 ∷ []) $
+      slots_remade E ! g r new b o n ok same $ move ! (1 ∷ 0 ∷ []) $ fjoin ! $
+      fpack ! (List Val) (λ vs. fsep (cell_at full_share (Sr E).mir vs rb ro) ((Sr E).own_val new vs))
+      (slots_val b o n ∷ []) $ done !

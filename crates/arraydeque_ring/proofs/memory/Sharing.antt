@@ -4,8 +4,18 @@ use Rattle.std.specs.{Prelude.{List, [], ◌∷◌, length, Option, Some, None},
 use seplogic.Ra.Ura.{Ura}
 use base.Fml.{Lft, Incl, ftrue, ffalse, fsep}
 use types.Logic.{Logic}
-use denote.{RattleType.{RattleType, RowLaws}, Param.Laws.Laws, RawPtr.{Ptr, block_ptr, null_ptr}, Sharing.{ShrLaws, said}, SharingLaws.{beside_shr_laws, nothing_shr_laws, said_shr_laws}, Shares.{Shares-less}, Struct.Lending.{Lends, Lends-both, Lends-first, Lends-nothing, Lends-said, Lends-false}}
-use Rattle.arraydeque_ring.specs.Ownership.{place_owned, places_owned, place_lent, places_lent, within_reach, right_to_free, slots_owned, slots_lent}
+use denote.{
+  RattleType.{RattleType, RowLaws},
+  Param.Laws.Laws,
+  RawPtr.{Ptr, block_ptr, null_ptr},
+  Sharing.{ShrLaws, said},
+  SharingLaws.{beside_shr_laws, nothing_shr_laws, said_shr_laws},
+  Shares.{Shares-less},
+  Struct.Lending.{Lends, Lends-both, Lends-first, Lends-nothing, Lends-said, Lends-false},
+}
+use Rattle.arraydeque_ring.specs.{
+  Ownership.{place_owned, places_owned, place_lent, places_lent, within_reach, right_to_free, slots_owned, slots_lent},
+}
 
 module _ (R : RattleType) (L : RowLaws R) where
   place_shr_laws : (b o : ℕ) (p : Option R.Denot) → ShrLaws (place_lent R b o p)
@@ -17,7 +27,8 @@ module _ (R : RattleType) (L : RowLaws R) where
   places_shr_laws b o (p ∷ ps) = beside_shr_laws _ _ (place_shr_laws b o p) (places_shr_laws b (o + type_size R) ps)
 
   pub slots_shr_laws : (at : Ptr) (ps : List (Option R.Denot)) → ShrLaws (slots_lent R at ps)
-  slots_shr_laws (block_ptr b o) ps = beside_shr_laws _ _ (said_shr_laws (within_reach R o ps) tt) (places_shr_laws b o ps)
+  slots_shr_laws (block_ptr b o) ps =
+      beside_shr_laws _ _ (said_shr_laws (within_reach R o ps) tt) (places_shr_laws b o ps)
   slots_shr_laws null_ptr ps = said_shr_laws ffalse tt
 
 module _ {M : Type 1} {𝓤 : Ura M} (𝓛 : Logic 𝓤) (l : Lft) (R : RattleType) (L : Laws R) (lives : Incl l R.lives) where
@@ -29,12 +40,15 @@ module _ {M : Type 1} {𝓤 : Ura M} (𝓛 : Logic 𝓤) (l : Lft) (R : RattleTy
   Lends-places b o [] = Lends-nothing 𝓛 ftrue l
   Lends-places b o (p ∷ ps) =
       let on = o + type_size R in
-      Lends-both 𝓛 (place_owned R b o p) (places_owned R b on ps) (place_lent R b o p) (places_lent R b on ps) l (Lends-place b o p) (Lends-places b on ps)
+      Lends-both 𝓛 (place_owned R b o p) (places_owned R b on ps) (place_lent R b o p)
+      (places_lent R b on ps) l (Lends-place b o p) (Lends-places b on ps)
 
-  pub Lends-slots : (alloc : Global) (at : Ptr) (ps : List (Option R.Denot)) → Lends 𝓛 (slots_owned R alloc at ps) (slots_lent R at ps) l
+  pub Lends-slots : (alloc : Global) (at : Ptr) (ps : List (Option R.Denot))
+      → Lends 𝓛 (slots_owned R alloc at ps) (slots_lent R at ps) l
   Lends-slots alloc (block_ptr b o) ps =
       let reach = within_reach R o ps in
       let free = right_to_free R alloc (length ps) (block_ptr b o) in
-      Lends-both 𝓛 reach (fsep (places_owned R b o ps) free) (said reach) (places_lent R b o ps) l (Lends-said 𝓛 reach tt l)
+      Lends-both 𝓛 reach (fsep (places_owned R b o ps) free) (said reach)
+      (places_lent R b o ps) l (Lends-said 𝓛 reach tt l)
       (Lends-first 𝓛 (places_owned R b o ps) free (places_lent R b o ps) l (Lends-places b o ps))
   Lends-slots alloc null_ptr ps = Lends-false 𝓛 (said ffalse) l

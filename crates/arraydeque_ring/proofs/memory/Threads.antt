@@ -1,7 +1,22 @@
 -- A region may cross threads as its items may. Assumes nothing.
-use Rattle.std.{specs.{Prelude.{ℕ, ◌+◌, ◌*◌, List, [], ◌∷◌, length, Option, Some, None, Bool, true, false, nat_lt}, Mem.type_size, declared.alloc.Global.Global}, proofs.Crossing.frees}
+use Rattle.std.{
+  specs.{
+    Prelude.{ℕ, ◌+◌, ◌*◌, List, [], ◌∷◌, length, Option, Some, None, Bool, true, false, nat_lt},
+    Mem.type_size,
+    declared.alloc.Global.Global,
+  },
+  proofs.Crossing.frees,
+}
 use base.{Fraction.full_share, Fml.Fml, Shift.Keyless}
-use denote.{Exit.{Exit, unchanged, leaves, hidden, under}, RattleType.RattleType, RawPtr.{Ptr, block_ptr, null_ptr}, Ref.NamedLft, Struct.{Struct.exits_of, Owning.{shape, fields, to}}, Param.Send.{IsSend, IsSync, Quiet, Common, AllSend, AllSync, part_keyless, owning_send, struct_send, struct_sync, sendable}}
+use denote.{
+  Exit.{Exit, unchanged, leaves, hidden, under},
+  RattleType.RattleType,
+  RawPtr.{Ptr, block_ptr, null_ptr},
+  Ref.NamedLft,
+  Struct.{Struct.exits_of, Owning.{shape, fields, to}},
+  Param.Send.{IsSend, IsSync, Quiet, Common, AllSend, AllSync, part_keyless, owning_send, struct_send, struct_sync},
+  Param.Send.{sendable},
+}
 use Rattle.arraydeque_ring.specs.Ownership.{owned_if, places_owned, places_lent, right_to_free, slots_owned, slots_lent}
 use Rattle.arraydeque_ring.specs.contracts.slots.loan.LoanName as loan_name
 use Rattle.arraydeque_ring.specs.contracts.slots.Slots.TheInside as inside
@@ -28,8 +43,10 @@ module _ (R : RattleType) where
   right-Keyless alloc n p = owned_if-Keyless (nat_lt 0 (n * type_size R)) _ (frees.frees alloc _ p)
 
   -- a region owns what its values own, and what any thread may use
-  slots-Keyless : IsSend R → (alloc : Global) (p : Ptr) (ps : List (Option R.Denot)) → Keyless (slots_owned R alloc p ps)
-  slots-Keyless s alloc (block_ptr b o) ps = (tt, (places-Keyless s b o ps, right-Keyless alloc (length ps) (block_ptr b o)))
+  slots-Keyless : IsSend R → (alloc : Global) (p : Ptr) (ps : List (Option R.Denot))
+      → Keyless (slots_owned R alloc p ps)
+  slots-Keyless s alloc (block_ptr b o) ps =
+      (tt, (places-Keyless s b o ps, right-Keyless alloc (length ps) (block_ptr b o)))
   slots-Keyless s alloc null_ptr ps = tt
 
   -- what is shown of the places is what is shown of their values
@@ -48,14 +65,17 @@ module _ (R : RattleType) where
   Slots-send s =
       let O = inside.the_type R in
       let all : AllSend (fields O) = search sendable depth 20 in
-      owning_send O all (λ d. slots-Keyless s d.alloc d.ptr d.places) (λ k. quiet (to O) (exits_of k (fields O)) ((struct_send (shape O) all).leaving k))
+      owning_send O all (λ d. slots-Keyless s d.alloc d.ptr d.places)
+      (λ k. quiet (to O) (exits_of k (fields O)) ((struct_send (shape O) all).leaving k))
 
   -- the fields are `Sync`, and what a `&` shows beside them names no thread
   pub Slots-sync : IsSync R → IsSync (inside.the_row R)
   Slots-sync y =
       let O = inside.the_type R in
       let all : AllSync (fields O) = search sendable depth 20 in
-      record { shared = λ d b o κ. ((struct_sync (shape O) all).shared (to O d) b o κ, slots_lent-Common y d.ptr d.places κ) }
+      record {
+        shared = λ d b o κ. ((struct_sync (shape O) all).shared (to O d) b o κ, slots_lent-Common y d.ptr d.places κ);
+      }
 
 -- the name of a loan names no thread
 pub LoanName-send : (κ : NamedLft) (R : RattleType) → IsSend (loan_name.the_row κ R)

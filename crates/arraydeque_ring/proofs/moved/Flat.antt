@@ -1,9 +1,21 @@
 -- Runs that move where neither side passes the region's end.
-use Rattle.std.proofs.{Common.{◌≡◌, ℕ, ◌+◌, ◌-◌, ◌<◌, ◌≤◌, List, ◌++◌, length, take, drop, get_or, nat_lt, if◌then◌else◌, Option, None, refl, sym, ap, ap₂, ◌∙◌, arith}, Math.Nat.{mod-eq_of_lt}, lemmas.{Bool.Decides.nat_tests, List.{places, FromFn.{fill_by_all, length-map-range_with_len, get_or-map-range_with_len}}}}
-use Rattle.arraydeque_ring.{specs.{Places.Region, Steps.Steps, Gaps.run_emptied, Ring.place_of, Moved.{distance, held_after, run_moved}}, proofs.places.Rotated.{place_of_cases, place_of-lt}}
+use Rattle.std.proofs.{
+  Common.{◌≡◌, ℕ, ◌+◌, ◌-◌, ◌<◌, ◌≤◌, List, ◌++◌, length, take, drop, get_or, nat_lt, if◌then◌else◌, Option, None},
+  Common.{refl, sym, ap, ap₂, ◌∙◌, arith},
+  Math.Nat.{mod-eq_of_lt},
+  lemmas.{
+    Bool.Decides.nat_tests,
+    List.{places, FromFn.{fill_by_all, length-map-range_with_len, get_or-map-range_with_len}},
+  },
+}
+use Rattle.arraydeque_ring.{
+  specs.{Places.Region, Steps.Steps, Gaps.run_emptied, Ring.place_of, Moved.{distance, held_after, run_moved}},
+  proofs.places.Rotated.{place_of_cases, place_of-lt},
+}
 
 -- the distance between two places, of which the first may be the end
-pub distance_is : (from to n : ℕ) → from ≤ n → to < n → distance from to n ≡ (if nat_lt to from then to + n - from else to - from)
+pub distance_is : (from to n : ℕ) → from ≤ n → to < n
+    → distance from to n ≡ (if nat_lt to from then to + n - from else to - from)
 distance_is from to n a b = grind (arith, nat_tests, place_of_cases to (n - from) n (omega arith))
 
 -- to go up from src by the distance to dst is to come there
@@ -17,22 +29,29 @@ module _ {X : Type 0} where
   length-moved dst src len ps = length-map-range_with_len (held_after dst src len ps) 0 (length ps)
 
   -- what a place holds after a move
-  pub moved_at : (dst src len : ℕ) (ps : List (Option X)) (x : ℕ) → x < length ps → get_or (run_moved dst src len ps) x None ≡ held_after dst src len ps x
-  moved_at dst src len ps x lt = get_or-map-range_with_len (held_after dst src len ps) 0 (length ps) x x None lt (omega arith)
+  pub moved_at : (dst src len : ℕ) (ps : List (Option X)) (x : ℕ) → x < length ps
+      → get_or (run_moved dst src len ps) x None ≡ held_after dst src len ps x
+  moved_at dst src len ps x lt =
+      get_or-map-range_with_len (held_after dst src len ps) 0 (length ps) x x None lt (omega arith)
 
   -- two lists of places are one where each place holds the same
-  pub same_places : (ps qs : List (Option X)) → length ps ≡ length qs → ((x : ℕ) → x < length qs → get_or ps x None ≡ get_or qs x None) → ps ≡ qs
+  pub same_places : (ps qs : List (Option X)) → length ps ≡ length qs
+      → ((x : ℕ) → x < length qs → get_or ps x None ≡ get_or qs x None) → ps ≡ qs
   same_places ps qs long same =
-      fill_by_all (λ x. get_or qs x None) ps (length qs) None long same ∙ sym (fill_by_all (λ x. get_or qs x None) qs (length qs) None refl (λ x lt. refl))
+      fill_by_all (λ x. get_or qs x None) ps (length qs) None long same
+      ∙ sym (fill_by_all (λ x. get_or qs x None) qs (length qs) None refl (λ x lt. refl))
 
   abbrev pub other : (ℕ → Option X) → ℕ → ℕ → ℕ → Option X
   other f j len x = if nat_lt x j then f x else (if nat_lt x (j + len) then None else f x)
 
-  -- what stands at the index x once the len values from j on have moved to those from i on, where f says what stood there
+  -- what stands at the index x once the len values from j on have moved to those from i on,
+  -- where f says what stood there
   abbrev pub look : (ℕ → Option X) → ℕ → ℕ → ℕ → ℕ → Option X
-  look f i j len x = if nat_lt x i then other f j len x else (if nat_lt x (i + len) then f (j + (x - i)) else other f j len x)
+  look f i j len x =
+      if nat_lt x i then other f j len x else (if nat_lt x (i + len) then f (j + (x - i)) else other f j len x)
 
-  flat_at : (i j len : ℕ) (ps : List (Option X)) (x : ℕ) → i + len ≤ length ps → j + len ≤ length ps → x < length ps → get_or (run_moved i j len ps) x None ≡ look (λ y. get_or ps y None) i j len x
+  flat_at : (i j len : ℕ) (ps : List (Option X)) (x : ℕ) → i + len ≤ length ps → j + len ≤ length ps → x < length ps
+      → get_or (run_moved i j len ps) x None ≡ look (λ y. get_or ps y None) i j len x
   flat_at i j len ps x a b lt =
       let n = length ps in
       let d = distance_is i x n (omega arith) lt in
@@ -41,18 +60,23 @@ module _ {X : Type 0} where
 
   -- the source emptied, and its values written over the target
   pub moved_parts : (ps : List (Option X)) (dst src len : ℕ) → src + len ≤ length ps → dst + len ≤ length ps
-      → (let es = run_emptied src len ps in take dst es ++ (take len (drop src ps) ++ drop (dst + len) es)) ≡ run_moved dst src len ps
+      → (let es = run_emptied src len ps in
+      take dst es ++ (take len (drop src ps) ++ drop (dst + len) es)) ≡ run_moved dst src len ps
   moved_parts ps dst src len a b =
       let es = run_emptied src len ps in
       let long : length es ≡ length ps = grind (arith, places) in
       same_places _ _ (grind (arith, places, length-moved dst src len ps)) (λ x lt.
       let in_it : x < length ps = omega (arith, length-moved dst src len ps) in
-      let held : (y : ℕ) → get_or es y None ≡ other (λ z. get_or ps z None) src len y = λ y. grind (arith, nat_tests, places) in
+      let held : (y : ℕ) → get_or es y None ≡ other (λ z. get_or ps z None) src len y =
+      λ y. grind (arith, nat_tests, places) in
       grind (arith, nat_tests, places, held x) ∙ sym (flat_at dst src len ps x b a in_it))
 
   -- where no value moves, or all of a run have, nothing is left to move
   pub moved_none : (dst src : ℕ) (ps : List (Option X)) → run_moved dst src 0 ps ≡ ps
-  moved_none dst src ps = same_places _ _ (length-moved dst src 0 ps) (λ x lt. moved_at dst src 0 ps x lt ∙ grind (arith, nat_tests))
+  moved_none dst src ps =
+      same_places _ _ (length-moved dst src 0 ps) (λ x lt. moved_at dst src 0 ps x lt ∙ grind (arith, nat_tests))
 
-  pub all_moved : (dst src len : ℕ) (now : Region X) {whole : List (Option X)} {steps : Steps} → len ≡ 0 → run_moved dst src len now.places ≡ whole → now.steps ≡ steps → now ≡ record { places = whole; steps = steps }
-  all_moved dst src len now none is same = ap₂ (λ ps s. record { places = ps; steps = s }) (sym (ap (λ l. run_moved dst src l now.places) none ∙ moved_none dst src now.places) ∙ is) same
+  pub all_moved : (dst src len : ℕ) (now : Region X) {whole : List (Option X)} {steps : Steps} → len ≡ 0
+      → run_moved dst src len now.places ≡ whole → now.steps ≡ steps → now ≡ record { places = whole; steps = steps }
+  all_moved dst src len now none is same = ap₂ (λ ps s. record { places = ps; steps = s })
+      (sym (ap (λ l. run_moved dst src l now.places) none ∙ moved_none dst src now.places) ∙ is) same

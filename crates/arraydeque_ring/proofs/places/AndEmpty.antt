@@ -1,5 +1,9 @@
 -- A list of places that begins with items and goes on with nothing.
-use Rattle.std.proofs.{Common.{◌≡◌, ℕ, zero, suc, ◌+◌, List, [], ◌∷◌, ◌++◌, map, length, drop, get_or, replicate, slice_get, Option, Some, None, true, false, refl, sym, ap, ◌∙◌, arith}, lemmas.List.{length-append, length-map, length-replicate, append-nil, nil_from_length}}
+use Rattle.std.proofs.{
+  Common.{◌≡◌, ℕ, zero, suc, ◌+◌, List, [], ◌∷◌, ◌++◌, map, length, drop, get_or, replicate, slice_get, Option, Some},
+  Common.{None, true, false, refl, sym, ap, ◌∙◌, arith},
+  lemmas.List.{length-append, length-map, length-replicate, append-nil, nil_from_length},
+}
 use Rattle.arraydeque_ring.specs.Ring.{values, filled}
 
 module _ {X : Type 0} where
@@ -8,7 +12,12 @@ module _ {X : Type 0} where
   and_empty xs k = map Some xs ++ replicate k None
 
   pub length-and_empty : (xs : List X) (k : ℕ) → length (and_empty xs k) ≡ length xs + k
-  length-and_empty xs k = omega (arith, length-append (map Some xs) (replicate k None), length-map xs Some, length-replicate {A = Option X} k None)
+  length-and_empty xs k = omega (
+    arith,
+    length-append (map Some xs) (replicate k None),
+    length-map xs Some,
+    length-replicate {A = Option X} k None,
+  )
 
   pub get_or-and_empty : (xs : List X) (k i : ℕ) → get_or (and_empty xs k) i None ≡ slice_get xs i
   get_or-and_empty [] zero i = refl
@@ -25,22 +34,27 @@ module _ {X : Type 0} where
   pub values-map_Some : (xs : List X) → values (map Some xs) ≡ xs
   values-map_Some xs = ap values (sym (append-nil (map Some xs))) ∙ values-and_empty xs 0
 
-  pub filled-and_empty : (xs : List X) (k : ℕ) → filled (and_empty xs k) ≡ replicate (length xs) true ++ replicate k false
+  pub filled-and_empty : (xs : List X) (k : ℕ)
+      → filled (and_empty xs k) ≡ replicate (length xs) true ++ replicate k false
   filled-and_empty [] zero = refl
   filled-and_empty [] (suc k) = ap (λ l. false ∷ l) (filled-and_empty [] k)
   filled-and_empty (x ∷ xs) k = ap (λ l. true ∷ l) (filled-and_empty xs k)
 
   -- places of which the first n are filled, and no others
-  pub and_empty_from : (ps : List (Option X)) (n k : ℕ) → filled ps ≡ replicate n true ++ replicate k false → (ps ≡ and_empty (values ps) k) × (length (values ps) ≡ n)
+  pub and_empty_from : (ps : List (Option X)) (n k : ℕ) → filled ps ≡ replicate n true ++ replicate k false
+      → (ps ≡ and_empty (values ps) k) × (length (values ps) ≡ n)
   and_empty_from [] zero zero e = (refl, refl)
   and_empty_from [] zero (suc k) e = absurd (let l = ap length e in omega arith)
   and_empty_from [] (suc n) k e = absurd (let l = ap length e in omega arith)
   and_empty_from (None ∷ ps) zero zero e = absurd (let l = ap length e in omega arith)
   and_empty_from (None ∷ ps) zero (suc k) e =
       let rest = and_empty_from ps zero k (ap (drop 1) e) in
-      let nothing = nil_from_length (values ps) rest.1 in
-      (ap (λ l. None ∷ l) (rest.0 ∙ ap (λ l. and_empty l k) nothing) ∙ ap (λ l. and_empty l (suc k)) (sym nothing), rest.1)
+      let nothing = nil_from_length (values ps) rest.1 in (
+        ap (λ l. None ∷ l) (rest.0 ∙ ap (λ l. and_empty l k) nothing) ∙ ap (λ l. and_empty l (suc k)) (sym nothing),
+        rest.1,
+      )
   and_empty_from (None ∷ ps) (suc n) k e = absurd (let l : false ≡ true = ap (λ l. get_or l 0 true) e in cc)
   and_empty_from (Some x ∷ ps) zero zero e = absurd (let l = ap length e in omega arith)
   and_empty_from (Some x ∷ ps) zero (suc k) e = absurd (let l : true ≡ false = ap (λ l. get_or l 0 true) e in cc)
-  and_empty_from (Some x ∷ ps) (suc n) k e = let rest = and_empty_from ps n k (ap (drop 1) e) in (ap (λ l. Some x ∷ l) rest.0, ap suc rest.1)
+  and_empty_from (Some x ∷ ps) (suc n) k e = let rest = and_empty_from ps n k (ap (drop 1) e) in
+      (ap (λ l. Some x ∷ l) rest.0, ap suc rest.1)

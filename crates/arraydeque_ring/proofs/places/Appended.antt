@@ -1,6 +1,28 @@
 -- Items that are laid behind a list, in one run of places.
-use Rattle.std.proofs.{Common.{◌≡◌, ℕ, ◌+◌, ◌-◌, ◌≤◌, List, ◌++◌, length, take, drop, get_or, slice_get, nat_lt, if◌then◌else◌, Option, Some, None, sym, ap, ◌∙◌, arith}, lemmas.{Bool.Decides.nat_tests, Grind.common_steps, List.{length-append, length-map, append_assoc, drop-drop}, Option.slice_get_past}, Math.Seq.take-add}
-use Rattle.arraydeque_ring.{specs.{Gaps.IsEmptyRun, Loans.with_run, Places.held_at, Ring.{RingState, up_by}, Steps.{more_puts, more_takes}}, proofs.{fills.Displaced.up_by-both, loans.Placed.length-with_run, places.{Items.{items, get_or-map_Some}, Held.empty_run_of, LaidOut.{LaidOut, LaidOut-by}, Rotated.{MayStartAt, place_of_cases, place_of-run}}}}
+use Rattle.std.proofs.{
+  Common.{◌≡◌, ℕ, ◌+◌, ◌-◌, ◌≤◌, List, ◌++◌, length, take, drop, get_or, slice_get, nat_lt, if◌then◌else◌, Option},
+  Common.{Some, None, sym, ap, ◌∙◌, arith},
+  lemmas.{
+    Bool.Decides.nat_tests,
+    Grind.common_steps,
+    List.{length-append, length-map, append_assoc, drop-drop},
+    Option.slice_get_past,
+  },
+  Math.Seq.take-add,
+}
+use Rattle.arraydeque_ring.{
+  specs.{Gaps.IsEmptyRun, Loans.with_run, Places.held_at, Ring.{RingState, up_by}, Steps.{more_puts, more_takes}},
+  proofs.{
+    fills.Displaced.up_by-both,
+    loans.Placed.length-with_run,
+    places.{
+      Items.{items, get_or-map_Some},
+      Held.empty_run_of,
+      LaidOut.{LaidOut, LaidOut-by},
+      Rotated.{MayStartAt, place_of_cases, place_of-run},
+    },
+  },
+}
 
 module _ {X : Type 0} where
   -- what a place holds once a run is written: the run's value, or what it held

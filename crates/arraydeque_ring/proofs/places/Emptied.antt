@@ -1,5 +1,13 @@
 -- A run of places that is emptied, one place after another.
-use Rattle.std.proofs.{Common.{◌≡◌, ℕ, ◌+◌, ◌<◌, ◌≤◌, ◌==◌, inl, inr, List, [], ◌∷◌, ◌++◌, length, set, get_or, nat_lt, if◌then◌else◌, Option, Some, None, refl, sym, ap, ◌∙◌, arith}, lemmas.{Bool.{cases_eq, eq-eqb, ne_eqb, Decides.nat_tests}, Grind.common_steps, List.{length-set, get_or-set_same, get_or-set_other}}}
+use Rattle.std.proofs.{
+  Common.{◌≡◌, ℕ, ◌+◌, ◌<◌, ◌≤◌, ◌==◌, inl, inr, List, [], ◌∷◌, ◌++◌, length, set, get_or, nat_lt, if◌then◌else◌},
+  Common.{Option, Some, None, refl, sym, ap, ◌∙◌, arith},
+  lemmas.{
+    Bool.{cases_eq, eq-eqb, ne_eqb, Decides.nat_tests},
+    Grind.common_steps,
+    List.{length-set, get_or-set_same, get_or-set_other},
+  },
+}
 use Rattle.arraydeque_ring.{specs.{Ring.values, Gaps.run_emptied}, proofs.moved.Flat.same_places}
 
 module _ {X : Type 0} where
@@ -9,7 +17,8 @@ module _ {X : Type 0} where
   values-append (Some x ∷ ps) qs = ap (λ l. x ∷ l) (values-append ps qs)
 
   -- what a place holds once c is written to the place i
-  pub get_or-written : (ps : List (Option X)) (i x : ℕ) (c : Option X) → i < length ps → get_or (set ps i c) x None ≡ (if x == i then c else get_or ps x None)
+  pub get_or-written : (ps : List (Option X)) (i x : ℕ) (c : Option X) → i < length ps
+      → get_or (set ps i c) x None ≡ (if x == i then c else get_or ps x None)
   get_or-written ps i x c lt = elim (cases_eq x i) [
     | inl same ↦ rw (eq-eqb x i same, same) (get_or-set_same ps i c None lt)
     | inr other ↦ rw (ne_eqb x i other) (get_or-set_other ps i x c None other)
@@ -19,7 +28,8 @@ module _ {X : Type 0} where
     pub length-run_emptied : at + k ≤ length ps → length (run_emptied at k ps) ≡ length ps
     length-run_emptied le = grind (arith, common_steps)
 
-    pub get_or-run_emptied : (x : ℕ) → at + k ≤ length ps → get_or (run_emptied at k ps) x None ≡ (if nat_lt x at then get_or ps x None else (if nat_lt x (at + k) then None else get_or ps x None))
+    pub get_or-run_emptied : (x : ℕ) → at + k ≤ length ps → get_or (run_emptied at k ps) x None
+        ≡ (if nat_lt x at then get_or ps x None else (if nat_lt x (at + k) then None else get_or ps x None))
     get_or-run_emptied x le = grind (arith, nat_tests, common_steps)
 
   module _ (ps : List (Option X)) (at k i : ℕ) (here : at + k ≡ i) (lt : i < length ps) where
@@ -32,4 +42,5 @@ module _ {X : Type 0} where
         let long = length-run_emptied at k ps (omega arith) in
         let longer = length-run_emptied at (k + 1) ps (omega arith) in
         same_places _ _ (length-set (run_emptied at k ps) i None ∙ long ∙ sym longer)
-        (λ x x_in. get_or-written (run_emptied at k ps) i x None (omega (arith, long)) ∙ grind (arith, nat_tests, get_or-run_emptied at k ps x) ∙ sym (get_or-run_emptied at (k + 1) ps x (omega arith)))
+        (λ x x_in. get_or-written (run_emptied at k ps) i x None (omega (arith, long)) ∙ grind
+        (arith, nat_tests, get_or-run_emptied at k ps x) ∙ sym (get_or-run_emptied at (k + 1) ps x (omega arith)))

@@ -1,16 +1,48 @@
--- A run of values that is handed over to the first places of another region, in two parts where it goes round the region's end.
-use Rattle.std.{proofs.{Common.{◌≡◌, ℕ, ◌+◌, ◌-◌, ◌<◌, ◌≤◌, min, List, ◌++◌, map, length, take, drop, replicate, Option, Some, None, refl, sym, ap, ◌∙◌, arith, rules}, lemmas.{Bool.Decides.nat_tests, Grind.common_steps, List.{places, length-map, same_lists, take_at, drop_at, take-map, drop-map, drop-drop, append_assoc}}}, specs.declared.alloc.Global.Global}
-use Rattle.arraydeque_ring.{specs.{Gaps.{IsEmptyRun, run_emptied}, Places.{Region, held_at, IsFilledRun}, Ring.{RingState, rotated}, Steps.{no_steps, more_puts}, declared.ring.Ring.TheInside.Inside}, proofs.places.{Emptied.length-run_emptied, Held.{empty_in_run, empty_run_of}, Items.{items, get_or-map_Some}, LaidOut.{HoldsRun-rotated}, Opened.Opened, Rotated.{place_of-first, MayStartAt, place_of_cases, length-rotated, get_or-rotated}}}
+-- A run of values that is handed over to the first places of another region,
+-- in two parts where it goes round the region's end.
+use Rattle.std.{
+  proofs.{
+    Common.{◌≡◌, ℕ, ◌+◌, ◌-◌, ◌<◌, ◌≤◌, min, List, ◌++◌, map, length, take, drop, replicate, Option, Some, None, refl},
+    Common.{sym, ap, ◌∙◌, arith, rules},
+    lemmas.{
+      Bool.Decides.nat_tests,
+      Grind.common_steps,
+      List.{places, length-map, same_lists, take_at, drop_at, take-map, drop-map, drop-drop, append_assoc},
+    },
+  },
+  specs.declared.alloc.Global.Global,
+}
+use Rattle.arraydeque_ring.{
+  specs.{
+    Gaps.{IsEmptyRun, run_emptied},
+    Places.{Region, held_at, IsFilledRun},
+    Ring.{RingState, rotated},
+    Steps.{no_steps, more_puts},
+    declared.ring.Ring.TheInside.Inside,
+  },
+  proofs.places.{
+    Emptied.length-run_emptied,
+    Held.{empty_in_run, empty_run_of},
+    Items.{items, get_or-map_Some},
+    LaidOut.{HoldsRun-rotated},
+    Opened.Opened,
+    Rotated.{place_of-first, MayStartAt, place_of_cases, length-rotated, get_or-rotated},
+  },
+}
 
--- the len values from the index `at` on can be handed over in two parts, the first of them as far as the region's end, and what that comes to
+-- the len values from the index `at` on can be handed over in two parts,
+-- the first of them as far as the region's end, and what that comes to
 pub record Handed {X : Type 0} (t at len place first : ℕ) (ps : List (Option X)) : Type 0 where
   pub here : IsFilledRun ps place first
   pub rest : IsFilledRun (run_emptied place first ps) 0 (len - first)
   pub many : length (take first (drop place ps)) ≡ first
   pub places : rotated t (run_emptied 0 (len - first) (run_emptied place first ps)) ≡ run_emptied at len (rotated t ps)
-  pub all : take first (drop place ps) ++ take (len - first) (run_emptied place first ps) ≡ take len (drop at (rotated t ps))
+  pub all : take first (drop place ps) ++ take (len - first)
+      (run_emptied place first ps) ≡ take len (drop at (rotated t ps))
 
-pub handed : {X : Type 0} (t at len n place first : ℕ) (ps : List (Option X)) → length ps ≡ n → t ≤ n - 1 → IsFilledRun (rotated t ps) at len → MayStartAt t at n place → place ≤ n → first ≡ min len (n - place) → Handed t at len place first ps
+pub handed : {X : Type 0} (t at len n place first : ℕ) (ps : List (Option X)) → length ps ≡ n → t ≤ n - 1
+    → IsFilledRun (rotated t ps) at len → MayStartAt t at n place → place ≤ n → first ≡ min len (n - place)
+    → Handed t at len place first ps
 handed t at len n place first ps long in_region run lies before_end cut =
     let ts = rotated t ps in
     let es = run_emptied place first ps in
@@ -26,11 +58,14 @@ handed t at len n place first ps long in_region run lies before_end cut =
     let same_rs : length rs ≡ n = length-run_emptied 0 r es (omega arith) ∙ same in
     let many : length firsts ≡ first = search (rules, places) in
     let all : length (firsts ++ others) ≡ len = search (rules, places) in
-    let joined : firsts ++ others ≡ take len (drop at ts) = same_lists (firsts ++ others) (take len (drop at ts)) (search (rules, places)) (λ j d lt.
+    let joined : firsts ++ others ≡ take len (drop at ts) =
+    same_lists (firsts ++ others) (take len (drop at ts)) (search (rules, places)) (λ j d lt.
     let on = get_or-rotated t (at + j) n ps d long (omega arith) (omega arith) in
     grind (arith, places, on, place_of_cases t (at + j) n (omega arith), lies)) in
-    let here : firsts ≡ map Some (take first zs) = sym (take_at firsts others first many) ∙ ap (take first) (joined ∙ run.1.1) ∙ take-map Some first zs in
-    let there : others ≡ map Some (drop first zs) = sym (drop_at firsts others first many) ∙ ap (drop first) (joined ∙ run.1.1) ∙ drop-map Some first zs in
+    let here : firsts ≡ map Some (take first zs) =
+    sym (take_at firsts others first many) ∙ ap (take first) (joined ∙ run.1.1) ∙ take-map Some first zs in
+    let there : others ≡ map Some (drop first zs) =
+    sym (drop_at firsts others first many) ∙ ap (drop first) (joined ∙ run.1.1) ∙ drop-map Some first zs in
     record {
       here = (end, (take first zs, here));
       rest = (omega arith, (drop first zs, there));
@@ -46,7 +81,8 @@ handed t at len n place first ps long in_region run lies before_end cut =
 -- where the first len places of a region are empty, both parts go there, one behind the other
 module _ {X : Type 0} (len first : ℕ) (qs : List (Option X)) (le : first ≤ len) (empty : IsEmptyRun qs 0 len) where
   pub first_empty : IsEmptyRun qs 0 first
-  first_empty = let all = empty.0 in empty_run_of qs 0 first (omega arith) (λ x from to. let was = empty_in_run qs 0 len x empty (omega arith) in grind (arith, common_steps))
+  first_empty = let all = empty.0 in empty_run_of qs 0 first (omega arith)
+      (λ x from to. let was = empty_in_run qs 0 len x empty (omega arith) in grind (arith, common_steps))
 
   module _ (firsts others : List (Option X)) (many : length firsts ≡ first) where
     abbrev put : List (Option X)
@@ -55,22 +91,35 @@ module _ {X : Type 0} (len first : ℕ) (qs : List (Option X)) (le : first ≤ l
     pub rest_empty : IsEmptyRun put first (len - first)
     rest_empty =
         let all = empty.0 in
-        empty_run_of put first (len - first) (grind (arith, common_steps)) (λ x from to. let was = empty_in_run qs 0 len x empty (omega arith) in grind (arith, common_steps))
+        empty_run_of put first (len - first) (grind (arith, common_steps))
+        (λ x from to. let was = empty_in_run qs 0 len x empty (omega arith) in grind (arith, common_steps))
 
     pub both_put : take first put ++ (others ++ drop (first + (len - first)) put) ≡ (firsts ++ others) ++ drop len qs
     both_put =
         let rest = len - first in
-        let behind : drop (first + rest) put ≡ drop len qs = sym (drop-drop rest first put) ∙ ap (drop rest) (drop_at firsts (drop (0 + first) qs) first many) ∙ drop-drop rest (0 + first) qs ∙ ap (λ k. drop k qs) (omega arith) in
+        let behind : drop (first + rest) put ≡ drop len qs =
+        sym (drop-drop rest first put) ∙ ap (drop rest) (drop_at firsts (drop (0 + first) qs) first many)
+        ∙ drop-drop rest (0 + first) qs ∙ ap (λ k. drop k qs) (omega arith) in
         rw (take_at firsts (drop (0 + first) qs) first many, behind) (sym (append_assoc firsts others (drop len qs)))
 
 -- in a new region the first places are empty
 pub all_empty : {X : Type 0} (len n : ℕ) → len ≤ n → IsEmptyRun {X = X} (replicate n None) 0 len
-all_empty len n le = empty_run_of (replicate n None) 0 len (grind (arith, common_steps)) (λ x from to. grind (arith, common_steps))
+all_empty len n le =
+    empty_run_of (replicate n None) 0 len (grind (arith, common_steps)) (λ x from to. grind (arith, common_steps))
 
 -- the len items from the index i on make a ring of their own, in a region that was empty
-pub ring_handed : {X : Type 0} {r : Inside X} {v : RingState X} (o : Opened r v) (i len n : ℕ) (slots : Region X) (alloc : Global) → i + len ≤ length v.items → len ≤ n
-    → slots ≡ record { places = take len (drop i (rotated r.start r.slots.places)) ++ drop len (replicate n None); steps = more_puts len no_steps }
-    → Opened record { slots = slots; start = 0; len = len; alloc = alloc } record { items = take len (drop i v.items); capacity = n; start = 0; steps = more_puts len no_steps }
+pub ring_handed : {X : Type 0} {r : Inside X} {v : RingState X} (o : Opened r v) (i len n : ℕ) (slots : Region X)
+    (alloc : Global) → i + len ≤ length v.items → len ≤ n
+    → slots ≡ record {
+      places = take len (drop i (rotated r.start r.slots.places)) ++ drop len (replicate n None);
+      steps = more_puts len no_steps;
+    }
+    → Opened record { slots = slots; start = 0; len = len; alloc = alloc } record {
+      items = take len (drop i v.items);
+      capacity = n;
+      start = 0;
+      steps = more_puts len no_steps;
+    }
 ring_handed {v = v} o i len n slots alloc within room is =
     let ys = take len (drop i v.items) in
     let many : length ys ≡ len = grind (arith, common_steps) in
@@ -80,7 +129,8 @@ ring_handed {v = v} o i len n slots alloc within room is =
         long = grind (arith, common_steps);
         in_region = omega arith;
         within = omega (arith, many);
-        at = λ x lt. ap (held_at (map Some ys ++ drop len (replicate n None))) (place_of-first x n lt) ∙ grind (arith, nat_tests, places, items, get_or-map_Some ys x);
+        at = λ x lt. ap (held_at (map Some ys ++ drop len (replicate n None))) (place_of-first x n lt)
+            ∙ grind (arith, nat_tests, places, items, get_or-map_Some ys x);
       };
       len = many;
       start = refl;

@@ -1,6 +1,17 @@
 -- Places and runs of them: what is filled, empty, and exchanged.
-use Rattle.std.proofs.{Common.{◌≡◌, ◌≢◌, ℕ, zero, suc, ◌+◌, ◌<◌, ◌≤◌, List, [], ◌∷◌, ◌++◌, length, take, drop, set, get_or, slice_get, swap, Option, Some, None, refl, sym, ap, ap₂, ◌∙◌, subst, add-one, arith}, lemmas.{Grind.common_steps, List.{length-map, length-take-le, length-drop, map-append, take_more, get_or-take, get_or-drop, get_or-replicate, get_or-set_other, set-set, set_comm, Edits.swap_is}}}
-use Rattle.arraydeque_ring.{specs.{Places.{held_at, IsFilled, HoldsRun, IsFilledRun}, Gaps.IsEmptyRun}, proofs.{moved.Flat.same_places, places.Items.{get_or-map_Some, slice_get_some}}}
+use Rattle.std.proofs.{
+  Common.{◌≡◌, ◌≢◌, ℕ, zero, suc, ◌+◌, ◌<◌, ◌≤◌, List, [], ◌∷◌, ◌++◌, length, take, drop, set, get_or, slice_get, swap},
+  Common.{Option, Some, None, refl, sym, ap, ap₂, ◌∙◌, subst, add-one, arith},
+  lemmas.{
+    Grind.common_steps,
+    List.{length-map, length-take-le, length-drop, map-append, take_more, get_or-take, get_or-drop, get_or-replicate},
+    List.{get_or-set_other, set-set, set_comm, Edits.swap_is},
+  },
+}
+use Rattle.arraydeque_ring.{
+  specs.{Places.{held_at, IsFilled, HoldsRun, IsFilledRun}, Gaps.IsEmptyRun},
+  proofs.{moved.Flat.same_places, places.Items.{get_or-map_Some, slice_get_some}},
+}
 
 module _ {X : Type 0} where
   -- a filled place is one of the region's
@@ -11,31 +22,46 @@ module _ {X : Type 0} where
 
   -- a filled run has as many values as places
   pub length_filled : (ps : List (Option X)) (from len : ℕ) (run : IsFilledRun ps from len) → length run.1.0 ≡ len
-  length_filled ps from len run = omega (arith, run.0, ap length run.1.1, length-map run.1.0 Some, length-take-le len (drop from ps) (omega (arith, run.0, length-drop from ps)))
+  length_filled ps from len run = omega (
+    arith,
+    run.0,
+    ap length run.1.1,
+    length-map run.1.0 Some,
+    length-take-le len (drop from ps) (omega (arith, run.0, length-drop from ps)),
+  )
 
   -- and each place of a filled run is filled
-  pub filled_in_run : (ps : List (Option X)) (from len k : ℕ) → IsFilledRun ps from len → k < len → IsFilled ps (from + k)
+  pub filled_in_run : (ps : List (Option X)) (from len k : ℕ) → IsFilledRun ps from len → k < len
+      → IsFilled ps (from + k)
   filled_in_run ps from len k run lt =
-      let some = slice_get_some run.1.0 k (omega (arith, length_filled ps from len run)) in
-      (some.0, sym (get_or-take len (drop from ps) k None lt ∙ get_or-drop from ps k None) ∙ ap (λ l. get_or l k None) run.1.1 ∙ get_or-map_Some run.1.0 k ∙ some.1)
+      let some = slice_get_some run.1.0 k (omega (arith, length_filled ps from len run)) in (
+        some.0,
+        sym (get_or-take len (drop from ps) k None lt ∙ get_or-drop from ps k None) ∙ ap (λ l. get_or l k None) run.1.1
+            ∙ get_or-map_Some run.1.0 k ∙ some.1,
+      )
 
   -- each place of an empty run is empty
-  pub empty_in_run : (ps : List (Option X)) (from len k : ℕ) → IsEmptyRun ps from len → k < len → get_or ps (from + k) None ≡ None
+  pub empty_in_run : (ps : List (Option X)) (from len k : ℕ) → IsEmptyRun ps from len → k < len
+      → get_or ps (from + k) None ≡ None
   empty_in_run ps from len k run lt =
-      sym (get_or-take len (drop from ps) k None lt ∙ get_or-drop from ps k None) ∙ ap (λ l. get_or l k None) run.1 ∙ get_or-replicate len k None None lt
+      sym (get_or-take len (drop from ps) k None lt ∙ get_or-drop from ps k None) ∙ ap (λ l. get_or l k None) run.1
+      ∙ get_or-replicate len k None None lt
 
   -- two values that are taken out and put into each other's place
-  pub exchanged : (ps : List (Option X)) (i j : ℕ) (x y : X) → i ≢ j → get_or ps i None ≡ Some x → get_or (set ps i None) j None ≡ Some y
+  pub exchanged : (ps : List (Option X)) (i j : ℕ) (x y : X) → i ≢ j → get_or ps i None ≡ Some x
+      → get_or (set ps i None) j None ≡ Some y
       → set (set (set (set ps i None) j None) i (Some y)) j (Some x) ≡ swap ps i j
   exchanged ps i j x y apart at_i at_j =
       let y_was : get_or ps j None ≡ Some y = sym (get_or-set_other ps i j None None (λ e. apart (sym e))) ∙ at_j in
-      ap (λ l. set l j (Some x)) (ap (λ l. set l i (Some y)) (set_comm ps i j None None apart) ∙ set-set (set ps j None) i None (Some y) ∙ set_comm ps j i None (Some y) (λ e. apart (sym e)))
+      ap (λ l. set l j (Some x)) (ap (λ l. set l i (Some y)) (set_comm ps i j None None apart)
+      ∙ set-set (set ps j None) i None (Some y) ∙ set_comm ps j i None (Some y) (λ e. apart (sym e)))
       ∙ set-set (set ps i (Some y)) j None (Some x)
       ∙ ap (λ p. set (set ps i p) j (Some x)) (sym y_was) ∙ ap (λ p. set (set ps i (get_or ps j None)) j p) (sym at_i)
       ∙ swap_is ps i j None (filled_within ps i x at_i) (filled_within ps j y y_was)
 
   -- a run is filled, or empty, where each of its places is
-  pub filled_run_of : (ps : List (Option X)) (from len : ℕ) → from + len ≤ length ps → ((x : ℕ) → from ≤ x → x < from + len → IsFilled ps x) → IsFilledRun ps from len
+  pub filled_run_of : (ps : List (Option X)) (from len : ℕ) → from + len ≤ length ps
+      → ((x : ℕ) → from ≤ x → x < from + len → IsFilled ps x) → IsFilledRun ps from len
   filled_run_of ps from zero le each = (omega arith, ([], refl))
   filled_run_of ps from (suc len) le each =
       let front = filled_run_of ps from len (omega arith) (λ x a b. each x a (omega arith)) in
@@ -43,18 +69,26 @@ module _ {X : Type 0} where
         le,
         (
           front.1.0 ++ last.0 ∷ [],
-          ap (λ m. take m (drop from ps)) (sym (add-one len)) ∙ take_more (drop from ps) len None (omega (arith, length-drop from ps)) ∙ ap₂ (λ l q. l ++ q ∷ []) front.1.1 (get_or-drop from ps len None ∙ last.1) ∙ sym (map-append Some front.1.0 (last.0 ∷ [])),
+          ap (λ m. take m (drop from ps)) (sym (add-one len))
+              ∙ take_more (drop from ps) len None (omega (arith, length-drop from ps))
+              ∙ ap₂ (λ l q. l ++ q ∷ []) front.1.1 (get_or-drop from ps len None ∙ last.1)
+              ∙ sym (map-append Some front.1.0 (last.0 ∷ [])),
         ),
       )
 
   -- a filled place is a filled run of one
   pub is_filled_run : (ps : List (Option X)) (i : ℕ) → IsFilled ps i → IsFilledRun ps i 1
-  is_filled_run ps i held = filled_run_of ps i 1 (omega (arith, filled_within ps i held.0 held.1)) (λ x a b. subst (IsFilled ps) (omega arith) held)
+  is_filled_run ps i held = filled_run_of ps i 1 (omega (arith, filled_within ps i held.0 held.1))
+      (λ x a b. subst (IsFilled ps) (omega arith) held)
 
-  pub empty_run_of : (ps : List (Option X)) (from len : ℕ) → from + len ≤ length ps → ((x : ℕ) → from ≤ x → x < from + len → held_at ps x ≡ None) → IsEmptyRun ps from len
-  empty_run_of ps from len le each = (le, same_places _ _ (grind (arith, common_steps)) (λ x lt. grind (arith, common_steps, each (from + x))))
+  pub empty_run_of : (ps : List (Option X)) (from len : ℕ) → from + len ≤ length ps
+      → ((x : ℕ) → from ≤ x → x < from + len → held_at ps x ≡ None) → IsEmptyRun ps from len
+  empty_run_of ps from len le each =
+      (le, same_places _ _ (grind (arith, common_steps)) (λ x lt. grind (arith, common_steps, each (from + x))))
 
   -- and holds those values that its places hold
-  pub holds_run_of : (ps : List (Option X)) (from len : ℕ) (xs : List X) → length xs ≡ len → from + len ≤ length ps → ((k : ℕ) → k < len → held_at ps (from + k) ≡ slice_get xs k) → HoldsRun ps from len xs
+  pub holds_run_of : (ps : List (Option X)) (from len : ℕ) (xs : List X) → length xs ≡ len → from + len ≤ length ps
+      → ((k : ℕ) → k < len → held_at ps (from + k) ≡ slice_get xs k) → HoldsRun ps from len xs
   holds_run_of ps from len xs many le each =
-      let long = length-map xs Some in same_places _ _ (grind (arith, common_steps)) (λ k lt. grind (arith, common_steps, each k) ∙ sym (get_or-map_Some xs k))
+      let long = length-map xs Some in same_places _ _ (grind (arith, common_steps))
+      (λ k lt. grind (arith, common_steps, each k) ∙ sym (get_or-map_Some xs k))

@@ -1,6 +1,16 @@
 -- What places hold, read one by one from a place on, round the region's end.
-use Rattle.std.proofs.{Common.{◌≡◌, ◌≢◌, ℕ, ◌+◌, ◌-◌, ◌<◌, ◌≤◌, inl, inr, List, length, set, get_or, Option, Some, None, refl, sym, ap, ◌∙◌, arith}, lemmas.{Bool.cases_eq, List.{length-set, get_or-set_same, get_or-set_other}}}
-use Rattle.arraydeque_ring.{specs.{Moved.{distance, IsFilledRound, IsEmptyRound}, Places.held_at, Ring.{place_of, rotated}}, proofs.{moved.Flat.{same_places, up_from}, places.Rotated.{place_of-first, place_of-lt, place_of-sum, place_of-place_of, same_index, get_or-rotated}}}
+use Rattle.std.proofs.{
+  Common.{◌≡◌, ◌≢◌, ℕ, ◌+◌, ◌-◌, ◌<◌, ◌≤◌, inl, inr, List, length, set, get_or, Option, Some, None, refl, sym, ap, ◌∙◌},
+  Common.{arith},
+  lemmas.{Bool.cases_eq, List.{length-set, get_or-set_same, get_or-set_other}},
+}
+use Rattle.arraydeque_ring.{
+  specs.{Moved.{distance, IsFilledRound, IsEmptyRound}, Places.held_at, Ring.{place_of, rotated}},
+  proofs.{
+    moved.Flat.{same_places, up_from},
+    places.Rotated.{place_of-first, place_of-lt, place_of-sum, place_of-place_of, same_index, get_or-rotated},
+  },
+}
 
 -- the n places hold, from the place t on, what f says of each index
 pub record Holds {X : Type 0} (n t : ℕ) (f : ℕ → Option X) (ps : List (Option X)) : Type 0 where
@@ -9,8 +19,13 @@ pub record Holds {X : Type 0} (n t : ℕ) (f : ℕ → Option X) (ps : List (Opt
   pub at : (k : ℕ) → k < n → held_at ps (place_of t k n) ≡ f k
 
 -- the same is read in the list that begins there
-pub Holds-of_rotated : {X : Type 0} {n t : ℕ} {f : ℕ → Option X} {ps : List (Option X)} → length ps ≡ n → t ≤ n - 1 → ((k : ℕ) → k < n → get_or (rotated t ps) k None ≡ f k) → Holds n t f ps
-Holds-of_rotated {n = n} {t = t} {ps = ps} long within each = record { long = long; in_region = within; at = λ k lt. sym (get_or-rotated t k n ps None long (omega arith) lt) ∙ each k lt }
+pub Holds-of_rotated : {X : Type 0} {n t : ℕ} {f : ℕ → Option X} {ps : List (Option X)} → length ps ≡ n → t ≤ n - 1
+    → ((k : ℕ) → k < n → get_or (rotated t ps) k None ≡ f k) → Holds n t f ps
+Holds-of_rotated {n = n} {t = t} {ps = ps} long within each = record {
+  long = long;
+  in_region = within;
+  at = λ k lt. sym (get_or-rotated t k n ps None long (omega arith) lt) ∙ each k lt;
+}
 
 module _ {X : Type 0} {n t : ℕ} {f : ℕ → Option X} {ps : List (Option X)} (h : Holds n t f ps) where
   pub Holds-rotated : (k : ℕ) → k < n → get_or (rotated t ps) k None ≡ f k
@@ -20,41 +35,58 @@ module _ {X : Type 0} {n t : ℕ} {f : ℕ → Option X} {ps : List (Option X)} 
   Holds-same same = record { long = h.long; in_region = h.in_region; at = λ k lt. h.at k lt ∙ same k lt }
 
   -- read from the place j further on
-  pub Holds-from : {g : ℕ → Option X} (j : ℕ) → 0 < n → j ≤ n → ((k : ℕ) → k < n → f (place_of j k n) ≡ g k) → Holds n (place_of t j n) g ps
+  pub Holds-from : {g : ℕ → Option X} (j : ℕ) → 0 < n → j ≤ n → ((k : ℕ) → k < n → f (place_of j k n) ≡ g k)
+      → Holds n (place_of t j n) g ps
   Holds-from j some le each = record {
     long = h.long;
     in_region = omega (arith, h.in_region, place_of-lt t j n (omega (arith, h.in_region)));
-    at = λ k lt. ap (held_at ps) (place_of-place_of t j k n) ∙ h.at (place_of j k n) (place_of-lt j k n (omega arith)) ∙ each k lt;
+    at = λ k lt. ap (held_at ps) (place_of-place_of t j k n) ∙ h.at (place_of j k n) (place_of-lt j k n (omega arith))
+        ∙ each k lt;
   }
 
   -- with c written at the place of the index k
-  pub Holds-set : {g : ℕ → Option X} (k : ℕ) (c : Option X) → k < n → c ≡ g k → ((i : ℕ) → i < n → i ≢ k → f i ≡ g i) → Holds n t g (set ps (place_of t k n) c)
+  pub Holds-set : {g : ℕ → Option X} (k : ℕ) (c : Option X) → k < n → c ≡ g k → ((i : ℕ) → i < n → i ≢ k → f i ≡ g i)
+      → Holds n t g (set ps (place_of t k n) c)
   Holds-set {g} k c k_in here others = record {
     long = length-set ps (place_of t k n) c ∙ h.long;
     in_region = h.in_region;
     at = λ i lt. elim (cases_eq i k) [
-      | inl same ↦ ap (λ j. held_at (set ps (place_of t k n) c) (place_of t j n)) same ∙ get_or-set_same ps (place_of t k n) c None (omega (arith, h.long, place_of-lt t k n (omega (arith, h.in_region)))) ∙ here ∙ ap g (sym same)
-      | inr other ↦ get_or-set_other ps (place_of t k n) (place_of t i n) c None (λ e. other (same_index t i k n (omega (arith, h.in_region)) lt k_in e)) ∙ h.at i lt ∙ others i lt other
+      | inl same ↦ ap (λ j. held_at (set ps (place_of t k n) c) (place_of t j n)) same ∙ get_or-set_same ps
+          (place_of t k n) c None (omega (arith, h.long, place_of-lt t k n (omega (arith, h.in_region)))) ∙ here
+          ∙ ap g (sym same)
+      | inr other ↦ get_or-set_other ps (place_of t k n) (place_of t i n) c None
+          (λ e. other (same_index t i k n (omega (arith, h.in_region)) lt k_in e)) ∙ h.at i lt ∙ others i lt other
     ];
   }
 
   -- a run of indexes that have values, or have none
-  pub Holds-filled : (i len : ℕ) → i + len ≤ n → ((k : ℕ) → k < len → (x : X) × (f (i + k) ≡ Some x)) → IsFilledRound (place_of t i (length ps)) len ps
-  Holds-filled i len within each k lt = let some = each k lt in (some.0, rw (h.long, place_of-sum t i k n) (h.at (i + k) (omega arith) ∙ some.1))
+  pub Holds-filled : (i len : ℕ) → i + len ≤ n → ((k : ℕ) → k < len → (x : X) × (f (i + k) ≡ Some x))
+      → IsFilledRound (place_of t i (length ps)) len ps
+  Holds-filled i len within each k lt = let some = each k lt in
+      (some.0, rw (h.long, place_of-sum t i k n) (h.at (i + k) (omega arith) ∙ some.1))
 
-  pub Holds-empty : (i len : ℕ) → i + len ≤ n → ((k : ℕ) → k < len → f (i + k) ≡ None) → IsEmptyRound (place_of t i (length ps)) len ps
-  Holds-empty i len within each k lt = rw (h.long, place_of-sum t i k n) (omega (arith, place_of-lt t (i + k) n (omega (arith, h.in_region))), h.at (i + k) (omega arith) ∙ each k lt)
+  pub Holds-empty : (i len : ℕ) → i + len ≤ n → ((k : ℕ) → k < len → f (i + k) ≡ None)
+      → IsEmptyRound (place_of t i (length ps)) len ps
+  Holds-empty i len within each k lt = rw (h.long, place_of-sum t i k n)
+      (omega (arith, place_of-lt t (i + k) n (omega (arith, h.in_region))), h.at (i + k) (omega arith) ∙ each k lt)
 
 -- what is read says what the places are
-pub Holds-once : {X : Type 0} {n t : ℕ} {f : ℕ → Option X} {ps qs : List (Option X)} → Holds n t f ps → Holds n t f qs → ps ≡ qs
+pub Holds-once : {X : Type 0} {n t : ℕ} {f : ℕ → Option X} {ps qs : List (Option X)} → Holds n t f ps
+    → Holds n t f qs → ps ≡ qs
 Holds-once {n = n} {t = t} {ps = ps} {qs = qs} h k = same_places ps qs (h.long ∙ sym k.long) (λ x lt.
     let here = up_from x t n (omega (arith, k.long)) (omega (arith, h.in_region, k.long)) in
     let within : distance t x n < n = place_of-lt x (n - t) n (omega (arith, h.in_region, k.long)) in
-    ap (held_at ps) (sym here) ∙ h.at (distance t x n) within ∙ sym (ap (held_at qs) (sym here) ∙ k.at (distance t x n) within))
+    ap (held_at ps) (sym here) ∙ h.at (distance t x n) within
+    ∙ sym (ap (held_at qs) (sym here) ∙ k.at (distance t x n) within))
 
 -- from the first place on an index is its own place
 pub Holds-plain : {X : Type 0} (ps : List (Option X)) → Holds (length ps) 0 (held_at ps) ps
-Holds-plain ps = record { long = refl; in_region = omega arith; at = λ k lt. ap (held_at ps) (place_of-first k (length ps) lt) }
+Holds-plain ps = record {
+  long = refl;
+  in_region = omega arith;
+  at = λ k lt. ap (held_at ps) (place_of-first k (length ps) lt);
+}
 
-pub Holds-first : {X : Type 0} {n : ℕ} {f : ℕ → Option X} {ps : List (Option X)} → Holds n 0 f ps → (k : ℕ) → k < n → held_at ps k ≡ f k
+pub Holds-first : {X : Type 0} {n : ℕ} {f : ℕ → Option X} {ps : List (Option X)} → Holds n 0 f ps → (k : ℕ) → k < n
+    → held_at ps k ≡ f k
 Holds-first {n = n} {ps = ps} h k lt = ap (held_at ps) (sym (place_of-first k n lt)) ∙ h.at k lt

@@ -1,21 +1,28 @@
 -- The item at each index of a list that is made of others.
-use Rattle.std.proofs.{Common.{◌≡◌, ℕ, zero, suc, ◌+◌, ◌-◌, ◌<◌, inl, inr, List, [], ◌∷◌, ◌++◌, length, map, take, drop, set, get_or, slice_get, nat_lt, ◌==◌, if◌then◌else◌, Some, None, refl, ap, ◌∙◌, arith}, lemmas.{Bool.Decides.nat_tests, Option.{slice_get_cases, slice_get_past}}}
+use Rattle.std.proofs.{
+  Common.{◌≡◌, ℕ, zero, suc, ◌+◌, ◌-◌, ◌<◌, inl, inr, List, [], ◌∷◌, ◌++◌, length, map, take, drop, set, get_or},
+  Common.{slice_get, nat_lt, ◌==◌, if◌then◌else◌, Some, None, refl, ap, ◌∙◌, arith},
+  lemmas.{Bool.Decides.nat_tests, Option.{slice_get_cases, slice_get_past}},
+}
 
 module _ {X : Type 0} where
   -- an index below the length has an item
   pub slice_get_some : (xs : List X) (k : ℕ) → k < length xs → (x : X) × (slice_get xs k ≡ Some x)
   slice_get_some xs k lt = elim (slice_get_cases xs k).1 [ inl at ↦ (at.0, at.2) | inr past ↦ absurd (omega arith) ]
 
-  pub slice_get-cons : (x : X) (xs : List X) (k : ℕ) → slice_get (x ∷ xs) k ≡ (if nat_lt 0 k then slice_get xs (k - 1) else Some x)
+  pub slice_get-cons : (x : X) (xs : List X) (k : ℕ)
+      → slice_get (x ∷ xs) k ≡ (if nat_lt 0 k then slice_get xs (k - 1) else Some x)
   slice_get-cons x xs zero = grind (arith, nat_tests)
   slice_get-cons x xs (suc k) = grind (arith, nat_tests)
 
-  pub slice_get-append : (xs ys : List X) (k : ℕ) → slice_get (xs ++ ys) k ≡ (if nat_lt k (length xs) then slice_get xs k else slice_get ys (k - length xs))
+  pub slice_get-append : (xs ys : List X) (k : ℕ)
+      → slice_get (xs ++ ys) k ≡ (if nat_lt k (length xs) then slice_get xs k else slice_get ys (k - length xs))
   slice_get-append [] ys k = grind (arith, nat_tests)
   slice_get-append (x ∷ xs) ys zero = grind (arith, nat_tests)
   slice_get-append (x ∷ xs) ys (suc k) = grind (arith, nat_tests, slice_get-append xs ys k)
 
-  pub slice_get-take : (n : ℕ) (xs : List X) (k : ℕ) → slice_get (take n xs) k ≡ (if nat_lt k n then slice_get xs k else None)
+  pub slice_get-take : (n : ℕ) (xs : List X) (k : ℕ)
+      → slice_get (take n xs) k ≡ (if nat_lt k n then slice_get xs k else None)
   slice_get-take zero xs k = grind (arith, nat_tests)
   slice_get-take (suc n) [] k = grind (arith, nat_tests)
   slice_get-take (suc n) (x ∷ xs) zero = grind (arith, nat_tests)
@@ -26,7 +33,8 @@ module _ {X : Type 0} where
   slice_get-drop (suc n) [] k = refl
   slice_get-drop (suc n) (x ∷ xs) k = slice_get-drop n xs k ∙ ap (slice_get (x ∷ xs)) {x = suc (n + k)} (omega arith)
 
-  pub slice_get-set : (xs : List X) (i k : ℕ) (x : X) → i < length xs → slice_get (set xs i x) k ≡ (if k == i then Some x else slice_get xs k)
+  pub slice_get-set : (xs : List X) (i k : ℕ) (x : X) → i < length xs
+      → slice_get (set xs i x) k ≡ (if k == i then Some x else slice_get xs k)
   slice_get-set [] i k x lt = absurd (omega arith)
   slice_get-set (y ∷ xs) zero zero x lt = grind (arith, nat_tests)
   slice_get-set (y ∷ xs) zero (suc k) x lt = grind (arith, nat_tests)

@@ -1,6 +1,31 @@
 -- What the places of a ring hold, read from its start on: first its items, then nothing.
-use Rattle.std.proofs.{Common.{◌≡◌, ◌≢◌, ℕ, ◌+◌, ◌-◌, ◌<◌, ◌≤◌, List, [], ◌∷◌, ◌++◌, length, take, drop, set, get_or, replicate, slice_get, nat_lt, if◌then◌else◌, Option, Some, None, is_some, true, false, refl, sym, ap, ap₂, ◌∙◌, subst, arith}, lemmas.{Bool.Decides.nat_tests, Grind.common_steps, List.{length-append, length-take, length-drop, length-map, length-replicate, length-set}, Option.slice_get_past}}
-use Rattle.arraydeque_ring.{specs.{Places.{held_at, IsFilled, IsEmpty, HoldsRun, IsFilledRun, AreAllEmpty}, Ring.{place_of, rotated, values, filled, FilledFrom}}, proofs.{moved.Flat.same_places, places.{AndEmpty.{and_empty, length-and_empty, get_or-and_empty, values-and_empty, values-map_Some, filled-and_empty, and_empty_from}, Held.holds_run_of, Holds.{Holds, Holds-once, Holds-of_rotated, Holds-rotated, Holds-from, Holds-set}, Items.{items, slice_get_some, slice_get-cons, slice_get-drop}, Rotated.{MayStartAt, place_of-lt, place_of-run, place_of-zero, place_of_cases, length-rotated, rotated-map}}}}
+use Rattle.std.proofs.{
+  Common.{◌≡◌, ◌≢◌, ℕ, ◌+◌, ◌-◌, ◌<◌, ◌≤◌, List, [], ◌∷◌, ◌++◌, length, take, drop, set, get_or, replicate, slice_get},
+  Common.{nat_lt, if◌then◌else◌, Option, Some, None, is_some, true, false, refl, sym, ap, ap₂, ◌∙◌, subst, arith},
+  lemmas.{
+    Bool.Decides.nat_tests,
+    Grind.common_steps,
+    List.{length-append, length-take, length-drop, length-map, length-replicate, length-set},
+    Option.slice_get_past,
+  },
+}
+use Rattle.arraydeque_ring.{
+  specs.{
+    Places.{held_at, IsFilled, IsEmpty, HoldsRun, IsFilledRun, AreAllEmpty},
+    Ring.{place_of, rotated, values, filled, FilledFrom},
+  },
+  proofs.{
+    moved.Flat.same_places,
+    places.{
+      AndEmpty.{and_empty, length-and_empty, get_or-and_empty, values-and_empty, values-map_Some, filled-and_empty},
+      AndEmpty.{and_empty_from},
+      Held.holds_run_of,
+      Holds.{Holds, Holds-once, Holds-of_rotated, Holds-rotated, Holds-from, Holds-set},
+      Items.{items, slice_get_some, slice_get-cons, slice_get-drop},
+      Rotated.{MayStartAt, place_of-lt, place_of-run, place_of-zero, place_of_cases, length-rotated, rotated-map},
+    },
+  },
+}
 
 -- the n places hold the items from the place t on, round the end, and nothing else
 pub record LaidOut {X : Type 0} (n t : ℕ) (xs : List X) (ps : List (Option X)) : Type 0 where
@@ -19,14 +44,21 @@ module _ {X : Type 0} {n t : ℕ} {xs : List X} {ps : List (Option X)} where
   -- where the list that begins at t has the items and then k empty places
   pub LaidOut-from : (k : ℕ) → length ps ≡ n → t ≤ n - 1 → rotated t ps ≡ and_empty xs k → LaidOut n t xs ps
   LaidOut-from k long within e =
-      LaidOut-by (omega (arith, length-rotated t ps, ap length e, length-and_empty xs k)) (Holds-of_rotated long within (λ i lt. ap (λ l. get_or l i None) e ∙ get_or-and_empty xs k i))
+      LaidOut-by (omega (arith, length-rotated t ps, ap length e, length-and_empty xs k))
+      (Holds-of_rotated long within (λ i lt. ap (λ l. get_or l i None) e ∙ get_or-and_empty xs k i))
 
 -- empty places hold the empty list
 pub LaidOut-nothing : {X : Type 0} (n : ℕ) → LaidOut {X = X} n 0 [] (replicate n None)
-LaidOut-nothing n = record { long = length-replicate n None; in_region = omega arith; within = omega arith; at = λ k lt. grind (arith, common_steps) }
+LaidOut-nothing n = record {
+  long = length-replicate n None;
+  in_region = omega arith;
+  within = omega arith;
+  at = λ k lt. grind (arith, common_steps);
+}
 
 -- places of which len from the start on are filled hold the values in them
-pub LaidOut-values : {X : Type 0} (t len : ℕ) (ps : List (Option X)) → t ≤ length ps - 1 → FilledFrom t len (filled ps) → LaidOut (length ps) t (values (rotated t ps)) ps × (length (values (rotated t ps)) ≡ len)
+pub LaidOut-values : {X : Type 0} (t len : ℕ) (ps : List (Option X)) → t ≤ length ps - 1 → FilledFrom t len (filled ps)
+    → LaidOut (length ps) t (values (rotated t ps)) ps × (length (values (rotated t ps)) ≡ len)
 LaidOut-values t len ps within e =
     let from = and_empty_from (rotated t ps) len (length (filled ps) - len) (sym (rotated-map is_some t ps) ∙ e) in
     (LaidOut-from (length (filled ps) - len) refl within from.0, from.1)
@@ -39,7 +71,8 @@ module _ {X : Type 0} {n t : ℕ} {xs : List X} {ps : List (Option X)} (l : Laid
   rotated-LaidOut =
       let within = l.within in
       same_places _ _ (length-rotated t ps ∙ l.long ∙ omega (arith, length-and_empty xs (n - length xs)))
-      (λ k lt. Holds-rotated (holds l) k (omega (arith, length-and_empty xs (n - length xs))) ∙ sym (get_or-and_empty xs (n - length xs) k))
+      (λ k lt. Holds-rotated (holds l) k (omega (arith, length-and_empty xs (n - length xs)))
+      ∙ sym (get_or-and_empty xs (n - length xs) k))
 
   -- the values that are there are the items
   pub values-LaidOut : values (rotated t ps) ≡ xs
@@ -49,14 +82,16 @@ module _ {X : Type 0} {n t : ℕ} {xs : List X} {ps : List (Option X)} (l : Laid
   pub FilledFrom-LaidOut : (m : ℕ) → length xs ≡ m → FilledFrom t m (filled ps)
   FilledFrom-LaidOut m e =
       let left : n - length xs ≡ length (filled ps) - m = omega (arith, l.long, length-map ps is_some) in
-      rotated-map is_some t ps ∙ ap filled rotated-LaidOut ∙ filled-and_empty xs (n - length xs) ∙ ap₂ (λ a b. replicate a true ++ replicate b false) e left
+      rotated-map is_some t ps ∙ ap filled rotated-LaidOut ∙ filled-and_empty xs (n - length xs)
+      ∙ ap₂ (λ a b. replicate a true ++ replicate b false) e left
 
   -- the place of an item is filled, and that of an index past the last one is empty
   pub IsFilled-place_of : (k : ℕ) → k < length xs → IsFilled ps (place_of t k n)
   IsFilled-place_of k lt = let some = slice_get_some xs k lt in (some.0, l.at k (omega (arith, l.within)) ∙ some.1)
 
   pub IsEmpty-place_of : (k : ℕ) → length xs ≤ k → k < n → IsEmpty ps (place_of t k n)
-  IsEmpty-place_of k past lt = (omega (arith, l.long, place_of-lt t k n (omega (arith, l.in_region))), l.at k lt ∙ grind (arith, items))
+  IsEmpty-place_of k past lt =
+      (omega (arith, l.long, place_of-lt t k n (omega (arith, l.in_region))), l.at k lt ∙ grind (arith, items))
 
   -- the start holds the first item
   pub held_at-start : 0 < n → held_at ps t ≡ slice_get xs 0
@@ -69,25 +104,35 @@ module _ {X : Type 0} {n t : ℕ} {xs : List X} {ps : List (Option X)} (l : Laid
   pub HoldsRun-rotated : (i len : ℕ) → i + len ≤ length xs → HoldsRun (rotated t ps) i len (take len (drop i xs))
   HoldsRun-rotated i len le =
       let within = l.within in
-      holds_run_of (rotated t ps) i len (take len (drop i xs)) (omega (arith, length-take len (drop i xs), length-drop i xs)) (omega (arith, length-rotated t ps, l.long)) (λ k lt. Holds-rotated (holds l) (i + k) (omega arith) ∙ grind (arith, nat_tests, items))
+      holds_run_of (rotated t ps) i len (take len (drop i xs))
+      (omega (arith, length-take len (drop i xs), length-drop i xs)) (omega (arith, length-rotated t ps, l.long))
+      (λ k lt. Holds-rotated (holds l) (i + k) (omega arith) ∙ grind (arith, nat_tests, items))
 
   pub IsFilledRun-rotated : (i len : ℕ) → i + len ≤ length xs → IsFilledRun (rotated t ps) i len
-  IsFilledRun-rotated i len le = (omega (arith, l.long, length-rotated t ps, length_within), (take len (drop i xs), HoldsRun-rotated i len le))
+  IsFilledRun-rotated i len le =
+      (omega (arith, l.long, length-rotated t ps, length_within), (take len (drop i xs), HoldsRun-rotated i len le))
 
   -- they stand from the place p on
-  HoldsRun-LaidOut : (i p len : ℕ) → MayStartAt t i n p → i + len ≤ length xs → p + len ≤ n → HoldsRun ps p len (take len (drop i xs))
+  HoldsRun-LaidOut : (i p len : ℕ) → MayStartAt t i n p → i + len ≤ length xs → p + len ≤ n
+      → HoldsRun ps p len (take len (drop i xs))
   HoldsRun-LaidOut i p len at within fits =
       let all = l.within in
-      holds_run_of ps p len (take len (drop i xs)) (omega (arith, length-take len (drop i xs), length-drop i xs)) (omega (arith, l.long))
-      (λ k lt. ap (held_at ps) (sym (place_of-run t i k n p at (omega arith) (omega (arith, l.in_region)) (omega arith))) ∙ l.at (i + k) (omega arith) ∙ grind (arith, nat_tests, items))
+      holds_run_of ps p len (take len (drop i xs)) (omega (arith, length-take len (drop i xs), length-drop i xs))
+      (omega (arith, l.long))
+      (λ k lt. ap (held_at ps) (sym (place_of-run t i k n p at (omega arith) (omega (arith, l.in_region))
+      (omega arith))) ∙ l.at (i + k) (omega arith) ∙ grind (arith, nat_tests, items))
 
-  pub IsFilledRun-LaidOut : (i p len : ℕ) → MayStartAt t i n p → i + len ≤ length xs → p + len ≤ n → IsFilledRun ps p len
-  IsFilledRun-LaidOut i p len at within fits = (omega (arith, l.long), (take len (drop i xs), HoldsRun-LaidOut i p len at within fits))
+  pub IsFilledRun-LaidOut : (i p len : ℕ) → MayStartAt t i n p → i + len ≤ length xs → p + len ≤ n
+      → IsFilledRun ps p len
+  IsFilledRun-LaidOut i p len at within fits =
+      (omega (arith, l.long), (take len (drop i xs), HoldsRun-LaidOut i p len at within fits))
 
   -- and a run that is read there is of those items
-  pub same_run : (i p len : ℕ) (ys : List X) → MayStartAt t i n p → i + len ≤ length xs → p + len ≤ n → HoldsRun ps p len ys → ys ≡ take len (drop i xs)
+  pub same_run : (i p len : ℕ) (ys : List X) → MayStartAt t i n p → i + len ≤ length xs → p + len ≤ n
+      → HoldsRun ps p len ys → ys ≡ take len (drop i xs)
   same_run i p len ys at within fits held =
-      sym (values-map_Some ys) ∙ ap values (sym held ∙ HoldsRun-LaidOut i p len at within fits) ∙ values-map_Some (take len (drop i xs))
+      sym (values-map_Some ys) ∙ ap values (sym held ∙ HoldsRun-LaidOut i p len at within fits)
+      ∙ values-map_Some (take len (drop i xs))
 
   -- with no items every place is empty
   pub AreAllEmpty-LaidOut : length xs ≡ 0 → AreAllEmpty ps
@@ -99,31 +144,44 @@ module _ {X : Type 0} {n t : ℕ} {xs : List X} {ps : List (Option X)} (l : Laid
 
   -- and the list may start at the first place as well
   pub LaidOut-restart : length xs ≡ 0 → LaidOut {X = X} n 0 [] ps
-  LaidOut-restart none = let empty : replicate n None ≡ ps = ap (λ m. replicate m None) (sym l.long) ∙ sym (AreAllEmpty-LaidOut none) in subst (LaidOut {X = X} n 0 []) empty (LaidOut-nothing n)
+  LaidOut-restart none = let empty : replicate n None ≡ ps = ap (λ m. replicate m None) (sym l.long)
+      ∙ sym (AreAllEmpty-LaidOut none) in subst (LaidOut {X = X} n 0 []) empty (LaidOut-nothing n)
 
   -- c is written at the place of the index k
-  LaidOut-write : {ys : List X} (k : ℕ) (c : Option X) → k < n → length ys ≤ n → c ≡ slice_get ys k → ((i : ℕ) → i < n → i ≢ k → slice_get xs i ≡ slice_get ys i) → LaidOut n t ys (set ps (place_of t k n) c)
+  LaidOut-write : {ys : List X} (k : ℕ) (c : Option X) → k < n → length ys ≤ n → c ≡ slice_get ys k
+      → ((i : ℕ) → i < n → i ≢ k → slice_get xs i ≡ slice_get ys i) → LaidOut n t ys (set ps (place_of t k n) c)
   LaidOut-write k c lt within here others = LaidOut-by within (Holds-set (holds l) k c lt here others)
 
-  pub LaidOut-put_back : (x : X) → length xs < n → LaidOut n t (xs ++ x ∷ []) (set ps (place_of t (length xs) n) (Some x))
+  pub LaidOut-put_back : (x : X) → length xs < n
+      → LaidOut n t (xs ++ x ∷ []) (set ps (place_of t (length xs) n) (Some x))
   LaidOut-put_back x room =
-      LaidOut-write (length xs) (Some x) room (omega (arith, length-append xs (x ∷ []))) (grind (arith, nat_tests, items, slice_get-cons)) (λ i lt other. grind (arith, nat_tests, items, slice_get-cons))
+      LaidOut-write (length xs) (Some x) room (omega (arith, length-append xs (x ∷ []))) (grind
+      (arith, nat_tests, items, slice_get-cons)) (λ i lt other. grind (arith, nat_tests, items, slice_get-cons))
 
   pub LaidOut-take_back : (m : ℕ) → length xs ≡ m + 1 → LaidOut n t (take m xs) (set ps (place_of t m n) None)
-  LaidOut-take_back m e = let within = l.within in LaidOut-write m None (omega arith) (omega (arith, length-take m xs)) (grind (arith, nat_tests, items)) (λ i lt other. grind (arith, nat_tests, items))
+  LaidOut-take_back m e = let within = l.within in LaidOut-write m None (omega arith) (omega (arith, length-take m xs))
+      (grind (arith, nat_tests, items)) (λ i lt other. grind (arith, nat_tests, items))
 
-  pub LaidOut-put_front : (x : X) → length xs < n → LaidOut n (place_of t (n - 1) n) (x ∷ xs) (set ps (place_of t (n - 1) n) (Some x))
+  pub LaidOut-put_front : (x : X) → length xs < n
+      → LaidOut n (place_of t (n - 1) n) (x ∷ xs) (set ps (place_of t (n - 1) n) (Some x))
   LaidOut-put_front x room =
       let before = place_of t (n - 1) n in
-      let turned : Holds n before (λ k. if nat_lt 0 k then slice_get xs (k - 1) else None) ps = Holds-from (holds l) (n - 1) (omega arith) (omega arith) (λ k lt. grind (arith, nat_tests, items, place_of_cases (n - 1) k n)) in
-      rw (place_of-zero before n turned.in_region) at (LaidOut-by {xs = x ∷ xs} (omega arith) (Holds-set turned 0 (Some x) (omega arith) refl (λ i lt other. grind (arith, nat_tests, slice_get-cons))))
+      let turned : Holds n before (λ k. if nat_lt 0 k then slice_get xs (k - 1) else None) ps = Holds-from (holds l)
+      (n - 1) (omega arith) (omega arith) (λ k lt. grind (arith, nat_tests, items, place_of_cases (n - 1) k n)) in
+      rw (place_of-zero before n turned.in_region) at (LaidOut-by {xs = x ∷ xs} (omega arith)
+      (Holds-set turned 0 (Some x) (omega arith) refl (λ i lt other. grind (arith, nat_tests, slice_get-cons))))
 
   pub LaidOut-take_front : 0 < length xs → LaidOut n (place_of t 1 n) (drop 1 xs) (set ps t None)
   LaidOut-take_front some =
       let within = l.within in
-      let out = Holds-set (holds l) {g = λ k. if nat_lt 0 k then slice_get xs k else None} 0 None (omega arith) refl (λ i lt other. grind (arith, nat_tests)) in
-      rw (place_of-zero t n l.in_region) at (LaidOut-by {xs = drop 1 xs} (omega (arith, length-drop 1 xs)) (Holds-from out 1 (omega arith) (omega arith) (λ k lt. grind (arith, nat_tests, slice_get-drop 1 xs k, items, place_of_cases 1 k n))))
+      let out = Holds-set (holds l) {g = λ k. if nat_lt 0 k then slice_get xs k else None} 0 None (omega arith) refl
+      (λ i lt other. grind (arith, nat_tests)) in
+      rw (place_of-zero t n l.in_region) at
+      (LaidOut-by {xs = drop 1 xs} (omega (arith, length-drop 1 xs)) (Holds-from out 1 (omega arith) (omega arith)
+      (λ k lt. grind (arith, nat_tests, slice_get-drop 1 xs k, items, place_of_cases 1 k n))))
 
   -- another value in the place of an item is another item
   pub LaidOut-set : (k : ℕ) (x : X) → k < length xs → LaidOut n t (set xs k x) (set ps (place_of t k n) (Some x))
-  LaidOut-set k x lt = let within = l.within in LaidOut-write k (Some x) (omega arith) (omega (arith, length-set xs k x)) (grind (arith, nat_tests, items)) (λ i i_in other. grind (arith, nat_tests, items))
+  LaidOut-set k x lt = let within = l.within in
+      LaidOut-write k (Some x) (omega arith) (omega (arith, length-set xs k x)) (grind (arith, nat_tests, items))
+      (λ i i_in other. grind (arith, nat_tests, items))

@@ -1,10 +1,20 @@
 -- Two runs that change places, read place by place: where what a place holds came from.
-use Rattle.std.{proofs.{Common.{◌≡◌, ℕ, ◌+◌, ◌-◌, ◌≤◌, List, length, set, get_or, nat_lt, if◌then◌else◌, Option, None, sym, ap, ◌∙◌, arith}, lemmas.{Bool.Decides.nat_tests, Grind.common_steps, List.{places, length-set, set_comm, Edits.swap_is}}}, specs.Prelude.swap}
-use Rattle.arraydeque_ring.{specs.{Places.{held_at, IsFilled, IsEmpty}, Gaps.run_rotated, Swapped.runs_swapped}, proofs.{moved.Flat.same_places, places.Emptied.{get_or-written}}}
+use Rattle.std.{
+  proofs.{
+    Common.{◌≡◌, ℕ, ◌+◌, ◌-◌, ◌≤◌, List, length, set, get_or, nat_lt, if◌then◌else◌, Option, None, sym, ap, ◌∙◌, arith},
+    lemmas.{Bool.Decides.nat_tests, Grind.common_steps, List.{places, length-set, set_comm, Edits.swap_is}},
+  },
+  specs.Prelude.swap,
+}
+use Rattle.arraydeque_ring.{
+  specs.{Places.{held_at, IsFilled, IsEmpty}, Gaps.run_rotated, Swapped.runs_swapped},
+  proofs.{moved.Flat.same_places, places.Emptied.{get_or-written}},
+}
 
 -- the place whose value the place x has, once m values from `at` on and the k behind them have changed places
 abbrev pub rotated_from : ℕ → ℕ → ℕ → ℕ → ℕ
-rotated_from at m k x = if nat_lt x at then x else (if nat_lt x (at + k) then x + m else (if nat_lt x (at + k + m) then x - k else x))
+rotated_from at m k x =
+    if nat_lt x at then x else (if nat_lt x (at + k) then x + m else (if nat_lt x (at + k + m) then x - k else x))
 
 module _ {X : Type 0} (at m k : ℕ) (ps : List (Option X)) (within : at + m + k ≤ length ps) where
   pub length-run_rotated : length (run_rotated at m k ps) ≡ length ps
@@ -15,7 +25,8 @@ module _ {X : Type 0} (at m k : ℕ) (ps : List (Option X)) (within : at + m + k
 
 -- the place whose value the place x has, once n values from a on have changed places with those from b on
 abbrev pub swapped_from : ℕ → ℕ → ℕ → ℕ → ℕ
-swapped_from a b n x = if nat_lt x a then x else (if nat_lt x (a + n) then x - a + b else (if nat_lt x b then x else (if nat_lt x (b + n) then x - b + a else x)))
+swapped_from a b n x = if nat_lt x a then x else
+    (if nat_lt x (a + n) then x - a + b else (if nat_lt x b then x else (if nat_lt x (b + n) then x - b + a else x)))
 
 module _ {X : Type 0} (a b n : ℕ) (ps : List (Option X)) (before : a + n ≤ b) (within : b + n ≤ length ps) where
   pub length-runs_swapped : length (runs_swapped a b n ps) ≡ length ps
@@ -27,20 +38,25 @@ module _ {X : Type 0} (a b n : ℕ) (ps : List (Option X)) (before : a + n ≤ b
 module _ {X : Type 0} (a b : ℕ) (ps : List (Option X)) where
   -- no run is exchanged
   pub runs_swapped_none : a + 0 ≤ b → b + 0 ≤ length ps → runs_swapped a b 0 ps ≡ ps
-  runs_swapped_none before within = same_places _ _ (length-runs_swapped a b 0 ps before within) (λ x lt. get_or-runs_swapped a b 0 ps before within x ∙ ap (λ i. get_or ps i None) (grind (arith, nat_tests)))
+  runs_swapped_none before within = same_places _ _ (length-runs_swapped a b 0 ps before within)
+      (λ x lt. get_or-runs_swapped a b 0 ps before within x ∙ ap (λ i. get_or ps i None) (grind (arith, nat_tests)))
 
   -- a run longer by m is exchanged in two steps
-  pub runs_swapped_both : (n m : ℕ) → a + (n + m) ≤ b → b + (n + m) ≤ length ps → runs_swapped (a + n) (b + n) m (runs_swapped a b n ps) ≡ runs_swapped a b (n + m) ps
+  pub runs_swapped_both : (n m : ℕ) → a + (n + m) ≤ b → b + (n + m) ≤ length ps
+      → runs_swapped (a + n) (b + n) m (runs_swapped a b n ps) ≡ runs_swapped a b (n + m) ps
   runs_swapped_both n m before within =
       let once = runs_swapped a b n ps in
       let long = length-runs_swapped a b n ps (omega arith) (omega arith) in
-      same_places _ _ (length-runs_swapped (a + n) (b + n) m once (omega arith) (omega (arith, long)) ∙ long ∙ sym (length-runs_swapped a b (n + m) ps before within)) (λ x lt.
+      same_places _ _ (length-runs_swapped (a + n) (b + n) m once (omega arith) (omega (arith, long)) ∙ long
+      ∙ sym (length-runs_swapped a b (n + m) ps before within)) (λ x lt.
       get_or-runs_swapped (a + n) (b + n) m once (omega arith) (omega (arith, long)) x
       ∙ get_or-runs_swapped a b n ps (omega arith) (omega arith) (swapped_from (a + n) (b + n) m x)
-      ∙ ap (λ i. get_or ps i None) (grind (arith, nat_tests)) ∙ sym (get_or-runs_swapped a b (n + m) ps before within x))
+      ∙ ap (λ i. get_or ps i None) (grind (arith, nat_tests))
+      ∙ sym (get_or-runs_swapped a b (n + m) ps before within x))
 
 -- the pairs of two runs are exchanged one after another: the pair k comes next
-module _ {X : Type 0} (a b k : ℕ) (ps : List (Option X)) (before : a + (k + 1) ≤ b) (within : b + (k + 1) ≤ length ps) where
+module _ {X : Type 0} (a b k : ℕ) (ps : List (Option X)) (before : a + (k + 1) ≤ b)
+    (within : b + (k + 1) ≤ length ps) where
   abbrev so_far : List (Option X)
   so_far = runs_swapped a b k ps
 
@@ -70,12 +86,20 @@ module _ {X : Type 0} (a b k : ℕ) (ps : List (Option X)) (before : a + (k + 1)
       let ones = set so_far (a + k) (held_at so_far (b + k)) in
       let longer = length-set so_far (a + k) (held_at so_far (b + k)) in
       sym (swap_is so_far (a + k) (b + k) None (omega (arith, long)) (omega (arith, long)))
-      ∙ same_places _ _ (length-set ones (b + k) (held_at so_far (a + k)) ∙ longer ∙ long ∙ sym (length-runs_swapped a b (k + 1) ps before within)) (λ x lt.
-      get_or-written ones (b + k) x (held_at so_far (a + k)) (omega (arith, long, longer)) ∙ rw (get_or-written so_far (a + k) x (held_at so_far (b + k)) (omega (arith, long)), first_stays, second_stays, get_or-runs_swapped a b k ps (omega arith) (omega arith) x) (grind (arith, nat_tests))
+      ∙ same_places _ _ (length-set ones (b + k) (held_at so_far (a + k)) ∙ longer ∙ long
+      ∙ sym (length-runs_swapped a b (k + 1) ps before within)) (λ x lt.
+      get_or-written ones (b + k) x (held_at so_far (a + k)) (omega (arith, long, longer)) ∙ rw (
+        get_or-written so_far (a + k) x (held_at so_far (b + k)) (omega (arith, long)),
+        first_stays,
+        second_stays,
+        get_or-runs_swapped a b k ps (omega arith) (omega arith) x,
+      ) (grind (arith, nat_tests))
       ∙ sym (get_or-runs_swapped a b (k + 1) ps before within x))
 
   -- to move a value to an empty place is to exchange it with nothing
-  pub moved_more : held_at ps (a + k) ≡ None → set (set so_far (b + k) None) (a + k) (held_at so_far (b + k)) ≡ runs_swapped a b (k + 1) ps
+  pub moved_more : held_at ps (a + k) ≡ None
+      → set (set so_far (b + k) None) (a + k) (held_at so_far (b + k)) ≡ runs_swapped a b (k + 1) ps
   moved_more none =
-      set_comm so_far (b + k) (a + k) None (held_at so_far (b + k)) (λ same. omega arith) ∙ ap (λ q. set (set so_far (a + k) (held_at so_far (b + k))) (b + k) q) (sym (first_stays ∙ none))
+      set_comm so_far (b + k) (a + k) None (held_at so_far (b + k)) (λ same. omega arith)
+      ∙ ap (λ q. set (set so_far (a + k) (held_at so_far (b + k))) (b + k) q) (sym (first_stays ∙ none))
       ∙ swap_is so_far (a + k) (b + k) None (omega (arith, long)) (omega (arith, long)) ∙ runs_swapped_more

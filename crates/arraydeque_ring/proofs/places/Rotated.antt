@@ -1,12 +1,22 @@
 -- A list read from an index on, round its end.
-use Rattle.std.proofs.{Common.{◌≡◌, ℕ, zero, suc, ◌+◌, ◌-◌, ◌%◌, ◌<◌, ◌≤◌, ◌⊎◌, ◌==◌, inl, inr, List, ◌++◌, map, length, take, drop, get_or, sym, ap, ap₂, ◌∙◌, arith}, Math.Nat.{mod-eq_of_lt, mod-eq-sub-mod, add-mod-mod, mod-add-mod, add_assoc}, lemmas.{Bool.{cases_lt, cases_eq, eq-eqb, ne_eqb}, List.{places, length-append, length-take, length-drop, map-append, drop-map, take-map}}}
+use Rattle.std.proofs.{
+  Common.{◌≡◌, ℕ, zero, suc, ◌+◌, ◌-◌, ◌%◌, ◌<◌, ◌≤◌, ◌⊎◌, ◌==◌, inl, inr, List, ◌++◌, map, length, take, drop, get_or},
+  Common.{sym, ap, ap₂, ◌∙◌, arith},
+  Math.Nat.{mod-eq_of_lt, mod-eq-sub-mod, add-mod-mod, mod-add-mod, add_assoc},
+  lemmas.{
+    Bool.{cases_lt, cases_eq, eq-eqb, ne_eqb},
+    List.{places, length-append, length-take, length-drop, map-append, drop-map, take-map},
+  },
+}
 use Rattle.arraydeque_ring.specs.Ring.{place_of, rotated}
 
 -- a place is the sum itself below the end, and the sum less the capacity past it
-pub place_of_cases : (t k n : ℕ) → t + k < n + n → ((t + k < n) × (place_of t k n ≡ t + k)) ⊎ ((n ≤ t + k) × (place_of t k n + n ≡ t + k))
+pub place_of_cases : (t k n : ℕ) → t + k < n + n
+    → ((t + k < n) × (place_of t k n ≡ t + k)) ⊎ ((n ≤ t + k) × (place_of t k n + n ≡ t + k))
 place_of_cases t k n within = elim (cases_lt (t + k) n) [
   | inl below ↦ inl (below, mod-eq_of_lt below)
-  | inr past ↦ let is : place_of t k n ≡ t + k - n = mod-eq-sub-mod past ∙ mod-eq_of_lt (omega arith) in inr (past, omega arith)
+  | inr past ↦ let is : place_of t k n ≡ t + k - n = mod-eq-sub-mod past ∙ mod-eq_of_lt (omega arith) in
+      inr (past, omega arith)
 ]
 
 -- a place lies in the region
@@ -40,7 +50,8 @@ same_index t i j n a b c e = elim (place_of_cases t i n (omega arith)) [
 pub one_place : (t i j n : ℕ) → t ≤ n → i < n → j < n → (place_of t i n == place_of t j n) ≡ (i == j)
 one_place t i j n a b c = elim (cases_eq i j) [
   | inl same ↦ eq-eqb (place_of t i n) (place_of t j n) (ap (λ k. place_of t k n) same) ∙ sym (eq-eqb i j same)
-  | inr other ↦ ne_eqb (place_of t i n) (place_of t j n) (λ e. other (same_index t i j n a b c e)) ∙ sym (ne_eqb i j other)
+  | inr other ↦ ne_eqb (place_of t i n) (place_of t j n) (λ e. other (same_index t i j n a b c e))
+      ∙ sym (ne_eqb i j other)
 ]
 
 -- a run from the index i on may start at the place p: the place of i, or the region's end in its stead
@@ -48,7 +59,10 @@ abbrev pub MayStartAt : ℕ → ℕ → ℕ → ℕ → Type 0
 MayStartAt t i n p = (p ≡ t + i) ⊎ (p + n ≡ t + i)
 
 pub MayStartAt-place_of : (t i n : ℕ) → t + i < n + n → MayStartAt t i n (place_of t i n)
-MayStartAt-place_of t i n within = elim (place_of_cases t i n within) [ inl below ↦ inl below.1 | inr past ↦ inr past.1 ]
+MayStartAt-place_of t i n within = elim (place_of_cases t i n within) [
+  | inl below ↦ inl below.1
+  | inr past ↦ inr past.1
+]
 
 -- and its items stand side by side, as far as the end
 pub place_of-run : (t i j n p : ℕ) → MayStartAt t i n p → p + j < n → t ≤ n → i + j < n → place_of t (i + j) n ≡ p + j
@@ -62,8 +76,10 @@ module _ {X : Type 0} where
   length-rotated t xs = omega (arith, length-append (drop t xs) (take t xs), length-drop t xs, length-take t xs)
 
   -- the item at the index k stands at the place of k
-  pub get_or-rotated : (t k n : ℕ) (xs : List X) (d : X) → length xs ≡ n → t ≤ n → k < n → get_or (rotated t xs) k d ≡ get_or xs (place_of t k n) d
+  pub get_or-rotated : (t k n : ℕ) (xs : List X) (d : X) → length xs ≡ n → t ≤ n → k < n
+      → get_or (rotated t xs) k d ≡ get_or xs (place_of t k n) d
   get_or-rotated t k n xs d long a b = grind (arith, places, place_of_cases t k n (omega arith))
 
 pub rotated-map : {X Y : Type 0} (f : X → Y) (t : ℕ) (xs : List X) → rotated t (map f xs) ≡ map f (rotated t xs)
-rotated-map f t xs = ap₂ (λ l r. l ++ r) (drop-map f t xs) (take-map f t xs) ∙ sym (map-append f (drop t xs) (take t xs))
+rotated-map f t xs = ap₂ (λ l r. l ++ r) (drop-map f t xs) (take-map f t xs)
+    ∙ sym (map-append f (drop t xs) (take t xs))

@@ -1,16 +1,25 @@
 -- The answers of a closure on the first items of a list: which items stay and go by them, with one answer more.
-use Rattle.std.{proofs.{Common.{◌≡◌, ◌+◌, ◌<◌, ◌≤◌, List, [], ◌∷◌, ◌++◌, length, Bool, true, false, cond, not, count_by, refl, arith}, lemmas.List.Sums.{sum_by-append, sum_by-cons}}, specs.List.items_where_true}
+use Rattle.std.{
+  proofs.{
+    Common.{◌≡◌, ◌+◌, ◌<◌, ◌≤◌, List, [], ◌∷◌, ◌++◌, length, Bool, true, false, cond, not, count_by, refl, arith},
+    lemmas.List.Sums.{sum_by-append, sum_by-cons},
+  },
+  specs.List.items_where_true,
+}
 use Rattle.arraydeque_ring.specs.Retained.{count_moved}
 
 -- the items that stay and those that go are as many as the answers
-pub kept_and_gone : {X : Type 0} (bs : List Bool) (xs : List X) → length bs ≤ length xs → length (items_where_true bs xs) + count_by not bs ≡ length bs
+pub kept_and_gone : {X : Type 0} (bs : List Bool) (xs : List X) → length bs ≤ length xs
+    → length (items_where_true bs xs) + count_by not bs ≡ length bs
 kept_and_gone [] xs le = refl
 kept_and_gone (b ∷ bs) [] le = absurd (omega arith)
 kept_and_gone (true ∷ bs) (x ∷ xs) le = omega (arith, kept_and_gone bs xs (omega arith))
-kept_and_gone (false ∷ bs) (x ∷ xs) le = let more : count_by not (false ∷ bs) ≡ 1 + count_by not bs = sum_by-cons (λ b. cond (not b) 1 0) false bs in omega (arith, kept_and_gone bs xs (omega arith))
+kept_and_gone (false ∷ bs) (x ∷ xs) le = let more : count_by not (false ∷ bs) ≡ 1 + count_by not bs =
+    sum_by-cons (λ b. cond (not b) 1 0) false bs in omega (arith, kept_and_gone bs xs (omega arith))
 
 -- one more to count
-pub count_by-push : (p : Bool → Bool) (bs : List Bool) (b : Bool) → count_by p (bs ++ b ∷ []) ≡ count_by p bs + cond (p b) 1 0
+pub count_by-push : (p : Bool → Bool) (bs : List Bool) (b : Bool)
+    → count_by p (bs ++ b ∷ []) ≡ count_by p bs + cond (p b) 1 0
 count_by-push p bs b = let sum = sum_by-append (λ x. cond (p x) 1 0) bs (b ∷ []) in omega arith
 
 -- an item that stays behind one that goes is moved

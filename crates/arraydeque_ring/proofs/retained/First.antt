@@ -1,12 +1,29 @@
 -- The answers up to the first item that goes: at a list, and at one in two slices.
-use Rattle.std.{proofs.{Common.{◌≡◌, ℕ, zero, suc, ◌+◌, ◌<◌, List, [], ◌∷◌, ◌++◌, length, take, replicate, get_or, slice_get, Bool, true, false, cond, not, count_by, inl, inr, ◌==◌, if◌then◌else◌, refl, sym, ap, ap₂, ◌∙◌, subst, arith}, Retain.answers_push, lemmas.{Bool.{cases_eq, ne_eqb, eq-eqb, Decides.nat_tests}, List.{append-nil, append_assoc, length-append, length-replicate, replicate-append-replicate, Folds.sum_by-replicate}, Option.slice_get_within}}, specs.{Borrow.Bor, Fn.{CalledAt, Mut}, List.{items_where_true, Retain.ReturnsInTurn}}}
-use Rattle.arraydeque_ring.{specs.Retained.{answers_until, count_moved, MayBeAsked}, proofs.places.Items.slice_get-append}
+use Rattle.std.{
+  proofs.{
+    Common.{◌≡◌, ℕ, zero, suc, ◌+◌, ◌<◌, List, [], ◌∷◌, ◌++◌, length, take, replicate, get_or, slice_get, Bool, true},
+    Common.{false, cond, not, count_by, inl, inr, ◌==◌, if◌then◌else◌, refl, sym, ap, ap₂, ◌∙◌, subst, arith},
+    Retain.answers_push,
+    lemmas.{
+      Bool.{cases_eq, ne_eqb, eq-eqb, Decides.nat_tests},
+      List.{append-nil, append_assoc, length-append, length-replicate, replicate-append-replicate},
+      List.{Folds.sum_by-replicate},
+      Option.slice_get_within,
+    },
+  },
+  specs.{Borrow.Bor, Fn.{CalledAt, Mut}, List.{items_where_true, Retain.ReturnsInTurn}},
+}
+use Rattle.arraydeque_ring.{
+  specs.Retained.{answers_until, count_moved, MayBeAsked},
+  proofs.places.Items.slice_get-append,
+}
 
 pub until_goes : (k n : ℕ) → k < n → answers_until k n ≡ replicate k true ++ false ∷ []
 until_goes k n lt = ap (λ b. replicate k true ++ (if b then [] else false ∷ [])) (ne_eqb k n (omega arith))
 
 until_all : (n : ℕ) → answers_until n n ≡ replicate n true
-until_all n = ap (λ b. replicate n true ++ (if b then [] else false ∷ [])) (eq-eqb n n refl) ∙ append-nil (replicate n true)
+until_all n = ap (λ b. replicate n true ++ (if b then [] else false ∷ [])) (eq-eqb n n refl)
+    ∙ append-nil (replicate n true)
 
 -- n items that stay stand before
 until_behind : (n k m : ℕ) → answers_until (n + k) (n + m) ≡ replicate n true ++ answers_until k m
@@ -15,7 +32,8 @@ until_behind n k m =
       | inl same ↦ eq-eqb (n + k) (n + m) (omega arith) ∙ sym (eq-eqb k m same)
       | inr apart ↦ ne_eqb (n + k) (n + m) (λ same. apart (omega arith)) ∙ sym (ne_eqb k m apart)
     ] in
-    ap₂ (λ bs b. bs ++ (if b then [] else false ∷ [])) (sym (replicate-append-replicate n k true)) test ∙ append_assoc (replicate n true) (replicate k true) (if k == m then [] else false ∷ [])
+    ap₂ (λ bs b. bs ++ (if b then [] else false ∷ [])) (sym (replicate-append-replicate n k true)) test
+    ∙ append_assoc (replicate n true) (replicate k true) (if k == m then [] else false ∷ [])
 
 -- those that stay are the first ones, none goes, and none is moved
 pub picked_front : {X : Type 0} (k : ℕ) (xs : List X) → items_where_true (replicate k true) xs ≡ take k xs
@@ -33,47 +51,66 @@ none_moved (suc k) = none_moved k
 
 module _ {X F : Type 0} (R : F → X → Bool → F → Type 0) where
   -- k items stay, and the next one is answered
-  pub answer_next : (f g h : F) (k : ℕ) (xs : List X) (x : X) (b : Bool) → k < length xs → x ≡ get_or xs k x → ReturnsInTurn R f (replicate k true) xs g → R g x b h → ReturnsInTurn R f (replicate k true ++ b ∷ []) xs h
-  answer_next f g h k xs x b lt is told said = let long = length-replicate k true in answers_push R f g h (replicate k true) xs x b (omega arith) (rw long is) told said
+  pub answer_next : (f g h : F) (k : ℕ) (xs : List X) (x : X) (b : Bool) → k < length xs → x ≡ get_or xs k x
+      → ReturnsInTurn R f (replicate k true) xs g → R g x b h → ReturnsInTurn R f (replicate k true ++ b ∷ []) xs h
+  answer_next f g h k xs x b lt is told said = let long = length-replicate k true in
+      answers_push R f g h (replicate k true) xs x b (omega arith) (rw long is) told said
 
   -- what is answered at a list is so at a longer one
-  told_longer : (f g : F) (bs : List Bool) (xs ys : List X) → ReturnsInTurn R f bs xs g → ReturnsInTurn R f bs (xs ++ ys) g
+  told_longer : (f g : F) (bs : List Bool) (xs ys : List X) → ReturnsInTurn R f bs xs g
+      → ReturnsInTurn R f bs (xs ++ ys) g
   told_longer f g [] xs ys told = told
   told_longer f g (b ∷ bs) [] ys told = absurd told
   told_longer f g (b ∷ bs) (x ∷ xs) ys told = (told.0, told.1, told_longer told.0 g bs xs ys told.2)
 
   -- answers at all of one list, and then at another
-  told_behind : (f g h : F) (bs cs : List Bool) (xs ys : List X) → length bs ≡ length xs → ReturnsInTurn R f bs xs g → ReturnsInTurn R g cs ys h → ReturnsInTurn R f (bs ++ cs) (xs ++ ys) h
+  told_behind : (f g h : F) (bs cs : List Bool) (xs ys : List X) → length bs ≡ length xs → ReturnsInTurn R f bs xs g
+      → ReturnsInTurn R g cs ys h → ReturnsInTurn R f (bs ++ cs) (xs ++ ys) h
   told_behind f g h [] cs [] ys long told after = rw told after
   told_behind f g h [] cs (x ∷ xs) ys long told after = absurd (omega arith)
   told_behind f g h (b ∷ bs) cs [] ys long told after = absurd told
-  told_behind f g h (b ∷ bs) cs (x ∷ xs) ys long told after = (told.0, told.1, told_behind told.0 g h bs cs xs ys (omega arith) told.2 after)
+  told_behind f g h (b ∷ bs) cs (x ∷ xs) ys long told after =
+      (told.0, told.1, told_behind told.0 g h bs cs xs ys (omega arith) told.2 after)
 
   -- the first that goes is in the first of two lists
-  pub until_in_front : (f g : F) (k : ℕ) (xs ys : List X) → k < length xs → ReturnsInTurn R f (answers_until k (length xs)) xs g → ReturnsInTurn R f (answers_until k (length (xs ++ ys))) (xs ++ ys) g
+  pub until_in_front : (f g : F) (k : ℕ) (xs ys : List X)
+      → k < length xs → ReturnsInTurn R f (answers_until k (length xs)) xs g
+      → ReturnsInTurn R f (answers_until k (length (xs ++ ys))) (xs ++ ys) g
   until_in_front f g k xs ys lt told =
       let long = length-append xs ys in
-      rw (until_goes k (length (xs ++ ys)) (omega arith)) (told_longer f g (replicate k true ++ false ∷ []) xs ys (rw (until_goes k (length xs) lt) at told))
+      rw (until_goes k (length (xs ++ ys)) (omega arith))
+      (told_longer f g (replicate k true ++ false ∷ []) xs ys (rw (until_goes k (length xs) lt) at told))
 
   -- or all of that one stay
-  pub all_stay : (f g : F) (k : ℕ) (xs : List X) → k ≡ length xs → ReturnsInTurn R f (answers_until k (length xs)) xs g → ReturnsInTurn R f (replicate k true) xs g
-  all_stay f g k xs all told = subst (λ bs. ReturnsInTurn R f bs xs g) (ap (answers_until k) (sym all) ∙ until_all k) told
+  pub all_stay : (f g : F) (k : ℕ) (xs : List X) → k ≡ length xs → ReturnsInTurn R f (answers_until k (length xs)) xs g
+      → ReturnsInTurn R f (replicate k true) xs g
+  all_stay f g k xs all told =
+      subst (λ bs. ReturnsInTurn R f bs xs g) (ap (answers_until k) (sym all) ∙ until_all k) told
 
-  pub until_in_back : (f g h : F) (k m : ℕ) (xs ys : List X) → k ≡ length xs → ReturnsInTurn R f (answers_until k (length xs)) xs g → ReturnsInTurn R g (answers_until m (length ys)) ys h → ReturnsInTurn R f (answers_until (k + m) (length (xs ++ ys))) (xs ++ ys) h
+  pub until_in_back : (f g h : F) (k m : ℕ) (xs ys : List X) → k ≡ length xs
+      → ReturnsInTurn R f (answers_until k (length xs)) xs g → ReturnsInTurn R g (answers_until m (length ys)) ys h
+      → ReturnsInTurn R f (answers_until (k + m) (length (xs ++ ys))) (xs ++ ys) h
   until_in_back f g h k m xs ys all told after =
       let long : length (xs ++ ys) ≡ k + length ys = length-append xs ys ∙ ap (λ n. n + length ys) (sym all) in
-      rw (long, until_behind) (told_behind f g h (replicate k true) (answers_until m (length ys)) xs ys (length-replicate k true ∙ all) (all_stay f g k xs all told) after)
+      rw (long, until_behind) (told_behind f g h (replicate k true)
+      (answers_until m (length ys)) xs ys (length-replicate k true ∙ all) (all_stay f g k xs all told) after)
 
 -- what may be asked about two lists, one behind the other, may be so about the first, and then about the second
-module _ {X F : Type 0} (t : Mut F (Bor X × Unit {0}) Bool) (f : F) (xs ys : List X) (may : MayBeAsked t f (xs ++ ys)) where
+module _ {X F : Type 0} (t : Mut F (Bor X × Unit {0}) Bool) (f : F) (xs ys : List X)
+    (may : MayBeAsked t f (xs ++ ys)) where
   pub asked_front : MayBeAsked t f xs
   asked_front answers g x here told =
       let lt = slice_get_within xs (length answers) x.now here in
-      may answers g x (slice_get-append xs ys (length answers) ∙ grind (arith, nat_tests, here)) (told_longer (CalledAt t) f g answers xs ys told)
+      may answers g x (slice_get-append xs ys (length answers) ∙ grind (arith, nat_tests, here))
+      (told_longer (CalledAt t) f g answers xs ys told)
 
-  pub asked_back : (g : F) (k : ℕ) → k ≡ length xs → ReturnsInTurn (CalledAt t) f (answers_until k (length xs)) xs g → MayBeAsked t g ys
+  pub asked_back : (g : F) (k : ℕ) → k ≡ length xs → ReturnsInTurn (CalledAt t) f (answers_until k (length xs)) xs g
+      → MayBeAsked t g ys
   asked_back g k all first answers h x here told =
       let bs = replicate k true in
-      let long : length (bs ++ answers) ≡ length xs + length answers = length-append bs answers ∙ ap (λ n. n + length answers) (length-replicate k true ∙ all) in
-      may (bs ++ answers) h x (ap (slice_get (xs ++ ys)) long ∙ slice_get-append xs ys (length xs + length answers) ∙ grind (arith, nat_tests, here))
-      (told_behind (CalledAt t) f g h bs answers xs ys (length-replicate k true ∙ all) (all_stay (CalledAt t) f g k xs all first) told)
+      let long : length (bs ++ answers) ≡ length xs + length answers =
+      length-append bs answers ∙ ap (λ n. n + length answers) (length-replicate k true ∙ all) in
+      may (bs ++ answers) h x (ap (slice_get (xs ++ ys)) long ∙ slice_get-append xs ys (length xs + length answers)
+      ∙ grind (arith, nat_tests, here))
+      (told_behind (CalledAt t) f g h bs answers xs ys (length-replicate k true ∙ all)
+      (all_stay (CalledAt t) f g k xs all first) told)

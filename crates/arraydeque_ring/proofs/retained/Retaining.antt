@@ -1,9 +1,37 @@
 -- How far a retain has come: the answers so far, what the places hold by them, and what it has cost.
-use Rattle.std.{proofs.{Common.{◌≡◌, ℕ, suc, ◌+◌, ◌<◌, ◌≤◌, List, [], ◌∷◌, ◌++◌, length, take, drop, set, get_or, replicate, slice_get, Option, Some, None, Bool, true, false, not, count_by, sym, ap, ap₂, ◌∙◌, subst, arith}, Retain.{picked_push_true, picked_push_false, answers_push}, lemmas.{List.{length_push, length-drop, length-take-le, length-replicate, take_all, drop_all}, Option.get_or_from_slice_get}}, specs.List.{items_where_true, Retain.ReturnsInTurn}}
-use Rattle.arraydeque_ring.{specs.{Places.{held_at, IsFilled, IsEmpty}, Retained.{answers_until, count_moved, Retains}, Ring.{RingState, place_of}, Steps.{Steps, more_takes, more_moves}}, proofs.{gaps.Gapped.{Gapped, Gapped-taken_one, Gapped-take, Gapped-move, IsEmpty-gap, held_behind, LaidOut-gap_last}, places.{Items.slice_get_some, LaidOut.LaidOut}, retained.{Answered.{kept_and_gone, count_by-push, moved-push_true, moved-push_false}, First.{until_goes, all_stay, picked_front, none_goes, none_moved}}}}
+use Rattle.std.{
+  proofs.{
+    Common.{◌≡◌, ℕ, suc, ◌+◌, ◌<◌, ◌≤◌, List, [], ◌∷◌, ◌++◌, length, take, drop, set, get_or, replicate, slice_get},
+    Common.{Option, Some, None, Bool, true, false, not, count_by, sym, ap, ap₂, ◌∙◌, subst, arith},
+    Retain.{picked_push_true, picked_push_false, answers_push},
+    lemmas.{
+      List.{length_push, length-drop, length-take-le, length-replicate, take_all, drop_all},
+      Option.get_or_from_slice_get,
+    },
+  },
+  specs.List.{items_where_true, Retain.ReturnsInTurn},
+}
+use Rattle.arraydeque_ring.{
+  specs.{
+    Places.{held_at, IsFilled, IsEmpty},
+    Retained.{answers_until, count_moved, Retains},
+    Ring.{RingState, place_of},
+    Steps.{Steps, more_takes, more_moves},
+  },
+  proofs.{
+    gaps.Gapped.{Gapped, Gapped-taken_one, Gapped-take, Gapped-move, IsEmpty-gap, held_behind, LaidOut-gap_last},
+    places.{Items.slice_get_some, LaidOut.LaidOut},
+    retained.{
+      Answered.{kept_and_gone, count_by-push, moved-push_true, moved-push_false},
+      First.{until_goes, all_stay, picked_front, none_goes, none_moved},
+    },
+  },
+}
 
--- a retain that began at f has asked about the first `index` items and is at g: `kept` of those stay, in front, and the others, one at least, are gone
-pub record SoFar {F X : Type 0} (R : F → X → Bool → F → Type 0) (f : F) (items : List X) (before : Steps) (n t index kept : ℕ) (ps : List (Option X)) (steps : Steps) (g : F) : Type 0 where
+-- a retain that began at f has asked about the first `index` items and is at g:
+-- `kept` of those stay, in front, and the others, one at least, are gone
+pub record SoFar {F X : Type 0} (R : F → X → Bool → F → Type 0) (f : F) (items : List X) (before : Steps)
+    (n t index kept : ℕ) (ps : List (Option X)) (steps : Steps) (g : F) : Type 0 where
   pub answers : List Bool
   pub asked : length answers ≡ index
   pub in_turn : ReturnsInTurn R f answers items g
@@ -13,10 +41,13 @@ pub record SoFar {F X : Type 0} (R : F → X → Bool → F → Type 0) (f : F) 
   pub cost : steps ≡ more_takes (count_by not answers) (more_moves (count_moved answers) before)
 
 -- all k items stay, and nothing changes
-pub all_kept : {F X : Type 0} (R : F → X → Bool → F → Type 0) (f g : F) (ring : RingState X) (k : ℕ) → k ≡ length ring.items → ReturnsInTurn R f (answers_until k (length ring.items)) ring.items g → Retains R f ring ring
+pub all_kept : {F X : Type 0} (R : F → X → Bool → F → Type 0) (f g : F) (ring : RingState X) (k : ℕ)
+    → k ≡ length ring.items → ReturnsInTurn R f (answers_until k (length ring.items)) ring.items g
+    → Retains R f ring ring
 all_kept R f g ring k all told =
     let bs = replicate k true in
-    let items : ring.items ≡ items_where_true bs ring.items = sym (picked_front k ring.items ∙ take_all k ring.items (omega arith)) in
+    let items : ring.items ≡ items_where_true bs ring.items =
+    sym (picked_front k ring.items ∙ take_all k ring.items (omega arith)) in
     let takes : ring.steps.takes ≡ ring.steps.takes + count_by not bs = omega (arith, none_goes k) in
     let moves : ring.steps.moves ≡ ring.steps.moves + count_moved bs = omega (arith, none_moved k) in
     record {
@@ -28,14 +59,18 @@ all_kept R f g ring k all told =
     }
 
 -- behind k items that stay, the first goes
-pub first_goes : {F X : Type 0} (R : F → X → Bool → F → Type 0) (f g : F) (before : Steps) {items : List X} {n t : ℕ} {ps : List (Option X)} (k : ℕ) → LaidOut n t items ps → k < length items → ReturnsInTurn R f (answers_until k (length items)) items g
+pub first_goes : {F X : Type 0} (R : F → X → Bool → F → Type 0) (f g : F) (before : Steps)
+    {items : List X} {n t : ℕ} {ps : List (Option X)} (k : ℕ) → LaidOut n t items ps → k < length items
+    → ReturnsInTurn R f (answers_until k (length items)) items g
     → SoFar R f items before n t (k + 1) k (set ps (place_of t k n) None) (more_takes 1 before) g
 first_goes R f g before {items} {n} {t} {ps} k l lt told =
     let bs = replicate k true in
-    let stay : items_where_true (bs ++ false ∷ []) items ≡ take k items = picked_push_false bs items ∙ picked_front k items in
+    let stay : items_where_true (bs ++ false ∷ []) items ≡ take k items =
+    picked_push_false bs items ∙ picked_front k items in
     let one : count_by not (bs ++ false ∷ []) ≡ 1 = count_by-push not bs false ∙ ap (λ c. c + 1) (none_goes k) in
     let behind : suc k ≡ k + 1 = omega arith in
-    let no_moves : before.moves ≡ before.moves + count_moved (bs ++ false ∷ []) = omega (arith, moved-push_false bs, none_moved k) in
+    let no_moves : before.moves ≡ before.moves + count_moved (bs ++ false ∷ []) =
+    omega (arith, moved-push_false bs, none_moved k) in
     record {
       answers = bs ++ false ∷ [];
       asked = length_push bs false ∙ ap (λ c. c + 1) (length-replicate k true);
@@ -46,7 +81,8 @@ first_goes R f g before {items} {n} {t} {ps} k l lt told =
       cost = ap₂ (λ a b. record before { takes = before.takes + a; moves = b }) (sym one) no_moves;
     }
 
-module _ {F X : Type 0} {R : F → X → Bool → F → Type 0} {f : F} {items : List X} {before : Steps} {n t index kept : ℕ} {ps : List (Option X)} {steps : Steps} {g : F} (s : SoFar R f items before n t index kept ps steps g) where
+module _ {F X : Type 0} {R : F → X → Bool → F → Type 0} {f : F} {items : List X} {before : Steps} {n t index kept : ℕ}
+    {ps : List (Option X)} {steps : Steps} {g : F} (s : SoFar R f items before n t index kept ps steps g) where
   -- the items asked about stay or are gone
   counted : index ≤ length items → kept + count_by not s.answers ≡ index
   counted le = omega (arith, kept_and_gone s.answers items (omega (arith, s.asked)), s.asked, s.many)
@@ -57,13 +93,17 @@ module _ {F X : Type 0} {R : F → X → Bool → F → Type 0} {f : F} {items :
 
   -- no more stay than were asked about, and all lie in the region
   pub all_within : index ≤ length items → (kept ≤ index) × (length items ≤ n)
-  all_within le = (omega (arith, counted le), omega (arith, s.places.within, counted le, s.many, length-drop index items))
+  all_within le =
+      (omega (arith, counted le), omega (arith, s.places.within, counted le, s.many, length-drop index items))
 
   -- all have been asked about
   pub all_asked : length items ≤ index → LaidOut n t (items_where_true s.answers items) ps
-  all_asked past = LaidOut-gap_last (subst (λ l. Gapped n t (items_where_true s.answers items) (count_by not s.answers) l ps) (drop_all index items past) s.places)
+  all_asked past = LaidOut-gap_last (subst (λ l. Gapped n t (items_where_true s.answers items)
+      (count_by not s.answers) l ps) (drop_all index items past) s.places)
 
-module _ {F X : Type 0} {R : F → X → Bool → F → Type 0} {f : F} {items : List X} {before : Steps} {n t index kept : ℕ} {ps : List (Option X)} {steps : Steps} {g : F} (s : SoFar R f items before n t index kept ps steps g) (lt : index < length items) where
+module _ {F X : Type 0} {R : F → X → Bool → F → Type 0} {f : F} {items : List X} {before : Steps} {n t index kept : ℕ}
+    {ps : List (Option X)} {steps : Steps} {g : F} (s : SoFar R f items before n t index kept ps steps g)
+    (lt : index < length items) where
   here : length (items_where_true s.answers items) + count_by not s.answers ≡ index
   here = omega (arith, counted s (omega arith), s.many)
 
@@ -87,26 +127,32 @@ module _ {F X : Type 0} {R : F → X → Bool → F → Type 0} {f : F} {items :
 
     -- the next item stays, and is moved up
     pub one_stays : R g x true h → let src = place_of t index n in let dst = place_of t kept n in
-        SoFar R f items before n t (index + 1) (kept + 1) (set (set ps src None) dst (held_at ps src)) (more_moves 1 steps) h
+        SoFar R f items before n t (index + 1) (kept + 1) (set (set ps src None) dst (held_at ps src))
+        (more_moves 1 steps) h
     one_stays called =
         let bs = s.answers in
         let ks = items_where_true bs items in
         let gap = count_by not bs in
-        let more : items_where_true (bs ++ true ∷ []) items ≡ ks ++ x ∷ [] = picked_push_true bs items x in_list ∙ ap (λ y. ks ++ y ∷ []) (sym x_is) in
+        let more : items_where_true (bs ++ true ∷ []) items ≡ ks ++ x ∷ [] =
+        picked_push_true bs items x in_list ∙ ap (λ y. ks ++ y ∷ []) (sym x_is) in
         let gone : count_by not (bs ++ true ∷ []) ≡ gap = let push = count_by-push not bs true in omega arith in
-        let moves : before.moves + count_moved bs + 1 ≡ before.moves + count_moved (bs ++ true ∷ []) = omega (arith, moved-push_true bs s.some_gone) in
+        let moves : before.moves + count_moved bs + 1 ≡ before.moves + count_moved (bs ++ true ∷ []) =
+        omega (arith, moved-push_true bs s.some_gone) in
         record {
           answers = bs ++ true ∷ [];
           asked = length_push bs true ∙ ap (λ k. k + 1) s.asked;
           in_turn = answers_push R f g h bs items x true in_list x_is s.in_turn called;
           many = ap length more ∙ length_push ks x ∙ ap (λ k. k + 1) s.many;
           some_gone = omega (arith, s.some_gone, gone);
-          places = rw (more, gone) (Gapped-move items index index s.places here lt x kept (sym next_held ∙ held) s.many);
-          cost = ap (more_moves 1) s.cost ∙ ap₂ (λ a b. record before { takes = before.takes + a; moves = b }) (sym gone) moves;
+          places =
+              rw (more, gone) (Gapped-move items index index s.places here lt x kept (sym next_held ∙ held) s.many);
+          cost = ap (more_moves 1) s.cost
+              ∙ ap₂ (λ a b. record before { takes = before.takes + a; moves = b }) (sym gone) moves;
         }
 
     -- the next item goes
-    pub one_goes : R g x false h → SoFar R f items before n t (index + 1) kept (set ps (place_of t index n) None) (more_takes 1 steps) h
+    pub one_goes : R g x false h
+        → SoFar R f items before n t (index + 1) kept (set ps (place_of t index n) None) (more_takes 1 steps) h
     one_goes called =
         let bs = s.answers in
         let gap = count_by not bs in
@@ -119,5 +165,6 @@ module _ {F X : Type 0} {R : F → X → Bool → F → Type 0} {f : F} {items :
           many = ap length (picked_push_false bs items) ∙ s.many;
           some_gone = omega (arith, gone);
           places = rw (picked_push_false, ← gone) (Gapped-take items index index s.places here lt);
-          cost = ap (more_takes 1) s.cost ∙ ap₂ (λ a b. record before { takes = a; moves = before.moves + b }) takes (sym (moved-push_false bs));
+          cost = ap (more_takes 1) s.cost
+              ∙ ap₂ (λ a b. record before { takes = a; moves = before.moves + b }) takes (sym (moved-push_false bs));
         }

@@ -4,5 +4,6 @@ use Rattle.adq.proofs.drive.dispatch.Goals as goal
 
 pub returns-in_default-as_str-clause-ends : goal.returns-in_default-as_str-clause-ends
 returns-in_default-as_str-clause-ends g c =
-    let none = unsettled c.args.args.now c.policy-item.result c.policy-item.is (λ h. c.in_default-as_str.not-sat (c.as_str.ensures.value ∙ h)) (λ h. c.in_default-as_str.not-wrap (c.as_str.ensures.value ∙ h)) in
+    let none = unsettled c.args.args.now c.policy-item.result c.policy-item.is (λ h. c.in_default-as_str.not-sat
+    (c.as_str.ensures.value ∙ h)) (λ h. c.in_default-as_str.not-wrap (c.as_str.ensures.value ∙ h)) in
     subst (λ s. Ends {A = Global} s c.args.text.now.items (Err Arguments)) (sym none) refl

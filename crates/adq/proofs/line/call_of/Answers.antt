@@ -12,4 +12,5 @@ returns-in_default-word c = let t = c.in-Ok.ensures.cases in
 
 pub returns : goal.returns
 returns c = let t = c.in-Ok.ensures.cases in
-    read _ _ _ (Some c.in_ok-call.field-0) (t.0 ∙ c.stripped.ensures) (subst IsUtf8 c.stripped.ensures t.1) c.in-Some.ensures.words c.in_ok-call.ensures
+    read _ _ _ (Some c.in_ok-call.field-0) (t.0 ∙ c.stripped.ensures)
+    (subst IsUtf8 c.stripped.ensures t.1) c.in-Some.ensures.words c.in_ok-call.ensures

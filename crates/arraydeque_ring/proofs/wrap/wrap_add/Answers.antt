@@ -6,4 +6,5 @@ pub overflow_add-result : goal.overflow_add-result
 overflow_add-result c = omega (arith, at_most_half c.args.capacity c.ranges.capacity.fits c.if-capacity-eq0.true)
 
 pub returns-then-capacity-eq0 : goal.returns-then-capacity-eq0
-returns-then-capacity-eq0 c = masked (c.args.place + c.args.offset) c.args.capacity (omega (arith, c.requires.in_region)) c.if-capacity-eq0.true
+returns-then-capacity-eq0 c =
+    masked (c.args.place + c.args.offset) c.args.capacity (omega (arith, c.requires.in_region)) c.if-capacity-eq0.true

@@ -1,11 +1,20 @@
-use Rattle.std.proofs.{Common.{ℕ, ◌≡◌, length, get_or, replicate, List, Option, None, inl, inr, sym, subst, ap, ◌∙◌, arith}, lemmas.{Bool.cases_lt, Grind.{get_or-set_at}, List.{ext_get_or, get_or-replicate, get_or-set_other, length-replicate, length-set, FromFn.{length-map-range_with_len, get_or-map-range_with_len}}}}
+use Rattle.std.proofs.{
+  Common.{ℕ, ◌≡◌, length, get_or, replicate, List, Option, None, inl, inr, sym, subst, ap, ◌∙◌, arith},
+  lemmas.{
+    Bool.cases_lt,
+    Grind.{get_or-set_at},
+    List.{ext_get_or, get_or-replicate, get_or-set_other, length-replicate, length-set},
+    List.{FromFn.{length-map-range_with_len, get_or-map-range_with_len}},
+  },
+}
 use Rattle.arraydeque_ring.specs.Moved.{held_after, IsFilledRound}
 use Rattle.arraydeque_ring_tests.proofs.block_moves.move_beside.Goals.{in-Some+else-assert_eq, in_default}
 use Rattle.arraydeque_ring_tests.proofs.block_moves.move_beside.Goals as goal
 
 pub wrap_move-requires-clause-filled : goal.wrap_move-requires-clause-filled
 wrap_move-requires-clause-filled g c =
-    subst (λ (ps : List (Option ℕ)). IsFilledRound c.args.src c.args.len ps) (sym c.in_ok-slots.ensures) c.assert_movable.ensures.filled
+    subst (λ (ps : List (Option ℕ)). IsFilledRound c.args.src c.args.len ps)
+    (sym c.in_ok-slots.ensures) c.assert_movable.ensures.filled
 
 pub loop-place-init : goal.loop-place-init
 loop-place-init g c =
@@ -33,11 +42,13 @@ loop-place-preserved g c =
           record {
             long = ap length now ∙ length-set places place None ∙ was.long;
             gone = λ x lt. ap (λ (ps : List (Option ℕ)). get_or ps x None) now ∙ elim (cases_lt x place) [
-              | inl before ↦ get_or-set_other places place x None None (λ same. absurd (omega arith)) ∙ was.gone x before
+              | inl before ↦ get_or-set_other places place x None None (λ same. absurd (omega arith))
+                  ∙ was.gone x before
               | inr le ↦ get_or-set_at places place x None None (omega arith) (omega (arith, was.long))
             ];
             left = λ x le lt. ap (λ (ps : List (Option ℕ)). get_or ps x None) now
-                ∙ get_or-set_other places place x None None (λ same. absurd (omega arith)) ∙ was.left x (omega arith) lt;
+                ∙ get_or-set_other places place x None None (λ same. absurd (omega arith))
+                ∙ was.left x (omega arith) lt;
           }
       | in_default w ↦
           let now = ap (λ s. s.places) w.slots-is in
@@ -45,7 +56,8 @@ loop-place-preserved g c =
             long = ap length now ∙ was.long;
             gone = λ x lt. ap (λ (ps : List (Option ℕ)). get_or ps x None) now ∙ elim (cases_lt x place) [
               | inl before ↦ was.gone x before
-              | inr le ↦ let same : x ≡ place = omega arith in rw same (was.left place (omega arith) here ∙ sym c.held_then.ensures ∙ w.in_default.is)
+              | inr le ↦ let same : x ≡ place = omega arith in
+                  rw same (was.left place (omega arith) here ∙ sym c.held_then.ensures ∙ w.in_default.is)
             ];
             left = λ x le lt. ap (λ (ps : List (Option ℕ)). get_or ps x None) now ∙ was.left x (omega arith) lt;
           }

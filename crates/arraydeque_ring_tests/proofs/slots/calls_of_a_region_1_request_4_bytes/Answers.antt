@@ -1,5 +1,8 @@
 -- The values that stand in the places, which the calls ask for.
-use Rattle.std.proofs.{Common.{rules, refl, sym, ap, ◌∙◌, ◌≡◌, ℕ, List, [], ◌∷◌, map, Some, None, unwrap_or, inl, inr, arith}, lemmas.Bool.cases_lt}
+use Rattle.std.proofs.{
+  Common.{rules, refl, sym, ap, ◌∙◌, ◌≡◌, ℕ, List, [], ◌∷◌, map, Some, None, unwrap_or, inl, inr, arith},
+  lemmas.Bool.cases_lt,
+}
 use Rattle.arraydeque_ring_tests.proofs.slots.calls_of_a_region_1_request_4_bytes.Goals as goal
 
 values : (xs : List ℕ) → map (λ held. unwrap_or held 0) (map Some xs) ≡ xs
@@ -30,29 +33,34 @@ wrap_move-requires-clause-filled g c =
 pub get-requires : goal.get-requires
 get-requires g c =
     let before : c.exchange.new.self.places ≡ Some 20 ∷ None ∷ None ∷ Some 10 ∷ [] = search rules in
-    let now : c.wrap_move.new.self.places ≡ None ∷ Some 10 ∷ Some 20 ∷ None ∷ [] = rw before at c.wrap_move.ensures.places in
+    let now : c.wrap_move.new.self.places ≡ None ∷ Some 10 ∷ Some 20 ∷ None ∷ [] =
+    rw before at c.wrap_move.ensures.places in
     rw now (10, refl)
 
 pub slice-requires : goal.slice-requires
 slice-requires g c =
     let before : c.exchange.new.self.places ≡ Some 20 ∷ None ∷ None ∷ Some 10 ∷ [] = search rules in
-    let now : c.wrap_move.new.self.places ≡ None ∷ Some 10 ∷ Some 20 ∷ None ∷ [] = rw before at c.wrap_move.ensures.places in
+    let now : c.wrap_move.new.self.places ≡ None ∷ Some 10 ∷ Some 20 ∷ None ∷ [] =
+    rw before at c.wrap_move.ensures.places in
     rw now (omega arith, (10 ∷ 20 ∷ [], refl))
 
 pub run_lent-requires : goal.run_lent-requires
 run_lent-requires g c =
     let before : c.exchange.new.self.places ≡ Some 20 ∷ None ∷ None ∷ Some 10 ∷ [] = search rules in
-    let now : c.wrap_move.new.self.places ≡ None ∷ Some 10 ∷ Some 20 ∷ None ∷ [] = rw before at c.wrap_move.ensures.places in
+    let now : c.wrap_move.new.self.places ≡ None ∷ Some 10 ∷ Some 20 ∷ None ∷ [] =
+    rw before at c.wrap_move.ensures.places in
     rw now (omega arith, (30 ∷ 20 ∷ [], refl))
 
 pub take-requires : goal.take-requires
 take-requires g c =
     let before : c.exchange.new.self.places ≡ Some 20 ∷ None ∷ None ∷ Some 10 ∷ [] = search rules in
-    let now : c.wrap_move.new.self.places ≡ None ∷ Some 10 ∷ Some 20 ∷ None ∷ [] = rw before at c.wrap_move.ensures.places in
+    let now : c.wrap_move.new.self.places ≡ None ∷ Some 10 ∷ Some 20 ∷ None ∷ [] =
+    rw before at c.wrap_move.ensures.places in
     rw (lent 30 20 c.run_lent.result.now (rw now at c.run_lent.ensures.values), now) (40, refl)
 
 pub take-requires-then-eq : goal.take-requires-then-eq
 take-requires-then-eq g c =
     let before : c.exchange.new.self.places ≡ Some 20 ∷ None ∷ None ∷ Some 10 ∷ [] = search rules in
-    let now : c.wrap_move.new.self.places ≡ None ∷ Some 10 ∷ Some 20 ∷ None ∷ [] = rw before at c.wrap_move.ensures.places in
+    let now : c.wrap_move.new.self.places ≡ None ∷ Some 10 ∷ Some 20 ∷ None ∷ [] =
+    rw before at c.wrap_move.ensures.places in
     rw (c.take.ensures.places, lent 30 20 c.run_lent.result.now (rw now at c.run_lent.ensures.values), now) (30, refl)

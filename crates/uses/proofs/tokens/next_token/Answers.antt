@@ -1,5 +1,11 @@
-use Rattle.std.proofs.{Common.{◌≡◌, ◌≢◌, [], ◌∷◌, slice_get, rules, arith}, lemmas.{Grind.common_steps, List.Elements.{All-push}}}
-use Rattle.uses.{specs.{Tokens.kind_of, declared.tokens.Kind.TheVariants.Sign}, proofs.{Cut.some_weaker, Taken.{TakesOff-append}}}
+use Rattle.std.proofs.{
+  Common.{◌≡◌, ◌≢◌, [], ◌∷◌, slice_get, rules, arith},
+  lemmas.{Grind.common_steps, List.Elements.{All-push}},
+}
+use Rattle.uses.{
+  specs.{Tokens.kind_of, declared.tokens.Kind.TheVariants.Sign},
+  proofs.{Cut.some_weaker, Taken.{TakesOff-append}},
+}
 use Rattle.uses.proofs.tokens.next_token.Goals as goal
 
 pub loop-byte-preserved : goal.loop-byte-preserved
@@ -11,9 +17,12 @@ loop-byte-preserved g c =
     let same : kind_of byte ≡ c.kind_of-kind.result = search rules in
     let no_sign : c.kind_of-kind.result ≢ Sign = search rules in
     record {
-      taken = rw c.in_ok-push-2.ensures.items (TakesOff-append g.I.Iterator.next_gives c.args.scanner.now c.loop-byte.scanner c.next_if.new.self c.loop-byte.text.items (byte ∷ []) was.taken c.in-Some-next_if.ensures.rest);
+      taken = rw c.in_ok-push-2.ensures.items
+          (TakesOff-append g.I.Iterator.next_gives c.args.scanner.now c.loop-byte.scanner c.next_if.new.self
+          c.loop-byte.text.items (byte ∷ []) was.taken c.in-Some-next_if.ensures.rest);
       some = grind (arith, common_steps);
-      one_kind = rw c.in_ok-push-2.ensures.items (All-push (λ byte. kind_of byte ≡ c.kind_of-kind.result) c.loop-byte.text.items byte was.one_kind same);
+      one_kind = rw c.in_ok-push-2.ensures.items
+          (All-push (λ byte. kind_of byte ≡ c.kind_of-kind.result) c.loop-byte.text.items byte was.one_kind same);
       signs = λ sign. absurd (no_sign sign);
       finite = on.1;
       goes = omega (arith, on.2, was.goes);
@@ -26,4 +35,5 @@ returns-clause-goes g c =
     record { on = λ _. (tt, last.0, omega (arith, last.1, less)); keeps = tt; rests = λ _. tt }
 
 pub returns-clause-longest : goal.returns-clause-longest
-returns-clause-longest g c rest has = some_weaker (slice_get rest 0) (c.in_default-next_if.ensures.refused rest has) (λ byte refused. search rules)
+returns-clause-longest g c rest has =
+    some_weaker (slice_get rest 0) (c.in_default-next_if.ensures.refused rest has) (λ byte refused. search rules)

@@ -6,10 +6,14 @@ pub loop-tokens-preserved : goal.loop-tokens-preserved
 loop-tokens-preserved g c =
     let token = rw c.in-Some.is at c.in_ok-token.ensures.taken in
     record {
-      taken = rw (c.in_ok-push.ensures.items, flat_map-append) (TakesOff-append g.I.Iterator.next_gives c.args.scanner.now c.loop-tokens.scanner c.next_token.new.scanner (joined c.loop-tokens.tokens.items) (joined (c.in-Some.token ∷ [])) c.loop-tokens.invariant.taken token);
+      taken = rw (c.in_ok-push.ensures.items, flat_map-append)
+          (TakesOff-append g.I.Iterator.next_gives c.args.scanner.now c.loop-tokens.scanner c.next_token.new.scanner
+          (joined c.loop-tokens.tokens.items) (joined (c.in-Some.token ∷ [])) c.loop-tokens.invariant.taken token);
       one_kind = grind (arith, common_steps);
       signs = grind (arith, common_steps);
-      longest = λ rest has. rw c.in_ok-push.ensures.items (AreCut-push c.loop-tokens.tokens.items c.in-Some.token rest (c.loop-tokens.invariant.longest (joined (c.in-Some.token ∷ []) ++ rest) (token rest has)) (rw c.in-Some.is at c.in_ok-token.ensures.one_kind) ((rw c.in-Some.is at c.in_ok-token.ensures.longest) rest has));
+      longest = λ rest has. rw c.in_ok-push.ensures.items (AreCut-push c.loop-tokens.tokens.items c.in-Some.token rest
+          (c.loop-tokens.invariant.longest (joined (c.in-Some.token ∷ []) ++ rest) (token rest has)) (rw c.in-Some.is at
+          c.in_ok-token.ensures.one_kind) ((rw c.in-Some.is at c.in_ok-token.ensures.longest) rest has));
       finite = grind (arith, common_steps);
     }
 

@@ -10,6 +10,7 @@ returns g c =
       record {
         writes_back = tt;
         value = value;
-        empty = no_last _ c.get_mut.result c.args.self.now.items (rw (c.saturating_sub-last.ensures, c.len.ensures.len) at value);
+        empty = no_last _ c.get_mut.result c.args.self.now.items
+            (rw (c.saturating_sub-last.ensures, c.len.ensures.len) at value);
       },
     )

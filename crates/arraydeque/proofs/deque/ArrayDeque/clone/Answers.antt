@@ -4,13 +4,20 @@ use Rattle.arraydeque.{specs.Deque.{DequeState, with_back, empty_deque}, proofs.
 use Rattle.arraydeque.proofs.deque.ArrayDeque.clone.Goals as goal
 
 pub clone-requires : goal.clone-requires
-clone-requires g c = subst (λ (d : DequeState g.row.T.Denot). ClonesAreSame g.T.Clone.is_clone d.items) (sym c.self.view_is) c.requires
+clone-requires g c =
+    subst (λ (d : DequeState g.row.T.Denot). ClonesAreSame g.T.Clone.is_clone d.items) (sym c.self.view_is) c.requires
 
 pub of-requires : goal.of-requires
 of-requires g c =
-    let made = c.in_ok-ring.ensures.ok in
-    (omega arith, (ap (λ (ring : RingState g.row.T.Denot). ring.capacity) made ∙ c.self.invariant.0, omega (arith, ap (λ (ring : RingState g.row.T.Denot). length ring.items) made, c.self.invariant.1)))
+    let made = c.in_ok-ring.ensures.ok in (
+      omega arith,
+      (
+        ap (λ (ring : RingState g.row.T.Denot). ring.capacity) made ∙ c.self.invariant.0,
+        omega (arith, ap (λ (ring : RingState g.row.T.Denot). length ring.items) made, c.self.invariant.1),
+      ),
+    )
 
 pub returns-clause-items : goal.returns-clause-items
 returns-clause-items g c =
-    ap of_ring (c.of.ensures ∙ c.in_ok-ring.ensures.ok) ∙ ap (λ (d : DequeState g.row.T.Denot). with_back d.items empty_deque) c.self.view_is
+    ap of_ring (c.of.ensures ∙ c.in_ok-ring.ensures.ok)
+    ∙ ap (λ (d : DequeState g.row.T.Denot). with_back d.items empty_deque) c.self.view_is

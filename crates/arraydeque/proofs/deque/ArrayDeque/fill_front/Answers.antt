@@ -11,7 +11,9 @@ invariant_of-self g c =
 pub returns-clause-filled : goal.returns-clause-filled
 returns-clause-filled g c =
     Fills-as g.I.Iterator.next_gives c.fill_front.ensures.filled _ _
-    (omega (arith, c.self.invariant.0, ap (λ (d : DequeState g.row.T.Denot). length d.items) c.self.view_is)) (λ xs same. ap of_ring same ∙ ap (λ n. with_front n xs (of_ring c.self.inside.ring)) c.self.invariant.0 ∙ ap (with_front g.row.CAP xs) c.self.view_is)
+    (omega (arith, c.self.invariant.0, ap (λ (d : DequeState g.row.T.Denot). length d.items) c.self.view_is))
+    (λ xs same. ap of_ring same ∙ ap (λ n. with_front n xs (of_ring c.self.inside.ring)) c.self.invariant.0
+    ∙ ap (with_front g.row.CAP xs) c.self.view_is)
 
 pub returns-clause-within : goal.returns-clause-within
 returns-clause-within g c =

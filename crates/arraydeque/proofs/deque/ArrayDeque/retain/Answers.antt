@@ -10,12 +10,19 @@ pub returns-clause-retains : goal.returns-clause-retains
 returns-clause-retains g c =
     let r = c.retain.ensures.retains in
     let kept = ap (λ (ring : RingState g.row.T.Denot). as_ring g.row.CAP (of_ring ring)) r.kept in
-    rw (← c.self.view_is) (record { answers = r.answers; last = r.last; one_each = r.one_each; in_turn = r.in_turn; kept = kept })
+    rw (← c.self.view_is) (record {
+      answers = r.answers;
+      last = r.last;
+      one_each = r.one_each;
+      in_turn = r.in_turn;
+      kept = kept;
+    })
 
 pub returns-clause-filtered : goal.returns-clause-filtered
 returns-clause-filtered g c =
     let r = c.retain.ensures.retains in
-    rw (← c.self.view_is) (r.answers, r.last, r.one_each, r.in_turn, ap (λ (ring : RingState g.row.T.Denot). ring.items) r.kept)
+    rw (← c.self.view_is)
+    (r.answers, r.last, r.one_each, r.in_turn, ap (λ (ring : RingState g.row.T.Denot). ring.items) r.kept)
 
 pub returns-clause-tested : goal.returns-clause-tested
 returns-clause-tested g c =

@@ -9,7 +9,11 @@ pub returns-then-bytes-least_bytes : goal.returns-then-bytes-least_bytes
 returns-then-bytes-least_bytes g c = behind-none c.args.left.now c.args.right.now
 
 pub loop-pairs-init : goal.loop-pairs-init
-loop-pairs-init g c = record { behind = behind-none c.args.left.now c.args.right.now; left = omega (arith, c.min-pairs.ensures); right = omega (arith, c.min-pairs.ensures) }
+loop-pairs-init g c = record {
+  behind = behind-none c.args.left.now c.args.right.now;
+  left = omega (arith, c.min-pairs.ensures);
+  right = omega (arith, c.min-pairs.ensures);
+}
 
 pub loop-pairs-preserved : goal.loop-pairs-preserved
 loop-pairs-preserved g c =

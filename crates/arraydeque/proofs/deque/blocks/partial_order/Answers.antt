@@ -3,4 +3,5 @@ use Rattle.arraydeque.proofs.Sections.{slice_partial_cmp_behind}
 use Rattle.arraydeque.proofs.deque.blocks.partial_order.Goals as goal
 
 pub returns : goal.returns
-returns g c = c.partial_cmp.ensures ∙ slice_partial_cmp_behind c.behind_equal.ensures g.T.PartialOrd.partial_cmp g.met.T.PartialOrd.laws
+returns g c = c.partial_cmp.ensures
+    ∙ slice_partial_cmp_behind c.behind_equal.ensures g.T.PartialOrd.partial_cmp g.met.T.PartialOrd.laws

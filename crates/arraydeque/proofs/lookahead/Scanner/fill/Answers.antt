@@ -1,4 +1,7 @@
-use Rattle.std.proofs.{Common.{arith, refl, [], ◌∷◌, ◌<◌, length, inl, inr}, lemmas.{Grind.common_steps, Option.{slice_get_cases, slice_get_past}}}
+use Rattle.std.proofs.{
+  Common.{arith, refl, [], ◌∷◌, ◌<◌, length, inl, inr},
+  lemmas.{Grind.common_steps, Option.{slice_get_cases, slice_get_past}},
+}
 use Rattle.arraydeque.{specs.Lookahead.left_of, proofs.Scanned.{HandsOut-append, TakesOff-from_out}}
 use Rattle.arraydeque.proofs.lookahead.Scanner.fill.Goals as goal
 
@@ -7,7 +10,9 @@ unfolding left_of
 loop-self-preserved g c =
     let read = rw (← c.self-in-loop-self.view_is) at c.in-Some.ensures.reads in
     record {
-      hands_out = HandsOut-append g.I.Iterator.next_gives c.args.self.now c.loop-self.self (record { iter = _; buffer = _; ended = _; left = c.read.new.self.left }) [] [] c.loop-self.invariant.hands_out (c.in-Some.item ∷ [], read, grind (arith, common_steps));
+      hands_out = HandsOut-append g.I.Iterator.next_gives c.args.self.now c.loop-self.self
+          (record { iter = _; buffer = _; ended = _; left = c.read.new.self.left }) [] []
+          c.loop-self.invariant.hands_out (c.in-Some.item ∷ [], read, grind (arith, common_steps));
       ended = grind (arith, common_steps);
       within = grind (arith, common_steps);
       unchanged = λ there. absurd (grind (arith, common_steps));
@@ -19,7 +24,8 @@ pub returns-in_default : goal.returns-in_default
 unfolding left_of
 returns-in_default g c =
     let was = c.loop-self.invariant in
-    let whole = HandsOut-append g.I.Iterator.next_gives c.args.self.now c.loop-self.self c.read.new.self [] [] was.hands_out ([], c.in_default.ensures.reads, grind (arith, common_steps)) in
+    let whole = HandsOut-append g.I.Iterator.next_gives c.args.self.now c.loop-self.self c.read.new.self [] []
+    was.hands_out ([], c.in_default.ensures.reads, grind (arith, common_steps)) in
     let past = slice_get_past c.read.new.self.buffer c.args.k (grind (arith, common_steps)) in
     record {
       hands_out = whole;

@@ -1,9 +1,14 @@
 use Rattle.std.{proofs.Common.ap, specs.Vec.Iter.into_iter_items}
-use Rattle.arraydeque.{specs.{Deque.DequeState, Policy.saturating}, proofs.{Makes.extended_back-makes, Taken.TakesFrom-list}}
+use Rattle.arraydeque.{
+  specs.{Deque.DequeState, Policy.saturating},
+  proofs.{Makes.extended_back-makes, Taken.TakesFrom-list},
+}
 use Rattle.arraydeque.proofs.run.SaturatingMachinePolicy.answer_extend_back.Goals as goal
 
 pub returns : goal.returns
 returns g c =
-    let added = TakesFrom-list _ _ _ _ c.args.elements.items into_iter_items _ c.extend_back.ensures (λ it became. (became.0, became.3)) in
-    let made = extended_back-makes saturating g.row.CAP _ c.args.elements _ _ (ap (λ (d : DequeState g.row.T.Denot). d.items) added) added in
+    let added = TakesFrom-list _ _ _ _ c.args.elements.items into_iter_items _ c.extend_back.ensures
+    (λ it became. (became.0, became.3)) in
+    let made = extended_back-makes saturating g.row.CAP _ c.args.elements _ _
+    (ap (λ (d : DequeState g.row.T.Denot). d.items) added) added in
     record { makes = made.0; makes_extend = made.1 }

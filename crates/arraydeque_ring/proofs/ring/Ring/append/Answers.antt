@@ -1,6 +1,13 @@
-use Rattle.std.proofs.{Common.{◌≡◌, ℕ, zero, suc, ◌+◌, ◌-◌, ◌≤◌, drop, ap, ap₂, ◌∙◌, arith}, lemmas.Bool.Decides.nat_tests}
+use Rattle.std.proofs.{
+  Common.{◌≡◌, ℕ, zero, suc, ◌+◌, ◌-◌, ◌≤◌, drop, ap, ap₂, ◌∙◌, arith},
+  lemmas.Bool.Decides.nat_tests,
+}
 use Rattle.arraydeque_ring.specs.{Ring.{place_of, up_by}, Steps.more_takes}
-use Rattle.arraydeque_ring.proofs.places.{Appended.{joined, shed, joined-both, shed-both}, Opened.opened, Rotated.place_of-zero}
+use Rattle.arraydeque_ring.proofs.places.{
+  Appended.{joined, shed, joined-both, shed-both},
+  Opened.opened,
+  Rotated.place_of-zero,
+}
 use Rattle.arraydeque_ring.proofs.ring.Ring.append.Goals as goal
 
 first_up : (k s n : ℕ) → s ≤ n - 1 → place_of s k n ≡ up_by k s n

@@ -1,5 +1,23 @@
-use Rattle.std.{proofs.Common.{◌≡◌, ap₂, ◌+◌, ◌-◌, ◌≤◌, ◌++◌, length, take, drop, inl, refl, sym, ap, ◌∙◌, arith}, specs.List.splice, proofs.lemmas.List.{length-append, length-take-le, length-drop}}
-use Rattle.arraydeque_ring.{specs.{Loans.with_run, Places.IsFilledRun, Ring.place_of, Steps.{more_puts, more_takes}}, proofs.{gaps.Gapped.{Gapped-taken, LaidOut-gap_first}, places.{Appended.{LaidOut-appended, IsEmptyRun-behind}, Handed.handed, Held.length_filled, LaidOut.{IsFilledRun-LaidOut, IsFilledRun-rotated, same_run}, Opened.{Opened, opened, closed, kept, place_at, from_start}, Rotated.{MayStartAt, MayStartAt-place_of}}, ring.Ring.append_run.{Given.Over, Goals.{After-wrap_add-place, After-hand_over, After-wrap_add-other-inside}}}}
+use Rattle.std.{
+  proofs.Common.{◌≡◌, ap₂, ◌+◌, ◌-◌, ◌≤◌, ◌++◌, length, take, drop, inl, refl, sym, ap, ◌∙◌, arith},
+  specs.List.splice,
+  proofs.lemmas.List.{length-append, length-take-le, length-drop},
+}
+use Rattle.arraydeque_ring.{
+  specs.{Loans.with_run, Places.IsFilledRun, Ring.place_of, Steps.{more_puts, more_takes}},
+  proofs.{
+    gaps.Gapped.{Gapped-taken, LaidOut-gap_first},
+    places.{
+      Appended.{LaidOut-appended, IsEmptyRun-behind},
+      Handed.handed,
+      Held.length_filled,
+      LaidOut.{IsFilledRun-LaidOut, IsFilledRun-rotated, same_run},
+      Opened.{Opened, opened, closed, kept, place_at, from_start},
+      Rotated.{MayStartAt, MayStartAt-place_of},
+    },
+    ring.Ring.append_run.{Given.Over, Goals.{After-wrap_add-place, After-hand_over, After-wrap_add-other-inside}},
+  },
+}
 use Rattle.arraydeque_ring.proofs.ring.Ring.append_run.Goals as goal
 
 -- where the run goes

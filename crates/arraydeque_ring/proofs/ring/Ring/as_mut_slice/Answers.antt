@@ -1,6 +1,9 @@
 use Rattle.std.proofs.{Common.{◌≡◌, inl, List, length, drop, refl, ap, ◌∙◌, arith}, lemmas.List.{take_all, take_at}}
 use Rattle.arraydeque_ring.specs.{Loans.{as_many, with_run}, Steps.more_lends}
-use Rattle.arraydeque_ring.proofs.{loans.{Placed.length-as_many, Written.LaidOut-written}, places.{LaidOut.{IsFilledRun-LaidOut, same_run}, Opened.{Opened, opened, closed, kept}}}
+use Rattle.arraydeque_ring.proofs.{
+  loans.{Placed.length-as_many, Written.LaidOut-written},
+  places.{LaidOut.{IsFilledRun-LaidOut, same_run}, Opened.{Opened, opened, closed, kept}},
+}
 use Rattle.arraydeque_ring.proofs.ring.Ring.as_mut_slice.{Given.Over, Goals.After-slice_mut}
 use Rattle.arraydeque_ring.proofs.ring.Ring.as_mut_slice.Goals as goal
 

@@ -1,5 +1,12 @@
 use Rattle.std.proofs.{Common.{◌+◌, [], length, refl, arith}, lemmas.List.drop_all}
-use Rattle.arraydeque_ring.{specs.Steps.more_takes, proofs.{gaps.Gapped.{Gapped-taken, LaidOut-gap_last}, places.{LaidOut.{IsFilledRun-rotated, LaidOut-restart}, Opened.{Opened, opened, closed, kept}}, ring.Ring.clear.{Given.Over, Goals.{After-drop_round}}}}
+use Rattle.arraydeque_ring.{
+  specs.Steps.more_takes,
+  proofs.{
+    gaps.Gapped.{Gapped-taken, LaidOut-gap_last},
+    places.{LaidOut.{IsFilledRun-rotated, LaidOut-restart}, Opened.{Opened, opened, closed, kept}},
+    ring.Ring.clear.{Given.Over, Goals.{After-drop_round}},
+  },
+}
 use Rattle.arraydeque_ring.proofs.ring.Ring.clear.Goals as goal
 
 pub drop_round-requires-clause-filled : goal.drop_round-requires-clause-filled

@@ -10,5 +10,6 @@ clone_back-requires-2-clause-same g c =
 pub returns-in_err-clone_back-2-clause-refused : goal.returns-in_err-clone_back-2-clause-refused
 returns-in_err-clone_back-2-clause-refused g c =
     let slices = c.as_slices.result in
-    let refused : Any (λ x. ¬ g.T.Clone.is_infallible x) c.args.self.now.items = rw (← c.as_slices.ensures.joined) (any_second slices.0.now slices.1.now c.in_err-clone_back-2.ensures.refused) in
+    let refused : Any (λ x. ¬ g.T.Clone.is_infallible x) c.args.self.now.items = rw (← c.as_slices.ensures.joined)
+    (any_second slices.0.now slices.1.now c.in_err-clone_back-2.ensures.refused) in
     search rules

@@ -1,5 +1,8 @@
 use Rattle.std.{proofs.Common.{◌≡◌, ◌+◌, ◌-◌, ◌<◌, ◌≤◌, false}, specs.Iterator.{IsFinite, size}}
-use Rattle.arraydeque_ring.{specs.{Fills.Fills, Ring.place_of}, proofs.{fills.Displaced.displaced_last, places.Opened.Opened}}
+use Rattle.arraydeque_ring.{
+  specs.{Fills.Fills, Ring.place_of},
+  proofs.{fills.Displaced.displaced_last, places.Opened.Opened},
+}
 use Rattle.arraydeque_ring.proofs.ring.Ring.displace_down.Given as goal
 
 abbrev pub invariant-loop-displaced : goal.invariant-loop-displaced
@@ -10,7 +13,8 @@ invariant-loop-displaced g l = record {
       Opened record { slots = l.slots; start = l.start; len = l.len; alloc = l.alloc } (displaced_last xs l.fn.self));
   goes_on : l.ended ≡ false;
   can_next : g.I.Iterator.can_next l.elements;
-  finite : IsFinite (g.I.Iterator.remaining l.fn.elements) → IsFinite (g.I.Iterator.remaining l.elements) × (size (g.I.Iterator.remaining l.elements) + l.displaced ≤ size (g.I.Iterator.remaining l.fn.elements));
+  finite : IsFinite (g.I.Iterator.remaining l.fn.elements) → IsFinite (g.I.Iterator.remaining l.elements)
+      × (size (g.I.Iterator.remaining l.elements) + l.displaced ≤ size (g.I.Iterator.remaining l.fn.elements));
 }
 
 abbrev pub decreases-loop-displaced : goal.decreases-loop-displaced

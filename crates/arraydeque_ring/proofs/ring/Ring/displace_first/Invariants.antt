@@ -4,7 +4,8 @@ use Rattle.arraydeque_ring.proofs.ring.Ring.displace_first.Given as goal
 
 abbrev pub invariant-loop-ended : goal.invariant-loop-ended
 invariant-loop-ended g l = record {
-  so_far : (n : ℕ) × Fills g.I.Iterator.next_gives l.fn.elements l.elements n l.ended (λ xs. l.ring ≡ displaced_first xs l.initial.ring);
+  so_far : (n : ℕ) × Fills g.I.Iterator.next_gives l.fn.elements l.elements n l.ended
+      (λ xs. l.ring ≡ displaced_first xs l.initial.ring);
   goes : l.ended ≡ false → g.I.Iterator.can_next l.elements × IsFinite (g.I.Iterator.remaining l.elements);
 }
 

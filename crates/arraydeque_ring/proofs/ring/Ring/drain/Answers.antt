@@ -1,5 +1,24 @@
-use Rattle.std.{proofs.{Common.{◌≡◌, ◌+◌, ◌-◌, ◌<◌, length, take, drop, slice_range, min, nat_lt, if◌then◌else◌, inl, inr, refl, sym, subst, ap, ◌∙◌, arith}, lemmas.{Bool.{cases_lt, cond_below, cond_above, lt-ltb}, List.{length-append, length-take-le, length-drop}}}, specs.List.remove_range}
-use Rattle.arraydeque_ring.{specs.{Changed.IsFewest, Ring.{RingState, place_of}, Steps.{no_steps, more_puts, more_takes, more_moves}}, proofs.{gaps.{Fewest.fewest_drain, GapMoves.{may_close, LaidOut-closed}, Gapped.{Gapped, Gapped-taken}}, places.{Handed.{all_empty, ring_handed}, LaidOut.{length_within, IsFilledRun-rotated}, Opened.{Opened, opened, closed, kept}, Rotated.{place_of-zero}}, ring.Ring.drain.{Given.Over, Goals.{After-take_run, After-close_gap-self-inside}}}}
+use Rattle.std.{
+  proofs.{
+    Common.{◌≡◌, ◌+◌, ◌-◌, ◌<◌, length, take, drop, slice_range, min, nat_lt, if◌then◌else◌, inl, inr, refl, sym},
+    Common.{subst, ap, ◌∙◌, arith},
+    lemmas.{Bool.{cases_lt, cond_below, cond_above, lt-ltb}, List.{length-append, length-take-le, length-drop}},
+  },
+  specs.List.remove_range,
+}
+use Rattle.arraydeque_ring.{
+  specs.{Changed.IsFewest, Ring.{RingState, place_of}, Steps.{no_steps, more_puts, more_takes, more_moves}},
+  proofs.{
+    gaps.{Fewest.fewest_drain, GapMoves.{may_close, LaidOut-closed}, Gapped.{Gapped, Gapped-taken}},
+    places.{
+      Handed.{all_empty, ring_handed},
+      LaidOut.{length_within, IsFilledRun-rotated},
+      Opened.{Opened, opened, closed, kept},
+      Rotated.{place_of-zero},
+    },
+    ring.Ring.drain.{Given.Over, Goals.{After-take_run, After-close_gap-self-inside}},
+  },
+}
 use Rattle.arraydeque_ring.proofs.ring.Ring.drain.Goals as goal
 
 pub returns-then-count-eq0-clause-start : goal.returns-then-count-eq0-clause-start
@@ -8,7 +27,11 @@ returns-then-count-eq0-clause-start g c =
     let behind = length old.items - c.args.to in
     let ring = opened c.self.inside c.self.invariant c.self.view_is in
     elim (cases_lt c.args.from behind) [
-      | inl lt ↦ let none : c.args.to - c.args.from ≡ 0 = omega arith in rw (lt-ltb c.args.from behind lt, none, place_of-zero old.start old.capacity (omega (arith, ring.laid.in_region, ring.start)))
+      | inl lt ↦ let none : c.args.to - c.args.from ≡ 0 = omega arith in rw (
+        lt-ltb c.args.from behind lt,
+        none,
+        place_of-zero old.start old.capacity (omega (arith, ring.laid.in_region, ring.start)),
+      )
       | inr le ↦ cond_above c.args.from behind _ _ _ le refl
     ]
 
@@ -21,7 +44,8 @@ take_run-requires-clause-filled g c =
     IsFilledRun-rotated ring.laid _ _ (omega arith)
 
 gap : (g : Over) (c : After-take_run g) → let old = c.args.self.now in
-    Gapped old.capacity c.self.inside.start (take c.args.from old.items) (c.args.to - c.args.from) (drop c.args.to old.items) c.take_run.new.slots.places
+    Gapped old.capacity c.self.inside.start (take c.args.from old.items) (c.args.to - c.args.from)
+    (drop c.args.to old.items) c.take_run.new.slots.places
 gap g c =
     let ring = opened c.self.inside c.self.invariant c.self.view_is in
     let up_to : c.args.from + (c.args.to - c.args.from) ≡ c.args.to = omega arith in
@@ -30,11 +54,26 @@ gap g c =
 pub close_gap-self-inside-requires : goal.close_gap-self-inside-requires
 close_gap-self-inside-requires g c =
     let ring = opened c.self.inside c.self.invariant c.self.view_is in
-    let may = may_close _ _ (gap g (goal.at.close_gap-self-inside-requires g c).After-take_run) (omega arith) (length-take-le c.args.from c.args.self.now.items (omega arith)) (omega (arith, length-drop c.args.to c.args.self.now.items)) in
-    record { in_region = may.in_region; some = omega arith; within = may.within; filled_before = may.before; empty = may.empty; filled_behind = may.behind }
+    let may = may_close _ _ (gap g (goal.at.close_gap-self-inside-requires g c).After-take_run)
+    (omega arith) (length-take-le c.args.from c.args.self.now.items (omega arith))
+    (omega (arith, length-drop c.args.to c.args.self.now.items)) in
+    record {
+      in_region = may.in_region;
+      some = omega arith;
+      within = may.within;
+      filled_before = may.before;
+      empty = may.empty;
+      filled_behind = may.behind;
+    }
 
-after : (g : Over) (c : After-close_gap-self-inside g) → let old = c.args.self.now in let count = c.args.to - c.args.from in let behind = length old.items - c.args.to in
-    Opened record { slots = c.close_gap-self-inside.new.slots; start = c.close_gap-self-inside.result; len = c.self.inside.len - count; alloc = c.self.inside.alloc } record {
+after : (g : Over) (c : After-close_gap-self-inside g) → let old = c.args.self.now in
+    let count = c.args.to - c.args.from in let behind = length old.items - c.args.to in
+    Opened record {
+      slots = c.close_gap-self-inside.new.slots;
+      start = c.close_gap-self-inside.result;
+      len = c.self.inside.len - count;
+      alloc = c.self.inside.alloc;
+    } record {
       items = remove_range old.items c.args.from c.args.to;
       capacity = old.capacity;
       start = (if nat_lt c.args.from behind then place_of old.start count old.capacity else old.start);
@@ -49,17 +88,36 @@ after g c =
     let start = rw gap.reads.long at moved.ensures.start in
     let rest : length items - c.args.to ≡ c.self.inside.len - count - c.args.from = omega arith in
     rw (rest, ← ring.start) (record {
-      laid = rw (start, moved.ensures.places) (LaidOut-closed gap _ _ (omega (arith, length_within ring.laid, ring.laid.in_region)) (length-take-le c.args.from items (omega arith)) (omega (arith, length-drop c.args.to items)));
-      len = omega (arith, length-append (take c.args.from items) (drop c.args.to items), length-take-le c.args.from items (omega arith), length-drop c.args.to items);
+      laid = rw (start, moved.ensures.places)
+          (LaidOut-closed gap _ _ (omega (arith, length_within ring.laid, ring.laid.in_region))
+          (length-take-le c.args.from items (omega arith)) (omega (arith, length-drop c.args.to items)));
+      len = omega (
+        arith,
+        length-append (take c.args.from items) (drop c.args.to items),
+        length-take-le c.args.from items (omega arith),
+        length-drop c.args.to items,
+      );
       start = start;
-      steps = moved.ensures.steps ∙ ap (more_moves (min c.args.from (c.self.inside.len - count - c.args.from))) (c.take_run.ensures.steps ∙ ap (more_takes count) ring.steps);
+      steps = moved.ensures.steps ∙ ap (more_moves (min c.args.from (c.self.inside.len - count - c.args.from)))
+          (c.take_run.ensures.steps ∙ ap (more_takes count) ring.steps);
     })
 
 drained : (g : Over) (c : After-take_run g) → let count = c.args.to - c.args.from in
-    Opened record { slots = c.take_run.new.taken; start = 0; len = count; alloc = c.self.inside.alloc } record { items = slice_range c.args.self.now.items c.args.from c.args.to; capacity = count; start = 0; steps = more_puts count no_steps }
+    Opened record {
+      slots = c.take_run.new.taken;
+      start = 0;
+      len = count;
+      alloc = c.self.inside.alloc;
+    } record {
+      items = slice_range c.args.self.now.items c.args.from c.args.to;
+      capacity = count;
+      start = 0;
+      steps = more_puts count no_steps;
+    }
 drained g c =
     let ring = opened c.self.inside c.self.invariant c.self.view_is in
-    ring_handed ring _ _ _ c.take_run.new.taken c.self.inside.alloc (omega arith) (omega arith) (rw c.in_ok-slots.ensures.ok at c.take_run.ensures.taken)
+    ring_handed ring _ _ _ c.take_run.new.taken c.self.inside.alloc (omega arith) (omega arith)
+    (rw c.in_ok-slots.ensures.ok at c.take_run.ensures.taken)
 
 pub invariant_of-result : goal.invariant_of-result
 invariant_of-result g c = kept (drained g (goal.at.invariant_of-result g c).After-take_run)
@@ -77,8 +135,10 @@ returns g c =
       items = ap (λ (r : RingState g.row.T.Denot). r.items) (closed now);
       capacity = now.laid.long;
       start = now.start;
-      steps = now.steps ∙ ap (λ n. more_moves n (more_takes (c.args.to - c.args.from) c.args.self.now.steps)) (cond_below c.args.from c.args.to _ _ some);
-      fewest = rw now.start (fewest_drain _ _ _ _ _ (omega (arith, ring.laid.in_region, ring.start)) c.requires.in_order c.requires.in_bounds (length_within ring.laid));
+      steps = now.steps ∙ ap (λ n. more_moves n (more_takes (c.args.to - c.args.from) c.args.self.now.steps))
+          (cond_below c.args.from c.args.to _ _ some);
+      fewest = rw now.start (fewest_drain _ _ _ _ _ (omega (arith, ring.laid.in_region, ring.start)) c.requires.in_order
+          c.requires.in_bounds (length_within ring.laid));
       unchanged = tt;
       refused = tt;
     }
@@ -88,4 +148,5 @@ returns-then-count-eq0-clause-fewest g c =
     let old = c.args.self.now in
     let ring = opened c.self.inside c.self.invariant c.self.view_is in
     subst (IsFewest _ old.capacity _) (sym (returns-then-count-eq0-clause-start g c))
-    (fewest_drain c.args.from c.args.to (length old.items) old.capacity old.start (omega (arith, ring.laid.in_region, ring.start)) c.requires.in_order c.requires.in_bounds (length_within ring.laid))
+    (fewest_drain c.args.from c.args.to (length old.items) old.capacity old.start (omega
+    (arith, ring.laid.in_region, ring.start)) c.requires.in_order c.requires.in_bounds (length_within ring.laid))

@@ -8,7 +8,12 @@ invariant-loop-filled g l = record {
   before : l.filled < l.from - l.end → MayEndAt l.start l.fn.self.capacity (l.from - l.filled);
   reached : l.from ≡ l.fn.self.start → l.start ≡ l.from - l.filled;
   filled : Fills g.I.Iterator.next_gives l.fn.elements l.elements l.filled false (λ xs.
-      Opened record { slots = l.slots; start = l.start; len = l.len + l.filled; alloc = l.alloc } (filled_front xs l.fn.self));
+      Opened record {
+        slots = l.slots;
+        start = l.start;
+        len = l.len + l.filled;
+        alloc = l.alloc;
+      } (filled_front xs l.fn.self));
   goes_on : l.ended ≡ false;
   can_next : g.I.Iterator.can_next l.elements;
   finite : IsFinite (g.I.Iterator.remaining l.fn.elements) → IsFinite (g.I.Iterator.remaining l.elements);

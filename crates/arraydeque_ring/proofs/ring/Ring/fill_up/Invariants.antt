@@ -6,7 +6,12 @@ abbrev pub invariant-loop-place : goal.invariant-loop-place
 invariant-loop-place g l = record {
   place : (l.from ≤ l.place) × (l.place ≤ l.end);
   filled : Fills g.I.Iterator.next_gives l.fn.elements l.elements (l.place - l.from) false (λ xs.
-      Opened record { slots = l.slots; start = l.start; len = l.len + (l.place - l.from); alloc = l.alloc } (filled_back xs l.fn.self));
+      Opened record {
+        slots = l.slots;
+        start = l.start;
+        len = l.len + (l.place - l.from);
+        alloc = l.alloc;
+      } (filled_back xs l.fn.self));
   goes_on : l.ended ≡ false;
   can_next : g.I.Iterator.can_next l.elements;
   finite : IsFinite (g.I.Iterator.remaining l.fn.elements) → IsFinite (g.I.Iterator.remaining l.elements);

@@ -10,4 +10,5 @@ get-requires g c =
 pub returns : goal.returns
 returns g c =
     let ring = opened c.self.inside c.self.invariant c.self.view_is in
-    sym c.get.ensures ∙ rw (place_at ring _ c.capacity.ensures c.wrap_add-place.ensures) (ring.laid.at _ (omega (arith, ring.laid.within)))
+    sym c.get.ensures ∙ rw (place_at ring _ c.capacity.ensures c.wrap_add-place.ensures)
+    (ring.laid.at _ (omega (arith, ring.laid.within)))

@@ -1,4 +1,8 @@
-use Rattle.std.{proofs.Common.{◌≡◌, ℕ, ◌+◌, ◌-◌, ◌≤◌, List, length, take, slice_get, nat_lt, if◌then◌else◌, Option, None, Vec, Global, vec_len}, specs.Vec.vec_capacity}
+use Rattle.std.{
+  proofs.Common.{◌≡◌, ℕ, ◌+◌, ◌-◌, ◌≤◌, List, length, take, slice_get, nat_lt, if◌then◌else◌, Option, None, Vec},
+  proofs.Common.{Global, vec_len},
+  specs.Vec.vec_capacity,
+}
 use Rattle.arraydeque_ring.{specs.Ring.RingState, proofs.places.Holds.{Holds}}
 use Rattle.arraydeque_ring.proofs.ring.Ring.into_vec.Given as goal
 

@@ -1,5 +1,16 @@
-use Rattle.std.{proofs.{Common.{length, not, count_by, refl, sym, ap, ◌∙◌, subst, Bool, arith}, lemmas.Fn.called_at}, specs.{Fn.CalledAt, List.items_where_true}}
-use Rattle.arraydeque_ring.{specs.{Retained.count_moved, Ring.RingState, Steps.{more_takes, more_moves}}, proofs.{retained.Retaining.{all_kept, first_goes, next_filled, next_asked, room_for_next, all_within, one_stays, one_goes, all_asked}, places.{LaidOut.IsFilled-place_of, Opened.{Opened, opened, closed, kept}}, ring.Ring.retain.{Given.Over, Goals.{then-keeps, else-keeps}}}}
+use Rattle.std.{
+  proofs.{Common.{length, not, count_by, refl, sym, ap, ◌∙◌, subst, Bool, arith}, lemmas.Fn.called_at},
+  specs.{Fn.CalledAt, List.items_where_true},
+}
+use Rattle.arraydeque_ring.{
+  specs.{Retained.count_moved, Ring.RingState, Steps.{more_takes, more_moves}},
+  proofs.{
+    retained.Retaining.{all_kept, first_goes, next_filled, next_asked, room_for_next, all_within, one_stays, one_goes},
+    retained.Retaining.{all_asked},
+    places.{LaidOut.IsFilled-place_of, Opened.{Opened, opened, closed, kept}},
+    ring.Ring.retain.{Given.Over, Goals.{then-keeps, else-keeps}},
+  },
+}
 use Rattle.arraydeque_ring.proofs.ring.Ring.retain.Goals as goal
 
 pub returns-then-kept-len-clause-retains : goal.returns-then-kept-len-clause-retains
@@ -10,12 +21,23 @@ returns-then-kept-len-clause-retains g c =
 pub take-requires : goal.take-requires
 take-requires g c =
     let ring = opened c.self.inside c.self.invariant c.self.view_is in
-    rw (c.wrap_add.ensures, c.capacity-capacity.ensures, ring.laid.long) (IsFilled-place_of ring.laid _ (omega (arith, ring.len, c.kept_first-kept.ensures.within)))
+    rw (c.wrap_add.ensures, c.capacity-capacity.ensures, ring.laid.long)
+    (IsFilled-place_of ring.laid _ (omega (arith, ring.len, c.kept_first-kept.ensures.within)))
 
 pub loop-index-init : goal.loop-index-init
 loop-index-init g c =
     let ring = opened c.self.inside c.self.invariant c.self.view_is in
-    record { so_far = rw (c.take.ensures.places, c.take.ensures.steps, ← ring.steps, c.wrap_add.ensures, c.capacity-capacity.ensures, ring.laid.long) (first_goes (CalledAt g.F.FnMut) _ _ _ _ ring.laid (omega (arith, ring.len, c.kept_first-kept.ensures.within)) c.kept_first-kept.ensures.in_turn) }
+    record {
+      so_far = rw (
+        c.take.ensures.places,
+        c.take.ensures.steps,
+        ← ring.steps,
+        c.wrap_add.ensures,
+        c.capacity-capacity.ensures,
+        ring.laid.long,
+      ) (first_goes (CalledAt g.F.FnMut) _ _ _ _ ring.laid
+          (omega (arith, ring.len, c.kept_first-kept.ensures.within)) c.kept_first-kept.ensures.in_turn);
+    }
 
 pub get-requires : goal.get-requires
 get-requires g c =
@@ -26,7 +48,8 @@ pub f-keeps-requires : goal.f-keeps-requires
 f-keeps-requires g c =
     let ring = opened c.self.inside c.self.invariant c.self.view_is in
     let so_far = c.loop-index.invariant.so_far in
-    c.requires so_far.answers c.loop-index.f _ (next_asked so_far (omega arith) _ (rw c.wrap_add-place.ensures at c.get.ensures)) so_far.in_turn
+    c.requires so_far.answers c.loop-index.f _
+    (next_asked so_far (omega arith) _ (rw c.wrap_add-place.ensures at c.get.ensures)) so_far.in_turn
 
 pub shift-requires-clause-filled : goal.shift-requires-clause-filled
 shift-requires-clause-filled g c =
@@ -37,7 +60,8 @@ pub shift-requires-clause-empty : goal.shift-requires-clause-empty
 shift-requires-clause-empty g c = rw c.wrap_add-then-keeps.ensures (room_for_next c.loop-index.invariant.so_far)
 
 pub overflow_add-kept : goal.overflow_add-kept
-overflow_add-kept g c = let ring = opened c.self.inside c.self.invariant c.self.view_is in let within = all_within c.loop-index.invariant.so_far (omega arith) in omega arith
+overflow_add-kept g c = let ring = opened c.self.inside c.self.invariant c.self.view_is in
+    let within = all_within c.loop-index.invariant.so_far (omega arith) in omega arith
 
 pub loop-index-preserved : goal.loop-index-preserved
 loop-index-preserved g c =
@@ -48,16 +72,37 @@ loop-index-preserved g c =
     let answered : Bool → Type 0 = λ b. CalledAt g.F.FnMut c.loop-index.f c.get.result.now b c.f-keeps.new.self in
     elim c.if-keeps.branch [
       | then-keeps w ↦ record {
-        so_far = rw (w.slots-is, w.kept-is, w.shift.ensures.places, w.shift.ensures.steps, w.wrap_add-then-keeps.ensures, c.wrap_add-place.ensures) (one_stays so_far (omega arith) _ _ held (subst answered w.if-keeps.true said));
+        so_far = rw (
+          w.slots-is,
+          w.kept-is,
+          w.shift.ensures.places,
+          w.shift.ensures.steps,
+          w.wrap_add-then-keeps.ensures,
+          c.wrap_add-place.ensures,
+        ) (one_stays so_far (omega arith) _ _ held (subst answered w.if-keeps.true said));
       }
       | else-keeps w ↦ record {
-        so_far = rw (w.slots-is, w.kept-is, w.take-else-keeps.ensures.places, w.take-else-keeps.ensures.steps, c.wrap_add-place.ensures) (one_goes so_far (omega arith) _ _ held (subst answered w.if-keeps.false said));
+        so_far = rw (
+          w.slots-is,
+          w.kept-is,
+          w.take-else-keeps.ensures.places,
+          w.take-else-keeps.ensures.steps,
+          c.wrap_add-place.ensures,
+        ) (one_goes so_far (omega arith) _ _ held (subst answered w.if-keeps.false said));
       }
     ]
 
 after : (g : Over) (c : goal.After-drop-f-2 g) → let answers = c.loop-index.invariant.so_far.answers in
-    Opened record { slots = c.loop-index.slots; start = c.self.inside.start; len = c.loop-index.kept; alloc = c.self.inside.alloc }
-    record c.args.self.now { items = items_where_true answers c.args.self.now.items; steps = more_takes (count_by not answers) (more_moves (count_moved answers) c.args.self.now.steps) }
+    Opened record {
+      slots = c.loop-index.slots;
+      start = c.self.inside.start;
+      len = c.loop-index.kept;
+      alloc = c.self.inside.alloc;
+    }
+    record c.args.self.now {
+      items = items_where_true answers c.args.self.now.items;
+      steps = more_takes (count_by not answers) (more_moves (count_moved answers) c.args.self.now.steps);
+    }
 after g c =
     let ring = opened c.self.inside c.self.invariant c.self.view_is in
     let so_far = c.loop-index.invariant.so_far in
@@ -75,10 +120,21 @@ pub returns-clause-retains : goal.returns-clause-retains
 returns-clause-retains g c =
     let ring = opened c.self.inside c.self.invariant c.self.view_is in
     let so_far = c.loop-index.invariant.so_far in
-    record { answers = so_far.answers; last = c.loop-index.f; one_each = omega (arith, so_far.asked); in_turn = so_far.in_turn; kept = closed (after g c) }
+    record {
+      answers = so_far.answers;
+      last = c.loop-index.f;
+      one_each = omega (arith, so_far.asked);
+      in_turn = so_far.in_turn;
+      kept = closed (after g c);
+    }
 
 pub returns-clause-no_longer : goal.returns-clause-no_longer
 returns-clause-no_longer g c =
     let ring = opened c.self.inside c.self.invariant c.self.view_is in
     let so_far = c.loop-index.invariant.so_far in
-    omega (arith, so_far.many, (all_within so_far (omega arith)).0, ap (λ (ring : RingState g.row.T.Denot). length ring.items) (closed (after g c)))
+    omega (
+      arith,
+      so_far.many,
+      (all_within so_far (omega arith)).0,
+      ap (λ (ring : RingState g.row.T.Denot). length ring.items) (closed (after g c)),
+    )

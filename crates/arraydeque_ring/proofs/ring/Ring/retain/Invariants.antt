@@ -4,5 +4,6 @@ use Rattle.arraydeque_ring.proofs.ring.Ring.retain.Given as goal
 
 abbrev pub invariant-loop-index : goal.invariant-loop-index
 invariant-loop-index g l = record {
-  so_far : SoFar (CalledAt g.F.FnMut) l.fn.f l.fn.self.items l.fn.self.steps l.capacity l.start l.index l.kept l.slots.places l.slots.steps l.f;
+  so_far : SoFar (CalledAt g.F.FnMut) l.fn.f l.fn.self.items l.fn.self.steps l.capacity l.start l.index l.kept
+      l.slots.places l.slots.steps l.f;
 }

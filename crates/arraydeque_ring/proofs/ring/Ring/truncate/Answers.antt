@@ -1,6 +1,16 @@
-use Rattle.std.proofs.{Common.{◌≡◌, ◌-◌, ◌+◌, length, take, refl, arith}, lemmas.List.{take_all, drop_all, length-take-le}}
+use Rattle.std.proofs.{
+  Common.{◌≡◌, ◌-◌, ◌+◌, length, take, refl, arith},
+  lemmas.List.{take_all, drop_all, length-take-le},
+}
 use native.Mathlib.Numerals.{unary_clauses}
-use Rattle.arraydeque_ring.{specs.Steps.more_takes, proofs.{gaps.Gapped.{Gapped-taken, LaidOut-gap_last}, places.{LaidOut.IsFilledRun-rotated, Opened.{Opened, opened, closed, kept}}, ring.Ring.truncate.{Given.Over, Goals.{After-drop_round}}}}
+use Rattle.arraydeque_ring.{
+  specs.Steps.more_takes,
+  proofs.{
+    gaps.Gapped.{Gapped-taken, LaidOut-gap_last},
+    places.{LaidOut.IsFilledRun-rotated, Opened.{Opened, opened, closed, kept}},
+    ring.Ring.truncate.{Given.Over, Goals.{After-drop_round}},
+  },
+}
 use Rattle.arraydeque_ring.proofs.ring.Ring.truncate.Goals as goal
 
 pub returns-then-self-len : goal.returns-then-self-len

@@ -1,5 +1,12 @@
 use Rattle.std.proofs.{Common.{◌≡◌, ◌-◌, ◌+◌, ◌<◌, length, drop, arith}, lemmas.{Bool.lt-ltb, List.{length-drop}}}
-use Rattle.arraydeque_ring.{specs.{Ring.up_by, Steps.more_takes}, proofs.{gaps.Gapped.{Gapped-taken, LaidOut-gap_first}, places.{LaidOut.IsFilledRun-rotated, Opened.{Opened, opened, closed, kept, place_at, from_start}}, ring.Ring.truncate_front.{Given.Over, Goals.{After-wrap_add-self-inside}}}}
+use Rattle.arraydeque_ring.{
+  specs.{Ring.up_by, Steps.more_takes},
+  proofs.{
+    gaps.Gapped.{Gapped-taken, LaidOut-gap_first},
+    places.{LaidOut.IsFilledRun-rotated, Opened.{Opened, opened, closed, kept, place_at, from_start}},
+    ring.Ring.truncate_front.{Given.Over, Goals.{After-wrap_add-self-inside}},
+  },
+}
 use Rattle.arraydeque_ring.proofs.ring.Ring.truncate_front.Goals as goal
 
 pub drop_round-requires-clause-filled : goal.drop_round-requires-clause-filled

@@ -1,24 +1,34 @@
 use Rattle.std.proofs.Common.{sym, arith}
-use Rattle.arraydeque_ring.proofs.places.{Reads.{runs_swapped_none, moved_more, next_empty, next_second}, Held.{filled_in_run, empty_in_run}}
+use Rattle.arraydeque_ring.proofs.places.{
+  Reads.{runs_swapped_none, moved_more, next_empty, next_second},
+  Held.{filled_in_run, empty_in_run},
+}
 use Rattle.arraydeque_ring.proofs.ring.linearize.move_run.Goals as goal
 
 pub loop-k-init : goal.loop-k-init
-loop-k-init g c = record { places = sym (runs_swapped_none c.args.dst c.args.src c.args.slots.places (omega arith) (omega arith)); steps = grind arith }
+loop-k-init g c = record {
+  places = sym (runs_swapped_none c.args.dst c.args.src c.args.slots.places (omega arith) (omega arith));
+  steps = grind arith;
+}
 
 pub shift-requires-clause-filled : goal.shift-requires-clause-filled
 shift-requires-clause-filled g c =
     let old = c.args.slots.places in
-    rw c.loop-k.invariant.places (next_second c.args.dst c.args.src c.loop-k.k old (omega arith) (omega arith) (filled_in_run old c.args.src c.args.len c.loop-k.k c.requires.filled (omega arith)))
+    rw c.loop-k.invariant.places (next_second c.args.dst c.args.src c.loop-k.k old (omega arith) (omega arith)
+    (filled_in_run old c.args.src c.args.len c.loop-k.k c.requires.filled (omega arith)))
 
 pub shift-requires-clause-empty : goal.shift-requires-clause-empty
 shift-requires-clause-empty g c =
     let old = c.args.slots.places in
-    rw c.loop-k.invariant.places (next_empty c.args.dst c.args.src c.loop-k.k old (omega arith) (omega arith) (empty_in_run old c.args.dst c.args.len c.loop-k.k c.requires.empty (omega arith)))
+    rw c.loop-k.invariant.places (next_empty c.args.dst c.args.src c.loop-k.k old (omega arith) (omega arith)
+    (empty_in_run old c.args.dst c.args.len c.loop-k.k c.requires.empty (omega arith)))
 
 pub loop-k-preserved : goal.loop-k-preserved
 loop-k-preserved g c =
     let old = c.args.slots.places in
     record {
-      places = rw (c.shift.ensures.places, c.loop-k.invariant.places) (moved_more c.args.dst c.args.src c.loop-k.k old (omega arith) (omega arith) (empty_in_run old c.args.dst c.args.len c.loop-k.k c.requires.empty (omega arith)));
+      places = rw (c.shift.ensures.places, c.loop-k.invariant.places)
+          (moved_more c.args.dst c.args.src c.loop-k.k old (omega arith) (omega arith)
+          (empty_in_run old c.args.dst c.args.len c.loop-k.k c.requires.empty (omega arith)));
       steps = rw (c.shift.ensures.steps, c.loop-k.invariant.steps) (grind arith);
     }

@@ -1,14 +1,26 @@
 use Rattle.std.proofs.{Common.{◌≡◌, ◌-◌, ◌+◌, ◌<◌, [], ◌++◌, drop, sym, ap, ap₂, ◌∙◌, arith}, lemmas.List.append-nil}
-use Rattle.arraydeque_ring.{proofs.{places.{Handed.{Handed, handed, first_empty, rest_empty, both_put}, Rotated.{MayStartAt-place_of, place_of-lt, length-rotated}}, ring.parts.take_run.{Given.Over, Goals.{After-min-first}}}}
+use Rattle.arraydeque_ring.{
+  proofs.{
+    places.{
+      Handed.{Handed, handed, first_empty, rest_empty, both_put},
+      Rotated.{MayStartAt-place_of, place_of-lt, length-rotated},
+    },
+    ring.parts.take_run.{Given.Over, Goals.{After-min-first}},
+  },
+}
 use Rattle.arraydeque_ring.proofs.ring.parts.take_run.Goals as goal
 
-parts : (g : Over) (c : After-min-first g) → Handed c.args.start c.args.at c.args.len c.wrap_add-place.result c.min-first.result c.args.slots.now.places
+parts : (g : Over) (c : After-min-first g)
+    → Handed c.args.start c.args.at c.args.len c.wrap_add-place.result c.min-first.result c.args.slots.now.places
 parts g c =
     let long = sym c.capacity-capacity.ensures in
     let within = c.requires.filled.0 in
     let wide = length-rotated c.args.start c.args.slots.now.places in
-    let fits : c.args.start + c.args.at < c.capacity-capacity.result + c.capacity-capacity.result = omega (arith, long, c.requires.in_region) in
-    rw c.wrap_add-place.ensures (handed _ _ _ _ _ _ _ long (omega (arith, long, c.requires.in_region)) c.requires.filled (MayStartAt-place_of _ _ _ fits) (omega (arith, place_of-lt _ _ _ fits)) (rw c.wrap_add-place.ensures at c.min-first.ensures))
+    let fits : c.args.start + c.args.at < c.capacity-capacity.result + c.capacity-capacity.result =
+    omega (arith, long, c.requires.in_region) in
+    rw c.wrap_add-place.ensures (handed _ _ _ _ _ _ _ long (omega (arith, long, c.requires.in_region)) c.requires.filled
+    (MayStartAt-place_of _ _ _ fits) (omega (arith, place_of-lt _ _ _ fits))
+    (rw c.wrap_add-place.ensures at c.min-first.ensures))
 
 pub hand_over-requires-clause-filled : goal.hand_over-requires-clause-filled
 hand_over-requires-clause-filled g c = (parts g (goal.at.hand_over-requires-clause-filled g c).After-min-first).here
@@ -18,29 +30,36 @@ hand_over-requires-clause-empty g c = first_empty c.args.len _ c.args.taken.now.
 
 pub hand_over-requires-then-first-len-clause-filled : goal.hand_over-requires-then-first-len-clause-filled
 hand_over-requires-then-first-len-clause-filled g c =
-    rw c.hand_over.ensures.here (parts g (goal.at.hand_over-requires-then-first-len-clause-filled g c).After-min-first).rest
+    rw c.hand_over.ensures.here
+    (parts g (goal.at.hand_over-requires-then-first-len-clause-filled g c).After-min-first).rest
 
 pub hand_over-requires-then-first-len-clause-empty : goal.hand_over-requires-then-first-len-clause-empty
 hand_over-requires-then-first-len-clause-empty g c =
     let p = parts g (goal.at.hand_over-requires-then-first-len-clause-empty g c).After-min-first in
-    rw c.hand_over.ensures.there (rest_empty c.args.len _ c.args.taken.now.places (omega arith) c.requires.empty _ [] p.many)
+    rw c.hand_over.ensures.there
+    (rest_empty c.args.len _ c.args.taken.now.places (omega arith) c.requires.empty _ [] p.many)
 
 pub returns-then-first-len-clause-places : goal.returns-then-first-len-clause-places
 returns-then-first-len-clause-places g c =
-    rw (c.hand_over-then-first-len.ensures.here, c.hand_over.ensures.here) (parts g (goal.at.returns-then-first-len-clause-places g c).After-min-first).places
+    rw (c.hand_over-then-first-len.ensures.here, c.hand_over.ensures.here)
+    (parts g (goal.at.returns-then-first-len-clause-places g c).After-min-first).places
 
 pub returns-then-first-len-clause-taken : goal.returns-then-first-len-clause-taken
 returns-then-first-len-clause-taken g c =
     let p = parts g (goal.at.returns-then-first-len-clause-taken g c).After-min-first in
     let old = c.args.taken.now in
-    let puts : old.steps.puts + c.min-first.result + (c.args.len - c.min-first.result) ≡ old.steps.puts + c.args.len = omega arith in
-    let both = both_put c.args.len c.min-first.result old.places (omega arith) c.requires.empty _ _ p.many ∙ ap (λ ps. ps ++ drop c.args.len old.places) p.all in
-    rw (c.hand_over-then-first-len.ensures.there, c.hand_over.ensures.there, c.hand_over.ensures.here) (ap₂ (λ ps n. record { places = ps; steps = record old.steps { puts = n } }) both puts)
+    let puts : old.steps.puts + c.min-first.result + (c.args.len - c.min-first.result) ≡ old.steps.puts + c.args.len =
+    omega arith in
+    let both = both_put c.args.len c.min-first.result old.places (omega arith) c.requires.empty _ _ p.many
+    ∙ ap (λ ps. ps ++ drop c.args.len old.places) p.all in
+    rw (c.hand_over-then-first-len.ensures.there, c.hand_over.ensures.there, c.hand_over.ensures.here)
+    (ap₂ (λ ps n. record { places = ps; steps = record old.steps { puts = n } }) both puts)
 
 pub returns-else-first-len-clause-places : goal.returns-else-first-len-clause-places
 returns-else-first-len-clause-places g c =
     let none : c.args.len - c.min-first.result ≡ 0 = omega arith in
-    rw c.hand_over.ensures.here (rw none at (parts g (goal.at.returns-else-first-len-clause-places g c).After-min-first).places)
+    rw c.hand_over.ensures.here
+    (rw none at (parts g (goal.at.returns-else-first-len-clause-places g c).After-min-first).places)
 
 pub returns-else-first-len-clause-taken : goal.returns-else-first-len-clause-taken
 returns-else-first-len-clause-taken g c =
@@ -48,5 +67,7 @@ returns-else-first-len-clause-taken g c =
     let none : c.args.len - c.min-first.result ≡ 0 = omega arith in
     let behind : 0 + c.min-first.result ≡ c.args.len = omega arith in
     let puts : old.steps.puts + c.min-first.result ≡ old.steps.puts + c.args.len = omega arith in
-    let all = rw append-nil at (rw none at (parts g (goal.at.returns-else-first-len-clause-taken g c).After-min-first).all) in
-    rw c.hand_over.ensures.there (ap₂ (λ ps n. record { places = ps; steps = record old.steps { puts = n } }) (ap₂ (λ l k. l ++ drop k old.places) all behind) puts)
+    let all =
+    rw append-nil at (rw none at (parts g (goal.at.returns-else-first-len-clause-taken g c).After-min-first).all) in
+    rw c.hand_over.ensures.there (ap₂ (λ ps n. record { places = ps; steps = record old.steps { puts = n } })
+    (ap₂ (λ l k. l ++ drop k old.places) all behind) puts)

@@ -1,5 +1,8 @@
 use Rattle.std.proofs.Common.{◌≡◌, ◌-◌, ◌+◌, ◌<◌, sym, arith}
-use Rattle.arraydeque_ring.proofs.{places.{Handed.{Handed, handed}, Rotated.{MayStartAt-place_of, place_of-lt, length-rotated}}, ring.retain.drop_round.{Given.Over, Goals.{After-min-first}}}
+use Rattle.arraydeque_ring.proofs.{
+  places.{Handed.{Handed, handed}, Rotated.{MayStartAt-place_of, place_of-lt, length-rotated}},
+  ring.retain.drop_round.{Given.Over, Goals.{After-min-first}},
+}
 use Rattle.arraydeque_ring.proofs.ring.retain.drop_round.Goals as goal
 
 -- the values stand in two runs

@@ -1,5 +1,22 @@
--- `copy_over` hands `copy_nonoverlapping` a run of values, and room for it in another region, and puts both back. Assumes `Logic`.
-use Rattle.arraydeque_ring.{proofs.memory.{Kit.{◌≡◌, refl, sym, ap, subst, List, [], ◌∷◌, ◌++◌, map, ℕ, ◌+◌, ◌*◌, ◌<◌, ◌^◌, arith, length, take, drop_list, replicate, length-take, length-drop, length-map, length-replicate, Some, None, T, emp, id⊢, fact_i, full_share, ftrue, fsep, froom, flft, Fn, inst_fn, named, w64, ty_array, ty_unit, Val, has_ty, WT, vunit, vint, vptr, Env, ◌⊑◌, fact, tables, owns, types_at, ‵, raw, ◌⊛◌, some, later, at_ret, ◌$◌, ◌∵◌, !, qed, move, keep, use0, use1, use2, drop, split, join, pick, rewrite, await, fsplit, fsplit3, fjoin, fjoin3, feq_i, feq_l, suffices, done, whole, sub, look_in, enter, of_opd, unit_lit, bin, load, stop, fld, no_more, and_then, first, blocks, exec, returns, alloc_all, pass_all, free_all, look_at, get, through, sets, lands_last, env, yes, plain, usize, unit, only, uint_vals, uint_Tells, RawPtr, block_ptr, Stays, walk_of, stay_dropped, stay_ref, Goes-dropped, Goes-ref, ends_at, nothing, heard, after, says_two, calls_at_last, framed, triple_of, part_at, El, R, args, el_x, elτ, proved, common_steps, split3, Array, mut_vals, mut_Tells, pure_i}, Regions.{Sr, Seen, near, run_fits, slots_open, slots_close, scaled, item_size, Place, Row, of_room, IsFilledRun, Around, run_out, run_in, row_room, to_array, of_array}}, specs.Gaps.{IsEmptyRun, run_emptied}}
+-- `copy_over` hands `copy_nonoverlapping` a run of values,
+-- and room for it in another region, and puts both back. Assumes `Logic`.
+use Rattle.arraydeque_ring.{
+  proofs.memory.{
+    Kit.{◌≡◌, refl, sym, ap, subst, List, [], ◌∷◌, ◌++◌, map, ℕ, ◌+◌, ◌*◌, ◌<◌, ◌^◌, arith, length, take, drop_list},
+    Kit.{replicate, length-take, length-drop, length-map, length-replicate, Some, None, T, emp, id⊢, fact_i},
+    Kit.{full_share, ftrue, fsep, froom, flft, Fn, inst_fn, named, w64, ty_array, ty_unit, Val, has_ty, WT, vunit},
+    Kit.{vint, vptr, Env, ◌⊑◌, fact, tables, owns, types_at, ‵, raw, ◌⊛◌, some, later, at_ret, ◌$◌, ◌∵◌, !, qed, move},
+    Kit.{keep, use0, use1, use2, drop, split, join, pick, rewrite, await, fsplit, fsplit3, fjoin, fjoin3, feq_i, feq_l},
+    Kit.{suffices, done, whole, sub, look_in, enter, of_opd, unit_lit, bin, load, stop, fld, no_more, and_then, first},
+    Kit.{blocks, exec, returns, alloc_all, pass_all, free_all, look_at, get, through, sets, lands_last, env, yes},
+    Kit.{plain, usize, unit, only, uint_vals, uint_Tells, RawPtr, block_ptr, Stays, walk_of, stay_dropped, stay_ref},
+    Kit.{Goes-dropped, Goes-ref, ends_at, nothing, heard, after, says_two, calls_at_last, framed, triple_of, part_at},
+    Kit.{El, R, args, el_x, elτ, proved, common_steps, split3, Array, mut_vals, mut_Tells, pure_i},
+    Regions.{Sr, Seen, near, run_fits, slots_open, slots_close, scaled, item_size, Place, Row, of_room, IsFilledRun},
+    Regions.{Around, run_out, run_in, row_room, to_array, of_array},
+  },
+  specs.Gaps.{IsEmptyRun, run_emptied},
+}
 use denote.RawPtr.{rawptr_vals}
 use Rattle.std.specs.contracts.ptr.copy_nonoverlapping as copy
 use Rattle.std.proofs.ptr.copy_nonoverlapping.Met as copy_thm
@@ -10,72 +27,130 @@ use Rattle.arraydeque_ring.proofs.slots.Slots.copy_over.Code as code
 pub copy_over_spec : {M : Type 1} → stated.statement M
 copy_over_spec 𝓤 𝓛 𝓜 𝓡 wired X L =
     let E : El = record { row = X; laws = L } in let here : Fn = inst_fn (args E) code.function in
-    let ended = f.ended X in let stayed : Stays ended.signature.params ended.kept = (stay_ref (0 ∷ []) tt (plain (λ _. Sr E)), (stay_dropped _ yes, (stay_ref (1 ∷ []) tt (plain (λ _. Sr E)), (stay_dropped _ yes, (stay_dropped _ yes, tt))))) in
+    let ended = f.ended X in let stayed : Stays ended.signature.params ended.kept = (
+      stay_ref (0 ∷ []) tt (plain (λ _. Sr E)),
+      (stay_dropped _ yes, (stay_ref (1 ∷ []) tt (plain (λ _. Sr E)), (stay_dropped _ yes, (stay_dropped _ yes, tt)))),
+    ) in
     let c = f.clauses X 𝓛 𝓜.mem 𝓡.returns in let W = walk_of 𝓛 ended stayed c in let 𝓣 = tables 𝓤 𝓛.H 𝓜 𝓡 𝓡.env in
     let Copies = triple_of 𝓛 (copy.signature X) (copy.spec X 𝓛 𝓜.mem 𝓡.returns) in
     let word = Goes-dropped 𝓛 3 (plain (λ _. usize)) yes (λ κs x w. refl) in
-    proved 𝓛 ended stayed c 𝓜 𝓡 (Goes-ref 𝓛 3 0 tt (plain (λ _. Sr E)), (word, (Goes-ref 𝓛 3 1 tt (plain (λ _. Sr E)), (word, (word, tt)))))
+    proved 𝓛 ended stayed c 𝓜 𝓡
+    (Goes-ref 𝓛 3 0 tt (plain (λ _. Sr E)), (word, (Goes-ref 𝓛 3 1 tt (plain (λ _. Sr E)), (word, (word, tt)))))
     (f.Key.name (args E)) here (code.unfolded 𝓤 𝓛.H 𝓜 𝓡 wired (X, tt))
     (λ κs. (mut_vals, (uint_vals w64, (mut_vals, (uint_vals w64, (uint_vals w64, tt))))))
-    (λ κs. (mut_Tells (named 0) κs.0 (Sr E), (uint_Tells w64, (mut_Tells (named 1) κs.1.0 (Sr E), (uint_Tells w64, (uint_Tells w64, tt)))))) (λ κs qs bounds a _ are.
+    (λ κs. (
+      mut_Tells (named 0) κs.0 (Sr E),
+      (uint_Tells w64, (mut_Tells (named 1) κs.1.0 (Sr E), (uint_Tells w64, (uint_Tells w64, tt)))),
+    )) (λ κs qs bounds a _ are.
     let κ₀ = κs.0 in let κ₁ = κs.1.0 in let κ₂ = κs.1.1.0 in let q₀ = qs.0 in let q₁ = qs.1.0 in let q₂ = qs.1.1.0 in
-    let rb : ℕ = a.0.ref_ptr.0 in let ro : ℕ = a.0.ref_ptr.1 in let r : Seen E = a.0.now in let ps : List (Place E) = r.places in
-    let sb : ℕ = a.1.1.0.ref_ptr.0 in let so : ℕ = a.1.1.0.ref_ptr.1 in let r' : Seen E = a.1.1.0.now in let ts : List (Place E) = r'.places in
+    let rb : ℕ = a.0.ref_ptr.0 in let ro : ℕ = a.0.ref_ptr.1 in let r : Seen E = a.0.now in
+    let ps : List (Place E) = r.places in
+    let sb : ℕ = a.1.1.0.ref_ptr.0 in let so : ℕ = a.1.1.0.ref_ptr.1 in let r' : Seen E = a.1.1.0.now in
+    let ts : List (Place E) = r'.places in
     let from : ℕ = a.1.0 in let to : ℕ = a.1.1.1.0 in let n : ℕ = a.1.1.1.1.0 in
-    let from_fits : from < 2 ^ 64 = are.1.0.1 in let to_fits : to < 2 ^ 64 = are.1.1.1.0.1 in let n_fits : n < 2 ^ 64 = are.1.1.1.1.0.1 in
-    let y : W.Ghost = ((κs, qs, bounds, a, (mut_vals a.0, (uint_vals w64 from, (mut_vals a.1.1.0, (uint_vals w64 to, (uint_vals w64 n, tt)))))), tt) in
+    let from_fits : from < 2 ^ 64 = are.1.0.1 in let to_fits : to < 2 ^ 64 = are.1.1.1.0.1 in
+    let n_fits : n < 2 ^ 64 = are.1.1.1.1.0.1 in
+    let y : W.Ghost = (
+      (
+        κs,
+        qs,
+        bounds,
+        a,
+        (mut_vals a.0, (uint_vals w64 from, (mut_vals a.1.1.0, (uint_vals w64 to, (uint_vals w64 n, tt))))),
+      ),
+      tt,
+    ) in
     let s : ℕ = item_size E in let Filled : Type 0 = IsFilledRun ps from n in let Empty : Type 0 = IsEmptyRun ts to n in
-    qed 𝓛 (((‵ (flft κ₀ q₀) ⊛ ‵ (flft κ₁ q₁) ⊛ ‵ (flft κ₂ q₂) ⊛ ‵ ftrue) ⊛ ‵ (owns (types_at ended.signature.params κs) a y.0.4))
+    qed 𝓛 (((‵ (flft κ₀ q₀) ⊛ ‵ (flft κ₁ q₁) ⊛ ‵ (flft κ₂ q₂) ⊛ ‵ ftrue)
+    ⊛ ‵ (owns (types_at ended.signature.params κs) a y.0.4))
     ∷ (raw (fact 𝓤 (κ₂ ⊑ X.lives)) ⊛ raw (fact 𝓤 Filled) ⊛ raw (fact 𝓤 Empty)) ∷ []) ∵
-    move ! (1 ∷ []) $ split ! $ heard ! (κ₂ ⊑ X.lives) (λ lives. split ! $ heard ! Filled (λ filled. heard ! Empty (λ empty.
+    move ! (1 ∷ []) $ split ! $ heard ! (κ₂ ⊑ X.lives) (λ lives. split ! $
+    heard ! Filled (λ filled. heard ! Empty (λ empty.
     let within = filled.0 in let target = empty.0 in let xs : List (el_x E) = filled.1.0 in let held = filled.1.1 in
-    let es : List (Place E) = run_emptied from n ps in let run : List (Place E) = take n (drop_list from ps) in let nones : List (Place E) = replicate n None in
+    let es : List (Place E) = run_emptied from n ps in let run : List (Place E) = take n (drop_list from ps) in
+    let nones : List (Place E) = replicate n None in
     let us : List (Place E) = take to ts ++ (run ++ drop_list (to + n) ts) in
     let run_long : length run ≡ n = grind (arith, common_steps) in
     let long : length xs ≡ n = omega (arith, run_long, ap length held, length-map xs Some) in
     let es_long : length ps ≡ length es = grind (arith, common_steps) in
     let us_long : length ts ≡ length us = grind (arith, common_steps) in
-    let new : Seen E = record { places = es; steps = r.steps } in let new' : Seen E = record { places = us; steps = r'.steps } in
-    split ! $ split3 ! $ move ! (3 ∷ []) $ fsplit3 ! $ move ! (2 ∷ []) $ fsplit ! $ fsplit3 ! $ move ! (4 ∷ []) $ fsplit3 ! $ keep ! (1 ∷ 2 ∷ 8 ∷ 4 ∷ 5 ∷ 9 ∷ 10 ∷ []) $
+    let new : Seen E = record { places = es; steps = r.steps } in
+    let new' : Seen E = record { places = us; steps = r'.steps } in
+    split ! $ split3 ! $ move ! (3 ∷ []) $ fsplit3 ! $ move ! (2 ∷ []) $ fsplit ! $ fsplit3 ! $ move ! (4 ∷ []) $
+    fsplit3 ! $ keep ! (1 ∷ 2 ∷ 8 ∷ 4 ∷ 5 ∷ 9 ∷ 10 ∷ []) $
     enter ! 𝓣.C 𝓣.Λ here (vptr rb ro ∷ vint w64 from ∷ vptr sb so ∷ vint w64 to ∷ vint w64 n ∷ []) _ $
-    alloc_all ! (λ l. pass_all ! refl ((tt, tt), ((tt, record { fits = from_fits }), ((tt, tt), ((tt, record { fits = to_fits }), ((tt, record { fits = n_fits }), tt))))) $
+    alloc_all ! (λ l. pass_all ! refl (
+      (tt, tt),
+      (
+        (tt, record { fits = from_fits }),
+        ((tt, tt), ((tt, record { fits = to_fits }), ((tt, record { fits = n_fits }), tt))),
+      ),
+    ) $
     let En : Env 𝓤 𝓛.H = env here.locals l in
     slots_open E ! tt r rb ro (λ g b o m ok. move ! (6 ∷ 7 ∷ 8 ∷ []) $ slots_open E ! tt r' sb so (λ g' b' o' m' ok'.
     let from_near = near E ok from (omega arith) in let to_near = near E ok' to (omega arith) in
     let src : ℕ = from * s + o in let dst : ℕ = to * s + o' in
     first ! $ blocks ! $
-    sets ! (of_opd ! (load ! (through ! refl (fld ! refl (stop !))) (look_in ! 8 (sub ! 0 refl (whole !))))) refl (tt, tt) $
+    sets ! (of_opd ! (load ! (through ! refl (fld ! refl (stop !))) (look_in ! 8 (sub ! 0 refl (whole !)))))
+    refl (tt, tt) $
     sets ! (scaled ! (get ! refl) from_near) refl (tt, record { fits = from_near }) $
     sets ! (bin ! (get ! refl) (get ! refl) tt) refl (tt, tt) $
-    sets ! (of_opd ! (load ! (through ! refl (fld ! refl (stop !))) (look_in ! 2 (sub ! 0 refl (whole !))))) refl (tt, tt) $
+    sets ! (of_opd ! (load ! (through ! refl (fld ! refl (stop !))) (look_in ! 2 (sub ! 0 refl (whole !)))))
+    refl (tt, tt) $
     sets ! (scaled ! (get ! refl) to_near) refl (tt, record { fits = to_near }) $
     sets ! (bin ! (get ! refl) (get ! refl) tt) refl (tt, tt) $
     -- the target is room
-    use1 𝓛 (‵ (Row E 𝓛 b' dst (take n (drop_list to ts))) ⊛ ‵ (Around E 𝓛 b' o' ts to n)) (run_out E 𝓛 b' o' ts to n target) $ split ! $
-    use1 𝓛 (‵ (froom (ty_array (elτ E) n) b' dst)) (row_room E 𝓛 b' (take n (drop_list to ts)) n dst (omega (arith, length-take n (drop_list to ts), length-drop to ts))) $ move ! (7 ∷ []) $
+    use1 𝓛 (‵ (Row E 𝓛 b' dst (take n (drop_list to ts))) ⊛ ‵ (Around E 𝓛 b' o' ts to n))
+    (run_out E 𝓛 b' o' ts to n target) $ split ! $
+    use1 𝓛 (‵ (froom (ty_array (elτ E) n) b' dst)) (row_room E 𝓛 b' (take n (drop_list to ts)) n dst
+    (omega (arith, length-take n (drop_list to ts), length-drop to ts))) $ move ! (7 ∷ []) $
     -- the source is values
     use1 𝓛 (‵ (Row E 𝓛 b src run) ⊛ ‵ (Around E 𝓛 b o ps from n)) (run_out E 𝓛 b o ps from n within) $ split ! $
     rewrite ! 0 (λ (l : List (Place E)). ‵ (Row E 𝓛 b src l)) held refl $
-    use1 𝓛 (‵ (part_at (Array (R E) n) full_share xs b src)) (to_array E 𝓛 b n xs src long) $ move ! (0 ∷ 2 ∷ []) $ fjoin ! $
-    -- [the two runs; the others here; the others there; there: the right, the words, the borrow in three; here, likewise; the token]
-    let z : Copies.Ghost = (((κ₂, tt), (q₂, tt), tt, (block_ptr b src, (block_ptr b' dst, (n, tt))), (rawptr_vals (block_ptr b src), (rawptr_vals (block_ptr b' dst), (vint w64 n ∷ [], tt)))), xs) in
-    use0 𝓛 (raw (fact 𝓤 (n * s < 2 ^ 63))) (fact_i 𝓤 (n * s < 2 ^ 63) (emp 𝓤) (run_fits E ok n (omega arith)).1) $ join ! $ use0 𝓛 (raw (fact 𝓤 (κ₂ ⊑ X.lives))) (fact_i 𝓤 (κ₂ ⊑ X.lives) (emp 𝓤) lives) $ join ! $
-    pure_i ! (owns (RawPtr ∷ RawPtr ∷ usize ∷ []) z.0.3 z.0.4) (tt, (tt, ((tt, tt), tt))) (refl, (refl, ((refl, n_fits), tt))) $ move ! (14 ∷ 0 ∷ []) $ join ! $ join ! $
+    use1 𝓛 (‵ (part_at (Array (R E) n) full_share xs b src)) (to_array E 𝓛 b n xs src long) $
+    move ! (0 ∷ 2 ∷ []) $ fjoin ! $
+    -- [the two runs; the others here;
+    -- the others there; there: the right, the words, the borrow in three; here, likewise; the token]
+    let z : Copies.Ghost = (
+      (
+        (κ₂, tt),
+        (q₂, tt),
+        tt,
+        (block_ptr b src, (block_ptr b' dst, (n, tt))),
+        (rawptr_vals (block_ptr b src), (rawptr_vals (block_ptr b' dst), (vint w64 n ∷ [], tt))),
+      ),
+      xs,
+    ) in
+    use0 𝓛 (raw (fact 𝓤 (n * s < 2 ^ 63))) (fact_i 𝓤 (n * s < 2 ^ 63) (emp 𝓤) (run_fits E ok n (omega arith)).1) $
+    join ! $ use0 𝓛 (raw (fact 𝓤 (κ₂ ⊑ X.lives))) (fact_i 𝓤 (κ₂ ⊑ X.lives) (emp 𝓤) lives) $ join ! $
+    pure_i ! (owns (RawPtr ∷ RawPtr ∷ usize ∷ []) z.0.3 z.0.4) (tt, (tt, ((tt, tt), tt)))
+    (refl, (refl, ((refl, n_fits), tt))) $ move ! (14 ∷ 0 ∷ []) $ join ! $ join ! $
     use1 𝓛 (raw (Copies.pre z)) (id⊢ 𝓤 _) $
-    calls_at_last ! (framed 𝓤 𝓛.H 𝓜 𝓣) Copies (copy_thm.met 𝓤 𝓛 𝓜 𝓡 (code.calls-std::ptr::copy_nonoverlapping 𝓡.env wired) X L) z (and_then ! (get ! refl) (and_then ! (get ! refl) (and_then ! (get ! refl) (no_more !)))) (λ v.
-    use1 𝓛 (later (some (λ (u : Unit {0}). ((‵ (flft κ₂ q₂) ⊛ ‵ ftrue) ⊛ ‵ (unit.own_val u (v ∷ []))) ⊛ some (λ (ws : Unit {0} × (Unit {0} × (Unit {0} × Unit {0}))). ‵ (fsep ftrue (fsep ftrue (fsep ftrue ftrue))) ⊛ ‵ (fsep (part_at (Array (R E) n) full_share xs b' dst) (froom (ty_array (elτ E) n) b src)))))) (id⊢ 𝓤 _) $
-    await ! tt $ pick ! (λ u. split ! $ split ! $ move ! (1 ∷ []) $ feq_l ! (λ e. move ! (1 ∷ []) $ pick ! (λ ws. split ! $ drop ! $ fsplit ! $
-    lands_last ! refl (subst (λ (w : Val). T (has_ty ty_unit w) × WT w) (sym (ap only e)) (tt, tt)) $ exec ! 𝓣.C 𝓣.Λ En (after 1 here.body) (at_ret En (W.post y)) $ sets ! (of_opd ! (unit_lit !)) refl (tt, tt) $
+    calls_at_last ! (framed 𝓤 𝓛.H 𝓜 𝓣) Copies
+    (copy_thm.met 𝓤 𝓛 𝓜 𝓡 (code.calls-std::ptr::copy_nonoverlapping 𝓡.env wired) X L) z
+    (and_then ! (get ! refl) (and_then ! (get ! refl) (and_then ! (get ! refl) (no_more !)))) (λ v.
+    use1 𝓛 (later (some (λ (u : Unit {0}). ((‵ (flft κ₂ q₂) ⊛ ‵ ftrue) ⊛ ‵ (unit.own_val u (v ∷ [])))
+    ⊛ some (λ (ws : Unit {0} × (Unit {0} × (Unit {0} × Unit {0}))). ‵ (fsep ftrue (fsep ftrue (fsep ftrue ftrue)))
+    ⊛ ‵ (fsep (part_at (Array (R E) n) full_share xs b' dst) (froom (ty_array (elτ E) n) b src)))))) (id⊢ 𝓤 _) $
+    await ! tt $ pick ! (λ u. split ! $ split ! $ move ! (1 ∷ []) $
+    feq_l ! (λ e. move ! (1 ∷ []) $ pick ! (λ ws. split ! $ drop ! $ fsplit ! $
+    lands_last ! refl (subst (λ (w : Val). T (has_ty ty_unit w) × WT w) (sym (ap only e)) (tt, tt)) $
+    exec ! 𝓣.C 𝓣.Λ En (after 1 here.body) (at_ret En (W.post y)) $ sets ! (of_opd ! (unit_lit !)) refl (tt, tt) $
     -- [the values; the room; the token; the others here; the others there; ..]
-    use1 𝓛 (‵ (Row E 𝓛 b' dst (map Some xs))) (of_array E 𝓛 b' n xs dst) $ rewrite ! 0 (λ (l : List (Place E)). ‵ (Row E 𝓛 b' dst l)) (sym held) refl $ move ! (0 ∷ 4 ∷ []) $
+    use1 𝓛 (‵ (Row E 𝓛 b' dst (map Some xs))) (of_array E 𝓛 b' n xs dst) $
+    rewrite ! 0 (λ (l : List (Place E)). ‵ (Row E 𝓛 b' dst l)) (sym held) refl $ move ! (0 ∷ 4 ∷ []) $
     use2 𝓛 (‵ (Row E 𝓛 b' o' us)) (run_in E 𝓛 b' o' ts to n target run run_long) $
     move ! (0 ∷ 4 ∷ 5 ∷ 6 ∷ 7 ∷ 8 ∷ []) $ slots_close E ! tt g' r' new' b' o' m' sb so ok' us_long $
     move ! (3 ∷ []) $ use1 𝓛 (‵ (Row E 𝓛 b src nones)) (of_room E 𝓛 b n src) $ move ! (0 ∷ 5 ∷ []) $
     use2 𝓛 (‵ (Row E 𝓛 b o es)) (run_in E 𝓛 b o ps from n within nones (length-replicate n None)) $
     move ! (0 ∷ 5 ∷ 6 ∷ 7 ∷ 8 ∷ 9 ∷ []) $ slots_close E ! tt g r new b o m rb ro ok es_long $
     returns ! (look_at ! 0 refl) $ free_all ! refl $
-    suffices ! _ (ends_at 𝓛 ended stayed c y vunit tt (new, (tt, (new', (tt, (tt, tt))))) (tt, (tt, (tt, (tt, (tt, tt)))))) $ says_two ! (refl, refl) $
-    feq_i ! (List Val) (vptr rb ro ∷ []) (vptr rb ro ∷ []) refl $ fjoin3 ! $ move ! (2 ∷ 3 ∷ []) $ feq_i ! (List Val) (vptr sb so ∷ []) (vptr sb so ∷ []) refl $ fjoin3 ! $
-    nothing ! $ nothing ! $ nothing ! $ fjoin3 ! $ move ! (1 ∷ 0 ∷ []) $ fjoin ! $ nothing ! $ move ! (2 ∷ 0 ∷ 1 ∷ []) $ fjoin3 ! $
-    move ! (2 ∷ 3 ∷ []) $ join ! $ move ! (2 ∷ 0 ∷ []) $ join ! $ feq_i ! (List Val) (vunit ∷ []) (vunit ∷ []) refl $ move ! (2 ∷ 0 ∷ []) $ join ! $ move ! (1 ∷ 0 ∷ []) $ join ! $
+    suffices ! _ (ends_at 𝓛 ended stayed c y vunit tt (new, (tt, (new', (tt, (tt, tt)))))
+    (tt, (tt, (tt, (tt, (tt, tt)))))) $ says_two ! (refl, refl) $
+    feq_i ! (List Val) (vptr rb ro ∷ []) (vptr rb ro ∷ []) refl $ fjoin3 ! $ move ! (2 ∷ 3 ∷ []) $
+    feq_i ! (List Val) (vptr sb so ∷ []) (vptr sb so ∷ []) refl $ fjoin3 ! $
+    nothing ! $ nothing ! $ nothing ! $ fjoin3 ! $ move ! (1 ∷ 0 ∷ []) $ fjoin ! $ nothing ! $
+    move ! (2 ∷ 0 ∷ 1 ∷ []) $ fjoin3 ! $
+    move ! (2 ∷ 3 ∷ []) $ join ! $ move ! (2 ∷ 0 ∷ []) $ join ! $ feq_i ! (List Val) (vunit ∷ []) (vunit ∷ []) refl $
+    move ! (2 ∷ 0 ∷ []) $ join ! $ move ! (1 ∷ 0 ∷ []) $ join ! $
     keep ! (0 ∷ []) $ done !)))))))))))

@@ -1,22 +1,35 @@
 use Rattle.std.proofs.{Common.{◌+◌, sym, arith}, lemmas.Bool.ne_eqb}
-use Rattle.arraydeque_ring.proofs.places.{Reads.{runs_swapped_none, runs_swapped_more, next_first, next_second}, Held.filled_in_run}
+use Rattle.arraydeque_ring.proofs.places.{
+  Reads.{runs_swapped_none, runs_swapped_more, next_first, next_second},
+  Held.filled_in_run,
+}
 use Rattle.arraydeque_ring.proofs.slots.Slots.exchange_runs.Goals as goal
 
 pub loop-k-init : goal.loop-k-init
-loop-k-init g c = record { places = sym (runs_swapped_none c.args.a c.args.b c.args.self.places (omega arith) (omega arith)); steps = grind arith }
+loop-k-init g c = record {
+  places = sym (runs_swapped_none c.args.a c.args.b c.args.self.places (omega arith) (omega arith));
+  steps = grind arith;
+}
 
 pub exchange-requires-clause-a_filled : goal.exchange-requires-clause-a_filled
 exchange-requires-clause-a_filled g c =
     let old = c.args.self.places in
-    rw c.loop-k.invariant.places (next_first c.args.a c.args.b c.loop-k.k old (omega arith) (omega arith) (filled_in_run old c.args.a c.args.len c.loop-k.k c.requires.a_filled (omega arith)))
+    rw c.loop-k.invariant.places (next_first c.args.a c.args.b c.loop-k.k old (omega arith) (omega arith)
+    (filled_in_run old c.args.a c.args.len c.loop-k.k c.requires.a_filled (omega arith)))
 
 pub exchange-requires-clause-b_filled : goal.exchange-requires-clause-b_filled
 exchange-requires-clause-b_filled g c =
     let old = c.args.self.places in
-    rw c.loop-k.invariant.places (next_second c.args.a c.args.b c.loop-k.k old (omega arith) (omega arith) (filled_in_run old c.args.b c.args.len c.loop-k.k c.requires.b_filled (omega arith)))
+    rw c.loop-k.invariant.places (next_second c.args.a c.args.b c.loop-k.k old (omega arith) (omega arith)
+    (filled_in_run old c.args.b c.args.len c.loop-k.k c.requires.b_filled (omega arith)))
 
 pub loop-k-preserved : goal.loop-k-preserved
 loop-k-preserved g c = record {
-  places = rw (c.exchange.ensures.places, c.loop-k.invariant.places) (runs_swapped_more c.args.a c.args.b c.loop-k.k c.args.self.places (omega arith) (omega arith));
-  steps = rw (c.exchange.ensures.steps, ne_eqb (c.args.a + c.loop-k.k) (c.args.b + c.loop-k.k) (λ same. omega arith), c.loop-k.invariant.steps) (grind arith);
+  places = rw (c.exchange.ensures.places, c.loop-k.invariant.places)
+      (runs_swapped_more c.args.a c.args.b c.loop-k.k c.args.self.places (omega arith) (omega arith));
+  steps = rw (
+    c.exchange.ensures.steps,
+    ne_eqb (c.args.a + c.loop-k.k) (c.args.b + c.loop-k.k) (λ same. omega arith),
+    c.loop-k.invariant.steps,
+  ) (grind arith);
 }

@@ -1,5 +1,30 @@
 -- `lend_two` lends the values of two runs, and the region follows them under one name. Assumes `Logic`.
-use Rattle.arraydeque_ring.{proofs.{memory.{Kit.{◌≡◌, refl, sym, ap, subst, ◌∙◌, List, [], ◌∷◌, map, ℕ, ◌+◌, ◌*◌, ◌<◌, ◌≤◌, ◌^◌, arith, length, take, length-map, drop_list, Some, Ura, SProp, ent, sep, GName, ftrue, flft, fobs, fbor, Fn, inst_fn, named, w64, vint, vptr, Env, ◌⊑◌, fact, tables, Logic, sem, Borrowed, owns, types_at, ‵, raw, ◌⊛◌, some, later, at_ret, ◌$◌, ◌∵◌, !, qed, by, move, keep, use1, use2, drop, split, join, pick, frame, rewrite, await, fsplit, fsplit3, fjoin, feq_i, feq_l, suffices, done, whole, sub, look_in, agg, enter, of_opd, bin, load, stop, fld, no_more, and_then, first, blocks, exec, returns, alloc_all, pass_all, free_all, look_at, get, through, sets, sets_last, env, yes, no, plain, usize, uint_vals, uint_Tells, mem, Stays, walk_of, says_two, stay_dropped, Goes-dropped, ends_at, nothing, heard, after, El, R, args, el_x, proved, after₂, split3, group, SemTy, all, all_e, apply∗, follows, both_by, MutBor, NamedLft, mut_vals, mut_Tells, named_lft, MutSlice, slice_val, Goes-spent_ref, Global, Fml}, Regions.{Sr, Seen, Fits, near, run_fits, Frame, slots_whole, slots_open, scaled, item_size, Place, places_owned, IsFilledRun, HoldsRun}}, loans.{Made.{loan_val, loan_made}, Names.takes_named, Placed.{placed, apart_within, as_many-same, two_filled, length-written_over, written_over-same}, Runs.{run, News, Filling, two_out, same_cells}}, places.Held.length_filled}, specs.{Loans.{LoanState, as_many, with_run, written_over, AreApart}, Steps.more_lends}}
+use Rattle.arraydeque_ring.{
+  proofs.{
+    memory.{
+      Kit.{◌≡◌, refl, sym, ap, subst, ◌∙◌, List, [], ◌∷◌, map, ℕ, ◌+◌, ◌*◌, ◌<◌, ◌≤◌, ◌^◌, arith, length, take},
+      Kit.{length-map, drop_list, Some, Ura, SProp, ent, sep, GName, ftrue, flft, fobs, fbor, Fn, inst_fn, named, w64},
+      Kit.{vint, vptr, Env, ◌⊑◌, fact, tables, Logic, sem, Borrowed, owns, types_at, ‵, raw, ◌⊛◌, some, later, at_ret},
+      Kit.{◌$◌, ◌∵◌, !, qed, by, move, keep, use1, use2, drop, split, join, pick, frame, rewrite, await, fsplit},
+      Kit.{fsplit3, fjoin, feq_i, feq_l, suffices, done, whole, sub, look_in, agg, enter, of_opd, bin, load, stop, fld},
+      Kit.{no_more, and_then, first, blocks, exec, returns, alloc_all, pass_all, free_all, look_at, get, through, sets},
+      Kit.{sets_last, env, yes, no, plain, usize, uint_vals, uint_Tells, mem, Stays, walk_of, says_two, stay_dropped},
+      Kit.{Goes-dropped, ends_at, nothing, heard, after, El, R, args, el_x, proved, after₂, split3, group, SemTy, all},
+      Kit.{all_e, apply∗, follows, both_by, MutBor, NamedLft, mut_vals, mut_Tells, named_lft, MutSlice, slice_val},
+      Kit.{Goes-spent_ref, Global, Fml},
+      Regions.{Sr, Seen, Fits, near, run_fits, Frame, slots_whole, slots_open, scaled, item_size, Place, places_owned},
+      Regions.{IsFilledRun, HoldsRun},
+    },
+    loans.{
+      Made.{loan_val, loan_made},
+      Names.takes_named,
+      Placed.{placed, apart_within, as_many-same, two_filled, length-written_over, written_over-same},
+      Runs.{run, News, Filling, two_out, same_cells},
+    },
+    places.Held.length_filled,
+  },
+  specs.{Loans.{LoanState, as_many, with_run, written_over, AreApart}, Steps.more_lends},
+}
 use types.SemTy.{Arr}
 use base.Stored.{coded_list}
 use denote.FollowSlice.{slice_of}
@@ -14,13 +39,17 @@ module _ (E : El) where
 
   -- the region with us in the stead of xs and vs in that of ys
   abbrev Written : Seen E → ℕ → ℕ → List (el_x E) → List (el_x E) → List (el_x E) → List (el_x E) → Seen E
-  Written r a b xs ys us vs = record { places = with_run b (as_many ys vs) (with_run a (as_many xs us) r.places); steps = more_lends 2 r.steps }
+  Written r a b xs ys us vs = record {
+    places = with_run b (as_many ys vs) (with_run a (as_many xs us) r.places);
+    steps = more_lends 2 r.steps;
+  }
 
   -- and after any writing through the loan
   abbrev Ended : Seen E → Seen E → Seen E
   Ended r w = record { places = written_over r.places w.places; steps = more_lends 2 r.steps }
 
-module _ (E : El) {M : Type 1} {𝓤 : Ura M} (𝓛 : Logic 𝓤) (rb ro : ℕ) (r : Seen E) (a b : ℕ) (xs ys : List (el_x E)) (g : Global) (p o n : ℕ) where
+module _ (E : El) {M : Type 1} {𝓤 : Ura M} (𝓛 : Logic 𝓤) (rb ro : ℕ) (r : Seen E) (a b : ℕ) (xs ys : List (el_x E))
+    (g : Global) (p o n : ℕ) where
   abbrev s : ℕ
   s = item_size E
 
@@ -31,84 +60,152 @@ module _ (E : El) {M : Type 1} {𝓤 : Ura M} (𝓛 : Logic 𝓤) (rb ro : ℕ) 
   abbrev Rest : SProp 𝓤
   Rest = sep 𝓤 (all 𝓤 Way) (sem 𝓛 (Frame E 𝓛 rb ro g r p o n))
 
-  back : Fits E r o n → HoldsRun r.places a (length xs) xs → HoldsRun r.places b (length ys) ys → (us vs : List (el_x E))
-      → ent 𝓤 (sep 𝓤 (sem 𝓛 ((Lin E (length xs)).own_at us p (a * s + o))) (sep 𝓤 (sem 𝓛 ((Lin E (length ys)).own_at vs p (b * s + o))) Rest)) (sem 𝓛 ((mem (Sr E)).own_at (Ended E r (Written E r a b xs ys us vs)) rb ro))
+  back : Fits E r o n → HoldsRun r.places a (length xs) xs → HoldsRun r.places b (length ys) ys
+      → (us vs : List (el_x E))
+      → ent 𝓤 (sep 𝓤 (sem 𝓛 ((Lin E (length xs)).own_at us p (a * s + o)))
+      (sep 𝓤 (sem 𝓛 ((Lin E (length ys)).own_at vs p (b * s + o))) Rest))
+      (sem 𝓛 ((mem (Sr E)).own_at (Ended E r (Written E r a b xs ys us vs)) rb ro))
   back ok held held' us vs =
-      qed 𝓛 (‵ ((Lin E (length xs)).own_at us p (a * s + o)) ∷ ‵ ((Lin E (length ys)).own_at vs p (b * s + o)) ∷ (raw (all 𝓤 Way) ⊛ ‵ (Frame E 𝓛 rb ro g r p o n)) ∷ []) ∵
+      qed 𝓛 (‵ ((Lin E (length xs)).own_at us p (a * s + o)) ∷ ‵ ((Lin E (length ys)).own_at vs p (b * s + o))
+      ∷ (raw (all 𝓤 Way) ⊛ ‵ (Frame E 𝓛 rb ro g r p o n)) ∷ []) ∵
       fsplit ! $ feq_l ! (λ same. move ! (1 ∷ []) $ fsplit ! $ feq_l ! (λ same'.
       let put = placed b (length ys) (map Some vs) (placed a (length xs) (map Some us) r.places) in
       let new : Seen E = Ended E r (Written E r a b xs ys us vs) in
       let alike : put ≡ new.places =
-      ap (λ k. placed b k (map Some vs) (placed a (length xs) (map Some us) r.places)) (sym same') ∙ ap (λ k. with_run b vs (placed a k (map Some us) r.places)) (sym same)
-      ∙ sym (written_over-same r.places (with_run b vs (with_run a us r.places)) (two_filled a b xs us ys vs r.places held same held' same'))
-      ∙ ap (λ l. written_over r.places (with_run b l (with_run a us r.places))) (sym (as_many-same ys vs same')) ∙ ap (λ l. written_over r.places (with_run b (as_many ys vs) (with_run a l r.places))) (sym (as_many-same xs us same)) in
-      let w : News E 𝓛 p o r.places a (length xs) b (length ys) = (map Some us, map Some vs, sym (length-map us Some ∙ same), sym (length-map vs Some ∙ same')) in
+      ap (λ k. placed b k (map Some vs) (placed a (length xs) (map Some us) r.places)) (sym same')
+      ∙ ap (λ k. with_run b vs (placed a k (map Some us) r.places)) (sym same)
+      ∙ sym (written_over-same r.places (with_run b vs (with_run a us r.places))
+      (two_filled a b xs us ys vs r.places held same held' same'))
+      ∙ ap (λ l. written_over r.places (with_run b l (with_run a us r.places))) (sym (as_many-same ys vs same'))
+      ∙ ap (λ l. written_over r.places (with_run b (as_many ys vs) (with_run a l r.places)))
+      (sym (as_many-same xs us same)) in
+      let w : News E 𝓛 p o r.places a (length xs) b (length ys) =
+      (map Some us, map Some vs, sym (length-map us Some ∙ same), sym (length-map vs Some ∙ same')) in
       -- [the second's values; the first's; the rest]
       rewrite ! 0 (λ (F : Fml). ‵ F) (sym (same_cells E 𝓛 p vs (b * s + o))) refl $ move ! (1 ∷ []) $
-      rewrite ! 0 (λ (F : Fml). ‵ F) (sym (same_cells E 𝓛 p us (a * s + o))) refl $ move ! (0 ∷ 1 ∷ []) $ join ! $ move ! (1 ∷ []) $ split ! $
+      rewrite ! 0 (λ (F : Fml). ‵ F) (sym (same_cells E 𝓛 p us (a * s + o))) refl $ move ! (0 ∷ 1 ∷ []) $ join ! $
+      move ! (1 ∷ []) $ split ! $
       use1 𝓛 (raw (Way w)) (all_e 𝓤 Way w) $ move ! (2 ∷ 0 ∷ []) $
-      use2 𝓛 (‵ (places_owned (R E) p o put)) (apply∗ 𝓤 (sep 𝓤 (sem 𝓛 (places_owned (R E) p (a * s + o) w.0)) (sem 𝓛 (places_owned (R E) p (b * s + o) w.1))) (sem 𝓛 (places_owned (R E) p o put))) $
-      rewrite ! 0 (λ (ps : List (Place E)). ‵ (places_owned (R E) p o ps)) alike refl $ by ! (slots_whole E 𝓛 rb ro g r p o n ok new (sym (length-written_over r.places (Written E r a b xs ys us vs).places)))))
+      use2 𝓛 (‵ (places_owned (R E) p o put)) (apply∗ 𝓤 (sep 𝓤 (sem 𝓛 (places_owned (R E) p (a * s + o) w.0))
+      (sem 𝓛 (places_owned (R E) p (b * s + o) w.1))) (sem 𝓛 (places_owned (R E) p o put))) $
+      rewrite ! 0 (λ (ps : List (Place E)). ‵ (places_owned (R E) p o ps)) alike refl $ by ! (slots_whole E 𝓛 rb ro g r
+      p o n ok new (sym (length-written_over r.places (Written E r a b xs ys us vs).places)))))
 
 pub lend_two_spec : {M : Type 1} → stated.statement M
 unfolding both_by
 lend_two_spec 𝓤 𝓛 𝓜 𝓡 wired X L =
     let E : El = record { row = X; laws = L } in let here : Fn = inst_fn (args E) code.function in
-    let ended = f.ended X in let stayed : Stays ended.signature.params ended.kept = (stay_dropped _ no, (stay_dropped _ yes, (stay_dropped _ yes, (stay_dropped _ yes, (stay_dropped _ yes, tt))))) in
+    let ended = f.ended X in let stayed : Stays ended.signature.params ended.kept = (
+      stay_dropped _ no,
+      (stay_dropped _ yes, (stay_dropped _ yes, (stay_dropped _ yes, (stay_dropped _ yes, tt)))),
+    ) in
     let c = f.clauses X 𝓛 𝓜.mem 𝓡.returns in let W = walk_of 𝓛 ended stayed c in let 𝓣 = tables 𝓤 𝓛.H 𝓜 𝓡 𝓡.env in
     let word = Goes-dropped 𝓛 2 (plain (λ _. usize)) yes (λ κs x w. refl) in
     proved 𝓛 ended stayed c 𝓜 𝓡 (Goes-spent_ref 𝓛 2 (0 ∷ []) tt (plain (λ _. Sr E)), (word, (word, (word, (word, tt)))))
     (f.Key.name (args E)) here (code.unfolded 𝓤 𝓛.H 𝓜 𝓡 wired (X, tt))
-    (λ κs. (mut_vals, (uint_vals w64, (uint_vals w64, (uint_vals w64, (uint_vals w64, tt)))))) (λ κs. (mut_Tells (named 0) κs.0 (Sr E), (uint_Tells w64, (uint_Tells w64, (uint_Tells w64, (uint_Tells w64, tt)))))) (λ κs qs bounds arg _ are.
+    (λ κs. (mut_vals, (uint_vals w64, (uint_vals w64, (uint_vals w64, (uint_vals w64, tt)))))) (λ κs.
+    (mut_Tells (named 0) κs.0 (Sr E), (uint_Tells w64, (uint_Tells w64, (uint_Tells w64, (uint_Tells w64, tt))))))
+    (λ κs qs bounds arg _ are.
     let κ = κs.0 in let κ₁ = κs.1.0 in let q = qs.0 in let q₁ = qs.1.0 in
-    let rb : ℕ = arg.0.ref_ptr.0 in let ro : ℕ = arg.0.ref_ptr.1 in let γ = arg.0.ghost_name in let r : Seen E = arg.0.now in
+    let rb : ℕ = arg.0.ref_ptr.0 in let ro : ℕ = arg.0.ref_ptr.1 in let γ = arg.0.ghost_name in
+    let r : Seen E = arg.0.now in
     let a : ℕ = arg.1.0 in let la : ℕ = arg.1.1.0 in let b : ℕ = arg.1.1.1.0 in let lb : ℕ = arg.1.1.1.1.0 in
-    let y : W.Ghost = ((κs, qs, bounds, arg, (mut_vals arg.0, (uint_vals w64 a, (uint_vals w64 la, (uint_vals w64 b, (uint_vals w64 lb, tt)))))), tt) in
-    let fa : a < 2 ^ 64 = are.1.0.1 in let fla : la < 2 ^ 64 = are.1.1.0.1 in let fb : b < 2 ^ 64 = are.1.1.1.0.1 in let flb : lb < 2 ^ 64 = are.1.1.1.1.0.1 in
+    let y : W.Ghost = (
+      (
+        κs,
+        qs,
+        bounds,
+        arg,
+        (mut_vals arg.0, (uint_vals w64 a, (uint_vals w64 la, (uint_vals w64 b, (uint_vals w64 lb, tt))))),
+      ),
+      tt,
+    ) in
+    let fa : a < 2 ^ 64 = are.1.0.1 in let fla : la < 2 ^ 64 = are.1.1.0.1 in let fb : b < 2 ^ 64 = are.1.1.1.0.1 in
+    let flb : lb < 2 ^ 64 = are.1.1.1.1.0.1 in
     let s : ℕ = item_size E in let coded = (Sr E).coded.code r in
-    qed 𝓛 (((‵ (flft κ q) ⊛ ‵ (flft κ₁ q₁) ⊛ ‵ ftrue) ⊛ ‵ (owns (types_at ended.signature.params κs) arg y.0.4)) ∷ (raw (fact 𝓤 (κ₁ ⊑ X.lives)) ⊛ raw (fact 𝓤 (IsFilledRun r.places a la)) ⊛ raw (fact 𝓤 (IsFilledRun r.places b lb)) ⊛ raw (fact 𝓤 (AreApart a la b lb))) ∷ []) ∵
-    move ! (1 ∷ []) $ split ! $ drop ! $ split3 ! $ heard ! (IsFilledRun r.places a la) (λ one. heard ! (IsFilledRun r.places b lb) (λ two. heard ! (AreApart a la b lb) (λ apart.
+    qed 𝓛 (((‵ (flft κ q) ⊛ ‵ (flft κ₁ q₁) ⊛ ‵ ftrue) ⊛ ‵ (owns (types_at ended.signature.params κs) arg y.0.4))
+    ∷ (raw (fact 𝓤 (κ₁ ⊑ X.lives)) ⊛ raw (fact 𝓤 (IsFilledRun r.places a la))
+    ⊛ raw (fact 𝓤 (IsFilledRun r.places b lb)) ⊛ raw (fact 𝓤 (AreApart a la b lb))) ∷ []) ∵
+    move ! (1 ∷ []) $ split ! $ drop ! $ split3 ! $ heard ! (IsFilledRun r.places a la) (λ one.
+    heard ! (IsFilledRun r.places b lb) (λ two. heard ! (AreApart a la b lb) (λ apart.
     let xs : List (el_x E) = one.1.0 in let ys : List (el_x E) = two.1.0 in
     let long = length_filled r.places a la one in let long' = length_filled r.places b lb two in
-    let held : HoldsRun r.places a (length xs) xs = ap (λ k. take k (drop_list a r.places)) long ∙ one.1.1 in let held' : HoldsRun r.places b (length ys) ys = ap (λ k. take k (drop_list b r.places)) long' ∙ two.1.1 in
-    let in_a : a + length xs ≤ length r.places = omega (arith, one.0) in let in_b : b + length ys ≤ length r.places = omega (arith, two.0) in
-    let clear : AreApart a (length xs) b (length ys) = λ k. subst (λ m. a ≤ k → k < a + m → b ≤ k → k < b + length ys → ⊥) (sym long) (subst (λ m. a ≤ k → k < a + la → b ≤ k → k < b + m → ⊥) (sym long') (apart k)) in
+    let held : HoldsRun r.places a (length xs) xs = ap (λ k. take k (drop_list a r.places)) long ∙ one.1.1 in
+    let held' : HoldsRun r.places b (length ys) ys = ap (λ k. take k (drop_list b r.places)) long' ∙ two.1.1 in
+    let in_a : a + length xs ≤ length r.places = omega (arith, one.0) in
+    let in_b : b + length ys ≤ length r.places = omega (arith, two.0) in
+    let clear : AreApart a (length xs) b (length ys) = λ k. subst (λ m. a ≤ k → k < a + m → b ≤ k → k < b + length ys
+    → ⊥) (sym long) (subst (λ m. a ≤ k → k < a + la → b ≤ k → k < b + m → ⊥) (sym long') (apart k)) in
     split ! $ split ! $ move ! (2 ∷ []) $ fsplit3 ! $ fsplit3 ! $ keep ! (1 ∷ 2 ∷ 5 ∷ 6 ∷ []) $
-    enter ! 𝓣.C 𝓣.Λ here (vptr rb ro ∷ vint w64 a ∷ vint w64 la ∷ vint w64 b ∷ vint w64 lb ∷ []) _ $ alloc_all ! (λ l. pass_all ! refl ((tt, tt), ((tt, record { fits = fa }), ((tt, record { fits = fla }), ((tt, record { fits = fb }), ((tt, record { fits = flb }), tt))))) $
+    enter ! 𝓣.C 𝓣.Λ here (vptr rb ro ∷ vint w64 a ∷ vint w64 la ∷ vint w64 b ∷ vint w64 lb ∷ []) _ $
+    alloc_all ! (λ l. pass_all ! refl (
+      (tt, tt),
+      (
+        (tt, record { fits = fa }),
+        ((tt, record { fits = fla }), ((tt, record { fits = fb }), ((tt, record { fits = flb }), tt))),
+      ),
+    ) $
     let En : Env 𝓤 𝓛.H = env here.locals l in
     slots_open E ! tt r rb ro (λ g p o n ok.
     let far = near E ok a (omega arith) in let far' = near E ok b (omega arith) in
     first ! $ blocks ! $
-    sets ! (of_opd ! (load ! (through ! refl (fld ! refl (stop !))) (look_in ! 2 (sub ! 0 refl (whole !))))) refl (tt, tt) $
-    sets ! (scaled ! (get ! refl) far) refl (tt, record { fits = far }) $ sets ! (bin ! (get ! refl) (get ! refl) tt) refl (tt, tt) $
-    sets ! (agg ! (and_then ! (get ! refl) (and_then ! (get ! refl) (no_more !)))) refl (tt, (tt, (record { fits = fla }, tt))) $
-    sets ! (of_opd ! (load ! (through ! refl (fld ! refl (stop !))) (look_in ! 2 (sub ! 0 refl (whole !))))) refl (tt, tt) $
-    sets ! (scaled ! (get ! refl) far') refl (tt, record { fits = far' }) $ sets ! (bin ! (get ! refl) (get ! refl) tt) refl (tt, tt) $
-    sets ! (agg ! (and_then ! (get ! refl) (and_then ! (get ! refl) (no_more !)))) refl (tt, (tt, (record { fits = flb }, tt))) $
-    sets ! (agg ! (no_more !)) refl (tt, tt) $ sets ! (agg ! (and_then ! (get ! refl) (no_more !))) refl (tt, (tt, tt)) $
-    sets_last ! (agg ! (and_then ! (get ! refl) (and_then ! (get ! refl) (and_then ! (get ! refl) (no_more !))))) refl (tt, ((tt, (record { fits = fla }, tt)), ((tt, (record { fits = flb }, tt)), ((tt, tt), tt)))) $
-    exec ! 𝓣.C 𝓣.Λ En (after 1 here.body) (at_ret En (W.post y)) $ sets ! (of_opd ! (get ! refl)) refl (tt, ((tt, (record { fits = fla }, tt)), ((tt, (record { fits = flb }, tt)), ((tt, tt), tt)))) $
-    let pa = a * s + o in let pb = b * s + o in let Rest₀ = Rest E 𝓛 rb ro r a b xs ys g p o n in let way = back E 𝓛 rb ro r a b xs ys g p o n ok held held' in
-    use1 𝓛 (‵ (places_owned (R E) p pa (run E 𝓛 p o r.places a (length xs))) ⊛ ‵ (places_owned (R E) p pb (run E 𝓛 p o r.places b (length ys))) ⊛ raw (all 𝓤 (Way E 𝓛 rb ro r a b xs ys g p o n)))
+    sets ! (of_opd ! (load ! (through ! refl (fld ! refl (stop !))) (look_in ! 2 (sub ! 0 refl (whole !)))))
+    refl (tt, tt) $
+    sets ! (scaled ! (get ! refl) far) refl (tt, record { fits = far }) $
+    sets ! (bin ! (get ! refl) (get ! refl) tt) refl (tt, tt) $
+    sets ! (agg ! (and_then ! (get ! refl) (and_then ! (get ! refl) (no_more !)))) refl
+    (tt, (tt, (record { fits = fla }, tt))) $
+    sets ! (of_opd ! (load ! (through ! refl (fld ! refl (stop !))) (look_in ! 2 (sub ! 0 refl (whole !)))))
+    refl (tt, tt) $
+    sets ! (scaled ! (get ! refl) far') refl (tt, record { fits = far' }) $
+    sets ! (bin ! (get ! refl) (get ! refl) tt) refl (tt, tt) $
+    sets ! (agg ! (and_then ! (get ! refl) (and_then ! (get ! refl) (no_more !)))) refl
+    (tt, (tt, (record { fits = flb }, tt))) $
+    sets ! (agg ! (no_more !)) refl (tt, tt) $
+    sets ! (agg ! (and_then ! (get ! refl) (no_more !))) refl (tt, (tt, tt)) $
+    sets_last ! (agg ! (and_then ! (get ! refl) (and_then ! (get ! refl) (and_then ! (get ! refl) (no_more !))))) refl
+    (tt, ((tt, (record { fits = fla }, tt)), ((tt, (record { fits = flb }, tt)), ((tt, tt), tt)))) $
+    exec ! 𝓣.C 𝓣.Λ En (after 1 here.body) (at_ret En (W.post y)) $ sets ! (of_opd ! (get ! refl)) refl
+    (tt, ((tt, (record { fits = fla }, tt)), ((tt, (record { fits = flb }, tt)), ((tt, tt), tt)))) $
+    let pa = a * s + o in let pb = b * s + o in let Rest₀ = Rest E 𝓛 rb ro r a b xs ys g p o n in
+    let way = back E 𝓛 rb ro r a b xs ys g p o n ok held held' in
+    use1 𝓛 (‵ (places_owned (R E) p pa (run E 𝓛 p o r.places a (length xs))) ⊛ ‵ (places_owned (R E) p pb
+    (run E 𝓛 p o r.places b (length ys))) ⊛ raw (all 𝓤 (Way E 𝓛 rb ro r a b xs ys g p o n)))
     (two_out E 𝓛 p o r.places a (length xs) b (length ys) in_a in_b clear) $ split3 ! $
-    rewrite ! 0 (λ (ps : List (Place E)). ‵ (places_owned (R E) p pa ps)) held refl $ rewrite ! 0 (λ (F : Fml). ‵ F) (same_cells E 𝓛 p xs pa) refl $ move ! (1 ∷ []) $
-    rewrite ! 0 (λ (ps : List (Place E)). ‵ (places_owned (R E) p pb ps)) held' refl $ rewrite ! 0 (λ (F : Fml). ‵ F) (same_cells E 𝓛 p ys pb) refl $
+    rewrite ! 0 (λ (ps : List (Place E)). ‵ (places_owned (R E) p pa ps)) held refl $
+    rewrite ! 0 (λ (F : Fml). ‵ F) (same_cells E 𝓛 p xs pa) refl $ move ! (1 ∷ []) $
+    rewrite ! 0 (λ (ps : List (Place E)). ‵ (places_owned (R E) p pb ps)) held' refl $
+    rewrite ! 0 (λ (F : Fml). ‵ F) (same_cells E 𝓛 p ys pb) refl $
     -- [the second's values; the first's; the way; the right; the words; the open borrow, in three; the other token]
-    move ! (3 ∷ 4 ∷ []) $ fjoin ! $ move ! (3 ∷ 0 ∷ []) $ join ! $ move ! (1 ∷ []) $ feq_i ! ℕ (length ys) (length ys) refl $ fjoin ! $ move ! (2 ∷ []) $ feq_i ! ℕ (length xs) (length xs) refl $ fjoin ! $
+    move ! (3 ∷ 4 ∷ []) $ fjoin ! $ move ! (3 ∷ 0 ∷ []) $ join ! $ move ! (1 ∷ []) $ feq_i ! ℕ (length ys)
+    (length ys) refl $ fjoin ! $ move ! (2 ∷ []) $ feq_i ! ℕ (length xs) (length xs) refl $ fjoin ! $
     -- [the first; the second; the rest; the open borrow, in three; ..]
     move ! (3 ∷ 4 ∷ 5 ∷ 0 ∷ 1 ∷ 2 ∷ []) $ group ! 6 $
-    use1 𝓛 (later (some (λ (νs : GName × (GName × GName)). (‵ (fobs νs.1.0 ((coded_list (R E).coded).code xs)) ⊛ ‵ (fbor κ (Borrowed (Lin E (length xs)) p pa νs.1.0))) ⊛ (‵ (fobs νs.1.1 ((coded_list (R E).coded).code ys)) ⊛ ‵ (fbor κ (Borrowed (Lin E (length ys)) p pb νs.1.1)))
-    ⊛ ‵ (flft κ q) ⊛ ‵ (follows (Sr E) (Sr E) γ νs.0 (Ended E r)) ⊛ ‵ (after₂ (mem (Sr E)) (Lin E (length xs)) (Lin E (length ys)) νs.0 νs.1.0 νs.1.1 (Written E r a b xs ys)))))
-    (takes_named 𝓛 (mem (Sr E)) (Lin E (length xs)) (Lin E (length ys)) (Ended E r) (Written E r a b xs ys) κ q rb ro p pa p pb γ Rest₀ way coded coded r xs ys) $ await ! tt $ pick ! (λ νs. split3 ! $
-    let first_slice : MutBor (List (el_x E)) = record { ref_ptr = (p, pa); ghost_name = νs.1.0; now = xs } in let second_slice : MutBor (List (el_x E)) = record { ref_ptr = (p, pb); ghost_name = νs.1.1; now = ys } in
-    let room = run_fits E ok in let bounded = (room (length xs + length ys) (apart_within a (length xs) b (length ys) (length r.places) clear in_a in_b)).0 in
+    use1 𝓛 (later (some (λ (νs : GName × (GName × GName)).
+    (‵ (fobs νs.1.0 ((coded_list (R E).coded).code xs)) ⊛ ‵ (fbor κ (Borrowed (Lin E (length xs)) p pa νs.1.0)))
+    ⊛ (‵ (fobs νs.1.1 ((coded_list (R E).coded).code ys)) ⊛ ‵ (fbor κ (Borrowed (Lin E (length ys)) p pb νs.1.1)))
+    ⊛ ‵ (flft κ q) ⊛ ‵ (follows (Sr E) (Sr E) γ νs.0 (Ended E r))
+    ⊛ ‵ (after₂ (mem (Sr E)) (Lin E (length xs)) (Lin E (length ys)) νs.0 νs.1.0 νs.1.1 (Written E r a b xs ys)))))
+    (takes_named 𝓛 (mem (Sr E)) (Lin E (length xs)) (Lin E (length ys)) (Ended E r) (Written E r a b xs ys) κ q rb ro p
+    pa p pb γ Rest₀ way coded coded r xs ys) $ await ! tt $ pick ! (λ νs. split3 ! $
+    let first_slice : MutBor (List (el_x E)) = record { ref_ptr = (p, pa); ghost_name = νs.1.0; now = xs } in
+    let second_slice : MutBor (List (el_x E)) = record { ref_ptr = (p, pb); ghost_name = νs.1.1; now = ys } in
+    let room = run_fits E ok in let bounded =
+    (room (length xs + length ys) (apart_within a (length xs) b (length ys) (length r.places) clear in_a in_b)).0 in
     let α : NamedLft = named_lft 2 0 tt κs in let v = loan_val (slice_val (p, pa) la) (slice_val (p, pb) lb) in
     let seen : LoanState (el_x E) = record { first = first_slice; second = second_slice; name = νs.0 } in
-    use1 𝓛 (‵ ((MutSlice (named 0) κ (R E)).own_val first_slice (slice_val (p, pa) (length xs) ∷ []))) (slice_of 𝓛 (R E) (named 0) κ p pa νs.1.0 xs (room (length xs) (omega arith))) $ move ! (1 ∷ []) $
-    use1 𝓛 (‵ ((MutSlice (named 0) κ (R E)).own_val second_slice (slice_val (p, pb) (length ys) ∷ []))) (slice_of 𝓛 (R E) (named 0) κ p pb νs.1.1 ys (room (length ys) (omega arith))) $ move ! (1 ∷ 0 ∷ []) $
-    rewrite ! 0 (λ (k : ℕ). ‵ ((MutSlice (named 0) κ (R E)).own_val first_slice (slice_val (p, pa) k ∷ []))) long refl $ rewrite ! 1 (λ (k : ℕ). ‵ ((MutSlice (named 0) κ (R E)).own_val second_slice (slice_val (p, pb) k ∷ []))) long' refl $
-    use2 𝓛 (‵ ((loan.the_row α (R E)).own_val seen (v ∷ []))) (loan_made α (R E) 𝓛 seen (slice_val (p, pa) la) (slice_val (p, pb) lb) bounded) $ move ! (1 ∷ []) $ split3 ! $
+    use1 𝓛 (‵ ((MutSlice (named 0) κ (R E)).own_val first_slice (slice_val (p, pa) (length xs) ∷ [])))
+    (slice_of 𝓛 (R E) (named 0) κ p pa νs.1.0 xs (room (length xs) (omega arith))) $ move ! (1 ∷ []) $
+    use1 𝓛 (‵ ((MutSlice (named 0) κ (R E)).own_val second_slice (slice_val (p, pb) (length ys) ∷ [])))
+    (slice_of 𝓛 (R E) (named 0) κ p pb νs.1.1 ys (room (length ys) (omega arith))) $ move ! (1 ∷ 0 ∷ []) $
+    rewrite ! 0 (λ (k : ℕ). ‵ ((MutSlice (named 0) κ (R E)).own_val first_slice (slice_val (p, pa) k ∷ []))) long refl $
+    rewrite ! 1 (λ (k : ℕ). ‵ ((MutSlice (named 0) κ (R E)).own_val second_slice (slice_val (p, pb) k ∷ [])))
+    long' refl $
+    use2 𝓛 (‵ ((loan.the_row α (R E)).own_val seen (v ∷ [])))
+    (loan_made α (R E) 𝓛 seen (slice_val (p, pa) la) (slice_val (p, pb) lb) bounded) $ move ! (1 ∷ []) $ split3 ! $
     returns ! (look_at ! 0 refl) $ free_all ! refl $
     -- [the token; what the region follows; what its name follows; the iterator; the other token]
     suffices ! _ (ends_at 𝓛 ended stayed c y v seen (tt, (tt, (tt, (tt, (tt, tt))))) (tt, (tt, (tt, (tt, (tt, tt)))))) $
-    move ! (1 ∷ 2 ∷ []) $ fjoin ! $ move ! (1 ∷ 3 ∷ []) $ join ! $ move ! (2 ∷ []) $ nothing ! $ nothing ! $ fjoin ! $ nothing ! $ fjoin ! $ nothing ! $ fjoin ! $ nothing ! $ fjoin ! $ nothing ! $ fjoin ! $ join ! $ move ! (1 ∷ 0 ∷ []) $ join ! $ frame ! $ says_two ! (one.1.1, two.1.1) $ done !)))))))
+    move ! (1 ∷ 2 ∷ []) $ fjoin ! $ move ! (1 ∷ 3 ∷ []) $ join ! $ move ! (2 ∷ []) $ nothing ! $ nothing ! $
+    fjoin ! $ nothing ! $ fjoin ! $ nothing ! $ fjoin ! $ nothing ! $ fjoin ! $ nothing ! $ fjoin ! $ join ! $
+    move ! (1 ∷ 0 ∷ []) $ join ! $ frame ! $ says_two ! (one.1.1, two.1.1) $ done !)))))))

@@ -4,13 +4,19 @@ use Rattle.arraydeque_ring.proofs.slots.Slots.move_first.Goals as goal
 
 pub move_block-requires-clause-filled : goal.move_block-requires-clause-filled
 move_block-requires-clause-filled g c =
-    let goes = (first_goes _ _ g.row.N (c.args.len - (c.loop-moved.moved + g.row.N)) _ _ (omega arith) c.loop-moved.invariant.can (omega arith)).can in
+    let goes = (first_goes _ _ g.row.N (c.args.len - (c.loop-moved.moved + g.row.N)) _ _
+    (omega arith) c.loop-moved.invariant.can (omega arith)).can in
     round_run _ _ _ goes.source goes.filled
 
 pub loop-moved-preserved : goal.loop-moved-preserved
 loop-moved-preserved g c =
-    let goes = first_goes _ _ g.row.N (c.args.len - (c.loop-moved.moved + g.row.N)) _ _ (omega arith) c.loop-moved.invariant.can (omega arith) in
-    rw (c.move_block.ensures, ← add_assoc c.args.dst c.loop-moved.moved g.row.N, ← add_assoc c.args.src c.loop-moved.moved g.row.N) (record {
+    let goes = first_goes _ _ g.row.N (c.args.len - (c.loop-moved.moved + g.row.N)) _ _
+    (omega arith) c.loop-moved.invariant.can (omega arith) in
+    rw (
+      c.move_block.ensures,
+      ← add_assoc c.args.dst c.loop-moved.moved g.row.N,
+      ← add_assoc c.args.src c.loop-moved.moved g.row.N,
+    ) (record {
       within = omega arith;
       can = goes.then;
       moved = goes.is ∙ c.loop-moved.invariant.moved;
@@ -18,4 +24,6 @@ loop-moved-preserved g c =
     })
 
 pub returns-after-loop-moved-clause-all : goal.returns-after-loop-moved-clause-all
-returns-after-loop-moved-clause-all g c = λ one. all_moved (c.args.dst + c.loop-moved.moved) (c.args.src + c.loop-moved.moved) (c.args.len - c.loop-moved.moved) c.loop-moved.self (omega (arith, c.loop-moved-test.false)) c.loop-moved.invariant.moved c.loop-moved.invariant.steps
+returns-after-loop-moved-clause-all g c = λ one. all_moved (c.args.dst + c.loop-moved.moved)
+    (c.args.src + c.loop-moved.moved) (c.args.len - c.loop-moved.moved) c.loop-moved.self
+    (omega (arith, c.loop-moved-test.false)) c.loop-moved.invariant.moved c.loop-moved.invariant.steps

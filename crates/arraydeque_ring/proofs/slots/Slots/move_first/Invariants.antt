@@ -6,7 +6,8 @@ abbrev pub invariant-loop-moved : goal.invariant-loop-moved
 invariant-loop-moved g l = record {
   within : l.moved ≤ l.len;
   can : CanCopy (l.dst + l.moved) (l.src + l.moved) (l.len - l.moved) l.self.places;
-  moved : run_moved (l.dst + l.moved) (l.src + l.moved) (l.len - l.moved) l.self.places ≡ run_moved (l.dst + l.from) (l.src + l.from) (l.len - l.from) l.initial.self.places;
+  moved : run_moved (l.dst + l.moved) (l.src + l.moved) (l.len - l.moved) l.self.places ≡ run_moved (l.dst + l.from)
+      (l.src + l.from) (l.len - l.from) l.initial.self.places;
   steps : l.self.steps ≡ l.initial.self.steps;
 }
 

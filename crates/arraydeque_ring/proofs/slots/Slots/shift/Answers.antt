@@ -9,8 +9,10 @@ write-requires g c =
     let places = c.args.self.now.places in
     rw c.read-value.ensures.region (
       omega (arith, length-set places c.args.src None, c.requires.empty.0),
-      get_or-set_other places c.args.src c.args.dst None None (λ (e : c.args.dst ≡ c.args.src). cc (c.requires.filled.1, c.requires.empty.1)) ∙ c.requires.empty.1,
+      get_or-set_other places c.args.src c.args.dst None None
+          (λ (e : c.args.dst ≡ c.args.src). cc (c.requires.filled.1, c.requires.empty.1)) ∙ c.requires.empty.1,
     )
 
 pub returns-clause-places : goal.returns-clause-places
-returns-clause-places g c = rw (c.count.ensures, c.write.ensures, c.read-value.ensures.region, c.read-value.ensures.value)
+returns-clause-places g c =
+    rw (c.count.ensures, c.write.ensures, c.read-value.ensures.region, c.read-value.ensures.value)

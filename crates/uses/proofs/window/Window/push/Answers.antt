@@ -14,7 +14,8 @@ invariant_of-self g c =
     let was = c.self.invariant in
     let small : c.args.sample < 2 ^ 32 = omega arith in
     let same = c.push_back.ensures.conserved in
-    let summed = sum-kept (option_to_list c.push_back.result) c.push_back.new.self.items c.self.inside.recent.items c.args.sample same in
+    let summed = sum-kept
+    (option_to_list c.push_back.result) c.push_back.new.self.items c.self.inside.recent.items c.args.sample same in
     let left = sum-option c.push_back.result in
     record {
       summed = omega (arith, summed, left, was.summed, c.unwrap_or-left.ensures);

@@ -5,4 +5,10 @@ pub returns : goal.returns
 returns g c =
     let slices = c.as_slices.result in
     let items = flat_map-append g.T.Hash.hash_input slices.0.now slices.1.now in
-    rw (c.hash_slice-2.ensures, c.hash_slice.ensures, c.write_usize.ensures, c.len.ensures.len, ← c.as_slices.ensures.joined) (simp (items, fold-append))
+    rw (
+      c.hash_slice-2.ensures,
+      c.hash_slice.ensures,
+      c.write_usize.ensures,
+      c.len.ensures.len,
+      ← c.as_slices.ensures.joined,
+    ) (simp (items, fold-append))

@@ -3,4 +3,5 @@ use Rattle.arraydeque.proofs.deque.extend.ArrayDeque+T+CAP+Saturating.extend_fro
 
 pub returns : goal.returns
 returns g c =
-    TakesFrom-fills g.I.IntoIterator.into_iter_gives g.I.IntoIter.Iterator.next_gives c.args.iter _ _ _ c.into_iter-elements.ensures.into_iter_gives _ _ _ c.fill_front.ensures.filled (λ xs same. same)
+    TakesFrom-fills g.I.IntoIterator.into_iter_gives g.I.IntoIter.Iterator.next_gives c.args.iter _ _ _
+    c.into_iter-elements.ensures.into_iter_gives _ _ _ c.fill_front.ensures.filled (λ xs same. same)

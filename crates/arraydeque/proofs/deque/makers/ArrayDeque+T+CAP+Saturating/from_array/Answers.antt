@@ -6,10 +6,21 @@ use Rattle.arraydeque.proofs.deque.makers.ArrayDeque+T+CAP+Saturating.from_array
 pub of-requires : goal.of-requires
 of-requires g c =
     let made = c.in-Ok.ensures.ok in
-    let len : length c.args.a ≡ g.row.N = c.well_formed.1.0.1.0.1 in
-    (omega arith, (ap (λ (ring : RingState g.row.T.Denot). ring.capacity) made, omega (arith, ap (λ (ring : RingState g.row.T.Denot). length ring.items) made, length-take c.min.result c.args.a, c.min.ensures)))
+    let len : length c.args.a ≡ g.row.N = c.well_formed.1.0.1.0.1 in (
+      omega arith,
+      (
+        ap (λ (ring : RingState g.row.T.Denot). ring.capacity) made,
+        omega (
+          arith,
+          ap (λ (ring : RingState g.row.T.Denot). length ring.items) made,
+          length-take c.min.result c.args.a,
+          c.min.ensures,
+        ),
+      ),
+    )
 
 pub returns-in-Ok-clause-items : goal.returns-in-Ok-clause-items
 returns-in-Ok-clause-items g c =
     let len : length c.args.a ≡ g.row.N = c.well_formed.1.0.1.0.1 in
-    ap of_ring (c.of.ensures ∙ c.in-Ok.ensures.ok) ∙ rw (c.min.ensures, ← len, min_comm (length c.args.a) g.row.CAP) (ap (λ xs. with_back xs (empty_deque {X = g.row.T.Denot})) (take_min g.row.CAP c.args.a))
+    ap of_ring (c.of.ensures ∙ c.in-Ok.ensures.ok) ∙ rw (c.min.ensures, ← len, min_comm (length c.args.a) g.row.CAP)
+    (ap (λ xs. with_back xs (empty_deque {X = g.row.T.Denot})) (take_min g.row.CAP c.args.a))

@@ -6,10 +6,21 @@ use Rattle.arraydeque.proofs.deque.makers.ArrayDeque+T+CAP+Wrapping.from_array.G
 pub of-requires : goal.of-requires
 of-requires g c =
     let made = c.in-Ok.ensures.ok in
-    let len : length c.args.a ≡ g.row.N = c.well_formed.1.0.1.0.1 in
-    (omega arith, (ap (λ (ring : RingState g.row.T.Denot). ring.capacity) made, omega (arith, ap (λ (ring : RingState g.row.T.Denot). length ring.items) made, length-drop c.saturating_sub.result c.args.a, c.saturating_sub.ensures)))
+    let len : length c.args.a ≡ g.row.N = c.well_formed.1.0.1.0.1 in (
+      omega arith,
+      (
+        ap (λ (ring : RingState g.row.T.Denot). ring.capacity) made,
+        omega (
+          arith,
+          ap (λ (ring : RingState g.row.T.Denot). length ring.items) made,
+          length-drop c.saturating_sub.result c.args.a,
+          c.saturating_sub.ensures,
+        ),
+      ),
+    )
 
 pub returns-in-Ok-clause-items : goal.returns-in-Ok-clause-items
 returns-in-Ok-clause-items g c =
     let len : length c.args.a ≡ g.row.N = c.well_formed.1.0.1.0.1 in
-    ap of_ring (c.of.ensures ∙ c.in-Ok.ensures.ok) ∙ rw (c.saturating_sub.ensures, ← len) (ap (λ xs. with_back xs (empty_deque {X = g.row.T.Denot})) (take_rest c.args.a (length c.args.a - g.row.CAP)))
+    ap of_ring (c.of.ensures ∙ c.in-Ok.ensures.ok) ∙ rw (c.saturating_sub.ensures, ← len)
+    (ap (λ xs. with_back xs (empty_deque {X = g.row.T.Denot})) (take_rest c.args.a (length c.args.a - g.row.CAP)))

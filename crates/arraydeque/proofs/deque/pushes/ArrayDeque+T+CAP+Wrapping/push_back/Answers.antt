@@ -3,7 +3,8 @@ use Rattle.arraydeque.proofs.deque.pushes.ArrayDeque+T+CAP+Wrapping.push_back.Go
 
 pub returns : goal.returns
 returns g c =
-    let value : c.pop_front-displaced.result ≡ slice_get c.args.self.now.items 0 = c.pop_front-displaced.ensures.value in
+    let value : c.pop_front-displaced.result ≡ slice_get c.args.self.now.items 0 =
+    c.pop_front-displaced.ensures.value in
     record {
       items = grind (arith, common_steps);
       value = grind (arith, common_steps);

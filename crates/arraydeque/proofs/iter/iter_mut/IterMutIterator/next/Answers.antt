@@ -6,4 +6,5 @@ pub returns-clause-steps : goal.returns-clause-steps
 returns-clause-steps g c =
     let none = nil_from_length c.take.result.now c.in_default.ensures.cases in
     sym (ap (λ (l : LoanState g.row.T.Denot). remaining l) c.self.view_is)
-    ∙ rw (← c.take.ensures.value, none, ← c.take-2.ensures.value, c.take-2.ensures.after) (simp append-nil c.in_ok-item.ensures.cases.0)
+    ∙ rw (← c.take.ensures.value, none, ← c.take-2.ensures.value, c.take-2.ensures.after)
+    (simp append-nil c.in_ok-item.ensures.cases.0)
