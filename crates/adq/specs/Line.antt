@@ -1,6 +1,25 @@
 -- What a line of text means: the call that its words spell.
 use Rattle.std.specs.{
-  Prelude.{◌≡◌, ℕ, ℤ, pos, neg_ℤ, ◌^◌, ◌<◌, ◌≤ℤ◌, ◌<ℤ◌, List, [], ◌∷◌, map, length, take, drop, filter, filter_map},
+  Prelude.{
+    ◌≡◌,
+    ℕ,
+    ℤ,
+    pos,
+    neg_ℤ,
+    ◌^◌,
+    ◌<◌,
+    ◌≤ℤ◌,
+    ◌<ℤ◌,
+    List,
+    [],
+    ◌∷◌,
+    map,
+    length,
+    take,
+    drop,
+    filter,
+    filter_map,
+  },
   Prelude.{HoldsAt, ◌⊎◌, Option, Result, Ok, Err, nat_lt, ◌==◌, if◌then◌else◌, codes, IsUtf8},
 }
 use Rattle.{

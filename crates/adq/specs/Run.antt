@@ -1,6 +1,24 @@
 -- What a run of the program prints, and why another prints nothing.
 use Rattle.std.specs.{
-  Prelude.{◌≡◌, ℕ, ℤ, List, [], ◌∷◌, ◌++◌, Option, Some, None, Result, Ok, Err, String, string_bytes, codes, bytes_eq},
+  Prelude.{
+    ◌≡◌,
+    ℕ,
+    ℤ,
+    List,
+    [],
+    ◌∷◌,
+    ◌++◌,
+    Option,
+    Some,
+    None,
+    Result,
+    Ok,
+    Err,
+    String,
+    string_bytes,
+    codes,
+    bytes_eq,
+  },
   Prelude.{◌+◌, ⊤, IfSome},
 }
 use Rattle.{

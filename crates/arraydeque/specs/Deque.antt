@@ -1,9 +1,28 @@
 -- What a contract sees of a deque.
 use Rattle.std.specs.{
-  Prelude.{◌≡◌, ℕ, ◌<◌, ◌+◌, ◌-◌, List, [], ◌++◌, length, take, drop, reverse, slice_get, Option, nat_lt},
+  Prelude.{
+    ◌≡◌,
+    ℕ,
+    ◌<◌,
+    ◌+◌,
+    ◌-◌,
+    List,
+    [],
+    ◌++◌,
+    length,
+    take,
+    drop,
+    reverse,
+    slice_get,
+    Option,
+    nat_lt,
+  },
   Prelude.{if◌then◌else◌},
 }
-use Rattle.arraydeque_ring.specs.{Ring.{RingState, place_of, down_by}, Steps.{Steps, no_steps, more_puts, more_takes}}
+use Rattle.arraydeque_ring.specs.{
+  Ring.{RingState, place_of, down_by},
+  Steps.{Steps, no_steps, more_puts, more_takes},
+}
 
 -- a deque: its items from front to back, the place of the first in its region, and the steps of
 -- that region

@@ -1,12 +1,38 @@
 -- What a call makes of a deque: the list, where it starts, and the steps; and what it hands out.
 use Rattle.std.specs.{
-  Prelude.{◌≡◌, ℕ, ◌+◌, ◌-◌, ◌*◌, ◌<◌, List, length, take, drop, Option, Some, None, ◌==◌, nat_le, if◌then◌else◌},
+  Prelude.{
+    ◌≡◌,
+    ℕ,
+    ◌+◌,
+    ◌-◌,
+    ◌*◌,
+    ◌<◌,
+    List,
+    length,
+    take,
+    drop,
+    Option,
+    Some,
+    None,
+    ◌==◌,
+    nat_le,
+    if◌then◌else◌,
+  },
 }
 use Rattle.arraydeque_ring.specs.{
   Changed.{InsertMovesFewest, RemoveMovesFewest, DrainMovesFewest},
   Ring.place_of,
   Sides.{moves_to_insert, moves_to_remove, moves_to_drain, start_opened, start_closed},
-  Steps.{Steps, no_steps, more_puts, more_takes, more_moves, more_exchanges, more_lends, Rearranges},
+  Steps.{
+    Steps,
+    no_steps,
+    more_puts,
+    more_takes,
+    more_moves,
+    more_exchanges,
+    more_lends,
+    Rearranges,
+  },
 }
 use Rattle.arraydeque.specs.{
   Deque.{DequeState, with_back, with_front, wrapped_back, wrapped_front},
@@ -15,7 +41,17 @@ use Rattle.arraydeque.specs.{
   declared.run.{
     Call.{
       Call,
-      TheVariants.{PushFront, PushBack, PopFront, PopBack, Insert, Remove, SwapRemoveBack, SwapRemoveFront, Swap},
+      TheVariants.{
+        PushFront,
+        PushBack,
+        PopFront,
+        PopBack,
+        Insert,
+        Remove,
+        SwapRemoveBack,
+        SwapRemoveFront,
+        Swap,
+      },
       TheVariants.{Replace, Clear, Linearize, ExtendBack, ExtendFront, Extend, Drain, SplitOff},
     },
     Reply.{Reply, TheVariants.{Split, NoMemory}},

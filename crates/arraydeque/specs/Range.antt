@@ -1,5 +1,8 @@
 -- The part of a list that a range names, and what a drain of it makes of a deque.
-use Rattle.std.specs.{Prelude.{◌≡◌, ◌-◌, ℕ, List, length, Option, slice_range, unwrap_or}, List.remove_range}
+use Rattle.std.specs.{
+  Prelude.{◌≡◌, ◌-◌, ℕ, List, length, Option, slice_range, unwrap_or},
+  List.remove_range,
+}
 use Rattle.arraydeque_ring.specs.{
   Changed.DrainMovesFewest,
   Sides.{moves_to_drain, start_closed},

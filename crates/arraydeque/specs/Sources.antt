@@ -1,5 +1,8 @@
 -- What a source of items gives, once it is turned into an iterator.
-use Rattle.std.specs.{Prelude.{◌≡◌, ℕ, ◌<◌, ◌≤◌, List, length, take, slice_get, Option, true}, Iterator.Runs.Run}
+use Rattle.std.specs.{
+  Prelude.{◌≡◌, ℕ, ◌<◌, ◌≤◌, List, length, take, slice_get, Option, true},
+  Iterator.Runs.Run,
+}
 
 -- whatever iterator the source becomes may be called
 abbrev pub IsIterable : {Source S : Type 0} → (Source → S → Type 0) → (S → Type 0) → Source → Type 0

@@ -1,7 +1,12 @@
 -- How many kept items have other places after an edit, wherever the new list starts, and that
 -- an edit moves the fewest. Items are told apart by their indexes.
-use Rattle.std.specs.Prelude.{◌≡◌, ℕ, zero, suc, ◌+◌, ◌-◌, ◌<◌, ◌≤◌, Bool, false, not, nat_lt, ◌==◌, if◌then◌else◌}
-use Rattle.arraydeque_ring.specs.{Ring.place_of, Sides.{moves_to_insert, moves_to_remove, moves_to_drain}}
+use Rattle.std.specs.{
+  Prelude.{◌≡◌, ℕ, zero, suc, ◌+◌, ◌-◌, ◌<◌, ◌≤◌, Bool, false, not, nat_lt, ◌==◌, if◌then◌else◌},
+}
+use Rattle.arraydeque_ring.specs.{
+  Ring.place_of,
+  Sides.{moves_to_insert, moves_to_remove, moves_to_drain},
+}
 
 -- how many numbers below n pass the test
 abbrev pub count_below : (ℕ → Bool) → ℕ → ℕ

@@ -1,5 +1,8 @@
 -- What is taken of an iterator.
-use Rattle.std.specs.{Prelude.{◌≡◌, ℕ, ◌≤◌, List, length, Bool, Option, None, true, false}, Iterator.{Yields, Drains}}
+use Rattle.std.specs.{
+  Prelude.{◌≡◌, ℕ, ◌≤◌, List, length, Bool, Option, None, true, false},
+  Iterator.{Yields, Drains},
+}
 
 module _ {S A : Type 0} (gives : S → Option A → S → Type 0) (from : S) where
   -- calls took the iterator from `from` to `to` and gave at most n items, and fewer only where a

@@ -1,5 +1,8 @@
 -- Runs of empty places, and what it means to move a run of values across one.
-use Rattle.std.specs.{Prelude.{◌≡◌, ℕ, ◌+◌, ◌≤◌, List, ◌++◌, length, take, drop, replicate, Option, None}, List.splice}
+use Rattle.std.specs.{
+  Prelude.{◌≡◌, ℕ, ◌+◌, ◌≤◌, List, ◌++◌, length, take, drop, replicate, Option, None},
+  List.splice,
+}
 
 module _ {X : Type 0} where
   -- there are the len places from the index `from` on, and none of them holds a value

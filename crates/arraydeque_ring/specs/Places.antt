@@ -1,6 +1,22 @@
 -- What the places of a region hold.
 use Rattle.std.specs.{
-  Prelude.{◌≡◌, ℕ, ◌+◌, ◌<◌, ◌≤◌, List, length, map, take, drop, replicate, slice_index_or, Option, Some, None},
+  Prelude.{
+    ◌≡◌,
+    ℕ,
+    ◌+◌,
+    ◌<◌,
+    ◌≤◌,
+    List,
+    length,
+    map,
+    take,
+    drop,
+    replicate,
+    slice_index_or,
+    Option,
+    Some,
+    None,
+  },
 }
 use Rattle.arraydeque_ring.specs.Steps.{Steps, no_steps}
 

@@ -1,6 +1,22 @@
 -- What a ring keeps of its items by the answers of a closure, and what it costs.
 use Rattle.std.specs.{
-  Prelude.{◌≡◌, ℕ, List, [], ◌∷◌, ◌++◌, length, replicate, slice_get, Some, not, Bool, true, false, count_by},
+  Prelude.{
+    ◌≡◌,
+    ℕ,
+    List,
+    [],
+    ◌∷◌,
+    ◌++◌,
+    length,
+    replicate,
+    slice_get,
+    Some,
+    not,
+    Bool,
+    true,
+    false,
+    count_by,
+  },
   Prelude.{if◌then◌else◌, ◌==◌},
   Borrow.Bor,
   Fn.{CalledAt, Mut},

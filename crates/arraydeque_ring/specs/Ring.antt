@@ -1,6 +1,24 @@
 -- A list in the places of a region, round the region's end.
 use Rattle.std.specs.{
-  Prelude.{◌≡◌, ℕ, ◌+◌, ◌-◌, ◌*◌, ◌%◌, ◌≤◌, nat_lt, if◌then◌else◌, List, [], ◌∷◌, ◌++◌, length, map, take, drop},
+  Prelude.{
+    ◌≡◌,
+    ℕ,
+    ◌+◌,
+    ◌-◌,
+    ◌*◌,
+    ◌%◌,
+    ◌≤◌,
+    nat_lt,
+    if◌then◌else◌,
+    List,
+    [],
+    ◌∷◌,
+    ◌++◌,
+    length,
+    map,
+    take,
+    drop,
+  },
   Prelude.{replicate, Option, Some, None, Bool, true, false, is_some},
 }
 use Rattle.arraydeque_ring.specs.Steps.{Steps, no_steps}

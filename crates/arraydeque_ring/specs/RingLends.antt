@@ -1,7 +1,19 @@
 -- What a `Ring` ends as, once a `&mut` to one of its items has ended.
 use Rattle.std.specs.{
   Prelude.{ℕ, List, ◌++◌, slice_set, Option},
-  Borrow.{Fml, GName, RattleType, MutBor, Array, Lends, LendsIf, LendsBoth, fsep, follows, follows_both},
+  Borrow.{
+    Fml,
+    GName,
+    RattleType,
+    MutBor,
+    Array,
+    Lends,
+    LendsIf,
+    LendsBoth,
+    fsep,
+    follows,
+    follows_both,
+  },
 }
 use Rattle.arraydeque_ring.specs.{
   Loans.{LoanState, as_many},

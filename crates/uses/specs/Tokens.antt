@@ -4,7 +4,10 @@ use Rattle.std.specs.{
   List.{flat_map, AllAdjacentBelow},
   Char.{is_ascii_alphabetic, is_ascii_digit},
 }
-use Rattle.uses.specs.declared.tokens.{Kind.{Kind, TheVariants.{Letters, Digits, Sign}}, Token.Token}
+use Rattle.uses.specs.declared.tokens.{
+  Kind.{Kind, TheVariants.{Letters, Digits, Sign}},
+  Token.Token,
+}
 
 -- what kind of token a byte stands in
 abbrev pub kind_of : ℕ → Kind
