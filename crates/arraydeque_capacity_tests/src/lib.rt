@@ -1,8 +1,8 @@
 //! Tests of the smallest and the largest capacities; there is nothing here to call.
 //!
 //! Which function shows which calls on no items, at the capacities 0 and 1, and which on the one
-//! item of a deque of capacity 1. Those of `either_policy` and `iter` are called for either policy. Lists
-//! of calls for `run` are in `arraydeque_run_tests`.
+//! item of a deque of capacity 1. Those of `either_policy` and `iter` are called for both policies.
+//! Lists of calls for `run` are in `arraydeque_run_tests`.
 //!
 //! | Calls | on no items | on one item |
 //! |---|---|---|
