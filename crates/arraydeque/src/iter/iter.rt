@@ -67,7 +67,7 @@ impl<'a, T> Iter<'a, T> {
     /// let mut deque = ArrayDeque::<i64, 3, Saturating>::new(alloc)?;
     /// deque.extend_back([1, 2, 3]);
     /// let mut sum = 0i64;
-    /// deque.iter().for_each(|item| sum = sum.wrapping_add(*item));
+    /// deque.iter().for_each(|item| sum = sum.saturating_add(*item));
     /// assert!(rt; sum == 6);
     /// ```
     #[inline]

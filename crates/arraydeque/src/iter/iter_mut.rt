@@ -85,7 +85,7 @@ impl<'a, T> IterMut<'a, T> {
     /// ```
     /// let mut deque = ArrayDeque::<i64, 3, Saturating>::new(alloc)?;
     /// deque.extend_back([1, 2, 3]);
-    /// deque.iter_mut().for_each(|item| *item = item.wrapping_mul(2));
+    /// deque.iter_mut().for_each(|item| *item = item.saturating_mul(2));
     /// assert!(rt; deque.into_vec()?.as_slice() == [2, 4, 6].as_slice());
     /// ```
     #[inline]
