@@ -24,7 +24,7 @@ const PIECE: usize = 8192;
 
 /// Runs the program on the words after its name, and answers its status.
 ///
-/// Nothing is read where the words are bad, and nothing is run where a line is.
+/// Bad words read nothing, and a bad line runs nothing.
 pub fn drive<R: Read + Drop, W: Write + Drop, F: Write + Drop>(
     alloc: Global,
     args: &[String],
@@ -44,7 +44,7 @@ pub fn drive<R: Read + Drop, W: Write + Drop, F: Write + Drop>(
     }
 }
 
-/// What is to be printed on the text that is read, which is left in `text`.
+/// Reads the text into `text`, and answers what it prints.
 fn dispatch<R: Read>(
     alloc: Global,
     args: &[String],
@@ -140,8 +140,8 @@ fn wrapping_of<R: Read, const CAP: usize>(
     print(alloc, replies, &deque)
 }
 
-/// Reads the input to its end, behind what is there. The program asks for no memory in a read, so a
-/// read that fails is a fault of the stream.
+/// Appends the input, up to its end. A read takes no memory from the program, so a failed one is a
+/// fault of the stream.
 fn read<R: Read>(input: &mut R, text: &mut Vec<u8>) -> Result<(), Fault>
     ensures bytes { OnOk result (IfSome (R.remaining input.old)
         (λ xs. text.new.items ≡ text.old.items ++ xs)) }
@@ -160,7 +160,7 @@ fn read<R: Read>(input: &mut R, text: &mut Vec<u8>) -> Result<(), Fault>
     Err(Fault::Memory)
 }
 
-/// The text of the replies, and at last of what the deque holds.
+/// The text of the replies, and then of the list.
 fn print<const CAP: usize, B: Behavior>(
     alloc: Global,
     replies: Vec<Reply<i64, CAP, B>>,

@@ -21,8 +21,7 @@ pub enum Fault {
 }
 
 impl Fault {
-    /// Says on `faults` why the run ends, and answers its status, which is the same where that
-    /// can't be said.
+    /// Writes to `faults` why the run ends, and answers its status, also where the write fails.
     pub fn report<F: Write + Drop>(self, mut faults: F) -> u8
         ensures arguments { self ≡ Fault.Arguments → result ≡ 2 }
         ensures line { (number : ℕ) → self ≡ Fault.Line number → result ≡ 2 }
@@ -82,8 +81,8 @@ impl<S: Drop> From<MakeError<S>> for Fault {
     }
 }
 
-/// A failed stream, whatever its error says. Where memory is refused to the program itself, no
-/// `io::Error` comes here.
+/// A failed stream, whatever its error says. A refusal of memory to the program itself never comes
+/// here.
 impl From<io::Error> for Fault {
     ghost from_gives = { λ _ fault. fault ≡ Io };
 

@@ -58,7 +58,7 @@ fn stripped(line: &[u8]) -> &[u8]
     line.strip_suffix(b"\r").unwrap_or(line)
 }
 
-/// A line that is read word by word. Words are parted by spaces.
+/// A line that is read word by word. Spaces separate words.
 #[derive(Drop)]
 struct Line<'a> {
     number: usize,

@@ -1,5 +1,5 @@
 //! `adq sat CAP` or `adq wrap CAP` reads calls of a deque of numbers from standard input, makes
-//! them, and prints what each answered and the list at last.
+//! them, and prints what each answered, and then the list.
 #![tactic(auto)]
 
 mod drive;

@@ -78,7 +78,7 @@ fn print_drained(text: &mut String, items: Drain<i64>) -> Result<(), AllocError>
     writeln!(text, "]")
 }
 
-/// Appends an item of a list, parted from the one before.
+/// Appends an item of a list, after a comma unless it is the first.
 fn print_next(text: &mut String, is_first: bool, item: i64) -> Result<(), AllocError>
     ensures { OnOk result (string_bytes text.new ≡ string_bytes text.old
         ++ ((if is_first then [] else codes ", ") ++ signed_decimal item)) }

@@ -4,8 +4,8 @@
 /// [`Wrapping`].
 pub trait Behavior {}
 
-/// The policy under which a push or an insert into a full deque returns its element in the error,
-/// and nothing has changed.
+/// Under this policy a push or an insert into a full deque returns its element in the error, and
+/// changes nothing.
 ///
 /// ```
 /// let mut deque = ArrayDeque::<i64, 2, Saturating>::new(alloc)?;
@@ -15,8 +15,8 @@ pub trait Behavior {}
 /// ```
 pub struct Saturating;
 
-/// The policy under which a push into a full deque removes the item at the other end, and returns
-/// it. At capacity 0 it returns the element itself. There is no insert.
+/// Under this policy a push into a full deque removes the item at the other end, and returns it. At
+/// capacity 0 it returns the element itself. There is no insert.
 ///
 /// ```
 /// let mut deque = ArrayDeque::<i64, 2, Wrapping>::new(alloc)?;

@@ -92,7 +92,7 @@ impl<T, const CAP: usize, B: Behavior> ArrayDeque<T, CAP, B> {
         }
     }
 
-    /// The ring that the deque stands on.
+    /// The deque's ring.
     #[inline]
     pub(crate) fn into_ring(self) -> Ring<T>
         ensures { result ≡ as_ring CAP self }
@@ -113,7 +113,7 @@ impl<T, const CAP: usize, B: Behavior> ArrayDeque<T, CAP, B> {
         ensures capacity { result ≡ CAP }
         ensures within { length self.now.items ≤ CAP }
     {
-        // That the list is within the capacity is known once the fields are looked at.
+        // This borrow makes it known that the list fits the capacity.
         let _ring = &self.ring;
         CAP
     }

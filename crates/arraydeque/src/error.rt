@@ -55,7 +55,7 @@ impl<T: Drop> fmt::Debug for CapacityError<T> {
 impl<T: Drop> From<CapacityError<T>> for io::Error {
     ghost from_gives = { λ _ error. error_kind error ≡ StorageFull };
 
-    /// Lets the element go: an error whose kind is that of a store that is full.
+    /// Drops the element. The error's kind is `StorageFull`.
     ///
     /// ```
     /// let refusal = CapacityError { element: 7 };
@@ -66,8 +66,8 @@ impl<T: Drop> From<CapacityError<T>> for io::Error {
     }
 }
 
-/// The error of a call that memory was refused to: what the call consumed comes back in it, as it
-/// was handed in.
+/// The error of a call that was refused memory: what the call consumed comes back in it, as it was
+/// handed in.
 ///
 /// The text is always `out of memory`.
 ///
@@ -111,7 +111,7 @@ impl<S: Drop> fmt::Debug for MakeError<S> {
 }
 
 impl<S: Drop> From<MakeError<S>> for AllocError {
-    /// Lets what was handed in go, so that `?` serves where only the refusal counts.
+    /// Drops what was handed in, so that `?` serves where only the refusal counts.
     ///
     /// ```
     /// let deque = ArrayDeque::<i64, 2, Saturating>::from_array(alloc, [1, 2])?;
@@ -125,7 +125,7 @@ impl<S: Drop> From<MakeError<S>> for AllocError {
 impl<S: Drop> From<MakeError<S>> for io::Error {
     ghost from_gives = { λ _ error. error_kind error ≡ OutOfMemory };
 
-    /// Lets what was handed in go: an error whose kind is that of memory that was refused.
+    /// Drops what was handed in. The error's kind is `OutOfMemory`.
     ///
     /// ```
     /// let error = std::io::Error::from(MakeError { source: [1, 2] });

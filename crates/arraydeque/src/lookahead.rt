@@ -84,11 +84,11 @@ impl<I: Iterator, const CAP: usize> Scanner<I, CAP> {
     }
 
     /// Returns the item `k` places ahead, or `None` if the input ends before it. At 0 it is the
-    /// item that `next` will return. Requires `k` below `CAP`. What is read for it stays in the
+    /// item that `next` will return. Requires `k` below `CAP`. What was read for it is kept in the
     /// buffer.
     ///
-    /// A function over any iterator has a const parameter for `CAP`, and requires that `k` is below
-    /// it: of a number in its place the prover doesn't see that.
+    /// A function over any iterator names `CAP` by a const parameter, and requires that `k` is
+    /// below it: with a number there the prover doesn't see that.
     ///
     /// ```
     /// let mut scanner = Scanner::<_, 3>::new(alloc, [1, 2].into_iter())?;
@@ -131,7 +131,7 @@ impl<I: Iterator, const CAP: usize> Scanner<I, CAP> {
         ensures lowers { Lowers I.remaining self.old result self.new }
         ensures counts { CountsLeft I.remaining self.new }
     {
-        // That the buffer is within the capacity is what `len` promises.
+        // This call makes it known that the buffer fits the capacity.
         let _len = self.buffer.len();
         match self.buffer.pop_front() {
             Some(item) => Some(item),
@@ -215,7 +215,7 @@ impl<I: Iterator, const CAP: usize> Scanner<I, CAP> {
         }
     }
 
-    /// Asks the iterator once, unless it has given its first `None`. The buffer is left alone.
+    /// Asks the iterator once, unless it has given its first `None`. The buffer stays as it is.
     #[tactic(auto, unfolding(crate::specs::Lookahead::left_of))]
     fn read(&mut self) -> Option<I::Item>
         ensures reads { Reads I.next_gives self.old.ended self.old.iter (option_to_list result)
@@ -248,8 +248,8 @@ impl<I: Iterator<Item: Drop>, const CAP: usize> Iterator for Scanner<I, CAP> {
 
     ghost remaining = { λ s. s.left };
 
-    /// Goes by the scanner's own `next`, so that a `for` takes what is left, and what came before
-    /// it was left early stays taken.
+    /// Calls the scanner's own `next`. So a `for` over `&mut scanner` takes what is left, and one
+    /// that ends early leaves the items that it didn't take.
     ///
     /// ```
     /// let mut scanner = Scanner::<_, 1>::new(alloc, 1..6)?;

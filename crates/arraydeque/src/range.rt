@@ -17,10 +17,10 @@ use std::ops::{Range, RangeFrom, RangeFull, RangeTo};
 /// assert!(rt; deque.drain(..)?.next() == Some(1));
 /// ```
 pub trait RangeArgument<T> {
-    // The first index that the value names.
+    // The first index of the range, if the value names it.
     ghost names_start: { Self → Option T };
 
-    // The first index past the part that the value names.
+    // The first index after the range, if the value names it.
     ghost names_end: { Self → Option T };
 
     /// Returns the first index of the range, or `None` where the range leaves it open.

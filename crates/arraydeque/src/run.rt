@@ -65,7 +65,7 @@ pub enum Call<T> {
 pub enum Reply<T, const CAP: usize, B: Behavior> {
     /// The call did its work, and returns nothing.
     Done,
-    /// The item that was removed, if there was one, or the one that another took the place of.
+    /// The item that was removed or replaced, if there was one.
     Item(Option<T>),
     /// The item that a push into a full deque removed, if it did, or at capacity 0 the element
     /// itself.
@@ -80,8 +80,8 @@ pub enum Reply<T, const CAP: usize, B: Behavior> {
     Split(ArrayDeque<T, CAP, B>),
     /// A push or an insert into a full deque. The element comes back, and the list is as it was.
     Full(CapacityError<T>),
-    /// An index that is not there, or a drain's two out of order. The element comes back, if the
-    /// call had one, and the list is as it was.
+    /// An index out of range, or a drain's two out of order. The element comes back, if the call
+    /// had one, and the list is as it was.
     OutOfRange(Option<T>),
     /// Memory was refused, and the list is as it was.
     NoMemory,
@@ -305,7 +305,7 @@ impl<T: Drop, const CAP: usize> MachinePolicy<T, CAP> for Wrapping {
 }
 
 impl<T: Drop, const CAP: usize, B: MachinePolicy<T, CAP>> ArrayDeque<T, CAP, B> {
-    /// Makes one call and tells its answer. A refused call leaves the list as it was.
+    /// Makes one call, and returns its reply. A refused call leaves the list as it was.
     fn answer(&mut self, call: Call<T>) -> Reply<T, CAP, B>
         ensures makes { Makes B.policy CAP (type_size T.row) call result self.old self.new }
     {
@@ -343,7 +343,7 @@ impl<T: Drop, const CAP: usize, B: MachinePolicy<T, CAP>> ArrayDeque<T, CAP, B> 
 }
 
 impl<T: Drop, const CAP: usize, B: Behavior> ArrayDeque<T, CAP, B> {
-    /// An exchange of two items, where both are there.
+    /// An exchange of two items, if both indexes are in range.
     fn answer_swap(&mut self, i: usize, j: usize) -> Reply<T, CAP, B>
         ensures makes { (p : Policy) →
             Makes p CAP (type_size T.row) (Swap i j) result self.old self.new }
@@ -356,7 +356,7 @@ impl<T: Drop, const CAP: usize, B: Behavior> ArrayDeque<T, CAP, B> {
         Reply::Done
     }
 
-    /// Another item in the place of one, where it is there.
+    /// An item replaced, if its index is in range.
     fn answer_replace(&mut self, index: usize, element: T) -> Reply<T, CAP, B>
         ensures makes { (p : Policy) →
             Makes p CAP (type_size T.row) (Replace index element) result self.old self.new }
@@ -367,7 +367,7 @@ impl<T: Drop, const CAP: usize, B: Behavior> ArrayDeque<T, CAP, B> {
         }
     }
 
-    /// The items of a range that is there, where memory is granted.
+    /// The items of a range, if it is in range and memory is granted.
     fn answer_drain(&mut self, from: usize, to: usize) -> Reply<T, CAP, B>
         ensures makes { (p : Policy) →
             Makes p CAP (type_size T.row) (Drain from to) result self.old self.new }
@@ -381,7 +381,7 @@ impl<T: Drop, const CAP: usize, B: Behavior> ArrayDeque<T, CAP, B> {
         }
     }
 
-    /// The items from an index on, where it is in range and memory is granted.
+    /// The items from an index on, if it is in range and memory is granted.
     fn answer_split_off(&mut self, at: usize) -> Reply<T, CAP, B>
         ensures makes { (p : Policy) →
             Makes p CAP (type_size T.row) (SplitOff at) result self.old self.new }

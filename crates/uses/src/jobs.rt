@@ -1,7 +1,7 @@
 //! A work queue of at most `CAP` jobs.
 //!
-//! It stands on `arraydeque` under either policy, and is proved from the deque's public contract
-//! alone: no job is lost, and each comes out in its turn.
+//! It uses `arraydeque` under either policy, and is proved over the deque's public contract alone:
+//! no job is lost, and each comes out in its turn.
 ghost use Rattle.std.specs.Prelude.{◌≡◌, ◌<◌, ◌*◌, ◌++◌, ◌∷◌, [], ◌↔◌, length, IfOk, IfErr, OnErr, OnOk, IsOk, IsNone, option_to_list, slice_get, take, drop};
 ghost use Rattle.std.specs.Mem.{type_size};
 

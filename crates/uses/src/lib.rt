@@ -1,5 +1,5 @@
-//! Uses of the deque, to be read as examples. Each stands on the deque's public contract alone, and
-//! is proved to keep what its users care about.
+//! Uses of the deque, to be read as examples. Each is proved, over the deque's public contract
+//! alone, to keep what its users care about.
 #![tactic(auto)]
 
 pub mod history;

@@ -1,7 +1,7 @@
 //! A limiter: at most `CAP` requests within a span of time.
 //!
-//! It stands on `arraydeque` under `Saturating`, and is proved from the deque's public contract
-//! alone: a request is admitted just if fewer than `CAP` of those admitted before are recent.
+//! It uses `arraydeque` under `Saturating`, and is proved over the deque's public contract alone: a
+//! request is admitted exactly if fewer than `CAP` of those admitted before are recent.
 ghost use Rattle.std.specs.Prelude.{◌≡◌, ◌<◌, ◌++◌, ◌∷◌, [], ◌↔◌, length, IsTrue, IfOk, OnErr};
 ghost use Rattle.uses.specs.Limiter.{recent};
 

@@ -1,7 +1,7 @@
 //! A pipe that holds at most `CAP` bytes.
 //!
-//! It stands on `arraydeque` under `Saturating`, and is proved from the deque's public contract
-//! alone: what was written comes out unchanged.
+//! It uses `arraydeque` under `Saturating`, and is proved over the deque's public contract alone:
+//! what was written comes out unchanged.
 ghost use Rattle.std.specs.Prelude.{◌≡◌, ◌<◌, ◌-◌, ◌++◌, [], length, take, drop, min, IfOk, OnOk, OnErr};
 ghost use Rattle.std.specs.Io.{StartsWith, WritesAtMost};
 ghost use Rattle.std.specs.Io.KnownBytes.{WriteAppends};
@@ -35,7 +35,7 @@ impl<const CAP: usize> Pipe<CAP> {
         Ok(Pipe { bytes })
     }
 
-    /// Writes as many of the bytes as there is room for, and returns how many that are.
+    /// Writes as many of the bytes as there is room for, and returns their number.
     pub fn write(&mut self, from: &[u8]) -> usize
         ensures count { result ≡ min (length from.now) (CAP - length self.old) }
         ensures written { self.new ≡ self.old ++ take result from.now }
@@ -52,7 +52,7 @@ impl<const CAP: usize> Pipe<CAP> {
         count
     }
 
-    /// Reads all bytes that wait onto the end of `into`. Those that memory is refused for stay.
+    /// Appends all waiting bytes to `into`. Those for which memory is refused stay.
     pub fn read(&mut self, into: &mut Vec<u8>) -> Result<(), AllocError>
         ensures unchanged { into.new.items ++ self.new ≡ into.old.items ++ self.old }
         ensures all { OnOk result (self.new ≡ []) }
@@ -65,8 +65,8 @@ impl<const CAP: usize> Pipe<CAP> {
         Ok(())
     }
 
-    /// Hands bytes that wait to a writer, once, and drops as many as it took, which is what is
-    /// returned. Where it fails all still wait.
+    /// Hands waiting bytes to a writer, once, drops as many as it took, and returns their number.
+    /// Where it fails, all still wait.
     pub fn write_to<W: Write>(&mut self, writer: &mut W) -> io::Result<usize>
         ensures left { IfOk result (λ count. self.new ≡ drop count self.old) }
         ensures within { WritesAtMost result self.old }
@@ -80,8 +80,8 @@ impl<const CAP: usize> Pipe<CAP> {
         Ok(count)
     }
 
-    /// Sends a text through an empty pipe, piece by piece, onto the end of `into`. Where memory is
-    /// refused, what was sent so far stands there, and some bytes that come next wait in the pipe.
+    /// Appends a text to `into` through an empty pipe, piece by piece. Where memory is refused,
+    /// `into` has what was sent so far, and some of the next bytes wait in the pipe.
     pub fn send(&mut self, text: &[u8], into: &mut Vec<u8>) -> Result<(), AllocError>
         requires room { 0 < CAP }
         requires empty { self.old ≡ [] }

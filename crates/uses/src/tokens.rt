@@ -1,6 +1,6 @@
 //! A tokenizer with one byte of look-ahead.
 //!
-//! It stands on `arraydeque::lookahead::Scanner`, and is proved from the scanner's public contract
+//! It uses `arraydeque::lookahead::Scanner`, and is proved over the scanner's public contract
 //! alone: the tokens of an input, joined, are the input, and no two side by side could be one.
 ghost use Rattle.std.specs.Prelude.{◌≡◌, ◌<◌, ℕ, List, [], IfOk, IfSome, IfNone, All, ⊤};
 ghost use Rattle.std.specs.Iterator.{IsFinite, MakesProgress};
@@ -64,7 +64,7 @@ pub fn tokenize_text(alloc: Global, text: &[u8]) -> Result<Vec<Token>, AllocErro
     tokenize(alloc, &mut scanner)
 }
 
-/// Takes the next token, of which only the first byte is sure to be there.
+/// Takes the next token, or answers `None` at the end.
 fn next_token<I: Iterator<Item = u8>, const AHEAD: usize>(
     alloc: Global,
     scanner: &mut Scanner<I, AHEAD>,
@@ -93,7 +93,7 @@ fn next_token<I: Iterator<Item = u8>, const AHEAD: usize>(
     Ok(Some(Token { kind, text }))
 }
 
-/// What kind of token a byte stands in.
+/// What kind of token a byte is in.
 fn kind_of(byte: u8) -> Kind
     ensures { result ≡ kind_of byte }
 {

@@ -1,7 +1,7 @@
 //! A sliding window over the last `CAP` samples, with their sum.
 //!
-//! It stands on `arraydeque` under `Wrapping`, and is proved from the deque's public contract
-//! alone: the window is the last `CAP` of all samples pushed, and the sum is theirs.
+//! It uses `arraydeque` under `Wrapping`, and is proved over the deque's public contract alone: the
+//! window is the last `CAP` of all samples pushed, and the sum is theirs.
 ghost use Rattle.std.specs.Prelude.{◌≡◌, ◌≤◌, ◌^◌, ◌++◌, ◌∷◌, [], length, sum, IfOk, OnErr, ◌<◌};
 ghost use Rattle.arraydeque.specs.Deque.{keep_last};
 
@@ -52,11 +52,11 @@ impl<const CAP: usize> Window<CAP> {
         self.total
     }
 
-    /// Pushes a sample, for which the oldest one leaves a full window.
+    /// Pushes a sample. The oldest one leaves a full window.
     pub fn push(&mut self, sample: u32)
         ensures { self.new ≡ keep_last CAP (self.old ++ sample ∷ []) }
     {
-        // That the samples are no more than the capacity is what `len` promises.
+        // This call makes it known that the samples fit the capacity.
         let _count = self.recent.len();
         let left = self.recent.push_back(sample).unwrap_or(0);
         self.total = self.total + sample as u64 - left as u64;
@@ -66,7 +66,7 @@ impl<const CAP: usize> Window<CAP> {
     pub fn push_all(&mut self, samples: &[u32])
         ensures { self.new ≡ keep_last CAP (self.old ++ samples.now) }
     {
-        // That the samples are no more than the capacity is known once the fields are looked at.
+        // This borrow makes it known that the samples fit the capacity.
         let _recent = &self.recent;
         for &sample in samples {
             self.push(sample);

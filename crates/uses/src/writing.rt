@@ -118,7 +118,7 @@ pub fn write_slices_and_push<const CAP: usize>(deque: &mut ArrayDeque<i64, CAP, 
 pub fn count_in_slices<T, const CAP: usize, B: Behavior>(deque: &mut ArrayDeque<T, CAP, B>) -> usize
     ensures { result ≡ length deque.old.items }
 {
-    // That the two slices are within the capacity is known of the length.
+    // This call makes it known that the two slices fit the capacity.
     let _len = deque.len();
     let (front, back) = deque.as_mut_slices();
     front.len() + back.len()

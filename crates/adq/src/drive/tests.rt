@@ -99,7 +99,7 @@ fn line_of(alloc: Global, word: &str, count: usize) -> Result<String, AllocError
     Ok(line)
 }
 
-/// Whether a line of this word and so many numbers is no bad one.
+/// Whether a line of this word and so many numbers is good.
 fn names(alloc: Global, word: &str, count: usize) -> Result<bool, AllocError> {
     let args = args_of(alloc, "sat 3")?;
     let line = line_of(alloc, word, count)?;
@@ -113,7 +113,7 @@ fn names(alloc: Global, word: &str, count: usize) -> Result<bool, AllocError> {
     Ok(ended == 0)
 }
 
-/// Whether a line of this word and so many numbers is a bad one.
+/// Whether a line of this word and so many numbers is bad.
 fn is_bad(alloc: Global, word: &str, count: usize) -> Result<bool, AllocError> {
     blames(alloc, "sat 3", line_of(alloc, word, count)?.as_bytes(), 1)
 }
@@ -250,7 +250,7 @@ fn a_long_run_is_whole(rt: HostRuntime) -> Result<(), Fail> {
     Ok(())
 }
 
-/// A line whose word stands behind so many spaces that a read ends within it, or beside it.
+/// A line whose word is behind so many spaces that a read ends within it, or beside it.
 #[test]
 fn an_input_is_read_to_its_end(rt: HostRuntime) -> Result<(), Fail> {
     for piece in [8192, 65_536, 131_072, 262_144] {
@@ -292,8 +292,8 @@ fn a_fault_that_is_not_told_has_the_same_status(rt: HostRuntime) -> Result<(), F
     Ok(())
 }
 
-/// Under either policy, at each capacity, the words and the deque's region, and nothing else, were
-/// asked for when the first read fails.
+/// Under either policy, at each capacity, memory was asked for the words and the deque's region
+/// alone when the first read fails.
 #[test]
 fn a_deque_is_made_before_the_input_is_read_54_requests_1823_bytes(
     rt: HostRuntime,

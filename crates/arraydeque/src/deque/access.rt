@@ -1,4 +1,4 @@
-//! Reading and writing items where they stand.
+//! Reading and writing items in place.
 ghost use Rattle.std.specs.Prelude.{◌≡◌, ◌<◌, ◌-◌, [], length, slice_get, slice_index_or, option_copied, IfNone};
 ghost use Rattle.std.specs.Borrow.{sem};
 ghost use Rattle.std.specs.List.{list_any};
@@ -139,8 +139,8 @@ impl<T, const CAP: usize, B: Behavior> Index<usize> for ArrayDeque<T, CAP, B> {
 
     ghost index_gives = { λ d i x. x ≡ slice_index_or d.items i x };
 
-    /// Returns a reference to the item at an index, which is required to be below the length. The
-    /// front has index 0.
+    /// Returns a reference to the item at an index. The front has index 0. Requires an index below
+    /// the length.
     ///
     /// ```
     /// let mut deque = ArrayDeque::<i64, 3, Wrapping>::new(alloc)?;
@@ -155,8 +155,8 @@ impl<T, const CAP: usize, B: Behavior> Index<usize> for ArrayDeque<T, CAP, B> {
 }
 
 impl<T, const CAP: usize, B: Behavior> IndexMut<usize> for ArrayDeque<T, CAP, B> {
-    /// Returns a mutable reference to the item at an index, which is required to be below the
-    /// length. The front has index 0.
+    /// Returns a mutable reference to the item at an index. The front has index 0. Requires an
+    /// index below the length.
     ///
     /// ```
     /// let mut deque = ArrayDeque::<i64, 3, Saturating>::new(alloc)?;

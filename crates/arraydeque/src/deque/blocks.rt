@@ -1,5 +1,5 @@
-//! Slices looked at in blocks: many small items are compared before an answer is looked at, so that
-//! the compiler can compare several together. It knows no deque.
+//! Slices in blocks: many small items are compared before an answer is used, so that the compiler
+//! can compare several together. It knows no deque.
 ghost use Rattle.std.specs.Prelude.{◌≡◌, length};
 ghost use Rattle.std.specs.Cmp.Lexicographic.{pointwise, slice_cmp, slice_partial_cmp};
 ghost use Rattle.std.specs.List.{list_any};
@@ -8,20 +8,20 @@ ghost use Rattle.arraydeque.specs.Compared.{AreBehindEqual};
 use std::cmp::Ordering;
 use std::mem::size_of_val;
 
-/// How many items a block has in which one is looked for.
+/// How many items a block of a search has.
 const BLOCK_ITEMS: usize = 64;
 
-/// How many pairs a block has that are compared.
+/// How many pairs a block of a comparison has.
 const BLOCK_PAIRS: usize = 32;
 
-/// The most bytes of an item that is compared in a block.
+/// The size in bytes of the largest items that are compared in blocks.
 const SMALL_BYTES: usize = 16;
 
-/// The least bytes of an item for which equality and a total order skip equal blocks here: for 1, 2
-/// or 4 bytes std does so.
+/// The size in bytes of the smallest items whose equal blocks equality and a total order skip here.
+/// For 1, 2 or 4 bytes std does so.
 const LEAST_BYTES: usize = 5;
 
-/// Whether some item equals `x`. Small items are looked at block by block, and others one by one.
+/// Whether some item equals `x`. Small items are compared block by block, and others one by one.
 pub(super) fn has_equal<T: PartialEq>(items: &[T], x: &T) -> bool
     ensures { result ≡ list_any (λ y. T.eq y x.now) items.now }
 {
@@ -39,7 +39,8 @@ pub(super) fn has_equal<T: PartialEq>(items: &[T], x: &T) -> bool
     is_any_equal(rest, x)
 }
 
-/// Whether some item equals `x`. It looks at every item, so that several can be compared at once.
+/// Whether some item equals `x`. It looks at every item, so that the compiler can compare several
+/// together.
 #[inline(always)]
 fn is_any_equal<T: PartialEq>(items: &[T], x: &T) -> bool
     ensures { result ≡ list_any (λ y. T.eq y x.now) items.now }

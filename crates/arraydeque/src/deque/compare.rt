@@ -12,7 +12,7 @@ use crate::behavior::Behavior;
 use std::cmp::Ordering;
 use std::hash::{Hash, Hasher};
 
-/// Two lists in three sections each, which face each other in pairs.
+/// Two lists as three pairs of sections.
 #[derive(Drop)]
 struct Sections<'a, T> {
     front: (&'a [T], &'a [T]),
@@ -21,7 +21,7 @@ struct Sections<'a, T> {
 }
 
 impl<T, const CAP: usize, B: Behavior> ArrayDeque<T, CAP, B> {
-    /// Both lists, each cut wherever one of them is cut into its two slices.
+    /// Cuts both lists where either is cut into its two slices.
     fn sections<'a>(&'a self, other: &'a Self) -> Sections<'a, T>
         ensures { AreSectionsOf self.now.items other.now.items result }
     {
@@ -53,8 +53,8 @@ impl<T: PartialEq, const CAP: usize, B: Behavior> PartialEq for ArrayDeque<T, CA
 
     ghost laws = { on_per (λ v. v.items) (lists_per T.laws) };
 
-    /// Whether both deques hold as many items, each equal to the one at its index in the other.
-    /// Where the items stand in their regions has no say.
+    /// Whether both deques have one length, and equal items at each index. The items' places don't
+    /// count.
     ///
     /// ```
     /// let deque = ArrayDeque::<i64, 3, Saturating>::from_array(alloc, [1, 2])?;
@@ -146,8 +146,8 @@ impl<T: Hash, const CAP: usize, B: Behavior> Hash for ArrayDeque<T, CAP, B> {
 
     ghost respects_eq = { λ v w. (alike (record { fed = T.respects_eq })).fed v.items w.items };
 
-    /// Feeds the hasher the length as a `usize`, and then each item by itself, front to back. So
-    /// equal deques feed it alike, wherever their items stand.
+    /// Feeds the hasher the length as a `usize`, and then each item alone, front to back. So equal
+    /// deques feed it alike, wherever they start.
     ///
     /// ```
     /// let deque = ArrayDeque::<i64, 3, Saturating>::from_array(alloc, [1, 2])?;

@@ -33,8 +33,8 @@ impl<T, const CAP: usize> ArrayDeque<T, CAP, Saturating> {
     }
 
     /// Adds the items of an iterator at the front, one by one, while there is room: the last one
-    /// taken comes to stand first. The iterator is asked for no more items than there is room for,
-    /// and never after its first `None`. No item moves.
+    /// taken is the first afterwards. The iterator is asked for no more items than there is room
+    /// for, and never after its first `None`. No item moves.
     ///
     /// ```
     /// let mut deque = ArrayDeque::<i64, 3, Saturating>::new(alloc)?;
@@ -129,9 +129,9 @@ impl<T: Drop, const CAP: usize> ArrayDeque<T, CAP, Wrapping> {
         self.ring.displace_first(elements);
     }
 
-    /// Adds the items of an iterator at the front, one by one: the last one comes to stand first.
-    /// For each one that finds the deque full, the last item is dropped, and at capacity 0 the one
-    /// itself. Requires an iterator that ends. No kept item moves.
+    /// Adds the items of an iterator at the front, one by one: the last one is the first
+    /// afterwards. For each one that finds the deque full, the last item is dropped, and at
+    /// capacity 0 the one itself. Requires an iterator that ends. No kept item moves.
     ///
     /// ```
     /// let mut deque = ArrayDeque::<i64, 3, Wrapping>::new(alloc)?;

@@ -26,7 +26,7 @@ impl<T, const CAP: usize, B: Behavior> ArrayDeque<T, CAP, B> {
         ensures value { result ≡ self.now.items }
         ensures within { length self.now.items ≤ CAP }
     {
-        // That the two slices are within the capacity is known of the length.
+        // This call makes it known that the two slices fit the capacity.
         let _len = self.len();
         let (first, second) = self.as_slices();
         Iter { first, second }
@@ -52,9 +52,8 @@ impl<T, const CAP: usize, B: Behavior> ArrayDeque<T, CAP, B> {
         IterMut::of(self.lend())
     }
 
-    /// Returns the items in two slices: those from the front to the region's end, and then the
-    /// rest, which stand from the region's first place on. If all lie in one piece, the second is
-    /// empty.
+    /// Returns the items in two slices: those from the front to the region's end, and the rest,
+    /// from the region's first place on. If all lie in one piece, the second is empty.
     ///
     /// ```
     /// let mut deque = ArrayDeque::<i64, 3, Saturating>::new(alloc)?;
@@ -72,9 +71,8 @@ impl<T, const CAP: usize, B: Behavior> ArrayDeque<T, CAP, B> {
         self.ring.as_slices()
     }
 
-    /// Returns the items in two mutable slices: those from the front to the region's end, and then
-    /// the rest, which stand from the region's first place on. If all lie in one piece, the second
-    /// is empty.
+    /// Returns the items in two mutable slices: those from the front to the region's end, and the
+    /// rest, from the region's first place on. If all lie in one piece, the second is empty.
     ///
     /// Whatever is written, the deque holds as many items as before, and they start where they did.
     /// A caller whose proof needs that writes `iter_mut().into_slices()`: the prover follows the

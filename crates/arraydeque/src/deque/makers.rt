@@ -14,8 +14,8 @@ use std::alloc::Global;
 impl<T, const CAP: usize> ArrayDeque<T, CAP, Saturating> {
     /// Returns a deque of the first `CAP` items of an iterator, which is asked for no more.
     ///
-    /// Fails only if memory is refused; then the source comes back in the error as it was, asked
-    /// for nothing.
+    /// Fails only if memory is refused; then the source was asked for nothing, and comes back in
+    /// the error as it was.
     ///
     /// ```
     /// let mut numbers = 1..=5;
@@ -92,8 +92,8 @@ impl<T: Drop, const CAP: usize> ArrayDeque<T, CAP, Wrapping> {
     /// Returns a deque of the last `CAP` items of an iterator. The others are dropped. Requires an
     /// iterator that ends.
     ///
-    /// Fails only if memory is refused; then the source comes back in the error as it was, asked
-    /// for nothing.
+    /// Fails only if memory is refused; then the source was asked for nothing, and comes back in
+    /// the error as it was.
     ///
     /// ```
     /// let deque = ArrayDeque::<i64, 3, Wrapping>::from_iter(alloc, 1..=5)?;

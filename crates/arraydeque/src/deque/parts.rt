@@ -18,9 +18,9 @@ impl<T, const CAP: usize, B: Behavior> ArrayDeque<T, CAP, B> {
     /// Removes the items of a range, and returns them in a [`Drain`], which owns them in a region
     /// of its own. Requires a range that is in order and ends within the list.
     ///
-    /// The deque is whole when the call returns: the items before the range or those behind it have
-    /// moved, whichever are fewer, and none for an empty range. Fails only if memory is refused;
-    /// then nothing has changed. An empty range, or items of size zero, take none.
+    /// The deque has no gap when the call returns: the items before the range or those behind it
+    /// have moved, whichever are fewer, and none for an empty range. Fails only if memory is
+    /// refused; then nothing has changed. An empty range, or items of size zero, take no memory.
     ///
     /// ```
     /// let mut deque = ArrayDeque::<i64, 5, Saturating>::new(alloc)?;
@@ -137,9 +137,9 @@ impl<T: Drop, const CAP: usize> ArrayDeque<T, CAP, Wrapping> {
     /// Takes all items of another deque behind the last one, and keeps the last `CAP` of both. The
     /// others are dropped, front to back. No memory is taken, and no item that stays moves.
     ///
-    /// An item that is kept is put in once, and one that isn't is taken out of where it was and
-    /// dropped. So where the other deque has more than `CAP` items, there are fewer steps than
-    /// pushes would make.
+    /// Each item of the other deque that is kept is put in once, and each item that goes is taken
+    /// out of its place and dropped. So where the other deque has more than `CAP` items, there are
+    /// fewer steps than pushes would make.
     ///
     /// ```
     /// let mut deque = ArrayDeque::<i64, 3, Wrapping>::new(alloc)?;

@@ -1,4 +1,4 @@
-//! Dropping items where they stand: all, those at one end, and those that a closure doesn't want.
+//! Dropping items at their places: all, those at one end, or those that a closure rejects.
 ghost use Rattle.std.specs.Prelude.{◌≡◌, ◌-◌, ◌≤◌, Bool, [], length, take};
 ghost use Rattle.std.specs.List.{filter};
 ghost use Rattle.std.specs.Fn.{CalledAt};

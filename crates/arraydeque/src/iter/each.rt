@@ -1,10 +1,10 @@
-//! A walk over a source of items as a whole.
+//! A closure called on all items of a source.
 ghost use Rattle.std.specs.Prelude.{List};
 ghost use Rattle.std.specs.Fn.{Called};
 ghost use Rattle.std.specs.List.{FoldsTo};
 ghost use Rattle.std.specs.Iterator.{IsFinite, CallableInForEach, Drains};
 
-/// Calls `f` on each item in turn, and hands it back.
+/// Calls `f` on each item in turn, and hands `f` back.
 #[inline]
 pub(super) fn call_on_each<I: Iterator, F: FnMut(I::Item)>(mut items: I, mut f: F) -> F
     requires can { I.can_next items }

@@ -163,7 +163,7 @@ impl<'a, T> Clone for Iter<'a, T> {
 
     ghost is_infallible = { λ _. ⊤ };
 
-    /// The copy goes over the items that are left, by itself. It takes no memory, and never fails.
+    /// Returns a second iterator over the items that are left. It takes no memory, and never fails.
     ///
     /// ```
     /// let mut deque = ArrayDeque::<i64, 3, Saturating>::new(alloc)?;

@@ -169,7 +169,7 @@ pub(crate) const ON_EACH: [(&str, &str); 14] = [
     ),
 ];
 
-/// Each word that names a call, and how many numbers stand behind it. Of an extend any count may.
+/// Each word that names a call, and how many numbers follow it. An extend takes any count.
 pub(crate) const WORDS: [(&str, usize); 21] = [
     ("push_front", 1),
     ("push_back", 1),
@@ -227,7 +227,7 @@ pub(crate) const NOT_TEXT: [(&[u8], usize); 2] = [
     (b"len\n\n\xff\nx\n", 3),
 ];
 
-/// Words after the program's name that it takes for nothing.
+/// Words after the program's name that name no policy and capacity.
 pub(crate) const BAD_ARGUMENTS: [&str; 8] = [
     "", "sat", "sat 4", "wrap 4", "sat 03", "sat 3 3", "Sat 3", "3 sat",
 ];
