@@ -123,12 +123,17 @@ fn drains_one_by_one(mut deque: Deque) -> Result<bool, Fail> {
 fn drains_bytes(alloc: Global) -> Result<bool, Fail> {
     let mut deque = ArrayDeque::<u8, 8, Wrapping>::new(alloc)?;
     deque.extend_back([1, 2, 3, 4, 5]);
-    Ok(deque.len() == 5 && deque.drain(1..4)?.len() == 3 && holds(&deque, &[1, 5]))
+    Ok(
+        deque.len() == 5
+            && deque.drain(1..4)?.len() == 3
+            && holds(&deque, &[1, 5])
+            && deque.drain(..)?.len() == 2,
+    )
 }
 
-/// A region of 32 bytes and as many again, one of 32 with twice 8, and one of 8 with 3.
+/// A region of 32 bytes and as many again, one of 32 with twice 8, and one of 8 with 3 and 2.
 #[test]
-fn drains_7_requests_123_bytes(rt: HostRuntime) -> Result<(), Fail> {
+fn drains_8_requests_125_bytes(rt: HostRuntime) -> Result<(), Fail> {
     assert!(rt;
         drains_all(deque_at::<4>(rt.alloc(), 2, &[0, 1, 2, 3])?)?
             && drains_one_by_one(deque_at::<4>(rt.alloc(), 2, &[0, 1, 2, 3])?)?
