@@ -32,7 +32,10 @@ test_programs() {
     done
 }
 
-# tests_of PROGRAM: the names of its tests.
+# tests_of PROGRAM: the names of its tests. Answers whether they are as many as its crate has.
 tests_of() {
-    "$1" --list | sed -n 's/: test$//p'
+    local names
+    names=$("$1" --list | sed -n 's/: test$//p')
+    echo "$names"
+    [ "$(grep -c . <<<"$names")" -eq "$(grep -rhF '#[test]' "${1%/out/*}/src" | wc -l)" ]
 }

@@ -22,6 +22,14 @@ fn has_nothing_to_write(mut items: IterMut<'_, i64>) -> bool {
         && items.next_back().is_none()
 }
 
+/// Whether no item is called on, by a `fold` and by a `for_each` of either iterator.
+fn calls_on_nothing<const CAP: usize, B: Behavior>(deque: &mut ArrayDeque<i64, CAP, B>) -> bool {
+    let mut is_called = false;
+    deque.iter().for_each(|_| is_called = true);
+    deque.iter_mut().for_each(|_| is_called = true);
+    !deque.iter().fold(is_called, |_, _| true)
+}
+
 /// Whether a deque of no items lends none, by either iterator, by a loop and in slices.
 fn lends_nothing<const CAP: usize, B: Behavior>(
     deque: &mut ArrayDeque<i64, CAP, B>,
@@ -32,7 +40,13 @@ fn lends_nothing<const CAP: usize, B: Behavior>(
     let (front, back) = deque.as_mut_slices();
     let is_cut = front.is_empty() && back.is_empty();
     deque.linearize();
-    Ok(deque.as_mut_slice().is_empty() && is_cut && is_read && is_written)
+    Ok(
+        deque.as_mut_slice().is_empty()
+            && calls_on_nothing(deque)
+            && is_cut
+            && is_read
+            && is_written,
+    )
 }
 
 /// Whether an owned iterator has nothing to give.
@@ -71,6 +85,20 @@ fn has_one(mut front: Iter<'_, i64>, mut back: Iter<'_, i64>) -> Result<bool, Al
 /// Whether a deque lends its one item.
 fn lends_one<B: Behavior>(deque: &ArrayDeque<i64, 1, B>) -> Result<bool, AllocError> {
     has_one(deque.iter(), deque.into_iter())
+}
+
+/// Whether the one item is called on once, by a `fold` and by a `for_each` of either iterator.
+fn calls_on_one<B: Behavior>(mut deque: ArrayDeque<i64, 1, B>) -> bool {
+    let mut total = deque.iter().fold(1_i64, |total, item| {
+        total.wrapping_mul(10).wrapping_add(*item)
+    });
+    deque
+        .iter()
+        .for_each(|item| total = total.wrapping_mul(10).wrapping_add(*item));
+    deque
+        .iter_mut()
+        .for_each(|item| *item = item.wrapping_add(1));
+    total == 166 && holds(&deque, &[7])
 }
 
 /// Whether an iterator lends one item for writing, from the end that is asked for, and no more.
@@ -132,7 +160,9 @@ fn writes_over_one<B: Behavior>(mut deque: ArrayDeque<i64, 1, B>) -> Result<bool
 /// Whether a deque and its clones lend their one item for reading and writing, and give it to an
 /// iterator, from either end, and to a vector.
 fn gives_one<B: Behavior>(deque: ArrayDeque<i64, 1, B>) -> Result<bool, Fail> {
-    let is_lent = lends_one(&deque)? && writes_over_one(deque.clone()?)?;
+    let is_lent = lends_one(&deque)?
+        && calls_on_one(deque.clone()?)
+        && writes_over_one(deque.clone()?)?;
     let list = made(deque.clone()?.into_vec())?;
     let mut front = deque.clone()?.into_iter();
     let mut back = deque.into_iter();

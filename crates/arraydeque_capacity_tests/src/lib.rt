@@ -17,6 +17,7 @@
 //! | debug texts | `prints` | `prints` |
 //! | | in `iter`: | |
 //! | `lends`, both ends of `Iter`, `IterMut` | `lends_nothing` | `lends_one`, `writes_over_one` |
+//! | `fold` of `Iter`, `for_each` of both | `calls_on_nothing` | `calls_on_one` |
 //! | both ends of `IntoIter`, `into_vec` | `gives_nothing` | `gives_one` |
 //! | | in `policies`: | |
 //! | pushes and `insert` under `Saturating` | `refuses_all` | `refuses_at_one` |

@@ -184,7 +184,7 @@ fn comes_into_one_piece(mut deque: Deque) -> bool {
     is_cut(&deque, &[1, 2, 3, 4], &[]) && is_one_piece
 }
 
-/// Whether a lent iterator, its copy and a loop give the items 1, 2, 3.
+/// Whether a lent iterator, its copy, a loop, a `for_each` and a `fold` give the items 1, 2, 3.
 fn lends_three(deque: &Deque) -> Result<bool, AllocError> {
     let mut iter = deque.iter();
     let mut copy = iter.clone()?;
@@ -192,11 +192,13 @@ fn lends_three(deque: &Deque) -> Result<bool, AllocError> {
     for item in deque {
         sum = sum.wrapping_add(*item);
     }
+    deque.iter().for_each(|item| sum = sum.wrapping_add(*item));
+    sum = deque.iter().fold(sum, |sum, item| sum.wrapping_add(*item));
     Ok(
         (iter.len(), iter.size_hint()) == (3, (3, Some(3)))
             && (iter.next(), iter.next_back()) == (Some(&1), Some(&3))
             && (copy.next_back(), copy.len()) == (Some(&3), 2)
-            && sum == 6,
+            && sum == 18,
     )
 }
 
