@@ -49,13 +49,13 @@ module _ {X B : Type 0} {n : ℕ} (p : Policy) (size : ℕ) where
   RunCosts-of old new [] (r ∷ rs) none = absurd none
   RunCosts-of old new (c ∷ cs) [] none = absurd none
   RunCosts-of old new (c ∷ cs) (r ∷ rs) run =
-      let rest = RunCosts-of run.0 new cs rs run.2 in
+      let later = RunCosts-of run.0 new cs rs run.2 in
       let call =
       work_of_call c (answer_of r) old run.0 (call_costs p n old run.0 c (answer_of r) run.1.list run.1.steps) in
       record {
-        run = (run.0.items, run.1.list, rest.run);
-        at_most = omega (arith, rest.at_most, call.0);
+        run = (run.0.items, run.1.list, later.run);
+        at_most = omega (arith, later.at_most, call.0);
         exactly = λ none.
-            let others = rest.exactly (All-tail (λ call. call ≢ Linearize) c cs none) in
+            let others = later.exactly (All-tail (λ call. call ≢ Linearize) c cs none) in
             omega (arith, others, call.1 (All-head (λ call. call ≢ Linearize) c cs none));
       }

@@ -1,7 +1,7 @@
 -- What extends make of a deque.
 use Rattle.std.proofs.{
-  Common.{◌≡◌, ◌<◌, ℕ, zero, suc, ◌==◌, if◌then◌else◌, Vec, Global, refl, ap, sym, ◌∙◌, arith},
-  lemmas.Bool.{cond-false, ne_eqb},
+  Common.{◌≡◌, ◌<◌, ℕ, ◌==◌, if◌then◌else◌, Vec, Global, refl, ap, arith},
+  lemmas.Bool.Decides.{nat_tests},
 }
 use Rattle.arraydeque.specs.{
   Deque.DequeState,
@@ -13,9 +13,7 @@ use Rattle.arraydeque.specs.{
 
 -- one thing at capacity 0, and another at any other
 pub at_none : {A : Type 0} (n : ℕ) (a b c : A) → (n ≡ 0 → c ≡ a) → (0 < n → c ≡ b) → c ≡ (if n == 0 then a else b)
-at_none zero a b c none some = none refl
-at_none (suc n) a b c none some =
-    some (omega arith) ∙ sym (cond-false (suc n == 0) a b (ne_eqb (suc n) 0 (λ no. absurd (omega arith))))
+at_none n a b c none some = grind (arith, nat_tests)
 
 module _ {X B : Type 0} (p : Policy) (n size : ℕ) (v : Vec X Global) (old new : DequeState X) where
   pub extended_back-makes : new.items ≡ extended_back p n old.items v.items → new ≡ pushed_back p n v.items old

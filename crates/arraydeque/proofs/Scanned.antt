@@ -3,9 +3,9 @@ use Rattle.std.{
   proofs.{
     Common.{◌≡◌, ℕ, ◌+◌, arith, Bool, true, false, true≢false, List, [], ◌∷◌, ◌++◌, Option, Some, None, IfSome, IfNone},
     Common.{slice_get, refl, sym, ◌∙◌, ap, subst, append-nil, append_assoc},
-    iter.runs.Made.{run, to_end},
+    iter.runs.{Made.{run, to_end}, Lists.Yields-both},
   },
-  specs.{Iterator.{Count, Yields, Runs.WholeRun}, Option.option_to_list},
+  specs.{Iterator.{Count, Runs.WholeRun}, Option.option_to_list},
 }
 use Rattle.arraydeque.specs.Lookahead.{ScannerState, left_of, fresh_scanner, Reads, HandsOut, HasRest, TakesOff, NextIs}
 
@@ -30,10 +30,6 @@ fresh_made remaining iter [] empty =
 fresh_made remaining iter (x ∷ buffer) empty = cc
 
 module _ {S A : Type 0} (steps : S → Option A → S → Type 0) where
-  Yields-append : (s t u : S) (xs ys : List A) → Yields steps s xs t → Yields steps t ys u → Yields steps s (xs ++ ys) u
-  Yields-append s t u [] ys first second = subst (λ v. Yields steps v ys u) (sym first) second
-  Yields-append s t u (x ∷ xs) ys first second = (first.0, first.1, Yields-append first.0 t u xs ys first.2 second)
-
   -- what is read in two runs is read in one
   Reads-append : (a b c : Bool) (s t u : S) (xs ys : List A) → Reads steps a s xs b t → Reads steps b t ys c u
       → Reads steps a s (xs ++ ys) c u
@@ -42,8 +38,8 @@ module _ {S A : Type 0} (steps : S → Option A → S → Type 0) where
   Reads-append false true true s t u xs ys first second = rw (second.0, append-nil, second.1) first
   Reads-append false true false s t u xs ys first second = absurd (true≢false (sym second.2))
   Reads-append false false true s t u xs ys first second =
-      (second.0, Yields-append s t second.0 xs ys first second.1, second.2)
-  Reads-append false false false s t u xs ys first second = Yields-append s t u xs ys first second
+      (second.0, Yields-both steps xs ys s t second.0 first second.1, second.2)
+  Reads-append false false false s t u xs ys first second = Yields-both steps xs ys s t u first second
 
   -- a call that leaves the iterator alone has read nothing
   pub Reads-none : (ended : Bool) (s : S) → Reads steps ended s [] ended s

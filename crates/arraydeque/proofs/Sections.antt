@@ -1,9 +1,10 @@
 -- Comparisons of lists that are cut into parts.
 use Rattle.std.{
   proofs.{
-    Common.{◌≡◌, ℕ, ◌&&◌, Bool, true, false, List, [], ◌∷◌, ◌++◌, length, take, drop, Option, Some, None, refl, sym},
-    Common.{ap, ap₂, ◌∙◌, arith},
+    Common.{◌≡◌, ℕ, ◌&&◌, Bool, List, [], ◌∷◌, ◌++◌, length, take, drop, Option, Some, None, refl, sym, ap, ap₂, ◌∙◌},
+    Common.{arith, true},
     lemmas.List.{append_assoc, take-append-drop},
+    Math.Bool.{and_assoc, and-true},
   },
   specs.{
     Cmp.Lexicographic.{pointwise, as_long, slice_cmp, slice_partial_cmp, lists_po, lists_ties},
@@ -17,25 +18,25 @@ use Rattle.arraydeque.specs.{
   declared.deque.compare.Sections.Sections,
 }
 
-and_assoc : (p q r : Bool) → (p && (q && r)) ≡ ((p && q) && r)
-and_assoc true q r = refl
-and_assoc false q r = refl
-
-and_true : (p : Bool) → (p && true) ≡ p
-and_true true = refl
-and_true false = refl
-
-then_assoc : (p q r : Ordering) → ordering_then p (ordering_then q r) ≡ ordering_then (ordering_then p q) r
+then_assoc : (p q r : Ordering) → ordering_then (ordering_then p q) r ≡ ordering_then p (ordering_then q r)
 then_assoc Less q r = refl
 then_assoc Equal q r = refl
 then_assoc Greater q r = refl
 
 partial_then_assoc : (p q r : Option Ordering)
-    → partial_ordering_then p (partial_ordering_then q r) ≡ partial_ordering_then (partial_ordering_then p q) r
+    → partial_ordering_then (partial_ordering_then p q) r ≡ partial_ordering_then p (partial_ordering_then q r)
 partial_then_assoc None q r = refl
 partial_then_assoc (Some Less) q r = refl
 partial_then_assoc (Some Equal) q r = refl
 partial_then_assoc (Some Greater) q r = refl
+
+-- a comparison of lists by their pairs, whose answers are joined; where one list ends first, nothing behind has a say
+pub record Pairwise {X O : Type 0} (join : O → O → O) (pair : X → X → O) (lists : List X → List X → O) : Type 0 where
+  assoc : (p q r : O) → join (join p q) r ≡ join p (join q r)
+  none : (o : O) → join (lists [] []) o ≡ o
+  more : (x y : X) (xs ys : List X) → lists (x ∷ xs) (y ∷ ys) ≡ join (pair x y) (lists xs ys)
+  shorter : (y : X) (ys zs : List X) (o : O) → lists [] (y ∷ zs) ≡ join (lists [] (y ∷ ys)) o
+  longer : (x : X) (xs zs : List X) (o : O) → lists (x ∷ zs) [] ≡ join (lists (x ∷ xs) []) o
 
 module _ {X : Type 0} where
   -- cut at one index
@@ -45,81 +46,70 @@ module _ {X : Type 0} where
     second_ends = λ less. absurd (omega arith);
   }
 
-  -- the same cuts behind the first elements
-  after_first : (x y : X) (xs xs' ys ys' : List X) → AreCutAlike (x ∷ xs) xs' (y ∷ ys) ys' → AreCutAlike xs xs' ys ys'
-  after_first x y xs xs' ys ys' cut = record {
-    first_ends = λ less. cut.first_ends (omega arith);
-    second_ends = λ less. cut.second_ends (omega arith);
+  module _ {O : Type 0} {join : O → O → O} {pair : X → X → O} {lists : List X → List X → O}
+      (p : Pairwise join pair lists) where
+    both : (xs xs' ys ys' : List X) → AreCutAlike xs xs' ys ys'
+        → lists (xs ++ xs') (ys ++ ys') ≡ join (lists xs ys) (lists xs' ys')
+    both [] xs' [] ys' cut = sym (p.none _)
+    both [] xs' (y ∷ ys) ys' cut = rw (cut.first_ends (omega arith)) (p.shorter y ys (ys ++ ys') _)
+    both (x ∷ xs) xs' [] ys' cut = rw (cut.second_ends (omega arith)) (p.longer x xs (xs ++ xs') _)
+    both (x ∷ xs) xs' (y ∷ ys) ys' cut =
+        let next : AreCutAlike xs xs' ys ys' = record {
+          first_ends = λ less. cut.first_ends (omega arith);
+          second_ends = λ less. cut.second_ends (omega arith);
+        } in
+        p.more x y (xs ++ xs') (ys ++ ys') ∙ ap (join (pair x y)) (both xs xs' ys ys' next)
+        ∙ sym (p.assoc (pair x y) (lists xs ys) _) ∙ ap (λ o. join o (lists xs' ys')) (sym (p.more x y xs ys))
+
+    -- by the pairs of sections
+    pub sections : {xs ys : List X} {cut : Sections X} → AreSectionsOf xs ys cut
+        → lists xs ys ≡ join (lists cut.front.0.now cut.front.1.now)
+        (join (lists cut.middle.0.now cut.middle.1.now) (lists cut.back.0.now cut.back.1.now))
+    sections are = rw (are.first, are.second, both _ _ _ _ (even _ _ _ _ are.front), both _ _ _ _ are.middle)
+
+    -- behind lists that are as long, and that have no say
+    behind : {xs ys us vs xs' ys' : List X} → xs ≡ us ++ xs' → ys ≡ vs ++ ys' → length us ≡ length vs
+        → lists us vs ≡ lists [] [] → lists xs' ys' ≡ lists xs ys
+    behind {us = us} {vs} {xs'} {ys'} first second long equal = sym (ap₂ lists first second
+        ∙ both us xs' vs ys' (even us xs' vs ys' long) ∙ ap (λ o. join o (lists xs' ys')) equal ∙ p.none _)
+
+  pub pointwise_pairs : (E : X → X → Bool) → Pairwise (λ a b. a && b) E (pointwise E)
+  pointwise_pairs E = record {
+    assoc = and_assoc;
+    none = λ o. refl;
+    more = λ x y xs ys. refl;
+    shorter = λ y ys zs o. refl;
+    longer = λ x xs zs o. refl;
   }
 
-  pointwise-cut : (E : X → X → Bool) (xs xs' ys ys' : List X) → AreCutAlike xs xs' ys ys'
-      → pointwise E (xs ++ xs') (ys ++ ys') ≡ (pointwise E xs ys && pointwise E xs' ys')
-  pointwise-cut E [] xs' [] ys' cut = refl
-  pointwise-cut E [] xs' (y ∷ ys) ys' cut = rw (cut.first_ends (omega arith))
-  pointwise-cut E (x ∷ xs) xs' [] ys' cut = rw (cut.second_ends (omega arith))
-  pointwise-cut E (x ∷ xs) xs' (y ∷ ys) ys' cut = rw (pointwise-cut E xs xs' ys ys' (after_first x y xs xs' ys ys' cut))
-      (and_assoc (E x y) (pointwise E xs ys) (pointwise E xs' ys'))
+  pub order_pairs : (R : X → X → Ordering) → Pairwise ordering_then R (slice_cmp R)
+  order_pairs R = record {
+    assoc = then_assoc;
+    none = λ o. refl;
+    more = λ x y xs ys. refl;
+    shorter = λ y ys zs o. refl;
+    longer = λ x xs zs o. refl;
+  }
+
+  pub partial_pairs : (C : X → X → Option Ordering) → Pairwise partial_ordering_then C (slice_partial_cmp C)
+  partial_pairs C = record {
+    assoc = partial_then_assoc;
+    none = λ o. refl;
+    more = λ x y xs ys. refl;
+    shorter = λ y ys zs o. refl;
+    longer = λ x xs zs o. refl;
+  }
 
   -- two parts each, of which the first are as long
   pub pointwise-both : (E : X → X → Bool) (xs xs' ys ys' : List X) → length xs ≡ length ys
       → pointwise E (xs ++ xs') (ys ++ ys') ≡ (pointwise E xs ys && pointwise E xs' ys')
-  pointwise-both E xs xs' ys ys' long = pointwise-cut E xs xs' ys ys' (even xs xs' ys ys' long)
+  pointwise-both E xs xs' ys ys' long = both (pointwise_pairs E) xs xs' ys ys' (even xs xs' ys ys' long)
 
   -- one pair more
   pub pointwise-push : (E : X → X → Bool) (xs ys : List X) (x y : X) → length xs ≡ length ys
       → pointwise E (xs ++ x ∷ []) (ys ++ y ∷ []) ≡ (pointwise E xs ys && E x y)
   pointwise-push E xs ys x y long =
-      pointwise-both E xs (x ∷ []) ys (y ∷ []) long ∙ ap (λ b. pointwise E xs ys && b) (and_true (E x y))
-
-  slice_cmp-cut : (R : X → X → Ordering) (xs xs' ys ys' : List X) → AreCutAlike xs xs' ys ys'
-      → slice_cmp R (xs ++ xs') (ys ++ ys') ≡ ordering_then (slice_cmp R xs ys) (slice_cmp R xs' ys')
-  slice_cmp-cut R [] xs' [] ys' cut = refl
-  slice_cmp-cut R [] xs' (y ∷ ys) ys' cut = rw (cut.first_ends (omega arith))
-  slice_cmp-cut R (x ∷ xs) xs' [] ys' cut = rw (cut.second_ends (omega arith))
-  slice_cmp-cut R (x ∷ xs) xs' (y ∷ ys) ys' cut = rw (slice_cmp-cut R xs xs' ys ys' (after_first x y xs xs' ys ys' cut))
-      (then_assoc (R x y) (slice_cmp R xs ys) (slice_cmp R xs' ys'))
-
-  slice_partial_cmp-cut : (C : X → X → Option Ordering) (xs xs' ys ys' : List X)
-      → AreCutAlike xs xs' ys ys' → slice_partial_cmp C (xs ++ xs') (ys ++ ys')
-      ≡ partial_ordering_then (slice_partial_cmp C xs ys) (slice_partial_cmp C xs' ys')
-  slice_partial_cmp-cut C [] xs' [] ys' cut = refl
-  slice_partial_cmp-cut C [] xs' (y ∷ ys) ys' cut = rw (cut.first_ends (omega arith))
-  slice_partial_cmp-cut C (x ∷ xs) xs' [] ys' cut = rw (cut.second_ends (omega arith))
-  slice_partial_cmp-cut C (x ∷ xs) xs' (y ∷ ys) ys' cut =
-      rw (slice_partial_cmp-cut C xs xs' ys ys' (after_first x y xs xs' ys ys' cut))
-      (partial_then_assoc (C x y) (slice_partial_cmp C xs ys) (slice_partial_cmp C xs' ys'))
-
-  module _ {xs ys : List X} {cut : Sections X} (sections : AreSectionsOf xs ys cut) where
-    pub pointwise_sections : (E : X → X → Bool)
-        → pointwise E xs ys ≡ (pointwise E cut.front.0.now cut.front.1.now
-        && (pointwise E cut.middle.0.now cut.middle.1.now && pointwise E cut.rest.0.now cut.rest.1.now))
-    pointwise_sections E = rw (
-      sections.first,
-      sections.second,
-      pointwise-cut E _ _ _ _ (even _ _ _ _ sections.front),
-      pointwise-cut E _ _ _ _ sections.middle,
-    )
-
-    pub slice_cmp_sections : (R : X → X → Ordering)
-        → slice_cmp R xs ys ≡ ordering_then (slice_cmp R cut.front.0.now cut.front.1.now)
-        (ordering_then (slice_cmp R cut.middle.0.now cut.middle.1.now) (slice_cmp R cut.rest.0.now cut.rest.1.now))
-    slice_cmp_sections R = rw (
-      sections.first,
-      sections.second,
-      slice_cmp-cut R _ _ _ _ (even _ _ _ _ sections.front),
-      slice_cmp-cut R _ _ _ _ sections.middle,
-    )
-
-    pub slice_partial_cmp_sections : (C : X → X → Option Ordering)
-        → slice_partial_cmp C xs ys ≡ partial_ordering_then (slice_partial_cmp C cut.front.0.now cut.front.1.now)
-        (partial_ordering_then (slice_partial_cmp C cut.middle.0.now cut.middle.1.now)
-        (slice_partial_cmp C cut.rest.0.now cut.rest.1.now))
-    slice_partial_cmp_sections C = rw (
-      sections.first,
-      sections.second,
-      slice_partial_cmp-cut C _ _ _ _ (even _ _ _ _ sections.front),
-      slice_partial_cmp-cut C _ _ _ _ sections.middle,
-    )
+      pointwise-both E xs (x ∷ []) ys (y ∷ []) long ∙ ap (λ b. pointwise E xs ys && b) (and-true (E x y))
 
   -- the parts that a split at n makes
   pub split-whole : {xs us xs' : List X} (n : ℕ) → us ≡ take n xs → xs' ≡ drop n xs → xs ≡ us ++ xs'
@@ -129,37 +119,31 @@ module _ {X : Type 0} where
     pub behind-none : (xs ys : List X) → AreBehindEqual E xs ys xs ys
     behind-none xs ys = record { xs-front = []; ys-front = []; first = refl; second = refl; equal = refl }
 
-    module _ {xs ys xs' ys' : List X} (behind : AreBehindEqual E xs ys xs' ys') where
-      long : length behind.xs-front ≡ length behind.ys-front
-      long = as_long E behind.xs-front behind.ys-front behind.equal
+    module _ {xs ys xs' ys' : List X} (b : AreBehindEqual E xs ys xs' ys') where
+      long : length b.xs-front ≡ length b.ys-front
+      long = as_long E b.xs-front b.ys-front b.equal
 
       -- behind more pairs
       pub behind-more : (us vs : List X) {xs'' ys'' : List X} → xs' ≡ us ++ xs'' → ys' ≡ vs ++ ys''
           → true ≡ pointwise E us vs → AreBehindEqual E xs ys xs'' ys''
       behind-more us vs {xs''} {ys''} first second equal = record {
-        xs-front = behind.xs-front ++ us;
-        ys-front = behind.ys-front ++ vs;
-        first = behind.first ∙ ap (λ zs. behind.xs-front ++ zs) first ∙ sym (append_assoc behind.xs-front us xs'');
-        second = behind.second ∙ ap (λ zs. behind.ys-front ++ zs) second ∙ sym (append_assoc behind.ys-front vs ys'');
-        equal = pointwise-both E behind.xs-front us behind.ys-front vs long
-            ∙ ap₂ (λ a b. a && b) behind.equal (sym equal);
+        xs-front = b.xs-front ++ us;
+        ys-front = b.ys-front ++ vs;
+        first = b.first ∙ ap (λ zs. b.xs-front ++ zs) first ∙ sym (append_assoc b.xs-front us xs'');
+        second = b.second ∙ ap (λ zs. b.ys-front ++ zs) second ∙ sym (append_assoc b.ys-front vs ys'');
+        equal = pointwise-both E b.xs-front us b.ys-front vs long ∙ ap₂ (λ a b. a && b) b.equal (sym equal);
       }
 
       pub pointwise_behind : pointwise E xs' ys' ≡ pointwise E xs ys
-      pointwise_behind = sym (ap₂ (pointwise E) behind.first behind.second ∙ pointwise-both E _ xs' _ ys' long
-          ∙ ap (λ b. b && pointwise E xs' ys') behind.equal)
+      pointwise_behind = behind (pointwise_pairs E) b.first b.second long b.equal
 
       -- where what is equal compares as equal
       pub slice_cmp_behind : (R : X → X → Ordering) → ((x y : X) → E x y ≡ is_eq (R x y))
           → slice_cmp R xs' ys' ≡ slice_cmp R xs ys
-      slice_cmp_behind R ties =
-          let same = (Equal-is _).0 (sym (lists_ties R ties behind.xs-front behind.ys-front) ∙ behind.equal) in
-          sym (ap₂ (slice_cmp R) behind.first behind.second ∙ slice_cmp-cut R _ xs' _ ys' (even _ xs' _ ys' long)
-          ∙ ap (λ o. ordering_then o (slice_cmp R xs' ys')) same)
+      slice_cmp_behind R ties = behind (order_pairs R) b.first b.second long
+          ((Equal-is _).0 (sym (lists_ties R ties b.xs-front b.ys-front) ∙ b.equal))
 
       pub slice_partial_cmp_behind : (C : X → X → Option Ordering) → IsPartialOrder E C
           → slice_partial_cmp C xs' ys' ≡ slice_partial_cmp C xs ys
-      slice_partial_cmp_behind C laws =
-          let same = ((lists_po laws).matches_eq behind.xs-front behind.ys-front).0 behind.equal in
-          sym (ap₂ (slice_partial_cmp C) behind.first behind.second ∙ slice_partial_cmp-cut C _ xs' _ ys'
-          (even _ xs' _ ys' long) ∙ ap (λ o. partial_ordering_then o (slice_partial_cmp C xs' ys')) same)
+      slice_partial_cmp_behind C laws = behind (partial_pairs C) b.first b.second long
+          (((lists_po laws).matches_eq b.xs-front b.ys-front).0 b.equal)

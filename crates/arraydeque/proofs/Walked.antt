@@ -1,37 +1,32 @@
 -- A walk over one source of items after another, as one walk over a source that has the items of both.
 use Rattle.std.proofs.Common.{◌≡◌, Option, List, [], ◌∷◌, ◌++◌, length, Some, sym, ap, ◌∙◌, subst}
-use Rattle.std.proofs.lemmas.List.{nil_from_length}
+use Rattle.std.proofs.{lemmas.List.{nil_from_length}, iter.runs.Lists.{Yields-both}}
 use Rattle.std.specs.{List.FoldsTo, Option.MatchOption, Iterator.{Yields, YieldsFirstBy, Drains, CallableAtEachTurn}}
 
 module _ {P A : Type 0} (R : P → A → P → Type 0) where
-  pub folds_both : (p : P) (xs : List A) (q : P) (ys : List A) (r : P)
+  folds_both : (p : P) (xs : List A) (q : P) (ys : List A) (r : P)
       → FoldsTo R p xs q → FoldsTo R q ys r → FoldsTo R p (xs ++ ys) r
   folds_both p [] q ys r first second = subst (λ k. FoldsTo R k ys r) (sym first) second
   folds_both p (x ∷ xs) q ys r first second = (first.0, first.1, folds_both first.0 xs q ys r first.2 second)
 
 module _ {S A : Type 0} (steps : S → Option A → S → Type 0) where
-  pub yields_both : (s : S) (xs : List A) (t : S) (ys : List A) (u : S)
-      → Yields steps s xs t → Yields steps t ys u → Yields steps s (xs ++ ys) u
-  yields_both s [] t ys u first second = subst (λ k. Yields steps k ys u) (sym first) second
-  yields_both s (x ∷ xs) t ys u first second = (first.0, first.1, yields_both first.0 xs t ys u first.2 second)
-
   -- what may be called at each item that comes may be so behind the first ones
-  pub callable_behind : {P : Type 0} {R : P → A → P → Type 0} {Q : P → A → Type 0} {s : S} {p : P}
+  callable_behind : {P : Type 0} {R : P → A → P → Type 0} {Q : P → A → Type 0} {s : S} {p : P}
       → CallableAtEachTurn steps R Q s p → (xs : List A) (t : S) (q : P) → Yields steps s xs t → FoldsTo R p xs q
       → CallableAtEachTurn steps R Q t q
   callable_behind {R = R} {s = s} {p = p} may xs t q gave led = record {
     at = λ ys u r x v more on next.
-        may.at (xs ++ ys) u r x v (yields_both s xs t ys u gave more) (folds_both R p xs q ys r led on) next;
+        may.at (xs ++ ys) u r x v (Yields-both steps xs ys s t u gave more) (folds_both R p xs q ys r led on) next;
   }
 
   -- the items of a part, which come as items of the whole
   module _ {Z : Type 0} (others : Z → Option A → Z → Type 0) (whole : Z → S)
       (alike : (z : Z) (x : A) (w : Z) → others z (Some x) w → steps (whole z) (Some x) (whole w)) where
-    pub yields_whole : (z : Z) (xs : List A) (w : Z) → Yields others z xs w → Yields steps (whole z) xs (whole w)
+    yields_whole : (z : Z) (xs : List A) (w : Z) → Yields others z xs w → Yields steps (whole z) xs (whole w)
     yields_whole z [] w gave = ap whole gave
     yields_whole z (x ∷ xs) w gave = (whole gave.0, alike z x gave.0 gave.1, yields_whole gave.0 xs w gave.2)
 
-    pub callable_part : {P : Type 0} {R : P → A → P → Type 0} {Q : P → A → Type 0} (z : Z) {p : P}
+    callable_part : {P : Type 0} {R : P → A → P → Type 0} {Q : P → A → Type 0} (z : Z) {p : P}
         → CallableAtEachTurn steps R Q (whole z) p → CallableAtEachTurn others R Q z p
     callable_part z may = record {
       at = λ xs w q x v gave led next.
@@ -101,6 +96,6 @@ module _ {S X A Z P : Type 0} (view : A → X) (rest : S → List X) (left : Lis
         → (items : List A) × (last : P) × Drains Gives (left xs ys) items × FoldsTo R p items last
     walked_both {p} {q} {r} y was walk z is more =
         let end = left [] [] in let none = shows [] [] in
-        let gave = yields_both Gives (left xs ys) walk.0 (left [] ys) more.0 end
+        let gave = Yields-both Gives walk.0 more.0 (left xs ys) (left [] ys) end
         (gave_first y was walk) (gave_second z is more) in
         (walk.0 ++ more.0, r, (end, (end, gave, (none, none))), folds_both R p walk.0 q more.0 r walk.2 more.2)

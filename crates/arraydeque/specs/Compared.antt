@@ -12,15 +12,15 @@ module _ {X : Type 0} where
 
   -- the parts are those of xs and of ys, cut at the same two indexes as far as both lists go
   pub record AreSectionsOf (xs ys : List X) (cut : Sections X) : Type 0 where
-    pub first : xs ≡ cut.front.0.now ++ (cut.middle.0.now ++ cut.rest.0.now)
-    pub second : ys ≡ cut.front.1.now ++ (cut.middle.1.now ++ cut.rest.1.now)
+    pub first : xs ≡ cut.front.0.now ++ (cut.middle.0.now ++ cut.back.0.now)
+    pub second : ys ≡ cut.front.1.now ++ (cut.middle.1.now ++ cut.back.1.now)
     pub front : length cut.front.0.now ≡ length cut.front.1.now
-    pub middle : AreCutAlike cut.middle.0.now cut.rest.0.now cut.middle.1.now cut.rest.1.now
+    pub middle : AreCutAlike cut.middle.0.now cut.back.0.now cut.middle.1.now cut.back.1.now
 
-  -- the rests are those of xs and of ys behind pairs that are all equal
-  pub record AreBehindEqual (E : X → X → Bool) (xs ys xs-rest ys-rest : List X) : Type 0 where
+  -- the backs are those of xs and of ys behind pairs that are all equal
+  pub record AreBehindEqual (E : X → X → Bool) (xs ys xs-back ys-back : List X) : Type 0 where
     pub xs-front : List X
     pub ys-front : List X
-    pub first : xs ≡ xs-front ++ xs-rest
-    pub second : ys ≡ ys-front ++ ys-rest
+    pub first : xs ≡ xs-front ++ xs-back
+    pub second : ys ≡ ys-front ++ ys-back
     pub equal : pointwise E xs-front ys-front ≡ true

@@ -168,11 +168,14 @@ impl<I: Iterator, const CAP: usize> Scanner<I, CAP> {
         ensures lowers { Lowers I.remaining self.old result self.new }
         ensures counts { CountsLeft I.remaining self.new }
     {
-        let is_accepted = match self.peek(0) {
-            Some(item) => accepts(item),
-            None => false,
+        let Some(item) = self.peek(0) else {
+            return None;
         };
-        if is_accepted { self.next() } else { None }
+        let is_accepted = accepts(item);
+        if !is_accepted {
+            return None;
+        }
+        self.next()
     }
 
     /// Puts an item back, or another in its place, so that `next` will return it. If the buffer is

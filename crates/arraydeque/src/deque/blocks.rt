@@ -28,15 +28,15 @@ pub(super) fn has_equal<T: PartialEq>(items: &[T], x: &T) -> bool
     if size_of_val(x) > SMALL_BYTES {
         return items.contains(x);
     }
-    let mut rest = items;
-    while BLOCK_ITEMS <= rest.len() {
-        let (block, next) = rest.split_at(BLOCK_ITEMS);
+    let mut back = items;
+    while BLOCK_ITEMS <= back.len() {
+        let (block, next) = back.split_at(BLOCK_ITEMS);
         if is_any_equal(block, x) {
             return true;
         }
-        rest = next;
+        back = next;
     }
-    is_any_equal(rest, x)
+    is_any_equal(back, x)
 }
 
 /// Whether some item equals `x`. It looks at every item, so that the compiler can compare several
@@ -100,18 +100,18 @@ fn behind_equal<'a, T: PartialEq>(
     if bytes < least_bytes || bytes > SMALL_BYTES || left[0] != right[0] {
         return (left, right);
     }
-    let (mut left_rest, mut right_rest) = (left, right);
+    let (mut left_back, mut right_back) = (left, right);
     while BLOCK_PAIRS <= pairs {
-        let (left_block, left_next) = left_rest.split_at(BLOCK_PAIRS);
-        let (right_block, right_next) = right_rest.split_at(BLOCK_PAIRS);
+        let (left_block, left_next) = left_back.split_at(BLOCK_PAIRS);
+        let (right_block, right_next) = right_back.split_at(BLOCK_PAIRS);
         if !are_all_equal(left_block, right_block) {
             break;
         }
-        left_rest = left_next;
-        right_rest = right_next;
+        left_back = left_next;
+        right_back = right_next;
         pairs -= BLOCK_PAIRS;
     }
-    (left_rest, right_rest)
+    (left_back, right_back)
 }
 
 /// Whether all pairs of two slices of one length are equal. It looks at every pair, so that the

@@ -17,7 +17,7 @@ use std::hash::{Hash, Hasher};
 struct Sections<'a, T> {
     front: (&'a [T], &'a [T]),
     middle: (&'a [T], &'a [T]),
-    rest: (&'a [T], &'a [T]),
+    back: (&'a [T], &'a [T]),
 }
 
 impl<T, const CAP: usize, B: Behavior> ArrayDeque<T, CAP, B> {
@@ -25,24 +25,24 @@ impl<T, const CAP: usize, B: Behavior> ArrayDeque<T, CAP, B> {
     fn sections<'a>(&'a self, other: &'a Self) -> Sections<'a, T>
         ensures { AreSectionsOf self.now.items other.now.items result }
     {
-        let (left, left_rest) = self.as_slices();
-        let (right, right_rest) = other.as_slices();
+        let (left, left_back) = self.as_slices();
+        let (right, right_back) = other.as_slices();
         let both = left.len().min(right.len());
         let (left, left_over) = left.split_at(both);
         let (right, right_over) = right.split_at(both);
         if left_over.is_empty() {
-            let (facing, left_rest) = left_rest.split_at(right_over.len().min(left_rest.len()));
+            let (facing, left_back) = left_back.split_at(right_over.len().min(left_back.len()));
             Sections {
                 front: (left, right),
                 middle: (facing, right_over),
-                rest: (left_rest, right_rest),
+                back: (left_back, right_back),
             }
         } else {
-            let (facing, right_rest) = right_rest.split_at(left_over.len().min(right_rest.len()));
+            let (facing, right_back) = right_back.split_at(left_over.len().min(right_back.len()));
             Sections {
                 front: (left, right),
                 middle: (left_over, facing),
-                rest: (left_rest, right_rest),
+                back: (left_back, right_back),
             }
         }
     }
@@ -74,7 +74,7 @@ impl<T: PartialEq, const CAP: usize, B: Behavior> PartialEq for ArrayDeque<T, CA
         if !are_equal(cut.middle.0, cut.middle.1) {
             return false;
         }
-        are_equal(cut.rest.0, cut.rest.1)
+        are_equal(cut.back.0, cut.back.1)
     }
 }
 
@@ -106,7 +106,7 @@ impl<T: PartialOrd, const CAP: usize, B: Behavior> PartialOrd for ArrayDeque<T, 
         if found != Some(Ordering::Equal) {
             return found;
         }
-        partial_order(cut.rest.0, cut.rest.1)
+        partial_order(cut.back.0, cut.back.1)
     }
 }
 
@@ -137,7 +137,7 @@ impl<T: Ord, const CAP: usize, B: Behavior> Ord for ArrayDeque<T, CAP, B> {
         if found.is_ne() {
             return found;
         }
-        order(cut.rest.0, cut.rest.1)
+        order(cut.back.0, cut.back.1)
     }
 }
 

@@ -61,6 +61,7 @@ impl<T, const CAP: usize, B: Behavior> ArrayDeque<T, CAP, B> {
         ensures filled { Fills I.next_gives elements.old elements.new
             (CAP - length self.old.items) result (λ xs. self.new ≡ with_back xs self.old) }
         ensures within { length self.new.items ≤ CAP }
+        ensures full { result ≡ false → length self.new.items ≡ CAP }
         ensures goes { result ≡ false → I.can_next elements.new
             × (IsFinite (I.remaining elements.old) → IsFinite (I.remaining elements.new)) }
     {
@@ -78,6 +79,7 @@ impl<T, const CAP: usize, B: Behavior> ArrayDeque<T, CAP, B> {
         ensures filled { Fills I.next_gives elements.old elements.new
             (CAP - length self.old.items) result (λ xs. self.new ≡ with_front CAP xs self.old) }
         ensures within { length self.new.items ≤ CAP }
+        ensures full { result ≡ false → length self.new.items ≡ CAP }
         ensures goes { result ≡ false → I.can_next elements.new
             × (IsFinite (I.remaining elements.old) → IsFinite (I.remaining elements.new)) }
     {
@@ -119,11 +121,12 @@ impl<T: Drop, const CAP: usize> ArrayDeque<T, CAP, Wrapping> {
             × (CAP ≡ 0 → self.new ≡ self.old)) }
     {
         let mut elements = iter.into_iter();
-        if self.fill_back(&mut elements) {
+        if self.capacity() == 0 {
+            drop_all(elements);
             return;
         }
-        if CAP == 0 {
-            drop_all(elements);
+        let ended = self.fill_back(&mut elements);
+        if ended {
             return;
         }
         self.ring.displace_first(elements);
@@ -148,11 +151,12 @@ impl<T: Drop, const CAP: usize> ArrayDeque<T, CAP, Wrapping> {
             × (CAP ≡ 0 → self.new ≡ self.old)) }
     {
         let mut elements = iter.into_iter();
-        if self.fill_front(&mut elements) {
+        if self.capacity() == 0 {
+            drop_all(elements);
             return;
         }
-        if CAP == 0 {
-            drop_all(elements);
+        let ended = self.fill_front(&mut elements);
+        if ended {
             return;
         }
         self.ring.displace_last(elements);
@@ -184,7 +188,8 @@ impl<T: Drop, const CAP: usize> Extend<T> for ArrayDeque<T, CAP, Saturating> {
         ensures ok { IsOk result }
     {
         let mut elements = iter.into_iter();
-        if self.fill_back(&mut elements) {
+        let ended = self.fill_back(&mut elements);
+        if ended {
             return Ok(());
         }
         drop_all(elements);

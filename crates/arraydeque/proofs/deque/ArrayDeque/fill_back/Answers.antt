@@ -1,20 +1,23 @@
-use Rattle.std.proofs.Common.{length, ap, ◌∙◌, arith}
-use Rattle.arraydeque_ring.{specs.Ring.RingState, proofs.fills.FromIterator.{Fills-as}}
-use Rattle.arraydeque.{specs.Deque.{DequeState, with_back}, proofs.Pushed.of_ring}
+use Rattle.std.proofs.{Common.{refl, ap, arith}, lemmas.List.length-append}
+use Rattle.arraydeque_ring.proofs.fills.FromIterator.{Fills-as}
+use Rattle.arraydeque.proofs.Pushed.{of_ring}
 use Rattle.arraydeque.proofs.deque.ArrayDeque.fill_back.Goals as goal
 
 pub invariant_of-self : goal.invariant_of-self
 invariant_of-self g c =
-    let all = ap (λ (r : RingState g.row.T.Denot). r.capacity) c.fill_back.ensures.filled.holds ∙ c.self.invariant.0 in
-    (all, omega (arith, all, c.fill_back.ensures.within))
+    let holds = c.fill_back.ensures.filled.holds in
+    rw holds (c.self.invariant.0, rw (holds, c.self.invariant.0) at c.fill_back.ensures.within)
 
 pub returns-clause-filled : goal.returns-clause-filled
-returns-clause-filled g c =
-    Fills-as g.I.Iterator.next_gives c.fill_back.ensures.filled _ _
-    (omega (arith, c.self.invariant.0, ap (λ (d : DequeState g.row.T.Denot). length d.items) c.self.view_is))
-    (λ xs same. ap of_ring same ∙ ap (with_back xs) c.self.view_is)
+returns-clause-filled g c = rw (← c.self.view_is, ← c.self.invariant.0)
+    (Fills-as g.I.Iterator.next_gives c.fill_back.ensures.filled _ _ refl (λ xs same. ap of_ring same))
 
 pub returns-clause-within : goal.returns-clause-within
 returns-clause-within g c =
-    let all = ap (λ (r : RingState g.row.T.Denot). r.capacity) c.fill_back.ensures.filled.holds ∙ c.self.invariant.0 in
-    omega (arith, all, c.fill_back.ensures.within)
+    let holds = c.fill_back.ensures.filled.holds in
+    rw holds (rw (holds, c.self.invariant.0) at c.fill_back.ensures.within)
+
+pub returns-clause-full : goal.returns-clause-full
+returns-clause-full g c some =
+    let filled = c.fill_back.ensures.filled in
+    rw filled.holds (simp length-append (omega (arith, c.self.invariant.0, c.self.invariant.1, (filled.all some).1)))

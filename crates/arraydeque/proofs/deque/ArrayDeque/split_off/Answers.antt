@@ -1,5 +1,4 @@
-use Rattle.std.proofs.{Common.{ap, ◌∙◌}, lemmas.Result.{MatchResult-from_err}}
-use Rattle.arraydeque_ring.specs.Ring.{RingState}
+use Rattle.std.proofs.{Common.{refl, ap, ◌∙◌}, lemmas.Result.{MatchResult-from_err}}
 use Rattle.arraydeque.proofs.Pushed.{of_ring}
 use Rattle.arraydeque.proofs.deque.ArrayDeque.split_off.Goals as goal
 
@@ -11,11 +10,11 @@ returns-in_err-ring-clause-unchanged g c =
 pub returns : goal.returns
 returns g c =
     let cut = c.in_ok-ring.ensures in
-    rw (← c.self.view_is) (record {
+    rw (← c.self.view_is, cut.kept) (record {
       tail = ap of_ring (c.of.ensures ∙ cut.tail);
-      items = ap (λ (r : RingState g.row.T.Denot). r.items) cut.kept;
-      start = ap (λ (r : RingState g.row.T.Denot). r.start) cut.kept;
-      steps = ap (λ (r : RingState g.row.T.Denot). r.steps) cut.kept;
+      items = refl;
+      start = refl;
+      steps = refl;
       unchanged = tt;
       refused = tt;
     })

@@ -4,9 +4,9 @@ use Rattle.arraydeque.proofs.deque.blocks.behind_equal.Given as goal
 
 abbrev pub invariant-loop-pairs : goal.invariant-loop-pairs
 invariant-loop-pairs g l = record {
-  behind : AreBehindEqual g.T.PartialEq.eq l.left l.right l.left_rest l.right_rest;
-  left : l.pairs ≤ length l.left_rest;
-  right : l.pairs ≤ length l.right_rest;
+  behind : AreBehindEqual g.T.PartialEq.eq l.left l.right l.left_back l.right_back;
+  left : l.pairs ≤ length l.left_back;
+  right : l.pairs ≤ length l.right_back;
 }
 
 abbrev pub decreases-loop-pairs : goal.decreases-loop-pairs

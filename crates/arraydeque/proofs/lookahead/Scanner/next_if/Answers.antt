@@ -1,54 +1,35 @@
-use Rattle.std.{
-  proofs.Common.{◌≡◌, slice_get, Some, None, true≢false, option_copied, refl, sym, ap, subst, ◌∙◌},
-  proofs.lemmas.{Option.slice_get_within},
+use Rattle.std.proofs.{
+  Common.{[], option_copied, refl, sym, ap, ◌∙◌},
+  lemmas.Option.{slice_get_within},
 }
-use Rattle.arraydeque.{proofs.Scanned.NextIs-buffer}
+use Rattle.arraydeque.proofs.Scanned.{HandsOut-append, NextIs-buffer}
 use Rattle.arraydeque.proofs.lookahead.Scanner.next_if.Goals as goal
-use Rattle.arraydeque.proofs.lookahead.Scanner.next_if.Goals.{in-Some, in-None}
+
+pub returns-in_default-clause-refused : goal.returns-in_default-clause-refused
+returns-in_default-clause-refused g c =
+    let seen = c.peek.follows.holds-at-none in
+    let first = sym seen.sees ∙ ap option_copied c.in_default.is in
+    NextIs-buffer g.I.Iterator.next_gives _ _ (rw first tt) (rw seen.sees at seen.none)
+
+pub returns-then-not-is_accepted-clause-refused : goal.returns-then-not-is_accepted-clause-refused
+returns-then-not-is_accepted-clause-refused g c =
+    let seen = c.peek.follows.holds-at-none in
+    let first = sym seen.sees ∙ ap option_copied c.in-Some.is in
+    NextIs-buffer g.I.Iterator.next_gives _ _ (rw first (c.in-Some.item, c.if-not-is_accepted.ensures, refl))
+    (rw seen.sees at seen.none)
+
+pub returns-clause-hands_out : goal.returns-clause-hands_out
+returns-clause-hands_out g c = HandsOut-append g.I.Iterator.next_gives c.args.self.now
+    c.peek.follows.lender-at-none c.next.new.self [] _ c.peek.follows.holds-at-none.hands_out c.next.ensures.hands_out
+
+pub returns-clause-accepted : goal.returns-clause-accepted
+returns-clause-accepted g c =
+    let first = sym c.peek.follows.holds-at-none.sees ∙ ap option_copied c.in-Some.is in
+    let taken = (c.next.ensures.buffered (slice_get_within _ 0 _ first)).0 ∙ first in
+    rw taken (c.in-Some.item, c.if-not-is_accepted.ensures, refl)
 
 pub returns-clause-refused : goal.returns-clause-refused
 returns-clause-refused g c =
-    let seen = c.peek.follows.holds-at-none in
-    let now = c.peek.follows.lender-at-none in
-    elim c.match-peek.branch [
-      | in-Some w ↦
-          let first : slice_get now.buffer 0 ≡ Some w.in-Some.item.now =
-          sym seen.sees ∙ ap option_copied w.in-Some.is in
-          let answer = subst (λ r. g.P.FnOnce.post c.args.accepts (w.in-Some.item, tt) r)
-          (sym w.is_accepted-is ∙ c.if-is_accepted.false) w.accepts-is_accepted.ensures in
-          rw w.self-is (NextIs-buffer g.I.Iterator.next_gives _ now (rw first (w.in-Some.item, answer, refl))
-          (rw seen.sees at seen.none))
-      | in-None w ↦
-          let first : slice_get now.buffer 0 ≡ None = sym seen.sees ∙ ap option_copied w.in-None.is in
-          rw w.self-is (NextIs-buffer g.I.Iterator.next_gives _ now (rw first tt) (rw seen.sees at seen.none))
-    ]
-
-pub returns-then-is_accepted-clause-accepted : goal.returns-then-is_accepted-clause-accepted
-returns-then-is_accepted-clause-accepted g c =
-    let seen = c.peek.follows.holds-at-none in
-    let now = c.peek.follows.lender-at-none in
-    elim c.match-peek.branch [
-      | in-Some w ↦
-          let first : slice_get now.buffer 0 ≡ Some w.in-Some.item.now =
-          sym seen.sees ∙ ap option_copied w.in-Some.is in
-          let answer = subst (λ r. g.P.FnOnce.post c.args.accepts (w.in-Some.item, tt) r)
-          (sym w.is_accepted-is ∙ c.if-is_accepted.true) w.accepts-is_accepted.ensures in
-          let some = slice_get_within now.buffer 0 _ first in
-          let taken = ((rw w.self-is at c.next.ensures.buffered) some).0 ∙ first in
-          rw taken (w.in-Some.item, answer, refl)
-      | in-None w ↦ absurd (true≢false (sym c.if-is_accepted.true ∙ w.is_accepted-is))
-    ]
-
-pub returns-then-is_accepted-clause-refused : goal.returns-then-is_accepted-clause-refused
-returns-then-is_accepted-clause-refused g c =
-    let seen = c.peek.follows.holds-at-none in
-    let now = c.peek.follows.lender-at-none in
-    elim c.match-peek.branch [
-      | in-Some w ↦
-          let first : slice_get now.buffer 0 ≡ Some w.in-Some.item.now =
-          sym seen.sees ∙ ap option_copied w.in-Some.is in
-          let some = slice_get_within now.buffer 0 _ first in
-          let taken = ((rw w.self-is at c.next.ensures.buffered) some).0 ∙ first in
-          rw taken tt
-      | in-None w ↦ absurd (true≢false (sym c.if-is_accepted.true ∙ w.is_accepted-is))
-    ]
+    let first = sym c.peek.follows.holds-at-none.sees ∙ ap option_copied c.in-Some.is in
+    let taken = (c.next.ensures.buffered (slice_get_within _ 0 _ first)).0 ∙ first in
+    rw taken tt

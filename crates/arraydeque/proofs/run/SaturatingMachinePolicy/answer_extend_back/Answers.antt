@@ -7,7 +7,7 @@ use Rattle.arraydeque.proofs.run.SaturatingMachinePolicy.answer_extend_back.Goal
 
 pub returns : goal.returns
 returns g c =
-    let added = TakesFrom-list _ _ _ _ c.args.elements.items into_iter_items _ c.extend_back.ensures
+    let added = TakesFrom-list c.args.elements.items into_iter_items c.extend_back.ensures
     (λ it became. (became.0, became.3)) in
     let made = extended_back-makes saturating g.row.CAP _ c.args.elements _ _
     (ap (λ (d : DequeState g.row.T.Denot). d.items) added) added in

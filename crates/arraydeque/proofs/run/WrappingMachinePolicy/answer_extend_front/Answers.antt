@@ -4,7 +4,7 @@ use Rattle.arraydeque.proofs.run.WrappingMachinePolicy.answer_extend_front.Goals
 
 pub returns : goal.returns
 returns g c =
-    let added = TakesAll-list _ _ _ _ c.args.elements.items into_iter_items c.extend_front.ensures
+    let added = TakesAll-list c.args.elements.items into_iter_items c.extend_front.ensures
     (λ it became. (became.0, became.3)) in
     let made = extended_front-makes wrapping g.row.CAP _ c.args.elements _ _ added.0
     (at_none g.row.CAP _ _ _ added.2 added.1) in

@@ -2,6 +2,4 @@ use Rattle.arraydeque.proofs.Taken.{TakesFrom-fills}
 use Rattle.arraydeque.proofs.deque.extend.ArrayDeque+T+CAP+Saturating.extend_front.Goals as goal
 
 pub returns : goal.returns
-returns g c =
-    TakesFrom-fills g.I.IntoIterator.into_iter_gives g.I.IntoIter.Iterator.next_gives c.args.iter _ _ _
-    c.into_iter-elements.ensures.into_iter_gives _ _ _ c.fill_front.ensures.filled (λ xs same. same)
+returns g c = TakesFrom-fills c.into_iter-elements.ensures.into_iter_gives c.fill_front.ensures.filled (λ xs same. same)

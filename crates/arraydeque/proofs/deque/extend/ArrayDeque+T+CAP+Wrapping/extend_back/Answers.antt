@@ -1,77 +1,41 @@
-use Rattle.std.proofs.{Common.{◌≡◌, length, ◌++◌, refl, sym, ap, ◌∙◌, arith}, lemmas.List.{length-append, length-drop}}
-use Rattle.arraydeque_ring.specs.Ring.{RingState}
+use Rattle.std.proofs.{Common.arith, lemmas.List.{length-append, length-drop}}
 use Rattle.arraydeque.proofs.{
-  Pushed.{of_ring, full_back, WrapsBack-none, WrapsBack-displaced, WrapsBack-room, WrapsBack-both},
-  Taken.{TakesAll-fills, TakesAll-both},
+  Pushed.{WrapsBack-none, WrapsBack-room, WrapsBack-both},
+  Taken.{TakesAll-ends, TakesAll-fills, TakesAll-both},
 }
 use Rattle.arraydeque.proofs.deque.extend.ArrayDeque+T+CAP+Wrapping.extend_back.Goals as goal
 
-pub returns-then-fill_back : goal.returns-then-fill_back
-returns-then-fill_back g c =
-    TakesAll-fills g.I.IntoIterator.into_iter_gives g.I.IntoIter.Iterator.next_gives c.args.iter _ _ _
-    c.into_iter-elements.ensures.into_iter_gives _ _ _
-    c.fill_back.ensures.filled c.if-fill_back.true
-    (λ xs _ all. WrapsBack-room g.row.CAP c.args.self.now c.fill_back.new.self xs c.fill_back.ensures.within all)
+pub returns-then-capacity-eq0 : goal.returns-then-capacity-eq0
+returns-then-capacity-eq0 g c = TakesAll-ends c.into_iter-elements.ensures.into_iter_gives (record {
+  items = c.drop_all.ensures.items;
+  drains = c.drop_all.ensures.drains;
+  holds = WrapsBack-none g.row.CAP c.args.self.now _ (omega arith) c.capacity.ensures.within;
+})
 
-pub drop_all-requires : goal.drop_all-requires
-drop_all-requires g c =
-    let given = c.requires _ c.into_iter-elements.ensures.into_iter_gives in
-    let goes = c.fill_back.ensures.goes c.if-fill_back.false in
-    record { may = goes.0; ends = goes.1 given.1 }
-
-pub returns-then-this-eq0 : goal.returns-then-this-eq0
-returns-then-this-eq0 g c =
-    let mid = c.fill_back.new.self in
-    let within = c.fill_back.ensures.within in
-    TakesAll-both g.I.IntoIterator.into_iter_gives g.I.IntoIter.Iterator.next_gives c.args.iter _ _ _
-    c.into_iter-elements.ensures.into_iter_gives _ _ _
-    c.fill_back.ensures.filled c.drop_all.ensures c.if-fill_back.false
-    (λ xs ys _ all _. WrapsBack-both g.row.CAP c.args.self.now mid xs within all ys mid mid mid refl refl
-    (WrapsBack-none g.row.CAP mid ys c.if-this-eq0.true within))
+pub returns-then-ended : goal.returns-then-ended
+returns-then-ended g c =
+    let filled = c.fill_back-ended.ensures.filled in
+    TakesAll-fills c.into_iter-elements.ensures.into_iter_gives filled c.if-ended.true
+    (WrapsBack-room g.row.CAP (omega arith) c.args.self.now _ _ filled.holds c.fill_back-ended.ensures.within)
 
 pub displace_first-requires : goal.displace_first-requires
 displace_first-requires g c =
     let given = c.requires _ c.into_iter-elements.ensures.into_iter_gives in
-    let goes = c.fill_back.ensures.goes c.if-fill_back.false in
-    let filled = c.fill_back.ensures.filled in
-    let full : length c.self.inside.ring.items ≡ g.row.CAP =
-    full_back g.row.CAP c.args.self.now c.fill_back.new.self c.self.inside.ring filled.items c.self.view_is
-    (filled.all c.if-fill_back.false).1 c.fill_back.ensures.within filled.holds in
+    let (can, finite) = c.fill_back-ended.ensures.goes c.if-ended.false in
+    let full = c.fill_back-ended.ensures.full c.if-ended.false in
     record {
       some = omega (arith, c.self.invariant.0);
-      full = full ∙ sym c.self.invariant.0;
-      may = goes.0;
-      ends = goes.1 given.1;
+      full = rw (← c.self.view_is, ← c.self.invariant.0) at full;
+      may = can;
+      ends = finite given.1;
     }
 
 pub invariant_of-self : goal.invariant_of-self
-invariant_of-self g c =
-    let out = c.displace_first.ensures in
-    let all = ap (λ (r : RingState g.row.T.Denot). r.capacity) out.holds ∙ c.self.invariant.0 in
-    let xs = out.items in
-    let items = c.self.inside.ring.items in (
-      all,
-      omega (
-        arith,
-        all,
-        c.self.invariant.1,
-        ap (λ (r : RingState g.row.T.Denot). length r.items) out.holds,
-        length-drop (length xs) (items ++ xs),
-        length-append items xs,
-      ),
-    )
+invariant_of-self g c = rw c.displace_first.ensures.holds (c.self.invariant.0, simp (length-drop, length-append) (omega arith))
 
 pub returns : goal.returns
 returns g c =
-    let filled = c.fill_back.ensures.filled in
-    let full : length c.self.inside.ring.items ≡ g.row.CAP =
-    full_back g.row.CAP c.args.self.now c.fill_back.new.self c.self.inside.ring filled.items c.self.view_is
-    (filled.all c.if-fill_back.false).1 c.fill_back.ensures.within filled.holds in
-    TakesAll-both g.I.IntoIterator.into_iter_gives g.I.IntoIter.Iterator.next_gives c.args.iter _ _ _
-    c.into_iter-elements.ensures.into_iter_gives _ _ _
-    c.fill_back.ensures.filled c.displace_first.ensures c.if-fill_back.false
-    (λ xs ys _ all out. WrapsBack-both g.row.CAP c.args.self.now c.fill_back.new.self xs
-    c.fill_back.ensures.within all ys (of_ring c.self.inside.ring) (of_ring c.displace_first.new.self)
-    (of_ring c.displace_first.new.self) c.self.view_is refl
-    (WrapsBack-displaced g.row.CAP c.self.inside.ring c.displace_first.new.self ys
-    (omega arith) c.self.invariant.0 full out))
+    let filled = c.fill_back-ended.ensures.filled in
+    TakesAll-both c.into_iter-elements.ensures.into_iter_gives filled c.if-ended.false c.displace_first.ensures
+    (WrapsBack-both g.row.CAP (omega arith) c.args.self.now _ _ filled.holds c.self.inside.ring _ _ c.self.view_is
+    c.self.invariant.0 (c.fill_back-ended.ensures.full c.if-ended.false) c.displace_first.ensures.holds)

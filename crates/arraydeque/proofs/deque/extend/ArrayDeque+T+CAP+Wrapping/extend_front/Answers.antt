@@ -1,76 +1,41 @@
-use Rattle.std.proofs.{Common.{◌≡◌, length, ◌++◌, reverse, refl, sym, ap, ◌∙◌, arith}, lemmas.List.{length-take}}
-use Rattle.arraydeque_ring.specs.Ring.{RingState}
+use Rattle.std.proofs.{Common.arith, lemmas.List.{length-take}}
 use Rattle.arraydeque.proofs.{
-  Pushed.{of_ring, full_front, WrapsFront-none, WrapsFront-displaced, WrapsFront-room, WrapsFront-both},
-  Taken.{TakesAll-fills, TakesAll-both},
+  Pushed.{WrapsFront-none, WrapsFront-room, WrapsFront-both},
+  Taken.{TakesAll-ends, TakesAll-fills, TakesAll-both},
 }
 use Rattle.arraydeque.proofs.deque.extend.ArrayDeque+T+CAP+Wrapping.extend_front.Goals as goal
 
-pub returns-then-fill_front : goal.returns-then-fill_front
-returns-then-fill_front g c =
-    TakesAll-fills g.I.IntoIterator.into_iter_gives g.I.IntoIter.Iterator.next_gives c.args.iter _ _ _
-    c.into_iter-elements.ensures.into_iter_gives _ _ _
-    c.fill_front.ensures.filled c.if-fill_front.true
-    (λ xs _ all. WrapsFront-room g.row.CAP c.args.self.now c.fill_front.new.self xs c.fill_front.ensures.within all)
+pub returns-then-capacity-eq0 : goal.returns-then-capacity-eq0
+returns-then-capacity-eq0 g c = TakesAll-ends c.into_iter-elements.ensures.into_iter_gives (record {
+  items = c.drop_all.ensures.items;
+  drains = c.drop_all.ensures.drains;
+  holds = WrapsFront-none g.row.CAP c.args.self.now _ (omega arith) c.capacity.ensures.within;
+})
 
-pub drop_all-requires : goal.drop_all-requires
-drop_all-requires g c =
-    let given = c.requires _ c.into_iter-elements.ensures.into_iter_gives in
-    let goes = c.fill_front.ensures.goes c.if-fill_front.false in
-    record { may = goes.0; ends = goes.1 given.1 }
-
-pub returns-then-this-eq0 : goal.returns-then-this-eq0
-returns-then-this-eq0 g c =
-    let mid = c.fill_front.new.self in
-    let within = c.fill_front.ensures.within in
-    TakesAll-both g.I.IntoIterator.into_iter_gives g.I.IntoIter.Iterator.next_gives c.args.iter _ _ _
-    c.into_iter-elements.ensures.into_iter_gives _ _ _
-    c.fill_front.ensures.filled c.drop_all.ensures c.if-fill_front.false
-    (λ xs ys _ all _. WrapsFront-both g.row.CAP c.args.self.now mid xs within all ys mid mid mid refl refl
-    (WrapsFront-none g.row.CAP mid ys c.if-this-eq0.true within))
+pub returns-then-ended : goal.returns-then-ended
+returns-then-ended g c =
+    let filled = c.fill_front-ended.ensures.filled in
+    TakesAll-fills c.into_iter-elements.ensures.into_iter_gives filled c.if-ended.true
+    (WrapsFront-room g.row.CAP (omega arith) c.args.self.now _ _ filled.holds c.fill_front-ended.ensures.within)
 
 pub displace_last-requires : goal.displace_last-requires
 displace_last-requires g c =
     let given = c.requires _ c.into_iter-elements.ensures.into_iter_gives in
-    let goes = c.fill_front.ensures.goes c.if-fill_front.false in
-    let filled = c.fill_front.ensures.filled in
-    let full : length c.self.inside.ring.items ≡ g.row.CAP =
-    full_front g.row.CAP c.args.self.now c.fill_front.new.self c.self.inside.ring filled.items c.self.view_is
-    (filled.all c.if-fill_front.false).1 c.fill_front.ensures.within filled.holds in
+    let (can, finite) = c.fill_front-ended.ensures.goes c.if-ended.false in
+    let full = c.fill_front-ended.ensures.full c.if-ended.false in
     record {
       some = omega (arith, c.self.invariant.0);
-      full = full ∙ sym c.self.invariant.0;
-      may = goes.0;
-      ends = goes.1 given.1;
+      full = rw (← c.self.view_is, ← c.self.invariant.0) at full;
+      may = can;
+      ends = finite given.1;
     }
 
 pub invariant_of-self : goal.invariant_of-self
-invariant_of-self g c =
-    let out = c.displace_last.ensures in
-    let all = ap (λ (r : RingState g.row.T.Denot). r.capacity) out.holds ∙ c.self.invariant.0 in
-    let xs = out.items in
-    let items = c.self.inside.ring.items in (
-      all,
-      omega (
-        arith,
-        all,
-        c.self.invariant.1,
-        ap (λ (r : RingState g.row.T.Denot). length r.items) out.holds,
-        length-take (length items) (reverse xs ++ items),
-      ),
-    )
+invariant_of-self g c = rw c.displace_last.ensures.holds (c.self.invariant.0, simp length-take (omega arith))
 
 pub returns : goal.returns
 returns g c =
-    let filled = c.fill_front.ensures.filled in
-    let full : length c.self.inside.ring.items ≡ g.row.CAP =
-    full_front g.row.CAP c.args.self.now c.fill_front.new.self c.self.inside.ring filled.items c.self.view_is
-    (filled.all c.if-fill_front.false).1 c.fill_front.ensures.within filled.holds in
-    TakesAll-both g.I.IntoIterator.into_iter_gives g.I.IntoIter.Iterator.next_gives c.args.iter _ _ _
-    c.into_iter-elements.ensures.into_iter_gives _ _ _
-    c.fill_front.ensures.filled c.displace_last.ensures c.if-fill_front.false
-    (λ xs ys _ all out. WrapsFront-both g.row.CAP c.args.self.now c.fill_front.new.self xs
-    c.fill_front.ensures.within all ys (of_ring c.self.inside.ring) (of_ring c.displace_last.new.self)
-    (of_ring c.displace_last.new.self) c.self.view_is refl
-    (WrapsFront-displaced g.row.CAP c.self.inside.ring c.displace_last.new.self ys
-    (omega arith) c.self.invariant.0 full out))
+    let filled = c.fill_front-ended.ensures.filled in
+    TakesAll-both c.into_iter-elements.ensures.into_iter_gives filled c.if-ended.false c.displace_last.ensures
+    (WrapsFront-both g.row.CAP (omega arith) c.args.self.now _ _ filled.holds c.self.inside.ring _ _ c.self.view_is
+    c.self.invariant.0 (c.fill_front-ended.ensures.full c.if-ended.false) c.displace_last.ensures.holds)

@@ -1,23 +1,10 @@
-use Rattle.std.proofs.{Common.{◌≡◌, ap, ◌∙◌, arith, length}, lemmas.List.{take_min, length-take}, Math.Nat.min_comm}
-use Rattle.arraydeque_ring.specs.Ring.{RingState}
+use Rattle.std.proofs.{Common.{◌≡◌, refl, ap, ◌∙◌, arith, length}, lemmas.List.{take_min, length-take}, Math.Nat.min_comm}
 use Rattle.arraydeque.{specs.Deque.{empty_deque, with_back}, proofs.Pushed.of_ring}
 use Rattle.arraydeque.proofs.deque.makers.ArrayDeque+T+CAP+Saturating.from_array.Goals as goal
 
 pub of-requires : goal.of-requires
 of-requires g c =
-    let made = c.in-Ok.ensures.ok in
-    let len : length c.args.a ≡ g.row.N = c.well_formed.1.0.1.0.1 in (
-      omega arith,
-      (
-        ap (λ (ring : RingState g.row.T.Denot). ring.capacity) made,
-        omega (
-          arith,
-          ap (λ (ring : RingState g.row.T.Denot). length ring.items) made,
-          length-take c.min.result c.args.a,
-          c.min.ensures,
-        ),
-      ),
-    )
+    rw c.in-Ok.ensures.ok (omega arith, (refl, simp length-take (omega (arith, c.min.ensures))))
 
 pub returns-in-Ok-clause-items : goal.returns-in-Ok-clause-items
 returns-in-Ok-clause-items g c =
