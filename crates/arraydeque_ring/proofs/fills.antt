@@ -1,3 +1,5 @@
 pub mod Displaced
+pub mod Filling
 pub mod FromIterator
 pub mod InRows
+pub mod Laying

@@ -1,7 +1,7 @@
 -- What is taken of an iterator.
 use Rattle.std.specs.{
   Prelude.{◌≡◌, ℕ, ◌≤◌, List, length, Bool, Option, None, true, false},
-  Iterator.{Yields, Drains},
+  Iterator.{Yields, Drains, Count, IsFinite},
 }
 
 module _ {S A : Type 0} (gives : S → Option A → S → Type 0) (from : S) where
@@ -21,3 +21,7 @@ module _ {S A : Type 0} (gives : S → Option A → S → Type 0) (from : S) whe
     pub items : List A
     pub drains : Drains gives from items
     pub holds : P items
+
+-- an iterator that hasn't ended may be called on, and ends if it did before
+abbrev pub GoesOn : {S : Type 0} → (S → Type 0) → (S → Count) → S → S → Bool → Type 0
+GoesOn can left from to ended = ended ≡ false → can to × (IsFinite (left from) → IsFinite (left to))

@@ -25,7 +25,6 @@ use crate::slots::Slots;
 use crate::wrap::{wrap_add, wrap_add_branchless};
 use std::alloc::{AllocError, Global};
 use std::marker::Model;
-use std::mem::replace;
 
 /// A list of at most `capacity` items in one region, whose front may stand at any place.
 pub struct Ring<T> {
@@ -191,29 +190,6 @@ impl<T> Ring<T> {
         let place = wrap_add_branchless(self.start, index, self.slots.capacity());
         let slots = &mut self.slots;
         Some(slots.get_mut(place))
-    }
-
-    /// The ring itself, in whose place one of no places is left.
-    #[inline]
-    fn moved_out(&mut self) -> Ring<T>
-        ensures value { result ≡ self.old }
-        ensures left { self.new ≡ empty_ring 0 }
-    {
-        Ring {
-            slots: self.slots.moved_out(),
-            start: replace(&mut self.start, 0),
-            len: replace(&mut self.len, 0),
-            alloc: self.alloc,
-        }
-    }
-
-    /// Becomes another ring. It must hold no item itself, and gives its own region back.
-    #[inline]
-    fn move_in(&mut self, ring: Ring<T>)
-        requires { self.old.items ≡ [] }
-        ensures { self.new ≡ ring }
-    {
-        replace(self, ring).give_back();
     }
 
     /// Gives the region of a ring that holds no item back.

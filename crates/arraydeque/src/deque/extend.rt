@@ -1,9 +1,9 @@
 //! Adding the items of an iterator.
-ghost use Rattle.std.specs.Prelude.{◌≡◌, ◌<◌, ◌≤◌, ◌-◌, ◌++◌, length, reverse, take, false, IsOk};
+ghost use Rattle.std.specs.Prelude.{◌≡◌, ◌<◌, ◌≤◌, ◌-◌, ◌++◌, length, reverse, take, IsOk};
 ghost use Rattle.std.specs.Iterator.{IsFinite, IsFiniteIterable, ExtendsWithItems};
 ghost use Rattle.arraydeque.specs.Deque.{keep_last, with_back, with_front, wrapped_back, wrapped_front, WrapsBack};
 ghost use Rattle.arraydeque.specs.Sources.{IsIterable, TakesFrom, TakesAll};
-ghost use Rattle.arraydeque_ring.specs.Fills.{Fills, Ends};
+ghost use Rattle.arraydeque_ring.specs.Fills.{Fills, Ends, GoesOn};
 
 use super::ArrayDeque;
 use crate::behavior::{Behavior, Saturating, Wrapping};
@@ -62,8 +62,7 @@ impl<T, const CAP: usize, B: Behavior> ArrayDeque<T, CAP, B> {
             (CAP - length self.old.items) result (λ xs. self.new ≡ with_back xs self.old) }
         ensures within { length self.new.items ≤ CAP }
         ensures full { result ≡ false → length self.new.items ≡ CAP }
-        ensures goes { result ≡ false → I.can_next elements.new
-            × (IsFinite (I.remaining elements.old) → IsFinite (I.remaining elements.new)) }
+        ensures goes { GoesOn I.can_next I.remaining elements.old elements.new result }
     {
         if self.is_full() {
             return false;
@@ -80,8 +79,7 @@ impl<T, const CAP: usize, B: Behavior> ArrayDeque<T, CAP, B> {
             (CAP - length self.old.items) result (λ xs. self.new ≡ with_front CAP xs self.old) }
         ensures within { length self.new.items ≤ CAP }
         ensures full { result ≡ false → length self.new.items ≡ CAP }
-        ensures goes { result ≡ false → I.can_next elements.new
-            × (IsFinite (I.remaining elements.old) → IsFinite (I.remaining elements.new)) }
+        ensures goes { GoesOn I.can_next I.remaining elements.old elements.new result }
     {
         if self.is_full() {
             return false;

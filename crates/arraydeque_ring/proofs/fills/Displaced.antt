@@ -1,26 +1,15 @@
 -- Items that come one by one into a full ring, each in the place of another.
 use Rattle.std.proofs.{
-  Common.{◌≡◌, ◌<◌, ◌≤◌, ℕ, zero, suc, ◌+◌, ◌-◌, ◌*◌, List, [], ◌∷◌, ◌++◌, length, take, drop, reverse, set, Some},
-  Common.{None, refl, sym, subst, ap, ◌∙◌, arith},
-  Math.{Nat.{mod-eq_of_lt, add-mod_right}, Seq.take-append-add},
+  Common.{◌≡◌, ◌≤◌, ℕ, zero, suc, ◌+◌, List, [], ◌∷◌, ◌++◌, length, take, drop, reverse, refl, sym, ap, ◌∙◌, arith},
   lemmas.{
     Bool.Decides.nat_tests,
-    List.{append_assoc, append-nil, length-append, length-drop, length-take-le, drop-drop, drop-append-le, take-take},
-    List.{take_all},
+    List.{append_assoc, append-nil, length-append, length-drop, length-take, length-take-le, drop-drop},
+    List.{drop-append-le, take-take, take_all},
   },
 }
 use Rattle.arraydeque_ring.{
-  specs.{
-    declared.ring.Ring.TheInside.Inside,
-    Places.Region,
-    Ring.{RingState, place_of, up_by, down_by},
-    Steps.{Steps, more_puts, more_takes},
-  },
-  proofs.{
-    moved.Sources.{place_of-sum},
-    places.{LaidOut.{LaidOut-take_back, LaidOut-put_front}, Opened.{Opened, put_back, take_front, with_len}},
-    fills.InRows.{all_before, down_by-all},
-  },
+  specs.{Ring.{RingState, up_by, down_by}, Steps.{Steps, more_puts, more_takes}},
+  proofs.{moved.Sources.{place_of-sum}, fills.InRows.{all_before, down_by-all}},
 }
 
 -- nothing more was put and taken
@@ -54,6 +43,17 @@ module _ {X : Type 0} where
     start = down_by (length xs) r.start r.capacity;
     steps = more_puts (length xs) (more_takes (length xs) r.steps);
   }
+
+  -- a full ring stays full
+  pub displaced_first-full : (xs : List X) (r : RingState X) → length r.items ≡ r.capacity
+      → length (displaced_first xs r).items ≡ r.capacity
+  displaced_first-full xs r full =
+      omega (arith, full, length-drop (length xs) (r.items ++ xs), length-append r.items xs)
+
+  pub displaced_last-full : (xs : List X) (r : RingState X) → length r.items ≡ r.capacity
+      → length (displaced_last xs r).items ≡ r.capacity
+  displaced_last-full xs r full = omega
+      (arith, full, length-take (length r.items) (reverse xs ++ r.items), length-append (reverse xs) r.items)
 
   -- none came
   pub displaced_first-none : (r : RingState X) → r ≡ displaced_first [] r
@@ -99,49 +99,3 @@ module _ {X : Type 0} where
         (length-take-le n all (omega (arith, length-append (reverse xs) r.items)))
         ∙ kept_behind n n (reverse ys) all (omega arith) ∙ ap (take n) (all_before xs ys r.items) in
         λ i. record r { items = items i; start = down_by-all xs ys r.start r.capacity i; steps = counted r.steps i }
-
--- after xs one more came into the place of another
-module _ {X : Type 0} {r : Inside X} (v : RingState X) (xs : List X) (x : X) {mid slots : Region X} {place : ℕ}
-    (full : length v.items ≡ v.capacity) (some : 0 < v.capacity)
-    (takes : mid.places ≡ set r.slots.places place None) (taken : mid.steps ≡ more_takes 1 r.slots.steps)
-    (puts : slots.places ≡ set mid.places place (Some x)) (put : slots.steps ≡ more_puts 1 mid.steps) where
-  pub replaced_first : Opened r (displaced_first xs v) → r.start ≡ place
-      → Opened record r { slots = slots; start = place_of place 1 v.capacity } (displaced_first (xs ++ x ∷ []) v)
-  replaced_first o here =
-      let was = displaced_first xs v in let n = v.capacity in
-      let all : length was.items ≡ n =
-      omega (arith, full, length-drop (length xs) (v.items ++ xs), length-append v.items xs) in
-      let round : place_of (place_of was.start 1 n) (r.len - 1) n ≡ was.start =
-      place_of-sum was.start 1 (r.len - 1) n ∙ ap (λ k. place_of was.start k n) (omega (arith, o.len, all, some))
-      ∙ add-mod_right was.start n ∙ mod-eq_of_lt (omega (arith, o.start, o.laid.in_region, some)) in
-      let now = put_back (take_front o (omega (arith, o.len, all, some)) (ap (λ t. place_of t 1 n) (sym here ∙ o.start))
-      (rw here takes) taken) x (omega (arith, length-drop 1 was.items, all, some))
-      (sym here ∙ o.start ∙ sym round) puts put in
-      subst (Opened record r { slots = slots; start = place_of place 1 n })
-      ((λ i. record (displaced_first (x ∷ []) was) {
-        items = sym (drop-append-le 1 was.items (x ∷ []) (omega (arith, all, some))) i;
-      }) ∙ displaced_first-both xs (x ∷ []) v)
-      (with_len now (omega (arith, o.len, all, some)))
-
-  pub replaced_last : Opened r (displaced_last xs v) → place ≡ place_of r.start (v.capacity - 1) v.capacity
-      → Opened record r { slots = slots; start = place } (displaced_last (xs ++ x ∷ []) v)
-  replaced_last o here =
-      let was = displaced_last xs v in let n = v.capacity in
-      let all : length was.items ≡ n = omega (
-        arith,
-        full,
-        length-take-le (length v.items) (reverse xs ++ v.items) (omega (arith, length-append (reverse xs) v.items)),
-      ) in
-      let left = length-take-le (n - 1) was.items (omega (arith, all)) in
-      let items : x ∷ take (n - 1) was.items ≡ take (length was.items) (x ∷ was.items) = sym
-      (take-append-add (x ∷ []) was.items (n - 1)) ∙ ap (λ k. take k (x ∷ was.items)) (omega (arith, all, some)) in
-      let one : n - 1 ≡ 1 * (n - 1) = omega arith in
-      subst (Opened record r { slots = slots; start = place })
-      ((λ i. record (displaced_last (x ∷ []) was) { items = items i; start = place_of was.start (one i) n })
-      ∙ displaced_last-both xs (x ∷ []) v) (record {
-        laid = rw (puts, takes, here) (LaidOut-put_front (LaidOut-take_back o.laid (n - 1) (omega (arith, all, some))) x
-            (omega (arith, left, some)));
-        len = omega (arith, left, o.len, all, some);
-        start = here ∙ ap (λ t. place_of t (n - 1) n) o.start;
-        steps = put ∙ ap (more_puts 1) (taken ∙ ap (more_takes 1) o.steps);
-      })

@@ -1,25 +1,25 @@
 -- Loops that take items from an iterator, while there is room.
 use Rattle.std.{
   proofs.{
-    Common.{◌≡◌, ℕ, ◌+◌, ◌≤◌, List, [], ◌∷◌, ◌++◌, Option, Some, None, Bool, true, false, refl, sym, subst, arith},
-    Common.{true≢false},
+    Common.{◌≡◌, ℕ, ◌+◌, ◌≤◌, List, [], ◌∷◌, ◌++◌, length, Option, Some, None, Bool, true, false, refl},
+    Common.{sym, subst, ◌∙◌, true≢false, arith},
     iter.{Next.{Yields-more}, runs.Lists.{Yields-both}},
     lemmas.List.{length-append},
   },
   specs.Iterator.Yields,
 }
-use Rattle.arraydeque_ring.specs.Fills.{Fills}
+use Rattle.arraydeque_ring.specs.Fills.{Fills, Ends}
 
 module _ {S A : Type 0} (gives : S → Option A → S → Type 0) where
   -- before the first call
-  pub Fills-none : (s : S) (k : ℕ) (P : List A → Type 0) → k ≡ 0 → P [] → Fills gives s s k false P
-  Fills-none s k P none holds = record {
+  pub Fills-none : (s : S) (P : List A → Type 0) → P [] → Fills gives s s 0 false P
+  Fills-none s P holds = record {
     items = [];
     last = s;
     yielded = refl;
     at_most = omega arith;
     none = λ e. absurd (true≢false (sym e));
-    all = λ _. (refl, sym none);
+    all = λ _. (refl, refl);
     holds = holds;
   }
 
@@ -36,18 +36,27 @@ module _ {S A : Type 0} (gives : S → Option A → S → Type 0) where
     holds = holds f.items f.holds;
   }
 
-  pub Fills-to : {from to to' : S} {n : ℕ} {ended ended' : Bool} {P : List A → Type 0} → Fills gives from to n ended P
-      → to' ≡ to → ended' ≡ ended → Fills gives from to' n ended' P
-  Fills-to f e e' = rw (e, e') f
+  -- of an iterator that ended, with another bound
+  pub Fills-within : {from to : S} {n : ℕ} {ended : Bool} {P : List A → Type 0} (f : Fills gives from to n ended P)
+      (m : ℕ) → ended ≡ true → length f.items ≤ m → Fills gives from to m ended P
+  Fills-within f m over le = record {
+    items = f.items;
+    last = f.last;
+    yielded = f.yielded;
+    at_most = le;
+    none = f.none;
+    all = λ some. absurd (true≢false (sym over ∙ some));
+    holds = f.holds;
+  }
 
   module _ {from mid : S} {k : ℕ} {P : List A → Type 0} (was : Fills gives from mid k false P) where
     so_far : Yields gives from was.items mid
     so_far = subst (Yields gives from was.items) (was.all refl).0 was.yielded
 
     -- one item more
-    pub Fills-one : {to : S} (x : A) → gives mid (Some x) to → (m : ℕ) (Q : List A → Type 0) → k + 1 ≡ m
-        → Q (was.items ++ x ∷ []) → Fills gives from to m false Q
-    Fills-one {to = to} x came m Q same holds = let long = length-append was.items (x ∷ []) in record {
+    pub Fills-one : {to : S} (x : A) → gives mid (Some x) to → (Q : List A → Type 0) → Q (was.items ++ x ∷ [])
+        → Fills gives from to (k + 1) false Q
+    Fills-one {to = to} x came Q holds = let long = length-append was.items (x ∷ []) in record {
       items = was.items ++ x ∷ [];
       last = to;
       yielded = Yields-more gives from was.items mid x to so_far came;
@@ -57,34 +66,28 @@ module _ {S A : Type 0} (gives : S → Option A → S → Type 0) where
       holds = holds;
     }
 
-    -- and then a None
-    pub Fills-over : {to : S} → gives mid None to → (n : ℕ) → k ≤ n → Fills gives from to n true P
-    Fills-over over n le = record {
-      items = was.items;
-      last = mid;
-      yielded = so_far;
-      at_most = omega (arith, was.at_most);
-      none = λ _. over;
-      all = λ e. absurd (true≢false e);
-      holds = was.holds;
-    }
-
   module _ {from mid : S} {n : ℕ} {ended : Bool} {P : List A → Type 0} (first : Fills gives from mid n ended P) where
     -- of two loops, where the iterator didn't end in the first
-    pub Fills-both : {to : S} {m : ℕ} {over : Bool} {Q : List A → Type 0} → Fills gives mid to m over Q
-        → (k : ℕ) (R : List A → Type 0) → ended ≡ false → n + m ≡ k
-        → ((xs ys : List A) → P xs → Q ys → R (xs ++ ys)) → Fills gives from to k over R
-    Fills-both then k R some sum holds =
-        let all = first.all some in
-        let xs = first.items in
-        let ys = then.items in
+    pub Fills-both : {to : S} {m : ℕ} {over : Bool} {Q : List A → Type 0} (then : Fills gives mid to m over Q)
+        (R : List A → Type 0) → ended ≡ false → R (first.items ++ then.items) → Fills gives from to (n + m) over R
+    Fills-both then R some holds =
+        let all = first.all some in let long = length-append first.items then.items in
         record {
-          items = xs ++ ys;
+          items = first.items ++ then.items;
           last = then.last;
-          yielded = Yields-both gives xs ys from mid then.last
-              (subst (Yields gives from xs) all.0 first.yielded) then.yielded;
-          at_most = omega (arith, length-append xs ys, all.1, then.at_most);
+          yielded = Yields-both gives first.items then.items from mid then.last
+              (subst (Yields gives from first.items) all.0 first.yielded) then.yielded;
+          at_most = omega (arith, long, all.1, then.at_most);
           none = then.none;
-          all = λ more. let rest = then.all more in (rest.0, omega (arith, length-append xs ys, all.1, rest.1));
-          holds = holds xs ys first.holds then.holds;
+          all = λ more. let rest = then.all more in (rest.0, omega (arith, long, all.1, rest.1));
+          holds = holds;
         }
+
+  -- and where it ended, all that came before the first None
+  pub Ends-fills : {from to : S} {n : ℕ} {ended : Bool} {P Q : List A → Type 0} → Fills gives from to n ended P
+      → ended ≡ true → ((xs : List A) → P xs → Q xs) → Ends gives from Q
+  Ends-fills {to = to} f over holds = record {
+    items = f.items;
+    drains = (to, (f.last, f.yielded, f.none over));
+    holds = holds f.items f.holds;
+  }

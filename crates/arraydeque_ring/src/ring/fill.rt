@@ -1,13 +1,18 @@
 //! The items of an iterator, put behind the last item or before the first, while there is room or
 //! in the places of others.
-ghost use Rattle.std.specs.Prelude.{◌≡◌, ◌-◌, ◌+◌, ◌<◌, ◌≤◌, ◌⊎◌, ◌∷◌, [], ◌++◌, length, take, drop, reverse, false};
-ghost use Rattle.std.specs.Iterator.{IsFinite, MakesProgress, size};
-ghost use Rattle.arraydeque_ring.specs.Fills.{Fills, Ends};
-ghost use Rattle.arraydeque_ring.specs.Ring.{place_of, up_by, down_by};
+ghost use Rattle.std.specs.Prelude.{◌≡◌, ◌-◌, ◌<◌, ◌≤◌, ◌∷◌, ◌++◌, length, take, drop, reverse, nat_lt, false};
+ghost use Rattle.std.specs.Iterator.{IsFinite, IsNearerEnd, MakesProgress};
+ghost use Rattle.arraydeque_ring.specs.Fills.{Fills, Ends, GoesOn};
+ghost use Rattle.arraydeque_ring.specs.Gaps.{IsEmptyRun};
+ghost use Rattle.arraydeque_ring.specs.Loans.{with_run};
+ghost use Rattle.arraydeque_ring.specs.Places.{IsFilledRun};
+ghost use Rattle.arraydeque_ring.specs.Ring.{up_by, down_by};
 ghost use Rattle.arraydeque_ring.specs.Steps.{more_puts, more_takes};
 
 use super::Ring;
+use crate::slots::Slots;
 use crate::wrap::wrap_add;
+use std::mem::replace;
 
 impl<T> Ring<T> {
     /// Puts what the iterator gives behind the last item, one by one, while there is room. Returns
@@ -22,20 +27,18 @@ impl<T> Ring<T> {
               steps = more_puts (length xs) self.old.steps;
             }) }
         ensures within { length self.new.items ≤ self.new.capacity }
-        ensures goes { result ≡ false → I.can_next elements.new
-            × (IsFinite (I.remaining elements.old) → IsFinite (I.remaining elements.new)) }
+        ensures goes { GoesOn I.can_next I.remaining elements.old elements.new result }
     {
-        let (start, len, capacity) = (self.start, self.len(), self.capacity());
-        let to_end = capacity - start;
-        let ring = self.moved_out();
-        let (ring, ended) = ring.fill_up(start + len.min(to_end), capacity, elements);
-        if ended {
-            self.move_in(ring);
-            return true;
+        let capacity = self.slots.capacity();
+        let mut ended = false;
+        while !ended && self.len < capacity {
+            let from = wrap_add(self.start, self.len, capacity);
+            let run = (capacity - self.len).min(capacity - from);
+            let (slots, filled) = fill_up(self.slots.moved_out(), from, run, elements);
+            let _nothing = replace(&mut self.slots, slots);
+            self.len += filled;
+            ended = filled < run;
         }
-        let from = ring.len() - to_end;
-        let (ring, ended) = ring.fill_up(from, start, elements);
-        self.move_in(ring);
         ended
     }
 
@@ -53,26 +56,26 @@ impl<T> Ring<T> {
               steps = more_puts (length xs) self.old.steps;
             }) }
         ensures within { length self.new.items ≤ self.new.capacity }
-        ensures goes { result ≡ false → I.can_next elements.new
-            × (IsFinite (I.remaining elements.old) → IsFinite (I.remaining elements.new)) }
+        ensures goes { GoesOn I.can_next I.remaining elements.old elements.new result }
     {
-        let (start, len, capacity) = (self.start, self.len(), self.capacity());
-        let ring = self.moved_out();
-        let (ring, ended) = ring.fill_down(start, start.saturating_sub(capacity - len), elements);
-        if ended {
-            self.move_in(ring);
-            return true;
+        let capacity = self.slots.capacity();
+        let mut ended = false;
+        while !ended && self.len < capacity {
+            let from = wrap_add(self.start, capacity - 1, capacity) + 1;
+            let run = (capacity - self.len).min(from);
+            let (slots, filled) = fill_down(self.slots.moved_out(), from, run, elements);
+            let _nothing = replace(&mut self.slots, slots);
+            self.start = wrap_add(self.start, capacity - filled, capacity);
+            self.len += filled;
+            ended = filled < run;
         }
-        let len = ring.len();
-        let (ring, ended) = ring.fill_down(capacity, len, elements);
-        self.move_in(ring);
         ended
     }
 
     /// Puts what the iterator gives behind the last item of a full ring, one by one. Each takes the
     /// place of the first item, which is dropped.
     #[inline]
-    pub fn displace_first<I: Iterator<Item = T>>(&mut self, elements: I)
+    pub fn displace_first<I: Iterator<Item = T>>(&mut self, mut elements: I)
     where
         T: Drop,
         requires some { 0 < self.old.capacity }
@@ -85,19 +88,26 @@ impl<T> Ring<T> {
           steps = more_puts (length xs) (more_takes (length xs) self.old.steps);
         }) }
     {
-        let mut elements = elements;
-        let mut ring = self.moved_out();
+        let capacity = self.slots.capacity();
         let mut ended = false;
         while !ended {
-            (ring, ended) = ring.displace_up(&mut elements);
+            let run = capacity - self.start;
+            let (slots, displaced) = displace_up(
+                self.slots.moved_out(),
+                self.start,
+                run,
+                &mut elements,
+            );
+            let _nothing = replace(&mut self.slots, slots);
+            self.start = wrap_add(self.start, displaced, capacity);
+            ended = displaced < run;
         }
-        self.move_in(ring);
     }
 
     /// Puts what the iterator gives before the first item of a full ring, one by one. Each takes
     /// the place of the last item, which is dropped.
     #[inline]
-    pub fn displace_last<I: Iterator<Item = T>>(&mut self, elements: I)
+    pub fn displace_last<I: Iterator<Item = T>>(&mut self, mut elements: I)
     where
         T: Drop,
         requires some { 0 < self.old.capacity }
@@ -110,222 +120,141 @@ impl<T> Ring<T> {
           steps = more_puts (length xs) (more_takes (length xs) self.old.steps);
         }) }
     {
-        let mut elements = elements;
-        let mut ring = self.moved_out();
+        let capacity = self.slots.capacity();
         let mut ended = false;
         while !ended {
-            (ring, ended) = ring.displace_down(&mut elements);
+            let from = wrap_add(self.start, capacity - 1, capacity) + 1;
+            let (slots, displaced) = displace_down(
+                self.slots.moved_out(),
+                from,
+                from,
+                &mut elements,
+            );
+            let _nothing = replace(&mut self.slots, slots);
+            self.start = wrap_add(self.start, capacity - displaced, capacity);
+            ended = displaced < from;
         }
-        self.move_in(ring);
     }
+}
 
-    /// Does what [`Ring::displace_first`] does, at the places from the start to the region's end,
-    /// one after the other. Returns whether the iterator ended first.
-    #[inline]
-    fn displace_up<I: Iterator<Item = T>>(self, elements: &mut I) -> (Ring<T>, bool)
-    where
-        T: Drop,
-        requires some { 0 < self.capacity }
-        requires full { length self.items ≡ self.capacity }
-        requires may { I.can_next elements.old }
-        ensures filled { Fills I.next_gives elements.old elements.new (self.capacity - self.start)
-            result.1 (λ xs. result.0 ≡ record self {
-              items = drop (length xs) (self.items ++ xs);
-              start = up_by (length xs) self.start self.capacity;
-              steps = more_puts (length xs) (more_takes (length xs) self.steps);
-            }) }
-        ensures goes { result.1 ≡ false → I.can_next elements.new
-            × (IsFinite (I.remaining elements.old) → IsFinite (I.remaining elements.new)
-            × (size (I.remaining elements.new) < size (I.remaining elements.old))) }
-    {
-        let Ring {
-            slots,
-            start,
-            len,
-            alloc,
-        } = self;
-        let mut slots = slots;
-        let capacity = slots.capacity();
-        let mut place = start;
-        let mut ended = false;
-        while place < capacity {
-            let Some(element) = ask(elements) else {
-                ended = true;
-                break;
-            };
-            let first = slots.take(place);
-            slots.put(place, element);
-            drop(first);
-            place += 1;
-        }
-        let start = wrap_add(start, place - start, capacity);
-        let ring = Ring {
-            slots,
-            start,
-            len,
-            alloc,
+/// Puts what the iterator gives into the `run` empty places from `from` on, upwards. Returns how
+/// many came: fewer than `run` only where the iterator ended.
+#[inline]
+fn fill_up<T, I: Iterator<Item = T>>(
+    mut slots: Slots<T>,
+    from: usize,
+    run: usize,
+    elements: &mut I,
+) -> (Slots<T>, usize)
+    requires empty { IsEmptyRun slots.places from run }
+    requires may { I.can_next elements.old }
+    ensures filled { Fills I.next_gives elements.old elements.new run (nat_lt result.1 run)
+        (λ xs. (length xs ≡ result.1) × (result.0.places ≡ with_run from xs slots.places)) }
+    ensures steps { result.0.steps ≡ more_puts result.1 slots.steps }
+    ensures goes { GoesOn I.can_next I.remaining elements.old elements.new (nat_lt result.1 run) }
+{
+    // That no sum passes `usize::MAX` is known of the capacity.
+    let _capacity = slots.capacity();
+    for filled in 0..run {
+        let Some(element) = ask(elements) else {
+            return (slots, filled);
         };
-        (ring, ended)
+        slots.put(from + filled, element);
     }
+    (slots, run)
+}
 
-    /// Does what [`Ring::displace_last`] does, at the places from the last item's down to the
-    /// region's first, one after the other. Returns whether the iterator ended first.
-    #[inline]
-    fn displace_down<I: Iterator<Item = T>>(self, elements: &mut I) -> (Ring<T>, bool)
-    where
-        T: Drop,
-        requires some { 0 < self.capacity }
-        requires full { length self.items ≡ self.capacity }
-        requires may { I.can_next elements.old }
-        ensures filled { Fills I.next_gives elements.old elements.new
-            (place_of self.start (self.capacity - 1) self.capacity + 1)
-            result.1 (λ xs. result.0 ≡ record self {
-              items = take (length self.items) (reverse xs ++ self.items);
-              start = down_by (length xs) self.start self.capacity;
-              steps = more_puts (length xs) (more_takes (length xs) self.steps);
-            }) }
-        ensures goes { result.1 ≡ false → I.can_next elements.new
-            × (IsFinite (I.remaining elements.old) → IsFinite (I.remaining elements.new)
-            × (size (I.remaining elements.new) < size (I.remaining elements.old))) }
-    {
-        let Ring {
-            slots,
-            start,
-            len,
-            alloc,
-        } = self;
-        let mut slots = slots;
-        let mut start = start;
-        let capacity = slots.capacity();
-        let from = wrap_add(start, capacity - 1, capacity) + 1;
-        let mut displaced = 0;
-        let mut ended = false;
-        while displaced < from {
-            let Some(element) = ask(elements) else {
-                ended = true;
-                break;
-            };
-            displaced += 1;
-            start = from - displaced;
-            let last = slots.take(start);
-            slots.put(start, element);
-            drop(last);
-        }
-        let ring = Ring {
-            slots,
-            start,
-            len,
-            alloc,
+/// Puts what the iterator gives into the `run` empty places below `from`, downwards. Returns how
+/// many came: fewer than `run` only where the iterator ended.
+#[inline]
+fn fill_down<T, I: Iterator<Item = T>>(
+    mut slots: Slots<T>,
+    from: usize,
+    run: usize,
+    elements: &mut I,
+) -> (Slots<T>, usize)
+    requires in_region { run ≤ from }
+    requires empty { IsEmptyRun slots.places (from - run) run }
+    requires may { I.can_next elements.old }
+    ensures filled { Fills I.next_gives elements.old elements.new run (nat_lt result.1 run)
+        (λ xs. (length xs ≡ result.1)
+        × (result.0.places ≡ with_run (from - result.1) (reverse xs) slots.places)) }
+    ensures steps { result.0.steps ≡ more_puts result.1 slots.steps }
+    ensures goes { GoesOn I.can_next I.remaining elements.old elements.new (nat_lt result.1 run) }
+{
+    for filled in 0..run {
+        let Some(element) = ask(elements) else {
+            return (slots, filled);
         };
-        (ring, ended)
+        slots.put(from - 1 - filled, element);
     }
+    (slots, run)
+}
 
-    /// Puts what the iterator gives behind the last item, into the places from `from` up to `end`,
-    /// as long as any is left. Returns whether the iterator ended before that.
-    #[inline]
-    fn fill_up<I: Iterator<Item = T>>(
-        self,
-        from: usize,
-        end: usize,
-        elements: &mut I,
-    ) -> (Ring<T>, bool)
-        requires in_order { from ≤ end }
-        requires in_region { end ≤ self.capacity }
-        requires room { length self.items + (end - from) ≤ self.capacity }
-        requires behind { let next = self.start + length self.items in
-            from < end → (from ≡ next) ⊎ (from + self.capacity ≡ next) }
-        requires may { I.can_next elements.old }
-        ensures filled { Fills I.next_gives elements.old elements.new (end - from) result.1
-            (λ xs. result.0 ≡ record self {
-              items = self.items ++ xs;
-              steps = more_puts (length xs) self.steps;
-            }) }
-        ensures goes { result.1 ≡ false → I.can_next elements.new
-            × (IsFinite (I.remaining elements.old) → IsFinite (I.remaining elements.new)) }
-    {
-        let Ring {
-            slots,
-            start,
-            len,
-            alloc,
-        } = self;
-        let mut slots = slots;
-        // That no sum passes `usize::MAX` is known of the capacity.
-        let _capacity = slots.capacity();
-        let mut place = from;
-        let mut ended = false;
-        while place < end {
-            let Some(element) = ask(elements) else {
-                ended = true;
-                break;
-            };
-            slots.put(place, element);
-            place += 1;
-        }
-        let len = len + (place - from);
-        let ring = Ring {
-            slots,
-            start,
-            len,
-            alloc,
+/// Puts what the iterator gives into the `run` filled places from `from` on, upwards, and drops
+/// what was there. Returns how many came: fewer than `run` only where the iterator ended.
+#[inline]
+fn displace_up<T: Drop, I: Iterator<Item = T>>(
+    mut slots: Slots<T>,
+    from: usize,
+    run: usize,
+    elements: &mut I,
+) -> (Slots<T>, usize)
+    requires some { 0 < run }
+    requires filled { IsFilledRun slots.places from run }
+    requires may { I.can_next elements.old }
+    requires ends { IsFinite (I.remaining elements.old) }
+    ensures filled { Fills I.next_gives elements.old elements.new run (nat_lt result.1 run)
+        (λ xs. (length xs ≡ result.1) × (result.0.places ≡ with_run from xs slots.places)) }
+    ensures steps { result.0.steps ≡ more_puts result.1 (more_takes result.1 slots.steps) }
+    ensures goes { nat_lt result.1 run ≡ false →
+        IsNearerEnd I.can_next I.remaining elements.old elements.new }
+{
+    // That no sum passes `usize::MAX` is known of the capacity.
+    let _capacity = slots.capacity();
+    for displaced in 0..run {
+        let Some(element) = ask(elements) else {
+            return (slots, displaced);
         };
-        (ring, ended)
+        let place = from + displaced;
+        let first = slots.take(place);
+        slots.put(place, element);
+        drop(first);
     }
+    (slots, run)
+}
 
-    /// Puts what the iterator gives before the first item, into the places below `from` down to
-    /// `end`, as long as any is left. Returns whether the iterator ended before that.
-    #[inline]
-    fn fill_down<I: Iterator<Item = T>>(
-        self,
-        from: usize,
-        end: usize,
-        elements: &mut I,
-    ) -> (Ring<T>, bool)
-        requires in_order { end ≤ from }
-        requires in_region { from ≤ self.capacity }
-        requires room { length self.items + (from - end) ≤ self.capacity }
-        requires before { end < from → (from ≡ self.start) ⊎ (from ≡ self.start + self.capacity) }
-        requires may { I.can_next elements.old }
-        ensures filled { Fills I.next_gives elements.old elements.new (from - end) result.1
-            (λ xs. result.0 ≡ record self {
-              items = reverse xs ++ self.items;
-              start = down_by (length xs) self.start self.capacity;
-              steps = more_puts (length xs) self.steps;
-            }) }
-        ensures reached { result.1 ≡ false → from ≡ self.start → result.0.start ≡ end }
-        ensures goes { result.1 ≡ false → I.can_next elements.new
-            × (IsFinite (I.remaining elements.old) → IsFinite (I.remaining elements.new)) }
-    {
-        let Ring {
-            slots,
-            start,
-            len,
-            alloc,
-        } = self;
-        let mut slots = slots;
-        let mut start = start;
-        // That no sum passes `usize::MAX` is known of the capacity.
-        let _capacity = slots.capacity();
-        let mut filled = 0;
-        let mut ended = false;
-        while filled < from - end {
-            let Some(element) = ask(elements) else {
-                ended = true;
-                break;
-            };
-            filled += 1;
-            start = from - filled;
-            slots.put(start, element);
-        }
-        let len = len + filled;
-        let ring = Ring {
-            slots,
-            start,
-            len,
-            alloc,
+/// Puts what the iterator gives into the `run` filled places below `from`, downwards, and drops
+/// what was there. Returns how many came: fewer than `run` only where the iterator ended.
+#[inline]
+fn displace_down<T: Drop, I: Iterator<Item = T>>(
+    mut slots: Slots<T>,
+    from: usize,
+    run: usize,
+    elements: &mut I,
+) -> (Slots<T>, usize)
+    requires some { 0 < run }
+    requires in_region { run ≤ from }
+    requires filled { IsFilledRun slots.places (from - run) run }
+    requires may { I.can_next elements.old }
+    requires ends { IsFinite (I.remaining elements.old) }
+    ensures filled { Fills I.next_gives elements.old elements.new run (nat_lt result.1 run)
+        (λ xs. (length xs ≡ result.1)
+        × (result.0.places ≡ with_run (from - result.1) (reverse xs) slots.places)) }
+    ensures steps { result.0.steps ≡ more_puts result.1 (more_takes result.1 slots.steps) }
+    ensures goes { nat_lt result.1 run ≡ false →
+        IsNearerEnd I.can_next I.remaining elements.old elements.new }
+{
+    for displaced in 0..run {
+        let Some(element) = ask(elements) else {
+            return (slots, displaced);
         };
-        (ring, ended)
+        let place = from - 1 - displaced;
+        let last = slots.take(place);
+        slots.put(place, element);
+        drop(last);
     }
+    (slots, run)
 }
 
 /// Asks an iterator once.

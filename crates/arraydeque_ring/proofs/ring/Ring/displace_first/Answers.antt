@@ -1,23 +1,51 @@
-use Rattle.std.proofs.Common.{refl, ap, ◌∙◌}
-use Rattle.arraydeque_ring.proofs.fills.{
-  Displaced.{displaced_first, displaced_first-none, displaced_first-both},
-  FromIterator.{Fills-none, Fills-both},
+use Rattle.std.proofs.Common.{subst, ◌∙◌, arith}
+use Rattle.arraydeque_ring.proofs.{
+  fills.{
+    Displaced.{displaced_first-none, displaced_first-both, displaced_first-full},
+    FromIterator.{Fills-none, Fills-both, Ends-fills},
+    Laying.{filled_first, laid_first},
+  },
+  places.Opened.{Opened, opened, closed, kept},
 }
 use Rattle.arraydeque_ring.proofs.ring.Ring.displace_first.Goals as goal
 
 pub loop-ended-init : goal.loop-ended-init
 loop-ended-init g c = record {
-  so_far = (0, Fills-none _ _ _ _ refl (displaced_first-none c.moved_out-ring.result));
+  so_far = (
+    0,
+    Fills-none _ _ _ (subst (Opened c.self.inside) (displaced_first-none c.args.self.now)
+        (opened c.self.inside c.self.invariant c.self.view_is)),
+  );
   goes = λ _. (c.requires.may, c.requires.ends);
 }
 
+pub displace_up-slots-requires-clause-filled : goal.displace_up-slots-requires-clause-filled
+displace_up-slots-requires-clause-filled g c =
+    let all = c.capacity-capacity.ensures ∙ (opened c.self.inside c.self.invariant c.self.view_is).laid.long in
+    let was = c.loop-ended.invariant.so_far.1 in
+    rw c.moved_out.ensures.region (filled_first was.holds all (omega (arith, all, c.requires.some)) 0
+    (displaced_first-full was.items c.args.self.now c.requires.full))
+
 pub loop-ended-preserved : goal.loop-ended-preserved
 loop-ended-preserved g c =
-    let was = c.loop-ended.invariant in let now = c.displace_up.ensures in record {
+    let all = c.capacity-capacity.ensures ∙ (opened c.self.inside c.self.invariant c.self.view_is).laid.long in
+    let was = c.loop-ended.invariant.so_far.1 in let out = c.displace_up-slots in
+    let now = out.ensures.filled in record {
       so_far = (
         _,
-        Fills-both _ was.so_far.1 now.filled _ _ c.loop-ended-test.true refl
-            (λ xs ys one two. two ∙ ap (displaced_first ys) one ∙ displaced_first-both xs ys c.moved_out-ring.result),
+        Fills-both _ was now _ c.loop-ended-test.true (subst (Opened _)
+            (displaced_first-both was.items now.items c.args.self.now)
+            (laid_first was.holds all (omega (arith, all, c.requires.some)) out.result.1 now.items now.holds.0
+            (displaced_first-full was.items c.args.self.now c.requires.full) (omega (arith, now.at_most, now.holds.0))
+            c.wrap_add-self-inside.ensures
+            (rw (c.replace-nothing.ensures.after, ← c.moved_out.ensures.region) now.holds.1)
+            (rw (c.replace-nothing.ensures.after, ← c.moved_out.ensures.region) out.ensures.steps))),
       );
-      goes = λ more. let goes = now.goes more in (goes.0, (goes.1 (was.goes c.loop-ended-test.true).1).0);
+      goes = λ more. let goes = out.ensures.goes more in (goes.0, goes.1);
     }
+
+pub invariant_of-self : goal.invariant_of-self
+invariant_of-self g c = kept c.loop-ended.invariant.so_far.1.holds
+
+pub returns : goal.returns
+returns g c = Ends-fills _ c.loop-ended.invariant.so_far.1 c.loop-ended-test.false (λ xs. closed)

@@ -1,11 +1,11 @@
 use Rattle.std.{proofs.Common.{◌≡◌, ℕ, suc, if◌then◌else◌, false}, specs.Iterator.{IsFinite, size}}
-use Rattle.arraydeque_ring.{specs.Fills.Fills, proofs.fills.Displaced.displaced_first}
+use Rattle.arraydeque_ring.{specs.Fills.Fills, proofs.{fills.Displaced.displaced_first, places.Opened.Opened}}
 use Rattle.arraydeque_ring.proofs.ring.Ring.displace_first.Given as goal
 
 abbrev pub invariant-loop-ended : goal.invariant-loop-ended
 invariant-loop-ended g l = record {
   so_far : (n : ℕ) × Fills g.I.Iterator.next_gives l.fn.elements l.elements n l.ended
-      (λ xs. l.ring ≡ displaced_first xs l.initial.ring);
+      (λ xs. Opened l.self-inside (displaced_first xs l.fn.self));
   goes : l.ended ≡ false → g.I.Iterator.can_next l.elements × IsFinite (g.I.Iterator.remaining l.elements);
 }
 

@@ -1,23 +1,66 @@
-use Rattle.std.proofs.{Common.{length, ap, ◌∙◌, arith}, lemmas.List.{length-append}}
-use Rattle.arraydeque_ring.{
-  specs.Ring.RingState,
-  proofs.fills.{FromIterator.{Fills-both}, InRows.{filled_back, filled_back-both}},
+use Rattle.std.proofs.{Common.{◌+◌, refl, subst, ◌∙◌, arith}, lemmas.List.length-append}
+use Rattle.arraydeque_ring.proofs.{
+  fills.{
+    FromIterator.{Fills-none, Fills-both, Fills-as, Fills-within},
+    InRows.{back_none, filled_back-both},
+    Laying.{empty_behind, laid_back},
+  },
+  places.Opened.{Opened, opened, closed, kept},
 }
 use Rattle.arraydeque_ring.proofs.ring.Ring.fill_back.Goals as goal
 
-pub returns-clause-filled : goal.returns-clause-filled
-returns-clause-filled g c =
-    let value = c.moved_out-ring.ensures.value in
-    let first = c.fill_up-ring.ensures.filled in
-    let long = λ (r : RingState g.row.T.Denot). length r.items in
-    Fills-both g.I.Iterator.next_gives first c.fill_up-ring-2.ensures.filled _ _ c.if-ended.false
-    (omega (
-      arith,
-      ap (λ (r : RingState g.row.T.Denot). r.start) c.self.view_is,
-      ap long first.holds,
-      ap long value,
-      length-append c.moved_out-ring.result.items first.items,
-      (first.all c.if-ended.false).1,
-    ))
-    (λ xs ys one two. c.move_in-2.ensures ∙ two ∙ ap (filled_back ys) (one ∙ ap (filled_back xs) value)
-    ∙ filled_back-both xs ys c.args.self.now)
+pub loop-ended-init : goal.loop-ended-init
+loop-ended-init g c = record {
+  so_far = (0, Fills-none _ _ _ (back_none (opened c.self.inside c.self.invariant c.self.view_is)));
+  goes = λ _. (c.requires, λ f. f);
+}
+
+pub fill_up-slots-requires-clause-empty : goal.fill_up-slots-requires-clause-empty
+fill_up-slots-requires-clause-empty g c =
+    let all = c.capacity-capacity.ensures ∙ (opened c.self.inside c.self.invariant c.self.view_is).laid.long in
+    rw c.moved_out.ensures.region (empty_behind c.loop-ended.invariant.so_far.1.holds all (omega arith) c.min-run.result
+    c.wrap_add-from.result c.wrap_add-from.ensures (omega (arith, c.min-run.ensures)) (omega (arith, c.min-run.ensures)))
+
+pub loop-ended-preserved : goal.loop-ended-preserved
+loop-ended-preserved g c =
+    let all = c.capacity-capacity.ensures ∙ (opened c.self.inside c.self.invariant c.self.view_is).laid.long in
+    let was = c.loop-ended.invariant in let some = c.loop-ended-test.true in let fill = c.fill_up-slots in
+    let xs = was.so_far.1.items in let now = fill.ensures.filled in record {
+      so_far = (
+        _,
+        Fills-both _ was.so_far.1 now _ some (subst (Opened _) (filled_back-both xs now.items c.args.self.now)
+            (laid_back was.so_far.1.holds all (omega arith) fill.result.1 c.wrap_add-from.result c.wrap_add-from.ensures
+            (omega (arith, c.min-run.ensures, now.holds.0, now.at_most))
+            (omega (arith, c.min-run.ensures, now.holds.0, now.at_most)) now.items now.holds.0
+            (rw (c.replace-nothing.ensures.after, ← c.moved_out.ensures.region) now.holds.1)
+            (rw (c.replace-nothing.ensures.after, ← c.moved_out.ensures.region) fill.ensures.steps))),
+      );
+      goes = λ more. let goes = fill.ensures.goes more in (goes.0, λ f. goes.1 ((was.goes some).1 f));
+    }
+
+pub invariant_of-self : goal.invariant_of-self
+invariant_of-self g c = kept c.loop-ended.invariant.so_far.1.holds
+
+pub invariant_of-self-in-loop-ended : goal.invariant_of-self-in-loop-ended
+invariant_of-self-in-loop-ended g c = kept c.loop-ended.invariant.so_far.1.holds
+
+pub returns-else-self-capacity-clause-filled : goal.returns-else-self-capacity-clause-filled
+returns-else-self-capacity-clause-filled g c =
+    let all = c.capacity-capacity.ensures ∙ (opened c.self.inside c.self.invariant c.self.view_is).laid.long in
+    let was = c.loop-ended.invariant.so_far.1 in
+    Fills-as _ was _ _ (omega (arith, all, was.holds.len, was.holds.laid.within, length-append c.args.self.now.items was.items,
+    (was.all c.loop-ended-test.true).1)) (λ xs. closed)
+
+pub returns-else-self-capacity-clause-within : goal.returns-else-self-capacity-clause-within
+returns-else-self-capacity-clause-within g c =
+    (opened c.loop-ended.self-inside (kept c.loop-ended.invariant.so_far.1.holds) refl).laid.within
+
+pub returns-after-loop-ended-clause-filled : goal.returns-after-loop-ended-clause-filled
+returns-after-loop-ended-clause-filled g c =
+    let was = c.loop-ended.invariant.so_far.1 in
+    Fills-as _ (Fills-within _ was _ c.loop-ended-test.false (omega
+    (arith, was.holds.laid.within, length-append c.args.self.now.items was.items))) _ _ refl (λ xs. closed)
+
+pub returns-after-loop-ended-clause-within : goal.returns-after-loop-ended-clause-within
+returns-after-loop-ended-clause-within g c =
+    (opened c.loop-ended.self-inside (kept c.loop-ended.invariant.so_far.1.holds) refl).laid.within

@@ -1,0 +1,13 @@
+use Rattle.std.{proofs.Common.{◌≡◌, ◌+◌, ◌-◌, ◌≤◌, length, reverse, false}, specs.Iterator.{IsFinite, size}}
+use Rattle.arraydeque_ring.specs.{Fills.Fills, Loans.with_run, Steps.{more_puts, more_takes}}
+use Rattle.arraydeque_ring.proofs.ring.fill.displace_down.Given as goal
+
+abbrev pub invariant-loop-displaced : goal.invariant-loop-displaced
+invariant-loop-displaced g l = record {
+  filled : Fills g.I.Iterator.next_gives l.fn.elements l.elements l.displaced false (λ xs.
+      (length xs ≡ l.displaced) × (l.slots.places ≡ with_run (l.from - l.displaced) (reverse xs) l.fn.slots.places));
+  steps : l.slots.steps ≡ more_puts l.displaced (more_takes l.displaced l.fn.slots.steps);
+  may : g.I.Iterator.can_next l.elements;
+  ends : IsFinite (g.I.Iterator.remaining l.elements);
+  nearer : size (g.I.Iterator.remaining l.elements) + l.displaced ≤ size (g.I.Iterator.remaining l.fn.elements);
+}
