@@ -2,4 +2,3 @@ pub mod Crossing
 pub mod Fewest
 pub mod GapMoves
 pub mod Gapped
-pub mod Slid

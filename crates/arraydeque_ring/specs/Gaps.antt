@@ -1,7 +1,7 @@
--- Runs of empty places, and what it means to move a run of values across one.
+-- Runs of empty places, and what it means to move one.
 use Rattle.std.specs.{
   Prelude.{◌≡◌, ℕ, ◌+◌, ◌≤◌, List, ◌++◌, length, take, drop, replicate, Option, None},
-  List.splice,
+  List.{insert_slice, remove_range, splice},
 }
 
 module _ {X : Type 0} where
@@ -17,3 +17,8 @@ module _ {X : Type 0} where
   -- the places, with nothing in the len from the index `at` on
   abbrev pub run_emptied : ℕ → ℕ → List (Option X) → List (Option X)
   run_emptied at len ps = splice ps at (at + len) (replicate len None)
+
+  -- the places, with the `gap` empty ones from the index `from` on moved to the index `to`
+  abbrev pub gap_moved : ℕ → ℕ → ℕ → List (Option X) → List (Option X)
+  gap_moved from to gap ps =
+      insert_slice (remove_range ps from (from + gap)) to (replicate gap None)

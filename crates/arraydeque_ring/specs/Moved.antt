@@ -37,10 +37,6 @@ module _ {X : Type 0} where
   abbrev pub IsFilledRound : ℕ → ℕ → List (Option X) → Type 0
   IsFilledRound from len ps = (k : ℕ) → k < len → IsFilled ps (place_of from k (length ps))
 
-  -- the len places from `from` on, round the end, hold nothing
-  abbrev pub IsEmptyRound : ℕ → ℕ → List (Option X) → Type 0
-  IsEmptyRound from len ps = (k : ℕ) → k < len → IsEmpty ps (place_of from k (length ps))
-
   -- each of the len places from dst on, round the end, is among the len from src on, or is empty
   abbrev pub IsFreeRound : ℕ → ℕ → ℕ → List (Option X) → Type 0
   IsFreeRound dst src len ps = (k : ℕ) → k < len →

@@ -1,91 +1,205 @@
--- A gap among the items of a ring is moved across a run of them, and so it is closed.
+-- A gap among the items of a ring is moved to an end of them, and so closed, or from there, and so opened.
 use Rattle.std.proofs.{
-  Common.{◌≡◌, ℕ, ◌+◌, ◌<◌, ◌≤◌, inl, inr, List, ◌++◌, length, take, drop, nat_lt, if◌then◌else◌, Option, arith},
-  lemmas.{
-    Bool.{cases_lt, lt-ltb, le-ltb, Decides.nat_tests},
-    List.{length-append, length-take-le, length-drop, take_all, drop_all},
-  },
+  Common.{◌≡◌, ℕ, ◌+◌, ◌-◌, ◌<◌, ◌≤◌, List, ◌++◌, length, take, drop, max, nat_lt, if◌then◌else◌, Option, None, refl, sym},
+  Common.{inl, inr, ap, ◌∙◌, arith},
+  lemmas.{Bool.{cases_lt, Decides.nat_tests}, List.{length-append, length-take-le, length-drop}},
 }
 use Rattle.arraydeque_ring.{
-  specs.{Moved.{IsFilledRound, IsEmptyRound, run_moved}, Ring.place_of},
+  specs.{
+    Gaps.{IsEmptyRun, gap_moved},
+    Places.{held_at, IsFilled, IsFilledRun},
+    Ring.{place_of, rotated},
+    Sides.{start_opened, start_closed},
+  },
   proofs.{
-    moved.Round.{Holds-moved},
-    gaps.Gapped.{Gapped, LaidOut-gap_first, LaidOut-gap_last},
+    gaps.{Crossing.{length-gap_moved, get_or-gap_moved, empty_at, filled_at}, Gapped.{Gapped, gapped}},
+    moved.Flat.same_places,
     places.{
-      Holds.{Holds-same, Holds-filled, Holds-empty},
+      Held.{filled_run_of, empty_run_of},
+      Holds.{Holds-of_rotated, Holds-rotated},
       Items.{items, slice_get_some},
-      LaidOut.LaidOut,
-      Rotated.{place_of-zero},
+      LaidOut.{LaidOut, LaidOut-by, holds},
+      Rotated.{place_of_cases, place_of-lt, place_of-place_of, length-rotated, get_or-rotated},
     },
   },
 }
 
+-- the start stays in the region
+pub start_closed-in : (i gap m n t : ℕ) → t < n → gap ≤ n → start_closed i gap m n t ≤ n - 1
+start_closed-in i gap m n t t_in le = grind (arith, nat_tests, place_of-lt t gap n (omega arith))
+
+pub start_opened-in : (i m n t : ℕ) → t < n → start_opened i m n t ≤ n - 1
+start_opened-in i m n t t_in = grind (arith, nat_tests, place_of-lt t (n - 1) n (omega arith))
+
+-- a gap and the values between it and the index that it moves to
+pub record MayMove {X : Type 0} (from to gap : ℕ) (ts : List (Option X)) : Type 0 where
+  pub empty : IsEmptyRun ts from gap
+  pub before : IsFilledRun ts to (from - to)
+  pub behind : IsFilledRun ts (from + gap) (to - from)
+
+pub may_move : {X : Type 0} (from to gap : ℕ) (ts : List (Option X)) → max from to + gap ≤ length ts
+    → ((x : ℕ) → from ≤ x → x < from + gap → held_at ts x ≡ None) → ((x : ℕ) → to ≤ x → x < from → IsFilled ts x)
+    → ((x : ℕ) → from + gap ≤ x → x < to + gap → IsFilled ts x) → MayMove from to gap ts
+may_move from to gap ts within none before behind = record {
+  empty = empty_run_of ts from gap (omega arith) none;
+  before = filled_run_of ts to (from - to) (omega arith) (λ x a b. before x a (omega arith));
+  behind = filled_run_of ts (from + gap) (to - from) (omega arith) (λ x a b. behind x a (omega arith));
+}
+
+-- read from the place j further on
+rotated_on : {X : Type 0} (t j x : ℕ) (ps : List (Option X)) → t < length ps → j ≤ length ps → x < length ps
+    → held_at (rotated (place_of t j (length ps)) ps) x ≡ held_at (rotated t ps) (place_of j x (length ps))
+rotated_on t j x ps t_in j_in lt =
+    let n = length ps in
+    let at = place_of-lt t j n (omega arith) in
+    let on = place_of-lt j x n (omega arith) in
+    get_or-rotated (place_of t j n) x n ps None refl (omega arith) lt ∙ ap (held_at ps) (place_of-place_of t j x n)
+    ∙ sym (get_or-rotated t (place_of j x n) n ps None refl (omega arith) on)
+
+-- items with a gap behind them, which moves to the index i
+module _ {X : Type 0} (t i len : ℕ) (ps : List (Option X)) (t_in : t < length ps) (le : i ≤ len)
+    (room : len < length ps) (filled : IsFilledRun (rotated t ps) 0 len)
+    (empty : IsEmptyRun (rotated t ps) len (length ps - len)) where
+  pub opens_up : MayMove len i 1 (rotated t ps)
+  opens_up = may_move len i 1 (rotated t ps) (omega (arith, empty.0))
+      (λ x a b. empty_at (rotated t ps) len (length ps - len) x empty a (omega arith))
+      (λ x a b. filled_at (rotated t ps) 0 len x filled (omega arith) (omega arith)) (λ x a b. absurd (omega arith))
+
+  -- or which stands before them, from a start one place down
+  abbrev down : List (Option X)
+  down = rotated (place_of t (length ps - 1) (length ps)) ps
+
+  down_at : (x : ℕ) → x < length ps
+      → held_at down x ≡ (if nat_lt 0 x then held_at (rotated t ps) (x - 1) else held_at (rotated t ps) (length ps - 1))
+  down_at x lt = rotated_on t (length ps - 1) x ps t_in (omega arith) lt
+      ∙ grind (arith, nat_tests, place_of_cases (length ps - 1) x (length ps) (omega arith))
+
+  none : (x : ℕ) → len ≤ x → x < length ps → held_at (rotated t ps) x ≡ None
+  none x a b = empty_at (rotated t ps) len (length ps - len) x empty a (omega arith)
+
+  pub opens_down : MayMove 0 i 1 down
+  opens_down = may_move 0 i 1 down (omega (arith, length-rotated (place_of t (length ps - 1) (length ps)) ps))
+      (λ x a b. down_at x (omega arith) ∙ grind (arith, nat_tests, none (length ps - 1)))
+      (λ x a b. absurd (omega arith))
+      (λ x a b. let v = filled_at (rotated t ps) 0 len (x - 1) filled (omega arith) (omega arith) in
+      (v.0, down_at x (omega arith) ∙ grind (arith, nat_tests, v.1)))
+
+  pub opened_down : gap_moved 0 i 1 down ≡ gap_moved len i 1 (rotated t ps)
+  opened_down =
+      let wide = length-rotated t ps in
+      let wide_down = length-rotated (place_of t (length ps - 1) (length ps)) ps in
+      let long = length-gap_moved len i 1 (rotated t ps) (omega (arith, wide)) (omega (arith, wide)) in
+      same_places _ _ (length-gap_moved 0 i 1 down (omega (arith, wide_down)) (omega (arith, wide_down))
+      ∙ wide_down ∙ sym (long ∙ wide)) (λ x lt.
+      get_or-gap_moved 0 i 1 down (omega (arith, wide_down)) (omega (arith, wide_down)) x
+      ∙ grind (arith, nat_tests, down_at x (omega (arith, long, wide)), down_at (x + 1), none x, none (x - 1))
+      ∙ sym (get_or-gap_moved len i 1 (rotated t ps) (omega (arith, wide)) (omega (arith, wide)) x))
+
+-- items in two parts, and the gap between them, which moves behind them
+module _ {X : Type 0} (t i gap m : ℕ) (ps : List (Option X)) (t_in : t < length ps) (within : i + gap + m ≤ length ps)
+    (before : IsFilledRun (rotated t ps) 0 i) (empty : IsEmptyRun (rotated t ps) i gap)
+    (behind : IsFilledRun (rotated t ps) (i + gap) m)
+    (rest : IsEmptyRun (rotated t ps) (i + gap + m) (length ps - (i + gap + m))) where
+  pub closes_down : MayMove i (i + m) gap (rotated t ps)
+  closes_down = may_move i (i + m) gap (rotated t ps) (omega (arith, rest.0))
+      (λ x a b. empty_at (rotated t ps) i gap x empty a b) (λ x a b. absurd (omega arith))
+      (λ x a b. filled_at (rotated t ps) (i + gap) m x behind a (omega arith))
+
+  -- or before them, so that they begin behind it
+  pub closes_up : MayMove i 0 gap (rotated t ps)
+  closes_up = may_move i 0 gap (rotated t ps) (omega (arith, rest.0))
+      (λ x a b. empty_at (rotated t ps) i gap x empty a b)
+      (λ x a b. filled_at (rotated t ps) 0 i x before a (omega arith)) (λ x a b. absurd (omega arith))
+
+  pub closed_up : (qs : List (Option X)) → rotated t qs ≡ gap_moved i 0 gap (rotated t ps)
+      → rotated (place_of t gap (length ps)) qs ≡ gap_moved i (i + m) gap (rotated t ps)
+  closed_up qs is =
+      let n = length ps in
+      let wide = length-rotated t ps in
+      let long = length-gap_moved i (i + m) gap (rotated t ps) (omega (arith, wide)) (omega (arith, wide)) in
+      let same : length qs ≡ n = sym (length-rotated t qs) ∙ ap length is
+      ∙ length-gap_moved i 0 gap (rotated t ps) (omega (arith, wide)) (omega (arith, wide)) ∙ wide in
+      let past : (x : ℕ) → i + gap + m ≤ x → x < n → held_at (rotated t ps) x ≡ None =
+      λ x a b. empty_at (rotated t ps) (i + gap + m) (n - (i + gap + m)) x rest a (omega arith) in
+      same_places _ _ (length-rotated (place_of t gap n) qs ∙ same ∙ sym (long ∙ wide)) (λ x lt.
+      let x_in : x < n = omega (arith, long, wide) in
+      (rw same at (rotated_on t gap x qs (omega (arith, same)) (omega (arith, same)) (omega (arith, same))))
+      ∙ ap (λ l. held_at l (place_of gap x n)) is
+      ∙ get_or-gap_moved i 0 gap (rotated t ps) (omega (arith, wide)) (omega (arith, wide)) (place_of gap x n)
+      ∙ grind (arith, nat_tests, place_of_cases gap x n (omega arith), past x, past (x + gap))
+      ∙ sym (get_or-gap_moved i (i + m) gap (rotated t ps) (omega (arith, wide)) (omega (arith, wide)) x))
+
+-- what the ring's lists say of it
 module _ {X : Type 0} {n t : ℕ} {xs : List X} {gap : ℕ} {ys : List X} {ps : List (Option X)}
     (p : Gapped n t xs gap ys ps) where
-  pub gap_empty : (i : ℕ) → length xs ≡ i → IsEmptyRound (place_of t i (length ps)) gap ps
-  gap_empty i front = let within = p.within in
-      Holds-empty p.reads i gap (omega arith) (λ k lt. grind (arith, nat_tests))
+  gap_at : (x : ℕ) → x < n → held_at (rotated t ps) x ≡ gapped xs gap ys x
+  gap_at x lt = Holds-rotated p.reads x lt
 
-  -- the items on either side
-  pub filled_before : (i m : ℕ) → i + m ≤ length xs → IsFilledRound (place_of t i (length ps)) m ps
-  filled_before i m le = let within = p.within in Holds-filled p.reads i m (omega arith)
-      (λ k lt. let some = slice_get_some xs (i + k) (omega arith) in (some.0, grind (arith, nat_tests, some.1)))
+  -- what `close_gap` asks
+  pub record Closes (i m : ℕ) : Type 0 where
+    pub in_region : t < length ps
+    pub within : i + gap + m ≤ length ps
+    pub before : IsFilledRun (rotated t ps) 0 i
+    pub empty : IsEmptyRun (rotated t ps) i gap
+    pub behind : IsFilledRun (rotated t ps) (i + gap) m
+    pub rest : IsEmptyRun (rotated t ps) (i + gap + m) (length ps - (i + gap + m))
 
-  pub filled_behind : (i m : ℕ) → length xs + gap ≡ i → m ≤ length ys → IsFilledRound (place_of t i (length ps)) m ps
-  filled_behind i m here le = let within = p.within in Holds-filled p.reads i m (omega arith)
-      (λ k lt. let some = slice_get_some ys k (omega arith) in (some.0, grind (arith, nat_tests, some.1)))
-
-  -- the first m items behind the gap move before it
-  pub Gapped-earlier : (i m : ℕ) → t < n → length xs ≡ i → m ≤ length ys → Gapped n t (xs ++ take m ys) gap (drop m ys)
-      (run_moved (place_of t i (length ps)) (place_of t (i + gap) (length ps)) m ps)
-  Gapped-earlier i m t_in front le =
-      let within = p.within in let some = length-take-le m ys le in let long = length-append xs (take m ys) in
+  pub may_close : (i m : ℕ) → 0 < gap → length xs ≡ i → length ys ≡ m → Closes i m
+  may_close i m some front back =
+      let within = p.within in
+      let long = p.reads.long in
+      let wide = length-rotated t ps in
       record {
-        within = omega (arith, length-drop m ys);
-        reads = Holds-same (Holds-moved p.reads i (i + gap) m t_in (omega arith) (omega arith))
-            (λ k lt. grind (arith, nat_tests, items));
-      }
-
-  -- those from the index i on before the gap move behind it
-  pub Gapped-later : (i m : ℕ) → t < n → i + m ≡ length xs → Gapped n t (take i xs) gap (drop i xs ++ ys)
-      (run_moved (place_of t (i + gap) (length ps)) (place_of t i (length ps)) m ps)
-  Gapped-later i m t_in rest =
-      let within = p.within in let front = length-take-le i xs (omega arith) in let behind = length-drop i xs in
-      let long = length-append (drop i xs) ys in
-      record {
+        in_region = omega (arith, p.reads.in_region);
         within = omega arith;
-        reads = Holds-same (Holds-moved p.reads (i + gap) i m t_in (omega arith) (omega arith))
-            (λ k lt. grind (arith, nat_tests, items));
+        before = filled_run_of _ 0 i (omega arith) (λ x a b. let v = slice_get_some xs x (omega arith) in
+            (v.0, gap_at x (omega arith) ∙ grind (arith, nat_tests, v.1)));
+        empty = empty_run_of _ i gap (omega arith) (λ x a b. gap_at x (omega arith) ∙ grind (arith, nat_tests));
+        behind = filled_run_of _ (i + gap) m (omega arith) (λ x a b.
+            let v = slice_get_some ys (x - (length xs + gap)) (omega arith) in
+            (v.0, gap_at x (omega arith) ∙ grind (arith, nat_tests, v.1)));
+        rest = empty_run_of _ (i + gap + m) (length ps - (i + gap + m)) (omega arith)
+            (λ x a b. gap_at x (omega arith) ∙ grind (arith, nat_tests, items));
       }
 
-  -- the gap is closed, whichever side is moved
-  pub LaidOut-closed : (i m : ℕ) → t < n → length xs ≡ i → length ys ≡ m
-      → LaidOut n (if nat_lt i m then place_of t gap n else t) (xs ++ ys) (if nat_lt i m then run_moved (place_of t gap
-      (length ps)) t i ps else run_moved (place_of t i (length ps)) (place_of t (i + gap) (length ps)) m ps)
-  LaidOut-closed i m t_in front behind =
-      let start = place_of-zero t (length ps) (omega (arith, p.reads.long)) in let zero : 0 + gap ≡ gap = omega arith in
-      elim (cases_lt i m) [
-        | inl fewer ↦
-            rw (lt-ltb i m fewer) (LaidOut-gap_first gap (rw (start, zero) at (Gapped-later 0 i t_in (omega arith))))
-        | inr more ↦ rw (le-ltb i m more) (rw (take_all m ys (omega arith)) at
-            (LaidOut-gap_last (rw (drop_all m ys (omega arith)) at (Gapped-earlier i m t_in front (omega arith)))))
-      ]
+  -- and what it leaves
+  pub LaidOut-closed : (i m s : ℕ) (qs : List (Option X)) → length xs ≡ i → length ys ≡ m → s ≤ n - 1
+      → rotated s qs ≡ gap_moved i (i + m) gap (rotated t ps) → LaidOut n s (xs ++ ys) qs
+  LaidOut-closed i m s qs front back s_in is =
+      let within = p.within in
+      let long = p.reads.long in
+      let wide = length-rotated t ps in
+      let many = length-append xs ys in
+      LaidOut-by (omega arith) (Holds-of_rotated (sym (length-rotated s qs) ∙ ap length is
+      ∙ length-gap_moved i (i + m) gap (rotated t ps) (omega arith) (omega arith) ∙ wide ∙ long) s_in (λ x lt.
+      ap (λ l. held_at l x) is
+      ∙ get_or-gap_moved i (i + m) gap (rotated t ps) (omega arith) (omega arith) x
+      ∙ (let moved : x + gap - (length xs + gap) ≡ x - length xs = omega arith in
+      grind (arith, nat_tests, items, gap_at x lt, gap_at (x + gap), moved))))
 
--- what `close_gap` asks
-pub record Closes {X : Type 0} (t i gap m : ℕ) (ps : List (Option X)) : Type 0 where
-  pub in_region : t < length ps
-  pub within : i + gap + m ≤ length ps
-  pub before : IsFilledRound t i ps
-  pub empty : IsEmptyRound (place_of t i (length ps)) gap ps
-  pub behind : IsFilledRound (place_of t (i + gap) (length ps)) m ps
+-- the gap that `open_gap` leaves
+pub Gapped-opened : {X : Type 0} {n t : ℕ} {xs : List X} {ps : List (Option X)} (i s : ℕ) (qs : List (Option X))
+    → LaidOut n t xs ps → i ≤ length xs → length xs < n → s ≤ n - 1
+    → rotated s qs ≡ gap_moved (length xs) i 1 (rotated t ps) → Gapped n s (take i xs) 1 (drop i xs) qs
+Gapped-opened {n = n} {t = t} {xs = xs} {ps = ps} i s qs l le room s_in is =
+    let long = l.long in
+    let wide = length-rotated t ps in
+    let front = length-take-le i xs le in
+    record {
+      within = omega (arith, length-drop i xs);
+      reads = Holds-of_rotated (sym (length-rotated s qs) ∙ ap length is
+          ∙ length-gap_moved (length xs) i 1 (rotated t ps) (omega arith) (omega arith) ∙ wide ∙ long) s_in (λ x lt.
+          ap (λ l. held_at l x) is
+          ∙ get_or-gap_moved (length xs) i 1 (rotated t ps) (omega arith) (omega arith) x ∙ elim (cases_lt i x) [
+            | inl past ↦ let same : i + (x - (i + 1)) ≡ x - 1 = omega arith in
+                grind (arith, nat_tests, items, Holds-rotated (holds l) x lt, Holds-rotated (holds l) (x - 1), same)
+            | inr low ↦ grind (arith, nat_tests, items, Holds-rotated (holds l) x lt)
+          ]);
+    }
 
-pub may_close : {X : Type 0} {n t : ℕ} {xs : List X} {gap : ℕ} {ys : List X} {ps : List (Option X)} (i m : ℕ)
-    → Gapped n t xs gap ys ps → 0 < gap → length xs ≡ i → length ys ≡ m → Closes t i gap m ps
-may_close {t = t} {gap = gap} {ps = ps} i m p some front behind = let within = p.within in record {
-  in_region = omega (arith, p.reads.long, p.reads.in_region);
-  within = omega (arith, p.reads.long);
-  before = rw (place_of-zero t (length ps) (omega (arith, p.reads.long, p.reads.in_region))) at
-      (filled_before p 0 i (omega arith));
-  empty = gap_empty p i front;
-  behind = filled_behind p (i + gap) m (omega arith) (omega arith);
-}
+-- what it asks of a list laid out
+pub IsEmptyRun-rotated : {X : Type 0} {n t : ℕ} {xs : List X} {ps : List (Option X)} (i len : ℕ) → LaidOut n t xs ps
+    → length xs ≤ i → i + len ≤ n → IsEmptyRun (rotated t ps) i len
+IsEmptyRun-rotated {t = t} {ps = ps} i len l past le = empty_run_of (rotated t ps) i len
+    (omega (arith, length-rotated t ps, l.long)) (λ x a b. Holds-rotated (holds l) x (omega arith)
+    ∙ grind (arith, nat_tests, items))

@@ -16,7 +16,7 @@ use Rattle.arraydeque_ring.{
 }
 
 -- what is read at an index: one of the items xs, nothing in the gap, and one of the items ys behind it
-abbrev gapped : {X : Type 0} → List X → ℕ → List X → ℕ → Option X
+abbrev pub gapped : {X : Type 0} → List X → ℕ → List X → ℕ → Option X
 gapped xs gap ys k = if nat_lt k (length xs) then slice_get xs k
     else (if nat_lt k (length xs + gap) then None else slice_get ys (k - (length xs + gap)))
 
@@ -27,21 +27,6 @@ pub record Gapped {X : Type 0} (n t : ℕ) (xs : List X) (gap : ℕ) (ys : List 
   pub reads : Holds n t (gapped xs gap ys) ps
 
 module _ {X : Type 0} {n t : ℕ} {xs : List X} {ps : List (Option X)} (l : LaidOut n t xs ps) where
-  -- a gap of one place behind the items
-  pub Gapped-behind : length xs < n → Gapped n t xs 1 [] ps
-  Gapped-behind room = record {
-    within = omega arith;
-    reads = Holds-same (holds l) (λ k lt. grind (arith, nat_tests, items));
-  }
-
-  -- or before them, from a start one place down
-  pub Gapped-before : length xs < n → Gapped n (place_of t (n - 1) n) [] 1 xs ps
-  Gapped-before room = record {
-    within = omega arith;
-    reads = Holds-from (holds l) (n - 1) (omega arith) (omega arith)
-        (λ k lt. grind (arith, nat_tests, items, place_of_cases (n - 1) k n));
-  }
-
   -- a gap where items are taken out
   pub Gapped-taken : (from gap : ℕ) (qs : List (Option X)) → from + gap ≤ length xs
       → rotated t qs ≡ run_emptied from gap (rotated t ps) → Gapped n t (take from xs) gap (drop (from + gap) xs) qs

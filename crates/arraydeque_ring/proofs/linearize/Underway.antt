@@ -1,22 +1,22 @@
 -- A region while its list is laid in one piece: the first values are in their places, and two runs behind them have
 -- still to change places.
 use Rattle.std.proofs.{
-  Common.{◌≡◌, ℕ, ◌+◌, ◌-◌, ◌<◌, ◌≤◌, inl, inr, List, length, Option, None, refl, sym, ap, ◌∙◌, arith},
+  Common.{◌≡◌, ℕ, ◌+◌, ◌-◌, ◌<◌, ◌≤◌, ◌⊎◌, inl, inr, List, length, Option, None, refl, sym, ap, ◌∙◌, arith},
   lemmas.{Bool.{cases_lt, Decides.nat_tests}, List.get_or_past, Option.slice_get_past},
 }
 use Rattle.arraydeque_ring.{
   specs.{
-    Gaps.{IsEmptyRun, run_rotated},
-    Moved.{IsFilledRound, IsEmptyRound, run_moved},
+    Gaps.{IsEmptyRun, gap_moved, run_rotated},
     Places.{held_at, IsFilled, IsFilledRun},
-    Ring.{place_of, rotated, values, filled, FilledFrom},
+    Ring.{rotated, values, filled, FilledFrom},
     Swapped.runs_swapped,
   },
   proofs.{
-    moved.{Round.{Holds-moved}, Flat.{look, length-moved, same_places}},
+    gaps.{Crossing.{length-gap_moved, get_or-gap_moved, gap_here, gap_passed, gap_elsewhere}, GapMoves.{MayMove, may_move}},
+    moved.Flat.same_places,
     places.{
       Held.{filled_run_of, empty_run_of},
-      Holds.{Holds-plain, Holds-first, Holds-filled, Holds-empty},
+      Holds.Holds-first,
       Items.slice_get_some,
       LaidOut.{holds, LaidOut-values},
       Reads.{rotated_from, length-run_rotated, get_or-run_rotated, swapped_from, length-runs_swapped},
@@ -68,92 +68,79 @@ module _ {X : Type 0} {dst gap behind len : ℕ} {ps : List (Option X)} (next : 
   pub none_left : gap ≡ 0 → ps ≡ run_rotated dst gap behind ps
   none_left none = reads ps refl (λ x lt. ap (held_at ps) (grind (arith, nat_tests)))
 
--- the n values that are left stand behind the gap, in one piece, and can be moved before it
-pub record RestInOnePiece {X : Type 0} (dst gap behind n : ℕ) (ps : List (Option X)) : Type 0 where
-  pub within : dst + gap + n ≤ length ps
-  pub empty : IsEmptyRound (place_of 0 dst (length ps)) gap ps
-  pub filled : IsFilledRound (place_of 0 (dst + gap) (length ps)) n ps
-  pub after : run_moved (place_of 0 dst (length ps)) (place_of 0 (dst + gap) (length ps)) n ps
-      ≡ run_rotated dst gap behind ps
+-- the values that are left stand behind the gap, in one piece, and can be moved before it
+pub record RestInOnePiece {X : Type 0} (dst gap behind len : ℕ) (ps : List (Option X)) : Type 0 where
+  pub may : MayMove dst len gap ps
+  pub after : gap_moved dst len gap ps ≡ run_rotated dst gap behind ps
 
-pub rest_in_one_piece : {X : Type 0} {dst gap behind len : ℕ} {ps : List (Option X)} (n : ℕ)
-    → Underway dst gap behind len ps → n + dst ≡ len → n ≤ behind → dst < length ps → RestInOnePiece dst gap behind n ps
-rest_in_one_piece {dst = dst} {gap = gap} {behind = behind} {len = len} {ps = ps} n u many fits some =
+pub rest_in_one_piece : {X : Type 0} {dst gap behind len : ℕ} {ps : List (Option X)}
+    → Underway dst gap behind len ps → dst ≤ len → len ≤ dst + behind → RestInOnePiece dst gap behind len ps
+rest_in_one_piece {dst = dst} {gap = gap} {behind = behind} {len = len} {ps = ps} u placed fits =
     let whole = u.whole in
-    let in_gap : (z : ℕ) → dst ≤ z → z < dst + gap → held_at ps z ≡ None =
-    λ z a b. u.empty_at z (z + behind) (omega arith) (grind (arith, nat_tests)) in
-    let past : (z : ℕ) → dst + gap + n ≤ z → z < length ps → held_at ps z ≡ None =
-    λ z a b. u.empty_at z (z - gap) (omega arith) (grind (arith, nat_tests)) in
     record {
-      within = omega arith;
-      empty = Holds-empty (Holds-plain ps) dst gap (omega arith) (λ k lt. in_gap (dst + k) (omega arith) (omega arith));
-      filled = Holds-filled (Holds-plain ps) (dst + gap) n (omega arith)
-          (λ k lt. u.filled_at (dst + gap + k) (dst + k) (omega arith) (grind (arith, nat_tests)));
-      after = reads _ u refl _ (length-moved _ _ n ps) (λ x x_in. Holds-first (Holds-moved (Holds-plain ps) dst
-          (dst + gap) n (omega arith) (omega arith) (omega arith)) x x_in ∙ elim (cases_lt x len) [
+      may = may_move dst len gap ps (omega arith)
+          (λ x a b. u.empty_at x (x + behind) (omega arith) (grind (arith, nat_tests))) (λ x a b. absurd (omega arith))
+          (λ x a b. u.filled_at x (x - gap) (omega arith) (grind (arith, nat_tests)));
+      after = reads _ u refl _ (length-gap_moved dst len gap ps (omega arith) (omega arith)) (λ x x_in.
+          get_or-gap_moved dst len gap ps (omega arith) (omega arith) x ∙ elim (cases_lt x len) [
             | inl lt ↦ grind (arith, nat_tests)
-            | inr le ↦ grind (arith, nat_tests, in_gap x, past x)
-                ∙ sym (u.empty_at (rotated_from dst gap behind x) x le refl)
+            | inr le ↦ elim (cases_lt x (len + gap)) [
+              | inl low ↦ grind (arith, nat_tests)
+              | inr high ↦ let none = u.empty_at x (x - gap) (omega arith) (grind (arith, nat_tests)) in
+                  grind (arith, nat_tests, none)
+            ] ∙ sym (u.empty_at (rotated_from dst gap behind x) x le refl)
           ]);
     }
 
--- what m values that move b places up leave at their targets
-moved_up : {X : Type 0} (f : ℕ → Option X) (dst b m x : ℕ) → dst + b ≤ x → x < dst + b + m
-    → look f (dst + b) dst m x ≡ f (x - b)
-moved_up f dst b m x above below = let same : dst + (x - (dst + b)) ≡ x - b = omega arith in
-    grind (arith, nat_tests, same)
-
 -- or there is room for the values behind the gap:
--- the m in front of it move up by as many places, and they take their place
-pub record RoomForFirst {X : Type 0} (dst gap next behind m : ℕ) (ps : List (Option X)) : Type 0 where
-  pub within : dst + m + behind ≤ length ps
-  pub filled : IsFilledRound (place_of 0 dst (length ps)) m ps
-  pub empty : IsEmptyRound (place_of 0 (dst + m) (length ps)) behind ps
-  pub moved : (qs : List (Option X)) → qs
-      ≡ run_moved (place_of 0 (dst + behind) (length ps)) (place_of 0 dst (length ps)) m ps → IsEmptyRun qs dst behind
+-- the ones in front of it move up by as many places, and they take their place
+pub record RoomForFirst {X : Type 0} (dst gap next behind from : ℕ) (ps : List (Option X)) : Type 0 where
+  pub may : MayMove from dst behind ps
+  pub moved : (qs : List (Option X)) → qs ≡ gap_moved from dst behind ps → IsEmptyRun qs dst behind
       × IsFilledRun qs next behind × (runs_swapped dst next behind qs ≡ run_rotated dst gap behind ps)
 
-pub room_for_first : {X : Type 0} {dst gap behind len : ℕ} {ps : List (Option X)} (next m : ℕ)
-    → Underway dst gap behind len ps → dst + gap ≡ next → m + behind + dst ≡ len → len ≤ next → next < length ps
-    → RoomForFirst dst gap next behind m ps
-room_for_first {dst = dst} {gap = gap} {behind = behind} {len = len} {ps = ps} next m u here many fits some =
+pub room_for_first : {X : Type 0} {dst gap behind len : ℕ} {ps : List (Option X)} (next from : ℕ)
+    → Underway dst gap behind len ps → dst + gap ≡ next → from + behind ≡ len → dst ≤ from → len ≤ next
+    → next < length ps → RoomForFirst dst gap next behind from ps
+room_for_first {dst = dst} {gap = gap} {behind = behind} {len = len} {ps = ps} next from u here many low fits some =
     let whole = u.whole in
-    let in_gap : (z : ℕ) → dst + m ≤ z → z < next → held_at ps z ≡ None =
+    let in_gap : (z : ℕ) → from ≤ z → z < next → held_at ps z ≡ None =
     λ z a b. u.empty_at z (z + behind) (omega arith) (grind (arith, nat_tests)) in
     record {
-      within = omega arith;
-      filled = Holds-filled (Holds-plain ps) dst m (omega arith)
-          (λ k lt. u.filled_at (dst + k) (dst + k + behind) (omega arith) (grind (arith, nat_tests)));
-      empty = Holds-empty (Holds-plain ps) (dst + m) behind (omega arith)
-          (λ k lt. in_gap (dst + m + k) (omega arith) (omega arith));
+      may = may_move from dst behind ps (omega arith) (λ x a b. in_gap x a (omega arith))
+          (λ x a b. u.filled_at x (x + behind) (omega arith) (grind (arith, nat_tests))) (λ x a b. absurd (omega arith));
       moved = λ qs is.
-          let long : length qs ≡ length ps = ap length is ∙ length-moved _ _ m ps in
-          let held : (x : ℕ) → x < length ps → held_at qs x ≡ look (held_at ps) (dst + behind) dst m x =
-          λ x lt. ap (λ l. held_at l x) is ∙ Holds-first
-          (Holds-moved (Holds-plain ps) (dst + behind) dst m (omega arith) (omega arith) (omega arith)) x lt in (
-            empty_run_of qs dst behind (omega arith)
-                (λ y a b. held y (omega arith) ∙ grind (arith, nat_tests, in_gap y)),
+          let long : length qs ≡ length ps =
+          ap length is ∙ length-gap_moved from dst behind ps (omega arith) (omega arith) in
+          let held : (x : ℕ) → held_at qs x ≡ held_at (gap_moved from dst behind ps) x = λ x. ap (λ l. held_at l x) is in
+          let same : (x : ℕ) → (x < dst) ⊎ (from + behind ≤ x) → held_at qs x ≡ held_at ps x =
+          λ x out. held x ∙ gap_elsewhere from dst behind ps low (omega arith) x out in
+          let none : (x : ℕ) → dst ≤ x → x < dst + behind → held_at qs x ≡ None =
+          λ x a b. held x ∙ gap_here from dst behind ps low (omega arith) x a b in (
+            empty_run_of qs dst behind (omega arith) none,
             filled_run_of qs next behind (omega arith) (λ y a b. let filled = u.filled_at y (y - gap) (omega arith)
-                (grind (arith, nat_tests)) in (filled.0, held y (omega arith) ∙ grind (arith, nat_tests, filled.1))),
+                (grind (arith, nat_tests)) in (filled.0, same y (inr (omega arith)) ∙ filled.1)),
             reads _ u refl _ (length-runs_swapped dst next behind qs (omega arith) (omega arith) ∙ long) (λ x lt.
-                let from : (w : ℕ) → swapped_from dst next behind x ≡ w → w < length ps
-                → held_at (runs_swapped dst next behind qs) x ≡ look (held_at ps) (dst + behind) dst m w =
-                λ w same within. get_or-runs_swapped dst next behind qs (omega arith) (omega arith) x
-                ∙ ap (held_at qs) same ∙ held w within in
+                let via : (w : ℕ) → swapped_from dst next behind x ≡ w
+                → held_at (runs_swapped dst next behind qs) x ≡ held_at qs w =
+                λ w e. get_or-runs_swapped dst next behind qs (omega arith) (omega arith) x ∙ ap (held_at qs) e in
                 elim (cases_lt x len) [
                   | inl below ↦ elim (cases_lt x (dst + behind)) [
                     | inl first ↦ elim (cases_lt x dst) [
-                      | inl stays ↦ from x (grind (arith, nat_tests)) lt ∙ grind (arith, nat_tests)
-                      | inr comes ↦ from (x - dst + next) (grind (arith, nat_tests)) (omega arith)
-                          ∙ grind (arith, nat_tests)
+                      | inl stays ↦ via x (grind (arith, nat_tests)) ∙ same x (inl stays)
+                          ∙ ap (held_at ps) (grind (arith, nat_tests))
+                      | inr comes ↦ via (x - dst + next) (grind (arith, nat_tests))
+                          ∙ same (x - dst + next) (inr (omega arith)) ∙ ap (held_at ps) (grind (arith, nat_tests))
                     ]
-                    | inr second ↦ from x (grind (arith, nat_tests)) lt ∙ moved_up (held_at ps) dst behind m x second
-                        (omega arith) ∙ ap (held_at ps) (grind (arith, nat_tests))
+                    | inr second ↦ via x (grind (arith, nat_tests)) ∙ held x
+                        ∙ gap_passed from dst behind ps low (omega arith) x second (omega arith)
+                        ∙ ap (held_at ps) (grind (arith, nat_tests))
                   ]
                   | inr le ↦ elim (cases_lt x next) [
-                    | inl stays ↦ from x (grind (arith, nat_tests)) lt ∙ grind (arith, nat_tests, in_gap x)
-                    | inr goes ↦ from (x - next + dst) (grind (arith, nat_tests)) (omega arith)
-                        ∙ grind (arith, nat_tests, in_gap (x - next + dst))
+                    | inl stays ↦ via x (grind (arith, nat_tests)) ∙ same x (inr (omega arith))
+                        ∙ in_gap x (omega arith) stays
+                    | inr goes ↦ via (x - next + dst) (grind (arith, nat_tests))
+                        ∙ none (x - next + dst) (omega arith) (omega arith)
                   ] ∙ sym (u.empty_at (rotated_from dst gap behind x) x le refl)
                 ]),
           );

@@ -5,7 +5,7 @@ use Rattle.std.proofs.{
   lemmas.{Bool.cases_eq, List.{length-set, get_or-set_same, get_or-set_other}},
 }
 use Rattle.arraydeque_ring.{
-  specs.{Moved.{distance, IsFilledRound, IsEmptyRound}, Places.held_at, Ring.{place_of, rotated}},
+  specs.{Moved.{distance, IsFilledRound}, Places.held_at, Ring.{place_of, rotated}},
   proofs.{
     moved.Flat.{same_places, up_from},
     places.Rotated.{place_of-first, place_of-lt, place_of-sum, place_of-place_of, same_index, get_or-rotated},
@@ -59,16 +59,11 @@ module _ {X : Type 0} {n t : ℕ} {f : ℕ → Option X} {ps : List (Option X)} 
     ];
   }
 
-  -- a run of indexes that have values, or have none
+  -- a run of indexes that have values
   pub Holds-filled : (i len : ℕ) → i + len ≤ n → ((k : ℕ) → k < len → (x : X) × (f (i + k) ≡ Some x))
       → IsFilledRound (place_of t i (length ps)) len ps
   Holds-filled i len within each k lt = let some = each k lt in
       (some.0, rw (h.long, place_of-sum t i k n) (h.at (i + k) (omega arith) ∙ some.1))
-
-  pub Holds-empty : (i len : ℕ) → i + len ≤ n → ((k : ℕ) → k < len → f (i + k) ≡ None)
-      → IsEmptyRound (place_of t i (length ps)) len ps
-  Holds-empty i len within each k lt = rw (h.long, place_of-sum t i k n)
-      (omega (arith, place_of-lt t (i + k) n (omega (arith, h.in_region))), h.at (i + k) (omega arith) ∙ each k lt)
 
 -- what is read says what the places are
 pub Holds-once : {X : Type 0} {n t : ℕ} {f : ℕ → Option X} {ps qs : List (Option X)} → Holds n t f ps
@@ -80,13 +75,6 @@ Holds-once {n = n} {t = t} {ps = ps} {qs = qs} h k = same_places ps qs (h.long �
     ∙ sym (ap (held_at qs) (sym here) ∙ k.at (distance t x n) within))
 
 -- from the first place on an index is its own place
-pub Holds-plain : {X : Type 0} (ps : List (Option X)) → Holds (length ps) 0 (held_at ps) ps
-Holds-plain ps = record {
-  long = refl;
-  in_region = omega arith;
-  at = λ k lt. ap (held_at ps) (place_of-first k (length ps) lt);
-}
-
 pub Holds-first : {X : Type 0} {n : ℕ} {f : ℕ → Option X} {ps : List (Option X)} → Holds n 0 f ps → (k : ℕ) → k < n
     → held_at ps k ≡ f k
 Holds-first {n = n} {ps = ps} h k lt = ap (held_at ps) (sym (place_of-first k n lt)) ∙ h.at k lt

@@ -7,7 +7,7 @@ ghost use Rattle.arraydeque_ring.specs.Ring.{IsInOnePiece, rotated, filled, Fill
 ghost use Rattle.arraydeque_ring.specs.Steps.{more_moves, Rearranges};
 
 use super::Ring;
-use super::moves::{move_earlier, move_later};
+use super::moves::move_gap;
 use crate::slots::Slots;
 use std::mem::replace;
 
@@ -86,10 +86,10 @@ fn place_rest<T>(slots: Slots<T>, dst: usize, next: usize, len: usize) -> Slots<
     let first = slots.capacity() - next;
     let left = len - dst;
     if left <= first {
-        move_earlier(&mut slots, 0, dst, left, next - dst);
+        move_gap(&mut slots, 0, dst, len, next - dst);
         return slots;
     }
-    move_later(&mut slots, 0, dst, left - first, first);
+    move_gap(&mut slots, 0, len - first, dst, first);
     move_run(slots, dst, next, first)
 }
 

@@ -1,9 +1,10 @@
 //! Calls that open or close a gap in the middle of a ring, by moving the items on the nearer side
 //! of it.
-ghost use Rattle.std.specs.Prelude.{◌≡◌, ◌-◌, ◌+◌, ◌<◌, ◌≤◌, length, slice_get, min, nat_lt, if◌then◌else◌};
+ghost use Rattle.std.specs.Prelude.{◌≡◌, ◌-◌, ◌+◌, ◌<◌, ◌≤◌, length, slice_get, min, max};
 ghost use Rattle.std.specs.List.{insert, remove};
-ghost use Rattle.arraydeque_ring.specs.Moved.{IsFilledRound, IsEmptyRound, run_moved};
-ghost use Rattle.arraydeque_ring.specs.Ring.{place_of};
+ghost use Rattle.arraydeque_ring.specs.Gaps.{IsEmptyRun, gap_moved};
+ghost use Rattle.arraydeque_ring.specs.Places.{IsFilledRun};
+ghost use Rattle.arraydeque_ring.specs.Ring.{rotated};
 ghost use Rattle.arraydeque_ring.specs.Sides.{moves_to_insert, moves_to_remove, start_opened, start_closed};
 ghost use Rattle.arraydeque_ring.specs.Changed.{InsertMovesFewest, RemoveMovesFewest};
 ghost use Rattle.arraydeque_ring.specs.Steps.{more_puts, more_takes, more_moves};
@@ -29,17 +30,8 @@ impl<T> Ring<T> {
             index (length self.old.items) self.old.capacity self.old.start self.new.start }
     {
         let capacity = self.slots.capacity();
-        let behind = self.len - index;
-        let place = if index < behind {
-            let start = wrap_add(self.start, capacity - 1, capacity);
-            self.slots.slide_down(start, index);
-            self.start = start;
-            wrap_add(start, index, capacity)
-        } else {
-            let place = wrap_add(self.start, index, capacity);
-            self.slots.slide_up(place, behind);
-            place
-        };
+        self.start = open_gap(&mut self.slots, self.start, index, self.len - index);
+        let place = wrap_add(self.start, index, capacity);
         self.len += 1;
         self.slots.put(place, element);
     }
@@ -58,25 +50,44 @@ impl<T> Ring<T> {
         ensures fewest { RemoveMovesFewest
             index (length self.old.items) self.old.capacity self.old.start self.new.start }
     {
-        let capacity = self.slots.capacity();
-        let place = wrap_add(self.start, index, capacity);
+        let place = wrap_add(self.start, index, self.slots.capacity());
         let item = self.slots.take(place);
         self.len -= 1;
-        let behind = self.len - index;
-        self.start = if index < behind {
-            self.slots.slide_up(self.start, index);
-            wrap_add(self.start, 1, capacity)
-        } else {
-            self.slots.slide_down(place, behind);
-            self.start
-        };
+        self.start = close_gap(&mut self.slots, self.start, index, 1, self.len - index);
         item
+    }
+}
+
+/// Opens a gap of one place at an index of the list that begins at the place `start` and has
+/// `behind` values from the index on. The values on one side move: those before the index where
+/// they are the fewer, else those from it on. The answer is the place where the list starts then.
+#[inline]
+fn open_gap<T>(slots: &mut Slots<T>, start: usize, index: usize, behind: usize) -> usize
+    requires in_region { start < length slots.old.places }
+    requires room { index + behind < length slots.old.places }
+    requires filled { IsFilledRun (rotated start slots.old.places) 0 (index + behind) }
+    requires rest { let len = index + behind in
+        IsEmptyRun (rotated start slots.old.places) len (length slots.old.places - len) }
+    ensures start { result ≡ start_opened index behind (length slots.old.places) start }
+    ensures places { rotated result slots.new.places ≡
+        gap_moved (index + behind) index 1 (rotated start slots.old.places) }
+    ensures steps { slots.new.steps ≡ more_moves (min index behind) slots.old.steps }
+{
+    let capacity = slots.capacity();
+    if index < behind {
+        let start = wrap_add(start, capacity - 1, capacity);
+        move_gap(slots, start, 0, index, 1);
+        start
+    } else {
+        move_gap(slots, start, index + behind, index, 1);
+        start
     }
 }
 
 /// Closes the `gap` empty places between the `before` values from the place `start` on and the
 /// `behind` values that follow the gap. The values on one side move: those before it where they are
 /// the fewer, else those behind it. The answer is the place where the list starts then.
+#[inline]
 pub(super) fn close_gap<T>(
     slots: &mut Slots<T>,
     start: usize,
@@ -84,68 +95,58 @@ pub(super) fn close_gap<T>(
     gap: usize,
     behind: usize,
 ) -> usize
-    requires in_region { start < length slots.old.places }
     requires some { 0 < gap }
+    requires in_region { start < length slots.old.places }
     requires within { before + gap + behind ≤ length slots.old.places }
-    requires filled_before { IsFilledRound start before slots.old.places }
-    requires empty { let n = length slots.old.places in
-        IsEmptyRound (place_of start before n) gap slots.old.places }
-    requires filled_behind { let n = length slots.old.places in
-        IsFilledRound (place_of start (before + gap) n) behind slots.old.places }
+    requires filled_before { IsFilledRun (rotated start slots.old.places) 0 before }
+    requires empty { IsEmptyRun (rotated start slots.old.places) before gap }
+    requires filled_behind { IsFilledRun (rotated start slots.old.places) (before + gap) behind }
+    requires rest { let len = before + gap + behind in
+        IsEmptyRun (rotated start slots.old.places) len (length slots.old.places - len) }
     ensures start { result ≡ start_closed before gap behind (length slots.old.places) start }
-    ensures places { let n = length slots.old.places in slots.new.places ≡
-        (if nat_lt before behind
-        then run_moved (place_of start gap n) start before slots.old.places
-        else run_moved (place_of start before n) (place_of start (before + gap) n) behind
-        slots.old.places) }
+    ensures places { rotated result slots.new.places ≡
+        gap_moved before (before + behind) gap (rotated start slots.old.places) }
     ensures steps { slots.new.steps ≡ more_moves (min before behind) slots.old.steps }
 {
     let capacity = slots.capacity();
     if before < behind {
-        move_later(slots, start, 0, before, gap);
+        move_gap(slots, start, before, 0, gap);
         wrap_add(start, gap, capacity)
     } else {
-        move_earlier(slots, start, before, behind, gap);
+        move_gap(slots, start, before, before + behind, gap);
         start
     }
 }
 
-/// Moves the `len` values behind the `gap` empty places from the index `at` on to the front of
-/// these, as one block. Indexes count from the place `start`, round the end.
-pub(super) fn move_earlier<T>(slots: &mut Slots<T>, start: usize, at: usize, len: usize, gap: usize)
-    requires in_region { start < length slots.old.places }
+/// Moves the `gap` empty places from the index `from` on to the index `to`, by moving the values
+/// between as one block the other way. Indexes count from the place `start`, round the end, and
+/// `to` without the gap.
+#[inline(always)]
+pub(super) fn move_gap<T>(slots: &mut Slots<T>, start: usize, from: usize, to: usize, gap: usize)
     requires some { 0 < gap }
-    requires within { at + gap + len ≤ length slots.old.places }
-    requires empty { let n = length slots.old.places in
-        IsEmptyRound (place_of start at n) gap slots.old.places }
-    requires filled { let n = length slots.old.places in
-        IsFilledRound (place_of start (at + gap) n) len slots.old.places }
-    ensures places { let n = length slots.old.places in slots.new.places ≡
-        run_moved (place_of start at n) (place_of start (at + gap) n) len slots.old.places }
-    ensures steps { slots.new.steps ≡ more_moves len slots.old.steps }
+    requires in_region { start < length slots.old.places }
+    requires within { max from to + gap ≤ length slots.old.places }
+    requires empty { IsEmptyRun (rotated start slots.old.places) from gap }
+    requires filled_before { IsFilledRun (rotated start slots.old.places) to (from - to) }
+    requires filled_behind { IsFilledRun (rotated start slots.old.places) (from + gap) (to - from) }
+    ensures places { rotated start slots.new.places ≡
+        gap_moved from to gap (rotated start slots.old.places) }
+    ensures steps { slots.new.steps ≡ more_moves (max from to - min from to) slots.old.steps }
 {
     let capacity = slots.capacity();
-    let dst = wrap_add(start, at, capacity);
-    let src = wrap_add(start, at + gap, capacity);
-    slots.wrap_move(dst, src, len);
-}
-
-/// Moves the `len` values from the index `at` on behind the `gap` empty places that follow them,
-/// as one block. Indexes count from the place `start`, round the end.
-pub(super) fn move_later<T>(slots: &mut Slots<T>, start: usize, at: usize, len: usize, gap: usize)
-    requires in_region { start < length slots.old.places }
-    requires some { 0 < gap }
-    requires within { at + len + gap ≤ length slots.old.places }
-    requires filled { let n = length slots.old.places in
-        IsFilledRound (place_of start at n) len slots.old.places }
-    requires empty { let n = length slots.old.places in
-        IsEmptyRound (place_of start (at + len) n) gap slots.old.places }
-    ensures places { let n = length slots.old.places in slots.new.places ≡
-        run_moved (place_of start (at + gap) n) (place_of start at n) len slots.old.places }
-    ensures steps { slots.new.steps ≡ more_moves len slots.old.steps }
-{
-    let capacity = slots.capacity();
-    let dst = wrap_add(start, at + gap, capacity);
-    let src = wrap_add(start, at, capacity);
-    slots.wrap_move(dst, src, len);
+    if to < from {
+        let src = wrap_add(start, to, capacity);
+        if gap == 1 {
+            slots.slide_up(src, from - to);
+        } else {
+            slots.wrap_move(wrap_add(start, to + gap, capacity), src, from - to);
+        }
+    } else {
+        let dst = wrap_add(start, from, capacity);
+        if gap == 1 {
+            slots.slide_down(dst, to - from);
+        } else {
+            slots.wrap_move(dst, wrap_add(start, from + gap, capacity), to - from);
+        }
+    }
 }

@@ -9,7 +9,7 @@ use Rattle.std.{
 use Rattle.arraydeque_ring.{
   specs.{Changed.IsFewest, Ring.{RingState, place_of}, Steps.{no_steps, more_puts, more_takes, more_moves}},
   proofs.{
-    gaps.{Fewest.fewest_drain, GapMoves.{may_close, LaidOut-closed}, Gapped.{Gapped, Gapped-taken}},
+    gaps.{Fewest.fewest_drain, GapMoves.{may_close, LaidOut-closed, start_closed-in}, Gapped.{Gapped, Gapped-taken}},
     places.{
       Handed.{all_empty, ring_handed},
       LaidOut.{length_within, IsFilledRun-rotated},
@@ -54,16 +54,17 @@ gap g c =
 pub close_gap-self-inside-requires : goal.close_gap-self-inside-requires
 close_gap-self-inside-requires g c =
     let ring = opened c.self.inside c.self.invariant c.self.view_is in
-    let may = may_close _ _ (gap g (goal.at.close_gap-self-inside-requires g c).After-take_run)
+    let may = may_close (gap g (goal.at.close_gap-self-inside-requires g c).After-take_run) _ _
     (omega arith) (length-take-le c.args.from c.args.self.now.items (omega arith))
     (omega (arith, length-drop c.args.to c.args.self.now.items)) in
     record {
-      in_region = may.in_region;
       some = omega arith;
+      in_region = may.in_region;
       within = may.within;
       filled_before = may.before;
       empty = may.empty;
       filled_behind = may.behind;
+      rest = may.rest;
     }
 
 after : (g : Over) (c : After-close_gap-self-inside g) → let old = c.args.self.now in
@@ -88,9 +89,10 @@ after g c =
     let start = rw gap.reads.long at moved.ensures.start in
     let rest : length items - c.args.to ≡ c.self.inside.len - count - c.args.from = omega arith in
     rw (rest, ← ring.start) (record {
-      laid = rw (start, moved.ensures.places)
-          (LaidOut-closed gap _ _ (omega (arith, length_within ring.laid, ring.laid.in_region))
-          (length-take-le c.args.from items (omega arith)) (omega (arith, length-drop c.args.to items)));
+      laid = LaidOut-closed gap _ _ c.close_gap-self-inside.result _ (length-take-le c.args.from items (omega arith))
+          (omega (arith, length-drop c.args.to items)) (rw start (start_closed-in c.args.from count _ _ _
+          (omega (arith, length_within ring.laid, ring.laid.in_region)) (omega (arith, length_within ring.laid))))
+          moved.ensures.places;
       len = omega (
         arith,
         length-append (take c.args.from items) (drop c.args.to items),

@@ -1,17 +1,35 @@
-use Rattle.std.proofs.{Common.{◌≡◌, ◌+◌, length, ◌∙◌, arith}, lemmas.Bool.cond_below}
-use Rattle.arraydeque_ring.proofs.places.Rotated.{place_of-zero}
+use Rattle.std.proofs.Common.{◌≡◌, ◌+◌, ◌-◌, max, min, ap, ◌∙◌, arith}
+use Rattle.arraydeque_ring.proofs.gaps.GapMoves.{closes_up, closes_down, closed_up}
 use Rattle.arraydeque_ring.proofs.ring.moves.close_gap.Goals as goal
 
-pub move_later-requires-clause-filled : goal.move_later-requires-clause-filled
-move_later-requires-clause-filled g c = rw (place_of-zero c.args.start (length c.args.slots.now.places)
-    (omega (arith, c.requires.in_region))) c.requires.filled_before
+pub move_gap-requires : goal.move_gap-requires
+move_gap-requires g c =
+    let r = c.requires in
+    let may = closes_up _ _ _ _ _ r.in_region r.within r.filled_before r.empty r.filled_behind r.rest in
+    record {
+      some = r.some;
+      in_region = r.in_region;
+      within = omega arith;
+      empty = may.empty;
+      filled_before = may.before;
+      filled_behind = may.behind;
+    }
 
-pub move_later-requires-clause-empty : goal.move_later-requires-clause-empty
-move_later-requires-clause-empty g c = let zero : 0 + c.args.before ≡ c.args.before = omega arith in
-    rw zero c.requires.empty
+pub move_gap-requires-else-before-behind : goal.move_gap-requires-else-before-behind
+move_gap-requires-else-before-behind g c =
+    let r = c.requires in
+    let may = closes_down _ _ _ _ _ r.in_region r.within r.filled_before r.empty r.filled_behind r.rest in
+    record {
+      some = r.some;
+      in_region = r.in_region;
+      within = omega arith;
+      empty = may.empty;
+      filled_before = may.before;
+      filled_behind = may.behind;
+    }
 
 pub returns-then-before-behind-clause-places : goal.returns-then-before-behind-clause-places
 returns-then-before-behind-clause-places g c =
-    let zero : 0 + c.args.gap ≡ c.args.gap = omega arith in
-    rw (zero, place_of-zero c.args.start (length c.args.slots.now.places) (omega (arith, c.requires.in_region))) at
-    c.move_later.ensures.places ∙ cond_below c.args.before c.args.behind _ _ c.if-before-behind.true
+    let r = c.requires in
+    rw (c.wrap_add.ensures, c.capacity-capacity.ensures) (closed_up _ _ _ _ _ r.in_region r.within r.filled_before
+    r.empty r.filled_behind r.rest _ c.move_gap.ensures.places)
