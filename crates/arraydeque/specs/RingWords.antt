@@ -2,9 +2,10 @@
 pub use Rattle.arraydeque_ring.specs.Changed.{InsertMovesFewest, RemoveMovesFewest}
 pub use Rattle.arraydeque_ring.specs.Changed.{DrainMovesFewest, IsFewest}
 pub use Rattle.arraydeque_ring.specs.Changed.{changed_insert, changed_remove, changed_drain}
+pub use Rattle.arraydeque_ring.specs.Cloned.ClonesAreSame
 pub use Rattle.arraydeque_ring.specs.Loans.{LoanState, as_many, remaining}
-pub use Rattle.arraydeque_ring.specs.Retained.{Retains, count_moved}
-pub use Rattle.arraydeque_ring.specs.Ring.{RingState, place_of, IsInOnePiece}
+pub use Rattle.arraydeque_ring.specs.Retained.{Retains, MayBeAsked, count_moved}
+pub use Rattle.arraydeque_ring.specs.Ring.{RingState, place_of, up_by, down_by, IsInOnePiece}
 pub use Rattle.arraydeque_ring.specs.Sides.{moves_to_insert, moves_to_remove, moves_to_drain}
 pub use Rattle.arraydeque_ring.specs.Sides.{start_opened, start_closed}
 pub use Rattle.arraydeque_ring.specs.Steps.{Steps, no_steps, more_puts, more_takes, more_moves}
