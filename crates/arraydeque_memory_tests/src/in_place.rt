@@ -131,6 +131,14 @@ fn truncates(deque: &mut ArrayDeque<i64, 4, Saturating>) -> bool {
     holds(deque, &[7, 8])
 }
 
+/// Whether a `for_each` doubles the items 1 to 4.
+fn doubles_each(deque: &mut Deque) -> bool {
+    deque
+        .iter_mut()
+        .for_each(|item| *item = item.wrapping_mul(2));
+    holds(deque, &[2, 4, 6, 8])
+}
+
 /// Whether two items are left alone where nothing is to be handed out, and no list is made of none.
 fn hands_out_nothing(alloc: Global, mut deque: Deque) -> Result<bool, Fail> {
     let is_left_alone = deque.len() == 2
@@ -170,8 +178,10 @@ fn calls_in_place_1_request_32_bytes(rt: HostRuntime) -> Result<(), Fail> {
     let is_retained = retains_and_clears(&mut deque);
     refill(&mut deque, &[6, 7, 8, 9]);
     let is_truncated = truncates(&mut deque);
+    refill(&mut deque, &[1, 2, 3, 4]);
+    let is_doubled = doubles_each(&mut deque);
     refill(&mut deque, &[1, 2]);
-    let are_edited = is_written && is_moved && is_retained && is_truncated;
+    let are_edited = is_written && is_moved && is_retained && is_truncated && is_doubled;
     assert!(rt; hands_out_nothing(rt.alloc(), deque)? && are_edited);
     Ok(())
 }
