@@ -95,7 +95,6 @@ pub(super) fn close_gap<T>(
     gap: usize,
     behind: usize,
 ) -> usize
-    requires some { 0 < gap }
     requires in_region { start < length slots.old.places }
     requires within { before + gap + behind ≤ length slots.old.places }
     requires filled_before { IsFilledRun (rotated start slots.old.places) 0 before }
@@ -123,7 +122,6 @@ pub(super) fn close_gap<T>(
 /// `to` without the gap.
 #[inline(always)]
 pub(super) fn move_gap<T>(slots: &mut Slots<T>, start: usize, from: usize, to: usize, gap: usize)
-    requires some { 0 < gap }
     requires in_region { start < length slots.old.places }
     requires within { max from to + gap ≤ length slots.old.places }
     requires empty { IsEmptyRun (rotated start slots.old.places) from gap }
@@ -135,18 +133,8 @@ pub(super) fn move_gap<T>(slots: &mut Slots<T>, start: usize, from: usize, to: u
 {
     let capacity = slots.capacity();
     if to < from {
-        let src = wrap_add(start, to, capacity);
-        if gap == 1 {
-            slots.slide_up(src, from - to);
-        } else {
-            slots.wrap_move(wrap_add(start, to + gap, capacity), src, from - to);
-        }
+        slots.slide_up(wrap_add(start, to, capacity), gap, from - to);
     } else {
-        let dst = wrap_add(start, from, capacity);
-        if gap == 1 {
-            slots.slide_down(dst, to - from);
-        } else {
-            slots.wrap_move(dst, wrap_add(start, from + gap, capacity), to - from);
-        }
+        slots.slide_down(wrap_add(start, from, capacity), gap, to - from);
     }
 }
