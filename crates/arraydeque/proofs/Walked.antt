@@ -47,55 +47,45 @@ module _ {S X A Z P : Type 0} (view : A → X) (rest : S → List X) (left : Lis
   abbrev WalksPart : Z → P → P → Type 0
   WalksPart z p q = (items : List A) × Drains PartGives z items × FoldsTo R p items q
 
+  -- what a slice gives comes as items of the whole
+  module _ (whole : List X → S)
+      (alike : (x : A) (zs : List X) → rest (whole (view x ∷ zs)) ≡ view x ∷ rest (whole zs)) where
+    gives : (v : Z) (x : A) (w : Z) → PartGives v (Some x) w → Gives (whole (now v)) (Some x) (whole (now w))
+    gives v x w next = ap (λ zs. rest (whole zs)) next ∙ alike x (now w)
+
+    gave : (z : Z) (zs : List X) → now z ≡ zs → {p q : P} (walk : WalksPart z p q)
+        → Yields Gives (whole zs) walk.0 (whole [])
+    gave z zs is walk =
+        let end = walk.1.1.0 in
+        let came = yields_whole Gives PartGives (λ v. whole (now v)) gives z walk.0 end walk.1.1.1 in
+        subst (λ l. Yields Gives (whole l) walk.0 (whole [])) is
+        (subst (λ l. Yields Gives (whole (now z)) walk.0 (whole l)) (nil_from_length (now end) walk.1.1.2.0) came)
+
+    callable : {Q : P → A → Type 0} {p : P} (z : Z) (zs : List X) → now z ≡ zs
+        → CallableAtEachTurn Gives R Q (whole zs) p → CallableAtEachTurn PartGives R Q z p
+    callable {Q} {p} z zs is may = callable_part Gives PartGives (λ v. whole (now v)) gives z
+        (subst (λ l. CallableAtEachTurn Gives R Q (whole l) p) (sym is) may)
+
   module _ (xs ys : List X) where
-    abbrev in_first : Z → S
-    in_first z = left (now z) ys
+    first : (x : A) (zs : List X) → rest (left (view x ∷ zs) ys) ≡ view x ∷ rest (left zs ys)
+    first x zs = shows (view x ∷ zs) ys ∙ ap (λ l. view x ∷ l) (sym (shows zs ys))
 
-    first_gives : (v : Z) (x : A) (w : Z) → PartGives v (Some x) w → Gives (in_first v) (Some x) (in_first w)
-    first_gives v x w next =
-        shows (now v) ys ∙ ap (λ zs. zs ++ ys) next ∙ ap (λ zs. view x ∷ zs) (sym (shows (now w) ys))
-
-    abbrev in_second : Z → S
-    in_second z = left [] (now z)
-
-    second_gives : (v : Z) (x : A) (w : Z) → PartGives v (Some x) w → Gives (in_second v) (Some x) (in_second w)
-    second_gives v x w next = shows [] (now v) ∙ next ∙ ap (λ zs. view x ∷ zs) (sym (shows [] (now w)))
-
-    gave_first : (z : Z) → now z ≡ xs → {p q : P} (walk : WalksPart z p q)
-        → Yields Gives (left xs ys) walk.0 (left [] ys)
-    gave_first z is walk =
-        let end = walk.1.1.0 in
-        let gave = yields_whole Gives PartGives in_first first_gives z walk.0 end walk.1.1.1 in
-        let none = nil_from_length (now end) walk.1.1.2.0 in
-        subst (λ zs. Yields Gives (left zs ys) walk.0 (left [] ys)) is
-        (subst (λ zs. Yields Gives (in_first z) walk.0 (left zs ys)) none gave)
-
-    gave_second : (z : Z) → now z ≡ ys → {p q : P} (walk : WalksPart z p q)
-        → Yields Gives (left [] ys) walk.0 (left [] [])
-    gave_second z is walk =
-        let end = walk.1.1.0 in
-        let gave = yields_whole Gives PartGives in_second second_gives z walk.0 end walk.1.1.1 in
-        let none = nil_from_length (now end) walk.1.1.2.0 in
-        subst (λ zs. Yields Gives (left [] zs) walk.0 (left [] [])) is
-        (subst (λ zs. Yields Gives (in_second z) walk.0 (left [] zs)) none gave)
+    second : (x : A) (zs : List X) → rest (left [] (view x ∷ zs)) ≡ view x ∷ rest (left [] zs)
+    second x zs = shows [] (view x ∷ zs) ∙ ap (λ l. view x ∷ l) (sym (shows [] zs))
 
     pub callable_first : {Q : P → A → Type 0} {p : P} (z : Z) → now z ≡ xs
         → CallableAtEachTurn Gives R Q (left xs ys) p → CallableAtEachTurn PartGives R Q z p
-    callable_first {Q} {p} z is may =
-        callable_part Gives PartGives in_first first_gives z
-        (subst (λ zs. CallableAtEachTurn Gives R Q (left zs ys) p) (sym is) may)
+    callable_first z is may = callable (λ zs. left zs ys) first z xs is may
 
     pub callable_second : {Q : P → A → Type 0} {p q : P} (y : Z) → now y ≡ xs → WalksPart y p q
         → (z : Z) → now z ≡ ys → CallableAtEachTurn Gives R Q (left xs ys) p → CallableAtEachTurn PartGives R Q z q
-    callable_second {Q} {p} {q} y was walk z is may =
-        let behind = callable_behind Gives may walk.0 (left [] ys) q (gave_first y was walk) walk.2 in
-        callable_part Gives PartGives in_second second_gives z
-        (subst (λ zs. CallableAtEachTurn Gives R Q (left [] zs) q) (sym is) behind)
+    callable_second {q = q} y was walk z is may = callable (left []) second z ys is
+        (callable_behind Gives may walk.0 (left [] ys) q (gave (λ zs. left zs ys) first y xs was walk) walk.2)
 
     pub walked_both : {p q r : P} (y : Z) → now y ≡ xs → WalksPart y p q → (z : Z) → now z ≡ ys → WalksPart z q r
         → (items : List A) × (last : P) × Drains Gives (left xs ys) items × FoldsTo R p items last
     walked_both {p} {q} {r} y was walk z is more =
         let end = left [] [] in let none = shows [] [] in
-        let gave = Yields-both Gives walk.0 more.0 (left xs ys) (left [] ys) end
-        (gave_first y was walk) (gave_second z is more) in
-        (walk.0 ++ more.0, r, (end, (end, gave, (none, none))), folds_both R p walk.0 q more.0 r walk.2 more.2)
+        let came = Yields-both Gives walk.0 more.0 (left xs ys) (left [] ys) end
+        (gave (λ zs. left zs ys) first y xs was walk) (gave (left []) second z ys is more) in
+        (walk.0 ++ more.0, r, (end, (end, came, (none, none))), folds_both R p walk.0 q more.0 r walk.2 more.2)

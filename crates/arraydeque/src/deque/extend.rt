@@ -1,5 +1,5 @@
 //! Adding the items of an iterator.
-ghost use Rattle.std.specs.Prelude.{◌≡◌, ◌<◌, ◌≤◌, ◌-◌, ◌++◌, length, reverse, take, IsOk};
+ghost use Rattle.std.specs.Prelude.{◌≡◌, ◌<◌, ◌≤◌, ◌-◌, ◌++◌, length, reverse, take, false, IsOk};
 ghost use Rattle.std.specs.Iterator.{IsFinite, IsFiniteIterable, ExtendsWithItems};
 ghost use Rattle.arraydeque.specs.Deque.{keep_last, with_back, with_front, wrapped_back, wrapped_front, WrapsBack};
 ghost use Rattle.arraydeque.specs.Sources.{IsIterable, TakesFrom, TakesAll};

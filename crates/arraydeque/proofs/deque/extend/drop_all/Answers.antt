@@ -1,9 +1,5 @@
 use Rattle.arraydeque.proofs.deque.extend.drop_all.Goals as goal
 
-pub loop-element-init-derived : goal.loop-element-init-derived
-loop-element-init-derived g c =
-    rw c.into_iter-element-iterator.ensures.into_iter_gives (c.requires.may, c.requires.ends)
-
 pub returns : goal.returns
 returns g c = record {
   items = c.loop-element.yielded;

@@ -1,5 +1,0 @@
-use Rattle.std.proofs.Common.{refl}
-use Rattle.arraydeque.proofs.deque.ArrayDeque.get_mut.Goals as goal
-
-pub returns : goal.returns
-returns g c = rw (← c.self.view_is) (refl, record { writes_back = tt; value = c.get_mut.ensures.value })

@@ -1,5 +1,0 @@
-use Rattle.std.proofs.Common.{refl}
-use Rattle.arraydeque.proofs.range.RangeFromRangeArgument.start.Goals as goal
-
-pub returns : goal.returns
-returns g c = refl
