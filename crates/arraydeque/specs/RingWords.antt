@@ -2,7 +2,7 @@
 pub use Rattle.arraydeque_ring.specs.Changed.{InsertMovesFewest, RemoveMovesFewest}
 pub use Rattle.arraydeque_ring.specs.Changed.{DrainMovesFewest, IsFewest}
 pub use Rattle.arraydeque_ring.specs.Changed.{changed_insert, changed_remove, changed_drain}
-pub use Rattle.arraydeque_ring.specs.Cloned.ClonesAreSame
+pub use Rattle.arraydeque_ring.specs.Cloned.{ClonesAreSame}
 pub use Rattle.arraydeque_ring.specs.Loans.{LoanState, as_many, remaining}
 pub use Rattle.arraydeque_ring.specs.Retained.{Retains, MayBeAsked, count_moved}
 pub use Rattle.arraydeque_ring.specs.Ring.{RingState, place_of, up_by, down_by, IsInOnePiece}

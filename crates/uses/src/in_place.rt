@@ -2,7 +2,7 @@
 //!
 //! They are proved with no proof file: by the deque's contracts, and those of std's slices, each
 //! knows what the deque ends with.
-ghost use Rattle.std.specs.Prelude.{◌≡◌, length, All, OnOk, IfOk, OnErr, slice_set};
+ghost use Rattle.std.specs.Prelude.{◌≡◌, length, All, Some, OnOk, IfOk, OnErr, slice_get, slice_set};
 ghost use Rattle.std.specs.List.Sorted.{IsPermutation, IsSorted};
 
 use arraydeque::ArrayDeque;
@@ -38,6 +38,7 @@ pub fn replace_found<const CAP: usize, B: Behavior>(
     wanted: i64,
     value: i64,
 ) -> Result<usize, usize>
+    ensures found { IfOk result (λ index. slice_get deque.old.items index ≡ Some wanted) }
     ensures replaced { IfOk result (λ index.
         deque.new.items ≡ slice_set deque.old.items index value) }
     ensures unchanged { OnErr result (deque.new.items ≡ deque.old.items) }
