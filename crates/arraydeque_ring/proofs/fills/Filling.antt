@@ -1,6 +1,7 @@
 -- A run of places that is written with items from an iterator, one place after another.
 use Rattle.std.proofs.{
-  Common.{◌≡◌, ℕ, ◌+◌, ◌-◌, ◌<◌, ◌≤◌, ◌⊎◌, List, [], ◌∷◌, ◌++◌, length, reverse, set, Option, Some, sym, ap, ◌∙◌, arith},
+  Common.{◌≡◌, ℕ, ◌+◌, ◌-◌, ◌<◌, ◌≤◌, ◌⊎◌, List, [], ◌∷◌, ◌++◌, length, reverse, set, Option, Some, sym, ap},
+  Common.{◌∙◌, arith},
   lemmas.{Bool.Decides.nat_tests, List.{length-append, length-reverse, length-set, reverse-append}},
 }
 use Rattle.arraydeque_ring.{

@@ -61,7 +61,9 @@ returns-after-loop-ended-clause-filled g c = let was = c.loop-ended.invariant.so
     _ _ refl (λ xs. closed)
 
 pub returns-else-self-capacity-clause-within : goal.returns-else-self-capacity-clause-within
-returns-else-self-capacity-clause-within g c = (opened c.loop-ended.self-inside c.loop-ended.invariant.kept refl).laid.within
+returns-else-self-capacity-clause-within g c =
+    (opened c.loop-ended.self-inside c.loop-ended.invariant.kept refl).laid.within
 
 pub returns-after-loop-ended-clause-within : goal.returns-after-loop-ended-clause-within
-returns-after-loop-ended-clause-within g c = (opened c.loop-ended.self-inside c.loop-ended.invariant.kept refl).laid.within
+returns-after-loop-ended-clause-within g c =
+    (opened c.loop-ended.self-inside c.loop-ended.invariant.kept refl).laid.within
