@@ -14,8 +14,7 @@ use Rattle.arraydeque_ring.{
 
 -- nothing more was put and taken
 more_none : (s : Steps) → s ≡ more_puts 0 (more_takes 0 s)
-more_none s = let puts : s.puts ≡ s.puts + 0 = omega arith in let takes : s.takes ≡ s.takes + 0 = omega arith in
-    (λ i. record s { puts = puts i; takes = takes i })
+more_none s = grind arith
 
 -- to go up by j places and then by k is to go up by both
 pub up_by-both : (j k s n : ℕ) → up_by k (up_by j s n) n ≡ up_by (j + k) s n
@@ -73,9 +72,7 @@ module _ {X : Type 0} where
     counted : (s : Steps)
         → more_puts (length ys) (more_takes (length ys) (more_puts (length xs) (more_takes (length xs) s)))
         ≡ more_puts (length (xs ++ ys)) (more_takes (length (xs ++ ys)) s)
-    counted s = let puts : s.puts + length xs + length ys ≡ s.puts + length (xs ++ ys) = omega (arith, long) in
-        let takes : s.takes + length xs + length ys ≡ s.takes + length (xs ++ ys) = omega (arith, long) in
-        (λ i. record s { puts = puts i; takes = takes i })
+    counted s = grind (arith, length-append xs ys)
 
     pub displaced_first-both : (r : RingState X)
         → displaced_first ys (displaced_first xs r) ≡ displaced_first (xs ++ ys) r

@@ -1,7 +1,7 @@
 -- A run of places that is written with items from an iterator, one place after another.
 use Rattle.std.proofs.{
-  Common.{◌≡◌, ℕ, ◌+◌, ◌-◌, ◌<◌, ◌≤◌, ◌⊎◌, List, [], ◌∷◌, ◌++◌, length, reverse, set, get_or, nat_lt, if◌then◌else◌},
-  Common.{Option, Some, None, refl, sym, ap, ◌∙◌, arith},
+  Common.{◌≡◌, ℕ, ◌+◌, ◌-◌, ◌<◌, ◌≤◌, ◌⊎◌, List, [], ◌∷◌, ◌++◌, length, reverse, set, Option, Some, sym, ap},
+  Common.{◌∙◌, arith},
   lemmas.{Bool.Decides.nat_tests, List.{length-append, length-reverse, length-set, reverse-append}},
 }
 use Rattle.arraydeque_ring.{
@@ -27,8 +27,15 @@ module _ {X : Type 0} (at : ℕ) (xs : List X) (ps : List (Option X)) (within : 
       let more = length-append xs (x ∷ []) in
       same_places _ _ (length-set (with_run at xs ps) place (Some x) ∙ long
       ∙ sym (length-with_run at (xs ++ x ∷ []) ps (omega (arith, more)))) (λ i i_in.
-      get_or-written (with_run at xs ps) place i (Some x) (omega (arith, long)) ∙ grind
-      (arith, nat_tests, items, slice_get-cons, get_or-with_run at xs ps i, get_or-with_run at (xs ++ x ∷ []) ps i, more))
+      get_or-written (with_run at xs ps) place i (Some x) (omega (arith, long)) ∙ grind (
+        arith,
+        nat_tests,
+        items,
+        slice_get-cons,
+        get_or-with_run at xs ps i,
+        get_or-with_run at (xs ++ x ∷ []) ps i,
+        more,
+      ))
 
   pub with_run-before : (x : X) (place : ℕ) → place + 1 ≡ at
       → set (with_run at xs ps) place (Some x) ≡ with_run place (x ∷ xs) ps

@@ -1,8 +1,8 @@
 -- Loops that take items from an iterator, while there is room.
 use Rattle.std.{
   proofs.{
-    Common.{◌≡◌, ℕ, ◌+◌, ◌≤◌, List, [], ◌∷◌, ◌++◌, length, Option, Some, None, Bool, true, false, refl},
-    Common.{sym, subst, ◌∙◌, true≢false, arith},
+    Common.{◌≡◌, ℕ, ◌+◌, ◌≤◌, List, [], ◌∷◌, ◌++◌, length, Option, Some, Bool, true, false, refl, sym},
+    Common.{subst, ◌∙◌, true≢false, arith},
     iter.{Next.{Yields-more}, runs.Lists.{Yields-both}},
     lemmas.List.{length-append},
   },

@@ -39,11 +39,11 @@ module _ {X : Type 0} (xs ys : List X) where
 -- puts that are counted in two parts
 more_twice : {X : Type 0} (xs ys : List X) (s : Steps)
     → more_puts (length ys) (more_puts (length xs) s) ≡ more_puts (length (xs ++ ys)) s
-more_twice xs ys s = ap (λ n. record s { puts = n }) (omega (arith, length-append xs ys))
+more_twice xs ys s = grind (arith, length-append xs ys)
 
 -- nothing more was put
 more_none : (s : Steps) → s ≡ more_puts 0 s
-more_none s = ap (λ n. record s { puts = n }) (omega arith)
+more_none s = grind arith
 
 module _ {X : Type 0} where
   -- xs came behind the last item

@@ -18,7 +18,8 @@ use Rattle.arraydeque_ring.{
     places.{
       Items.{items, get_or-map_Some},
       Held.empty_run_of,
-      LaidOut.{LaidOut, LaidOut-by},
+      Holds.{Holds, Holds-same},
+      LaidOut.{LaidOut, LaidOut-by, holds},
       Rotated.{MayStartAt, place_of_cases, place_of-run},
     },
   },
@@ -34,34 +35,41 @@ module _ {X : Type 0} where
       let many = length-map ys Some in
       grind (arith, nat_tests, common_steps, made, many)
 
+  -- a run of indexes is written, from the index i on
+  pub Holds-run : {n t : ℕ} {f : ℕ → Option X} {ps : List (Option X)} → Holds n t f ps → (i place : ℕ) (ys : List X)
+      → MayStartAt t i n place → place + length ys ≤ n → i + length ys ≤ n → Holds n t (λ k. if nat_lt k i then f k
+      else (if nat_lt k (i + length ys) then slice_get ys (k - i) else f k)) (with_run place ys ps)
+  Holds-run {n} {t} {ps = ps} h i place ys lies fits room = let long = h.long in let in_region = h.in_region in record {
+    long = length-with_run place ys ps (omega arith) ∙ long;
+    in_region = in_region;
+    at = λ k lt.
+        let was = h.at k lt in
+        let read = get_or-with_run place ys ps in
+        grind (arith, nat_tests, read, was, place_of_cases t k n (omega arith), lies);
+  }
+
   module _ {n t : ℕ} {xs : List X} {ps : List (Option X)} (l : LaidOut n t xs ps) where
     pub LaidOut-appended : (ys : List X) (place : ℕ) → MayStartAt t (length xs) n place →
         place + length ys ≤ n → length xs + length ys ≤ n → LaidOut n t (xs ++ ys) (with_run place ys ps)
     LaidOut-appended ys place lies fits room =
-        let long = l.long in
-        let in_region = l.in_region in
-        LaidOut-by (omega (arith, length-append xs ys)) (record {
-          long = length-with_run place ys ps (omega arith) ∙ l.long;
-          in_region = l.in_region;
-          at = λ k lt.
-              let was = l.at k lt in
-              let read = get_or-with_run place ys ps in
-              grind (arith, nat_tests, items, read, was, place_of_cases t k n (omega arith), lies);
-        })
+        LaidOut-by (omega (arith, length-append xs ys))
+        (Holds-same (Holds-run (holds l) (length xs) place ys lies fits room) (λ k lt. grind (arith, nat_tests, items)))
 
     -- the places behind the list are empty
-    pub IsEmptyRun-behind : (place run : ℕ) → MayStartAt t (length xs) n place →
-        place + run ≤ n → length xs + run ≤ n → IsEmptyRun ps place run
-    IsEmptyRun-behind place run lies fits room =
+    pub IsEmptyRun-from : (i place run : ℕ) → length xs ≤ i → MayStartAt t i n place → place + run ≤ n → i + run ≤ n
+        → IsEmptyRun ps place run
+    IsEmptyRun-from i place run past lies fits room =
         let long = l.long in
         let in_region = l.in_region in
         empty_run_of ps place run (omega arith) (λ x from to.
         let j = x - place in
         let on : x ≡ place + j = omega arith in
-        let at = place_of-run t (length xs) j n place lies (omega arith) (omega arith) (omega arith) in
-        ap (held_at ps) (on ∙ sym at)
-        ∙ l.at (length xs + j) (omega arith)
-        ∙ slice_get_past xs (length xs + j) (omega arith))
+        let at = place_of-run t i j n place lies (omega arith) (omega arith) (omega arith) in
+        ap (held_at ps) (on ∙ sym at) ∙ l.at (i + j) (omega arith) ∙ slice_get_past xs (i + j) (omega arith))
+
+    pub IsEmptyRun-behind : (place run : ℕ) → MayStartAt t (length xs) n place →
+        place + run ≤ n → length xs + run ≤ n → IsEmptyRun ps place run
+    IsEmptyRun-behind place run = IsEmptyRun-from (length xs) place run (omega arith)
 
 module _ {X : Type 0} where
   -- a ring with the first m items of another behind its own, and that other ring without them

@@ -88,9 +88,9 @@ impl<T> Ring<T> {
           steps = more_puts (length xs) (more_takes (length xs) self.old.steps);
         }) }
     {
-        let capacity = self.slots.capacity();
         let mut ended = false;
         while !ended {
+            let capacity = self.slots.capacity();
             let run = capacity - self.start;
             let (slots, displaced) = displace_up(
                 self.slots.moved_out(),
@@ -120,9 +120,9 @@ impl<T> Ring<T> {
           steps = more_puts (length xs) (more_takes (length xs) self.old.steps);
         }) }
     {
-        let capacity = self.slots.capacity();
         let mut ended = false;
         while !ended {
+            let capacity = self.slots.capacity();
             let from = wrap_add(self.start, capacity - 1, capacity) + 1;
             let (slots, displaced) = displace_down(
                 self.slots.moved_out(),

@@ -1,4 +1,4 @@
-use Rattle.std.proofs.{Common.{◌+◌, refl, subst, ◌∙◌, arith}, lemmas.List.length-append}
+use Rattle.std.proofs.{Common.{refl, subst, ◌∙◌, arith}, lemmas.List.length-append}
 use Rattle.arraydeque_ring.proofs.{
   fills.{
     FromIterator.{Fills-none, Fills-both, Fills-as, Fills-within},
@@ -10,57 +10,60 @@ use Rattle.arraydeque_ring.proofs.{
 use Rattle.arraydeque_ring.proofs.ring.Ring.fill_back.Goals as goal
 
 pub loop-ended-init : goal.loop-ended-init
-loop-ended-init g c = record {
-  so_far = (0, Fills-none _ _ _ (back_none (opened c.self.inside c.self.invariant c.self.view_is)));
+loop-ended-init g c = let ring = opened c.self.inside c.self.invariant c.self.view_is in record {
+  all = c.capacity-capacity.ensures ∙ ring.laid.long;
+  kept = c.self.invariant;
+  so_far = (0, Fills-none _ _ _ (back_none ring));
   goes = λ _. (c.requires, λ f. f);
 }
 
 pub fill_up-slots-requires-clause-empty : goal.fill_up-slots-requires-clause-empty
-fill_up-slots-requires-clause-empty g c =
-    let all = c.capacity-capacity.ensures ∙ (opened c.self.inside c.self.invariant c.self.view_is).laid.long in
-    rw c.moved_out.ensures.region (empty_behind c.loop-ended.invariant.so_far.1.holds all (omega arith) c.min-run.result
-    c.wrap_add-from.result c.wrap_add-from.ensures (omega (arith, c.min-run.ensures)) (omega (arith, c.min-run.ensures)))
+fill_up-slots-requires-clause-empty g c = let was = c.loop-ended.invariant in let run = c.min-run in
+    rw c.moved_out.ensures.region (empty_behind was.so_far.1.holds was.all (omega arith) run.result
+    c.wrap_add-from.result c.wrap_add-from.ensures (omega (arith, run.ensures)) (omega (arith, run.ensures)))
 
 pub loop-ended-preserved : goal.loop-ended-preserved
 loop-ended-preserved g c =
-    let all = c.capacity-capacity.ensures ∙ (opened c.self.inside c.self.invariant c.self.view_is).laid.long in
     let was = c.loop-ended.invariant in let some = c.loop-ended-test.true in let fill = c.fill_up-slots in
-    let xs = was.so_far.1.items in let now = fill.ensures.filled in record {
+    let xs = was.so_far.1.items in let now = fill.ensures.filled in let from = c.wrap_add-from in
+    let after = laid_back was.so_far.1.holds was.all (omega arith) fill.result.1 from.result from.ensures
+    (omega (arith, c.min-run.ensures, now.holds.0, now.at_most))
+    (omega (arith, c.min-run.ensures, now.holds.0, now.at_most)) now.items now.holds.0
+    {slots = c.replace-nothing.new.dest}
+    (rw (c.replace-nothing.ensures.after, ← c.moved_out.ensures.region) now.holds.1)
+    (rw (c.replace-nothing.ensures.after, ← c.moved_out.ensures.region) fill.ensures.steps) in
+    record {
+      all = was.all;
+      kept = kept after;
       so_far = (
         _,
-        Fills-both _ was.so_far.1 now _ some (subst (Opened _) (filled_back-both xs now.items c.args.self.now)
-            (laid_back was.so_far.1.holds all (omega arith) fill.result.1 c.wrap_add-from.result c.wrap_add-from.ensures
-            (omega (arith, c.min-run.ensures, now.holds.0, now.at_most))
-            (omega (arith, c.min-run.ensures, now.holds.0, now.at_most)) now.items now.holds.0
-            (rw (c.replace-nothing.ensures.after, ← c.moved_out.ensures.region) now.holds.1)
-            (rw (c.replace-nothing.ensures.after, ← c.moved_out.ensures.region) fill.ensures.steps))),
+        Fills-both _ was.so_far.1 now _ some (subst (Opened _) (filled_back-both xs now.items c.args.self.now) after),
       );
       goes = λ more. let goes = fill.ensures.goes more in (goes.0, λ f. goes.1 ((was.goes some).1 f));
     }
 
-pub invariant_of-self : goal.invariant_of-self
-invariant_of-self g c = kept c.loop-ended.invariant.so_far.1.holds
-
-pub invariant_of-self-in-loop-ended : goal.invariant_of-self-in-loop-ended
-invariant_of-self-in-loop-ended g c = kept c.loop-ended.invariant.so_far.1.holds
-
 pub returns-else-self-capacity-clause-filled : goal.returns-else-self-capacity-clause-filled
 returns-else-self-capacity-clause-filled g c =
-    let all = c.capacity-capacity.ensures ∙ (opened c.self.inside c.self.invariant c.self.view_is).laid.long in
-    let was = c.loop-ended.invariant.so_far.1 in
-    Fills-as _ was _ _ (omega (arith, all, was.holds.len, was.holds.laid.within, length-append c.args.self.now.items was.items,
-    (was.all c.loop-ended-test.true).1)) (λ xs. closed)
+    let inv = c.loop-ended.invariant in let was = inv.so_far.1 in let some = c.loop-ended-test.true in
+    Fills-as _ was _ _ (omega (
+      arith,
+      inv.all,
+      was.holds.len,
+      was.holds.laid.within,
+      length-append c.args.self.now.items was.items,
+      (was.all some).1,
+    )) (λ xs. closed)
+
+pub returns-after-loop-ended-clause-filled : goal.returns-after-loop-ended-clause-filled
+returns-after-loop-ended-clause-filled g c = let was = c.loop-ended.invariant.so_far.1 in
+    Fills-as _ (Fills-within _ was _ c.loop-ended-test.false (omega
+    (arith, was.holds.laid.within, length-append c.args.self.now.items was.items)))
+    _ _ refl (λ xs. closed)
 
 pub returns-else-self-capacity-clause-within : goal.returns-else-self-capacity-clause-within
 returns-else-self-capacity-clause-within g c =
-    (opened c.loop-ended.self-inside (kept c.loop-ended.invariant.so_far.1.holds) refl).laid.within
-
-pub returns-after-loop-ended-clause-filled : goal.returns-after-loop-ended-clause-filled
-returns-after-loop-ended-clause-filled g c =
-    let was = c.loop-ended.invariant.so_far.1 in
-    Fills-as _ (Fills-within _ was _ c.loop-ended-test.false (omega
-    (arith, was.holds.laid.within, length-append c.args.self.now.items was.items))) _ _ refl (λ xs. closed)
+    (opened c.loop-ended.self-inside c.loop-ended.invariant.kept refl).laid.within
 
 pub returns-after-loop-ended-clause-within : goal.returns-after-loop-ended-clause-within
 returns-after-loop-ended-clause-within g c =
-    (opened c.loop-ended.self-inside (kept c.loop-ended.invariant.so_far.1.holds) refl).laid.within
+    (opened c.loop-ended.self-inside c.loop-ended.invariant.kept refl).laid.within

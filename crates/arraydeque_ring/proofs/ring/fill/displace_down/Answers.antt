@@ -1,5 +1,5 @@
 use Rattle.std.proofs.{
-  Common.{◌-◌, ◌+◌, [], ◌∷◌, reverse, inl, refl, Some, None, ◌∙◌, arith},
+  Common.{◌-◌, ◌+◌, [], ◌∷◌, reverse, inl, Some, None, ◌∙◌, arith},
   lemmas.List.{length-append, length-reverse, set-set},
 }
 use Rattle.arraydeque_ring.proofs.fills.{FromIterator.Fills-one, Filling.{filled_outside, with_run-down}}

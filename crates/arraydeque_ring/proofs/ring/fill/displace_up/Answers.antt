@@ -1,5 +1,5 @@
 use Rattle.std.proofs.{
-  Common.{◌+◌, [], ◌∷◌, inr, refl, Some, None, ◌∙◌, arith},
+  Common.{[], ◌∷◌, inr, Some, None, ◌∙◌, arith},
   lemmas.List.{length-append, set-set},
 }
 use Rattle.arraydeque_ring.proofs.fills.{FromIterator.Fills-one, Filling.{filled_outside, with_run-behind}}

@@ -1,4 +1,4 @@
-use Rattle.std.{proofs.Common.{◌≡◌, ◌+◌, ◌-◌, ◌≤◌, length, false}, specs.Iterator.{IsFinite, size}}
+use Rattle.std.{proofs.Common.{◌≡◌, ◌+◌, ◌≤◌, length, false}, specs.Iterator.{IsFinite, size}}
 use Rattle.arraydeque_ring.specs.{Fills.Fills, Loans.with_run, Steps.{more_puts, more_takes}}
 use Rattle.arraydeque_ring.proofs.ring.fill.displace_up.Given as goal
 

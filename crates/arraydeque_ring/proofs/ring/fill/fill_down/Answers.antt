@@ -1,4 +1,7 @@
-use Rattle.std.proofs.{Common.{◌-◌, ◌+◌, [], ◌∷◌, reverse, inl, refl, arith}, lemmas.List.{length-append, length-reverse}}
+use Rattle.std.proofs.{
+  Common.{◌-◌, ◌+◌, [], ◌∷◌, reverse, inl, refl, arith},
+  lemmas.List.{length-append, length-reverse},
+}
 use Rattle.arraydeque_ring.proofs.fills.{FromIterator.Fills-one, Filling.{empty_outside, with_run-down}}
 use Rattle.arraydeque_ring.proofs.ring.fill.fill_down.Goals as goal
 
