@@ -131,7 +131,8 @@ module _ {X : Type 0} (t : ℕ) (ps : List (Option X)) (t_in : t < length ps) wh
         (length-gap_moved from to gap _ (omega (arith, wide)) (omega (arith, wide)) ∙ wide)
         (λ x x_in. elim (cases_lt x (to + gap)) [
           | inl low ↦ grind (arith, nat_tests, none x)
-          | inr high ↦ let back : to + (x - (to + gap)) ≡ x - gap = omega arith in grind (arith, nat_tests, none x, back)
+          | inr high ↦ let back : to + (x - (to + gap)) ≡ x - gap = omega arith in
+              grind (arith, nat_tests, none x, back)
         ] ∙ sym (get_or-gap_moved from to gap _ (omega (arith, wide)) (omega (arith, wide)) x))
 
     pub crosses_down : from ≤ to → IsFilledRun (rotated t ps) (from + gap) (to - from)

@@ -1,7 +1,7 @@
 -- A gap among the items of a ring is moved to an end of them, and so closed, or from there, and so opened.
 use Rattle.std.proofs.{
-  Common.{◌≡◌, ℕ, ◌+◌, ◌-◌, ◌<◌, ◌≤◌, List, ◌++◌, length, take, drop, max, nat_lt, if◌then◌else◌, Option, None, refl, sym},
-  Common.{inl, inr, ap, ◌∙◌, arith},
+  Common.{◌≡◌, ℕ, ◌+◌, ◌-◌, ◌<◌, ◌≤◌, List, ◌++◌, length, take, drop, max, nat_lt, if◌then◌else◌, Option, None, refl},
+  Common.{sym, inl, inr, ap, ◌∙◌, arith},
   lemmas.{Bool.{cases_lt, Decides.nat_tests}, List.{length-append, length-take-le, length-drop}},
 }
 use Rattle.arraydeque_ring.{

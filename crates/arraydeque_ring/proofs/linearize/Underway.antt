@@ -12,7 +12,10 @@ use Rattle.arraydeque_ring.{
     Swapped.runs_swapped,
   },
   proofs.{
-    gaps.{Crossing.{length-gap_moved, get_or-gap_moved, gap_here, gap_passed, gap_elsewhere}, GapMoves.{MayMove, may_move}},
+    gaps.{
+      Crossing.{length-gap_moved, get_or-gap_moved, gap_here, gap_passed, gap_elsewhere},
+      GapMoves.{MayMove, may_move},
+    },
     moved.Flat.same_places,
     places.{
       Held.{filled_run_of, empty_run_of},
@@ -108,11 +111,13 @@ room_for_first {dst = dst} {gap = gap} {behind = behind} {len = len} {ps = ps} n
     λ z a b. u.empty_at z (z + behind) (omega arith) (grind (arith, nat_tests)) in
     record {
       may = may_move from dst behind ps (omega arith) (λ x a b. in_gap x a (omega arith))
-          (λ x a b. u.filled_at x (x + behind) (omega arith) (grind (arith, nat_tests))) (λ x a b. absurd (omega arith));
+          (λ x a b. u.filled_at x (x + behind) (omega arith) (grind (arith, nat_tests)))
+          (λ x a b. absurd (omega arith));
       moved = λ qs is.
           let long : length qs ≡ length ps =
           ap length is ∙ length-gap_moved from dst behind ps (omega arith) (omega arith) in
-          let held : (x : ℕ) → held_at qs x ≡ held_at (gap_moved from dst behind ps) x = λ x. ap (λ l. held_at l x) is in
+          let held : (x : ℕ) → held_at qs x ≡ held_at (gap_moved from dst behind ps) x =
+          λ x. ap (λ l. held_at l x) is in
           let same : (x : ℕ) → (x < dst) ⊎ (from + behind ≤ x) → held_at qs x ≡ held_at ps x =
           λ x out. held x ∙ gap_elsewhere from dst behind ps low (omega arith) x out in
           let none : (x : ℕ) → dst ≤ x → x < dst + behind → held_at qs x ≡ None =

@@ -34,7 +34,8 @@ gap : (g : Over) (c : goal.After-put-arg-1 g) → let items = c.args.self.now.it
 gap g c =
     let ring = opened c.self.inside c.self.invariant c.self.view_is in
     let start = rw ring.laid.long at c.open_gap-self-inside.ensures.start in
-    let all : c.args.index + (c.self.inside.len - c.args.index) ≡ length c.args.self.now.items = omega (arith, ring.len) in
+    let all : c.args.index + (c.self.inside.len - c.args.index) ≡ length c.args.self.now.items =
+    omega (arith, ring.len) in
     Gapped-opened c.args.index c.open_gap-self-inside.result _ ring.laid c.requires.in_bounds c.requires.room
     (rw start (start_opened-in c.args.index _ _ _ (omega (arith, ring.laid.in_region))))
     (rw all at c.open_gap-self-inside.ensures.places)

@@ -30,7 +30,8 @@ room g c wraps =
 
 pub move_gap-requires : goal.move_gap-requires
 move_gap-requires g c =
-    let may = (in_one_piece g (goal.at.move_gap-requires g c).After-capacity (omega arith)).may in rw (append-nil c.args.slots.places) (record {
+    let may = (in_one_piece g (goal.at.move_gap-requires g c).After-capacity (omega arith)).may in
+    rw (append-nil c.args.slots.places) (record {
       in_region = omega arith;
       within = omega arith;
       empty = may.empty;
