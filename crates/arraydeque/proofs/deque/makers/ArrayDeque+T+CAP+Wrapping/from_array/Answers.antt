@@ -5,7 +5,8 @@ use Rattle.arraydeque.proofs.deque.makers.ArrayDeque+T+CAP+Wrapping.from_array.G
 pub of-requires : goal.of-requires
 of-requires g c =
     let len : length c.args.a ≡ g.row.N = c.well_formed.1.0.1.0.1 in
-    rw c.in-Ok.ensures.ok (omega arith, (refl, simp (length-take, length-drop) (omega (arith, c.saturating_sub.ensures))))
+    rw c.in-Ok.ensures.ok
+    (omega arith, (refl, simp (length-take, length-drop) (omega (arith, c.saturating_sub.ensures))))
 
 pub returns-in-Ok-clause-items : goal.returns-in-Ok-clause-items
 returns-in-Ok-clause-items g c =
