@@ -1,4 +1,5 @@
-use Rattle.std.proofs.{Common.{◌≡◌, ◌-◌, refl, ap, ◌∙◌, arith, length}, lemmas.List.{take_rest, length-take, length-drop}}
+use Rattle.std.proofs.Common.{◌≡◌, ◌-◌, refl, ap, ◌∙◌, arith, length}
+use Rattle.std.proofs.lemmas.List.{take_rest, length-take, length-drop}
 use Rattle.arraydeque.{specs.Deque.{empty_deque, with_back}, proofs.Pushed.of_ring}
 use Rattle.arraydeque.proofs.deque.makers.ArrayDeque+T+CAP+Wrapping.from_array.Goals as goal
 
