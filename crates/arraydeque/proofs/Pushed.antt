@@ -1,7 +1,7 @@
 -- What pushes leave, one and many.
 use Rattle.std.proofs.{
-  Common.{◌≡◌, ◌<◌, ◌≤◌, ℕ, ◌+◌, ◌-◌, List, ◌++◌, length, take, drop, reverse, nat_lt, if◌then◌else◌, sym, ap, ap₂, ◌∙◌},
-  Common.{refl, arith},
+  Common.{◌≡◌, ◌<◌, ◌≤◌, ℕ, ◌+◌, ◌-◌, List, ◌++◌, length, take, drop, reverse, nat_lt, if◌then◌else◌, sym, ap},
+  Common.{ap₂, ◌∙◌, refl, arith},
   lemmas.{
     Bool.Decides.nat_tests,
     List.{append_assoc, length-append, length-drop, length-reverse, take_all, nil_from_length},

@@ -27,9 +27,11 @@ module _ {S A : Type 0} {gives : S → Option A → S → Type 0} (run : Run giv
 
   -- they are its first ones, as many as they are
   items_are : Reads → take run.len xs ≡ run.items
-  items_are reads = same_lists (take run.len xs) run.items (omega (arith, run.long, length-take run.len xs)) (λ k d below.
+  items_are reads =
+      same_lists (take run.len xs) run.items (omega (arith, run.long, length-take run.len xs)) (λ k d below.
       let here : k < run.len = omega (arith, length-take run.len xs) in
-      get_or-take run.len xs k d here ∙ sym (ap (λ o. unwrap_or o d) (sym (run.reads k d here) ∙ reads k d here)))
+      get_or-take run.len xs k d here ∙ sym
+      (ap (λ o. unwrap_or o d) (sym (run.reads k d here) ∙ reads k d here)))
 
   -- and its first n, where there are fewer only at its end
   first_items : (n : ℕ) → run.len ≤ n → (run.len < n → run.whole ≡ true) → (run.whole ≡ true → run.len ≡ length xs)

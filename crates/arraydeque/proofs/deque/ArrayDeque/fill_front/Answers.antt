@@ -20,4 +20,5 @@ returns-clause-within g c =
 pub returns-clause-full : goal.returns-clause-full
 returns-clause-full g c some =
     let filled = c.fill_front.ensures.filled in
-    rw filled.holds (simp (length-append, length-reverse) (omega (arith, c.self.invariant.0, c.self.invariant.1, (filled.all some).1)))
+    rw filled.holds (simp (length-append, length-reverse)
+    (omega (arith, c.self.invariant.0, c.self.invariant.1, (filled.all some).1)))

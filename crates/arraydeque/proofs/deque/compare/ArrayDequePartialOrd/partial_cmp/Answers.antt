@@ -3,10 +3,16 @@ use Rattle.arraydeque.proofs.Sections.{sections, partial_pairs}
 use Rattle.arraydeque.proofs.deque.compare.ArrayDequePartialOrd.partial_cmp.Goals as goal
 
 pub returns-then-ne : goal.returns-then-ne
-returns-then-ne g c = let pairs = sections (partial_pairs g.T.PartialOrd.partial_cmp) c.sections-cut.ensures in grind (arith, common_steps)
+returns-then-ne g c =
+    let pairs = sections (partial_pairs g.T.PartialOrd.partial_cmp) c.sections-cut.ensures in
+    grind (arith, common_steps)
 
 pub returns-then-ne-2 : goal.returns-then-ne-2
-returns-then-ne-2 g c = let pairs = sections (partial_pairs g.T.PartialOrd.partial_cmp) c.sections-cut.ensures in grind (arith, common_steps)
+returns-then-ne-2 g c =
+    let pairs = sections (partial_pairs g.T.PartialOrd.partial_cmp) c.sections-cut.ensures in
+    grind (arith, common_steps)
 
 pub returns : goal.returns
-returns g c = let pairs = sections (partial_pairs g.T.PartialOrd.partial_cmp) c.sections-cut.ensures in grind (arith, common_steps)
+returns g c =
+    let pairs = sections (partial_pairs g.T.PartialOrd.partial_cmp) c.sections-cut.ensures in
+    grind (arith, common_steps)

@@ -31,7 +31,8 @@ displace_first-requires g c =
     }
 
 pub invariant_of-self : goal.invariant_of-self
-invariant_of-self g c = rw c.displace_first.ensures.holds (c.self.invariant.0, simp (length-drop, length-append) (omega arith))
+invariant_of-self g c =
+    rw c.displace_first.ensures.holds (c.self.invariant.0, simp (length-drop, length-append) (omega arith))
 
 pub returns : goal.returns
 returns g c =

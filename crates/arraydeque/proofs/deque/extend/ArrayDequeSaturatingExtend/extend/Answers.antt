@@ -23,7 +23,8 @@ returns-clause-taken g c =
     let rest = c.drop_all.ensures.items in
     TakesAll-both c.into_iter-elements.ensures.into_iter_gives filled c.if-ended.false c.drop_all.ensures
     (filled.holds ∙ ap (λ xs. with_back xs c.args.self.now) (sym
-    (ap (λ n. take n (filled.items ++ rest)) (sym (filled.all c.if-ended.false).1) ∙ take-append_seam filled.items rest)))
+    (ap (λ n. take n (filled.items ++ rest)) (sym (filled.all c.if-ended.false).1)
+    ∙ take-append_seam filled.items rest)))
 
 pub returns-clause-ran : goal.returns-clause-ran
 returns-clause-ran g c = TakesAll-drains (returns-clause-taken g c)

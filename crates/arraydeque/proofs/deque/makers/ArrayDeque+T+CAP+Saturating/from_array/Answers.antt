@@ -1,4 +1,5 @@
-use Rattle.std.proofs.{Common.{◌≡◌, refl, ap, ◌∙◌, arith, length}, lemmas.List.{take_min, length-take}, Math.Nat.min_comm}
+use Rattle.std.proofs.Common.{◌≡◌, refl, ap, ◌∙◌, arith, length}
+use Rattle.std.proofs.{lemmas.List.{take_min, length-take}, Math.Nat.min_comm}
 use Rattle.arraydeque.{specs.Deque.{empty_deque, with_back}, proofs.Pushed.of_ring}
 use Rattle.arraydeque.proofs.deque.makers.ArrayDeque+T+CAP+Saturating.from_array.Goals as goal
 

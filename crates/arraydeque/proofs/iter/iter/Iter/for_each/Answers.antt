@@ -19,4 +19,5 @@ returns g c =
     let ran = walked_both (λ x. x.now) (λ xs. xs) (λ xs ys. xs ++ ys) (λ xs ys. refl) (λ z. z.rest.now)
     (λ z w. w ≡ z) _ _ _ c.into_iter.result c.into_iter.ensures.into_iter_gives.0 c.call_on_each-f.ensures
     c.into_iter-2.result c.into_iter-2.ensures.into_iter_gives.0 c.call_on_each.ensures in
-    rw (← c.self.view_is) (record { ran = ran; runs = for_each_runs (YieldsFirstRef (λ ys. ys)) _ g.F.FnMut c.args.f ran })
+    rw (← c.self.view_is)
+    (record { ran = ran; runs = for_each_runs (YieldsFirstRef (λ ys. ys)) _ g.F.FnMut c.args.f ran })
