@@ -62,7 +62,7 @@ module _ {X : Type 0} where
   values (Some x ∷ ps) = x ∷ values ps
 
   -- which places hold a value
-  abbrev pub filled : List (Option X) → List Bool
+  unfoldable pub filled : List (Option X) → List Bool
   filled ps = map is_some ps
 
 -- of the places whose fillings are given, the len from `start` on, round the end, are filled, and

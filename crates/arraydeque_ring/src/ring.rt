@@ -94,6 +94,7 @@ impl<T> Ring<T> {
     }
 
     /// Adds an element behind the last item. No kept item moves.
+    #[tactic(auto, using(crate::proofs::places::Opened::end_facts))]
     #[inline]
     pub fn push_back(&mut self, element: T)
         requires { length self.old.items < self.old.capacity }
@@ -108,6 +109,7 @@ impl<T> Ring<T> {
     }
 
     /// Adds an element before the first item. The start goes down to its place. No kept item moves.
+    #[tactic(auto, using(crate::proofs::places::Opened::end_facts))]
     #[inline]
     pub fn push_front(&mut self, element: T)
         requires { length self.old.items < self.old.capacity }
@@ -126,6 +128,7 @@ impl<T> Ring<T> {
 
     /// Takes the first item off, if there is one. The start goes up to the next place, and no kept
     /// item moves.
+    #[tactic(auto, using(crate::proofs::places::Opened::end_facts))]
     #[inline]
     pub fn pop_front(&mut self) -> Option<T>
         ensures value { result ≡ slice_get self.old.items 0 }
@@ -147,6 +150,7 @@ impl<T> Ring<T> {
     }
 
     /// Takes the last item off, if there is one. The start stays, and no kept item moves.
+    #[tactic(auto, using(crate::proofs::places::Opened::end_facts))]
     #[inline]
     pub fn pop_back(&mut self) -> Option<T>
         ensures value { result ≡ slice_get self.old.items (length self.old.items - 1) }
@@ -166,6 +170,7 @@ impl<T> Ring<T> {
     }
 
     /// The item at an index, if there is one. Index 0 is the front.
+    #[tactic(auto, using(crate::proofs::places::Opened::end_facts))]
     #[inline]
     pub fn get(&self, index: usize) -> Option<&T>
         ensures { option_copied result ≡ slice_get self.now.items index }
@@ -193,6 +198,7 @@ impl<T> Ring<T> {
     }
 
     /// Gives the region of a ring that holds no item back.
+    #[tactic(auto, using(crate::proofs::places::Opened::end_facts))]
     fn give_back(self)
         requires { self.items ≡ [] }
     {

@@ -75,6 +75,7 @@ pass_of {dst = dst} {gap = gap} {behind = behind} {len = len} {ps = ps} next run
 -- of the places read from t on the first len are filled
 FilledFrom-rotated : {X : Type 0} (t len : ℕ) (ps : List (Option X)) → FilledFrom t len (filled ps)
     → FilledFrom 0 len (filled (rotated t ps))
+unfolding filled
 FilledFrom-rotated t len ps fills =
     let same : filled (rotated t ps) ≡ rotated t (filled ps) = sym (rotated-map is_some t ps) in
     append-nil (filled (rotated t ps)) ∙ same ∙ fills ∙ ap (λ n. replicate len true ++ replicate (n - len) false)

@@ -97,11 +97,13 @@ module _ {X : Type 0} where
   length-with_run from ws ps within = length-placed from (length ws) (map Some ws) ps within (length-map ws Some)
 
   filled-map_Some : (ws : List X) → filled (map Some ws) ≡ replicate (length ws) true
+  unfolding filled
   filled-map_Some [] = refl
   filled-map_Some (w ∷ ws) = ap (λ l. true ∷ l) (filled-map_Some ws)
 
   filled-with_run : (from : ℕ) (ws : List X) (ps : List (Option X))
       → filled (with_run from ws ps) ≡ placed from (length ws) (replicate (length ws) true) (filled ps)
+  unfolding filled
   filled-with_run from ws ps =
       map-append is_some (take from ps) (map Some ws ++ drop (from + length ws) ps)
       ∙ ap₂ (λ l r. l ++ r) (sym (take-map is_some from ps))
@@ -111,6 +113,7 @@ module _ {X : Type 0} where
   -- as many values in the stead of a run of values fill no place and empty none
   run_filled : (from : ℕ) (xs ws : List X) (ps qs : List (Option X)) → HoldsRun ps from (length xs) xs
       → length ws ≡ length xs → filled qs ≡ filled ps → filled (with_run from ws qs) ≡ filled ps
+  unfolding filled
   run_filled from xs ws ps qs run e same =
       let n = length xs in
       let held : replicate n true ≡ take n (drop from (filled ps)) = sym (ap (take n) (drop-map is_some from ps)
@@ -125,6 +128,7 @@ module _ {X : Type 0} where
       run_filled b ys vs ps (with_run a us ps) run' e' (run_filled a xs us ps ps run e refl)
 
   pub filled-written_over : (ps ws : List (Option X)) → filled (written_over ps ws) ≡ filled ps
+  unfolding filled
   filled-written_over [] ws = refl
   filled-written_over (p ∷ ps) [] = refl
   filled-written_over (None ∷ ps) (w ∷ ws) = ap (λ l. false ∷ l) (filled-written_over ps ws)
@@ -132,11 +136,13 @@ module _ {X : Type 0} where
   filled-written_over (Some x ∷ ps) (Some y ∷ ws) = ap (λ l. true ∷ l) (filled-written_over ps ws)
 
   pub length-written_over : (ps ws : List (Option X)) → length (written_over ps ws) ≡ length ps
+  unfolding filled
   length-written_over ps ws = sym (length-map (written_over ps ws) is_some) ∙ ap length (filled-written_over ps ws)
       ∙ length-map ps is_some
 
   -- where the same places are filled, all is as written
   pub written_over-same : (ps ws : List (Option X)) → filled ws ≡ filled ps → written_over ps ws ≡ ws
+  unfolding filled
   written_over-same [] [] e = refl
   written_over-same [] (w ∷ ws) e = absurd (let l = ap length e in omega arith)
   written_over-same (p ∷ ps) [] e = absurd (let l = ap length e in omega arith)

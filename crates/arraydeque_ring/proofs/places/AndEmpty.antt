@@ -36,6 +36,7 @@ module _ {X : Type 0} where
 
   pub filled-and_empty : (xs : List X) (k : ℕ)
       → filled (and_empty xs k) ≡ replicate (length xs) true ++ replicate k false
+  unfolding filled
   filled-and_empty [] zero = refl
   filled-and_empty [] (suc k) = ap (λ l. false ∷ l) (filled-and_empty [] k)
   filled-and_empty (x ∷ xs) k = ap (λ l. true ∷ l) (filled-and_empty xs k)
@@ -43,6 +44,7 @@ module _ {X : Type 0} where
   -- places of which the first n are filled, and no others
   pub and_empty_from : (ps : List (Option X)) (n k : ℕ) → filled ps ≡ replicate n true ++ replicate k false
       → (ps ≡ and_empty (values ps) k) × (length (values ps) ≡ n)
+  unfolding filled
   and_empty_from [] zero zero e = (refl, refl)
   and_empty_from [] zero (suc k) e = absurd (let l = ap length e in omega arith)
   and_empty_from [] (suc n) k e = absurd (let l = ap length e in omega arith)

@@ -59,6 +59,7 @@ LaidOut-nothing n = record {
 -- places of which len from the start on are filled hold the values in them
 pub LaidOut-values : {X : Type 0} (t len : ℕ) (ps : List (Option X)) → t ≤ length ps - 1 → FilledFrom t len (filled ps)
     → LaidOut (length ps) t (values (rotated t ps)) ps × (length (values (rotated t ps)) ≡ len)
+unfolding filled
 LaidOut-values t len ps within e =
     let from = and_empty_from (rotated t ps) len (length (filled ps) - len) (sym (rotated-map is_some t ps) ∙ e) in
     (LaidOut-from (length (filled ps) - len) refl within from.0, from.1)
@@ -80,6 +81,7 @@ module _ {X : Type 0} {n t : ℕ} {xs : List X} {ps : List (Option X)} (l : Laid
 
   -- and as many places from the start on are filled
   pub FilledFrom-LaidOut : (m : ℕ) → length xs ≡ m → FilledFrom t m (filled ps)
+  unfolding filled
   FilledFrom-LaidOut m e =
       let left : n - length xs ≡ length (filled ps) - m = omega (arith, l.long, length-map ps is_some) in
       rotated-map is_some t ps ∙ ap filled rotated-LaidOut ∙ filled-and_empty xs (n - length xs)

@@ -1,20 +1,23 @@
 -- What the fields of an open ring say of the value that its contracts see.
 use Rattle.std.proofs.{
   Common.{◌≡◌, ℕ, suc, ◌+◌, ◌-◌, ◌%◌, ◌<◌, ◌≤◌, [], ◌∷◌, ◌++◌, length, take, drop, set, slice_get, Some, None, refl},
-  Common.{subst, sym, ap, ◌∙◌, arith},
-  lemmas.{List.{length_push, length-take-le, length-drop}, Option.slice_get_past},
+  Common.{subst, sym, ap, ◌∙◌, arith, Option, List},
+  lemmas.{List.{length_push, length-take-le, length-drop, nil_from_length, take_all, drop_all}, Option.slice_get_past},
 }
 use Rattle.arraydeque_ring.{
   specs.{
     declared.ring.Ring.TheInside.Inside,
-    Places.{held_at, Region},
+    Places.{held_at, IsFilled, AreAllEmpty, Region},
+    Gaps.run_emptied,
     Steps.{more_puts, more_takes},
     Ring.{RingState, place_of, rotated, values, filled, FilledFrom},
   },
+  proofs.gaps.Gapped.{Gapped-taken, LaidOut-gap_last},
   proofs.places.{
     Rotated.{place_of-lt},
     LaidOut.{LaidOut, LaidOut-values, values-LaidOut, FilledFrom-LaidOut, LaidOut-put_back, LaidOut-put_front},
-    LaidOut.{LaidOut-take_back, LaidOut-take_front},
+    LaidOut.{LaidOut-take_back, LaidOut-take_front, IsEmpty-place_of, held_at-start, LaidOut-restart, IsFilled-start},
+    LaidOut.{AreAllEmpty-LaidOut, IsFilled-place_of},
   },
 }
 
@@ -137,5 +140,123 @@ module _ {X : Type 0} {r : Inside X} {v : RingState X} (o : Opened r v) {slots :
     steps = steps ∙ ap (more_takes 1) o.steps;
   }
 
+-- where the places ps hold the items xs, laid out from the place t on, what the invariant and the view say of ps
+abbrev pub Shows : {X : Type 0} → ℕ → ℕ → ℕ → List X → List (Option X) → Type 0
+Shows n t len xs ps =
+    (length ps ≡ n) × (t ≤ length ps - 1) × FilledFrom t len (filled ps) × (values (rotated t ps) ≡ xs)
+
+shows : {X : Type 0} {n t : ℕ} {xs : List X} {ps : List (Option X)} → LaidOut n t xs ps → (len : ℕ)
+    → length xs ≡ len → Shows n t len xs ps
+shows l len many = (l.long, rw l.long l.in_region, FilledFrom-LaidOut l len many, values-LaidOut l)
+
+-- what is known of the fields alone, for goals that have no answer by hand. The first equation of what changed places
+-- show is that of the change itself, by which `grind` finds it.
+module _ {X : Type 0} (r : Inside X) (kept : Kept r) where
+  abbrev places : List (Option X)
+  places = r.slots.places
+
+  abbrev n : ℕ
+  n = length places
+
+  abbrev items : List X
+  items = values (rotated r.start places)
+
+  laid : LaidOut n r.start items places
+  laid = (opened r kept refl).laid
+
+  len : length items ≡ r.len
+  len = (opened r kept refl).len
+
+  pub at_index : (k : ℕ) → k < n → held_at places (place_of r.start k n) ≡ slice_get items k
+  at_index k lt = laid.at k lt
+
+  pub at_start : 0 < r.len → held_at places r.start ≡ slice_get items 0
+  at_start some = let within = laid.within in held_at-start laid (omega (arith, len))
+
+  pub is_filled : (k place : ℕ) → k < r.len → place ≡ place_of r.start k n → IsFilled places place
+  is_filled k place lt is = rw is (IsFilled-place_of laid k (omega (arith, len)))
+
+  pub first_filled : 0 < r.len → IsFilled places r.start
+  first_filled some = IsFilled-start laid (omega (arith, len))
+
+  pub past_items : (k : ℕ) → r.len ≤ k → k < n
+      → (held_at places (place_of r.start k n) ≡ None) × (place_of r.start k n < n)
+  past_items k past lt = let empty = IsEmpty-place_of laid k (omega (arith, len)) lt in (empty.1, empty.0)
+
+  pub no_items : r.len ≡ 0 → (items ≡ []) × AreAllEmpty places
+  no_items none = (nil_from_length items (len ∙ none), AreAllEmpty-LaidOut laid (len ∙ none))
+
+  -- an item is put at an end, or taken off there
+  pub back_put : (ps : List (Option X)) (place : ℕ) (x : X) → r.len < n → place ≡ place_of r.start r.len n
+      → ps ≡ set places place (Some x)
+      → (ps ≡ set places place (Some x)) × Shows n r.start (r.len + 1) (items ++ x ∷ []) ps
+  back_put ps place x room is put = (
+    put,
+    rw put (shows (rw (is, ← len) (LaidOut-put_back laid x (omega (arith, len))))
+        _ (length_push items x ∙ ap (λ m. m + 1) len)),
+  )
+
+  pub front_put : (ps : List (Option X)) (place : ℕ) (x : X) → r.len < n → place ≡ place_of r.start (n - 1) n
+      → ps ≡ set places place (Some x)
+      → (ps ≡ set places place (Some x)) × Shows n place (r.len + 1) (x ∷ items) ps
+  front_put ps place x room is put = (
+    put,
+    rw put
+        (shows (rw is (LaidOut-put_front laid x (omega (arith, len)))) _ (ap suc len ∙ omega arith)),
+  )
+
+  pub back_taken : (ps : List (Option X)) (place : ℕ) → 0 < r.len → place ≡ place_of r.start (r.len - 1) n
+      → ps ≡ set places place None
+      → (ps ≡ set places place None) × Shows n r.start (r.len - 1) (take (r.len - 1) items) ps
+  back_taken ps place some is taken = (
+    taken,
+    rw taken (shows (rw is (LaidOut-take_back laid (r.len - 1)
+        (omega (arith, len)))) _ (length-take-le (r.len - 1) items (omega (arith, len)))),
+  )
+
+  pub front_taken : (ps : List (Option X)) (place : ℕ) → 0 < r.len → place ≡ r.start → ps ≡ set places place None
+      → (ps ≡ set places place None) × Shows n (place_of r.start 1 n) (r.len - 1) (drop 1 items) ps
+  front_taken ps place some is taken = (
+    taken,
+    rw (taken, is)
+        (shows (LaidOut-take_front laid (omega (arith, len))) _ (omega (arith, len, length-drop 1 items))),
+  )
+
+  -- the items from the index k on are dropped, or all
+  pub last_dropped : (ps : List (Option X)) (k m : ℕ) → k + m ≡ r.len
+      → rotated r.start ps ≡ run_emptied k m (rotated r.start places)
+      → (rotated r.start ps ≡ run_emptied k m (rotated r.start places)) × Shows n r.start k (take k items) ps
+  last_dropped ps k m all out = (
+    out,
+    shows (LaidOut-gap_last (rw (drop_all (k + m) items (omega (arith, len))) at
+        (Gapped-taken laid k m ps (omega (arith, len)) out))) k (length-take-le k items (omega (arith, len))),
+  )
+
+  pub all_dropped : (ps : List (Option X)) → rotated r.start ps ≡ run_emptied 0 r.len (rotated r.start places)
+      → (rotated r.start ps ≡ run_emptied 0 r.len (rotated r.start places)) × Shows n 0 0 [] ps
+  all_dropped ps out = (
+    out,
+    shows (LaidOut-restart (LaidOut-gap_last (rw (drop_all (0 + r.len) items
+        (omega (arith, len))) at (Gapped-taken laid 0 r.len ps (omega (arith, len)) out))) refl) 0 refl,
+  )
+
 -- for the goals of the ring that have no answer by hand
 pub ruleset ring_facts = (bounds, item_held, slice_get_past, place_of-lt)
+
+-- and for those at one index or one end
+pub ruleset end_facts = (
+  bounds,
+  at_index,
+  at_start,
+  first_filled,
+  past_items,
+  no_items,
+  back_put,
+  front_put,
+  back_taken,
+  front_taken,
+  slice_get_past,
+  place_of-lt,
+)
+
+pub ruleset drop_facts = (bounds, last_dropped, all_dropped, take_all)

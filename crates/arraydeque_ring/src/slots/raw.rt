@@ -133,7 +133,7 @@ impl<T> Slots<T> {
         }
     }
 
-    /// A region over memory that the allocator gives, all places empty.
+    /// A region over memory of `alloc`, all places empty. `heap` is the same, lent to be called.
     pub(super) fn with_memory(
         heap: &Global,
         alloc: Global,
@@ -153,7 +153,7 @@ impl<T> Slots<T> {
         }
     }
 
-    /// Gives the memory back to the allocator.
+    /// Gives the memory back to the region's allocator, which is lent as `heap` to be called.
     pub(super) fn give_back(self, heap: &Global)
         requires { AreAllEmpty self.places }
     {

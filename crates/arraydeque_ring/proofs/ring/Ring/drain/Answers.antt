@@ -1,3 +1,5 @@
+use Rattle.std.proofs.{Common.{rules}, lemmas.Grind.{common_steps}}
+use Rattle.arraydeque_ring.{specs.Ring.{filled}, proofs.places.Opened.{ring_facts}}
 use Rattle.std.{
   proofs.{
     Common.{◌≡◌, ◌+◌, ◌-◌, ◌<◌, length, take, drop, slice_range, min, nat_lt, if◌then◌else◌, inl, inr, refl, sym},
@@ -151,3 +153,8 @@ returns-then-count-eq0-clause-fewest g c =
     subst (IsFewest _ old.capacity _) (sym (returns-then-count-eq0-clause-start g c))
     (fewest_drain c.args.from c.args.to (length old.items) old.capacity old.start (omega
     (arith, ring.laid.in_region, ring.start)) c.requires.in_order c.requires.in_bounds (length_within ring.laid))
+
+pub returns-then-count-eq0-clause-items : goal.returns-then-count-eq0-clause-items
+unfolding filled
+returns-then-count-eq0-clause-items g c =
+    first_of (search rules, grind (arith, common_steps), grind (arith, ring_facts))

@@ -6,7 +6,7 @@ use Rattle.std.proofs.{
 use Rattle.arraydeque_ring.{
   specs.Steps.more_lends,
   proofs.{
-    places.{LaidOut.{length_within, IsFilled-place_of, LaidOut-set}, Opened.{Opened, opened, closed, kept, place_at}},
+    places.{LaidOut.{length_within, LaidOut-set}, Opened.{Opened, opened, closed, kept, is_filled, place_at}},
     ring.Ring.get_mut.{Given.Over, Goals.{After-get_mut}},
   },
 }
@@ -20,10 +20,7 @@ returns-then-index-self g c =
     )
 
 pub get_mut-requires : goal.get_mut-requires
-get_mut-requires g c =
-    let ring = opened c.self.inside c.self.invariant c.self.view_is in
-    rw (place_at ring _ c.capacity.ensures c.wrap_add_branchless-place.ensures)
-    (IsFilled-place_of ring.laid _ (omega arith))
+get_mut-requires g c = is_filled c.self.inside c.self.invariant c.args.index _ (omega arith) cc
 
 after : (g : Over) (c : After-get_mut g) (w : g.row.T.Denot) → Opened record {
   slots = record {

@@ -2,19 +2,11 @@ use Rattle.std.proofs.{Common.{◌≡◌, ◌+◌, drop, ap, sym, ◌∙◌, ari
 use Rattle.arraydeque_ring.{
   specs.{Ring.place_of, Steps.more_takes},
   proofs.{
-    places.{LaidOut.{length_within, held_at-start, IsFilled-start}, Opened.{opened, closed, kept, take_front}},
+    places.Opened.{opened, closed, kept, take_front},
     ring.Ring.take_before_end.Given.Over,
   },
 }
 use Rattle.arraydeque_ring.proofs.ring.Ring.take_before_end.Goals as goal
-
-pub overflow_sub-self : goal.overflow_sub-self
-overflow_sub-self g c = let ring = opened c.self.inside c.self.invariant c.self.view_is in
-    omega (arith, ring.len, c.requires.some)
-
-pub take-requires : goal.take-requires
-take-requires g c = let ring = opened c.self.inside c.self.invariant c.self.view_is in
-    IsFilled-start ring.laid (omega (arith, c.requires.some))
 
 next : (g : Over) (c : goal.After-take g)
     → c.self.inside.start + 1 ≡ place_of c.args.self.now.start 1 c.args.self.now.capacity
@@ -26,11 +18,6 @@ invariant_of-self g c =
     let ring = opened c.self.inside c.self.invariant c.self.view_is in
     kept (take_front ring (omega (arith, ring.len, c.requires.some))
     (next g c) c.take.ensures.places c.take.ensures.steps)
-
-pub returns-clause-value : goal.returns-clause-value
-returns-clause-value g c =
-    let ring = opened c.self.inside c.self.invariant c.self.view_is in
-    sym c.take.ensures.value ∙ held_at-start ring.laid (omega (arith, length_within ring.laid))
 
 pub returns-clause-taken : goal.returns-clause-taken
 returns-clause-taken g c =

@@ -1,3 +1,5 @@
+use Rattle.std.proofs.{Common.{rules}, lemmas.Grind.{common_steps}}
+use Rattle.arraydeque_ring.{specs.Ring.{filled}, proofs.places.Opened.{ring_facts}}
 use Rattle.std.proofs.{
   Common.{◌≡◌, ◌+◌, ◌-◌, inl, inr, ◌==◌, refl, if◌then◌else◌, arith},
   lemmas.Bool.Decides.nat_tests,
@@ -77,3 +79,8 @@ returns-clause-steps g c =
       grind (arith, nat_tests, so_far.2, c.loop-next.invariant.walk.placed),
       rw (c.place_rest.ensures.steps, so_far.3) (grind arith),
     )
+
+pub loop-next-init : goal.loop-next-init
+unfolding filled
+loop-next-init g c =
+    first_of (search rules, grind (arith, common_steps), grind (arith, ring_facts))
