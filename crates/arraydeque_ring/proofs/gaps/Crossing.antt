@@ -1,7 +1,7 @@
 -- A run of values that moves across a run of empty places, read from the start on.
 use Rattle.std.{
   proofs.{
-    Common.{◌≡◌, ℕ, zero, suc, ◌+◌, ◌-◌, ◌<◌, ◌≤◌, ◌⊎◌, inl, inr, List, length, nat_lt, if◌then◌else◌, Option},
+    Common.{◌≡◌, ◌≢◌, ◌==◌, ℕ, zero, suc, ◌+◌, ◌-◌, ◌<◌, ◌≤◌, ◌⊎◌, inl, inr, List, length, nat_lt, if◌then◌else◌, Option},
     Common.{None, max, refl, sym, ap, ◌∙◌, arith},
     lemmas.{Bool.{cases_lt, Decides.nat_tests}, Grind.common_steps, List.places},
   },
@@ -14,11 +14,11 @@ use Rattle.arraydeque_ring.{
     Ring.{place_of, rotated},
   },
   proofs.{
-    moved.{Flat.{distance_is, look, same_places}, Round.{Holds-moved, distance-rotated}},
+    moved.{Flat.{distance_is, length-moved, look, same_places}, Round.{Holds-moved, distance-rotated}},
     places.{
       Held.{filled_in_run, empty_in_run},
       Holds.{Holds, Holds-filled, Holds-rotated},
-      Rotated.{place_of-lt, place_of-sum, length-rotated, get_or-rotated},
+      Rotated.{place_of-lt, place_of-sum, one_place, length-rotated, get_or-rotated},
     },
   },
 }
@@ -63,6 +63,7 @@ filled_at ps from len x run a b = let v = filled_in_run ps from len (x - from) r
 pub record Crosses {X : Type 0} (t i j len : ℕ) (ps after : List (Option X)) : Type 0 where
   pub can : CanMove (place_of t i (length ps)) (place_of t j (length ps)) len ps
   pub free : IsFreeRound (place_of t i (length ps)) (place_of t j (length ps)) len ps
+  pub count : (if place_of t i (length ps) == place_of t j (length ps) then 0 else len) ≡ len
   pub is : rotated t (run_moved (place_of t i (length ps)) (place_of t j (length ps)) len ps) ≡ after
 
 apart_by : (t i j len n : ℕ) → t < n → i + len ≤ n → j + len ≤ n
@@ -75,6 +76,12 @@ apart_by t i j (suc len) n t_in a b = grind (
   distance_is j i n (omega arith) (omega arith),
 )
 
+count_by : (t i j len n : ℕ) → t < n → i + len ≤ n → j + len ≤ n → i ≢ j
+    → (if place_of t i n == place_of t j n then 0 else len) ≡ len
+count_by t i j zero n t_in a b other = grind (arith, nat_tests)
+count_by t i j (suc len) n t_in a b other =
+    rw (one_place t i j n (omega arith) (omega arith) (omega arith)) (grind (arith, nat_tests))
+
 module _ {X : Type 0} (t : ℕ) (ps : List (Option X)) (t_in : t < length ps) where
   reads : Holds (length ps) t (held_at (rotated t ps)) ps
   reads = record {
@@ -83,12 +90,12 @@ module _ {X : Type 0} (t : ℕ) (ps : List (Option X)) (t_in : t < length ps) wh
     at = λ k lt. sym (get_or-rotated t k (length ps) ps None refl (omega arith) lt);
   }
 
-  crosses : (i j len : ℕ) (after : List (Option X)) → i + len ≤ length ps → j + len ≤ length ps
+  crosses : (i j len : ℕ) (after : List (Option X)) → i + len ≤ length ps → j + len ≤ length ps → i ≢ j
       → ((x : ℕ) → i ≤ x → x < i + len → ((j ≤ x) × (x < j + len)) ⊎ (held_at (rotated t ps) x ≡ None))
       → ((k : ℕ) → k < len → IsFilled (rotated t ps) (j + k)) → length after ≡ length ps
       → ((x : ℕ) → x < length ps → look (held_at (rotated t ps)) i j len x ≡ held_at after x)
       → Crosses t i j len ps after
-  crosses i j len after i_in j_in free some long each = let n = length ps in record {
+  crosses i j len after i_in j_in other free some long each = let n = length ps in record {
     can = record {
       dst_in_region = place_of-lt t i n (omega arith);
       src_in_region = place_of-lt t j n (omega arith);
@@ -105,6 +112,7 @@ module _ {X : Type 0} (t : ℕ) (ps : List (Option X)) (t_in : t < length ps) wh
       ))
       | inr none ↦ inr (place_of-lt t (i + k) n (omega arith), reads.at (i + k) (omega arith) ∙ none)
     ]);
+    count = count_by t i j len n t_in i_in j_in other;
     is =
         let moved = Holds-moved reads i j len t_in i_in j_in in
         same_places _ _ (length-rotated t _ ∙ moved.long ∙ sym long)
@@ -112,7 +120,7 @@ module _ {X : Type 0} (t : ℕ) (ps : List (Option X)) (t_in : t < length ps) wh
   }
 
   -- a gap that moves from one index to another, and the values between the other way
-  module _ (from to gap : ℕ) (within : max from to + gap ≤ length ps)
+  module _ (from to gap : ℕ) (some : 0 < gap) (within : max from to + gap ≤ length ps)
       (empty : IsEmptyRun (rotated t ps) from gap) where
     wide : length (rotated t ps) ≡ length ps
     wide = length-rotated t ps
@@ -122,7 +130,7 @@ module _ {X : Type 0} (t : ℕ) (ps : List (Option X)) (t_in : t < length ps) wh
 
     pub crosses_up : to < from → IsFilledRun (rotated t ps) to (from - to)
         → Crosses t (to + gap) to (from - to) ps (gap_moved from to gap (rotated t ps))
-    crosses_up lt filled = crosses (to + gap) to (from - to) _ (omega arith) (omega arith)
+    crosses_up lt filled = crosses (to + gap) to (from - to) _ (omega arith) (omega arith) (omega arith)
         (λ x a b. elim (cases_lt x from) [
           | inl below ↦ inl (omega arith, omega arith)
           | inr past ↦ inr (none x past (omega arith))
@@ -137,7 +145,7 @@ module _ {X : Type 0} (t : ℕ) (ps : List (Option X)) (t_in : t < length ps) wh
 
     pub crosses_down : from ≤ to → IsFilledRun (rotated t ps) (from + gap) (to - from)
         → Crosses t from (from + gap) (to - from) ps (gap_moved from to gap (rotated t ps))
-    crosses_down le filled = crosses from (from + gap) (to - from) _ (omega arith) (omega arith)
+    crosses_down le filled = crosses from (from + gap) (to - from) _ (omega arith) (omega arith) (omega arith)
         (λ x a b. elim (cases_lt x (from + gap)) [
           | inl below ↦ inr (none x a below)
           | inr past ↦ inl (past, omega arith)

@@ -1,6 +1,6 @@
 -- A run that moves round the end in three parts: from its first on where it moves down, else from its last.
 use Rattle.std.proofs.{
-  Common.{◌≡◌, ℕ, ◌+◌, ◌-◌, ◌<◌, ◌≤◌, List, length, Option, refl, sym, ap, ◌∙◌, arith},
+  Common.{◌≡◌, ℕ, zero, suc, ◌+◌, ◌-◌, ◌<◌, ◌≤◌, List, length, Option, refl, sym, ap, ◌∙◌, arith},
   lemmas.Bool.Decides.nat_tests,
 }
 use Rattle.arraydeque_ring.{

@@ -95,6 +95,7 @@ pub(super) fn close_gap<T>(
     gap: usize,
     behind: usize,
 ) -> usize
+    requires some { 0 < gap }
     requires in_region { start < length slots.old.places }
     requires within { before + gap + behind ≤ length slots.old.places }
     requires filled_before { IsFilledRun (rotated start slots.old.places) 0 before }
@@ -122,6 +123,7 @@ pub(super) fn close_gap<T>(
 /// `to` without the gap.
 #[inline(always)]
 pub(super) fn move_gap<T>(slots: &mut Slots<T>, start: usize, from: usize, to: usize, gap: usize)
+    requires some { 0 < gap }
     requires in_region { start < length slots.old.places }
     requires within { max from to + gap ≤ length slots.old.places }
     requires empty { IsEmptyRun (rotated start slots.old.places) from gap }
@@ -133,8 +135,18 @@ pub(super) fn move_gap<T>(slots: &mut Slots<T>, start: usize, from: usize, to: u
 {
     let capacity = slots.capacity();
     if to < from {
-        slots.slide_up(wrap_add(start, to, capacity), gap, from - to);
+        let src = wrap_add(start, to, capacity);
+        if gap == 1 {
+            slots.slide_up(src, from - to);
+        } else {
+            slots.wrap_move(wrap_add(start, to + gap, capacity), src, from - to);
+        }
     } else {
-        slots.slide_down(wrap_add(start, from, capacity), gap, to - from);
+        let dst = wrap_add(start, from, capacity);
+        if gap == 1 {
+            slots.slide_down(dst, to - from);
+        } else {
+            slots.wrap_move(dst, wrap_add(start, from + gap, capacity), to - from);
+        }
     }
 }

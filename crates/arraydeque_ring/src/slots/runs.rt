@@ -76,52 +76,49 @@ impl<T> Slots<T> {
         self.count(StepKind::Move, len);
     }
 
-    /// Moves the values in the `len` places from `src` on up by `distance` places, round the
-    /// region's end.
+    /// Moves the values in the `len` places from `src` on up by one place, round the region's end.
     ///
-    /// Here, as where a run moves to any place, the region is a local, so that its pointer is known
-    /// to stay.
-    #[inline]
-    pub(crate) fn slide_up(&mut self, src: usize, distance: usize, len: usize)
-        requires in_reach { distance ≤ length self.old.places }
-        requires can { let n = length self.old.places in
-            CanMove (place_of src distance n) src len self.old.places }
+    /// Here, as where a run moves elsewhere, the region is a local, so that its pointer is known to
+    /// stay.
+    pub(crate) fn slide_up(&mut self, src: usize, len: usize)
+        requires in_region { src < length self.old.places }
+        requires room { len < length self.old.places }
+        requires filled { IsFilledRound src len self.old.places }
         requires free { let n = length self.old.places in
-            IsFreeRound (place_of src distance n) src len self.old.places }
+            IsFreeRound (place_of src 1 n) src len self.old.places }
         ensures places { let n = length self.old.places in
-            self.new.places ≡ run_moved (place_of src distance n) src len self.old.places }
+            self.new.places ≡ run_moved (place_of src 1 n) src len self.old.places }
         ensures steps { self.new.steps ≡ more_moves len self.old.steps }
     {
         let capacity = self.capacity();
         let mut slots = self.moved_out();
-        if distance == 1 && len < capacity - src {
+        if len < capacity - src {
             slots.move_last::<1>(src + 1, src, len);
         } else {
-            slots = slots.moved(wrap_add(src, distance, capacity), src, len);
+            slots = slots.moved_in_parts(wrap_add(src, 1, capacity), src, len);
         }
         *self = slots;
         self.count(StepKind::Move, len);
     }
 
-    /// Moves the values in the `len` places from the one `distance` places behind `dst` on down to
-    /// those from `dst` on, round the region's end.
-    #[inline]
-    pub(crate) fn slide_down(&mut self, dst: usize, distance: usize, len: usize)
-        requires in_reach { distance ≤ length self.old.places }
-        requires can { let n = length self.old.places in
-            CanMove dst (place_of dst distance n) len self.old.places }
+    /// Moves the values in the `len` places behind `dst` down by one place, round the region's end.
+    pub(crate) fn slide_down(&mut self, dst: usize, len: usize)
+        requires in_region { dst < length self.old.places }
+        requires room { len < length self.old.places }
+        requires filled { let n = length self.old.places in
+            IsFilledRound (place_of dst 1 n) len self.old.places }
         requires free { let n = length self.old.places in
-            IsFreeRound dst (place_of dst distance n) len self.old.places }
+            IsFreeRound dst (place_of dst 1 n) len self.old.places }
         ensures places { let n = length self.old.places in
-            self.new.places ≡ run_moved dst (place_of dst distance n) len self.old.places }
+            self.new.places ≡ run_moved dst (place_of dst 1 n) len self.old.places }
         ensures steps { self.new.steps ≡ more_moves len self.old.steps }
     {
         let capacity = self.capacity();
         let mut slots = self.moved_out();
-        if distance == 1 && len < capacity - dst {
+        if len < capacity - dst {
             slots.move_first::<1>(dst, dst + 1, len, 0);
         } else {
-            slots = slots.moved(dst, wrap_add(dst, distance, capacity), len);
+            slots = slots.moved_in_parts(dst, wrap_add(dst, 1, capacity), len);
         }
         *self = slots;
         self.count(StepKind::Move, len);

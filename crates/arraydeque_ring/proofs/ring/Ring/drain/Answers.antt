@@ -56,10 +56,11 @@ gap g c =
 pub close_gap-self-inside-requires : goal.close_gap-self-inside-requires
 close_gap-self-inside-requires g c =
     let ring = opened c.self.inside c.self.invariant c.self.view_is in
-    let may = may_close (gap g (goal.at.close_gap-self-inside-requires g c).After-take_run) _ _ (omega arith)
-    (length-take-le c.args.from c.args.self.now.items (omega arith))
+    let may = may_close (gap g (goal.at.close_gap-self-inside-requires g c).After-take_run) _ _
+    (omega arith) (length-take-le c.args.from c.args.self.now.items (omega arith))
     (omega (arith, length-drop c.args.to c.args.self.now.items)) in
     record {
+      some = omega arith;
       in_region = may.in_region;
       within = may.within;
       filled_before = may.before;

@@ -1,6 +1,6 @@
 use Rattle.std.{
   proofs.{
-    Common.{◌≡◌, ◌+◌, ◌-◌, length, take, drop, min, ap, ◌∙◌, arith},
+    Common.{◌≡◌, ◌+◌, ◌-◌, length, take, drop, min, sym, ap, ◌∙◌, arith},
     lemmas.List.{length-take-le, Edits.{length-insert}},
   },
   specs.List.insert,

@@ -1,17 +1,17 @@
 use Rattle.std.{
   proofs.{
-    Common.{◌≡◌, suc, ◌-◌, length, take, drop, min, ap, sym, ◌∙◌, arith},
+    Common.{◌≡◌, suc, ◌-◌, ◌++◌, length, take, drop, min, nat_lt, if◌then◌else◌, ap, sym, ◌∙◌, arith},
     lemmas.List.{length-take-le, length-drop, Edits.{length-remove}},
   },
   specs.List.remove,
 }
 use Rattle.arraydeque_ring.{
-  specs.{Ring.{RingState}, Sides.start_closed, Steps.{more_takes, more_moves}},
+  specs.{Ring.{RingState, place_of}, Sides.start_closed, Steps.{more_takes, more_moves}},
   proofs.{
     gaps.{
       Fewest.fewest_remove,
       Gapped.{Gapped, Gapped-taken_one},
-      GapMoves.{may_close, LaidOut-closed, start_closed-in},
+      GapMoves.{Closes, may_close, LaidOut-closed, start_closed-in},
     },
     places.{LaidOut.{length_within, IsFilled-place_of}, Opened.{Opened, opened, closed, kept, place_at}},
     ring.Ring.remove.{Given.Over, Goals.{After-take-item, After-close_gap-self-inside}},
@@ -44,6 +44,7 @@ close_gap-self-inside-requires g c =
     let at = (goal.at.close_gap-self-inside-requires g c).After-take-item in
     let may = may_close (gap g at) _ _ (omega arith) (front g at) (behind g at) in
     record {
+      some = omega arith;
       in_region = may.in_region;
       within = may.within;
       filled_before = may.before;

@@ -32,6 +32,7 @@ pub move_gap-requires : goal.move_gap-requires
 move_gap-requires g c =
     let may = (in_one_piece g (goal.at.move_gap-requires g c).After-capacity (omega arith)).may in
     rw (append-nil c.args.slots.places) (record {
+      some = omega arith;
       in_region = omega arith;
       within = omega arith;
       empty = may.empty;
@@ -43,6 +44,7 @@ pub move_gap-requires-2 : goal.move_gap-requires-2
 move_gap-requires-2 g c =
     let may = (room g (goal.at.move_gap-requires-2 g c).After-capacity (omega arith)).may in
     rw (c.capacity.ensures, append-nil c.args.slots.places) (record {
+      some = omega arith;
       in_region = omega arith;
       within = omega arith;
       empty = may.empty;

@@ -1,4 +1,4 @@
-use Rattle.std.proofs.Common.{arith}
+use Rattle.std.proofs.Common.{◌≡◌, ◌+◌, ◌-◌, max, min, ap, ◌∙◌, arith}
 use Rattle.arraydeque_ring.proofs.gaps.GapMoves.{closes_up, closes_down, closed_up}
 use Rattle.arraydeque_ring.proofs.ring.moves.close_gap.Goals as goal
 
@@ -7,6 +7,7 @@ move_gap-requires g c =
     let r = c.requires in
     let may = closes_up _ _ _ _ _ r.in_region r.within r.filled_before r.empty r.filled_behind r.rest in
     record {
+      some = r.some;
       in_region = r.in_region;
       within = omega arith;
       empty = may.empty;
@@ -19,6 +20,7 @@ move_gap-requires-else-before-behind g c =
     let r = c.requires in
     let may = closes_down _ _ _ _ _ r.in_region r.within r.filled_before r.empty r.filled_behind r.rest in
     record {
+      some = r.some;
       in_region = r.in_region;
       within = omega arith;
       empty = may.empty;

@@ -1,4 +1,4 @@
-use Rattle.std.proofs.Common.{◌+◌, ◌∙◌, arith}
+use Rattle.std.proofs.Common.{◌≡◌, ◌+◌, ◌-◌, max, min, ap, ◌∙◌, arith}
 use Rattle.arraydeque_ring.proofs.{
   gaps.GapMoves.{opens_up, opens_down, opened_down},
   places.Rotated.place_of-lt,
@@ -11,6 +11,7 @@ move_gap-requires g c =
     let may = opens_down c.args.start c.args.index (c.args.index + c.args.behind) _ r.in_region (omega arith) r.room
     r.filled r.rest in
     rw (c.wrap_add-start.ensures, c.capacity-capacity.ensures) (record {
+      some = omega arith;
       in_region = place_of-lt _ _ _ (omega (arith, r.in_region));
       within = omega (arith, r.room);
       empty = may.empty;
@@ -24,6 +25,7 @@ move_gap-requires-else-index-behind g c =
     let may = opens_up c.args.start c.args.index (c.args.index + c.args.behind) _ r.in_region (omega arith) r.room
     r.filled r.rest in
     record {
+      some = omega arith;
       in_region = r.in_region;
       within = omega arith;
       empty = may.empty;
