@@ -72,14 +72,20 @@ impl<T> Slots<T> {
         if dst == src {
             return;
         }
+        let capacity = self.capacity();
+        if dst == wrap_add(src, 1, capacity) {
+            self.slide_up(src, len);
+            return;
+        }
+        if src == wrap_add(dst, 1, capacity) {
+            self.slide_down(dst, len);
+            return;
+        }
         *self = self.moved_out().moved(dst, src, len);
         self.count(StepKind::Move, len);
     }
 
     /// Moves the values in the `len` places from `src` on up by one place, round the region's end.
-    ///
-    /// Here, as where a run moves elsewhere, the region is a local, so that its pointer is known to
-    /// stay.
     pub(crate) fn slide_up(&mut self, src: usize, len: usize)
         requires in_region { src < length self.old.places }
         requires room { len < length self.old.places }
@@ -90,14 +96,7 @@ impl<T> Slots<T> {
             self.new.places ≡ run_moved (place_of src 1 n) src len self.old.places }
         ensures steps { self.new.steps ≡ more_moves len self.old.steps }
     {
-        let capacity = self.capacity();
-        let mut slots = self.moved_out();
-        if len < capacity - src {
-            slots.move_last::<1>(src + 1, src, len);
-        } else {
-            slots = slots.moved_in_parts(wrap_add(src, 1, capacity), src, len);
-        }
-        *self = slots;
+        *self = self.moved_out().slid_up(src, len);
         self.count(StepKind::Move, len);
     }
 
@@ -113,18 +112,47 @@ impl<T> Slots<T> {
             self.new.places ≡ run_moved dst (place_of dst 1 n) len self.old.places }
         ensures steps { self.new.steps ≡ more_moves len self.old.steps }
     {
-        let capacity = self.capacity();
-        let mut slots = self.moved_out();
-        if len < capacity - dst {
-            slots.move_first::<1>(dst, dst + 1, len, 0);
-        } else {
-            slots = slots.moved_in_parts(dst, wrap_add(dst, 1, capacity), len);
-        }
-        *self = slots;
+        *self = self.moved_out().slid_down(dst, len);
         self.count(StepKind::Move, len);
     }
 
-    /// Moves a run to any place.
+    /// Moves a run up by one place: one value after the other, of which the compiler makes one
+    /// `memmove`. Here, as in the next two, the region is a local, so that its pointer is known to
+    /// stay.
+    fn slid_up(self, src: usize, len: usize) -> Slots<T>
+        requires in_region { src < length self.places }
+        requires room { len < length self.places }
+        requires filled { IsFilledRound src len self.places }
+        ensures { result ≡ record self {
+          places = run_moved (place_of src 1 (length self.places)) src len self.places;
+        } }
+    {
+        if len < self.capacity() - src {
+            let mut slots = self;
+            slots.move_last::<1>(src + 1, src, len);
+            return slots;
+        }
+        self.wrapped_up(src, len)
+    }
+
+    /// Moves a run down by one place.
+    fn slid_down(self, dst: usize, len: usize) -> Slots<T>
+        requires in_region { dst < length self.places }
+        requires room { len < length self.places }
+        requires filled { IsFilledRound (place_of dst 1 (length self.places)) len self.places }
+        ensures { result ≡ record self {
+          places = run_moved dst (place_of dst 1 (length self.places)) len self.places;
+        } }
+    {
+        if len < self.capacity() - dst {
+            let mut slots = self;
+            slots.move_first::<1>(dst, dst + 1, len, 0);
+            return slots;
+        }
+        self.wrapped_down(dst, len)
+    }
+
+    /// Moves a run by more than one place.
     fn moved(self, dst: usize, src: usize, len: usize) -> Slots<T>
         requires { CanMove dst src len self.places }
         ensures { result ≡ record self { places = run_moved dst src len self.places } }
@@ -136,6 +164,46 @@ impl<T> Slots<T> {
             return slots;
         }
         self.moved_in_parts(dst, src, len)
+    }
+
+    /// Moves a run that passes the end up by one place: what lies past the end, the value that
+    /// crosses it, and what lies before.
+    fn wrapped_up(self, src: usize, len: usize) -> Slots<T>
+        requires in_region { src < length self.places }
+        requires wraps { length self.places ≤ src + len }
+        requires room { len < length self.places }
+        requires filled { IsFilledRound src len self.places }
+        ensures { result ≡ record self {
+          places = run_moved (place_of src 1 (length self.places)) src len self.places;
+        } }
+    {
+        let capacity = self.capacity();
+        let upper = capacity - src;
+        let mut slots = self;
+        slots.move_last::<1>(1, 0, len - upper);
+        slots.move_first::<1>(0, capacity - 1, 1, 0);
+        slots.move_last::<1>(src + 1, src, upper - 1);
+        slots
+    }
+
+    /// Moves a run that passes the end down by one place: what lies before the end, the value that
+    /// crosses it, and what lies past it.
+    fn wrapped_down(self, dst: usize, len: usize) -> Slots<T>
+        requires in_region { dst < length self.places }
+        requires wraps { length self.places ≤ dst + len }
+        requires room { len < length self.places }
+        requires filled { IsFilledRound (place_of dst 1 (length self.places)) len self.places }
+        ensures { result ≡ record self {
+          places = run_moved dst (place_of dst 1 (length self.places)) len self.places;
+        } }
+    {
+        let last = self.capacity() - 1;
+        let upper = last - dst;
+        let mut slots = self;
+        slots.move_first::<1>(dst, dst + 1, upper, 0);
+        slots.move_last::<1>(last, 0, 1);
+        slots.move_first::<1>(0, 1, len - upper - 1, 0);
+        slots
     }
 
     /// Moves a run in three parts, cut where either side passes the region's end, by a plain copy
@@ -183,18 +251,13 @@ impl<T> Slots<T> {
         }
     }
 
-    /// Copies a run up in blocks, the largest first; by one place one value after the other, of
-    /// which the compiler makes one `memmove`.
+    /// Copies a run up in blocks, the largest first.
     #[inline(never)]
     fn copy_up(&mut self, dst: usize, src: usize, len: usize)
         requires up { src ≤ dst }
         requires can { CanCopy dst src len self.old.places }
         ensures { self.new ≡ record self.old { places = run_moved dst src len self.old.places } }
     {
-        if dst - src == 1 {
-            self.move_last::<1>(dst, src, len);
-            return;
-        }
         let left = self.move_last::<1024>(dst, src, len);
         let left = self.move_last::<256>(dst, src, left);
         let left = self.move_last::<64>(dst, src, left);
@@ -203,17 +266,13 @@ impl<T> Slots<T> {
         self.move_last::<1>(dst, src, left);
     }
 
-    /// Copies a run down in the same way.
+    /// Copies a run down in blocks, the largest first.
     #[inline(never)]
     fn copy_down(&mut self, dst: usize, src: usize, len: usize)
         requires down { dst ≤ src }
         requires can { CanCopy dst src len self.old.places }
         ensures { self.new ≡ record self.old { places = run_moved dst src len self.old.places } }
     {
-        if src - dst == 1 {
-            self.move_first::<1>(dst, src, len, 0);
-            return;
-        }
         let moved = self.move_first::<1024>(dst, src, len, 0);
         let moved = self.move_first::<256>(dst, src, len, moved);
         let moved = self.move_first::<64>(dst, src, len, moved);

@@ -1,5 +1,5 @@
-use Rattle.std.proofs.Common.{sym}
-use Rattle.arraydeque_ring.proofs.moved.Parts.{moved_nowhere}
+use Rattle.std.proofs.Common.{◌+◌, ◌-◌, ◌%◌, length, sym, ap, ◌∙◌, arith}
+use Rattle.arraydeque_ring.proofs.{moved.Parts.{moved_nowhere}, places.Rotated.{place_of_cases}}
 use Rattle.arraydeque_ring.proofs.slots.Slots.wrap_move.Goals as goal
 
 pub returns-then-dst-src-clause-places : goal.returns-then-dst-src-clause-places
@@ -13,3 +13,22 @@ moved-requires g c = let asked = c.requires in rw c.moved_out.ensures.region (re
   apart = asked.apart;
   filled = asked.filled;
 })
+
+pub slide_down-requires-clause-room : goal.slide_down-requires-clause-room
+slide_down-requires-clause-room g c =
+    let n = length c.args.self.now.places in
+    let next = c.if-src-wrap_add.true ∙ c.wrap_add-2.ensures
+    ∙ ap (λ m. (c.args.dst + 1) % m) c.capacity-capacity.ensures in
+    grind (
+      arith,
+      c.requires.apart,
+      next,
+      c.capacity-capacity.ensures,
+      place_of_cases c.args.dst 1 n (omega arith),
+      place_of_cases c.args.dst (n - c.args.src) n (omega arith),
+    )
+
+pub slide_down-requires-clause-filled : goal.slide_down-requires-clause-filled
+slide_down-requires-clause-filled g c =
+    rw (← c.capacity-capacity.ensures, ← c.wrap_add-2.ensures, ← c.if-src-wrap_add.true, c.capacity-capacity.ensures)
+    c.requires.filled
