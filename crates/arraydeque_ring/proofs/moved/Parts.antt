@@ -40,9 +40,19 @@ module _ {X : Type 0} where
   pub record Three (d₁ s₁ l₁ d₂ s₂ l₂ d₃ s₃ l₃ : ℕ) (before after : List (Option X)) : Type 0 where
     pub second : List (Option X)
     pub third : List (Option X)
+    pub longs : (length second ≡ length before) × (length third ≡ length before)
     pub one : Part d₁ s₁ l₁ before second
     pub two : Part d₂ s₂ l₂ second third
     pub three : Part d₃ s₃ l₃ third after
+
+  -- the same part by other names; where no value moves, any two places will do
+  pub part_as : {d s l : ℕ} {now after : List (Option X)} (d' s' l' : ℕ) → l ≡ l' → d' + l' ≤ length now
+      → s' + l' ≤ length now → (0 < l' → d ≡ d') → (0 < l' → s ≡ s') → Part d s l now after → Part d' s' l' now after
+  part_as {now = now} d' s' zero e target source at_d at_s p = record {
+    can = record { target = target; source = source; filled = λ k lt. absurd (omega arith) };
+    is = moved_none d' s' now ∙ (rw (e, moved_none) at p.is);
+  }
+  part_as d' s' (suc l) e target source at_d at_s p = rw (e, at_d (omega arith), at_s (omega arith)) at p
 
 -- a side that passes the end nowhere among the values from the index `from` up to `to`
 fits : (d from to n : ℕ) → d < n → from ≤ to → to ≤ n → (from < n - d → to ≤ n - d)
@@ -122,15 +132,14 @@ module _ {X : Type 0} (dst src len n : ℕ) (ps : List (Option X)) (long : lengt
     at_src : place_of src 0 n ≡ src
     at_src = place_of-zero src n (omega arith)
 
-    first : a - 0 ≡ a
-    first = omega arith
-
     pub three_down : len ≤ distance src dst n → Three dst src a (place_of dst a n) (place_of src a n) (b - a)
         (place_of dst b n) (place_of src b n) (len - b) ps (run_moved dst src len ps)
     three_down far = record {
       second = gone a;
       third = gone b;
-      one = rw (moved_none dst src ps, at_dst, at_src, first) at (part_down 0 a before far);
+      longs = (length-moved dst src a ps, length-moved dst src b ps);
+      one = part_as dst src a (omega arith) (omega arith) (omega arith) (λ lt. at_dst) (λ lt. at_src)
+          (rw (moved_none dst src ps) at (part_down 0 a before far));
       two = part_down a b between far;
       three = part_down b len behind far;
     }
@@ -140,10 +149,13 @@ module _ {X : Type 0} (dst src len n : ℕ) (ps : List (Option X)) (long : lengt
     three_up near =
         let none : len - len ≡ 0 = omega arith in
         let all : len - 0 ≡ len = omega arith in
+        let same = length-moved (place_of dst a n) (place_of src a n) (len - a) ps in
         record {
           second = kept b;
           third = kept a;
+          longs = (length-moved (place_of dst b n) (place_of src b n) (len - b) ps, same);
           one = rw (none, moved_none (place_of dst len n) (place_of src len n) ps) at (part_up b len behind near);
           two = part_up a b between near;
-          three = rw (at_dst, at_src, all, first) at (part_up 0 a before near);
+          three = part_as dst src a (omega arith) (omega arith) (omega arith) (λ lt. refl) (λ lt. refl)
+              (rw (at_dst, at_src, all) at (part_up 0 a before near));
         }
