@@ -67,6 +67,7 @@ fn turn<T>(slots: Slots<T>, start: usize, len: usize) -> Slots<T>
 
 /// Moves the values that aren't in their places yet to these, without an exchange: they are in one
 /// piece from `next` on, or there is room before `next` for those that come after the end.
+#[inline(never)]
 fn place_rest<T>(slots: Slots<T>, dst: usize, next: usize, len: usize) -> Slots<T>
     requires in_order { dst ≤ next }
     requires in_region { next < length slots.places }
