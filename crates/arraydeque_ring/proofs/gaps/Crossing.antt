@@ -1,8 +1,8 @@
 -- A run of values that moves across a run of empty places, read from the start on.
 use Rattle.std.{
   proofs.{
-    Common.{◌≡◌, ◌≢◌, ◌==◌, ℕ, zero, suc, ◌+◌, ◌-◌, ◌<◌, ◌≤◌, ◌⊎◌, inl, inr, List, length, nat_lt, if◌then◌else◌, Option},
-    Common.{None, max, refl, sym, ap, ◌∙◌, arith},
+    Common.{◌≡◌, ◌≢◌, ◌==◌, ℕ, zero, suc, ◌+◌, ◌-◌, ◌<◌, ◌≤◌, ◌⊎◌, inl, inr, List, length, nat_lt, if◌then◌else◌},
+    Common.{Option, None, max, refl, sym, ap, ◌∙◌, arith},
     lemmas.{Bool.{cases_lt, Decides.nat_tests}, Grind.common_steps, List.places},
   },
 }
