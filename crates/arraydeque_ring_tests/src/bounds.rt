@@ -38,7 +38,13 @@ fn writes<T>(ring: &mut Ring<T>) -> bool {
     ring.linearize();
     let (first, second) = ring.as_mut_slices();
     let is_cut = (first.len(), second.len()) == (2, 0);
-    is_cut && ring.get_mut(1).is_some()
+    is_cut && len_in_one_piece(ring) == 2 && ring.get_mut(1).is_some()
+}
+
+/// How many items one slice lends.
+fn len_in_one_piece<T>(ring: &mut Ring<T>) -> usize {
+    ring.linearize();
+    ring.as_mut_slice().len()
 }
 
 /// Puts three elements in, or hands them back where there is no room.
@@ -78,6 +84,13 @@ fn split<T>(ring: &mut Ring<T>) -> Result<Ring<T>, AllocError> {
     ring.split_off(0)
 }
 
+/// Puts another ring's items behind the last one, while there is room.
+fn join<T>(ring: &mut Ring<T>, other: &mut Ring<T>) {
+    let room = ring.capacity() - ring.len();
+    let len = other.len().min(room);
+    ring.append(other, len);
+}
+
 /// Puts in what comes, while there is room, at both ends. Answers whether either was asked to its
 /// end.
 fn fill<T, I: Iterator<Item = T>>(ring: &mut Ring<T>, back: &mut I, front: &mut I) -> (bool, bool)
@@ -106,6 +119,8 @@ fn gives<T: Drop>(mut items: IntoIter<T>) -> bool {
 
 /// Whether a ring keeps none of its items.
 fn lets_go<T: Drop>(mut ring: Ring<T>) -> bool {
+    ring.truncate(2);
+    ring.truncate_front(1);
     ring.retain(|_| false);
     let is_empty = ring.len() == 0;
     ring.clear();
@@ -234,6 +249,7 @@ fn asks_nothing(alloc: Global) -> Result<bool, Fail> {
     let is_held = reads(&ring) && writes(&mut ring);
     let mut drain = drained(&mut ring)?;
     let out = taken(&mut drain);
+    join(&mut ring, &mut drain);
     let is_put = put(&mut ring, (3, 4, 5)).is_none();
     let mut tail = split(&mut ring)?;
     let first = tail.pop_front();

@@ -30,6 +30,7 @@ fn reads<T, const CAP: usize, B: Behavior>(
     let are_lent = (items.len(), items.size_hint()) == (2, (2, Some(2)))
         && items.next().is_some()
         && items.next_back().is_some();
+    deque.iter().for_each(|_| {});
     let count = deque.into_iter().fold(0_u8, |count, _| count | 1);
     Ok(
         are_lent
@@ -84,6 +85,13 @@ fn is_cut<T, const CAP: usize, B: Behavior>(deque: &mut ArrayDeque<T, CAP, B>) -
     are_cut(deque.as_mut_slices())
 }
 
+/// Whether a slice lends two items for writing, and a walk goes over them.
+fn is_in_one_piece<T, const CAP: usize, B: Behavior>(deque: &mut ArrayDeque<T, CAP, B>) -> bool {
+    deque.iter_mut().for_each(|_| {});
+    deque.linearize();
+    deque.as_mut_slice().len() == 2
+}
+
 /// Whether a deque of two items lends them for writing, and has them change places.
 fn writes<T, const CAP: usize, B: Behavior>(deque: &mut ArrayDeque<T, CAP, B>) -> bool {
     if deque.len() != 2 {
@@ -95,6 +103,7 @@ fn writes<T, const CAP: usize, B: Behavior>(deque: &mut ArrayDeque<T, CAP, B>) -
         && is_walked_over(deque)
         && is_cut_in_a_walk(deque)
         && is_cut(deque)
+        && is_in_one_piece(deque)
         && deque.front_mut().is_some()
         && deque.back_mut().is_some()
         && deque.get_mut(1).is_some()
@@ -192,6 +201,14 @@ fn fill<T, const CAP: usize, I: IntoIterator<Item = T>>(
     deque.extend_front(front);
 }
 
+/// Puts another deque's items behind the last one.
+fn join<T, const CAP: usize, const N: usize, B: Behavior>(
+    deque: &mut ArrayDeque<T, CAP, Saturating>,
+    other: &mut ArrayDeque<T, N, B>,
+) {
+    deque.append(other);
+}
+
 /// A deque of the first items that come.
 fn first_of<T, const CAP: usize, I: IntoIterator<Item = T>>(
     alloc: Global,
@@ -222,6 +239,14 @@ fn scanned<I: Iterator, const CAP: usize>(
     (next, scanner.unread(item))
 }
 
+/// The next item of a scanner, by a closure that accepts any.
+fn accepted<I: Iterator, const CAP: usize>(scanner: &mut Scanner<I, CAP>) -> Option<I::Item> {
+    if CAP == 0 {
+        return None;
+    }
+    scanner.next_if(|_| true)
+}
+
 /// The bounds that the ranges between two values name.
 fn named<T: Copy>(start: T, end: T) -> [(Option<T>, Option<T>); 3] {
     let (from, to, both) = (start.., ..end, start..end);
@@ -243,6 +268,8 @@ fn unnamed<T>() -> (Option<T>, Option<T>) {
 
 /// Whether a deque keeps none of its items.
 fn lets_go<T: Drop, const CAP: usize, B: Behavior>(mut deque: ArrayDeque<T, CAP, B>) -> bool {
+    deque.truncate(2);
+    deque.truncate_front(1);
     deque.retain(|_| false);
     let is_empty = deque.is_empty();
     deque.clear();
@@ -274,6 +301,14 @@ fn add<T: Drop, const CAP: usize>(
     wrapping.extend_front(second);
     saturating.extend(third)?;
     wrapping.extend(fourth)
+}
+
+/// Puts another deque's items behind the last one, in the places of the first ones.
+fn join_all<T: Drop, const CAP: usize, const N: usize, B: Behavior>(
+    deque: &mut ArrayDeque<T, CAP, Wrapping>,
+    other: &mut ArrayDeque<T, N, B>,
+) {
+    deque.append(other);
 }
 
 /// Deques of vectors, under either policy.
@@ -417,6 +452,7 @@ impl RangeArgument<usize> for All {
 fn asks_nothing(alloc: Global) -> Result<bool, Fail> {
     let mut deque = made(first_of::<u8, 3, _>(alloc, Some(1)))?;
     fill(&mut deque, Some(2), None);
+    join(&mut deque, &mut new::<u8, 2, Wrapping>(alloc)?);
     let mut deque = converted(deque);
     let is_held = reads(&deque)? && writes(&mut deque) && lent(&mut deque) == Some(&mut 2);
     let refusals = refused(&mut deque, (3, 4, 5));
@@ -449,11 +485,12 @@ fn asks_to_drop(alloc: Global) -> Result<bool, Fail> {
         vec![in alloc; 1, 2, 3]?,
     ).map_err(|_| "refused")?;
     add(&mut first, &mut last, [Some(4), Some(5), Some(6), None])?;
-    let (copies, other) = of_arrays::<u8, 2, 3>(alloc, [1, 2, 3]).map_err(|_| "refused")?;
+    let (copies, mut other) = of_arrays::<u8, 2, 3>(alloc, [1, 2, 3]).map_err(|_| "refused")?;
     let all = made(last_of::<u8, 2, _>(alloc, Some(7)))?.drain(..)?;
+    let are_told_apart = are_equal(&first, &copies, &2) && !are_equal(&last, &other, &2);
+    join_all(&mut last, &mut other);
     Ok(
-        are_equal(&first, &copies, &2)
-            && !are_equal(&last, &other, &2)
+        are_told_apart
             && gives(first)
             && lets_go(last)
             && !drains(all)
@@ -489,7 +526,7 @@ fn asks_for_traits(alloc: Global) -> Result<bool, Fail> {
 /// Whether a scanner of any items does.
 fn scans(alloc: Global) -> Result<bool, Fail> {
     let mut scanner = made(scanner::<_, 1>(alloc, [1_u8, 2].into_iter()))?;
-    Ok(scanned(&mut scanner, 3) == (Some(1), Ok(())) && scanner.next() == Some(3))
+    Ok(scanned(&mut scanner, 3) == (Some(1), Ok(())) && accepted(&mut scanner) == Some(3))
 }
 
 #[test]
