@@ -12,19 +12,13 @@ use Rattle.arraydeque_ring.{
   proofs.fills.{Displaced.{displaced_first, displaced_last}, InRows.{all_before, down_by-all}},
 }
 use Rattle.arraydeque.{
-  specs.Deque.{DequeState, as_ring, keep_last, with_back, with_front, wrapped_front, WrapsBack},
+  specs.Deque.{DequeState, as_ring, keep_last, with_back, with_front, WrapsBack, WrapsFront},
   proofs.KeepLast.{keep_last-all},
 }
 
 -- what is seen of a deque over a ring
 abbrev pub of_ring : {X : Type 0} → RingState X → DequeState X
 of_ring ring = record { items = ring.items; start = ring.start; steps = ring.steps }
-
--- xs were pushed one by one before the first item of the old deque of capacity n,
--- which stays as it was if it has no places
-abbrev WrapsFront : {X : Type 0} → ℕ → DequeState X → List X → DequeState X → Type 0
-WrapsFront n old xs new =
-    (new.items ≡ take n (reverse xs ++ old.items)) × (0 < n → new ≡ wrapped_front n xs old) × (n ≡ 0 → new ≡ old)
 
 -- where there are no places, all is as it was
 module _ {X : Type 0} (n : ℕ) (deque : DequeState X) (xs : List X) (none : n ≡ 0)

@@ -88,3 +88,8 @@ module _ {X : Type 0} where
         start = down_by (length xs) deque.start n;
         steps = more_puts (length xs) (more_takes (length deque.items + length xs - n) deque.steps);
       }
+
+  -- the same before its first item
+  abbrev pub WrapsFront : ℕ → DequeState X → List X → DequeState X → Type 0
+  WrapsFront n old xs new = (new.items ≡ take n (reverse xs ++ old.items))
+      × (0 < n → new ≡ wrapped_front n xs old) × (n ≡ 0 → new ≡ old)

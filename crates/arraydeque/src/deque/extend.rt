@@ -1,7 +1,7 @@
 //! Adding the items of an iterator.
-ghost use Rattle.std.specs.Prelude.{◌≡◌, ◌<◌, ◌≤◌, ◌-◌, ◌++◌, length, reverse, take, false, IsOk};
+ghost use Rattle.std.specs.Prelude.{◌≡◌, ◌≤◌, ◌-◌, length, take, false, IsOk};
 ghost use Rattle.std.specs.Iterator.{IsFinite, IsFiniteIterable, ExtendsWithItems};
-ghost use Rattle.arraydeque.specs.Deque.{keep_last, with_back, with_front, wrapped_back, wrapped_front, WrapsBack};
+ghost use Rattle.arraydeque.specs.Deque.{with_back, with_front, WrapsBack, WrapsFront};
 ghost use Rattle.arraydeque.specs.Sources.{IsIterable, TakesFrom, TakesAll};
 ghost use Rattle.arraydeque_ring.specs.Fills.{Fills, Ends, GoesOn};
 
@@ -114,9 +114,7 @@ impl<T: Drop, const CAP: usize> ArrayDeque<T, CAP, Wrapping> {
         requires { IsFiniteIterable
             I.into_iter_gives I.IntoIter.can_next I.IntoIter.remaining iter }
         ensures { TakesAll I.into_iter_gives I.IntoIter.next_gives iter
-            (λ xs. (self.new.items ≡ keep_last CAP (self.old.items ++ xs))
-            × (0 < CAP → self.new ≡ wrapped_back CAP xs self.old)
-            × (CAP ≡ 0 → self.new ≡ self.old)) }
+            (λ xs. WrapsBack CAP self.old xs self.new) }
     {
         let mut elements = iter.into_iter();
         if self.capacity() == 0 {
@@ -144,9 +142,7 @@ impl<T: Drop, const CAP: usize> ArrayDeque<T, CAP, Wrapping> {
         requires { IsFiniteIterable
             I.into_iter_gives I.IntoIter.can_next I.IntoIter.remaining iter }
         ensures { TakesAll I.into_iter_gives I.IntoIter.next_gives iter
-            (λ xs. (self.new.items ≡ take CAP (reverse xs ++ self.old.items))
-            × (0 < CAP → self.new ≡ wrapped_front CAP xs self.old)
-            × (CAP ≡ 0 → self.new ≡ self.old)) }
+            (λ xs. WrapsFront CAP self.old xs self.new) }
     {
         let mut elements = iter.into_iter();
         if self.capacity() == 0 {

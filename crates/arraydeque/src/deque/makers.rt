@@ -2,7 +2,7 @@
 ghost use Rattle.std.specs.Prelude.{◌≡◌, ◌<◌, ◌*◌, length, take, IfOk, IfErr, OnErr};
 ghost use Rattle.std.specs.Iterator.{IsFiniteIterable};
 ghost use Rattle.std.specs.Mem.{type_size};
-ghost use Rattle.arraydeque.specs.Deque.{empty_deque, keep_last, with_back, wrapped_back};
+ghost use Rattle.arraydeque.specs.Deque.{empty_deque, keep_last, with_back, wrapped_back, WrapsBack};
 ghost use Rattle.arraydeque.specs.Sources.{IsIterable, TakesFrom, TakesAll};
 
 use super::ArrayDeque;
@@ -107,9 +107,7 @@ impl<T: Drop, const CAP: usize> ArrayDeque<T, CAP, Wrapping> {
             I.into_iter_gives I.IntoIter.can_next I.IntoIter.remaining iter }
         ensures items { IfOk result (λ deque.
             TakesAll I.into_iter_gives I.IntoIter.next_gives iter
-            (λ xs. (deque.items ≡ keep_last CAP xs)
-            × (0 < CAP → deque ≡ wrapped_back CAP xs empty_deque)
-            × (CAP ≡ 0 → deque ≡ empty_deque))) }
+            (λ xs. WrapsBack CAP empty_deque xs deque)) }
         ensures source { IfErr result (λ refusal. refusal.source ≡ iter) }
         ensures refused { OnErr result (0 < CAP * type_size T.row) }
     {
