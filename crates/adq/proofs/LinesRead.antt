@@ -8,9 +8,12 @@ use Rattle.std.{
   },
   specs.{List.{slice_split, enumerate_from, AllZip}, Option.option_map_or, Str.Lines.strip_carriage_return},
 }
-use Rattle.adq.specs.{
-  declared.fault.Fault.{Fault, TheVariants.{Memory, Line}},
-  Line.{lines_of, words_of, Spells, tokens_of, LineNames, LinesName, IsFirstBad},
+use Rattle.adq.{
+  specs.{
+    declared.fault.Fault.{Fault, TheVariants.{Memory, Line}},
+    Line.{lines_of, words_of, Spells, tokens_of, LineNames, LinesName, IsFirstBad},
+  },
+  proofs.ValuesRead.zipped_more,
 }
 use Rattle.arraydeque.specs.declared.run.Call.{Call}
 
@@ -29,13 +32,6 @@ unread line rest name words e w h (Some call) n =
     h call (subst (λ ws. AllZip Spells ws (tokens_of call)) (ap words_of (sym e) ∙ w) n.1)
 
 -- one line more
-zip_more : (lines : List (List ℕ)) (named : List (Option (Call ℤ))) (line : List ℕ) (o : Option (Call ℤ))
-    → AllZip LineNames lines named → LineNames line o → AllZip LineNames (lines ++ line ∷ []) (named ++ o ∷ [])
-zip_more [] [] line o z h = (h, tt)
-zip_more [] (p ∷ named) line o z h = absurd z
-zip_more (first ∷ lines) [] line o z h = absurd z
-zip_more (first ∷ lines) (p ∷ named) line o z h = (z.0, zip_more lines named line o z.1 h)
-
 listed : (o : Option (Call ℤ)) → option_to_list o ≡ filter_map (λ o. o) (o ∷ [])
 listed None = refl
 listed (Some call) = refl
@@ -44,7 +40,7 @@ more : (lines : List (List ℕ)) (calls : List (Call ℤ)) (line : List ℕ) (o 
     → LineNames line o → LinesName (lines ++ line ∷ []) (calls ++ option_to_list o)
 more lines calls line o (named, z, e) h = (
   named ++ o ∷ [],
-  zip_more lines named line o z h,
+  zipped_more LineNames lines named line o z h,
   ap (λ cs. cs ++ option_to_list o) e ∙ ap (λ cs. filter_map (λ o. o) named ++ cs) (listed o)
       ∙ sym (filter_map-append (λ o. o) named (o ∷ [])),
 )
