@@ -2,21 +2,6 @@ use Rattle.std.{proofs.{Common.{ap, ap₂, sym, ◌∙◌}, lemmas.Result.{err_f
 use Rattle.arraydeque.proofs.InOrder.{yields_in_order}
 use Rattle.arraydeque.proofs.deque.ArrayDeque.drain.Goals as goal
 
-pub drain-requires-clause-in_order : goal.drain-requires-clause-in_order
-drain-requires-clause-in_order g c =
-    rw (c.unwrap_or-from.ensures, c.start.ensures, c.unwrap_or-to.ensures, c.end.ensures, c.len.ensures.len)
-    c.requires.in_order
-
-pub drain-requires-clause-in_bounds : goal.drain-requires-clause-in_bounds
-drain-requires-clause-in_bounds g c =
-    rw (c.unwrap_or-to.ensures, c.end.ensures, c.len.ensures.len, ← c.self.view_is)
-    (rw (← c.self.view_is) at c.requires.in_bounds)
-
-pub returns-in_err-ring-clause-unchanged : goal.returns-in_err-ring-clause-unchanged
-returns-in_err-ring-clause-unchanged g c =
-    let refused = err_from_is_err_and c.from_residual.result c.from_residual.ensures.1 in
-    rw (refused.1, rw c.in_err-ring.was at c.drain.ensures.unchanged) c.self.view_is
-
 pub returns-in_err-ring-clause-drains : goal.returns-in_err-ring-clause-drains
 returns-in_err-ring-clause-drains g c = rw (err_from_is_err_and c.from_residual.result c.from_residual.ensures.1).1 tt
 

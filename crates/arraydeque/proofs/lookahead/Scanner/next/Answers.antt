@@ -1,7 +1,4 @@
-use Rattle.std.{
-  proofs.{Common.{◌∷◌, [], sym, ◌∙◌, append-nil, arith}, lemmas.Grind.common_steps},
-  specs.Option.option_to_list,
-}
+use Rattle.std.{proofs.{Common.{[], sym, ◌∙◌, append-nil, arith}, lemmas.Grind.common_steps}, specs.Option.option_to_list}
 use Rattle.arraydeque.proofs.Scanned.{Reads-none, TakesOff-from_out, HasRest-none}
 use Rattle.arraydeque.proofs.lookahead.Scanner.next.Goals as goal
 
@@ -23,7 +20,3 @@ returns-in-Some-clause-hands_out g c =
       Reads-none g.I.Iterator.next_gives c.self.inside.ended c.self.inside.iter,
       append-nil c.self.inside.buffer.items ∙ sym c.in-Some.ensures.conserved,
     )
-
-pub returns-in-Some-clause-rest : goal.returns-in-Some-clause-rest
-returns-in-Some-clause-rest g c =
-    TakesOff-from_out g.I.Iterator.next_gives _ _ (c.in-Some.item ∷ []) (returns-in-Some-clause-hands_out g c)

@@ -18,18 +18,6 @@ returns-then-ended g c =
     TakesAll-fills c.into_iter-elements.ensures.into_iter_gives filled c.if-ended.true
     (WrapsBack-room g.row.CAP (omega arith) c.args.self.now _ _ filled.holds c.fill_back-ended.ensures.within)
 
-pub displace_first-requires : goal.displace_first-requires
-displace_first-requires g c =
-    let given = c.requires _ c.into_iter-elements.ensures.into_iter_gives in
-    let (can, finite) = c.fill_back-ended.ensures.goes c.if-ended.false in
-    let full = c.fill_back-ended.ensures.full c.if-ended.false in
-    record {
-      some = omega (arith, c.self.invariant.0);
-      full = rw (← c.self.view_is, ← c.self.invariant.0) at full;
-      may = can;
-      ends = finite given.1;
-    }
-
 pub invariant_of-self : goal.invariant_of-self
 invariant_of-self g c =
     rw c.displace_first.ensures.holds (c.self.invariant.0, simp (length-drop, length-append) (omega arith))

@@ -18,18 +18,6 @@ returns-then-ended g c =
     TakesAll-fills c.into_iter-elements.ensures.into_iter_gives filled c.if-ended.true
     (WrapsFront-room g.row.CAP (omega arith) c.args.self.now _ _ filled.holds c.fill_front-ended.ensures.within)
 
-pub displace_last-requires : goal.displace_last-requires
-displace_last-requires g c =
-    let given = c.requires _ c.into_iter-elements.ensures.into_iter_gives in
-    let (can, finite) = c.fill_front-ended.ensures.goes c.if-ended.false in
-    let full = c.fill_front-ended.ensures.full c.if-ended.false in
-    record {
-      some = omega (arith, c.self.invariant.0);
-      full = rw (← c.self.view_is, ← c.self.invariant.0) at full;
-      may = can;
-      ends = finite given.1;
-    }
-
 pub invariant_of-self : goal.invariant_of-self
 invariant_of-self g c = rw c.displace_last.ensures.holds (c.self.invariant.0, simp length-take (omega arith))
 

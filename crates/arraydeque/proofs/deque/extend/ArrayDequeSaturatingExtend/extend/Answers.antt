@@ -8,15 +8,6 @@ returns-then-ended-clause-taken g c =
     TakesAll-fills c.into_iter-elements.ensures.into_iter_gives filled c.if-ended.true
     (filled.holds ∙ ap (λ xs. with_back xs c.args.self.now) (sym (take_all _ filled.items filled.at_most)))
 
-pub returns-then-ended-clause-ran : goal.returns-then-ended-clause-ran
-returns-then-ended-clause-ran g c = TakesAll-drains (returns-then-ended-clause-taken g c)
-
-pub drop_all-requires : goal.drop_all-requires
-drop_all-requires g c =
-    let given = c.requires _ c.into_iter-elements.ensures.into_iter_gives in
-    let goes = c.fill_back-ended.ensures.goes c.if-ended.false in
-    record { may = goes.0; ends = goes.1 given.1 }
-
 pub returns-clause-taken : goal.returns-clause-taken
 returns-clause-taken g c =
     let filled = c.fill_back-ended.ensures.filled in
