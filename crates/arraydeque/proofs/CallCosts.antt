@@ -1,8 +1,5 @@
 -- What a call makes of a deque says what it costs.
-use Rattle.std.proofs.{
-  Common.{◌≡◌, ℕ, Some, None, ◌+◌, ◌≤◌, List, true, false, ◌==◌, if◌then◌else◌, refl, ap, arith},
-  lemmas.{Bool.Decides.nat_tests, Option.slice_get_cases},
-}
+use Rattle.std.proofs.{Common.{◌≡◌, ℕ, Some, ◌+◌, ◌≤◌, List, true, false, ◌==◌, if◌then◌else◌, refl, ap, arith}, lemmas.{Bool.Decides.nat_tests, Option.slice_get_cases}}
 use Rattle.arraydeque.specs.{
   Costs.{work_of, cost_of},
   Deque.{DequeState, wrapped_back, wrapped_front},
@@ -39,27 +36,16 @@ module _ {X : Type 0} (p : Policy) (n : ℕ) (old new : DequeState X) where
   -- each call costs what its steps say
   pub call_costs : (c : Call X) (a : Answer X) → Answers p n old.items c a new.items → StepsAre p n c a old new.steps
       → CallCosts c a old new
-  call_costs (PushFront x) done list steps = omega (arith, ap work_of steps)
-  call_costs (PushFront x) (displaced None) list steps = omega (arith, ap work_of steps)
   call_costs (PushFront x) (displaced (Some y)) list steps = grind (arith, nat_tests, ap work_of steps)
-  call_costs (PushBack x) done list steps = omega (arith, ap work_of steps)
-  call_costs (PushBack x) (displaced None) list steps = omega (arith, ap work_of steps)
   call_costs (PushBack x) (displaced (Some y)) list steps = grind (arith, nat_tests, ap work_of steps)
   call_costs (Insert i x) done list steps = omega (arith, ap work_of steps)
   call_costs PopFront (item (Some x)) list steps = omega (arith, ap work_of steps)
   call_costs PopBack (item (Some x)) list steps = omega (arith, ap work_of steps)
   call_costs (Remove i) (item (Some x)) list steps = omega (arith, ap work_of steps)
-  call_costs (SwapRemoveBack i) (item (Some x)) list steps =
+  call_costs (SwapRemoveBack i) _ list steps =
       grind (arith, nat_tests, ap work_of steps, slice_get_cases old.items i, list.0)
-  call_costs (SwapRemoveBack i) (item None) list steps =
+  call_costs (SwapRemoveFront i) _ list steps =
       grind (arith, nat_tests, ap work_of steps, slice_get_cases old.items i, list.0)
-  call_costs (SwapRemoveBack i) _ list steps = cc list.0
-  call_costs (SwapRemoveFront i) (item (Some x)) list steps =
-      grind (arith, nat_tests, ap work_of steps, slice_get_cases old.items i, list.0)
-  call_costs (SwapRemoveFront i) (item None) list steps =
-      grind (arith, nat_tests, ap work_of steps, slice_get_cases old.items i, list.0)
-  call_costs (SwapRemoveFront i) _ list steps = cc list.0
-  call_costs (Swap i j) done list steps = grind (arith, nat_tests, ap work_of steps, list)
   call_costs (Swap i j) _ list steps = grind (arith, nat_tests, ap work_of steps, list)
   call_costs (Replace i x) (item y) list steps = omega (arith, ap work_of steps)
   call_costs Clear done list steps = omega (arith, ap work_of steps)

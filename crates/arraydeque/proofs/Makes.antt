@@ -1,8 +1,5 @@
 -- What extends make of a deque.
-use Rattle.std.proofs.{
-  Common.{◌≡◌, ◌<◌, ℕ, ◌==◌, if◌then◌else◌, Vec, Global, refl, ap, arith},
-  lemmas.Bool.Decides.{nat_tests},
-}
+use Rattle.std.proofs.{Common.{◌≡◌, ◌<◌, ℕ, ◌==◌, if◌then◌else◌, Vec, Global, arith}, lemmas.Bool.Decides.{nat_tests}}
 use Rattle.arraydeque.specs.{
   Deque.DequeState,
   Machine.{extended_back, extended_front},
@@ -19,20 +16,8 @@ module _ {X B : Type 0} (p : Policy) (n size : ℕ) (v : Vec X Global) (old new 
   pub extended_back-makes : new.items ≡ extended_back p n old.items v.items → new ≡ pushed_back p n v.items old
       → Makes {X = X} {B = B} p n size (ExtendBack v) Done old new
       × Makes {X = X} {B = B} p n size (Extend v) Done old new
-  extended_back-makes items same =
-      let start = ap (λ (d : DequeState X). d.start) same in
-      let steps = ap (λ (d : DequeState X). d.steps) same in (
-        record { list = (refl, items); start = start; steps = steps; fewest = tt; tail = tt; refused = tt },
-        record { list = (refl, items); start = start; steps = steps; fewest = tt; tail = tt; refused = tt },
-      )
+  extended_back-makes items same = (grind arith, grind arith)
 
   pub extended_front-makes : new.items ≡ extended_front p n old.items v.items → new ≡ pushed_front p n v.items old
       → Makes {X = X} {B = B} p n size (ExtendFront v) Done old new
-  extended_front-makes items same = record {
-    list = (refl, items);
-    start = ap (λ (d : DequeState X). d.start) same;
-    steps = ap (λ (d : DequeState X). d.steps) same;
-    fewest = tt;
-    tail = tt;
-    refused = tt;
-  }
+  extended_front-makes items same = grind arith

@@ -1,12 +1,5 @@
 -- One run of a scanner's calls after another.
-use Rattle.std.{
-  proofs.{
-    Common.{◌≡◌, ℕ, ◌+◌, arith, Bool, true, false, true≢false, List, [], ◌∷◌, ◌++◌, Option, Some, None, IfSome, IfNone},
-    Common.{slice_get, refl, sym, ◌∙◌, ap, subst, append-nil, append_assoc},
-    iter.runs.{Made.{run, to_end}, Lists.Yields-both},
-  },
-  specs.{Iterator.{Count, Runs.WholeRun}, Option.option_to_list},
-}
+use Rattle.std.{proofs.{Common.{◌≡◌, arith, Bool, true, false, true≢false, List, [], ◌∷◌, ◌++◌, Option, Some, None, IfSome, IfNone}, Common.{slice_get, refl, sym, ◌∙◌, ap, subst, append-nil, append_assoc}, iter.runs.{Made.{run, to_end}, Lists.Yields-both}}, specs.{Iterator.{Count, Runs.WholeRun}, Option.option_to_list}}
 use Rattle.arraydeque.specs.Lookahead.{ScannerState, left_of, fresh_scanner, Reads, HandsOut, HasRest, TakesOff, NextIs}
 
 -- a scanner that is made over an empty buffer is fresh
@@ -18,15 +11,7 @@ pub fresh_made : {S A : Type 0} (remaining : S → Count) (iter : S) (buffer : L
       left = left_of remaining iter buffer false;
     }
 unfolding left_of
-fresh_made remaining iter [] empty =
-    let count = remaining iter in
-    let same : count.bound ≡ count.bound + 0 = omega arith in
-    ap (λ (n : ℕ). record {
-      iter = iter;
-      buffer = [];
-      ended = false;
-      left = record { bounded = count.bounded; bound = n };
-    }) same
+fresh_made remaining iter [] empty = grind arith
 fresh_made remaining iter (x ∷ buffer) empty = cc
 
 module _ {S A : Type 0} (steps : S → Option A → S → Type 0) where
