@@ -1,8 +1,11 @@
 -- What a call makes of a deque says what it costs.
-use Rattle.std.proofs.{Common.{◌≡◌, ℕ, Some, ◌+◌, ◌≤◌, List, true, false, ◌==◌, if◌then◌else◌, refl, ap, arith}, lemmas.{Bool.Decides.nat_tests, Option.slice_get_cases}}
+use Rattle.std.proofs.{
+  Common.{◌≡◌, ℕ, Some, ◌+◌, ◌≤◌, List, refl, ap, arith},
+  lemmas.{Bool.Decides.nat_tests, Option.slice_get_cases},
+}
 use Rattle.arraydeque.specs.{
   Costs.{work_of, cost_of},
-  Deque.{DequeState, wrapped_back, wrapped_front},
+  Deque.{DequeState},
   Machine.{Answer, Answers, done, item, displaced, drained, split},
   Makes.{StepsAre, pushed_back, pushed_front},
   Policy.{Policy, saturating, wrapping},
@@ -23,14 +26,12 @@ module _ {X : Type 0} where
   pushed_back-work : (p : Policy) (n : ℕ) (xs : List X) (old : DequeState X)
       → work_of (pushed_back p n xs old).steps ≡ work_of old.steps
   pushed_back-work saturating n xs old = refl
-  pushed_back-work wrapping n xs old = elim (n == 0) as
-      (λ b. work_of (if b then old else wrapped_back n xs old).steps ≡ work_of old.steps) [ true ↦ refl | false ↦ refl ]
+  pushed_back-work wrapping n xs old = grind (arith, nat_tests)
 
   pushed_front-work : (p : Policy) (n : ℕ) (xs : List X) (old : DequeState X)
       → work_of (pushed_front p n xs old).steps ≡ work_of old.steps
   pushed_front-work saturating n xs old = refl
-  pushed_front-work wrapping n xs old = elim (n == 0) as (λ b.
-      work_of (if b then old else wrapped_front n xs old).steps ≡ work_of old.steps) [ true ↦ refl | false ↦ refl ]
+  pushed_front-work wrapping n xs old = grind (arith, nat_tests)
 
 module _ {X : Type 0} (p : Policy) (n : ℕ) (old new : DequeState X) where
   -- each call costs what its steps say

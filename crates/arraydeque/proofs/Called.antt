@@ -1,6 +1,11 @@
 -- A call in a walk: what it gives, and how a value and the tokens of two lifetimes go on to the next call.
 -- Assumes `Logic`.
-use Rattle.arraydeque_ring.proofs.memory.{Kit.{List, [], ◌∷◌, Ura, SProp, ent, sep, emp, via, id⊢, snd∗, Val, fact, fact_i, fact_use, Logic, sem, Goal}, Kit.{Soaks, Seq, Item, ‵, raw, ◌⊛◌, some, later, ◌$◌, ◌∵◌, !, qed, move, keep, use0, use1, split, split3, join}, Kit.{pick, drop, await, done, peeks, Is, shows, triple_of, RattleType, Fml, ftrue, fsep, fjoin, nothing, Lasts, lasts}, Kit.{◌⊑◌, ◌<◌, Lft}}
+use Rattle.arraydeque_ring.proofs.memory.{
+  Kit.{List, [], ◌∷◌, Ura, SProp, ent, sep, emp, via, id⊢, snd∗, Val, fact, fact_i, fact_use, Logic, sem, Goal, Soaks},
+  Kit.{Seq, Item, ‵, raw, ◌⊛◌, some, later, ◌$◌, ◌∵◌, !, qed, move, keep, use0, use1, split, split3, join, pick, drop},
+  Kit.{await, done, peeks, Is, shows, triple_of, RattleType, Fml, ftrue, fsep, fjoin, nothing, Lasts, lasts, ◌⊑◌, ◌<◌},
+  Kit.{Lft},
+}
 use base.Logic.{fst∗}
 use denote.{
   Laws.{Lawful, Typed},
@@ -21,13 +26,13 @@ module _ {M : Type 1} (𝓤 : Ura M) (κ₁ κ₂ κ₃ : Lft) (X B : RattleType
 
 module _ {M : Type 1} {𝓤 : Ura M} (𝓛 : Logic 𝓤) where
   -- a call gives its result, which is typed, the tokens, and what it ensures
-  pub gave : {K : Type 0} {Γ : List (Item 𝓤)} {G : Goal 𝓤 𝓛.H} → K → Soaks G → (T : Ended) (c : Clauses 𝓤 T)
+  pub returned : {K : Type 0} {Γ : List (Item 𝓤)} {G : Goal 𝓤 𝓛.H} → K → Soaks G → (T : Ended) (c : Clauses 𝓤 T)
       (y : (triple_of 𝓛 T.signature (closing 𝓛 T c)).Ghost) (v : Val) → Lawful 𝓛 (type_at T.signature.result y.0.0)
       → ((r : Res T.signature y.0.0) (ws : Lasts T y.0.0 y.0.3) → Typed (type_at T.signature.result y.0.0).mir (v ∷ [])
       → Seq K 𝓛 (‵ ((type_at T.signature.result y.0.0).own_val r (v ∷ [])) ∷ raw (alive 𝓛 T.signature y.0.0 y.0.1)
       ∷ raw ((c y.0.0 y.0.3).ensures y.1 r (at_exit T y.0.0 y.0.3 ws)) ∷ Γ) G)
       → Seq K 𝓛 (raw ((triple_of 𝓛 T.signature (closing 𝓛 T c)).post y v) ∷ Γ) G
-  gave t soaks T c y v laws next =
+  returned t soaks T c y v laws next =
       let R : RattleType = type_at T.signature.result y.0.0 in
       use1 𝓛 (later (some (λ (r : Res T.signature y.0.0).
       (raw (alive 𝓛 T.signature y.0.0 y.0.1) ⊛ ‵ (R.own_val r (v ∷ []))) ⊛ some (λ (ws : Lasts T y.0.0 y.0.3).
@@ -47,7 +52,7 @@ module _ {M : Type 1} {𝓤 : Ura M} (𝓛 : Logic 𝓤) where
         move ! (1 ∷ 0 ∷ []) $ join ! $ done !
 
     -- and come back to them
-    pub back : ent 𝓤 (sep 𝓤 (sep 𝓤 A (sep 𝓤 B (emp 𝓤))) O) (sep 𝓤 A (sep 𝓤 B O))
-    back =
+    pub come_back : ent 𝓤 (sep 𝓤 (sep 𝓤 A (sep 𝓤 B (emp 𝓤))) O) (sep 𝓤 A (sep 𝓤 B O))
+    come_back =
         qed 𝓛 ((raw A ⊛ raw B ⊛ ‵ ftrue) ∷ raw O ∷ []) ∵ split3 ! $ move ! (1 ∷ 3 ∷ []) $ join ! $
         move ! (1 ∷ 0 ∷ []) $ join ! $ keep ! (0 ∷ []) $ done !

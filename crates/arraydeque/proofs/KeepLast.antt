@@ -1,10 +1,14 @@
 -- The last items of a list.
-use Rattle.std.proofs.{Common.{◌≡◌, ℕ, ◌+◌, ◌-◌, ◌≤◌, List, [], ◌∷◌, ◌<◌, ◌++◌, length, take, drop, min, inl, inr, ap, arith}, lemmas.{Bool.cases_lt, List.{length-append, length-drop, drop-append-le, drop-drop, drop_all, drop_min, take_all}}, Math.Seq.drop-append-add}
+use Rattle.std.proofs.{
+  Common.{◌≡◌, ℕ, ◌+◌, ◌-◌, ◌≤◌, List, [], ◌∷◌, ◌<◌, ◌++◌, length, take, drop, min, inl, inr, arith},
+  lemmas.{Bool.cases_lt, List.{length-append, length-drop, drop-append-le, drop-drop, drop_all, drop_min, take_all}},
+  Math.Seq.drop-append-add,
+}
 use Rattle.arraydeque.specs.Deque.{keep_last}
 
 -- all of a list that is short enough
 pub keep_last-all : {X : Type 0} (n : ℕ) (xs : List X) → length xs ≤ n → keep_last n xs ≡ xs
-keep_last-all n xs short = let none : length xs - n ≡ 0 = omega arith in ap (λ k. drop k xs) none
+keep_last-all n xs short = grind arith
 
 -- to keep the last n, to add items and to keep the last n again is to add them and to keep the last n
 pub keep_last-append : {X : Type 0} (n : ℕ) (xs ys : List X)

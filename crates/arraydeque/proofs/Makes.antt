@@ -9,8 +9,8 @@ use Rattle.arraydeque.specs.{
 }
 
 -- one thing at capacity 0, and another at any other
-pub at_none : {A : Type 0} (n : ℕ) (a b c : A) → (n ≡ 0 → c ≡ a) → (0 < n → c ≡ b) → c ≡ (if n == 0 then a else b)
-at_none n a b c none some = grind (arith, nat_tests)
+pub at_no_places : {A : Type 0} (n : ℕ) (a b c : A) → (n ≡ 0 → c ≡ a) → (0 < n → c ≡ b) → c ≡ (if n == 0 then a else b)
+at_no_places n a b c none some = grind (arith, nat_tests)
 
 module _ {X B : Type 0} (p : Policy) (n size : ℕ) (v : Vec X Global) (old new : DequeState X) where
   pub extended_back-makes : new.items ≡ extended_back p n old.items v.items → new ≡ pushed_back p n v.items old

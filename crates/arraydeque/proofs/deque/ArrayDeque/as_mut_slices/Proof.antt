@@ -1,13 +1,26 @@
 -- `as_mut_slices` is `lend`, and the deque follows the loan's slices. Assumes `Logic`.
-use Rattle.arraydeque_ring.{proofs.{memory.Kit.{◌≡◌, refl, sym, ap, ap₂, ◌∙◌, List, [], ◌∷◌, ◌++◌, ◌+◌, ◌≤◌, length, id⊢, flft, Fn, inst_fn, named}, memory.Kit.{◌⊑◌, fact, tables, ‵, raw, ◌⊛◌, ◌$◌, ◌∵◌, !, qed, move, use1, use2, split, split3, join, frame}, memory.Kit.{rewrite, fsplit, suffices, done, enter, addr, stop, no_more, and_then, returns, alloc_all, pass_all}, memory.Kit.{free_all, look_at, get, through, sets, lands_as, no, plain, mem, Stays, walk_of, says_two}, memory.Kit.{stay_dropped, ends_at, nothing, fjoin, heard, calls_at, framed, triple_of, param_laws, RattleType, El}, memory.Kit.{R, el_x, proved, after₂, Array, both_by, number, MutBor, NamedLft, mut_vals, mut_Tells, named_lft}, memory.Kit.{Goes-spent_ref, a_type, a_number, sem}, loans.{Names.followed_both, Placed.{as_many-twice}, Slices.{slices_lawful}}, slots.loan.Loan.into_slices.Met.{met as into_met}}, specs.Loans.{remaining, as_many}}
+use Rattle.arraydeque_ring.{
+  proofs.{
+    memory.Kit.{◌≡◌, refl, sym, ap, ap₂, ◌∙◌, List, [], ◌∷◌, ◌++◌, ◌+◌, ◌≤◌, length, id⊢, flft, Fn, inst_fn, named},
+    memory.Kit.{◌⊑◌, fact, tables, ‵, raw, ◌⊛◌, ◌$◌, ◌∵◌, !, qed, move, use1, use2, split, split3, join, frame},
+    memory.Kit.{rewrite, fsplit, suffices, done, enter, addr, stop, no_more, and_then, returns, alloc_all, pass_all},
+    memory.Kit.{free_all, look_at, get, through, sets, lands_as, no, plain, mem, Stays, walk_of, says_two},
+    memory.Kit.{stay_dropped, ends_at, nothing, fjoin, heard, calls_at, framed, triple_of, param_laws, RattleType, El},
+    memory.Kit.{R, el_x, proved, after₂, Array, both_by, number, MutBor, NamedLft, mut_vals, mut_Tells, named_lft},
+    memory.Kit.{on_entry, Goes-spent_ref, a_type, a_number, sem},
+    loans.{Names.followed_both, Placed.{as_many-twice}, Slices.{slices_lawful}},
+    slots.loan.Loan.into_slices.Met.{met as into_met},
+  },
+  specs.Loans.{remaining, as_many},
+}
 use contract.Lifetimes.{Lfts, AllOutlive, toks}
-use denote.{Param.bounded, Triple.Entry.{alive, on_entry}}
+use denote.{Param.bounded, Triple.Entry.alive}
 use mir.Syntax.{dcons, dnil}
 use Rattle.arraydeque_ring.specs.contracts.slots.loan.Loan as loan
 use Rattle.arraydeque_ring.proofs.slots.loan.Loan.TheLaws as loan_laws
 use Rattle.arraydeque.{
   specs.{Deque.DequeState, DequeLends.{rewritten, lends_loan, lends_slices}},
-  proofs.{Called.{known, gave, handed, back}, Lent.Dr, deque.ArrayDeque.lend.Met.met},
+  proofs.{Called.{known, returned, handed, come_back}, Lent.Dr, deque.ArrayDeque.lend.Met.met},
 }
 use Rattle.arraydeque.specs.contracts.deque.ArrayDeque.lend as g
 use Rattle.arraydeque_ring.specs.contracts.slots.loan.Loan.into_slices as h
@@ -40,18 +53,19 @@ as_mut_slices_spec 𝓤 𝓛 𝓜 𝓡 wired X N B L fits LB members dict dict_m
     sets ! (addr ! (through ! refl (stop !))) refl (tt, tt) $
     calls_at ! (framed 𝓤 𝓛.H 𝓜 𝓣) G (met 𝓤 𝓛 𝓜 𝓡 (code.calls-arraydeque::deque::ArrayDeque::lend 𝓡.env wired) X N B L
     fits LB members dict dict_met) y (and_then ! (get ! refl) (no_more !)) (λ v.
-    gave 𝓛 ! tt (g.ended X C B members dict) (g.clauses X C B members dict 𝓛 𝓜.mem 𝓡.returns) y v
+    returned 𝓛 ! tt (g.ended X C B members dict) (g.clauses X C B members dict 𝓛 𝓜.mem 𝓡.returns) y v
     ((loan_laws.the_row_laws α (R E) (param_laws 0 X L)).lawful 𝓛) (λ it ws typed. lands_as ! refl refl typed.0 $
     -- [the loan; the tokens; what `lend` says]
     let z : G'.Ghost = ((κs', (qs.0, (qs.1.0, tt)), bounds', (it, tt), (v ∷ [], tt)), tt) in
-    use2 𝓛 (raw (G'.pre z) ⊛ raw Others) (handed 𝓛 A A₁ Others (κ₁ ⊑ X.lives) lives (It.own_val it (v ∷ []))) $ split ! $
+    use2 𝓛 (raw (G'.pre z) ⊛ raw Others) (handed 𝓛 A A₁ Others (κ₁ ⊑ X.lives) lives (It.own_val it (v ∷ []))) $
+    split ! $
     calls_at ! (framed 𝓤 𝓛.H 𝓜 𝓣) G'
     (into_met 𝓤 𝓛 𝓜 𝓡 (code.calls-arraydeque_ring::slots::loan::Loan::into_slices 𝓡.env wired) X L) z
     (and_then ! (get ! refl) (no_more !)) (λ u.
-    gave 𝓛 ! tt (h.ended X) (h.clauses X 𝓛 𝓜.mem 𝓡.returns) z u (slices_lawful α (R E) 𝓛) (λ two ws' typed'.
+    returned 𝓛 ! tt (h.ended X) (h.clauses X 𝓛 𝓜.mem 𝓡.returns) z u (slices_lawful α (R E) 𝓛) (λ two ws' typed'.
     lands_as ! refl refl typed'.0 $
     -- [the pair; two tokens; what `into_slices` says; the others; what `lend` says]
-    move ! (1 ∷ 3 ∷ []) $ use2 𝓛 (raw (alive 𝓛 ended.signature κs qs)) (back 𝓛 A A₁ Others) $ move ! (2 ∷ []) $
+    move ! (1 ∷ 3 ∷ []) $ use2 𝓛 (raw (alive 𝓛 ended.signature κs qs)) (come_back 𝓛 A A₁ Others) $ move ! (2 ∷ []) $
     use1 𝓛 (raw (fact 𝓤 (two.0 ≡ it.first)) ⊛ raw (fact 𝓤 (two.1 ≡ it.second))) (id⊢ 𝓤 _) $ split ! $
     heard ! (two.0 ≡ it.first) (λ e. heard ! (two.1 ≡ it.second) (λ e'. move ! (2 ∷ []) $
     use1 𝓛 (‵ (lends_loan (R E) (f.CAP-row X C B) (f.B-row X C B) a.0 it) ⊛ raw (fact 𝓤 (remaining it ≡ d.items))

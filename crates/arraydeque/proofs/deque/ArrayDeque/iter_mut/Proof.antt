@@ -1,21 +1,22 @@
 -- `iter_mut` goes over what `lend` lends, and the deque follows the loan's name. Assumes `Logic`.
 use Rattle.arraydeque_ring.{
-  proofs.memory.Kit.{◌≡◌, ◌≤◌, ◌+◌, length, refl, sym, ap, ◌∙◌, [], ◌∷◌, id⊢, flft, Fn, inst_fn, named, ◌⊑◌, fact, tables, ‵, raw, ◌⊛◌},
-  proofs.memory.Kit.{◌$◌, ◌∵◌, !, qed, move, keep, use1, use2, split, split3, join, frame, rewrite, fsplit, fjoin},
-  proofs.memory.Kit.{suffices, done, enter, addr, stop, no_more, and_then, returns, alloc_all, pass_all, free_all},
-  proofs.memory.Kit.{look_at, get, through, sets, lands_as, no, plain, Stays, walk_of, says, stay_dropped, ends_at},
-  proofs.memory.Kit.{nothing, heard, calls_at, framed, triple_of, param_laws, RattleType, El, R, el_x, proved, number},
-  proofs.memory.Kit.{NamedLft, mut_vals, mut_Tells, named_lft, Goes-spent_ref, a_type, a_number, sem},
+  proofs.memory.Kit.{◌≡◌, ◌≤◌, ◌+◌, length, refl, sym, ap, ◌∙◌, [], ◌∷◌, id⊢, flft, Fn, inst_fn, named, ◌⊑◌, fact},
+  proofs.memory.Kit.{tables, ‵, raw, ◌⊛◌, ◌$◌, ◌∵◌, !, qed, move, keep, use1, use2, split, split3, join, frame},
+  proofs.memory.Kit.{rewrite, fsplit, fjoin, suffices, done, enter, addr, stop, no_more, and_then, returns, alloc_all},
+  proofs.memory.Kit.{pass_all, free_all, look_at, get, through, sets, lands_as, no, plain, Stays, walk_of, says},
+  proofs.memory.Kit.{stay_dropped, ends_at, nothing, heard, calls_at, framed, triple_of, param_laws, RattleType, El, R},
+  proofs.memory.Kit.{el_x, proved, number, NamedLft, mut_vals, mut_Tells, named_lft, on_entry, Goes-spent_ref, a_type},
+  proofs.memory.Kit.{a_number, sem},
   specs.Loans.{LoanState, remaining},
 }
 use contract.Lifetimes.{Lfts, AllOutlive, toks}
-use denote.{Param.bounded, Triple.Entry.{alive, on_entry}}
+use denote.{Param.bounded, Triple.Entry.alive}
 use mir.Syntax.{dcons, dnil}
 use Rattle.arraydeque_ring.specs.contracts.slots.loan.Loan as loan
 use Rattle.arraydeque_ring.proofs.slots.loan.Loan.TheLaws as loan_laws
 use Rattle.arraydeque.{
   specs.{Deque.DequeState, DequeLends.{lends_items, lends_loan}},
-  proofs.{Called.{known, gave, handed, back}, Lent.Dr, deque.ArrayDeque.lend.Met.met},
+  proofs.{Called.{known, returned, handed, come_back}, Lent.Dr, deque.ArrayDeque.lend.Met.met},
   proofs.iter.iter_mut.IterMut.of.Met.{met as of_met},
 }
 use Rattle.arraydeque.proofs.iter.iter_mut.IterMut.TheLaws as iter_laws
@@ -49,20 +50,22 @@ iter_mut_spec 𝓤 𝓛 𝓜 𝓡 wired X N B L fits LB members dict dict_met =
     sets ! (addr ! (through ! refl (stop !))) refl (tt, tt) $
     calls_at ! (framed 𝓤 𝓛.H 𝓜 𝓣) G (met 𝓤 𝓛 𝓜 𝓡 (code.calls-arraydeque::deque::ArrayDeque::lend 𝓡.env wired) X N B L
     fits LB members dict dict_met) y (and_then ! (get ! refl) (no_more !)) (λ v.
-    gave 𝓛 ! tt (g.ended X C B members dict) (g.clauses X C B members dict 𝓛 𝓜.mem 𝓡.returns) y v
+    returned 𝓛 ! tt (g.ended X C B members dict) (g.clauses X C B members dict 𝓛 𝓜.mem 𝓡.returns) y v
     ((loan_laws.the_row_laws α (R E) (param_laws 0 X L)).lawful 𝓛) (λ it ws typed. lands_as ! refl refl typed.0 $
     -- [the loan; the tokens; what `lend` says]
     let z : G'.Ghost = ((κs', (qs.0, (qs.1.0, tt)), bounds', (it, tt), (v ∷ [], tt)), tt) in
-    use2 𝓛 (raw (G'.pre z) ⊛ raw Others) (handed 𝓛 A A₁ Others (κ₁ ⊑ X.lives) lives (It.own_val it (v ∷ []))) $ split ! $
+    use2 𝓛 (raw (G'.pre z) ⊛ raw Others) (handed 𝓛 A A₁ Others (κ₁ ⊑ X.lives) lives (It.own_val it (v ∷ []))) $
+    split ! $
     calls_at ! (framed 𝓤 𝓛.H 𝓜 𝓣) G' (of_met 𝓤 𝓛 𝓜 𝓡 (code.calls-arraydeque::iter::iter_mut::IterMut::of 𝓡.env wired) X
     L) z (and_then ! (get ! refl) (no_more !)) (λ u.
-    gave 𝓛 ! tt (h.ended X) (h.clauses X 𝓛 𝓜.mem 𝓡.returns) z u
+    returned 𝓛 ! tt (h.ended X) (h.clauses X 𝓛 𝓜.mem 𝓡.returns) z u
     ((iter_laws.the_row_laws α (R E) (param_laws 0 X L)).lawful 𝓛) (λ items ws' typed'. lands_as ! refl refl typed'.0 $
     -- [the iterator; two tokens; what `of` says; the others; what `lend` says]
-    move ! (1 ∷ 3 ∷ []) $ use2 𝓛 (raw (alive 𝓛 ended.signature κs qs)) (back 𝓛 A A₁ Others) $ move ! (2 ∷ []) $
+    move ! (1 ∷ 3 ∷ []) $ use2 𝓛 (raw (alive 𝓛 ended.signature κs qs)) (come_back 𝓛 A A₁ Others) $ move ! (2 ∷ []) $
     heard ! (items ≡ it) (λ e. move ! (2 ∷ []) $
     use1 𝓛 (‵ (lends_loan (R E) (f.CAP-row X C B) (f.B-row X C B) a.0 it) ⊛ raw (fact 𝓤 (remaining it ≡ d.items))
-    ⊛ raw (fact 𝓤 (d.start + length d.items ≤ N → it.second.now ≡ []))) (id⊢ 𝓤 _) $ split3 ! $ move ! (1 ∷ []) $ heard ! (remaining it ≡ d.items) (λ value. fsplit ! $
+    ⊛ raw (fact 𝓤 (d.start + length d.items ≤ N → it.second.now ≡ []))) (id⊢ 𝓤 _) $ split3 ! $ move ! (1 ∷ []) $
+    heard ! (remaining it ≡ d.items) (λ value. fsplit ! $
     rewrite ! 0 (λ (loan : LoanState (el_x E)). ‵ (lends_items (R E) (f.CAP-row X C B) (f.B-row X C B) a.0 loan.name))
     (sym e) refl $
     -- [what the deque follows; what the loan's name follows; what is said of one piece; the tokens; the iterator]

@@ -1,19 +1,26 @@
 -- `lend` lends all items: the ring lends its own, and the deque follows what the ring follows. Assumes `Logic`.
-use Rattle.arraydeque_ring.{proofs.{memory.Kit.{◌≡◌, refl, ap, ◌∙◌, List, [], ◌∷◌, ◌++◌, ℕ, ◌+◌, ◌≤◌, arith, length, full_share, emp, id⊢, fact_i}, memory.Kit.{Share, GName, fsep, flft, fauth, Fn, inst_fn, named, Val, vptr, ◌⊑◌, fact, tables, Borrowed}, memory.Kit.{owns, types_at, ‵, raw, ◌⊛◌, some, later, ◌$◌, ◌∵◌, !, qed, move, keep, use0, use1, use2, split}, memory.Kit.{join, pick, frame, rewrite, await, fsplit, fsplit3, fjoin, fjoin3, fpack, feq_i, suffices, done, enter}, memory.Kit.{addr, stop, fld, no_more, and_then, returns, alloc_all, pass_all, free_all, look_at, get, through}, memory.Kit.{sets, lands_as, no, plain, mem, part_at, Stays, walk_of, says_two, stay_dropped}, memory.Kit.{ends_at, nothing, heard, calls_at, framed, triple_of, param_laws, RattleType, El, R, el_x, proved}, loans.{Made.loan_renamed, Names.{hands_on, followed_both}, Rings.Rr}, ring.Ring.lend.Met.met}, specs.{Loans.{LoanState, remaining, as_many}, Ring.RingState}}
-use base.Share
-use base.Logic.{sep}
-use types.Follow as follow
-use types.{Follow.after₂, Kit.{split3, group}, Late.{ages, bor_new_deep}, Logic.sem, Mut.open_ref, Tokens.name_new}
-use contract.Lifetimes.{Lfts, AllOutlive, toks}
-use denote.{
-  Array.Array,
-  Follow.both_by,
-  Param.{bounded, number},
-  Ref.{MutBor, NamedLft, mut_vals, mut_Tells},
-  Signature.{named_lft},
-  Triple.{Entry.on_entry, Walked.{Goes-spent_ref}},
+use Rattle.arraydeque_ring.{
+  proofs.{
+    memory.Kit.{◌≡◌, refl, ap, ◌∙◌, List, [], ◌∷◌, ◌++◌, ℕ, ◌+◌, ◌≤◌, arith, length, full_share, emp, id⊢, fact_i, sep},
+    memory.Kit.{Share, GName, fsep, flft, fauth, Fn, inst_fn, named, Val, vptr, ◌⊑◌, fact, tables, Borrowed, owns},
+    memory.Kit.{types_at, ‵, raw, ◌⊛◌, some, later, ◌$◌, ◌∵◌, !, qed, move, keep, use0, use1, use2, split, split3},
+    memory.Kit.{group, join, pick, frame, rewrite, await, fsplit, fsplit3, fjoin, fjoin3, fpack, feq_i, suffices, done},
+    memory.Kit.{enter, addr, stop, fld, no_more, and_then, returns, alloc_all, pass_all, free_all, look_at, get},
+    memory.Kit.{through, sets, lands_as, no, plain, mem, part_at, Stays, walk_of, says_two, stay_dropped, ends_at},
+    memory.Kit.{nothing, heard, calls_at, framed, triple_of, param_laws, RattleType, El, R, el_x, proved, after₂, sem},
+    memory.Kit.{name_new, Array, both_by, number, MutBor, NamedLft, mut_vals, mut_Tells, named_lft, Goes-spent_ref},
+    memory.Kit.{on_entry, a_type, a_number},
+    loans.{Made.loan_renamed, Names.{hands_on, followed_both}, Rings.Rr},
+    ring.Ring.lend.Met.met,
+  },
+  specs.{Loans.{LoanState, remaining, as_many}, Ring.RingState},
 }
-use mir.Syntax.{dcons, dnil, a_type, a_number}
+use base.Share
+use types.Follow as follow
+use types.{Late.{ages, bor_new_deep}, Mut.open_ref}
+use contract.Lifetimes.{Lfts, AllOutlive, toks}
+use denote.Param.{bounded}
+use mir.Syntax.{dcons, dnil}
 use Rattle.arraydeque_ring.specs.RingLends as ring
 use Rattle.arraydeque_ring.specs.contracts.slots.loan.Loan as loan
 use Rattle.arraydeque_ring.proofs.slots.loan.Loan.TheLaws as loan_laws
@@ -21,7 +28,7 @@ use Rattle.arraydeque_ring.specs.contracts.ring.Ring.lend as g
 use Rattle.arraydeque.{
   specs.{Deque.DequeState, DequeLends.rewritten},
   proofs.Lent.{Dr, FieldsRow, Fields, view, Kept, Other, Way, fields_out, ring_out, deque_whole, after, kept_after},
-  proofs.{Called.{Asked, known, gave, back}, Lent.{seen_after, written}},
+  proofs.{Called.{Asked, known, returned, come_back}, Lent.{seen_after, written}},
 }
 use Rattle.arraydeque.specs.contracts.deque.ArrayDeque.lend as f
 use Rattle.arraydeque.proofs.deque.ArrayDeque.lend.Statement as stated
@@ -82,7 +89,7 @@ lend_spec 𝓤 𝓛 𝓜 𝓡 wired X N B L fits LB members dict dict_met =
     calls_at ! (framed 𝓤 𝓛.H 𝓜 𝓣) G (met 𝓤 𝓛 𝓜 𝓡 (code.calls-arraydeque_ring::ring::Ring::lend 𝓡.env wired) X L) z
     (and_then ! (get ! refl) (no_more !)) (λ v.
     let α : NamedLft = named_lft 2 0 tt κs' in let It = loan.the_row α (R E) in
-    gave 𝓛 ! tt (g.ended X) (g.clauses X 𝓛 𝓜.mem 𝓡.returns) z v
+    returned 𝓛 ! tt (g.ended X) (g.clauses X 𝓛 𝓜.mem 𝓡.returns) z v
     ((loan_laws.the_row_laws α (R E) (param_laws 0 X L)).lawful 𝓛) (λ it ws typed. lands_as ! refl refl typed.0 $
     let Piece : Type 0 = x.ring.start + length x.ring.items ≤ x.ring.capacity → it.second.now ≡ [] in
     move ! (2 ∷ []) $ use1 𝓛 (‵ (ring.lends_loan (R E) lent it) ⊛ raw (fact 𝓤 (remaining it ≡ x.ring.items))
@@ -116,7 +123,7 @@ lend_spec 𝓤 𝓛 𝓜 𝓡 wired X N B L fits LB members dict dict_met =
     use1 𝓛 (‵ (It.own_val out (v ∷ []))) (loan_renamed α (R E) 𝓛 it ν (v ∷ [])) $
     -- [the loan; what the deque follows; half the token; the tokens; the others]
     move ! (3 ∷ 4 ∷ []) $ use2 𝓛 (‵ (flft κ r) ⊛ ‵ (flft κ₁ q₁) ⊛ raw Others)
-    (back 𝓛 (sem 𝓛 (flft κ r)) (sem 𝓛 (flft κ₁ q₁)) Others) $ split ! $ move ! (4 ∷ 0 ∷ []) $
+    (come_back 𝓛 (sem 𝓛 (flft κ r)) (sem 𝓛 (flft κ₁ q₁)) Others) $ split ! $ move ! (4 ∷ 0 ∷ []) $
     use2 𝓛 (‵ (flft κ q)) (𝓛.lfts.lft_join κ q) $ join ! $
     -- [the tokens; the loan; what the deque follows]
     returns ! (look_at ! 0 refl) $ free_all ! refl $ keep ! (0 ∷ 1 ∷ 2 ∷ []) $

@@ -1,7 +1,0 @@
-use Rattle.std.proofs.{Common.{arith}, lemmas.List.length-append}
-use Rattle.arraydeque.proofs.deque.ArrayDeque.fill_back.Goals as goal
-
-pub returns-clause-full : goal.returns-clause-full
-returns-clause-full g c some =
-    let filled = c.fill_back.ensures.filled in
-    rw filled.holds (simp length-append (omega (arith, c.self.invariant.0, c.self.invariant.1, (filled.all some).1)))
