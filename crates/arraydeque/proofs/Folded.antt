@@ -42,7 +42,7 @@ module _ {X A F : Type 0} {call : Mut F (A × (Bor X × Unit {0})) A} {whole : L
       (s : Folded call whole f init (drop i slice ++ others) g total) where
     pub slice_folded : length slice ≤ i → Folded call whole f init (others ++ []) g total
     slice_folded past = subst (λ rest. Folded call whole f init rest g total)
-        (ap (λ rest. rest ++ others) (drop_all i slice past) ∙ sym (append-nil others)) s
+        (grind (arith, drop_all i slice, append-nil others)) s
 
     opens : (x : Bor X) → i < length slice → x.now ≡ get_or slice i x.now
         → drop i slice ++ others ≡ x.now ∷ (drop (i + 1) slice ++ others)

@@ -37,7 +37,7 @@ module _ {X : Type 0} (n : ℕ) (deque : DequeState X) (xs : List X) (none : n �
 
   pub WrapsFront-no_places : WrapsFront n deque xs deque
   WrapsFront-no_places = (
-    nil_from_length deque.items (omega arith) ∙ sym (ap (λ m. take m (reverse xs ++ deque.items)) none),
+    grind (arith, nil_from_length deque.items),
     (λ some. absurd (omega arith)),
     λ _. refl,
   )

@@ -1,5 +1,8 @@
-use Rattle.std.proofs.{Common.{option_copied, refl, sym, ap, ◌∙◌}, lemmas.Option.{slice_get_within}}
-use Rattle.arraydeque.proofs.Scanned.{NextIs-buffer}
+use Rattle.std.proofs.{
+  Common.{[], option_copied, refl, sym, ap, ◌∙◌},
+  lemmas.Option.{slice_get_within},
+}
+use Rattle.arraydeque.proofs.Scanned.{HandsOut-append, NextIs-buffer}
 use Rattle.arraydeque.proofs.lookahead.Scanner.next_if.Goals as goal
 
 pub returns-in_default-clause-refused : goal.returns-in_default-clause-refused
@@ -15,8 +18,18 @@ returns-then-not-is_accepted-clause-refused g c =
     NextIs-buffer g.I.Iterator.next_gives _ _ (rw first (c.in-Some.item, c.if-not-is_accepted.ensures, refl))
     (rw seen.sees at seen.none)
 
+pub returns-clause-hands_out : goal.returns-clause-hands_out
+returns-clause-hands_out g c = HandsOut-append g.I.Iterator.next_gives c.args.self.now
+    c.peek.follows.lender-at-none c.next.new.self [] _ c.peek.follows.holds-at-none.hands_out c.next.ensures.hands_out
+
 pub returns-clause-accepted : goal.returns-clause-accepted
 returns-clause-accepted g c =
     let first = sym c.peek.follows.holds-at-none.sees ∙ ap option_copied c.in-Some.is in
     let taken = (c.next.ensures.buffered (slice_get_within _ 0 _ first)).0 ∙ first in
     rw taken (c.in-Some.item, c.if-not-is_accepted.ensures, refl)
+
+pub returns-clause-refused : goal.returns-clause-refused
+returns-clause-refused g c =
+    let first = sym c.peek.follows.holds-at-none.sees ∙ ap option_copied c.in-Some.is in
+    let taken = (c.next.ensures.buffered (slice_get_within _ 0 _ first)).0 ∙ first in
+    rw taken tt
