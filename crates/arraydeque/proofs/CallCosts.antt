@@ -1,11 +1,11 @@
 -- What a call makes of a deque says what it costs.
 use Rattle.std.proofs.{
-  Common.{◌≡◌, ℕ, Some, None, ◌+◌, ◌≤◌, List, true, false, ◌==◌, if◌then◌else◌, refl, ap, arith},
+  Common.{◌≡◌, ℕ, Some, ◌+◌, ◌≤◌, List, refl, ap, arith},
   lemmas.{Bool.Decides.nat_tests, Option.slice_get_cases},
 }
 use Rattle.arraydeque.specs.{
   Costs.{work_of, cost_of},
-  Deque.{DequeState, wrapped_back, wrapped_front},
+  Deque.{DequeState},
   Machine.{Answer, Answers, done, item, displaced, drained, split},
   Makes.{StepsAre, pushed_back, pushed_front},
   Policy.{Policy, saturating, wrapping},
@@ -26,40 +26,27 @@ module _ {X : Type 0} where
   pushed_back-work : (p : Policy) (n : ℕ) (xs : List X) (old : DequeState X)
       → work_of (pushed_back p n xs old).steps ≡ work_of old.steps
   pushed_back-work saturating n xs old = refl
-  pushed_back-work wrapping n xs old = elim (n == 0) as
-      (λ b. work_of (if b then old else wrapped_back n xs old).steps ≡ work_of old.steps) [ true ↦ refl | false ↦ refl ]
+  pushed_back-work wrapping n xs old = grind (arith, nat_tests)
 
   pushed_front-work : (p : Policy) (n : ℕ) (xs : List X) (old : DequeState X)
       → work_of (pushed_front p n xs old).steps ≡ work_of old.steps
   pushed_front-work saturating n xs old = refl
-  pushed_front-work wrapping n xs old = elim (n == 0) as (λ b.
-      work_of (if b then old else wrapped_front n xs old).steps ≡ work_of old.steps) [ true ↦ refl | false ↦ refl ]
+  pushed_front-work wrapping n xs old = grind (arith, nat_tests)
 
 module _ {X : Type 0} (p : Policy) (n : ℕ) (old new : DequeState X) where
   -- each call costs what its steps say
   pub call_costs : (c : Call X) (a : Answer X) → Answers p n old.items c a new.items → StepsAre p n c a old new.steps
       → CallCosts c a old new
-  call_costs (PushFront x) done list steps = omega (arith, ap work_of steps)
-  call_costs (PushFront x) (displaced None) list steps = omega (arith, ap work_of steps)
   call_costs (PushFront x) (displaced (Some y)) list steps = grind (arith, nat_tests, ap work_of steps)
-  call_costs (PushBack x) done list steps = omega (arith, ap work_of steps)
-  call_costs (PushBack x) (displaced None) list steps = omega (arith, ap work_of steps)
   call_costs (PushBack x) (displaced (Some y)) list steps = grind (arith, nat_tests, ap work_of steps)
   call_costs (Insert i x) done list steps = omega (arith, ap work_of steps)
   call_costs PopFront (item (Some x)) list steps = omega (arith, ap work_of steps)
   call_costs PopBack (item (Some x)) list steps = omega (arith, ap work_of steps)
   call_costs (Remove i) (item (Some x)) list steps = omega (arith, ap work_of steps)
-  call_costs (SwapRemoveBack i) (item (Some x)) list steps =
+  call_costs (SwapRemoveBack i) _ list steps =
       grind (arith, nat_tests, ap work_of steps, slice_get_cases old.items i, list.0)
-  call_costs (SwapRemoveBack i) (item None) list steps =
+  call_costs (SwapRemoveFront i) _ list steps =
       grind (arith, nat_tests, ap work_of steps, slice_get_cases old.items i, list.0)
-  call_costs (SwapRemoveBack i) _ list steps = cc list.0
-  call_costs (SwapRemoveFront i) (item (Some x)) list steps =
-      grind (arith, nat_tests, ap work_of steps, slice_get_cases old.items i, list.0)
-  call_costs (SwapRemoveFront i) (item None) list steps =
-      grind (arith, nat_tests, ap work_of steps, slice_get_cases old.items i, list.0)
-  call_costs (SwapRemoveFront i) _ list steps = cc list.0
-  call_costs (Swap i j) done list steps = grind (arith, nat_tests, ap work_of steps, list)
   call_costs (Swap i j) _ list steps = grind (arith, nat_tests, ap work_of steps, list)
   call_costs (Replace i x) (item y) list steps = omega (arith, ap work_of steps)
   call_costs Clear done list steps = omega (arith, ap work_of steps)

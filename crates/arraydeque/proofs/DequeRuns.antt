@@ -42,7 +42,7 @@ module _ {X B : Type 0} {n : ℕ} (p : Policy) (size : ℕ) where
   RunCosts-of old new [] [] same =
       let work = ap (λ (d : DequeState X). work_of d.steps) same in
       record {
-        run = ap (λ (d : DequeState X). d.items) same;
+        run = grind arith;
         at_most = omega (arith, work);
         exactly = λ none. omega (arith, work);
       }

@@ -2,6 +2,7 @@
 use Rattle.std.{
   proofs.{
     Common.{◌≡◌, ℕ, ◌+◌, ◌<◌, ◌≤◌, List, [], ◌∷◌, ◌++◌, length, drop, get_or, refl, sym, ap, ◌∙◌, subst, append-nil},
+    Common.arith,
     lemmas.List.{drop_more, drop_all},
     iter.Next.{Yields-more, served, Serves-on},
     SliceLists.chained_more,
@@ -29,8 +30,9 @@ FoldedTo {X} call whole f init slice others i g total = Folded call whole f init
     × ((x : Bor X) → i < length slice → x.now ≡ get_or slice i x.now → Takes call g (total, (x, tt)))
 
 module _ {X A F : Type 0} {call : Mut F (A × (Bor X × Unit {0})) A} {whole : List X} {f : F} {init : A} where
-  pub none_folded : CallableInFold (YieldsFirstRef (λ xs. xs)) call whole f init → Folded call whole f init whole f init
-  none_folded callable = record { items = []; gave = refl; led = refl; callable = callable }
+  pub nothing_folded : CallableInFold (YieldsFirstRef (λ xs. xs)) call whole f init
+      → Folded call whole f init whole f init
+  nothing_folded callable = record { items = []; gave = refl; led = refl; callable = callable }
 
   pub all_folded : {g : F} {total : A} → Folded call whole f init [] g total
       → FoldsItems (YieldsFirstRef (λ xs. xs)) call whole f init total
@@ -40,12 +42,11 @@ module _ {X A F : Type 0} {call : Mut F (A × (Bor X × Unit {0})) A} {whole : L
       (s : Folded call whole f init (drop i slice ++ others) g total) where
     pub slice_folded : length slice ≤ i → Folded call whole f init (others ++ []) g total
     slice_folded past = subst (λ rest. Folded call whole f init rest g total)
-        (ap (λ rest. rest ++ others) (drop_all i slice past) ∙ sym (append-nil others)) s
+        (grind (arith, drop_all i slice, append-nil others)) s
 
     opens : (x : Bor X) → i < length slice → x.now ≡ get_or slice i x.now
         → drop i slice ++ others ≡ x.now ∷ (drop (i + 1) slice ++ others)
-    opens x within here =
-        ap (λ rest. rest ++ others) (drop_more slice i x.now within ∙ ap (λ y. y ∷ drop (i + 1) slice) (sym here))
+    opens x within here = grind (arith, drop_more slice i x.now)
 
     pub going : FoldedTo call whole f init slice others i g total
     going = (s, λ x within here. served s.callable x _ (opens x within here))

@@ -1,8 +1,5 @@
 -- What extends make of a deque.
-use Rattle.std.proofs.{
-  Common.{◌≡◌, ◌<◌, ℕ, ◌==◌, if◌then◌else◌, Vec, Global, refl, ap, arith},
-  lemmas.Bool.Decides.{nat_tests},
-}
+use Rattle.std.proofs.{Common.{◌≡◌, ◌<◌, ℕ, ◌==◌, if◌then◌else◌, Vec, Global, arith}, lemmas.Bool.Decides.{nat_tests}}
 use Rattle.arraydeque.specs.{
   Deque.DequeState,
   Machine.{extended_back, extended_front},
@@ -12,27 +9,15 @@ use Rattle.arraydeque.specs.{
 }
 
 -- one thing at capacity 0, and another at any other
-pub at_none : {A : Type 0} (n : ℕ) (a b c : A) → (n ≡ 0 → c ≡ a) → (0 < n → c ≡ b) → c ≡ (if n == 0 then a else b)
-at_none n a b c none some = grind (arith, nat_tests)
+pub at_no_places : {A : Type 0} (n : ℕ) (a b c : A) → (n ≡ 0 → c ≡ a) → (0 < n → c ≡ b) → c ≡ (if n == 0 then a else b)
+at_no_places n a b c none some = grind (arith, nat_tests)
 
 module _ {X B : Type 0} (p : Policy) (n size : ℕ) (v : Vec X Global) (old new : DequeState X) where
   pub extended_back-makes : new.items ≡ extended_back p n old.items v.items → new ≡ pushed_back p n v.items old
       → Makes {X = X} {B = B} p n size (ExtendBack v) Done old new
       × Makes {X = X} {B = B} p n size (Extend v) Done old new
-  extended_back-makes items same =
-      let start = ap (λ (d : DequeState X). d.start) same in
-      let steps = ap (λ (d : DequeState X). d.steps) same in (
-        record { list = (refl, items); start = start; steps = steps; fewest = tt; tail = tt; refused = tt },
-        record { list = (refl, items); start = start; steps = steps; fewest = tt; tail = tt; refused = tt },
-      )
+  extended_back-makes items same = (grind arith, grind arith)
 
   pub extended_front-makes : new.items ≡ extended_front p n old.items v.items → new ≡ pushed_front p n v.items old
       → Makes {X = X} {B = B} p n size (ExtendFront v) Done old new
-  extended_front-makes items same = record {
-    list = (refl, items);
-    start = ap (λ (d : DequeState X). d.start) same;
-    steps = ap (λ (d : DequeState X). d.steps) same;
-    fewest = tt;
-    tail = tt;
-    refused = tt;
-  }
+  extended_front-makes items same = grind arith

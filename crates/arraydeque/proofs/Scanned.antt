@@ -1,8 +1,8 @@
 -- One run of a scanner's calls after another.
 use Rattle.std.{
   proofs.{
-    Common.{◌≡◌, ℕ, ◌+◌, arith, Bool, true, false, true≢false, List, [], ◌∷◌, ◌++◌, Option, Some, None, IfSome, IfNone},
-    Common.{slice_get, refl, sym, ◌∙◌, ap, subst, append-nil, append_assoc},
+    Common.{◌≡◌, arith, Bool, true, false, true≢false, List, [], ◌∷◌, ◌++◌, Option, Some, None, IfSome, IfNone},
+    Common.{slice_get, refl, sym, ◌∙◌, subst, append-nil, append_assoc},
     iter.runs.{Made.{run, to_end}, Lists.Yields-both},
   },
   specs.{Iterator.{Count, Runs.WholeRun}, Option.option_to_list},
@@ -18,15 +18,7 @@ pub fresh_made : {S A : Type 0} (remaining : S → Count) (iter : S) (buffer : L
       left = left_of remaining iter buffer false;
     }
 unfolding left_of
-fresh_made remaining iter [] empty =
-    let count = remaining iter in
-    let same : count.bound ≡ count.bound + 0 = omega arith in
-    ap (λ (n : ℕ). record {
-      iter = iter;
-      buffer = [];
-      ended = false;
-      left = record { bounded = count.bounded; bound = n };
-    }) same
+fresh_made remaining iter [] empty = grind arith
 fresh_made remaining iter (x ∷ buffer) empty = cc
 
 module _ {S A : Type 0} (steps : S → Option A → S → Type 0) where
@@ -41,19 +33,14 @@ module _ {S A : Type 0} (steps : S → Option A → S → Type 0) where
       (second.0, Yields-both steps xs ys s t second.0 first second.1, second.2)
   Reads-append false false false s t u xs ys first second = Yields-both steps xs ys s t u first second
 
-  -- a call that leaves the iterator alone has read nothing
-  pub Reads-none : (ended : Bool) (s : S) → Reads steps ended s [] ended s
-  Reads-none true s = (refl, refl, refl)
-  Reads-none false s = refl
-
   module _ (old mid new : ScannerState S A) (xs ys : List A) where
     -- what is handed out in two runs is handed out in one
     pub HandsOut-append : HandsOut steps old xs mid → HandsOut steps mid ys new → HandsOut steps old (xs ++ ys) new
     HandsOut-append first second = (
       first.0 ++ second.0,
       Reads-append old.ended mid.ended new.ended old.iter mid.iter new.iter first.0 second.0 first.1 second.1,
-      sym (append_assoc old.buffer first.0 second.0) ∙ ap (λ l. l ++ second.0) first.2
-          ∙ append_assoc xs mid.buffer second.0 ∙ ap (λ l. xs ++ l) second.2 ∙ sym (append_assoc xs ys new.buffer),
+      grind (arith, append_assoc old.buffer first.0 second.0, append_assoc xs mid.buffer second.0,
+      append_assoc xs ys new.buffer, first.2, second.2),
     )
 
   -- what is handed out goes off the rest
@@ -63,8 +50,7 @@ module _ {S A : Type 0} (steps : S → Option A → S → Type 0) where
   TakesOff-from_out old new ys given rest after = (
     given.0 ++ after.0,
     (after.1.0, Reads-append old.ended new.ended true old.iter new.iter after.1.0 given.0 after.0 given.1 after.1.1),
-    ap (λ l. ys ++ l) after.2 ∙ sym (append_assoc ys new.buffer after.0) ∙ ap (λ l. l ++ after.0) (sym given.2)
-        ∙ append_assoc old.buffer given.0 after.0,
+    grind (arith, append_assoc ys new.buffer after.0, append_assoc old.buffer given.0 after.0, after.2, given.2),
   )
 
   -- the rest of a fresh scanner is what a whole run of its iterator gives
@@ -76,15 +62,15 @@ module _ {S A : Type 0} (steps : S → Option A → S → Type 0) where
       (run steps iter read.0 true (to_end steps iter read.0 read.1), refl, refl, sym read.2)
 
   -- where no item is handed out and the scanner is spent, it had nothing left
-  pub HasRest-none : (old new : ScannerState S A) (item : Option A) → HandsOut steps old (option_to_list item) new
+  pub HasRest-nothing : (old new : ScannerState S A) (item : Option A) → HandsOut steps old (option_to_list item) new
       → new.buffer ≡ [] → IfNone item (new.ended ≡ true) → IfNone item (HasRest steps old [])
   unfolding HasRest
-  HasRest-none old new None given empty ended = (
+  HasRest-nothing old new None given empty ended = (
     given.0,
     (new.iter, subst (λ e. Reads steps old.ended old.iter given.0 e new.iter) ended given.1),
     sym (given.2 ∙ empty),
   )
-  HasRest-none old new (Some item) given empty ended = tt
+  HasRest-nothing old new (Some item) given empty ended = tt
 
   next_is : (P : A → Type 0) (buffer xs rest : List A) → IfSome (slice_get buffer 0) P → (buffer ≡ [] → xs ≡ [])
       → rest ≡ buffer ++ xs → IfSome (slice_get rest 0) P

@@ -41,10 +41,7 @@ pub record Pairwise {X O : Type 0} (join : O → O → O) (pair : X → X → O)
 module _ {X : Type 0} where
   -- cut at one index
   even : (xs xs' ys ys' : List X) → length xs ≡ length ys → AreCutAlike xs xs' ys ys'
-  even xs xs' ys ys' long = record {
-    first_ends = λ less. absurd (omega arith);
-    second_ends = λ less. absurd (omega arith);
-  }
+  even xs xs' ys ys' long = record { first_ends = grind arith; second_ends = grind arith }
 
   module _ {O : Type 0} {join : O → O → O} {pair : X → X → O} {lists : List X → List X → O}
       (p : Pairwise join pair lists) where
@@ -70,8 +67,8 @@ module _ {X : Type 0} where
     -- behind lists that are as long, and that have no say
     behind : {xs ys us vs xs' ys' : List X} → xs ≡ us ++ xs' → ys ≡ vs ++ ys' → length us ≡ length vs
         → lists us vs ≡ lists [] [] → lists xs' ys' ≡ lists xs ys
-    behind {us = us} {vs} {xs'} {ys'} first second long equal = sym (ap₂ lists first second
-        ∙ both us xs' vs ys' (even us xs' vs ys' long) ∙ ap (λ o. join o (lists xs' ys')) equal ∙ p.none _)
+    behind {us = us} {vs} {xs'} {ys'} first second long equal =
+        rw (first, second, both us xs' vs ys' (even us xs' vs ys' long), equal) (sym (p.none _))
 
   pub pointwise_pairs : (E : X → X → Bool) → Pairwise (λ a b. a && b) E (pointwise E)
   pointwise_pairs E = record {
@@ -116,22 +113,22 @@ module _ {X : Type 0} where
   split-whole {xs} n front back = sym (ap₂ (λ ys zs. ys ++ zs) front back ∙ take-append-drop n xs)
 
   module _ {E : X → X → Bool} where
-    pub behind-none : (xs ys : List X) → AreBehindEqual E xs ys xs ys
-    behind-none xs ys = record { xs-front = []; ys-front = []; first = refl; second = refl; equal = refl }
+    pub behind-nothing : (xs ys : List X) → AreBehindEqual E xs ys xs ys
+    behind-nothing xs ys = record { xs-front = []; ys-front = []; first = refl; second = refl; equal = refl }
 
     module _ {xs ys xs' ys' : List X} (b : AreBehindEqual E xs ys xs' ys') where
       long : length b.xs-front ≡ length b.ys-front
       long = as_long E b.xs-front b.ys-front b.equal
 
       -- behind more pairs
-      pub behind-more : (us vs : List X) {xs'' ys'' : List X} → xs' ≡ us ++ xs'' → ys' ≡ vs ++ ys''
+      pub behind-pairs : (us vs : List X) {xs'' ys'' : List X} → xs' ≡ us ++ xs'' → ys' ≡ vs ++ ys''
           → true ≡ pointwise E us vs → AreBehindEqual E xs ys xs'' ys''
-      behind-more us vs {xs''} {ys''} first second equal = record {
+      behind-pairs us vs {xs''} {ys''} first second equal = record {
         xs-front = b.xs-front ++ us;
         ys-front = b.ys-front ++ vs;
-        first = b.first ∙ ap (λ zs. b.xs-front ++ zs) first ∙ sym (append_assoc b.xs-front us xs'');
-        second = b.second ∙ ap (λ zs. b.ys-front ++ zs) second ∙ sym (append_assoc b.ys-front vs ys'');
-        equal = pointwise-both E b.xs-front us b.ys-front vs long ∙ ap₂ (λ a b. a && b) b.equal (sym equal);
+        first = grind (arith, b.first, append_assoc b.xs-front us xs'');
+        second = grind (arith, b.second, append_assoc b.ys-front vs ys'');
+        equal = grind (arith, b.equal, pointwise-both E b.xs-front us b.ys-front vs long);
       }
 
       pub pointwise_behind : pointwise E xs' ys' ≡ pointwise E xs ys

@@ -1,14 +1,10 @@
 -- What is taken of a source of items.
 use Rattle.std.{
   proofs.{
-    Common.{◌≡◌, ℕ, ◌<◌, ◌≤◌, List, length, take, Option, Some, slice_get, slice_index_or, Bool, true, false},
-    Common.{◌++◌, refl, sym, subst, ap, ◌∙◌, arith, inl, inr},
+    Common.{◌≡◌, ℕ, ◌<◌, ◌≤◌, List, length, take, Option, Some, slice_get, slice_index_or, Bool, true, false, ◌++◌},
+    Common.{refl, sym, subst, ap, ◌∙◌, arith},
     iter.runs.{Lists.{Yields-both}, Made.{run, run_of_exit, took}},
-    lemmas.{
-      Bool.{cases_lt, cases_Bool},
-      List.{same_lists, length-take, get_or-take, take_all},
-      Option.slice_get-get_or,
-    },
+    lemmas.{List.{same_lists, length-take, get_or-take, take_all}, Option.slice_get-get_or},
   },
   specs.{Option.{unwrap_or, option_map}, Iterator.{Yields, Drains, Runs.{Run, ItemsAre, YieldsInOrder}}},
 }
@@ -37,12 +33,7 @@ module _ {S A : Type 0} {gives : S → Option A → S → Type 0} (run : Run giv
   first_items : (n : ℕ) → run.len ≤ n → (run.len < n → run.whole ≡ true) → (run.whole ≡ true → run.len ≡ length xs)
       → Reads → run.items ≡ take n xs
   first_items n at_most fewer all reads =
-      let same : take run.len xs ≡ take n xs = elim (cases_lt run.len n) [
-        | inl less ↦ let end = all (fewer less) in
-            take_all run.len xs (omega arith) ∙ sym (take_all n xs (omega arith))
-        | inr none ↦ ap (λ k. take k xs) (omega arith)
-      ] in
-      sym (items_are reads) ∙ same
+      grind (arith, items_are reads, take_all run.len xs, take_all n xs)
 
 -- of a source whose iterator shows the list xs
 module _ {Source S A : Type 0} (becomes : Source → S → Type 0) (gives : S → Option A → S → Type 0) (source : Source)
@@ -83,19 +74,19 @@ module _ {Source S A : Type 0} {becomes : Source → S → Type 0} {gives : S �
         (ended.0, (ran.0, subst (λ s. Yields gives s all.run.items ran.0) all.from_it ran.1, ended.1)),
       )
 
-  module _ {s : S} (became : becomes source s) where
+  module _ (s : S) (became : becomes source s) where
     -- by what takes all
-    pub TakesAll-ends : Ends gives s P → TakesAll becomes gives source P
-    TakesAll-ends ends =
-        let last = ends.drains.1 in
-        let ran = run_of_exit gives s ends.items last.0 last.1 ends.drains.0 last.2 in
+    pub TakesAll-ends : (xs : List A) → Drains gives s xs → P xs → TakesAll becomes gives source P
+    TakesAll-ends xs drains holds =
+        let last = drains.1 in
+        let ran = run_of_exit gives s xs last.0 last.1 drains.0 last.2 in
         record {
           iterator = s;
           became = became;
           run = ran.0;
           from_it = ran.1;
           to_end = ran.2;
-          holds = subst P (sym ran.3.0) ends.holds;
+          holds = subst P (sym ran.3.0) holds;
         }
 
     -- by a fill, and by what takes all that it left
@@ -103,10 +94,7 @@ module _ {Source S A : Type 0} {becomes : Source → S → Type 0} {gives : S �
       pub TakesFrom-fills : ((xs : List A) → Q xs → P xs) → TakesFrom becomes gives source n P
       TakesFrom-fills holds =
           let ran = run gives s filled.items ended (filled.last, filled.yielded, λ none. (t, filled.none none)) in
-          let or_all : length filled.items < n → ended ≡ true = λ less. elim (cases_Bool ended) [
-            | inl none ↦ none
-            | inr some ↦ let all = (filled.all some).1 in absurd (omega arith)
-          ] in
+          let or_all : length filled.items < n → ended ≡ true = grind arith in
           record {
             iterator = s;
             became = became;
@@ -122,11 +110,7 @@ module _ {Source S A : Type 0} {becomes : Source → S → Type 0} {gives : S �
           }
 
       pub TakesAll-fills : ended ≡ true → P filled.items → TakesAll becomes gives source P
-      TakesAll-fills none holds = TakesAll-ends (record {
-        items = filled.items;
-        drains = (t, (filled.last, filled.yielded, filled.none none));
-        holds = holds;
-      })
+      TakesAll-fills none holds = TakesAll-ends filled.items (t, (filled.last, filled.yielded, filled.none none)) holds
 
       pub TakesAll-both : ended ≡ false → {R : List A → Type 0} (left : Ends gives t R) → P (filled.items ++ left.items)
           → TakesAll becomes gives source P
@@ -134,8 +118,4 @@ module _ {Source S A : Type 0} {becomes : Source → S → Type 0} {gives : S �
           let last = left.drains.1 in
           let first = subst (Yields gives s filled.items) (filled.all some).0 filled.yielded in
           let yielded = Yields-both gives filled.items left.items s t last.0 first last.1 in
-          TakesAll-ends (record {
-            items = filled.items ++ left.items;
-            drains = (left.drains.0, (last.0, yielded, last.2));
-            holds = holds;
-          })
+          TakesAll-ends (filled.items ++ left.items) (left.drains.0, (last.0, yielded, last.2)) holds

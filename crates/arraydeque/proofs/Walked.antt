@@ -50,42 +50,44 @@ module _ {S X A Z P : Type 0} (view : A → X) (rest : S → List X) (left : Lis
   -- what a slice gives comes as items of the whole
   module _ (whole : List X → S)
       (alike : (x : A) (zs : List X) → rest (whole (view x ∷ zs)) ≡ view x ∷ rest (whole zs)) where
-    gives : (v : Z) (x : A) (w : Z) → PartGives v (Some x) w → Gives (whole (now v)) (Some x) (whole (now w))
-    gives v x w next = ap (λ zs. rest (whole zs)) next ∙ alike x (now w)
+    item_gives : (v : Z) (x : A) (w : Z) → PartGives v (Some x) w → Gives (whole (now v)) (Some x) (whole (now w))
+    item_gives v x w next = ap (λ zs. rest (whole zs)) next ∙ alike x (now w)
 
-    gave : (z : Z) (zs : List X) → now z ≡ zs → {p q : P} (walk : WalksPart z p q)
+    slice_yields : (z : Z) (zs : List X) → now z ≡ zs → {p q : P} (walk : WalksPart z p q)
         → Yields Gives (whole zs) walk.0 (whole [])
-    gave z zs is walk =
+    slice_yields z zs is walk =
         let end = walk.1.1.0 in
-        let came = yields_whole Gives PartGives (λ v. whole (now v)) gives z walk.0 end walk.1.1.1 in
+        let came = yields_whole Gives PartGives (λ v. whole (now v)) item_gives z walk.0 end walk.1.1.1 in
         subst (λ l. Yields Gives (whole l) walk.0 (whole [])) is
         (subst (λ l. Yields Gives (whole (now z)) walk.0 (whole l)) (nil_from_length (now end) walk.1.1.2.0) came)
 
-    callable : {Q : P → A → Type 0} {p : P} (z : Z) (zs : List X) → now z ≡ zs
+    callable_slice : {Q : P → A → Type 0} {p : P} (z : Z) (zs : List X) → now z ≡ zs
         → CallableAtEachTurn Gives R Q (whole zs) p → CallableAtEachTurn PartGives R Q z p
-    callable {Q} {p} z zs is may = callable_part Gives PartGives (λ v. whole (now v)) gives z
+    callable_slice {Q} {p} z zs is may = callable_part Gives PartGives (λ v. whole (now v)) item_gives z
         (subst (λ l. CallableAtEachTurn Gives R Q (whole l) p) (sym is) may)
 
   module _ (xs ys : List X) where
-    first : (x : A) (zs : List X) → rest (left (view x ∷ zs) ys) ≡ view x ∷ rest (left zs ys)
-    first x zs = shows (view x ∷ zs) ys ∙ ap (λ l. view x ∷ l) (sym (shows zs ys))
+    first_gives : (x : A) (zs : List X) → rest (left (view x ∷ zs) ys) ≡ view x ∷ rest (left zs ys)
+    first_gives x zs = shows (view x ∷ zs) ys ∙ ap (λ l. view x ∷ l) (sym (shows zs ys))
 
-    second : (x : A) (zs : List X) → rest (left [] (view x ∷ zs)) ≡ view x ∷ rest (left [] zs)
-    second x zs = shows [] (view x ∷ zs) ∙ ap (λ l. view x ∷ l) (sym (shows [] zs))
+    second_gives : (x : A) (zs : List X) → rest (left [] (view x ∷ zs)) ≡ view x ∷ rest (left [] zs)
+    second_gives x zs = shows [] (view x ∷ zs) ∙ ap (λ l. view x ∷ l) (sym (shows [] zs))
 
     pub callable_first : {Q : P → A → Type 0} {p : P} (z : Z) → now z ≡ xs
         → CallableAtEachTurn Gives R Q (left xs ys) p → CallableAtEachTurn PartGives R Q z p
-    callable_first z is may = callable (λ zs. left zs ys) first z xs is may
+    callable_first z is may = callable_slice (λ zs. left zs ys) first_gives z xs is may
 
     pub callable_second : {Q : P → A → Type 0} {p q : P} (y : Z) → now y ≡ xs → WalksPart y p q
         → (z : Z) → now z ≡ ys → CallableAtEachTurn Gives R Q (left xs ys) p → CallableAtEachTurn PartGives R Q z q
-    callable_second {q = q} y was walk z is may = callable (left []) second z ys is
-        (callable_behind Gives may walk.0 (left [] ys) q (gave (λ zs. left zs ys) first y xs was walk) walk.2)
+    callable_second {q = q} y was walk z is may =
+        let begun = slice_yields (λ zs. left zs ys) first_gives y xs was walk in
+        callable_slice (left []) second_gives z ys is (callable_behind Gives may walk.0 (left [] ys) q begun walk.2)
 
     pub walked_both : {p q r : P} (y : Z) → now y ≡ xs → WalksPart y p q → (z : Z) → now z ≡ ys → WalksPart z q r
         → (items : List A) × (last : P) × Drains Gives (left xs ys) items × FoldsTo R p items last
     walked_both {p} {q} {r} y was walk z is more =
         let end = left [] [] in let none = shows [] [] in
         let came = Yields-both Gives walk.0 more.0 (left xs ys) (left [] ys) end
-        (gave (λ zs. left zs ys) first y xs was walk) (gave (left []) second z ys is more) in
+        (slice_yields (λ zs. left zs ys) first_gives y xs was walk)
+        (slice_yields (left []) second_gives z ys is more) in
         (walk.0 ++ more.0, r, (end, (end, came, (none, none))), folds_both R p walk.0 q more.0 r walk.2 more.2)

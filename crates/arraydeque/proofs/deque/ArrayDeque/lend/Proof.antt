@@ -1,32 +1,26 @@
 -- `lend` lends all items: the ring lends its own, and the deque follows what the ring follows. Assumes `Logic`.
 use Rattle.arraydeque_ring.{
   proofs.{
-    memory.Kit.{◌≡◌, refl, ap, ◌∙◌, List, [], ◌∷◌, ◌++◌, ℕ, ◌+◌, ◌<◌, ◌≤◌, arith, length, full_share, emp, id⊢, fact_i},
-    memory.Kit.{Share, GName, ftrue, fsep, flft, fauth, Fn, inst_fn, named, Val, vptr, ◌⊑◌, fact, tables, Borrowed},
-    memory.Kit.{owns, types_at, ‵, raw, ◌⊛◌, some, later, ◌$◌, ◌∵◌, !, qed, move, keep, use0, use1, use2, drop, split},
-    memory.Kit.{join, pick, frame, rewrite, await, fsplit, fsplit3, fjoin, fjoin3, fpack, feq_i, suffices, done, enter},
-    memory.Kit.{addr, stop, fld, no_more, and_then, returns, alloc_all, pass_all, free_all, look_at, get, through},
-    memory.Kit.{sets, lands_as, no, plain, mem, part_at, Is, shows, peeks, Stays, walk_of, says_two, stay_dropped},
-    memory.Kit.{ends_at, nothing, heard, calls_at, framed, triple_of, param_laws, RattleType, El, R, el_x, proved},
+    memory.Kit.{◌≡◌, refl, ap, ◌∙◌, List, [], ◌∷◌, ◌++◌, ℕ, ◌+◌, ◌≤◌, arith, length, full_share, emp, id⊢, fact_i, sep},
+    memory.Kit.{Share, GName, fsep, flft, fauth, Fn, inst_fn, named, Val, vptr, ◌⊑◌, fact, tables, Borrowed, owns},
+    memory.Kit.{types_at, ‵, raw, ◌⊛◌, some, later, ◌$◌, ◌∵◌, !, qed, move, keep, use0, use1, use2, split, split3},
+    memory.Kit.{group, join, pick, frame, rewrite, await, fsplit, fsplit3, fjoin, fjoin3, fpack, feq_i, suffices, done},
+    memory.Kit.{enter, addr, stop, fld, no_more, and_then, returns, alloc_all, pass_all, free_all, look_at, get},
+    memory.Kit.{through, sets, lands_as, no, plain, mem, part_at, Stays, walk_of, says_two, stay_dropped, ends_at},
+    memory.Kit.{nothing, heard, calls_at, framed, triple_of, param_laws, RattleType, El, R, el_x, proved, after₂, sem},
+    memory.Kit.{name_new, Array, both_by, number, MutBor, NamedLft, mut_vals, mut_Tells, named_lft, Goes-spent_ref},
+    memory.Kit.{on_entry, a_type, a_number},
     loans.{Made.loan_renamed, Names.{hands_on, followed_both}, Rings.Rr},
     ring.Ring.lend.Met.met,
   },
   specs.{Loans.{LoanState, remaining, as_many}, Ring.RingState},
 }
 use base.Share
-use base.Logic.{sep}
 use types.Follow as follow
-use types.{Follow.after₂, Kit.{split3, group}, Late.{ages, bor_new_deep}, Logic.sem, Mut.open_ref, Tokens.name_new}
-use contract.Lifetimes.{Lfts, AllOutlive}
-use denote.{
-  Array.Array,
-  Follow.both_by,
-  Param.{bounded, number},
-  Ref.{MutBor, NamedLft, mut_vals, mut_Tells},
-  Signature.{named_lft},
-  Triple.{Clauses.{lasts, Lasts}, Walked.{Goes-spent_ref}},
-}
-use mir.Syntax.{dcons, dnil, a_type, a_number}
+use types.{Late.{ages, bor_new_deep}, Mut.open_ref}
+use contract.Lifetimes.{Lfts, AllOutlive, toks}
+use denote.Param.{bounded}
+use mir.Syntax.{dcons, dnil}
 use Rattle.arraydeque_ring.specs.RingLends as ring
 use Rattle.arraydeque_ring.specs.contracts.slots.loan.Loan as loan
 use Rattle.arraydeque_ring.proofs.slots.loan.Loan.TheLaws as loan_laws
@@ -34,7 +28,7 @@ use Rattle.arraydeque_ring.specs.contracts.ring.Ring.lend as g
 use Rattle.arraydeque.{
   specs.{Deque.DequeState, DequeLends.rewritten},
   proofs.Lent.{Dr, FieldsRow, Fields, view, Kept, Other, Way, fields_out, ring_out, deque_whole, after, kept_after},
-  proofs.Lent.{seen_after, written},
+  proofs.{Called.{Asked, known, returned, come_back}, Lent.{seen_after, written}},
 }
 use Rattle.arraydeque.specs.contracts.deque.ArrayDeque.lend as f
 use Rattle.arraydeque.proofs.deque.ArrayDeque.lend.Statement as stated
@@ -52,18 +46,15 @@ lend_spec 𝓤 𝓛 𝓜 𝓡 wired X N B L fits LB members dict dict_met =
     proved 𝓛 f_ended stayed c 𝓜 𝓡 (Goes-spent_ref 𝓛 4 (0 ∷ []) tt (plain (λ _. Dr E N B)), tt)
     (f.Key.name args) here (code.unfolded 𝓤 𝓛.H 𝓜 𝓡 wired (X, (C, (B, tt))) dict)
     (λ κs. (mut_vals, tt)) (λ κs. (mut_Tells (named 0) κs.0 (Dr E N B), tt)) (λ κs qs bounds a _ are.
-    let κ = κs.0 in let κ₁ = κs.1.0 in let κ₂ = κs.1.1.0 in let κ₃ = κs.1.1.1.0 in let q = qs.0 in let q₁ = qs.1.0 in
-    let q₂ = qs.1.1.0 in let q₃ = qs.1.1.1.0 in
+    let κ = κs.0 in let κ₁ = κs.1.0 in let q = qs.0 in let q₁ = qs.1.0 in let Others = toks 𝓛 2 κs.1.1 qs.1.1 in
     let l : Share = Share.left q in let r : Share = Share.right q in
     let rb : ℕ = a.0.ref_ptr.0 in let ro : ℕ = a.0.ref_ptr.1 in let γ = a.0.ghost_name in
     let d : DequeState (el_x E) = a.0.now in
     let y : W.Ghost = ((κs, qs, bounds, a, (mut_vals a.0, tt)), tt) in let coded = (Dr E N B).coded.code d in
-    qed 𝓛 (((‵ (flft κ q) ⊛ ‵ (flft κ₁ q₁) ⊛ ‵ (flft κ₂ q₂) ⊛ ‵ (flft κ₃ q₃) ⊛ ‵ ftrue)
-    ⊛ ‵ (owns (types_at f_ended.signature.params κs) a y.0.4)) ∷ (raw (fact 𝓤 (κ₁ ⊑ X.lives)) ⊛ raw
-    (fact 𝓤 (κ₂ ⊑ [])) ⊛ raw (fact 𝓤 (κ₃ ⊑ B.lives)) ⊛ raw (fact 𝓤 (32 < 9223372036854775808)) ⊛ ‵ ftrue) ∷ []) ∵
-    move ! (1 ∷ []) $ split ! $ heard ! (κ₁ ⊑ X.lives) (λ lives. drop ! $
-    split ! $ split ! $ move ! (1 ∷ []) $ split ! $ move ! (3 ∷ []) $ fsplit ! $ fsplit3 ! $
-    keep ! (1 ∷ 2 ∷ 6 ∷ 4 ∷ 5 ∷ []) $
+    known 𝓤 κ₁ κs.1.1.0 κs.1.1.1.0 X B (on_entry 𝓛 f_ended.signature κs qs a y.0.4) (λ lives.
+    qed 𝓛 (((‵ (flft κ q) ⊛ ‵ (flft κ₁ q₁) ⊛ raw Others) ⊛ ‵ (owns (types_at f_ended.signature.params κs) a y.0.4))
+    ∷ (raw (fact 𝓤 (κ₁ ⊑ X.lives)) ⊛ raw (Asked 𝓤 κ₁ κs.1.1.0 κs.1.1.1.0 X B)) ∷ []) ∵
+    split ! $ split3 ! $ move ! (3 ∷ []) $ fsplit ! $ fsplit3 ! $ keep ! (1 ∷ 2 ∷ 4 ∷ 5 ∷ 6 ∷ []) $
     enter ! 𝓣.C 𝓣.Λ here (vptr rb ro ∷ []) _ $ alloc_all ! (λ locals. pass_all ! refl ((tt, tt), tt) $
     sets ! (addr ! (through ! refl (fld ! refl (stop !)))) refl (tt, tt) $
     -- [obs; the borrow; its token; that of T; the others]
@@ -98,20 +89,17 @@ lend_spec 𝓤 𝓛 𝓜 𝓡 wired X N B L fits LB members dict dict_met =
     calls_at ! (framed 𝓤 𝓛.H 𝓜 𝓣) G (met 𝓤 𝓛 𝓜 𝓡 (code.calls-arraydeque_ring::ring::Ring::lend 𝓡.env wired) X L) z
     (and_then ! (get ! refl) (no_more !)) (λ v.
     let α : NamedLft = named_lft 2 0 tt κs' in let It = loan.the_row α (R E) in
-    let Value : LoanState (el_x E) → Type 0 = λ it. remaining it ≡ x.ring.items in
-    let Piece : LoanState (el_x E) → Type 0 = λ it. x.ring.start + length x.ring.items ≤ x.ring.capacity
-    → it.second.now ≡ [] in
-    use1 𝓛 (later (some (λ (it : LoanState (el_x E)).
-    ((‵ (flft κ r) ⊛ ‵ (flft κ₁ q₁) ⊛ ‵ ftrue) ⊛ ‵ (It.own_val it (v ∷ []))) ⊛
-    some (λ (ws : Lasts (g.ended X) κs' z.0.3). ‵ (lasts (g.ended X) κs' z.0.3 ws)
-    ⊛ (‵ (ring.lends_loan (R E) lent it) ⊛ raw (fact 𝓤 (Value it)) ⊛ raw (fact 𝓤 (Piece it))))))) (id⊢ 𝓤 _) $
-    await ! tt $ pick ! (λ it. split ! $ move ! (1 ∷ []) $ pick ! (λ ws. split ! $ drop ! $ split3 ! $
-    move ! (1 ∷ 2 ∷ []) $ heard ! (Value it) (λ value. heard ! (Piece it) (λ piece. fsplit ! $
+    returned 𝓛 ! tt (g.ended X) (g.clauses X 𝓛 𝓜.mem 𝓡.returns) z v
+    ((loan_laws.the_row_laws α (R E) (param_laws 0 X L)).lawful 𝓛) (λ it ws typed. lands_as ! refl refl typed.0 $
+    let Piece : Type 0 = x.ring.start + length x.ring.items ≤ x.ring.capacity → it.second.now ≡ [] in
+    move ! (2 ∷ []) $ use1 𝓛 (‵ (ring.lends_loan (R E) lent it) ⊛ raw (fact 𝓤 (remaining it ≡ x.ring.items))
+    ⊛ raw (fact 𝓤 Piece)) (id⊢ 𝓤 _) $ split3 ! $ move ! (1 ∷ 2 ∷ []) $
+    heard ! (remaining it ≡ x.ring.items) (λ value. heard ! Piece (λ piece. fsplit ! $
     -- [what δ follows; what the loan's name follows;
-    -- the tokens and the loan; the right; the open borrow; the other field; the way back; obs γ; auth γ; the others]
+    -- the loan; the tokens; the right; the open borrow; the other field; the way back; obs γ; auth γ; the others]
     let V : RingState (el_x E) → DequeState (el_x E) = λ u. view E N B (after E N B x d seen kept u.items) in
     let Rest = sep 𝓤 (sem 𝓛 (Other E N B LB 𝓛 rb ro x)) (Way E N B LB 𝓛 rb ro) in
-    move ! (5 ∷ 6 ∷ []) $ join ! $ move ! (5 ∷ 6 ∷ 7 ∷ 4 ∷ 1 ∷ 0 ∷ []) $ group ! 6 $
+    move ! (6 ∷ 7 ∷ []) $ join ! $ move ! (6 ∷ 7 ∷ 8 ∷ 5 ∷ 1 ∷ 0 ∷ []) $ group ! 6 $
     use1 𝓛 (later (some (λ (ν : GName). ‵ (flft κ l) ⊛ ‵ (follow.after (mem (Dr E N B))
     (mem (Dr E N B)) γ ν (λ u. rewritten d u.items)) ⊛ ‵ (follow.after (mem (Dr E N B)) (mem (Rr E)) ν it.name V))))
     (hands_on 𝓛 (mem (Dr E N B)) (mem (Rr E))
@@ -120,7 +108,7 @@ lend_spec 𝓤 𝓛 𝓜 𝓡 wired X N B L fits LB members dict dict_met =
     (seen_after E N B x d seen kept u.items) (kept_after E N B x d seen kept u.items)) age coded coded d) $
     await ! tt $ pick ! (λ ν. split3 ! $
     -- [half the token; what γ follows;
-    -- what ν follows; what the loan's name follows; the tokens and the loan; the others]
+    -- what ν follows; what the loan's name follows; the loan; the tokens; the others]
     let Rows = mem (Array (R E) 0) in let Put : List (el_x E) → List (el_x E) → RingState (el_x E) =
     λ us vs. ring.rewritten x.ring (as_many it.first.now us ++ as_many it.second.now vs) in
     move ! (2 ∷ 3 ∷ []) $ use2 𝓛 (‵ (after₂ (mem (Dr E N B)) Rows Rows ν it.first.ghost_name it.second.ghost_name
@@ -129,17 +117,15 @@ lend_spec 𝓤 𝓛 𝓜 𝓡 wired X N B L fits LB members dict dict_met =
     rewrite ! 0 (λ (F : List (el_x E) → List (el_x E) → DequeState (el_x E)).
     ‵ (after₂ (mem (Dr E N B)) Rows Rows ν it.first.ghost_name it.second.ghost_name F))
     (λ i us vs. written E N B x d seen kept (as_many it.first.now us ++ as_many it.second.now vs) i) refl $
-    -- [what ν follows; half the token; what γ follows; the tokens and the loan; the others]
+    -- [what ν follows; half the token; what γ follows; the loan; the tokens; the others]
     let out : LoanState (el_x E) = record it { name = ν } in
-    move ! (2 ∷ 0 ∷ []) $ fjoin ! $ move ! (2 ∷ []) $ split ! $ move ! (1 ∷ []) $
+    move ! (2 ∷ 0 ∷ []) $ fjoin ! $ move ! (2 ∷ []) $
     use1 𝓛 (‵ (It.own_val out (v ∷ []))) (loan_renamed α (R E) 𝓛 it ν (v ∷ [])) $
-    peeks ! It (Is It) (shows 𝓛 It) out (v ∷ []) (λ is_it. lands_as ! refl refl
-    (((loan_laws.the_row_laws α (R E) (param_laws 0 X L)).lawful 𝓛).typed out (v ∷ []) is_it).0 $
-    -- [the loan; the tokens; what the deque follows; half the token; the others]
-    move ! (1 ∷ []) $ split ! $ move ! (4 ∷ 0 ∷ []) $ use2 𝓛 (‵ (flft κ q)) (𝓛.lfts.lft_join κ q) $
-    -- [the token; that of T; the loan; what the deque follows; the others]
-    move ! (1 ∷ []) $ split ! $ move ! (0 ∷ 5 ∷ []) $ join ! $ move ! (2 ∷ 0 ∷ []) $ join ! $
-    move ! (0 ∷ 2 ∷ 3 ∷ 1 ∷ []) $
+    -- [the loan; what the deque follows; half the token; the tokens; the others]
+    move ! (3 ∷ 4 ∷ []) $ use2 𝓛 (‵ (flft κ r) ⊛ ‵ (flft κ₁ q₁) ⊛ raw Others)
+    (come_back 𝓛 (sem 𝓛 (flft κ r)) (sem 𝓛 (flft κ₁ q₁)) Others) $ split ! $ move ! (4 ∷ 0 ∷ []) $
+    use2 𝓛 (‵ (flft κ q)) (𝓛.lfts.lft_join κ q) $ join ! $
+    -- [the tokens; the loan; what the deque follows]
     returns ! (look_at ! 0 refl) $ free_all ! refl $ keep ! (0 ∷ 1 ∷ 2 ∷ []) $
     suffices ! _ (ends_at 𝓛 f_ended stayed c y v out (tt, tt) (tt, tt)) $
     move ! (1 ∷ []) $ nothing ! $ nothing ! $ fjoin ! $ join ! $ move ! (1 ∷ 0 ∷ []) $ join ! $ frame ! $
@@ -150,4 +136,4 @@ lend_spec 𝓤 𝓛 𝓜 𝓡 wired X N B L fits LB members dict dict_met =
       ap (λ (u : DequeState (el_x E)). u.start) seen,
       ap (λ (u : DequeState (el_x E)). length u.items) seen,
     )) in
-    says_two ! (value ∙ ap (λ (u : DequeState (el_x E)). u.items) seen, none) $ done !)))))))))))))
+    says_two ! (value ∙ ap (λ (u : DequeState (el_x E)). u.items) seen, none) $ done !)))))))))))

@@ -1,8 +1,5 @@
-use Rattle.std.{
-  proofs.{Common.{◌∷◌, [], sym, ◌∙◌, append-nil, arith}, lemmas.Grind.common_steps},
-  specs.Option.option_to_list,
-}
-use Rattle.arraydeque.proofs.Scanned.{Reads-none, TakesOff-from_out, HasRest-none}
+use Rattle.std.{proofs.{Common.arith, lemmas.Grind.common_steps}, specs.Option.option_to_list}
+use Rattle.arraydeque.proofs.Scanned.{TakesOff-from_out, HasRest-nothing}
 use Rattle.arraydeque.proofs.lookahead.Scanner.next.Goals as goal
 
 pub returns-in-None-clause-hands_out : goal.returns-in-None-clause-hands_out
@@ -13,17 +10,5 @@ pub returns-in-None-clause-rest : goal.returns-in-None-clause-rest
 returns-in-None-clause-rest g c = TakesOff-from_out g.I.Iterator.next_gives _ _ _ (returns-in-None-clause-hands_out g c)
 
 pub returns-in-None-clause-over : goal.returns-in-None-clause-over
-returns-in-None-clause-over g c = HasRest-none g.I.Iterator.next_gives _ c.read.new.self c.read.result
+returns-in-None-clause-over g c = HasRest-nothing g.I.Iterator.next_gives _ c.read.new.self c.read.result
     (returns-in-None-clause-hands_out g c) (grind (arith, common_steps)) c.read.ensures.none
-
-pub returns-in-Some-clause-hands_out : goal.returns-in-Some-clause-hands_out
-returns-in-Some-clause-hands_out g c =
-    rw (← c.self.view_is) (
-      [],
-      Reads-none g.I.Iterator.next_gives c.self.inside.ended c.self.inside.iter,
-      append-nil c.self.inside.buffer.items ∙ sym c.in-Some.ensures.conserved,
-    )
-
-pub returns-in-Some-clause-rest : goal.returns-in-Some-clause-rest
-returns-in-Some-clause-rest g c =
-    TakesOff-from_out g.I.Iterator.next_gives _ _ (c.in-Some.item ∷ []) (returns-in-Some-clause-hands_out g c)

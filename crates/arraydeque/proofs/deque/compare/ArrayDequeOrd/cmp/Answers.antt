@@ -3,10 +3,10 @@ use Rattle.arraydeque.proofs.Sections.{sections, order_pairs}
 use Rattle.arraydeque.proofs.deque.compare.ArrayDequeOrd.cmp.Goals as goal
 
 pub returns-then-is_ne : goal.returns-then-is_ne
-returns-then-is_ne g c = let pairs = sections (order_pairs g.T.Ord.cmp) c.sections-cut.ensures in grind arith
+returns-then-is_ne g c = grind (arith, sections (order_pairs g.T.Ord.cmp) c.sections-cut.ensures)
 
 pub returns-then-is_ne-2 : goal.returns-then-is_ne-2
-returns-then-is_ne-2 g c = let pairs = sections (order_pairs g.T.Ord.cmp) c.sections-cut.ensures in grind arith
+returns-then-is_ne-2 g c = grind (arith, sections (order_pairs g.T.Ord.cmp) c.sections-cut.ensures)
 
 pub returns : goal.returns
-returns g c = let pairs = sections (order_pairs g.T.Ord.cmp) c.sections-cut.ensures in grind arith
+returns g c = grind (arith, sections (order_pairs g.T.Ord.cmp) c.sections-cut.ensures)

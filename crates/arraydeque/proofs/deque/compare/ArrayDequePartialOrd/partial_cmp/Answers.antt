@@ -4,15 +4,11 @@ use Rattle.arraydeque.proofs.deque.compare.ArrayDequePartialOrd.partial_cmp.Goal
 
 pub returns-then-ne : goal.returns-then-ne
 returns-then-ne g c =
-    let pairs = sections (partial_pairs g.T.PartialOrd.partial_cmp) c.sections-cut.ensures in
-    grind (arith, common_steps)
+    grind (arith, common_steps, sections (partial_pairs g.T.PartialOrd.partial_cmp) c.sections-cut.ensures)
 
 pub returns-then-ne-2 : goal.returns-then-ne-2
 returns-then-ne-2 g c =
-    let pairs = sections (partial_pairs g.T.PartialOrd.partial_cmp) c.sections-cut.ensures in
-    grind (arith, common_steps)
+    grind (arith, common_steps, sections (partial_pairs g.T.PartialOrd.partial_cmp) c.sections-cut.ensures)
 
 pub returns : goal.returns
-returns g c =
-    let pairs = sections (partial_pairs g.T.PartialOrd.partial_cmp) c.sections-cut.ensures in
-    grind (arith, common_steps)
+returns g c = grind (arith, common_steps, sections (partial_pairs g.T.PartialOrd.partial_cmp) c.sections-cut.ensures)

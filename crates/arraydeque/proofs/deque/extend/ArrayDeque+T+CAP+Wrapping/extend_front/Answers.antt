@@ -1,41 +1,24 @@
-use Rattle.std.proofs.{Common.arith, lemmas.List.{length-take}}
+use Rattle.std.proofs.{Common.arith}
 use Rattle.arraydeque.proofs.{
-  Pushed.{WrapsFront-none, WrapsFront-room, WrapsFront-both},
+  Pushed.{WrapsFront-no_places, WrapsFront-room, WrapsFront-both},
   Taken.{TakesAll-ends, TakesAll-fills, TakesAll-both},
 }
 use Rattle.arraydeque.proofs.deque.extend.ArrayDeque+T+CAP+Wrapping.extend_front.Goals as goal
 
 pub returns-then-capacity-eq0 : goal.returns-then-capacity-eq0
-returns-then-capacity-eq0 g c = TakesAll-ends c.into_iter-elements.ensures.into_iter_gives (record {
-  items = c.drop_all.ensures.items;
-  drains = c.drop_all.ensures.drains;
-  holds = WrapsFront-none g.row.CAP c.args.self.now _ (omega arith) c.capacity.ensures.within;
-})
+returns-then-capacity-eq0 g c =
+    TakesAll-ends _ c.into_iter-elements.ensures.into_iter_gives _ c.drop_all.ensures.drains
+    (WrapsFront-no_places g.row.CAP c.args.self.now _ (omega arith) c.capacity.ensures.within)
 
 pub returns-then-ended : goal.returns-then-ended
 returns-then-ended g c =
     let filled = c.fill_front-ended.ensures.filled in
-    TakesAll-fills c.into_iter-elements.ensures.into_iter_gives filled c.if-ended.true
+    TakesAll-fills _ c.into_iter-elements.ensures.into_iter_gives filled c.if-ended.true
     (WrapsFront-room g.row.CAP (omega arith) c.args.self.now _ _ filled.holds c.fill_front-ended.ensures.within)
-
-pub displace_last-requires : goal.displace_last-requires
-displace_last-requires g c =
-    let given = c.requires _ c.into_iter-elements.ensures.into_iter_gives in
-    let (can, finite) = c.fill_front-ended.ensures.goes c.if-ended.false in
-    let full = c.fill_front-ended.ensures.full c.if-ended.false in
-    record {
-      some = omega (arith, c.self.invariant.0);
-      full = rw (← c.self.view_is, ← c.self.invariant.0) at full;
-      may = can;
-      ends = finite given.1;
-    }
-
-pub invariant_of-self : goal.invariant_of-self
-invariant_of-self g c = rw c.displace_last.ensures.holds (c.self.invariant.0, simp length-take (omega arith))
 
 pub returns : goal.returns
 returns g c =
     let filled = c.fill_front-ended.ensures.filled in
-    TakesAll-both c.into_iter-elements.ensures.into_iter_gives filled c.if-ended.false c.displace_last.ensures
+    TakesAll-both _ c.into_iter-elements.ensures.into_iter_gives filled c.if-ended.false c.displace_last.ensures
     (WrapsFront-both g.row.CAP (omega arith) c.args.self.now _ _ filled.holds c.self.inside.ring _ _ c.self.view_is
     c.self.invariant.0 (c.fill_front-ended.ensures.full c.if-ended.false) c.displace_last.ensures.holds)

@@ -1,5 +1,5 @@
-use Rattle.std.proofs.Common.{◌≡◌, ◌+◌, ◌-◌, length, ap, ◌∙◌, arith}
-use Rattle.arraydeque_ring.{specs.Ring.up_by, proofs.fills.Displaced.up_by-both}
+use Rattle.std.proofs.Common.{◌-◌, length, arith}
+use Rattle.arraydeque_ring.{proofs.fills.Displaced.up_by-both}
 use Rattle.arraydeque.proofs.KeepLast.{keep_last-joined}
 use Rattle.arraydeque.proofs.deque.parts.ArrayDeque+T+CAP+Wrapping.append.Goals as goal
 
@@ -12,10 +12,7 @@ returns-clause-items g c =
 
 pub returns-clause-other_start : goal.returns-clause-other_start
 returns-clause-other_start g c =
-    let old = c.args.other.now in
     let len = c.min-len.result in
-    let gone = length old.items - len in
-    let all : gone + len ≡ length old.items = omega (arith, c.min-len.ensures, c.len.ensures.len) in
+    let old = c.args.other.now in
     let there = rw (← c.other.view_is) at c.truncate_front-2.ensures.start in
-    rw (c.append.ensures.there, c.other.invariant.0, there)
-    (up_by-both gone len old.start g.row.N ∙ ap (λ k. up_by k old.start g.row.N) all)
+    grind (arith, up_by-both (length old.items - len) len old.start g.row.N, c.append.ensures.there, there)

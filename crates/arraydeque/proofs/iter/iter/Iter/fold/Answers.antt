@@ -6,13 +6,13 @@ use Rattle.std.{
   },
   specs.Iterator.YieldsFirstRef,
 }
-use Rattle.arraydeque.proofs.Folded.{Folded, none_folded, slice_folded, all_folded, going, next_folded}
+use Rattle.arraydeque.proofs.Folded.{Folded, nothing_folded, slice_folded, all_folded, going, next_folded}
 use Rattle.arraydeque.proofs.iter.iter.Iter.fold.Goals as goal
 
 pub loop-item-init : goal.loop-item-init
 loop-item-init g c =
     going _ _ 0 (subst (λ rest. Folded g.F.FnMut c.args.self c.args.f c.args.init rest c.args.f c.args.init)
-    (sym c.self.view_is) (none_folded c.requires.callable))
+    (sym c.self.view_is) (nothing_folded c.requires.callable))
 
 pub loop-item-preserved : goal.loop-item-preserved
 loop-item-preserved g c =

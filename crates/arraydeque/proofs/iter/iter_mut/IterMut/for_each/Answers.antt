@@ -1,4 +1,4 @@
-use Rattle.std.proofs.{Common.{◌≡◌, List, length, ap, ◌∙◌, refl}, iter.runs.Folds.{for_each_runs}}
+use Rattle.std.proofs.{Common.{◌≡◌, List, length, refl, arith}, iter.runs.Folds.{for_each_runs}}
 use Rattle.std.specs.Iterator.{YieldsFirstMut}
 use Rattle.arraydeque_ring.specs.Loans.{LoanState, remaining}
 use Rattle.arraydeque.proofs.Walked.{callable_first, callable_second, walked_both}
@@ -11,25 +11,21 @@ left loan xs ys = record loan { first = record loan.first { now = xs }; second =
 pub call_on_each-f-requires-clause-callable : goal.call_on_each-f-requires-clause-callable
 call_on_each-f-requires-clause-callable g c =
     let loan = c.args.self in
-    let begun = c.into_iter.ensures.into_iter_gives.0 ∙ ap (λ s. s.now) c.into_slices-first.ensures.first in
     callable_first (λ x. x.now) remaining (left loan) (λ xs ys. refl) (λ z. z.s.now) (λ z w. length w.s.now ≡ 0) _
-    loan.first.now loan.second.now c.into_iter.result begun c.requires.callable
+    loan.first.now loan.second.now c.into_iter.result (grind arith) c.requires.callable
 
 pub call_on_each-requires-clause-callable : goal.call_on_each-requires-clause-callable
 call_on_each-requires-clause-callable g c =
     let loan = c.args.self in
-    let begun = c.into_iter.ensures.into_iter_gives.0 ∙ ap (λ s. s.now) c.into_slices-first.ensures.first in
-    let next = c.into_iter-2.ensures.into_iter_gives.0 ∙ ap (λ s. s.now) c.into_slices-first.ensures.second in
     callable_second (λ x. x.now) remaining (left loan) (λ xs ys. refl) (λ z. z.s.now) (λ z w. length w.s.now ≡ 0) _
-    loan.first.now loan.second.now c.into_iter.result begun c.call_on_each-f.ensures
-    c.into_iter-2.result next c.requires.callable
+    loan.first.now loan.second.now c.into_iter.result (grind arith) c.call_on_each-f.ensures
+    c.into_iter-2.result (grind arith) c.requires.callable
 
 pub returns : goal.returns
 returns g c =
     let loan = c.args.self in
-    let begun = c.into_iter.ensures.into_iter_gives.0 ∙ ap (λ s. s.now) c.into_slices-first.ensures.first in
-    let next = c.into_iter-2.ensures.into_iter_gives.0 ∙ ap (λ s. s.now) c.into_slices-first.ensures.second in
     let ran = walked_both (λ x. x.now) remaining (left loan) (λ xs ys. refl) (λ z. z.s.now)
     (λ z w. length w.s.now ≡ 0) _ loan.first.now loan.second.now
-    c.into_iter.result begun c.call_on_each-f.ensures c.into_iter-2.result next c.call_on_each.ensures in
+    c.into_iter.result (grind arith) c.call_on_each-f.ensures c.into_iter-2.result (grind arith) c.call_on_each.ensures
+    in
     record { ran = ran; runs = for_each_runs (YieldsFirstMut remaining) loan g.F.FnMut c.args.f ran }

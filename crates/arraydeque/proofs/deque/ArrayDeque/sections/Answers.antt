@@ -1,8 +1,0 @@
-use Rattle.std.proofs.{Common.arith, lemmas.Grind.common_steps}
-use Rattle.arraydeque.proofs.deque.ArrayDeque.sections.Goals as goal
-
-pub returns-then-is_empty : goal.returns-then-is_empty
-returns-then-is_empty g c = grind (arith, common_steps)
-
-pub returns-else-is_empty : goal.returns-else-is_empty
-returns-else-is_empty g c = grind (arith, common_steps)
