@@ -31,7 +31,6 @@ pub struct Ring<T> {
     slots: Slots<T>,
     start: usize,
     len: usize,
-    alloc: Global,
 }
 
 impl<T> Model for Ring<T> {
@@ -65,7 +64,6 @@ impl<T> Ring<T> {
             slots,
             start: 0,
             len: 0,
-            alloc,
         })
     }
 
@@ -90,7 +88,7 @@ impl<T> Ring<T> {
 
     /// The allocator that the region came from.
     pub fn alloc(&self) -> Global {
-        self.alloc
+        self.slots.alloc()
     }
 
     /// Adds an element behind the last item. No kept item moves.
@@ -206,7 +204,6 @@ impl<T> Ring<T> {
             slots: _,
             start: _,
             len: _,
-            alloc: _,
         } = self;
     }
 }

@@ -10,7 +10,6 @@ use Rattle.std.{
       List.{places, length-map, same_lists, take_at, drop_at, take-map, drop-map, drop-drop, append_assoc},
     },
   },
-  specs.declared.alloc.Global.Global,
 }
 use Rattle.arraydeque_ring.{
   specs.{
@@ -109,18 +108,18 @@ all_empty len n le =
 
 -- the len items from the index i on make a ring of their own, in a region that was empty
 pub ring_handed : {X : Type 0} {r : Inside X} {v : RingState X} (o : Opened r v) (i len n : ℕ) (slots : Region X)
-    (alloc : Global) → i + len ≤ length v.items → len ≤ n
+    → i + len ≤ length v.items → len ≤ n
     → slots ≡ record {
       places = take len (drop i (rotated r.start r.slots.places)) ++ drop len (replicate n None);
       steps = more_puts len no_steps;
     }
-    → Opened record { slots = slots; start = 0; len = len; alloc = alloc } record {
+    → Opened record { slots = slots; start = 0; len = len } record {
       items = take len (drop i v.items);
       capacity = n;
       start = 0;
       steps = more_puts len no_steps;
     }
-ring_handed {v = v} o i len n slots alloc within room is =
+ring_handed {v = v} o i len n slots within room is =
     let ys = take len (drop i v.items) in
     let many : length ys ≡ len = grind (arith, common_steps) in
     let wide : length (map Some ys) ≡ len = length-map ys Some ∙ many in

@@ -52,10 +52,10 @@ impl<T> Ring<T> {
     {
         let count = to - from;
         if count == 0 {
-            let nothing = Ring::new(self.alloc, 0)?;
+            let nothing = Ring::new(self.slots.alloc(), 0)?;
             return Ok(nothing);
         }
-        let mut slots = Slots::new(self.alloc, count)?;
+        let mut slots = Slots::new(self.slots.alloc(), count)?;
         take_run(&mut self.slots, self.start, from, count, &mut slots);
         self.len -= count;
         self.start = close_gap(&mut self.slots, self.start, from, count, self.len - from);
@@ -63,7 +63,6 @@ impl<T> Ring<T> {
             slots,
             start: 0,
             len: count,
-            alloc: self.alloc,
         })
     }
 
@@ -85,7 +84,7 @@ impl<T> Ring<T> {
         ensures unchanged { OnErr result (self.new ≡ self.old) }
         ensures refused { OnErr result (0 < self.old.capacity * type_size T.row) }
     {
-        let mut slots = Slots::new(self.alloc, self.slots.capacity())?;
+        let mut slots = Slots::new(self.slots.alloc(), self.slots.capacity())?;
         let len = self.len - at;
         take_run(&mut self.slots, self.start, at, len, &mut slots);
         self.len = at;
@@ -93,7 +92,6 @@ impl<T> Ring<T> {
             slots,
             start: 0,
             len,
-            alloc: self.alloc,
         })
     }
 

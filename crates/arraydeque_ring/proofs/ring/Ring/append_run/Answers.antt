@@ -58,7 +58,6 @@ here : (g : Over) (c : After-hand_over g) → let old = c.args.self.now in
       slots = c.hand_over.new.other;
       start = c.self.inside.start;
       len = c.self.inside.len + c.args.run;
-      alloc = c.self.inside.alloc;
     }
     record old {
       items = old.items ++ take c.args.run c.args.other.now.items;
@@ -103,7 +102,6 @@ there : (g : Over) (c : After-wrap_add-other-inside g) → let old = c.args.othe
       slots = c.hand_over.new.self;
       start = c.wrap_add-other-inside.result;
       len = c.other.inside.len - c.args.run;
-      alloc = c.other.inside.alloc;
     }
     record old {
       items = drop c.args.run old.items;

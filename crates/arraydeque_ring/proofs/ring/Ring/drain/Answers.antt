@@ -75,7 +75,6 @@ after : (g : Over) (c : After-close_gap-self-inside g) → let old = c.args.self
       slots = c.close_gap-self-inside.new.slots;
       start = c.close_gap-self-inside.result;
       len = c.self.inside.len - count;
-      alloc = c.self.inside.alloc;
     } record {
       items = remove_range old.items c.args.from c.args.to;
       capacity = old.capacity;
@@ -111,7 +110,6 @@ drained : (g : Over) (c : After-take_run g) → let count = c.args.to - c.args.f
       slots = c.take_run.new.taken;
       start = 0;
       len = count;
-      alloc = c.self.inside.alloc;
     } record {
       items = slice_range c.args.self.now.items c.args.from c.args.to;
       capacity = count;
@@ -120,7 +118,7 @@ drained : (g : Over) (c : After-take_run g) → let count = c.args.to - c.args.f
     }
 drained g c =
     let ring = opened c.self.inside c.self.invariant c.self.view_is in
-    ring_handed ring _ _ _ c.take_run.new.taken c.self.inside.alloc (omega arith) (omega arith)
+    ring_handed ring _ _ _ c.take_run.new.taken (omega arith) (omega arith)
     (rw c.in_ok-slots.ensures.ok at c.take_run.ensures.taken)
 
 pub invariant_of-result : goal.invariant_of-result

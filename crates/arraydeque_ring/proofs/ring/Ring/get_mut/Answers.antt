@@ -29,7 +29,6 @@ after : (g : Over) (c : After-get_mut g) (w : g.row.T.Denot) → Opened record {
   };
   start = c.self.inside.start;
   len = c.self.inside.len;
-  alloc = c.self.inside.alloc;
 }
     record c.args.self.now {
       items = set c.args.self.now.items c.args.index w;

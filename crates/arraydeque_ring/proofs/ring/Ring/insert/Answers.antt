@@ -56,7 +56,6 @@ after : (g : Over) (c : After-put g) → let old = c.args.self.now in let behind
       slots = c.put.new.self;
       start = c.open_gap-self-inside.result;
       len = c.self.inside.len + 1;
-      alloc = c.self.inside.alloc;
     } record {
       items = insert old.items c.args.index c.args.element;
       capacity = old.capacity;

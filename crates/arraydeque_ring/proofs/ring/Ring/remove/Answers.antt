@@ -59,7 +59,6 @@ after : (g : Over) (c : After-close_gap-self-inside g) → let old = c.args.self
       slots = c.close_gap-self-inside.new.slots;
       start = c.close_gap-self-inside.result;
       len = c.self.inside.len - 1;
-      alloc = c.self.inside.alloc;
     } record {
       items = remove old.items c.args.index;
       capacity = old.capacity;

@@ -27,7 +27,6 @@ after : (g : Over) (c : After-take_run g) → Opened record {
   slots = c.take_run.new.slots;
   start = c.self.inside.start;
   len = c.args.at;
-  alloc = c.self.inside.alloc;
 }
     record c.args.self.now {
       items = take c.args.at c.args.self.now.items;
@@ -53,7 +52,6 @@ rest : (g : Over) (c : After-take_run g) → let many = length c.args.self.now.i
       slots = c.take_run.new.taken;
       start = 0;
       len = c.self.inside.len - c.args.at;
-      alloc = c.self.inside.alloc;
     } record {
       items = drop c.args.at c.args.self.now.items;
       capacity = c.args.self.now.capacity;
@@ -63,7 +61,7 @@ rest : (g : Over) (c : After-take_run g) → let many = length c.args.self.now.i
 rest g c =
     let ring = opened c.self.inside c.self.invariant c.self.view_is in
     rw (← take_rest c.args.self.now.items c.args.at, ring.len, ← ring.laid.long, ← c.capacity.ensures)
-    (ring_handed ring c.args.at (c.self.inside.len - c.args.at) _ c.take_run.new.taken c.self.inside.alloc
+    (ring_handed ring c.args.at (c.self.inside.len - c.args.at) _ c.take_run.new.taken
     (omega arith) (omega arith) (rw c.in_ok-slots.ensures.ok at c.take_run.ensures.taken))
 
 pub invariant_of-result : goal.invariant_of-result

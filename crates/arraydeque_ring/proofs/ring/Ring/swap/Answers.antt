@@ -49,7 +49,6 @@ after : (g : Over) (c : goal.After-exchange g) → Opened record {
   slots = c.exchange.new.self;
   start = c.self.inside.start;
   len = c.self.inside.len;
-  alloc = c.self.inside.alloc;
 }
     record c.args.self.now {
       items = swap c.args.self.now.items c.args.i c.args.j;

@@ -21,7 +21,6 @@ after : (g : Over) (c : After-wrap_add-self-inside g) → let old = c.args.self.
       slots = c.drop_round.new.slots;
       start = c.wrap_add-self-inside.result;
       len = c.self.inside.len - (c.self.inside.len - c.args.len);
-      alloc = c.self.inside.alloc;
     }
     record old {
       items = drop gone old.items;
