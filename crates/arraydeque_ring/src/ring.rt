@@ -194,24 +194,17 @@ impl<T> Ring<T> {
         let slots = &mut self.slots;
         Some(slots.get_mut(place))
     }
+}
 
-    /// Gives the region of a ring that holds no item back.
+impl<T: Drop> Drop for Ring<T> {
+    /// Drops each item, front to back, and gives the region back.
     #[tactic(auto, using(crate::proofs::places::Opened::end_facts))]
-    fn give_back(self)
-        requires { self.items ≡ [] }
-    {
+    fn drop(mut self) {
+        self.clear();
         let Ring {
             slots: _,
             start: _,
             len: _,
         } = self;
-    }
-}
-
-impl<T: Drop> Drop for Ring<T> {
-    /// Drops each item, front to back, and gives the region back.
-    fn drop(mut self) {
-        self.clear();
-        self.give_back();
     }
 }
