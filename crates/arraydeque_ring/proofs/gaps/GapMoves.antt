@@ -1,22 +1,26 @@
 -- A gap among the items of a ring is moved to an end of them, and so closed, or from there, and so opened.
 use Rattle.std.proofs.{
-  Common.{◌≡◌, ℕ, ◌+◌, ◌-◌, ◌<◌, ◌≤◌, List, ◌++◌, length, take, drop, max, nat_lt, if◌then◌else◌, Option, None, refl},
-  Common.{sym, inl, inr, ap, ◌∙◌, arith},
-  lemmas.{Bool.{cases_lt, Decides.nat_tests}, List.{length-append, length-take-le, length-drop}},
+  Common.{◌≡◌, ℕ, ◌+◌, ◌-◌, ◌<◌, ◌≤◌, List, ◌++◌, length, take, drop, slice_get, max, nat_lt, Option, None, refl},
+  Common.{if◌then◌else◌, sym, inl, inr, ap, ◌∙◌, arith},
+  lemmas.{
+    Bool.{cases_lt, Decides.nat_tests},
+    List.{length-append, length-take-le, length-drop},
+    Option.slice_get_past,
+  },
 }
 use Rattle.arraydeque_ring.{
   specs.{
     Gaps.{IsEmptyRun, gap_moved},
     Places.{held_at, IsFilled, IsFilledRun},
     Ring.{place_of, rotated},
-    Sides.{start_opened, start_closed},
+    Sides.start_closed,
   },
   proofs.{
     gaps.{Crossing.{length-gap_moved, get_or-gap_moved, empty_at, filled_at}, Gapped.{Gapped, gapped}},
     moved.Flat.same_places,
     places.{
       Held.{filled_run_of, empty_run_of},
-      Holds.{Holds-of_rotated, Holds-rotated},
+      Holds.{Holds, Holds-of_rotated, Holds-rotated, Holds-from},
       Items.{items, slice_get_some},
       LaidOut.{LaidOut, LaidOut-by, holds},
       Rotated.{place_of_cases, place_of-lt, place_of-place_of, length-rotated, get_or-rotated},
@@ -27,9 +31,6 @@ use Rattle.arraydeque_ring.{
 -- the start stays in the region
 pub start_closed-in : (i gap m n t : ℕ) → t < n → gap ≤ n → start_closed i gap m n t ≤ n - 1
 start_closed-in i gap m n t t_in le = grind (arith, nat_tests, place_of-lt t gap n (omega arith))
-
-pub start_opened-in : (i m n t : ℕ) → t < n → start_opened i m n t ≤ n - 1
-start_opened-in i m n t t_in = grind (arith, nat_tests, place_of-lt t (n - 1) n (omega arith))
 
 -- a gap and the values between it and the index that it moves to
 pub record MayMove {X : Type 0} (from to gap : ℕ) (ts : List (Option X)) : Type 0 where
@@ -56,44 +57,61 @@ rotated_on t j x ps t_in j_in lt =
     get_or-rotated (place_of t j n) x n ps None refl (omega arith) lt ∙ ap (held_at ps) (place_of-place_of t j x n)
     ∙ sym (get_or-rotated t (place_of j x n) n ps None refl (omega arith) on)
 
--- items with a gap behind them, which moves to the index i
-module _ {X : Type 0} (t i len : ℕ) (ps : List (Option X)) (t_in : t < length ps) (le : i ≤ len)
-    (room : len < length ps) (filled : IsFilledRun (rotated t ps) 0 len)
-    (empty : IsEmptyRun (rotated t ps) len (length ps - len)) where
-  pub opens_up : MayMove len i 1 (rotated t ps)
-  opens_up = may_move len i 1 (rotated t ps) (omega (arith, empty.0))
-      (λ x a b. empty_at (rotated t ps) len (length ps - len) x empty a (omega arith))
-      (λ x a b. filled_at (rotated t ps) 0 len x filled (omega arith) (omega arith)) (λ x a b. absurd (omega arith))
-
-  -- or which stands before them, from a start one place down
-  abbrev down : List (Option X)
-  down = rotated (place_of t (length ps - 1) (length ps)) ps
-
-  down_at : (x : ℕ) → x < length ps
-      → held_at down x ≡ (if nat_lt 0 x then held_at (rotated t ps) (x - 1) else held_at (rotated t ps) (length ps - 1))
-  down_at x lt = rotated_on t (length ps - 1) x ps t_in (omega arith) lt
-      ∙ grind (arith, nat_tests, place_of_cases (length ps - 1) x (length ps) (omega arith))
-
-  none : (x : ℕ) → len ≤ x → x < length ps → held_at (rotated t ps) x ≡ None
-  none x a b = empty_at (rotated t ps) len (length ps - len) x empty a (omega arith)
-
-  pub opens_down : MayMove 0 i 1 down
-  opens_down = may_move 0 i 1 down (omega (arith, length-rotated (place_of t (length ps - 1) (length ps)) ps))
-      (λ x a b. down_at x (omega arith) ∙ grind (arith, nat_tests, none (length ps - 1)))
+-- a list with a gap behind it, which moves to the index i
+module _ {X : Type 0} {n t : ℕ} {xs : List X} {ps : List (Option X)} (l : LaidOut n t xs ps) (i : ℕ)
+    (le : i ≤ length xs) (room : length xs < n) where
+  pub opens_up : MayMove (length xs) i 1 (rotated t ps)
+  opens_up = may_move (length xs) i 1 (rotated t ps) (omega (arith, length-rotated t ps, l.long))
+      (λ x a b. Holds-rotated (holds l) x (omega arith) ∙ slice_get_past xs x a)
+      (λ x a b. let v = slice_get_some xs x b in (v.0, Holds-rotated (holds l) x (omega arith) ∙ v.1))
       (λ x a b. absurd (omega arith))
-      (λ x a b. let v = filled_at (rotated t ps) 0 len (x - 1) filled (omega arith) (omega arith) in
-      (v.0, down_at x (omega arith) ∙ grind (arith, nat_tests, v.1)))
 
-  pub opened_down : gap_moved 0 i 1 down ≡ gap_moved len i 1 (rotated t ps)
-  opened_down =
-      let wide = length-rotated t ps in
-      let wide_down = length-rotated (place_of t (length ps - 1) (length ps)) ps in
-      let long = length-gap_moved len i 1 (rotated t ps) (omega (arith, wide)) (omega (arith, wide)) in
-      same_places _ _ (length-gap_moved 0 i 1 down (omega (arith, wide_down)) (omega (arith, wide_down))
-      ∙ wide_down ∙ sym (long ∙ wide)) (λ x lt.
-      get_or-gap_moved 0 i 1 down (omega (arith, wide_down)) (omega (arith, wide_down)) x
-      ∙ grind (arith, nat_tests, down_at x (omega (arith, long, wide)), down_at (x + 1), none x, none (x - 1))
-      ∙ sym (get_or-gap_moved len i 1 (rotated t ps) (omega (arith, wide)) (omega (arith, wide)) x))
+  -- or which stands before it, from a start one place down
+  abbrev before : ℕ
+  before = place_of t (n - 1) n
+
+  turned : Holds n before (λ k. if nat_lt 0 k then slice_get xs (k - 1) else None) ps
+  turned = Holds-from (holds l) (n - 1) (omega arith) (omega arith)
+      (λ k lt. grind (arith, nat_tests, items, place_of_cases (n - 1) k n))
+
+  pub opens_down : MayMove 0 i 1 (rotated before ps)
+  opens_down = may_move 0 i 1 (rotated before ps) (omega (arith, length-rotated before ps, l.long))
+      (λ x a b. Holds-rotated turned x (omega arith) ∙ grind (arith, nat_tests)) (λ x a b. absurd (omega arith))
+      (λ x a b. let v = slice_get_some xs (x - 1) (omega arith) in
+      (v.0, Holds-rotated turned x (omega arith) ∙ grind (arith, nat_tests, v.1)))
+
+  -- the gap once it is there
+  opened : (s from : ℕ) (qs : List (Option X)) → s ≤ n - 1 → from < n → rotated s qs ≡ gap_moved from i 1 (rotated s ps)
+      → ((x : ℕ) → x < n → held_at (gap_moved from i 1 (rotated s ps)) x ≡ gapped (take i xs) 1 (drop i xs) x)
+      → Gapped n s (take i xs) 1 (drop i xs) qs
+  opened s from qs s_in from_in is at = let wide = length-rotated s ps in let long = l.long in record {
+    within = omega (arith, length-take-le i xs le, length-drop i xs);
+    reads = Holds-of_rotated (sym (length-rotated s qs) ∙ ap length is
+        ∙ length-gap_moved from i 1 (rotated s ps) (omega arith) (omega arith) ∙ wide ∙ long) s_in
+        (λ x lt. ap (λ l. held_at l x) is ∙ at x lt);
+  }
+
+  pub opened_up : (qs : List (Option X)) → rotated t qs ≡ gap_moved (length xs) i 1 (rotated t ps)
+      → Gapped n t (take i xs) 1 (drop i xs) qs
+  opened_up qs is =
+      let front = length-take-le i xs le in let wide = length-rotated t ps in let long = l.long in
+      opened t (length xs) qs l.in_region room is (λ x lt.
+      get_or-gap_moved (length xs) i 1 (rotated t ps) (omega arith) (omega arith) x ∙ elim (cases_lt i x) [
+        | inl past ↦ let same : i + (x - (i + 1)) ≡ x - 1 = omega arith in
+            grind (arith, nat_tests, items, Holds-rotated (holds l) x lt, Holds-rotated (holds l) (x - 1), same)
+        | inr low ↦ grind (arith, nat_tests, items, Holds-rotated (holds l) x lt)
+      ])
+
+  pub opened_down : (qs : List (Option X)) → rotated before qs ≡ gap_moved 0 i 1 (rotated before ps)
+      → Gapped n before (take i xs) 1 (drop i xs) qs
+  opened_down qs is =
+      let front = length-take-le i xs le in let wide = length-rotated before ps in let long = l.long in
+      opened before 0 qs turned.in_region (omega arith) is (λ x lt.
+      get_or-gap_moved 0 i 1 (rotated before ps) (omega arith) (omega arith) x ∙ elim (cases_lt i x) [
+        | inl past ↦ let same : i + (x - (i + 1)) ≡ x - 1 = omega arith in
+            grind (arith, nat_tests, items, Holds-rotated turned x lt, same)
+        | inr low ↦ grind (arith, nat_tests, items, Holds-rotated turned (x + 1))
+      ])
 
 -- items in two parts, and the gap between them, which moves behind them
 module _ {X : Type 0} (t i gap m : ℕ) (ps : List (Option X)) (t_in : t < length ps) (within : i + gap + m ≤ length ps)
@@ -176,30 +194,3 @@ module _ {X : Type 0} {n t : ℕ} {xs : List X} {gap : ℕ} {ys : List X} {ps : 
       ∙ get_or-gap_moved i (i + m) gap (rotated t ps) (omega arith) (omega arith) x
       ∙ (let moved : x + gap - (length xs + gap) ≡ x - length xs = omega arith in
       grind (arith, nat_tests, items, gap_at x lt, gap_at (x + gap), moved))))
-
--- the gap that `open_gap` leaves
-pub Gapped-opened : {X : Type 0} {n t : ℕ} {xs : List X} {ps : List (Option X)} (i s : ℕ) (qs : List (Option X))
-    → LaidOut n t xs ps → i ≤ length xs → length xs < n → s ≤ n - 1
-    → rotated s qs ≡ gap_moved (length xs) i 1 (rotated t ps) → Gapped n s (take i xs) 1 (drop i xs) qs
-Gapped-opened {n = n} {t = t} {xs = xs} {ps = ps} i s qs l le room s_in is =
-    let long = l.long in
-    let wide = length-rotated t ps in
-    let front = length-take-le i xs le in
-    record {
-      within = omega (arith, length-drop i xs);
-      reads = Holds-of_rotated (sym (length-rotated s qs) ∙ ap length is
-          ∙ length-gap_moved (length xs) i 1 (rotated t ps) (omega arith) (omega arith) ∙ wide ∙ long) s_in (λ x lt.
-          ap (λ l. held_at l x) is
-          ∙ get_or-gap_moved (length xs) i 1 (rotated t ps) (omega arith) (omega arith) x ∙ elim (cases_lt i x) [
-            | inl past ↦ let same : i + (x - (i + 1)) ≡ x - 1 = omega arith in
-                grind (arith, nat_tests, items, Holds-rotated (holds l) x lt, Holds-rotated (holds l) (x - 1), same)
-            | inr low ↦ grind (arith, nat_tests, items, Holds-rotated (holds l) x lt)
-          ]);
-    }
-
--- what it asks of a list laid out
-pub IsEmptyRun-rotated : {X : Type 0} {n t : ℕ} {xs : List X} {ps : List (Option X)} (i len : ℕ) → LaidOut n t xs ps
-    → length xs ≤ i → i + len ≤ n → IsEmptyRun (rotated t ps) i len
-IsEmptyRun-rotated {t = t} {ps = ps} i len l past le = empty_run_of (rotated t ps) i len
-    (omega (arith, length-rotated t ps, l.long)) (λ x a b. Holds-rotated (holds l) x (omega arith)
-    ∙ grind (arith, nat_tests, items))

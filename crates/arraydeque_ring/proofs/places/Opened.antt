@@ -145,7 +145,7 @@ abbrev pub Shows : {X : Type 0} → ℕ → ℕ → ℕ → List X → List (Opt
 Shows n t len xs ps =
     (length ps ≡ n) × (t ≤ length ps - 1) × FilledFrom t len (filled ps) × (values (rotated t ps) ≡ xs)
 
-shows : {X : Type 0} {n t : ℕ} {xs : List X} {ps : List (Option X)} → LaidOut n t xs ps → (len : ℕ)
+pub shows : {X : Type 0} {n t : ℕ} {xs : List X} {ps : List (Option X)} → LaidOut n t xs ps → (len : ℕ)
     → length xs ≡ len → Shows n t len xs ps
 shows l len many = (l.long, rw l.long l.in_region, FilledFrom-LaidOut l len many, values-LaidOut l)
 
