@@ -182,6 +182,7 @@ impl<T> Ring<T> {
 
     /// The item at an index for writing, if there is one. What is written through it changes that
     /// item and no other.
+    #[tactic(auto, using(crate::proofs::places::Opened::end_facts))]
     #[inline]
     pub fn get_mut(&mut self, index: usize) -> Option<&mut T>
         ensures* writes_back { sem 𝓛 (lends_item T.row self.entry index result) }

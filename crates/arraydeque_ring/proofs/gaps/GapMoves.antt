@@ -29,23 +29,34 @@ use Rattle.arraydeque_ring.{
 }
 
 -- the start stays in the region
-pub start_closed-in : (i gap m n t : ℕ) → t < n → gap ≤ n → start_closed i gap m n t ≤ n - 1
+start_closed-in : (i gap m n t : ℕ) → t < n → gap ≤ n → start_closed i gap m n t ≤ n - 1
 start_closed-in i gap m n t t_in le = grind (arith, nat_tests, place_of-lt t gap n (omega arith))
 
--- a gap and the values between it and the index that it moves to
-pub record MayMove {X : Type 0} (from to gap : ℕ) (ts : List (Option X)) : Type 0 where
-  pub empty : IsEmptyRun ts from gap
-  pub before : IsFilledRun ts to (from - to)
-  pub behind : IsFilledRun ts (from + gap) (to - from)
-
-pub may_move : {X : Type 0} (from to gap : ℕ) (ts : List (Option X)) → max from to + gap ≤ length ts
-    → ((x : ℕ) → from ≤ x → x < from + gap → held_at ts x ≡ None) → ((x : ℕ) → to ≤ x → x < from → IsFilled ts x)
-    → ((x : ℕ) → from + gap ≤ x → x < to + gap → IsFilled ts x) → MayMove from to gap ts
-may_move from to gap ts within none before behind = record {
-  empty = empty_run_of ts from gap (omega arith) none;
-  before = filled_run_of ts to (from - to) (omega arith) (λ x a b. before x a (omega arith));
-  behind = filled_run_of ts (from + gap) (to - from) (omega arith) (λ x a b. behind x a (omega arith));
+-- what `move_gap` asks: a gap, and the values between it and the index that it moves to
+abbrev pub MayMove : {X : Type 0} → ℕ → ℕ → ℕ → ℕ → List (Option X) → Type 0
+MayMove t from to gap ps = record {
+  some : 0 < gap;
+  in_region : t < length ps;
+  within : max from to + gap ≤ length ps;
+  empty : IsEmptyRun (rotated t ps) from gap;
+  filled_before : IsFilledRun (rotated t ps) to (from - to);
+  filled_behind : IsFilledRun (rotated t ps) (from + gap) (to - from);
 }
+
+pub may_move : {X : Type 0} (t from to gap : ℕ) (ps : List (Option X)) {ts : List (Option X)} → rotated t ps ≡ ts
+    → 0 < gap → t < length ps → max from to + gap ≤ length ps
+    → ((x : ℕ) → from ≤ x → x < from + gap → held_at ts x ≡ None) → ((x : ℕ) → to ≤ x → x < from → IsFilled ts x)
+    → ((x : ℕ) → from + gap ≤ x → x < to + gap → IsFilled ts x) → MayMove t from to gap ps
+may_move t from to gap ps {ts = ts} is some t_in within none before behind =
+    let wide : length ts ≡ length ps = ap length (sym is) ∙ length-rotated t ps in
+    rw is (record {
+      some = some;
+      in_region = t_in;
+      within = within;
+      empty = empty_run_of ts from gap (omega arith) none;
+      filled_before = filled_run_of ts to (from - to) (omega arith) (λ x a b. before x a (omega arith));
+      filled_behind = filled_run_of ts (from + gap) (to - from) (omega arith) (λ x a b. behind x a (omega arith));
+    })
 
 -- read from the place j further on
 rotated_on : {X : Type 0} (t j x : ℕ) (ps : List (Option X)) → t < length ps → j ≤ length ps → x < length ps
@@ -60,8 +71,9 @@ rotated_on t j x ps t_in j_in lt =
 -- a list with a gap behind it, which moves to the index i
 module _ {X : Type 0} {n t : ℕ} {xs : List X} {ps : List (Option X)} (l : LaidOut n t xs ps) (i : ℕ)
     (le : i ≤ length xs) (room : length xs < n) where
-  pub opens_up : MayMove (length xs) i 1 (rotated t ps)
-  opens_up = may_move (length xs) i 1 (rotated t ps) (omega (arith, length-rotated t ps, l.long))
+  pub opens_up : MayMove t (length xs) i 1 ps
+  opens_up = let long = l.long in let in_region = l.in_region in
+      may_move t (length xs) i 1 ps refl (omega arith) (omega arith) (omega arith)
       (λ x a b. Holds-rotated (holds l) x (omega arith) ∙ slice_get_past xs x a)
       (λ x a b. let v = slice_get_some xs x b in (v.0, Holds-rotated (holds l) x (omega arith) ∙ v.1))
       (λ x a b. absurd (omega arith))
@@ -74,8 +86,9 @@ module _ {X : Type 0} {n t : ℕ} {xs : List X} {ps : List (Option X)} (l : Laid
   turned = Holds-from (holds l) (n - 1) (omega arith) (omega arith)
       (λ k lt. grind (arith, nat_tests, items, place_of_cases (n - 1) k n))
 
-  pub opens_down : MayMove 0 i 1 (rotated before ps)
-  opens_down = may_move 0 i 1 (rotated before ps) (omega (arith, length-rotated before ps, l.long))
+  pub opens_down : MayMove before 0 i 1 ps
+  opens_down = let long = l.long in let in_region = turned.in_region in
+      may_move before 0 i 1 ps refl (omega arith) (omega arith) (omega arith)
       (λ x a b. Holds-rotated turned x (omega arith) ∙ grind (arith, nat_tests)) (λ x a b. absurd (omega arith))
       (λ x a b. let v = slice_get_some xs (x - 1) (omega arith) in
       (v.0, Holds-rotated turned x (omega arith) ∙ grind (arith, nat_tests, v.1)))
@@ -118,14 +131,14 @@ module _ {X : Type 0} (t i gap m : ℕ) (ps : List (Option X)) (t_in : t < lengt
     (before : IsFilledRun (rotated t ps) 0 i) (empty : IsEmptyRun (rotated t ps) i gap)
     (behind : IsFilledRun (rotated t ps) (i + gap) m)
     (rest : IsEmptyRun (rotated t ps) (i + gap + m) (length ps - (i + gap + m))) where
-  pub closes_down : MayMove i (i + m) gap (rotated t ps)
-  closes_down = may_move i (i + m) gap (rotated t ps) (omega (arith, rest.0))
+  pub closes_down : 0 < gap → MayMove t i (i + m) gap ps
+  closes_down some = may_move t i (i + m) gap ps refl some t_in (omega arith)
       (λ x a b. empty_at (rotated t ps) i gap x empty a b) (λ x a b. absurd (omega arith))
       (λ x a b. filled_at (rotated t ps) (i + gap) m x behind a (omega arith))
 
   -- or before them, so that they begin behind it
-  pub closes_up : MayMove i 0 gap (rotated t ps)
-  closes_up = may_move i 0 gap (rotated t ps) (omega (arith, rest.0))
+  pub closes_up : 0 < gap → MayMove t i 0 gap ps
+  closes_up some = may_move t i 0 gap ps refl some t_in (omega arith)
       (λ x a b. empty_at (rotated t ps) i gap x empty a b)
       (λ x a b. filled_at (rotated t ps) 0 i x before a (omega arith)) (λ x a b. absurd (omega arith))
 
@@ -154,13 +167,16 @@ module _ {X : Type 0} {n t : ℕ} {xs : List X} {gap : ℕ} {ys : List X} {ps : 
   gap_at x lt = Holds-rotated p.reads x lt
 
   -- what `close_gap` asks
-  pub record Closes (i m : ℕ) : Type 0 where
-    pub in_region : t < length ps
-    pub within : i + gap + m ≤ length ps
-    pub before : IsFilledRun (rotated t ps) 0 i
-    pub empty : IsEmptyRun (rotated t ps) i gap
-    pub behind : IsFilledRun (rotated t ps) (i + gap) m
-    pub rest : IsEmptyRun (rotated t ps) (i + gap + m) (length ps - (i + gap + m))
+  abbrev pub Closes : ℕ → ℕ → Type 0
+  Closes i m = record {
+    some : 0 < gap;
+    in_region : t < length ps;
+    within : i + gap + m ≤ length ps;
+    filled_before : IsFilledRun (rotated t ps) 0 i;
+    empty : IsEmptyRun (rotated t ps) i gap;
+    filled_behind : IsFilledRun (rotated t ps) (i + gap) m;
+    rest : IsEmptyRun (rotated t ps) (i + gap + m) (length ps - (i + gap + m));
+  }
 
   pub may_close : (i m : ℕ) → 0 < gap → length xs ≡ i → length ys ≡ m → Closes i m
   may_close i m some front back =
@@ -168,12 +184,13 @@ module _ {X : Type 0} {n t : ℕ} {xs : List X} {gap : ℕ} {ys : List X} {ps : 
       let long = p.reads.long in
       let wide = length-rotated t ps in
       record {
+        some = some;
         in_region = omega (arith, p.reads.in_region);
         within = omega arith;
-        before = filled_run_of _ 0 i (omega arith) (λ x a b. let v = slice_get_some xs x (omega arith) in
+        filled_before = filled_run_of _ 0 i (omega arith) (λ x a b. let v = slice_get_some xs x (omega arith) in
             (v.0, gap_at x (omega arith) ∙ grind (arith, nat_tests, v.1)));
         empty = empty_run_of _ i gap (omega arith) (λ x a b. gap_at x (omega arith) ∙ grind (arith, nat_tests));
-        behind = filled_run_of _ (i + gap) m (omega arith) (λ x a b.
+        filled_behind = filled_run_of _ (i + gap) m (omega arith) (λ x a b.
             let v = slice_get_some ys (x - (length xs + gap)) (omega arith) in
             (v.0, gap_at x (omega arith) ∙ grind (arith, nat_tests, v.1)));
         rest = empty_run_of _ (i + gap + m) (length ps - (i + gap + m)) (omega arith)
@@ -181,11 +198,14 @@ module _ {X : Type 0} {n t : ℕ} {xs : List X} {gap : ℕ} {ys : List X} {ps : 
       }
 
   -- and what it leaves
-  pub LaidOut-closed : (i m s : ℕ) (qs : List (Option X)) → length xs ≡ i → length ys ≡ m → s ≤ n - 1
-      → rotated s qs ≡ gap_moved i (i + m) gap (rotated t ps) → LaidOut n s (xs ++ ys) qs
-  LaidOut-closed i m s qs front back s_in is =
+  pub LaidOut-closed : (i m s : ℕ) (qs : List (Option X)) → 0 < gap → length xs ≡ i → length ys ≡ m
+      → s ≡ start_closed i gap m (length ps) t → rotated s qs ≡ gap_moved i (i + m) gap (rotated t ps)
+      → LaidOut n s (xs ++ ys) qs
+  LaidOut-closed i m s qs some front back here is =
       let within = p.within in
       let long = p.reads.long in
+      let s_in : s ≤ n - 1 =
+      rw (here, long) (start_closed-in i gap m n t (omega (arith, p.reads.in_region)) (omega arith)) in
       let wide = length-rotated t ps in
       let many = length-append xs ys in
       LaidOut-by (omega arith) (Holds-of_rotated (sym (length-rotated s qs) ∙ ap length is

@@ -45,6 +45,7 @@ impl<T> Ring<T> {
 
     /// Takes out the item at an index. The fewer items on either side of it move: those before it
     /// where they are the fewer, and the start with them, else those behind it.
+    #[tactic(auto, using(crate::proofs::places::Opened::end_facts))]
     pub fn remove(&mut self, index: usize) -> T
         requires { index < length self.old.items }
         ensures value { slice_get self.old.items index ≡ Some result }

@@ -29,6 +29,7 @@ impl<T> Ring<T> {
     ///     before, from 5 on     d e . . . a b c
     ///     without 1..3, from 7  d e . . . . . a
     ///     without 2..4, from 5  . . . . . a b e
+    #[tactic(auto, using(crate::proofs::places::Opened::part_facts))]
     pub fn drain(&mut self, from: usize, to: usize) -> Result<Ring<T>, AllocError>
         requires in_order { from ≤ to }
         requires in_bounds { to ≤ length self.old.items }
@@ -69,6 +70,7 @@ impl<T> Ring<T> {
     /// Takes out the items from the index `at` on, into a ring of the same capacity, whose region
     /// is taken first. Where that is refused nothing has changed; it never is at capacity 0 or for
     /// items of size zero. No kept item moves.
+    #[tactic(auto, using(crate::proofs::places::Opened::part_facts))]
     pub fn split_off(&mut self, at: usize) -> Result<Ring<T>, AllocError>
         requires { at ≤ length self.old.items }
         ensures tail { IfOk result (λ ring. ring ≡ record {
@@ -123,6 +125,7 @@ impl<T> Ring<T> {
 
     /// Takes the first `run` items of another ring behind the last one, by one copy. They go round
     /// the end in neither ring.
+    #[tactic(auto, using(crate::proofs::places::Opened::join_facts))]
     fn append_run(&mut self, other: &mut Ring<T>, run: usize)
         requires some { 0 < run }
         requires fits_here { place_of self.old.start (length self.old.items) self.old.capacity + run

@@ -19,30 +19,16 @@ use Rattle.arraydeque_ring.{
 }
 use Rattle.arraydeque_ring.proofs.ring.Ring.insert.Goals as goal
 
-pub move_gap-requires-clause-empty : goal.move_gap-requires-clause-empty
-move_gap-requires-clause-empty g c =
+pub move_gap-requires : goal.move_gap-requires
+move_gap-requires g c =
     let ring = opened c.self.inside c.self.invariant c.self.view_is in
     rw (c.wrap_add-before.ensures, c.capacity-capacity.ensures, ring.laid.long)
-    (opens_down ring.laid c.args.index c.requires.in_bounds c.requires.room).empty
-
-pub move_gap-requires-clause-filled_behind : goal.move_gap-requires-clause-filled_behind
-move_gap-requires-clause-filled_behind g c =
-    let ring = opened c.self.inside c.self.invariant c.self.view_is in
-    rw (c.wrap_add-before.ensures, c.capacity-capacity.ensures, ring.laid.long)
-    (opens_down ring.laid c.args.index c.requires.in_bounds c.requires.room).behind
+    (rw ring.laid.long at (opens_down ring.laid c.args.index c.requires.in_bounds c.requires.room))
 
 pub move_gap-requires-else-index-behind : goal.move_gap-requires-else-index-behind
 move_gap-requires-else-index-behind g c =
     let ring = opened c.self.inside c.self.invariant c.self.view_is in
-    let may = opens_up ring.laid c.args.index c.requires.in_bounds c.requires.room in
-    rw (← ring.len) (record {
-      some = omega arith;
-      in_region = omega (arith, ring.laid.in_region, ring.laid.long);
-      within = omega (arith, ring.laid.long);
-      empty = may.empty;
-      filled_before = may.before;
-      filled_behind = may.behind;
-    })
+    rw (← ring.len) (opens_up ring.laid c.args.index c.requires.in_bounds c.requires.room)
 
 -- with the gap open
 gap : (g : Over) (c : goal.After-put-arg-1 g) → let old = c.args.self.now in let now = c.if-index-behind.self-inside in
@@ -70,9 +56,8 @@ place g c =
 pub put-requires : goal.put-requires
 put-requires g c = rw (place g c) (IsEmpty-gap 1 c.args.index (gap g c) (front g c) (omega arith))
 
-after : (g : Over) (c : After-put g) → let old = c.args.self.now in Shows old.capacity
-    c.if-index-behind.self-inside.start (c.if-index-behind.self-inside.len + 1) (insert old.items c.args.index c.args.element)
-    c.put.new.self.places
+after : (g : Over) (c : After-put g) → let old = c.args.self.now in let now = c.if-index-behind.self-inside in
+    Shows old.capacity now.start (now.len + 1) (insert old.items c.args.index c.args.element) c.put.new.self.places
 after g c =
     let ring = opened c.self.inside c.self.invariant c.self.view_is in
     let same : c.if-index-behind.self-inside.len ≡ c.self.inside.len = grind arith in
