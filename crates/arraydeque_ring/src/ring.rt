@@ -31,7 +31,6 @@ pub struct Ring<T> {
     slots: Slots<T>,
     start: usize,
     len: usize,
-    alloc: Global,
 }
 
 impl<T> Model for Ring<T> {
@@ -65,7 +64,6 @@ impl<T> Ring<T> {
             slots,
             start: 0,
             len: 0,
-            alloc,
         })
     }
 
@@ -90,7 +88,7 @@ impl<T> Ring<T> {
 
     /// The allocator that the region came from.
     pub fn alloc(&self) -> Global {
-        self.alloc
+        self.slots.alloc()
     }
 
     /// Adds an element behind the last item. No kept item moves.
@@ -184,6 +182,7 @@ impl<T> Ring<T> {
 
     /// The item at an index for writing, if there is one. What is written through it changes that
     /// item and no other.
+    #[tactic(auto, using(crate::proofs::places::Opened::end_facts))]
     #[inline]
     pub fn get_mut(&mut self, index: usize) -> Option<&mut T>
         ensures* writes_back { sem 𝓛 (lends_item T.row self.entry index result) }
@@ -196,25 +195,17 @@ impl<T> Ring<T> {
         let slots = &mut self.slots;
         Some(slots.get_mut(place))
     }
-
-    /// Gives the region of a ring that holds no item back.
-    #[tactic(auto, using(crate::proofs::places::Opened::end_facts))]
-    fn give_back(self)
-        requires { self.items ≡ [] }
-    {
-        let Ring {
-            slots: _,
-            start: _,
-            len: _,
-            alloc: _,
-        } = self;
-    }
 }
 
 impl<T: Drop> Drop for Ring<T> {
     /// Drops each item, front to back, and gives the region back.
+    #[tactic(auto, using(crate::proofs::places::Opened::end_facts))]
     fn drop(mut self) {
         self.clear();
-        self.give_back();
+        let Ring {
+            slots: _,
+            start: _,
+            len: _,
+        } = self;
     }
 }

@@ -93,6 +93,11 @@ impl<T> Slots<T> {
         self.capacity
     }
 
+    /// The allocator that the region came from.
+    pub fn alloc(&self) -> Global {
+        self.alloc
+    }
+
     /// Puts a value into an empty place.
     #[inline]
     pub fn put(&mut self, place: usize, value: T)

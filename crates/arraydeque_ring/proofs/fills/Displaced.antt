@@ -2,23 +2,18 @@
 use Rattle.std.proofs.{
   Common.{◌≡◌, ◌≤◌, ℕ, zero, suc, ◌+◌, List, [], ◌∷◌, ◌++◌, length, take, drop, reverse, refl, sym, ap, ◌∙◌, arith},
   lemmas.{
-    Bool.Decides.nat_tests,
     List.{append_assoc, append-nil, length-append, length-drop, length-take, length-take-le, drop-drop},
     List.{drop-append-le, take-take, take_all},
   },
 }
 use Rattle.arraydeque_ring.{
   specs.{Ring.{RingState, up_by, down_by}, Steps.{Steps, more_puts, more_takes}},
-  proofs.{moved.Sources.{place_of-sum}, fills.InRows.{all_before, down_by-all}},
+  proofs.{fills.InRows.{all_before, down_by-all}, places.Appended.up_by-both},
 }
 
 -- nothing more was put and taken
 more_none : (s : Steps) → s ≡ more_puts 0 (more_takes 0 s)
 more_none s = grind arith
-
--- to go up by j places and then by k is to go up by both
-pub up_by-both : (j k s n : ℕ) → up_by k (up_by j s n) n ≡ up_by (j + k) s n
-up_by-both j k s n = grind (arith, nat_tests, place_of-sum s j k n)
 
 -- a list that is cut twice behind others
 kept_behind : {X : Type 0} (n m : ℕ) (zs xs : List X) → n ≤ m → take n (zs ++ take m xs) ≡ take n (zs ++ xs)

@@ -4,7 +4,7 @@ use Rattle.std.proofs.{
   Common.{subst, arith},
   lemmas.{
     Bool.Decides.nat_tests,
-    List.{append_assoc, append-nil, length-append, length-take-le, reverse-append, take_more},
+    List.{append_assoc, append-nil, length-append, length-take-le, length_push, reverse-append, take_more},
   },
 }
 use Rattle.arraydeque_ring.{
@@ -17,8 +17,8 @@ use Rattle.arraydeque_ring.{
   proofs.{
     moved.Sources.{place_of-sum},
     places.{
-      LaidOut.IsEmpty-place_of,
-      Opened.{Opened, by_field, put_back},
+      LaidOut.{IsEmpty-place_of, LaidOut-put_back},
+      Opened.Opened,
       Rotated.place_of-first,
     },
   },
@@ -85,16 +85,20 @@ module _ {X : Type 0} {r : Inside X} (v : RingState X) (xs : List X) (k : ℕ) (
   has_room : length (v.items ++ take k xs) < v.capacity
   has_room = omega (arith, length-append v.items (take k xs), length-take-le k xs (omega arith))
 
-  behind : r.len ≡ place_of v.start r.len v.capacity
-  behind = rw first (sym (place_of-first r.len v.capacity (omega (arith, has_room, o.len))))
+  behind : r.len ≡ place_of r.start (length (v.items ++ take k xs)) v.capacity
+  behind = rw (o.start, first, o.len) (sym (place_of-first r.len v.capacity (omega (arith, has_room, o.len))))
 
   pub next_empty : IsEmpty r.slots.places r.len
-  next_empty = subst (IsEmpty r.slots.places) (sym (by_field o r.len behind))
-      (IsEmpty-place_of o.laid r.len (omega (arith, o.len)) (omega (arith, has_room, o.len)))
+  next_empty = subst (IsEmpty r.slots.places) (sym behind) (IsEmpty-place_of o.laid _ (omega arith) has_room)
 
   pub next_put : {slots : Region X} (x d : X) → x ≡ get_or xs k d
       → slots.places ≡ set r.slots.places r.len (Some x) → slots.steps ≡ more_puts 1 r.slots.steps
       → Opened record r { slots = slots; len = r.len + 1 } (filled_back (take (k + 1) xs) v)
   next_put {slots = slots} x d is puts steps = rw (take_more xs k d some, ← is)
       (subst (Opened record r { slots = slots; len = r.len + 1 }) (filled_back-both (take k xs) (x ∷ []) v)
-      (put_back o x has_room behind puts steps))
+      (record {
+        laid = rw (puts, behind) (LaidOut-put_back o.laid x has_room);
+        len = length_push (v.items ++ take k xs) x ∙ ap (λ n. n + 1) o.len;
+        start = o.start;
+        steps = steps ∙ ap (more_puts 1) o.steps;
+      }))

@@ -2,7 +2,7 @@
 -- still to change places.
 use Rattle.std.proofs.{
   Common.{◌≡◌, ℕ, ◌+◌, ◌-◌, ◌<◌, ◌≤◌, ◌⊎◌, inl, inr, List, length, Option, None, refl, sym, ap, ◌∙◌, arith},
-  lemmas.{Bool.{cases_lt, Decides.nat_tests}, List.get_or_past, Option.slice_get_past},
+  lemmas.{Bool.{cases_lt, Decides.nat_tests}, List.{append-nil, get_or_past}, Option.slice_get_past},
 }
 use Rattle.arraydeque_ring.{
   specs.{
@@ -73,15 +73,16 @@ module _ {X : Type 0} {dst gap behind len : ℕ} {ps : List (Option X)} (next : 
 
 -- the values that are left stand behind the gap, in one piece, and can be moved before it
 pub record RestInOnePiece {X : Type 0} (dst gap behind len : ℕ) (ps : List (Option X)) : Type 0 where
-  pub may : MayMove dst len gap ps
+  pub may : MayMove 0 dst len gap ps
   pub after : gap_moved dst len gap ps ≡ run_rotated dst gap behind ps
 
 pub rest_in_one_piece : {X : Type 0} {dst gap behind len : ℕ} {ps : List (Option X)}
-    → Underway dst gap behind len ps → dst ≤ len → len ≤ dst + behind → RestInOnePiece dst gap behind len ps
-rest_in_one_piece {dst = dst} {gap = gap} {behind = behind} {len = len} {ps = ps} u placed fits =
+    → Underway dst gap behind len ps → dst ≤ len → len ≤ dst + behind → 0 < gap
+    → RestInOnePiece dst gap behind len ps
+rest_in_one_piece {dst = dst} {gap = gap} {behind = behind} {len = len} {ps = ps} u placed fits some =
     let whole = u.whole in
     record {
-      may = may_move dst len gap ps (omega arith)
+      may = may_move 0 dst len gap ps (append-nil ps) some (omega arith) (omega arith)
           (λ x a b. u.empty_at x (x + behind) (omega arith) (grind (arith, nat_tests))) (λ x a b. absurd (omega arith))
           (λ x a b. u.filled_at x (x - gap) (omega arith) (grind (arith, nat_tests)));
       after = reads _ u refl _ (length-gap_moved dst len gap ps (omega arith) (omega arith)) (λ x x_in.
@@ -98,7 +99,7 @@ rest_in_one_piece {dst = dst} {gap = gap} {behind = behind} {len = len} {ps = ps
 -- or there is room for the values behind the gap:
 -- the ones in front of it move up by as many places, and they take their place
 pub record RoomForFirst {X : Type 0} (dst gap next behind from : ℕ) (ps : List (Option X)) : Type 0 where
-  pub may : MayMove from dst behind ps
+  pub may : MayMove 0 from dst behind ps
   pub moved : (qs : List (Option X)) → qs ≡ gap_moved from dst behind ps → IsEmptyRun qs dst behind
       × IsFilledRun qs next behind × (runs_swapped dst next behind qs ≡ run_rotated dst gap behind ps)
 
@@ -110,7 +111,8 @@ room_for_first {dst = dst} {gap = gap} {behind = behind} {len = len} {ps = ps} n
     let in_gap : (z : ℕ) → from ≤ z → z < next → held_at ps z ≡ None =
     λ z a b. u.empty_at z (z + behind) (omega arith) (grind (arith, nat_tests)) in
     record {
-      may = may_move from dst behind ps (omega arith) (λ x a b. in_gap x a (omega arith))
+      may = may_move 0 from dst behind ps (append-nil ps) (omega arith) (omega arith) (omega arith)
+          (λ x a b. in_gap x a (omega arith))
           (λ x a b. u.filled_at x (x + behind) (omega arith) (grind (arith, nat_tests)))
           (λ x a b. absurd (omega arith));
       moved = λ qs is.

@@ -74,7 +74,7 @@ module _ {X : Type 0} where
         ap₂ (λ l m. l ++ m) front behind ∙ take-append-drop first v.items
 
   abbrev pub with_slots : Inside X → Region X → Inside X
-  with_slots r w = record { slots = w; start = r.start; len = r.len; alloc = r.alloc }
+  with_slots r w = record { slots = w; start = r.start; len = r.len }
 
   -- the region and the ring after any writing through the loan
   abbrev pub ended : Region X → Region X → Region X

@@ -39,8 +39,6 @@ use denote.{
   Plain.uint_Lawful,
   Struct.{Members.{Member, rows_of}, Parts.PartsBack, Pick.{rest_at, field_out, field_back}},
 }
-use Rattle.std.specs.contracts.alloc.Global as heap
-use Rattle.std.proofs.alloc.Global.TheLaws as heap_laws
 use Rattle.arraydeque_ring.specs.contracts.ring.Ring as ring
 use Rattle.arraydeque_ring.specs.contracts.ring.Ring.TheInside as inside
 use Rattle.arraydeque_ring.proofs.ring.Ring.TheLaws as ring_laws
@@ -55,18 +53,18 @@ module _ (E : El) where
 
   abbrev members : List Member
   members = record { row = Sr E; ty = lone (Sr E).mir } ∷ record { row = usize; ty = lone usize.mir }
-      ∷ record { row = usize; ty = lone usize.mir } ∷ record { row = heap.the_row; ty = lone heap.the_row.mir } ∷ []
+      ∷ record { row = usize; ty = lone usize.mir } ∷ []
 
 module _ (E : El) {M : Type 1} {𝓤 : Ura M} (𝓛 : Logic 𝓤) (rb ro : ℕ) where
   lawful : Lawfuls 𝓛 (rows_of (members E))
   lawful = (
     (slots_laws.the_row_laws (R E) (param_laws 0 E.row E.laws)).lawful 𝓛,
-    (uint_Lawful 𝓛 w64, (uint_Lawful 𝓛 w64, (heap_laws.the_row_laws.lawful 𝓛, tt))),
+    (uint_Lawful 𝓛 w64, (uint_Lawful 𝓛 w64, tt)),
   )
 
   -- the fields but for the slots, and the way back from all
   abbrev pub Others : Fields E → Fml
-  Others x = rest_at full_share (members E) 0 (x.slots, (x.start, (x.len, (x.alloc, tt)))) rb ro 0
+  Others x = rest_at full_share (members E) 0 (x.slots, (x.start, (x.len, tt))) rb ro 0
 
   abbrev pub Way : SProp 𝓤
   Way = PartsBack 𝓛 full_share [] (members E) rb ro
@@ -78,7 +76,7 @@ module _ (E : El) {M : Type 1} {𝓤 : Ura M} (𝓛 : Logic 𝓤) (rb ro : ℕ) 
   pub slots_out : (x : Fields E) → ent 𝓤 (sem 𝓛 (part_at (inside.the_row (R E)) full_share x rb ro))
       (sep 𝓤 (sem 𝓛 (part_at (Sr E) full_share x.slots rb (ro + 0))) (sep 𝓤 (sem 𝓛 (Others x)) Way))
   unfolding part_of
-  slots_out x = field_out 𝓛 full_share [] (members E) lawful (x.slots, (x.start, (x.len, (x.alloc, tt)))) rb ro 0
+  slots_out x = field_out 𝓛 full_share [] (members E) lawful (x.slots, (x.start, (x.len, tt))) rb ro 0
 
   -- whatever the slots are, with which the other fields keep the invariant, the ring is whole again
   pub ring_whole : (d : RingState (el_x E)) (x : Fields E) (w : Region (el_x E)) → view (with_slots x w) ≡ d
@@ -90,6 +88,6 @@ module _ (E : El) {M : Type 1} {𝓤 : Ura M} (𝓛 : Logic 𝓤) (rb ro : ℕ) 
       let y = with_slots x w in
       qed 𝓛 (‵ (part_at (Sr E) full_share w rb (ro + 0)) ∷ (‵ (Others x) ⊛ raw Way) ∷ []) ∵
       use2 𝓛 (‵ (part_at (inside.the_row (R E)) full_share y rb ro))
-      (field_back 𝓛 full_share [] (members E) (y.slots, (y.start, (y.len, (y.alloc, tt)))) rb ro 0) $
+      (field_back 𝓛 full_share [] (members E) (y.slots, (y.start, (y.len, tt))) rb ro 0) $
       by ! (Plain-in (Rr E) (inside.the_row (R E)) (ring_laws.the_opens (R E)) 𝓛 full_share d y
       (view_made (inside.the_row (R E)) (RingState (el_x E)) (Rr E).coded view Kept 𝓛 d y (seen, kept)) rb ro)

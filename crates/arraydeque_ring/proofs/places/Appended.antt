@@ -13,14 +13,13 @@ use Rattle.std.proofs.{
 use Rattle.arraydeque_ring.{
   specs.{Gaps.IsEmptyRun, Loans.with_run, Places.held_at, Ring.{RingState, up_by}, Steps.{more_puts, more_takes}},
   proofs.{
-    fills.Displaced.up_by-both,
     loans.Placed.length-with_run,
     places.{
       Items.{items, get_or-map_Some},
       Held.empty_run_of,
       Holds.{Holds, Holds-same},
       LaidOut.{LaidOut, LaidOut-by, holds},
-      Rotated.{MayStartAt, place_of_cases, place_of-run},
+      Rotated.{MayStartAt, place_of_cases, place_of-run, place_of-sum},
     },
   },
 }
@@ -70,6 +69,10 @@ module _ {X : Type 0} where
     pub IsEmptyRun-behind : (place run : ℕ) → MayStartAt t (length xs) n place →
         place + run ≤ n → length xs + run ≤ n → IsEmptyRun ps place run
     IsEmptyRun-behind place run = IsEmptyRun-from (length xs) place run (omega arith)
+
+-- to go up by j places and then by k is to go up by both
+pub up_by-both : (j k s n : ℕ) → up_by k (up_by j s n) n ≡ up_by (j + k) s n
+up_by-both j k s n = grind (arith, nat_tests, place_of-sum s j k n)
 
 module _ {X : Type 0} where
   -- a ring with the first m items of another behind its own, and that other ring without them

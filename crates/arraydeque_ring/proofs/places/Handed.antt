@@ -2,30 +2,22 @@
 -- in two parts where it goes round the region's end.
 use Rattle.std.{
   proofs.{
-    Common.{◌≡◌, ℕ, ◌+◌, ◌-◌, ◌<◌, ◌≤◌, min, List, ◌++◌, map, length, take, drop, replicate, Option, Some, None, refl},
-    Common.{sym, ap, ◌∙◌, arith, rules},
+    Common.{◌≡◌, ℕ, ◌+◌, ◌-◌, ◌<◌, ◌≤◌, min, List, ◌++◌, map, length, take, drop, replicate, Option, Some, None, sym},
+    Common.{ap, ◌∙◌, arith, rules},
     lemmas.{
       Bool.Decides.nat_tests,
       Grind.common_steps,
       List.{places, length-map, same_lists, take_at, drop_at, take-map, drop-map, drop-drop, append_assoc},
     },
   },
-  specs.declared.alloc.Global.Global,
 }
 use Rattle.arraydeque_ring.{
-  specs.{
-    Gaps.{IsEmptyRun, run_emptied},
-    Places.{Region, held_at, IsFilledRun},
-    Ring.{RingState, rotated},
-    Steps.{no_steps, more_puts},
-    declared.ring.Ring.TheInside.Inside,
-  },
+  specs.{Gaps.{IsEmptyRun, run_emptied}, Places.{held_at, IsFilledRun}, Ring.rotated},
   proofs.places.{
     Emptied.length-run_emptied,
     Held.{empty_in_run, empty_run_of},
     Items.{items, get_or-map_Some},
-    LaidOut.{HoldsRun-rotated},
-    Opened.Opened,
+    LaidOut.{LaidOut, HoldsRun-rotated},
     Rotated.{place_of-first, MayStartAt, place_of_cases, length-rotated, get_or-rotated},
   },
 }
@@ -107,32 +99,18 @@ pub all_empty : {X : Type 0} (len n : ℕ) → len ≤ n → IsEmptyRun {X = X} 
 all_empty len n le =
     empty_run_of (replicate n None) 0 len (grind (arith, common_steps)) (λ x from to. grind (arith, common_steps))
 
--- the len items from the index i on make a ring of their own, in a region that was empty
-pub ring_handed : {X : Type 0} {r : Inside X} {v : RingState X} (o : Opened r v) (i len n : ℕ) (slots : Region X)
-    (alloc : Global) → i + len ≤ length v.items → len ≤ n
-    → slots ≡ record {
-      places = take len (drop i (rotated r.start r.slots.places)) ++ drop len (replicate n None);
-      steps = more_puts len no_steps;
-    }
-    → Opened record { slots = slots; start = 0; len = len; alloc = alloc } record {
-      items = take len (drop i v.items);
-      capacity = n;
-      start = 0;
-      steps = more_puts len no_steps;
-    }
-ring_handed {v = v} o i len n slots alloc within room is =
-    let ys = take len (drop i v.items) in
-    let many : length ys ≡ len = grind (arith, common_steps) in
-    let wide : length (map Some ys) ≡ len = length-map ys Some ∙ many in
-    rw (is, HoldsRun-rotated o.laid i len within) (record {
-      laid = record {
-        long = grind (arith, common_steps);
-        in_region = omega arith;
-        within = omega (arith, many);
-        at = λ x lt. ap (held_at (map Some ys ++ drop len (replicate n None))) (place_of-first x n lt)
-            ∙ grind (arith, nat_tests, places, items, get_or-map_Some ys x);
-      };
-      len = many;
-      start = refl;
-      steps = refl;
+-- in a region that was empty the m items from the index i on are a list of their own
+pub LaidOut-handed : {X : Type 0} {n t : ℕ} {xs : List X} {ps : List (Option X)} → LaidOut n t xs ps → (i m k : ℕ)
+    → i + m ≤ length xs → m ≤ k
+    → LaidOut k 0 (take m (drop i xs)) (take m (drop i (rotated t ps)) ++ drop m (replicate k None))
+LaidOut-handed {xs = xs} l i m k within room =
+    let ys = take m (drop i xs) in
+    let many : length ys ≡ m = grind (arith, common_steps) in
+    let wide : length (map Some ys) ≡ m = length-map ys Some ∙ many in
+    rw (HoldsRun-rotated l i m within) (record {
+      long = grind (arith, common_steps);
+      in_region = omega arith;
+      within = omega (arith, many);
+      at = λ x lt. ap (held_at (map Some ys ++ drop m (replicate k None))) (place_of-first x k lt)
+          ∙ grind (arith, nat_tests, places, items, get_or-map_Some ys x);
     })

@@ -1,6 +1,6 @@
 -- What places hold, read one by one from a place on, round the region's end.
 use Rattle.std.proofs.{
-  Common.{◌≡◌, ◌≢◌, ℕ, ◌+◌, ◌-◌, ◌<◌, ◌≤◌, inl, inr, List, length, set, get_or, Option, Some, None, refl, sym, ap, ◌∙◌},
+  Common.{◌≡◌, ◌≢◌, ℕ, ◌+◌, ◌-◌, ◌<◌, ◌≤◌, inl, inr, List, length, set, get_or, Option, Some, None, sym, ap, ◌∙◌},
   Common.{arith},
   lemmas.{Bool.cases_eq, List.{length-set, get_or-set_same, get_or-set_other}},
 }

@@ -1,12 +1,12 @@
 -- What the places of a ring hold, read from its start on: first its items, then nothing.
 use Rattle.std.proofs.{
   Common.{◌≡◌, ◌≢◌, ℕ, ◌+◌, ◌-◌, ◌<◌, ◌≤◌, List, [], ◌∷◌, ◌++◌, length, take, drop, set, get_or, replicate, slice_get},
-  Common.{nat_lt, if◌then◌else◌, Option, Some, None, is_some, true, false, refl, sym, ap, ap₂, ◌∙◌, subst, arith},
+  Common.{nat_lt, if◌then◌else◌, Option, Some, None, is_some, true, false, refl, sym, ap, ap₂, ◌∙◌, subst, swap, arith},
   lemmas.{
     Bool.Decides.nat_tests,
     Grind.common_steps,
-    List.{length-append, length-take, length-drop, length-map, length-replicate, length-set},
-    Option.slice_get_past,
+    List.{length-append, length-take, length-drop, length-map, length-replicate, length-set, Edits.swap_is},
+    Option.{get_or_from_slice_get, slice_get_past},
   },
 }
 use Rattle.arraydeque_ring.{
@@ -187,3 +187,19 @@ module _ {X : Type 0} {n t : ℕ} {xs : List X} {ps : List (Option X)} (l : Laid
   LaidOut-set k x lt = let within = l.within in
       LaidOut-write k (Some x) (omega arith) (omega (arith, length-set xs k x)) (grind (arith, nat_tests, items))
       (λ i i_in other. grind (arith, nat_tests, items))
+
+-- to exchange the places of two items is to exchange the items
+pub LaidOut-swap : {X : Type 0} {n t : ℕ} {xs : List X} {ps : List (Option X)} → LaidOut n t xs ps → (i j : ℕ)
+    → i < length xs → j < length xs → LaidOut n t (swap xs i j) (swap ps (place_of t i n) (place_of t j n))
+LaidOut-swap {n = n} {t = t} {xs = xs} {ps = ps} l i j i_in j_in =
+    let p = place_of t i n in let q = place_of t j n in let within = l.within in
+    let x = slice_get_some xs i i_in in let y = slice_get_some xs j j_in in
+    let in_region : (k : ℕ) → k < length xs → place_of t k n < length ps =
+    λ k lt. omega (arith, l.long, place_of-lt t k n (omega (arith, l.in_region))) in
+    let items : set (set xs i y.0) j x.0 ≡ swap xs i j = ap₂ (λ a b. set (set xs i a) j b)
+    (sym (get_or_from_slice_get xs j y.0 x.0 y.1)) (sym (get_or_from_slice_get xs i x.0 x.0 x.1))
+    ∙ swap_is xs i j x.0 i_in j_in in
+    let places : swap ps p q ≡ set (set ps p (Some y.0)) q (Some x.0) =
+    sym (swap_is ps p q None (in_region i i_in) (in_region j j_in))
+    ∙ ap₂ (λ a b. set (set ps p a) q b) (l.at j (omega arith) ∙ y.1) (l.at i (omega arith) ∙ x.1) in
+    rw places (rw items at (LaidOut-set (LaidOut-set l i y.0 i_in) j x.0 (omega (arith, length-set xs i y.0))))

@@ -1,23 +1,33 @@
 -- What the fields of an open ring say of the value that its contracts see.
 use Rattle.std.proofs.{
-  Common.{◌≡◌, ℕ, suc, ◌+◌, ◌-◌, ◌%◌, ◌<◌, ◌≤◌, [], ◌∷◌, ◌++◌, length, take, drop, set, slice_get, Some, None, refl},
-  Common.{subst, sym, ap, ◌∙◌, arith, Option, List},
-  lemmas.{List.{length_push, length-take-le, length-drop, nil_from_length, take_all, drop_all}, Option.slice_get_past},
+  Common.{◌≡◌, ℕ, suc, ◌+◌, ◌-◌, ◌<◌, ◌≤◌, ◌==◌, [], ◌∷◌, ◌++◌, length, take, drop, set, swap, slice_get, Some},
+  Common.{None, refl, subst, sym, ap, ap₂, ◌∙◌, arith, inl, Option, List, replicate},
+  Math.Nat.mod-eq_of_lt,
+  lemmas.{
+    List.{length_push, length-append, length-take-le, length-drop, length-set, nil_from_length, take_all, take_rest},
+    List.{drop_all, Edits.length-swap},
+    Option.slice_get_past,
+  },
 }
+use Rattle.std.specs.List.{splice}
 use Rattle.arraydeque_ring.{
   specs.{
     declared.ring.Ring.TheInside.Inside,
-    Places.{held_at, IsFilled, AreAllEmpty, Region},
-    Gaps.run_emptied,
-    Steps.{more_puts, more_takes},
+    Places.{held_at, IsFilled, IsFilledRun, AreAllEmpty},
+    Gaps.{IsEmptyRun, run_emptied},
+    Loans.with_run,
     Ring.{RingState, place_of, rotated, values, filled, FilledFrom},
   },
-  proofs.gaps.Gapped.{Gapped-taken, LaidOut-gap_last},
+  proofs.gaps.Gapped.{Gapped-taken, LaidOut-gap_first, LaidOut-gap_last},
   proofs.places.{
-    Rotated.{place_of-lt},
+    Appended.{LaidOut-appended, IsEmptyRun-behind},
+    Handed.{handed, LaidOut-handed},
+    Held.length_filled,
+    Rotated.{MayStartAt, MayStartAt-place_of, place_of-lt, one_place},
     LaidOut.{LaidOut, LaidOut-values, values-LaidOut, FilledFrom-LaidOut, LaidOut-put_back, LaidOut-put_front},
     LaidOut.{LaidOut-take_back, LaidOut-take_front, IsEmpty-place_of, held_at-start, LaidOut-restart, IsFilled-start},
-    LaidOut.{AreAllEmpty-LaidOut, IsFilled-place_of},
+    LaidOut.{AreAllEmpty-LaidOut, IsFilled-place_of, IsFilledRun-rotated, IsFilledRun-LaidOut, same_run, LaidOut-set},
+    LaidOut.LaidOut-swap,
   },
 }
 
@@ -59,93 +69,12 @@ module _ {X : Type 0} where
   bounds r v kept is = let o = opened r kept is in
       (is, o.len, omega (arith, o.laid.within, o.laid.long, o.len), omega (arith, o.laid.long), omega (arith, o.start))
 
-  pub item_held : (r : Inside X) (v : RingState X) (k : ℕ) → Kept r → view r ≡ v → k < v.capacity
-      → held_at r.slots.places (place_of v.start k v.capacity) ≡ slice_get v.items k
-  item_held r v k kept is lt = let o = opened r kept is in rw o.start at (o.laid.at k lt)
-
-  -- the place that `wrap_add` counts is that of the index
-  pub place_at : {r : Inside X} {v : RingState X} {place capacity : ℕ} → Opened r v → (k : ℕ)
-      → capacity ≡ length r.slots.places → place ≡ (r.start + k) % capacity → place ≡ place_of r.start k v.capacity
-  place_at {r = r} o k e is = is ∙ ap (place_of r.start k) (e ∙ o.laid.long)
-
-  -- the same, from where the list starts
-  pub from_start : {r : Inside X} {v : RingState X} {place capacity : ℕ} → Opened r v → (k : ℕ)
-      → capacity ≡ length r.slots.places → place ≡ (r.start + k) % capacity → place ≡ place_of v.start k v.capacity
-  from_start {v = v} o k e is = place_at o k e is ∙ ap (λ t. place_of t k v.capacity) o.start
-
-  -- and the place that is counted from where the list starts is that from the field
-  pub by_field : {r : Inside X} {v : RingState X} {place : ℕ} → Opened r v → (k : ℕ)
-      → place ≡ place_of v.start k v.capacity → place ≡ place_of r.start k v.capacity
-  by_field {v = v} o k is = is ∙ ap (λ t. place_of t k v.capacity) (sym o.start)
-
--- the length by another name
-pub with_len : {X : Type 0} {r : Inside X} {v : RingState X} {n : ℕ} → Opened r v → r.len ≡ n
-    → Opened record r { len = n } v
-with_len o e = record { laid = o.laid; len = o.len ∙ e; start = o.start; steps = o.steps }
-
--- and the start
-pub with_start : {X : Type 0} {r : Inside X} {v : RingState X} {t : ℕ} → Opened r v → r.start ≡ t
-    → Opened record r { start = t } v
-with_start {r = r} {v = v} o e = subst (λ t. Opened record r { start = t } v) e o
-
--- what is put at an end of an open ring, or taken off there, is an item more, or less
-module _ {X : Type 0} {r : Inside X} {v : RingState X} (o : Opened r v) {slots : Region X} {place : ℕ} where
-  pub put_back : (x : X) → length v.items < v.capacity → place ≡ place_of v.start r.len v.capacity
-      → slots.places ≡ set r.slots.places place (Some x) → slots.steps ≡ more_puts 1 r.slots.steps
-      → Opened record r { slots = slots; len = r.len + 1 }
-      record v { items = v.items ++ x ∷ []; steps = more_puts 1 v.steps }
-  put_back x room is puts steps = record {
-    laid = rw (puts, by_field o _ is, ← o.len) (LaidOut-put_back o.laid x room);
-    len = length_push v.items x ∙ ap (λ n. n + 1) o.len;
-    start = o.start;
-    steps = steps ∙ ap (more_puts 1) o.steps;
-  }
-
-  pub put_front : (x : X) → length v.items < v.capacity → place ≡ place_of v.start (v.capacity - 1) v.capacity
-      → slots.places ≡ set r.slots.places place (Some x) → slots.steps ≡ more_puts 1 r.slots.steps
-      → Opened record r { slots = slots; start = place; len = r.len + 1 } record v {
-        items = x ∷ v.items;
-        start = place_of v.start (v.capacity - 1) v.capacity;
-        steps = more_puts 1 v.steps;
-      }
-  put_front x room is puts steps = record {
-    laid = rw (puts, by_field o _ is) (LaidOut-put_front o.laid x room);
-    len = ap suc o.len ∙ omega arith;
-    start = is;
-    steps = steps ∙ ap (more_puts 1) o.steps;
-  }
-
-  pub take_back : 0 < r.len → place ≡ place_of v.start (r.len - 1) v.capacity
-      → slots.places ≡ set r.slots.places place None → slots.steps ≡ more_takes 1 r.slots.steps
-      → Opened record r { slots = slots; len = r.len - 1 }
-      record v { items = take (length v.items - 1) v.items; steps = more_takes 1 v.steps }
-  take_back some is takes steps = record {
-    laid = rw (takes, by_field o _ is, ← o.len) (LaidOut-take_back o.laid _ (omega (arith, o.len)));
-    len = length-take-le _ v.items (omega arith) ∙ ap (λ n. n - 1) o.len;
-    start = o.start;
-    steps = steps ∙ ap (more_takes 1) o.steps;
-  }
-
-  pub take_front : 0 < r.len → place ≡ place_of v.start 1 v.capacity → slots.places ≡ set r.slots.places r.start None
-      → slots.steps ≡ more_takes 1 r.slots.steps
-      → Opened record r { slots = slots; start = place; len = r.len - 1 } record v {
-        items = drop 1 v.items;
-        start = place_of v.start 1 v.capacity;
-        steps = more_takes 1 v.steps;
-      }
-  take_front some is takes steps = record {
-    laid = rw (takes, by_field o _ is) (LaidOut-take_front o.laid (omega (arith, o.len)));
-    len = omega (arith, o.len, length-drop 1 v.items);
-    start = is;
-    steps = steps ∙ ap (more_takes 1) o.steps;
-  }
-
 -- where the places ps hold the items xs, laid out from the place t on, what the invariant and the view say of ps
 abbrev pub Shows : {X : Type 0} → ℕ → ℕ → ℕ → List X → List (Option X) → Type 0
 Shows n t len xs ps =
     (length ps ≡ n) × (t ≤ length ps - 1) × FilledFrom t len (filled ps) × (values (rotated t ps) ≡ xs)
 
-shows : {X : Type 0} {n t : ℕ} {xs : List X} {ps : List (Option X)} → LaidOut n t xs ps → (len : ℕ)
+pub shows : {X : Type 0} {n t : ℕ} {xs : List X} {ps : List (Option X)} → LaidOut n t xs ps → (len : ℕ)
     → length xs ≡ len → Shows n t len xs ps
 shows l len many = (l.long, rw l.long l.in_region, FilledFrom-LaidOut l len many, values-LaidOut l)
 
@@ -173,8 +102,9 @@ module _ {X : Type 0} (r : Inside X) (kept : Kept r) where
   pub at_start : 0 < r.len → held_at places r.start ≡ slice_get items 0
   at_start some = let within = laid.within in held_at-start laid (omega (arith, len))
 
-  pub is_filled : (k place : ℕ) → k < r.len → place ≡ place_of r.start k n → IsFilled places place
-  is_filled k place lt is = rw is (IsFilled-place_of laid k (omega (arith, len)))
+  pub is_filled : (k : ℕ) → k < r.len
+      → (place_of r.start k n ≡ place_of r.start k n) × IsFilled places (place_of r.start k n)
+  is_filled k lt = (refl, IsFilled-place_of laid k (omega (arith, len)))
 
   pub first_filled : 0 < r.len → IsFilled places r.start
   first_filled some = IsFilled-start laid (omega (arith, len))
@@ -182,6 +112,9 @@ module _ {X : Type 0} (r : Inside X) (kept : Kept r) where
   pub past_items : (k : ℕ) → r.len ≤ k → k < n
       → (held_at places (place_of r.start k n) ≡ None) × (place_of r.start k n < n)
   past_items k past lt = let empty = IsEmpty-place_of laid k (omega (arith, len)) lt in (empty.1, empty.0)
+
+  pub next_place : r.start + 1 < n → place_of r.start 1 n ≡ r.start + 1
+  next_place lt = mod-eq_of_lt lt
 
   pub no_items : r.len ≡ 0 → (items ≡ []) × AreAllEmpty places
   no_items none = (nil_from_length items (len ∙ none), AreAllEmpty-LaidOut laid (len ∙ none))
@@ -222,7 +155,33 @@ module _ {X : Type 0} (r : Inside X) (kept : Kept r) where
         (shows (LaidOut-take_front laid (omega (arith, len))) _ (omega (arith, len, length-drop 1 items))),
   )
 
-  -- the items from the index k on are dropped, or all
+  -- one takes the place of another
+  pub item_set : (k : ℕ) (x : X) (ps : List (Option X)) → k < r.len
+      → ps ≡ set places (place_of r.start k n) (Some x)
+      → (ps ≡ set places (place_of r.start k n) (Some x)) × Shows n r.start r.len (set items k x) ps
+  item_set k x ps lt is =
+      (is, rw is (shows (LaidOut-set laid k x (omega (arith, len))) _ (length-set items k x ∙ len)))
+
+  -- two are exchanged
+  pub swapped : (i j : ℕ) (ps : List (Option X)) → i < r.len → j < r.len
+      → ps ≡ swap places (place_of r.start i n) (place_of r.start j n)
+      → (ps ≡ swap places (place_of r.start i n) (place_of r.start j n))
+      × ((place_of r.start i n == place_of r.start j n) ≡ (i == j)) × Shows n r.start r.len (swap items i j) ps
+  swapped i j ps i_in j_in is =
+      let within = laid.within in (
+        is,
+        one_place r.start i j n (omega (arith, laid.in_region)) (omega (arith, len)) (omega (arith, len)),
+        rw is (shows (LaidOut-swap laid i j (omega (arith, len)) (omega (arith, len))) _ (length-swap items i j ∙ len)),
+      )
+
+  -- those of a run of indexes stand in filled places
+  pub run_filled : (i m : ℕ) → i + m ≤ r.len → IsFilledRun (rotated r.start places) i m
+  run_filled i m le = IsFilledRun-rotated laid i m (omega (arith, len))
+
+  pub all_filled : IsFilledRun (rotated r.start places) 0 r.len
+  all_filled = run_filled 0 r.len (omega arith)
+
+  -- the items from the index k on are dropped, the first ones, or all
   pub last_dropped : (ps : List (Option X)) (k m : ℕ) → k + m ≡ r.len
       → rotated r.start ps ≡ run_emptied k m (rotated r.start places)
       → (rotated r.start ps ≡ run_emptied k m (rotated r.start places)) × Shows n r.start k (take k items) ps
@@ -232,6 +191,14 @@ module _ {X : Type 0} (r : Inside X) (kept : Kept r) where
         (Gapped-taken laid k m ps (omega (arith, len)) out))) k (length-take-le k items (omega (arith, len))),
   )
 
+  pub first_dropped : (ps : List (Option X)) (m : ℕ) → m ≤ r.len
+      → rotated r.start ps ≡ run_emptied 0 m (rotated r.start places)
+      → Shows n (place_of r.start m n) (r.len - m) (drop m items) ps
+  first_dropped ps m le out =
+      let on : 0 + m ≡ m = omega arith in
+      shows (rw on at (LaidOut-gap_first m (Gapped-taken laid 0 m ps (omega (arith, len)) out)))
+      _ (omega (arith, len, length-drop m items))
+
   pub all_dropped : (ps : List (Option X)) → rotated r.start ps ≡ run_emptied 0 r.len (rotated r.start places)
       → (rotated r.start ps ≡ run_emptied 0 r.len (rotated r.start places)) × Shows n 0 0 [] ps
   all_dropped ps out = (
@@ -240,8 +207,69 @@ module _ {X : Type 0} (r : Inside X) (kept : Kept r) where
         (omega (arith, len))) at (Gapped-taken laid 0 r.len ps (omega (arith, len)) out))) refl) 0 refl,
   )
 
+  -- or handed over to another region, which was empty
+  pub run_handed : (i m k : ℕ) (qs : List (Option X)) → i + m ≤ r.len → m ≤ k
+      → qs ≡ take m (drop i (rotated r.start places)) ++ drop m (replicate k None)
+      → (qs ≡ take m (drop i (rotated r.start places)) ++ drop m (replicate k None))
+      × Shows k 0 m (take m (drop i items)) qs
+  run_handed i m k qs le room is = (
+    is,
+    rw is (shows (LaidOut-handed laid i m k (omega (arith, len)) room) m
+        (length-take-le m (drop i items) (omega (arith, len, length-drop i items)))),
+  )
+
+  -- the first m items stand in one piece
+  pub piece_filled : (m : ℕ) → m ≤ r.len → r.start + m ≤ n → IsFilledRun places r.start m
+  piece_filled m le fits = IsFilledRun-LaidOut laid 0 r.start m (inl (omega arith)) (omega (arith, len)) fits
+
+  -- they go
+  pub piece_taken : (m : ℕ) → m ≤ r.len → r.start + m ≤ n
+      → Shows n (place_of r.start m n) (r.len - m) (drop m items) (run_emptied r.start m places)
+  piece_taken m le fits =
+      let none : m - m ≡ 0 = omega arith in
+      let on : 0 + m ≡ m = omega arith in
+      let in_region = laid.in_region in
+      let parts = handed r.start 0 m n r.start m places refl (omega arith)
+      (IsFilledRun-rotated laid 0 m (omega (arith, len))) (inl (omega arith)) (omega arith) (omega arith) in
+      shows (rw on at (LaidOut-gap_first m (Gapped-taken laid 0 m _ (omega (arith, len)) (rw none at parts.places))))
+      _ (omega (arith, length-drop m items, len))
+
+  -- the place behind the last item
+  abbrev behind : ℕ
+  behind = place_of r.start r.len n
+
+  module _ (m : ℕ) (fits : behind + m ≤ n) (room : r.len + m ≤ n) where
+    lies : 0 < m → MayStartAt r.start (length items) n behind
+    lies some = let in_region = laid.in_region in
+        rw len (MayStartAt-place_of r.start r.len n (omega arith))
+
+    pub behind_empty : 0 < m → IsEmptyRun places behind m
+    behind_empty some = IsEmptyRun-behind laid behind m (lies some) fits (omega (arith, len))
+
+    -- the first m items of another ring come there
+    pub piece_joined : (o : Inside X) → Kept o → (ps : List (Option X)) → 0 < m → m ≤ o.len
+        → o.start + m ≤ length o.slots.places
+        → ps ≡ splice places behind (behind + m) (take m (drop o.start o.slots.places))
+        → (ps ≡ splice places behind (behind + m) (take m (drop o.start o.slots.places)))
+        × Shows n r.start (r.len + m) (items ++ take m (values (rotated o.start o.slots.places))) ps
+    piece_joined o okept ps some le fits' put =
+        let other = opened o okept refl in
+        let others = values (rotated o.start o.slots.places) in
+        let run = IsFilledRun-LaidOut other.laid 0 o.start m (inl (omega arith)) (omega (arith, other.len)) fits' in
+        let xs = run.1.0 in
+        let taken = length-take-le m others (omega (arith, other.len)) in
+        let many : length xs ≡ m = length_filled o.slots.places o.start m run in
+        let same = same_run other.laid 0 o.start m xs (inl (omega arith)) (omega (arith, other.len)) fits' run.1.1 in
+        let written : ps ≡ with_run behind xs places =
+        put ∙ ap₂ (λ k l. splice places behind (behind + k) l) (sym many) run.1.1 in (
+          put,
+          shows (rw (written, ← same)
+              (LaidOut-appended laid xs behind (lies some) (omega (arith, many)) (omega (arith, len, many)))) _
+              (omega (arith, len, length-append items (take m others), taken)),
+        )
+
 -- for the goals of the ring that have no answer by hand
-pub ruleset ring_facts = (bounds, item_held, slice_get_past, place_of-lt)
+pub ruleset ring_facts = (bounds, slice_get_past, place_of-lt)
 
 -- and for those at one index or one end
 pub ruleset end_facts = (
@@ -250,7 +278,11 @@ pub ruleset end_facts = (
   at_start,
   first_filled,
   past_items,
+  is_filled,
+  item_set,
+  next_place,
   no_items,
+  swapped,
   back_put,
   front_put,
   back_taken,
@@ -259,4 +291,11 @@ pub ruleset end_facts = (
   place_of-lt,
 )
 
-pub ruleset drop_facts = (bounds, last_dropped, all_dropped, take_all)
+-- where items are dropped
+pub ruleset drop_facts = (bounds, all_filled, last_dropped, all_dropped, take_all)
+
+-- and where they are handed over to a new region
+pub ruleset part_facts = (bounds, last_dropped, run_handed, take_rest)
+
+-- or to another ring
+pub ruleset join_facts = (bounds, behind_empty, piece_joined)

@@ -34,7 +34,6 @@ impl<T> Ring<T> {
             slots,
             start: 0,
             len: place,
-            alloc,
         })
     }
 
@@ -67,7 +66,6 @@ impl<T> Ring<T> {
             slots,
             start: 0,
             len,
-            alloc,
         })
     }
 
@@ -130,12 +128,7 @@ impl<T> Ring<T> {
             Ok(v) => v,
             Err(_) => return Err(self),
         };
-        let Ring {
-            slots,
-            start,
-            len,
-            alloc: _,
-        } = self;
+        let Ring { slots, start, len } = self;
         let mut slots = slots;
         let first = len.min(slots.capacity() - start);
         for k in 0..first {

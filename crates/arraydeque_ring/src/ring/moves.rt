@@ -30,7 +30,14 @@ impl<T> Ring<T> {
             index (length self.old.items) self.old.capacity self.old.start self.new.start }
     {
         let capacity = self.slots.capacity();
-        self.start = open_gap(&mut self.slots, self.start, index, self.len - index);
+        let behind = self.len - index;
+        if index < behind {
+            let before = wrap_add(self.start, capacity - 1, capacity);
+            move_gap(&mut self.slots, before, 0, index, 1);
+            self.start = before;
+        } else {
+            move_gap(&mut self.slots, self.start, self.len, index, 1);
+        }
         let place = wrap_add(self.start, index, capacity);
         self.len += 1;
         self.slots.put(place, element);
@@ -38,6 +45,7 @@ impl<T> Ring<T> {
 
     /// Takes out the item at an index. The fewer items on either side of it move: those before it
     /// where they are the fewer, and the start with them, else those behind it.
+    #[tactic(auto, using(crate::proofs::places::Opened::end_facts))]
     pub fn remove(&mut self, index: usize) -> T
         requires { index < length self.old.items }
         ensures value { slice_get self.old.items index ≡ Some result }
@@ -55,32 +63,6 @@ impl<T> Ring<T> {
         self.len -= 1;
         self.start = close_gap(&mut self.slots, self.start, index, 1, self.len - index);
         item
-    }
-}
-
-/// Opens a gap of one place at an index of the list that begins at the place `start` and has
-/// `behind` values from the index on. The values on one side move: those before the index where
-/// they are the fewer, else those from it on. The answer is the place where the list starts then.
-#[inline]
-fn open_gap<T>(slots: &mut Slots<T>, start: usize, index: usize, behind: usize) -> usize
-    requires in_region { start < length slots.old.places }
-    requires room { index + behind < length slots.old.places }
-    requires filled { IsFilledRun (rotated start slots.old.places) 0 (index + behind) }
-    requires rest { let len = index + behind in
-        IsEmptyRun (rotated start slots.old.places) len (length slots.old.places - len) }
-    ensures start { result ≡ start_opened index behind (length slots.old.places) start }
-    ensures places { rotated result slots.new.places ≡
-        gap_moved (index + behind) index 1 (rotated start slots.old.places) }
-    ensures steps { slots.new.steps ≡ more_moves (min index behind) slots.old.steps }
-{
-    let capacity = slots.capacity();
-    if index < behind {
-        let start = wrap_add(start, capacity - 1, capacity);
-        move_gap(slots, start, 0, index, 1);
-        start
-    } else {
-        move_gap(slots, start, index + behind, index, 1);
-        start
     }
 }
 

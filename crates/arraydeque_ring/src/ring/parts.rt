@@ -29,6 +29,7 @@ impl<T> Ring<T> {
     ///     before, from 5 on     d e . . . a b c
     ///     without 1..3, from 7  d e . . . . . a
     ///     without 2..4, from 5  . . . . . a b e
+    #[tactic(auto, using(crate::proofs::places::Opened::part_facts))]
     pub fn drain(&mut self, from: usize, to: usize) -> Result<Ring<T>, AllocError>
         requires in_order { from ≤ to }
         requires in_bounds { to ≤ length self.old.items }
@@ -52,10 +53,10 @@ impl<T> Ring<T> {
     {
         let count = to - from;
         if count == 0 {
-            let nothing = Ring::new(self.alloc, 0)?;
+            let nothing = Ring::new(self.slots.alloc(), 0)?;
             return Ok(nothing);
         }
-        let mut slots = Slots::new(self.alloc, count)?;
+        let mut slots = Slots::new(self.slots.alloc(), count)?;
         take_run(&mut self.slots, self.start, from, count, &mut slots);
         self.len -= count;
         self.start = close_gap(&mut self.slots, self.start, from, count, self.len - from);
@@ -63,13 +64,13 @@ impl<T> Ring<T> {
             slots,
             start: 0,
             len: count,
-            alloc: self.alloc,
         })
     }
 
     /// Takes out the items from the index `at` on, into a ring of the same capacity, whose region
     /// is taken first. Where that is refused nothing has changed; it never is at capacity 0 or for
     /// items of size zero. No kept item moves.
+    #[tactic(auto, using(crate::proofs::places::Opened::part_facts))]
     pub fn split_off(&mut self, at: usize) -> Result<Ring<T>, AllocError>
         requires { at ≤ length self.old.items }
         ensures tail { IfOk result (λ ring. ring ≡ record {
@@ -85,7 +86,7 @@ impl<T> Ring<T> {
         ensures unchanged { OnErr result (self.new ≡ self.old) }
         ensures refused { OnErr result (0 < self.old.capacity * type_size T.row) }
     {
-        let mut slots = Slots::new(self.alloc, self.slots.capacity())?;
+        let mut slots = Slots::new(self.slots.alloc(), self.slots.capacity())?;
         let len = self.len - at;
         take_run(&mut self.slots, self.start, at, len, &mut slots);
         self.len = at;
@@ -93,7 +94,6 @@ impl<T> Ring<T> {
             slots,
             start: 0,
             len,
-            alloc: self.alloc,
         })
     }
 
@@ -125,6 +125,7 @@ impl<T> Ring<T> {
 
     /// Takes the first `run` items of another ring behind the last one, by one copy. They go round
     /// the end in neither ring.
+    #[tactic(auto, using(crate::proofs::places::Opened::join_facts))]
     fn append_run(&mut self, other: &mut Ring<T>, run: usize)
         requires some { 0 < run }
         requires fits_here { place_of self.old.start (length self.old.items) self.old.capacity + run

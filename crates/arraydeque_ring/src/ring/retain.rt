@@ -14,6 +14,7 @@ use crate::wrap::wrap_add;
 
 impl<T> Ring<T> {
     /// Drops every item, front to back. The list starts at the first place again.
+    #[tactic(auto, using(crate::proofs::places::Opened::drop_facts))]
     pub fn clear(&mut self)
     where
         T: Drop,
@@ -30,6 +31,7 @@ impl<T> Ring<T> {
 
     /// Keeps the first `len` items, or all if there are no more. The others are dropped, front to
     /// back.
+    #[tactic(auto, using(crate::proofs::places::Opened::drop_facts))]
     pub fn truncate(&mut self, len: usize)
     where
         T: Drop,
@@ -47,6 +49,7 @@ impl<T> Ring<T> {
 
     /// Keeps the last `len` items, or all if there are no more. The others are dropped, front to
     /// back, and the start goes up by as many places.
+    #[tactic(auto, using(crate::proofs::places::Opened::drop_facts))]
     pub fn truncate_front(&mut self, len: usize)
     where
         T: Drop,

@@ -8,6 +8,7 @@ use crate::wrap::wrap_add_branchless;
 
 impl<T> Ring<T> {
     /// Exchanges two items. Nothing happens where the two are one.
+    #[tactic(auto, using(crate::proofs::places::Opened::end_facts))]
     #[inline]
     pub fn swap(&mut self, i: usize, j: usize)
         requires i_in_bounds { i < length self.old.items }

@@ -30,7 +30,6 @@ after : (g : Over) (c : After-slice_mut g) (w : List g.row.T.Denot) → Opened r
   };
   start = c.self.inside.start;
   len = c.self.inside.len;
-  alloc = c.self.inside.alloc;
 }
     record c.args.self.now { items = as_many c.args.self.now.items w; steps = more_lends 1 c.args.self.now.steps }
 after g c w =

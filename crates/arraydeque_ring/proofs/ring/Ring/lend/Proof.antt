@@ -69,7 +69,7 @@ lend_spec 𝓤 𝓛 𝓜 𝓡 wired X L =
     (slots_out E 𝓛 rb ro x) $ split3 ! $
     -- [the slots; the other fields; the way back; the open borrow, in three; half its token; the others]
     move ! (1 ∷ []) $ fsplit ! $ move ! (1 ∷ []) $ fsplit ! $ move ! (1 ∷ []) $
-    -- [the allocator; the length; the start; the slots; ..]
+    -- [nothing; the length; the start; the slots; ..]
     move ! (2 ∷ []) $ use1 𝓛 (‵ (fat _ _ _ _ _)) (uint_out 𝓛 full_share w64 x.start rb (ro + 16)) $
     well_typed ! (λ start_ok. let fs : x.start < 2 ^ 64 = start_ok.1.fits in
     sets ! (of_opd ! (load ! (through ! refl (fld ! refl (stop !))) (look ! 0 refl))) refl (tt, record { fits = fs }) $
@@ -78,7 +78,7 @@ lend_spec 𝓤 𝓛 𝓜 𝓡 wired X L =
     well_typed ! (λ len_ok. let fl : x.len < 2 ^ 64 = len_ok.1.fits in
     sets ! (of_opd ! (load ! (through ! refl (fld ! refl (stop !))) (look ! 0 refl))) refl (tt, record { fits = fl }) $
     use1 𝓛 (‵ (part_at usize full_share x.len rb (ro + 24))) (uint_in 𝓛 full_share w64 x.len rb (ro + 24)) $
-    -- [the length; the start; the allocator; the slots; ..]
+    -- [the length; the start; nothing; the slots; ..]
     move ! (0 ∷ 2 ∷ []) $ fjoin ! $ move ! (1 ∷ 0 ∷ []) $ fjoin ! $ move ! (1 ∷ []) $
     let room : ℕ = length x.slots.places - x.start in let first : ℕ = min x.len room in let rest : ℕ = x.len - first in
     let cut : Cut x first rest = cut_at_end x kept in let open_ring = opened x kept seen in

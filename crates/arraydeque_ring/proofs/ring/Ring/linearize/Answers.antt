@@ -17,7 +17,6 @@ after : (g : Over) (c : After-replace-nothing g) → Opened record {
   slots = c.replace-nothing.new.dest;
   start = 0;
   len = c.self.inside.len;
-  alloc = c.self.inside.alloc;
 }
     record c.args.self.now { start = 0; steps = c.replace-nothing.new.dest.steps }
 after g c =

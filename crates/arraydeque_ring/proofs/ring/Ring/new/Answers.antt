@@ -6,7 +6,7 @@ use Rattle.arraydeque_ring.{
 use Rattle.arraydeque_ring.proofs.ring.Ring.new.Goals as goal
 
 made : (g : Over) (c : goal.In_ok-slots g) → Opened
-    record { slots = c.in_ok-slots.slots; start = 0; len = 0; alloc = c.args.alloc } (empty_ring c.args.capacity)
+    record { slots = c.in_ok-slots.slots; start = 0; len = 0 } (empty_ring c.args.capacity)
 made g c = rw c.in_ok-slots.ensures.ok (record {
   laid = LaidOut-nothing c.args.capacity;
   len = refl;

@@ -3,5 +3,5 @@ use Rattle.arraydeque_ring.{specs.Ring.empty_ring, proofs.{fills.InRows.filled_b
 use Rattle.arraydeque_ring.proofs.ring.Ring.of_copies.Given as goal
 
 abbrev pub invariant-loop-item : goal.invariant-loop-item
-invariant-loop-item g l = Opened record { slots = l.slots; start = 0; len = l.place; alloc = l.alloc }
+invariant-loop-item g l = Opened record { slots = l.slots; start = 0; len = l.place }
     (filled_back (take l.item-index l.items) (empty_ring l.capacity))

@@ -58,7 +58,6 @@ made : (g : Over) (c : In_default g) → let xs = take c.args.capacity c.args.v.
       slots = c.loop-item.slots;
       start = 0;
       len = c.len-len.result;
-      alloc = c.args.alloc;
     } record { items = xs; capacity = c.args.capacity; start = 0; steps = more_puts (length xs) no_steps }
 made g c =
     let was = c.loop-item.invariant in let none = c.in_default.ensures.cases.0 in

@@ -97,7 +97,6 @@ after : (g : Over) (c : goal.After-drop-f-2 g) → let answers = c.loop-index.in
       slots = c.loop-index.slots;
       start = c.self.inside.start;
       len = c.loop-index.kept;
-      alloc = c.self.inside.alloc;
     }
     record c.args.self.now {
       items = items_where_true answers c.args.self.now.items;

@@ -14,7 +14,7 @@ in_one_piece : (g : Over) (c : After-capacity g) → c.args.len - c.args.dst ≤
     → RestInOnePiece c.args.dst (c.args.next - c.args.dst) (length c.args.slots.places - c.args.next) c.args.len
     c.args.slots.places
 in_one_piece g c fits = rest_in_one_piece (underway c.args.dst _ _ c.args.len c.args.slots.places
-    (omega arith) c.requires.filled) c.requires.some_left (omega arith)
+    (omega arith) c.requires.filled) c.requires.some_left (omega arith) (omega arith)
 
 -- or there is room before them
 room : (g : Over) (c : After-capacity g) → length c.args.slots.places - c.args.next < c.args.len - c.args.dst
@@ -29,28 +29,11 @@ room g c wraps =
     ]
 
 pub move_gap-requires : goal.move_gap-requires
-move_gap-requires g c =
-    let may = (in_one_piece g (goal.at.move_gap-requires g c).After-capacity (omega arith)).may in
-    rw (append-nil c.args.slots.places) (record {
-      some = omega arith;
-      in_region = omega arith;
-      within = omega arith;
-      empty = may.empty;
-      filled_before = may.before;
-      filled_behind = may.behind;
-    })
+move_gap-requires g c = (in_one_piece g (goal.at.move_gap-requires g c).After-capacity (omega arith)).may
 
 pub move_gap-requires-2 : goal.move_gap-requires-2
 move_gap-requires-2 g c =
-    let may = (room g (goal.at.move_gap-requires-2 g c).After-capacity (omega arith)).may in
-    rw (c.capacity.ensures, append-nil c.args.slots.places) (record {
-      some = omega arith;
-      in_region = omega arith;
-      within = omega arith;
-      empty = may.empty;
-      filled_before = may.before;
-      filled_behind = may.behind;
-    })
+    rw c.capacity.ensures (room g (goal.at.move_gap-requires-2 g c).After-capacity (omega arith)).may
 
 pub move_run-requires : goal.move_run-requires
 move_run-requires g c =

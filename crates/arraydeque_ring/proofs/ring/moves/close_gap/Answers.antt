@@ -1,32 +1,15 @@
-use Rattle.std.proofs.Common.{◌≡◌, ◌+◌, ◌-◌, max, min, ap, ◌∙◌, arith}
 use Rattle.arraydeque_ring.proofs.gaps.GapMoves.{closes_up, closes_down, closed_up}
 use Rattle.arraydeque_ring.proofs.ring.moves.close_gap.Goals as goal
 
 pub move_gap-requires : goal.move_gap-requires
 move_gap-requires g c =
     let r = c.requires in
-    let may = closes_up _ _ _ _ _ r.in_region r.within r.filled_before r.empty r.filled_behind r.rest in
-    record {
-      some = r.some;
-      in_region = r.in_region;
-      within = omega arith;
-      empty = may.empty;
-      filled_before = may.before;
-      filled_behind = may.behind;
-    }
+    closes_up _ _ _ _ _ r.in_region r.within r.filled_before r.empty r.filled_behind r.rest r.some
 
 pub move_gap-requires-else-before-behind : goal.move_gap-requires-else-before-behind
 move_gap-requires-else-before-behind g c =
     let r = c.requires in
-    let may = closes_down _ _ _ _ _ r.in_region r.within r.filled_before r.empty r.filled_behind r.rest in
-    record {
-      some = r.some;
-      in_region = r.in_region;
-      within = omega arith;
-      empty = may.empty;
-      filled_before = may.before;
-      filled_behind = may.behind;
-    }
+    closes_down _ _ _ _ _ r.in_region r.within r.filled_before r.empty r.filled_behind r.rest r.some
 
 pub returns-then-before-behind-clause-places : goal.returns-then-before-behind-clause-places
 returns-then-before-behind-clause-places g c =
