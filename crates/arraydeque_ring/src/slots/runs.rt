@@ -2,7 +2,7 @@
 //!
 //! Between two regions a run goes by one copy. Within a region it is cut into parts that don't pass
 //! the region's end, and each part is copied in blocks by `move_block`, in an order that overwrites
-//! no value that has still to move.
+//! no value that has still to move. Meanwhile the region is a local: its pointer is known to stay.
 ghost use Rattle.std.specs.Prelude.{◌≡◌, ◌+◌, ◌-◌, ◌<◌, ◌≤◌, length, take, drop, if◌then◌else◌, ◌==◌};
 ghost use Rattle.std.specs.List.{splice};
 ghost use Rattle.arraydeque_ring.specs.Swapped.{runs_swapped};
@@ -81,11 +81,19 @@ impl<T> Slots<T> {
             self.slide_down(dst, len);
             return;
         }
-        *self = self.moved_out().moved(dst, src, len);
+        let mut slots = self.moved_out();
+        if len <= (capacity - dst).min(capacity - src) {
+            slots.copy(dst, src, len);
+        } else {
+            slots = slots.moved_in_parts(dst, src, len);
+        }
+        *self = slots;
         self.count(StepKind::Move, len);
     }
 
     /// Moves the values in the `len` places from `src` on up by one place, round the region's end.
+    ///
+    /// They move one after the other, of which the compiler makes one `memmove`.
     pub(crate) fn slide_up(&mut self, src: usize, len: usize)
         requires in_region { src < length self.old.places }
         requires room { len < length self.old.places }
@@ -96,7 +104,13 @@ impl<T> Slots<T> {
             self.new.places ≡ run_moved (place_of src 1 n) src len self.old.places }
         ensures steps { self.new.steps ≡ more_moves len self.old.steps }
     {
-        *self = self.moved_out().slid_up(src, len);
+        let mut slots = self.moved_out();
+        if len < slots.capacity() - src {
+            slots.move_last::<1>(src + 1, src, len);
+        } else {
+            slots = slots.slide_up_round(src, len);
+        }
+        *self = slots;
         self.count(StepKind::Move, len);
     }
 
@@ -112,63 +126,19 @@ impl<T> Slots<T> {
             self.new.places ≡ run_moved dst (place_of dst 1 n) len self.old.places }
         ensures steps { self.new.steps ≡ more_moves len self.old.steps }
     {
-        *self = self.moved_out().slid_down(dst, len);
+        let mut slots = self.moved_out();
+        if len < slots.capacity() - dst {
+            slots.move_first::<1>(dst, dst + 1, len, 0);
+        } else {
+            slots = slots.slide_down_round(dst, len);
+        }
+        *self = slots;
         self.count(StepKind::Move, len);
     }
 
-    /// Moves a run up by one place: one value after the other, of which the compiler makes one
-    /// `memmove`. Here, as in the next two, the region is a local, so that its pointer is known to
-    /// stay.
-    fn slid_up(self, src: usize, len: usize) -> Slots<T>
-        requires in_region { src < length self.places }
-        requires room { len < length self.places }
-        requires filled { IsFilledRound src len self.places }
-        ensures { result ≡ record self {
-          places = run_moved (place_of src 1 (length self.places)) src len self.places;
-        } }
-    {
-        if len < self.capacity() - src {
-            let mut slots = self;
-            slots.move_last::<1>(src + 1, src, len);
-            return slots;
-        }
-        self.wrapped_up(src, len)
-    }
-
-    /// Moves a run down by one place.
-    fn slid_down(self, dst: usize, len: usize) -> Slots<T>
-        requires in_region { dst < length self.places }
-        requires room { len < length self.places }
-        requires filled { IsFilledRound (place_of dst 1 (length self.places)) len self.places }
-        ensures { result ≡ record self {
-          places = run_moved dst (place_of dst 1 (length self.places)) len self.places;
-        } }
-    {
-        if len < self.capacity() - dst {
-            let mut slots = self;
-            slots.move_first::<1>(dst, dst + 1, len, 0);
-            return slots;
-        }
-        self.wrapped_down(dst, len)
-    }
-
-    /// Moves a run by more than one place.
-    fn moved(self, dst: usize, src: usize, len: usize) -> Slots<T>
-        requires { CanMove dst src len self.places }
-        ensures { result ≡ record self { places = run_moved dst src len self.places } }
-    {
-        let capacity = self.capacity();
-        if len <= (capacity - dst).min(capacity - src) {
-            let mut slots = self;
-            slots.copy(dst, src, len);
-            return slots;
-        }
-        self.moved_in_parts(dst, src, len)
-    }
-
-    /// Moves a run that passes the end up by one place: what lies past the end, the value that
-    /// crosses it, and what lies before.
-    fn wrapped_up(self, src: usize, len: usize) -> Slots<T>
+    /// Moves a run up by one place, round the end: what lies past the end, the value that crosses
+    /// it, and what lies before.
+    fn slide_up_round(self, src: usize, len: usize) -> Slots<T>
         requires in_region { src < length self.places }
         requires wraps { length self.places ≤ src + len }
         requires room { len < length self.places }
@@ -186,9 +156,9 @@ impl<T> Slots<T> {
         slots
     }
 
-    /// Moves a run that passes the end down by one place: what lies before the end, the value that
+    /// Moves a run down by one place, round the end: what lies before the end, the value that
     /// crosses it, and what lies past it.
-    fn wrapped_down(self, dst: usize, len: usize) -> Slots<T>
+    fn slide_down_round(self, dst: usize, len: usize) -> Slots<T>
         requires in_region { dst < length self.places }
         requires wraps { length self.places ≤ dst + len }
         requires room { len < length self.places }

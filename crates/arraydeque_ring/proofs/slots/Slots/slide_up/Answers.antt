@@ -1,4 +1,24 @@
+use Rattle.std.proofs.Common.{refl, arith}
+use Rattle.arraydeque_ring.proofs.{
+  moved.Slides.{flat_up},
+  slots.Slots.slide_up.Goals.{then-len-capacity, else-len-capacity},
+}
 use Rattle.arraydeque_ring.proofs.slots.Slots.slide_up.Goals as goal
 
-pub slid_up-requires-clause-filled : goal.slid_up-requires-clause-filled
-slid_up-requires-clause-filled g c = rw c.moved_out.ensures.region c.requires.filled
+pub move_last-requires-clause-can : goal.move_last-requires-clause-can
+move_last-requires-clause-can g c = record {
+  target = omega arith;
+  source = omega arith;
+  filled = rw c.moved_out-slots.ensures.region c.requires.filled;
+}
+
+pub slide_up_round-slots-requires-clause-filled : goal.slide_up_round-slots-requires-clause-filled
+slide_up_round-slots-requires-clause-filled g c = rw c.moved_out-slots.ensures.region c.requires.filled
+
+pub returns-clause-places : goal.returns-clause-places
+returns-clause-places g c =
+    rw (c.count.ensures, ← c.moved_out-slots.ensures.region) (elim c.if-len-capacity.branch [
+      | then-len-capacity w ↦ rw (w.slots-is, w.move_last.ensures.all refl)
+          (flat_up c.args.src c.args.len c.moved_out-slots.result.places (omega (arith, w.if-len-capacity.true)))
+      | else-len-capacity w ↦ rw (w.slots-is, w.slide_up_round-slots.ensures) refl
+    ])

@@ -6,8 +6,15 @@ pub returns-then-dst-src-clause-places : goal.returns-then-dst-src-clause-places
 returns-then-dst-src-clause-places g c =
     rw (← c.if-dst-src.true) (sym (moved_nowhere c.args.dst c.args.len c.args.self.now.places c.requires.dst_in_region))
 
-pub moved-requires : goal.moved-requires
-moved-requires g c = let asked = c.requires in rw c.moved_out.ensures.region (record {
+pub copy-requires : goal.copy-requires
+copy-requires g c = rw c.moved_out-slots.ensures.region (record {
+  target = omega arith;
+  source = omega arith;
+  filled = c.requires.filled;
+})
+
+pub moved_in_parts-slots-requires : goal.moved_in_parts-slots-requires
+moved_in_parts-slots-requires g c = let asked = c.requires in rw c.moved_out-slots.ensures.region (record {
   dst_in_region = asked.dst_in_region;
   src_in_region = asked.src_in_region;
   apart = asked.apart;

@@ -3,10 +3,10 @@ use Rattle.arraydeque_ring.{
   specs.{Ring.place_of, Moved.{run_moved}},
   proofs.{
     moved.{InBlocks.{whole_run, whole_can}, Parts.Three, Slides.slides_up},
-    slots.Slots.wrapped_up.{Given.Over, Goals.{After-capacity-capacity}},
+    slots.Slots.slide_up_round.{Given.Over, Goals.{After-capacity-capacity}},
   },
 }
-use Rattle.arraydeque_ring.proofs.slots.Slots.wrapped_up.Goals as goal
+use Rattle.arraydeque_ring.proofs.slots.Slots.slide_up_round.Goals as goal
 
 up : (g : Over) (c : After-capacity-capacity g) → let n = c.capacity-capacity.result in let t = c.args.src in
     Three 1 0 (c.args.len - (n - t)) 0 (n - 1) 1 (t + 1) t (n - t - 1) c.args.self.places

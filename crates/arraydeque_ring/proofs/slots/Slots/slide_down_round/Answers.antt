@@ -3,10 +3,10 @@ use Rattle.arraydeque_ring.{
   specs.{Ring.place_of, Moved.{run_moved}},
   proofs.{
     moved.{InBlocks.{whole_run, whole_can}, Parts.Three, Slides.slides_down},
-    slots.Slots.wrapped_down.{Given.Over, Goals.{After-capacity-last}},
+    slots.Slots.slide_down_round.{Given.Over, Goals.{After-capacity-last}},
   },
 }
-use Rattle.arraydeque_ring.proofs.slots.Slots.wrapped_down.Goals as goal
+use Rattle.arraydeque_ring.proofs.slots.Slots.slide_down_round.Goals as goal
 
 down : (g : Over) (c : After-capacity-last g) → let n = c.capacity-last.result in let t = c.args.dst in
     Three t (t + 1) (n - 1 - t) (n - 1) 0 1 0 1 (c.args.len - (n - 1 - t) - 1) c.args.self.places
