@@ -50,7 +50,7 @@ module _ {X : Type 0} where
   look f i j len x =
       if nat_lt x i then other f j len x else (if nat_lt x (i + len) then f (j + (x - i)) else other f j len x)
 
-  flat_at : (i j len : ℕ) (ps : List (Option X)) (x : ℕ) → i + len ≤ length ps → j + len ≤ length ps → x < length ps
+  pub flat_at : (i j len : ℕ) (ps : List (Option X)) (x : ℕ) → i + len ≤ length ps → j + len ≤ length ps → x < length ps
       → get_or (run_moved i j len ps) x None ≡ look (λ y. get_or ps y None) i j len x
   flat_at i j len ps x a b lt =
       let n = length ps in

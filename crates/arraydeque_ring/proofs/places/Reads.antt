@@ -2,12 +2,12 @@
 use Rattle.std.{
   proofs.{
     Common.{◌≡◌, ℕ, ◌+◌, ◌-◌, ◌≤◌, List, length, set, get_or, nat_lt, if◌then◌else◌, Option, None, sym, ap, ◌∙◌, arith},
-    lemmas.{Bool.Decides.nat_tests, Grind.common_steps, List.{places, length-set, set_comm, Edits.swap_is}},
+    lemmas.{Bool.Decides.nat_tests, Grind.common_steps, List.{places, length-set, Edits.swap_is}},
   },
   specs.Prelude.swap,
 }
 use Rattle.arraydeque_ring.{
-  specs.{Places.{held_at, IsFilled, IsEmpty}, Gaps.run_rotated, Swapped.runs_swapped},
+  specs.{Places.{held_at, IsFilled}, Gaps.run_rotated, Swapped.runs_swapped},
   proofs.{moved.Flat.same_places, places.Emptied.{get_or-written}},
 }
 
@@ -78,9 +78,6 @@ module _ {X : Type 0} (a b k : ℕ) (ps : List (Option X)) (before : a + (k + 1)
   pub next_second : IsFilled ps (b + k) → IsFilled so_far (b + k)
   next_second filled = (filled.0, second_stays ∙ filled.1)
 
-  pub next_empty : held_at ps (a + k) ≡ None → IsEmpty so_far (a + k)
-  next_empty none = (omega (arith, long), first_stays ∙ none)
-
   pub runs_swapped_more : swap so_far (a + k) (b + k) ≡ runs_swapped a b (k + 1) ps
   runs_swapped_more =
       let ones = set so_far (a + k) (held_at so_far (b + k)) in
@@ -95,11 +92,3 @@ module _ {X : Type 0} (a b k : ℕ) (ps : List (Option X)) (before : a + (k + 1)
         get_or-runs_swapped a b k ps (omega arith) (omega arith) x,
       ) (grind (arith, nat_tests))
       ∙ sym (get_or-runs_swapped a b (k + 1) ps before within x))
-
-  -- to move a value to an empty place is to exchange it with nothing
-  pub moved_more : held_at ps (a + k) ≡ None
-      → set (set so_far (b + k) None) (a + k) (held_at so_far (b + k)) ≡ runs_swapped a b (k + 1) ps
-  moved_more none =
-      set_comm so_far (b + k) (a + k) None (held_at so_far (b + k)) (λ same. omega arith)
-      ∙ ap (λ q. set (set so_far (a + k) (held_at so_far (b + k))) (b + k) q) (sym (first_stays ∙ none))
-      ∙ swap_is so_far (a + k) (b + k) None (omega (arith, long)) (omega (arith, long)) ∙ runs_swapped_more

@@ -1,8 +1,6 @@
 //! Laying the list in one piece, in place.
 ghost use Rattle.std.specs.Prelude.{◌≡◌, ◌+◌, ◌-◌, ◌<◌, ◌≤◌, ◌⊎◌, ◌==◌, length, if◌then◌else◌};
-ghost use Rattle.arraydeque_ring.specs.Swapped.{runs_swapped};
-ghost use Rattle.arraydeque_ring.specs.Gaps.{IsEmptyRun, run_rotated};
-ghost use Rattle.arraydeque_ring.specs.Places.{IsFilledRun};
+ghost use Rattle.arraydeque_ring.specs.Gaps.{run_rotated};
 ghost use Rattle.arraydeque_ring.specs.Ring.{IsInOnePiece, rotated, filled, FilledFrom};
 ghost use Rattle.arraydeque_ring.specs.Steps.{more_moves, Rearranges};
 
@@ -56,7 +54,7 @@ fn turn<T>(slots: Slots<T>, start: usize, len: usize) -> Slots<T>
         let run = first.min(next - dst);
         let wrapped = (len - dst - first).min(run);
         slots = slots.exchange_runs(dst, next, wrapped);
-        slots = move_run(slots, dst + wrapped, next + wrapped, run - wrapped);
+        slots = slots.move_down(dst + wrapped, next + wrapped, run - wrapped);
         dst += run;
         if run < first {
             next += run;
@@ -91,23 +89,5 @@ fn place_rest<T>(slots: Slots<T>, dst: usize, next: usize, len: usize) -> Slots<
         return slots;
     }
     move_gap(&mut slots, 0, len - first, dst, first);
-    move_run(slots, dst, next, first)
-}
-
-/// Moves the values in the `len` places from `src` on to the empty places from `dst` on, which come
-/// before: the first to the first, and so on.
-fn move_run<T>(slots: Slots<T>, dst: usize, src: usize, len: usize) -> Slots<T>
-    requires apart { dst + len ≤ src }
-    requires empty { IsEmptyRun slots.places dst len }
-    requires filled { IsFilledRun slots.places src len }
-    ensures places { result.places ≡ runs_swapped dst src len slots.places }
-    ensures steps { result.steps ≡ more_moves len slots.steps }
-{
-    // That a sum of places fits a word is what `capacity` promises.
-    let _capacity = slots.capacity();
-    let mut slots = slots;
-    for k in 0..len {
-        slots.shift(dst + k, src + k);
-    }
-    slots
+    slots.move_down(dst, next, first)
 }

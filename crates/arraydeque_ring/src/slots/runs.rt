@@ -57,6 +57,21 @@ impl<T> Slots<T> {
         slots
     }
 
+    /// Moves the values in the `len` places from `src` on to the empty places from `dst` on, which
+    /// come before: the first to the first, and so on.
+    pub(crate) fn move_down(self, dst: usize, src: usize, len: usize) -> Slots<T>
+        requires apart { dst + len ≤ src }
+        requires empty { IsEmptyRun self.places dst len }
+        requires filled { IsFilledRun self.places src len }
+        ensures places { result.places ≡ runs_swapped dst src len self.places }
+        ensures steps { result.steps ≡ more_moves len self.steps }
+    {
+        let mut slots = self;
+        slots.move_first::<1>(dst, src, len, 0);
+        slots.count(StepKind::Move, len);
+        slots
+    }
+
     /// Moves the values in the `len` places from `src` on to those from `dst` on, all at once.
     /// Either run goes on at the first place after the last. The two may share places, as long as
     /// one doesn't meet the other at both its ends.

@@ -35,9 +35,9 @@ pub move_gap-requires-2 : goal.move_gap-requires-2
 move_gap-requires-2 g c =
     rw c.capacity.ensures (room g (goal.at.move_gap-requires-2 g c).After-capacity (omega arith)).may
 
-pub move_run-requires : goal.move_run-requires
-move_run-requires g c =
-    let moved = (room g (goal.at.move_run-requires g c).After-capacity (omega arith)).moved _ (sym (append-nil _)
+pub move_down-requires : goal.move_down-requires
+move_down-requires g c =
+    let moved = (room g (goal.at.move_down-requires g c).After-capacity (omega arith)).moved _ (sym (append-nil _)
     ∙ (rw (c.capacity.ensures, append-nil c.args.slots.places) at c.move_gap-2.ensures.places)) in
     rw c.capacity.ensures (record { apart = omega arith; empty = moved.0; filled = moved.1 })
 
@@ -48,6 +48,6 @@ returns-then-left-first-clause-places g c =
 
 pub returns-clause-places : goal.returns-clause-places
 returns-clause-places g c =
-    rw (c.move_run.ensures.places, c.capacity.ensures) ((room g (goal.at.returns-clause-places g c).After-capacity
+    rw (c.move_down.ensures.places, c.capacity.ensures) ((room g (goal.at.returns-clause-places g c).After-capacity
     (omega arith)).moved _ (sym (append-nil _)
     ∙ (rw (c.capacity.ensures, append-nil c.args.slots.places) at c.move_gap-2.ensures.places))).2

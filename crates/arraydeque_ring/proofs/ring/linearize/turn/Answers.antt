@@ -8,7 +8,7 @@ use Rattle.arraydeque_ring.{
   specs.{Swapped.runs_swapped, Steps.Rearranges},
   proofs.{
     linearize.Turning.{Pass, Turning-pass, Turning-passed, Turning-fits, still_fills},
-    ring.linearize.turn.{Given.Over, Goals.{After-min-wrapped, After-move_run-slots}},
+    ring.linearize.turn.{Given.Over, Goals.{After-min-wrapped, After-move_down-slots}},
   },
 }
 use Rattle.arraydeque_ring.proofs.ring.linearize.turn.Goals as goal
@@ -23,9 +23,9 @@ exchange_runs-slots-requires g c =
     let may = pass g (goal.at.exchange_runs-slots-requires g c).After-min-wrapped in
     record { apart = omega arith; a_filled = may.a_filled; b_filled = may.b_filled }
 
-pub move_run-slots-requires : goal.move_run-slots-requires
-move_run-slots-requires g c =
-    let may = pass g (goal.at.move_run-slots-requires g c).After-min-wrapped in
+pub move_down-slots-requires : goal.move_down-slots-requires
+move_down-slots-requires g c =
+    let may = pass g (goal.at.move_down-slots-requires g c).After-min-wrapped in
     rw c.exchange_runs-slots.ensures.places (record { apart = omega arith; empty = may.empty; filled = may.filled })
 
 pub loop-next-smaller-then-run-first : goal.loop-next-smaller-then-run-first
@@ -33,25 +33,25 @@ loop-next-smaller-then-run-first g c = let fits = Turning-fits c.requires.filled
     omega arith
 
 -- a pass makes as many steps as values come to their places
-steps : (g : Over) (c : After-move_run-slots g)
-    → Rearranges (c.loop-next.dst + c.min-run.result) c.args.slots.steps c.move_run-slots.result.steps
+steps : (g : Over) (c : After-move_down-slots g)
+    → Rearranges (c.loop-next.dst + c.min-run.result) c.args.slots.steps c.move_down-slots.result.steps
 steps g c =
     let so_far = c.loop-next.invariant.steps in (
       so_far.0 + (c.min-run.result - c.min-wrapped.result),
       so_far.1 + c.min-wrapped.result,
       omega arith,
-      rw (c.move_run-slots.ensures.steps, c.exchange_runs-slots.ensures.steps, so_far.3) (grind arith),
+      rw (c.move_down-slots.ensures.steps, c.exchange_runs-slots.ensures.steps, so_far.3) (grind arith),
     )
 
-after : (g : Over) (c : After-move_run-slots g) → c.move_run-slots.result.places
+after : (g : Over) (c : After-move_down-slots g) → c.move_down-slots.result.places
     ≡ runs_swapped c.loop-next.dst c.loop-next.next c.min-run.result c.loop-next.slots.places
-after g c = rw (c.move_run-slots.ensures.places, c.exchange_runs-slots.ensures.places)
+after g c = rw (c.move_down-slots.ensures.places, c.exchange_runs-slots.ensures.places)
     (Turning-pass c.requires.filled c.loop-next.invariant.walk c.min-run.result c.min-wrapped.result
     c.if-capacity-next.true c.min-run.ensures c.min-wrapped.ensures).all
 
 pub loop-next-preserved-then-run-first : goal.loop-next-preserved-then-run-first
 loop-next-preserved-then-run-first g c =
-    let moved = (goal.at.loop-next-preserved-then-run-first g c).After-move_run-slots in
+    let moved = (goal.at.loop-next-preserved-then-run-first g c).After-move_down-slots in
     record {
       walk = rw (after g moved) (Turning-passed c.requires.filled c.loop-next.invariant.walk c.min-run.result
           c.min-wrapped.result c.if-capacity-next.true c.min-run.ensures _ (inr (c.if-run-first.true, refl)));
@@ -60,7 +60,7 @@ loop-next-preserved-then-run-first g c =
 
 pub loop-next-preserved : goal.loop-next-preserved
 loop-next-preserved g c =
-    let moved = (goal.at.loop-next-preserved g c).After-move_run-slots in
+    let moved = (goal.at.loop-next-preserved g c).After-move_down-slots in
     record {
       walk = rw (after g moved) (Turning-passed c.requires.filled c.loop-next.invariant.walk c.min-run.result
           c.min-wrapped.result c.if-capacity-next.true c.min-run.ensures _ (inl (c.if-run-first.false, refl)));
