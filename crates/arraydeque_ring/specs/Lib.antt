@@ -1,6 +1,7 @@
 pub mod Changed
 pub mod Cloned
 pub mod Counted
+pub mod Exchanged
 pub mod Fills
 pub mod Gaps
 pub mod Lends
@@ -13,4 +14,3 @@ pub mod Ring
 pub mod RingLends
 pub mod Sides
 pub mod Steps
-pub mod Swapped

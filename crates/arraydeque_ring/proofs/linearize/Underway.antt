@@ -9,7 +9,7 @@ use Rattle.arraydeque_ring.{
     Gaps.{IsEmptyRun, gap_moved, run_rotated},
     Places.{held_at, IsFilled, IsFilledRun},
     Ring.{rotated, values, filled, FilledFrom},
-    Swapped.runs_swapped,
+    Exchanged.runs_exchanged,
   },
   proofs.{
     gaps.{
@@ -22,8 +22,8 @@ use Rattle.arraydeque_ring.{
       Holds.Holds-first,
       Items.slice_get_some,
       LaidOut.{holds, LaidOut-values},
-      Reads.{rotated_from, length-run_rotated, get_or-run_rotated, swapped_from, length-runs_swapped},
-      Reads.{get_or-runs_swapped},
+      Reads.{rotated_from, length-run_rotated, get_or-run_rotated, exchanged_from, length-runs_exchanged},
+      Reads.{get_or-runs_exchanged},
     },
   },
 }
@@ -72,14 +72,14 @@ module _ {X : Type 0} {dst gap behind len : ℕ} {ps : List (Option X)} (next : 
   none_left none = reads ps refl (λ x lt. ap (held_at ps) (grind (arith, nat_tests)))
 
 -- the values that are left stand behind the gap, in one piece, and can be moved before it
-pub record RestInOnePiece {X : Type 0} (dst gap behind len : ℕ) (ps : List (Option X)) : Type 0 where
+pub record LastInOnePiece {X : Type 0} (dst gap behind len : ℕ) (ps : List (Option X)) : Type 0 where
   pub may : MayMove 0 dst len gap ps
   pub after : gap_moved dst len gap ps ≡ run_rotated dst gap behind ps
 
-pub rest_in_one_piece : {X : Type 0} {dst gap behind len : ℕ} {ps : List (Option X)}
+pub last_in_one_piece : {X : Type 0} {dst gap behind len : ℕ} {ps : List (Option X)}
     → Underway dst gap behind len ps → dst ≤ len → len ≤ dst + behind → 0 < gap
-    → RestInOnePiece dst gap behind len ps
-rest_in_one_piece {dst = dst} {gap = gap} {behind = behind} {len = len} {ps = ps} u placed fits some =
+    → LastInOnePiece dst gap behind len ps
+last_in_one_piece {dst = dst} {gap = gap} {behind = behind} {len = len} {ps = ps} u placed fits some =
     let whole = u.whole in
     record {
       may = may_move 0 dst len gap ps (append-nil ps) some (omega arith) (omega arith)
@@ -101,7 +101,7 @@ rest_in_one_piece {dst = dst} {gap = gap} {behind = behind} {len = len} {ps = ps
 pub record RoomForFirst {X : Type 0} (dst gap next behind from : ℕ) (ps : List (Option X)) : Type 0 where
   pub may : MayMove 0 from dst behind ps
   pub moved : (qs : List (Option X)) → qs ≡ gap_moved from dst behind ps → IsEmptyRun qs dst behind
-      × IsFilledRun qs next behind × (runs_swapped dst next behind qs ≡ run_rotated dst gap behind ps)
+      × IsFilledRun qs next behind × (runs_exchanged dst next behind qs ≡ run_rotated dst gap behind ps)
 
 pub room_for_first : {X : Type 0} {dst gap behind len : ℕ} {ps : List (Option X)} (next from : ℕ)
     → Underway dst gap behind len ps → dst + gap ≡ next → from + behind ≡ len → dst ≤ from → len ≤ next
@@ -127,10 +127,10 @@ room_for_first {dst = dst} {gap = gap} {behind = behind} {len = len} {ps = ps} n
             empty_run_of qs dst behind (omega arith) none,
             filled_run_of qs next behind (omega arith) (λ y a b. let filled = u.filled_at y (y - gap) (omega arith)
                 (grind (arith, nat_tests)) in (filled.0, same y (inr (omega arith)) ∙ filled.1)),
-            reads _ u refl _ (length-runs_swapped dst next behind qs (omega arith) (omega arith) ∙ long) (λ x lt.
-                let via : (w : ℕ) → swapped_from dst next behind x ≡ w
-                → held_at (runs_swapped dst next behind qs) x ≡ held_at qs w =
-                λ w e. get_or-runs_swapped dst next behind qs (omega arith) (omega arith) x ∙ ap (held_at qs) e in
+            reads _ u refl _ (length-runs_exchanged dst next behind qs (omega arith) (omega arith) ∙ long) (λ x lt.
+                let via : (w : ℕ) → exchanged_from dst next behind x ≡ w
+                → held_at (runs_exchanged dst next behind qs) x ≡ held_at qs w =
+                λ w e. get_or-runs_exchanged dst next behind qs (omega arith) (omega arith) x ∙ ap (held_at qs) e in
                 elim (cases_lt x len) [
                   | inl below ↦ elim (cases_lt x (dst + behind)) [
                     | inl first ↦ elim (cases_lt x dst) [

@@ -23,7 +23,7 @@ impl<T> Ring<T> {
         if self.len <= self.slots.capacity() - self.start {
             return;
         }
-        let slots = turn(self.slots.moved_out(), self.start, self.len);
+        let slots = rotate(self.slots.moved_out(), self.start, self.len);
         let _nothing = replace(&mut self.slots, slots);
         self.start = 0;
     }
@@ -37,7 +37,7 @@ impl<T> Ring<T> {
 ///     0-2 with 5-7      a b c g . d e f
 ///     3 with 5, 6 to 4  a b c d e g . f
 ///     5 to 6, 7 to 5    a b c d e f g .
-fn turn<T>(slots: Slots<T>, start: usize, len: usize) -> Slots<T>
+fn rotate<T>(slots: Slots<T>, start: usize, len: usize) -> Slots<T>
     requires in_region { start < length slots.places }
     requires filled { FilledFrom start len (filled slots.places) }
     ensures places { result.places ≡ rotated start slots.places }
@@ -52,21 +52,21 @@ fn turn<T>(slots: Slots<T>, start: usize, len: usize) -> Slots<T>
     while next < len && capacity - next < len - dst {
         let first = capacity - next;
         let run = first.min(next - dst);
-        let wrapped = (len - dst - first).min(run);
-        slots = slots.exchange_runs(dst, next, wrapped);
-        slots = slots.move_down(dst + wrapped, next + wrapped, run - wrapped);
+        let past_end = (len - dst - first).min(run);
+        slots = slots.exchange_runs(dst, next, past_end);
+        slots = slots.move_down(dst + past_end, next + past_end, run - past_end);
         dst += run;
         if run < first {
             next += run;
         }
     }
-    place_rest(slots, dst, next, len)
+    place_last(slots, dst, next, len)
 }
 
 /// Moves the values that aren't in their places yet to these, without an exchange: they are in one
 /// piece from `next` on, or there is room before `next` for those that come after the end.
 #[inline(never)]
-fn place_rest<T>(slots: Slots<T>, dst: usize, next: usize, len: usize) -> Slots<T>
+fn place_last<T>(slots: Slots<T>, dst: usize, next: usize, len: usize) -> Slots<T>
     requires in_order { dst ≤ next }
     requires in_region { next < length slots.places }
     requires some_left { dst ≤ len }

@@ -5,7 +5,7 @@
 //! no value that has still to move. Meanwhile the region is a local: its pointer is known to stay.
 ghost use Rattle.std.specs.Prelude.{◌≡◌, ◌+◌, ◌-◌, ◌<◌, ◌≤◌, length, take, drop, if◌then◌else◌, ◌==◌};
 ghost use Rattle.std.specs.List.{splice};
-ghost use Rattle.arraydeque_ring.specs.Swapped.{runs_swapped};
+ghost use Rattle.arraydeque_ring.specs.Exchanged.{runs_exchanged};
 ghost use Rattle.arraydeque_ring.specs.Gaps.{IsEmptyRun, run_emptied};
 ghost use Rattle.arraydeque_ring.specs.Moved.{MeetAtOneEndAtMost, IsFilledRound, IsFreeRound, CanCopy, CanMove, run_moved};
 ghost use Rattle.arraydeque_ring.specs.Places.{IsFilledRun};
@@ -47,7 +47,7 @@ impl<T> Slots<T> {
         requires apart { a + len ≤ b }
         requires a_filled { IsFilledRun self.places a len }
         requires b_filled { IsFilledRun self.places b len }
-        ensures places { result.places ≡ runs_swapped a b len self.places }
+        ensures places { result.places ≡ runs_exchanged a b len self.places }
         ensures steps { result.steps ≡ more_exchanges len self.steps }
     {
         let mut slots = self;
@@ -63,7 +63,7 @@ impl<T> Slots<T> {
         requires apart { dst + len ≤ src }
         requires empty { IsEmptyRun self.places dst len }
         requires filled { IsFilledRun self.places src len }
-        ensures places { result.places ≡ runs_swapped dst src len self.places }
+        ensures places { result.places ≡ runs_exchanged dst src len self.places }
         ensures steps { result.steps ≡ more_moves len self.steps }
     {
         let mut slots = self;

@@ -21,7 +21,7 @@ after : (g : Over) (c : After-replace-nothing g) → Opened record {
     record c.args.self.now { start = 0; steps = c.replace-nothing.new.dest.steps }
 after g c =
     let ring = opened c.self.inside c.self.invariant c.self.view_is in
-    let turns = rw c.moved_out.ensures.region at c.turn-slots.ensures.places in
+    let turns = rw c.moved_out.ensures.region at c.rotate-slots.ensures.places in
     let places = ap (λ (region : Region g.row.T.Denot). region.places) c.replace-nothing.ensures.after ∙ turns in
     record {
       laid = LaidOut-from _

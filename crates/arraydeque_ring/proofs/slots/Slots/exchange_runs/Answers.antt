@@ -1,13 +1,13 @@
 use Rattle.std.proofs.{Common.{◌+◌, sym, arith}, lemmas.Bool.ne_eqb}
 use Rattle.arraydeque_ring.proofs.places.{
-  Reads.{runs_swapped_none, runs_swapped_more, next_first, next_second},
+  Reads.{runs_exchanged_none, runs_exchanged_more, next_first, next_second},
   Held.filled_in_run,
 }
 use Rattle.arraydeque_ring.proofs.slots.Slots.exchange_runs.Goals as goal
 
 pub loop-k-init : goal.loop-k-init
 loop-k-init g c = record {
-  places = sym (runs_swapped_none c.args.a c.args.b c.args.self.places (omega arith) (omega arith));
+  places = sym (runs_exchanged_none c.args.a c.args.b c.args.self.places (omega arith) (omega arith));
   steps = grind arith;
 }
 
@@ -26,7 +26,7 @@ exchange-requires-clause-b_filled g c =
 pub loop-k-preserved : goal.loop-k-preserved
 loop-k-preserved g c = record {
   places = rw (c.exchange.ensures.places, c.loop-k.invariant.places)
-      (runs_swapped_more c.args.a c.args.b c.loop-k.k c.args.self.places (omega arith) (omega arith));
+      (runs_exchanged_more c.args.a c.args.b c.loop-k.k c.args.self.places (omega arith) (omega arith));
   steps = rw (
     c.exchange.ensures.steps,
     ne_eqb (c.args.a + c.loop-k.k) (c.args.b + c.loop-k.k) (λ same. omega arith),

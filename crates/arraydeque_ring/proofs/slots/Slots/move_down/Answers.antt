@@ -5,7 +5,7 @@ use Rattle.std.proofs.{
 }
 use Rattle.arraydeque_ring.proofs.{
   moved.{Flat.{flat_at, length-moved, same_places}, InBlocks.{whole_run, whole_can}},
-  places.{Held.{filled_in_run, empty_in_run}, Reads.{length-runs_swapped, get_or-runs_swapped}},
+  places.{Held.{filled_in_run, empty_in_run}, Reads.{length-runs_exchanged, get_or-runs_exchanged}},
 }
 use Rattle.arraydeque_ring.proofs.slots.Slots.move_down.Goals as goal
 
@@ -27,9 +27,9 @@ returns-clause-places g c =
     let len = c.args.len in
     let ps = c.args.self.places in
     let within = c.requires.filled.0 in
-    let long = length-runs_swapped dst src len ps c.requires.apart within in
+    let long = length-runs_exchanged dst src len ps c.requires.apart within in
     rw (c.count.ensures, c.move_first.ensures.all refl, whole_run dst src len ps)
     (same_places _ _ (length-moved dst src len ps ∙ sym long) (λ x lt.
     flat_at dst src len ps x c.requires.empty.0 within (omega (arith, long))
     ∙ grind (arith, nat_tests, empty_in_run ps dst len (x - src) c.requires.empty)
-    ∙ sym (get_or-runs_swapped dst src len ps c.requires.apart within x)))
+    ∙ sym (get_or-runs_exchanged dst src len ps c.requires.apart within x)))

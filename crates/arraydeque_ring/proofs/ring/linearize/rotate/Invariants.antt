@@ -1,10 +1,10 @@
 use Rattle.std.proofs.Common.{◌-◌}
-use Rattle.arraydeque_ring.{specs.Steps.Rearranges, proofs.linearize.Turning.Turning}
-use Rattle.arraydeque_ring.proofs.ring.linearize.turn.Given as goal
+use Rattle.arraydeque_ring.{specs.Steps.Rearranges, proofs.linearize.Rotating.Rotating}
+use Rattle.arraydeque_ring.proofs.ring.linearize.rotate.Given as goal
 
 abbrev pub invariant-loop-next : goal.invariant-loop-next
 invariant-loop-next g l = record {
-  walk : Turning l.capacity l.start l.len l.dst l.next l.fn.slots.places l.slots.places;
+  walk : Rotating l.capacity l.start l.len l.dst l.next l.fn.slots.places l.slots.places;
   steps : Rearranges l.dst l.fn.slots.steps l.slots.steps;
 }
 

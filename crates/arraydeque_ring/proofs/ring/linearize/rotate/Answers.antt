@@ -5,31 +5,31 @@ use Rattle.std.proofs.{
   lemmas.Bool.Decides.nat_tests,
 }
 use Rattle.arraydeque_ring.{
-  specs.{Swapped.runs_swapped, Steps.Rearranges},
+  specs.{Exchanged.runs_exchanged, Steps.Rearranges},
   proofs.{
-    linearize.Turning.{Pass, Turning-pass, Turning-passed, Turning-fits, still_fills},
-    ring.linearize.turn.{Given.Over, Goals.{After-min-wrapped, After-move_down-slots}},
+    linearize.Rotating.{Pass, Rotating-pass, Rotating-passed, Rotating-fits, still_fills},
+    ring.linearize.rotate.{Given.Over, Goals.{After-min-past_end, After-move_down-slots}},
   },
 }
-use Rattle.arraydeque_ring.proofs.ring.linearize.turn.Goals as goal
+use Rattle.arraydeque_ring.proofs.ring.linearize.rotate.Goals as goal
 
-pass : (g : Over) (c : After-min-wrapped g)
-    → Pass c.loop-next.dst c.loop-next.next c.min-run.result c.min-wrapped.result c.loop-next.slots.places
-pass g c = Turning-pass c.requires.filled c.loop-next.invariant.walk c.min-run.result c.min-wrapped.result
-    c.if-capacity-next.true c.min-run.ensures c.min-wrapped.ensures
+pass : (g : Over) (c : After-min-past_end g)
+    → Pass c.loop-next.dst c.loop-next.next c.min-run.result c.min-past_end.result c.loop-next.slots.places
+pass g c = Rotating-pass c.requires.filled c.loop-next.invariant.walk c.min-run.result c.min-past_end.result
+    c.if-capacity-next.true c.min-run.ensures c.min-past_end.ensures
 
 pub exchange_runs-slots-requires : goal.exchange_runs-slots-requires
 exchange_runs-slots-requires g c =
-    let may = pass g (goal.at.exchange_runs-slots-requires g c).After-min-wrapped in
+    let may = pass g (goal.at.exchange_runs-slots-requires g c).After-min-past_end in
     record { apart = omega arith; a_filled = may.a_filled; b_filled = may.b_filled }
 
 pub move_down-slots-requires : goal.move_down-slots-requires
 move_down-slots-requires g c =
-    let may = pass g (goal.at.move_down-slots-requires g c).After-min-wrapped in
+    let may = pass g (goal.at.move_down-slots-requires g c).After-min-past_end in
     rw c.exchange_runs-slots.ensures.places (record { apart = omega arith; empty = may.empty; filled = may.filled })
 
 pub loop-next-smaller-then-run-first : goal.loop-next-smaller-then-run-first
-loop-next-smaller-then-run-first g c = let fits = Turning-fits c.requires.filled c.loop-next.invariant.walk in
+loop-next-smaller-then-run-first g c = let fits = Rotating-fits c.requires.filled c.loop-next.invariant.walk in
     omega arith
 
 -- a pass makes as many steps as values come to their places
@@ -37,24 +37,24 @@ steps : (g : Over) (c : After-move_down-slots g)
     → Rearranges (c.loop-next.dst + c.min-run.result) c.args.slots.steps c.move_down-slots.result.steps
 steps g c =
     let so_far = c.loop-next.invariant.steps in (
-      so_far.0 + (c.min-run.result - c.min-wrapped.result),
-      so_far.1 + c.min-wrapped.result,
+      so_far.0 + (c.min-run.result - c.min-past_end.result),
+      so_far.1 + c.min-past_end.result,
       omega arith,
       rw (c.move_down-slots.ensures.steps, c.exchange_runs-slots.ensures.steps, so_far.3) (grind arith),
     )
 
 after : (g : Over) (c : After-move_down-slots g) → c.move_down-slots.result.places
-    ≡ runs_swapped c.loop-next.dst c.loop-next.next c.min-run.result c.loop-next.slots.places
+    ≡ runs_exchanged c.loop-next.dst c.loop-next.next c.min-run.result c.loop-next.slots.places
 after g c = rw (c.move_down-slots.ensures.places, c.exchange_runs-slots.ensures.places)
-    (Turning-pass c.requires.filled c.loop-next.invariant.walk c.min-run.result c.min-wrapped.result
-    c.if-capacity-next.true c.min-run.ensures c.min-wrapped.ensures).all
+    (Rotating-pass c.requires.filled c.loop-next.invariant.walk c.min-run.result c.min-past_end.result
+    c.if-capacity-next.true c.min-run.ensures c.min-past_end.ensures).all
 
 pub loop-next-preserved-then-run-first : goal.loop-next-preserved-then-run-first
 loop-next-preserved-then-run-first g c =
     let moved = (goal.at.loop-next-preserved-then-run-first g c).After-move_down-slots in
     record {
-      walk = rw (after g moved) (Turning-passed c.requires.filled c.loop-next.invariant.walk c.min-run.result
-          c.min-wrapped.result c.if-capacity-next.true c.min-run.ensures _ (inr (c.if-run-first.true, refl)));
+      walk = rw (after g moved) (Rotating-passed c.requires.filled c.loop-next.invariant.walk c.min-run.result
+          c.min-past_end.result c.if-capacity-next.true c.min-run.ensures _ (inr (c.if-run-first.true, refl)));
       steps = steps g moved;
     }
 
@@ -62,13 +62,13 @@ pub loop-next-preserved : goal.loop-next-preserved
 loop-next-preserved g c =
     let moved = (goal.at.loop-next-preserved g c).After-move_down-slots in
     record {
-      walk = rw (after g moved) (Turning-passed c.requires.filled c.loop-next.invariant.walk c.min-run.result
-          c.min-wrapped.result c.if-capacity-next.true c.min-run.ensures _ (inl (c.if-run-first.false, refl)));
+      walk = rw (after g moved) (Rotating-passed c.requires.filled c.loop-next.invariant.walk c.min-run.result
+          c.min-past_end.result c.if-capacity-next.true c.min-run.ensures _ (inl (c.if-run-first.false, refl)));
       steps = steps g moved;
     }
 
-pub place_rest-requires-clause-filled : goal.place_rest-requires-clause-filled
-place_rest-requires-clause-filled g c =
+pub place_last-requires-clause-filled : goal.place_last-requires-clause-filled
+place_last-requires-clause-filled g c =
     rw c.loop-next.invariant.walk.long (still_fills c.requires.filled c.loop-next.invariant.walk)
 
 pub returns-clause-steps : goal.returns-clause-steps
@@ -77,7 +77,7 @@ returns-clause-steps g c =
       so_far.0 + (if c.loop-next.dst == c.loop-next.next then 0 else c.args.len - c.loop-next.dst),
       so_far.1,
       grind (arith, nat_tests, so_far.2, c.loop-next.invariant.walk.placed),
-      rw (c.place_rest.ensures.steps, so_far.3) (grind arith),
+      rw (c.place_last.ensures.steps, so_far.3) (grind arith),
     )
 
 pub loop-next-init : goal.loop-next-init

@@ -9,12 +9,12 @@ use Rattle.arraydeque_ring.{
     Gaps.{IsEmptyRun, run_rotated},
     Places.{held_at, IsFilledRun},
     Ring.{rotated, filled, FilledFrom},
-    Swapped.runs_swapped,
+    Exchanged.runs_exchanged,
   },
   proofs.{
     places.{
-      Reads.{rotated_from, length-run_rotated, get_or-run_rotated, swapped_from, length-runs_swapped},
-      Reads.{get_or-runs_swapped, runs_swapped_both},
+      Reads.{rotated_from, length-run_rotated, get_or-run_rotated, exchanged_from, length-runs_exchanged},
+      Reads.{get_or-runs_exchanged, runs_exchanged_both},
       Rotated.{length-rotated, rotated-map},
       Held.{filled_run_of, empty_run_of},
     },
@@ -27,37 +27,38 @@ module _ {X : Type 0} {dst gap behind len : ℕ} {ps : List (Option X)} (next : 
   -- after a pass of `run` values to their places, two runs have still to change places
   rotated_by_pass : (run left last : ℕ)
       → ((run ≡ behind) × (left + run ≡ gap) × (last ≡ behind)) ⊎ ((run ≡ gap) × (left ≡ gap) × (last + run ≡ behind))
-      → run_rotated (dst + run) left last (runs_swapped dst next run ps) ≡ run_rotated dst gap behind ps
+      → run_rotated (dst + run) left last (runs_exchanged dst next run ps) ≡ run_rotated dst gap behind ps
   rotated_by_pass run left last ways =
-      let rs = runs_swapped dst next run ps in
+      let rs = runs_exchanged dst next run ps in
       let within : (dst + run ≤ next) × (next + run ≤ length ps) × (dst + run + left + last ≤ length ps) = elim ways [
         | inl w ↦ omega (arith, u.whole)
         | inr w ↦ omega (arith, u.whole)
       ] in
-      let long = length-runs_swapped dst next run ps within.0 within.1 in
+      let long = length-runs_exchanged dst next run ps within.0 within.1 in
       let fits : dst + run + left + last ≤ length rs = omega (arith, long, within.2) in
       reads next u here _ (length-run_rotated (dst + run) left last rs fits
       ∙ long) (λ x lt. get_or-run_rotated (dst + run) left last rs fits x
-      ∙ get_or-runs_swapped dst next run ps within.0 within.1 (rotated_from (dst + run) left last x)
+      ∙ get_or-runs_exchanged dst next run ps within.0 within.1 (rotated_from (dst + run) left last x)
       ∙ ap (held_at ps) (elim ways [ inl w ↦ grind (arith, nat_tests) | inr w ↦ grind (arith, nat_tests) ]))
 
 -- a pass: `run` values come to their places, x of them by an exchange and the others into empty places
 pub record Pass {X : Type 0} (dst next run x : ℕ) (ps : List (Option X)) : Type 0 where
   pub a_filled : IsFilledRun ps dst x
   pub b_filled : IsFilledRun ps next x
-  pub empty : IsEmptyRun (runs_swapped dst next x ps) (dst + x) (run - x)
-  pub filled : IsFilledRun (runs_swapped dst next x ps) (next + x) (run - x)
-  pub all : runs_swapped (dst + x) (next + x) (run - x) (runs_swapped dst next x ps) ≡ runs_swapped dst next run ps
+  pub empty : IsEmptyRun (runs_exchanged dst next x ps) (dst + x) (run - x)
+  pub filled : IsFilledRun (runs_exchanged dst next x ps) (next + x) (run - x)
+  pub all : runs_exchanged (dst + x) (next + x) (run - x) (runs_exchanged dst next x ps)
+      ≡ runs_exchanged dst next run ps
 
 pass_of : {X : Type 0} {dst gap behind len : ℕ} {ps : List (Option X)} (next run x : ℕ) → Underway dst gap behind len ps
     → dst + gap ≡ next → behind < len - dst → run ≡ min behind gap → x ≡ min (len - dst - behind) run
     → Pass dst next run x ps
 pass_of {dst = dst} {gap = gap} {behind = behind} {len = len} {ps = ps} next run x u here wraps most both =
-    let rs = runs_swapped dst next x ps in
+    let rs = runs_exchanged dst next x ps in
     let within : next + x ≤ length ps = omega (arith, u.whole) in
-    let long = length-runs_swapped dst next x ps (omega arith) within in
-    let stays : (y : ℕ) → swapped_from dst next x y ≡ y → held_at rs y ≡ held_at ps y =
-    λ y same. get_or-runs_swapped dst next x ps (omega arith) within y ∙ ap (held_at ps) same in
+    let long = length-runs_exchanged dst next x ps (omega arith) within in
+    let stays : (y : ℕ) → exchanged_from dst next x y ≡ y → held_at rs y ≡ held_at ps y =
+    λ y same. get_or-runs_exchanged dst next x ps (omega arith) within y ∙ ap (held_at ps) same in
     record {
       a_filled = filled_run_of ps dst x (omega arith)
           (λ y a b. u.filled_at y (y + behind) (omega arith) (grind (arith, nat_tests)));
@@ -68,8 +69,8 @@ pass_of {dst = dst} {gap = gap} {behind = behind} {len = len} {ps = ps} next run
       filled = filled_run_of rs (next + x) (run - x) (omega (arith, long, u.whole))
           (λ y a b. let is = u.filled_at y (y - gap) (omega arith) (grind (arith, nat_tests)) in
           (is.0, stays y (grind (arith, nat_tests)) ∙ is.1));
-      all = runs_swapped_both dst next ps x (run - x) (omega arith) (omega (arith, u.whole))
-          ∙ ap (λ n. runs_swapped dst next n ps) (omega arith);
+      all = runs_exchanged_both dst next ps x (run - x) (omega arith) (omega (arith, u.whole))
+          ∙ ap (λ n. runs_exchanged dst next n ps) (omega arith);
     }
 
 -- of the places read from t on the first len are filled
@@ -82,7 +83,7 @@ FilledFrom-rotated t len ps fills =
     (sym (length-rotated t (filled ps)) ∙ ap length (sym same))
 
 -- the places are on their way from `old` to these read from the start on
-pub record Turning {X : Type 0} (capacity start len dst next : ℕ) (old ps : List (Option X)) : Type 0 where
+pub record Rotating {X : Type 0} (capacity start len dst next : ℕ) (old ps : List (Option X)) : Type 0 where
   pub long : length ps ≡ capacity
   pub in_order : dst ≤ next
   pub in_region : next < capacity
@@ -90,7 +91,7 @@ pub record Turning {X : Type 0} (capacity start len dst next : ℕ) (old ps : Li
   pub left : rotated start old ≡ run_rotated dst (next - dst) (capacity - next) ps
 
 module _ {X : Type 0} {capacity start len dst next : ℕ} {old ps : List (Option X)}
-    (fills : FilledFrom start len (filled old)) (t : Turning capacity start len dst next old ps) where
+    (fills : FilledFrom start len (filled old)) (t : Rotating capacity start len dst next old ps) where
   pub still_fills : FilledFrom 0 len (filled (run_rotated dst (next - dst) (capacity - next) ps))
   still_fills = subst (λ qs. FilledFrom 0 len (filled qs)) t.left (FilledFrom-rotated start len old fills)
 
@@ -98,19 +99,19 @@ module _ {X : Type 0} {capacity start len dst next : ℕ} {old ps : List (Option
   before =
       underway dst (next - dst) (capacity - next) len ps (omega (arith, t.long, t.in_order, t.in_region)) still_fills
 
-  pub Turning-fits : len ≤ capacity
-  Turning-fits = omega (arith, before.fits, t.long)
+  pub Rotating-fits : len ≤ capacity
+  Rotating-fits = omega (arith, before.fits, t.long)
 
   module _ (run x : ℕ) (wraps : capacity - next < len - dst) (pass : run ≡ min (capacity - next) (next - dst)) where
-    pub Turning-pass : x ≡ min (len - dst - (capacity - next)) run → Pass dst next run x ps
-    Turning-pass both = pass_of next run x before (omega (arith, t.in_order)) wraps pass both
+    pub Rotating-pass : x ≡ min (len - dst - (capacity - next)) run → Pass dst next run x ps
+    Rotating-pass both = pass_of next run x before (omega (arith, t.in_order)) wraps pass both
 
     -- after it the others stand where they did, or one run further on
-    pub Turning-passed : (next_then : ℕ)
+    pub Rotating-passed : (next_then : ℕ)
         → ((capacity - next ≤ run) × (next_then ≡ next)) ⊎ ((run < capacity - next) × (next_then ≡ next + run))
-        → Turning capacity start len (dst + run) next_then old (runs_swapped dst next run ps)
-    Turning-passed next_then ways = record {
-      long = length-runs_swapped dst next run ps (omega (arith, t.in_order)) (omega (arith, t.long)) ∙ t.long;
+        → Rotating capacity start len (dst + run) next_then old (runs_exchanged dst next run ps)
+    Rotating-passed next_then ways = record {
+      long = length-runs_exchanged dst next run ps (omega (arith, t.in_order)) (omega (arith, t.long)) ∙ t.long;
       in_order = elim ways [ inl w ↦ omega (arith, t.in_order) | inr w ↦ omega (arith, t.in_order) ];
       in_region = elim ways [ inl w ↦ omega (arith, t.in_region) | inr w ↦ omega arith ];
       placed = omega arith;

@@ -1,9 +1,9 @@
 use Rattle.std.proofs.{Common.{◌-◌, ◌<◌, ◌≤◌, length, inl, inr, sym, ◌∙◌, arith}, lemmas.List.append-nil}
 use Rattle.arraydeque_ring.proofs.{
-  linearize.Underway.{underway, none_left, RestInOnePiece, rest_in_one_piece, RoomForFirst, room_for_first},
-  ring.linearize.place_rest.{Given.Over, Goals.{After-capacity}},
+  linearize.Underway.{underway, none_left, LastInOnePiece, last_in_one_piece, RoomForFirst, room_for_first},
+  ring.linearize.place_last.{Given.Over, Goals.{After-capacity}},
 }
-use Rattle.arraydeque_ring.proofs.ring.linearize.place_rest.Goals as goal
+use Rattle.arraydeque_ring.proofs.ring.linearize.place_last.Goals as goal
 
 pub returns-then-dst-next-clause-places : goal.returns-then-dst-next-clause-places
 returns-then-dst-next-clause-places g c = none_left c.args.next
@@ -11,9 +11,9 @@ returns-then-dst-next-clause-places g c = none_left c.args.next
 
 -- the others stand in one piece
 in_one_piece : (g : Over) (c : After-capacity g) → c.args.len - c.args.dst ≤ length c.args.slots.places - c.args.next
-    → RestInOnePiece c.args.dst (c.args.next - c.args.dst) (length c.args.slots.places - c.args.next) c.args.len
+    → LastInOnePiece c.args.dst (c.args.next - c.args.dst) (length c.args.slots.places - c.args.next) c.args.len
     c.args.slots.places
-in_one_piece g c fits = rest_in_one_piece (underway c.args.dst _ _ c.args.len c.args.slots.places
+in_one_piece g c fits = last_in_one_piece (underway c.args.dst _ _ c.args.len c.args.slots.places
     (omega arith) c.requires.filled) c.requires.some_left (omega arith) (omega arith)
 
 -- or there is room before them
