@@ -29,7 +29,7 @@ use Rattle.arraydeque_ring.{
 }
 
 -- to go up by k places is to go to the place of index k
-up_by-is : (k s n : ℕ) → s ≤ n - 1 → place_of s k n ≡ up_by k s n
+pub up_by-is : (k s n : ℕ) → s ≤ n - 1 → place_of s k n ≡ up_by k s n
 up_by-is zero s n le = place_of-zero s n le
 up_by-is (suc k) s n le = grind (arith, nat_tests)
 

@@ -149,9 +149,9 @@ module _ {X : Type 0} where
       (sym (lent_items (opened new (kept_after r v seen kept w) refl) cut us' vs' first_held rest_held))
 
   -- as many items as fit come before the region's end
-  pub cut_at_end : (r : Inside X) → Kept r → let first = min r.len (length r.slots.places - r.start) in
-      Cut r first (r.len - first)
-  cut_at_end r kept =
+  pub cut_at_end : (r : Inside X) → Kept r → (first : ℕ) → first ≡ min r.len (length r.slots.places - r.start)
+      → Cut r first (r.len - first)
+  cut_at_end r kept first is =
       let n = length r.slots.places in let inside = kept.0 in record {
         all = omega arith;
         fits = omega arith;

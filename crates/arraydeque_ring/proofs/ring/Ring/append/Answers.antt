@@ -1,18 +1,10 @@
-use Rattle.std.proofs.{
-  Common.{◌≡◌, ℕ, zero, suc, ◌+◌, ◌-◌, ◌≤◌, drop, ap, ap₂, ◌∙◌, arith},
-  lemmas.Bool.Decides.nat_tests,
-}
-use Rattle.arraydeque_ring.specs.{Ring.{place_of, up_by}, Steps.more_takes}
-use Rattle.arraydeque_ring.proofs.places.{
-  Appended.{joined, shed, joined-both, shed-both},
-  Opened.opened,
-  Rotated.place_of-zero,
+use Rattle.std.proofs.Common.{◌≡◌, ◌+◌, ◌-◌, drop, ap, ap₂, ◌∙◌, arith}
+use Rattle.arraydeque_ring.specs.Steps.{more_takes}
+use Rattle.arraydeque_ring.proofs.{
+  fills.Laying.up_by-is,
+  places.{Appended.{joined, shed, joined-both, shed-both}, Opened.opened},
 }
 use Rattle.arraydeque_ring.proofs.ring.Ring.append.Goals as goal
-
-first_up : (k s n : ℕ) → s ≤ n - 1 → place_of s k n ≡ up_by k s n
-first_up zero s n le = place_of-zero s n le
-first_up (suc k) s n le = grind (arith, nat_tests)
 
 pub loop-left-preserved : goal.loop-left-preserved
 loop-left-preserved g c =
@@ -26,7 +18,7 @@ loop-left-preserved g c =
     omega (arith, inv.within, c.min-run.ensures, c.min.ensures)
     in
     let other = opened c.other.inside c.other.invariant c.other.view_is in
-    let start = first_up run now.start now.capacity (omega (arith, other.laid.in_region, other.start)) in
+    let start = up_by-is run now.start now.capacity (omega (arith, other.laid.in_region, other.start)) in
     record {
       within = omega (arith, inv.within);
       here = c.append_run.ensures.here ∙ ap₂ (joined run) inv.here inv.there

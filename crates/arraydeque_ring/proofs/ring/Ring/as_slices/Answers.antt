@@ -1,45 +1,34 @@
-use Rattle.std.proofs.{
-  Common.{◌-◌, ◌++◌, drop, inl, inr, ap₂, ◌∙◌, arith},
-  lemmas.List.{append-nil, length-drop, take_all, take-append-drop},
+use Rattle.std.proofs.Common.{◌-◌, [], inl, refl, arith}
+use Rattle.arraydeque_ring.proofs.{
+  loans.Lending.{Cut, cut_at_end, first_filled, second_filled, lent_items},
+  places.Opened.opened,
 }
-use Rattle.arraydeque_ring.proofs.places.{LaidOut.{length_within, IsFilledRun-LaidOut, same_run}, Opened.opened}
 use Rattle.arraydeque_ring.proofs.ring.Ring.as_slices.Goals as goal
 
 pub slice-requires : goal.slice-requires
 slice-requires g c =
-    let ring = opened c.self.inside c.self.invariant c.self.view_is in
-    IsFilledRun-LaidOut ring.laid 0 _ _ (inl (omega arith)) (omega arith)
-    (omega (arith, ring.laid.long, ring.laid.in_region))
+    let cut : Cut c.self.inside c.self.inside.len 0 =
+    record { all = omega arith; fits = omega (arith, c.capacity.ensures, c.self.invariant.0); to_end = inl refl } in
+    first_filled (opened c.self.inside c.self.invariant c.self.view_is) cut
 
 pub slice-requires-else-self-to_end : goal.slice-requires-else-self-to_end
-slice-requires-else-self-to_end g c =
-    let ring = opened c.self.inside c.self.invariant c.self.view_is in
-    IsFilledRun-LaidOut ring.laid 0 _ _ (inl (omega arith)) (omega arith)
-    (omega (arith, ring.laid.long, ring.laid.in_region))
+slice-requires-else-self-to_end g c = first_filled (opened c.self.inside c.self.invariant c.self.view_is)
+    (cut_at_end c.self.inside c.self.invariant _ (omega (arith, c.capacity.ensures)))
 
 pub slice-requires-else-self-to_end-2 : goal.slice-requires-else-self-to_end-2
-slice-requires-else-self-to_end-2 g c =
-    let ring = opened c.self.inside c.self.invariant c.self.view_is in
-    let to_end = c.capacity.result - c.self.inside.start in
-    IsFilledRun-LaidOut ring.laid to_end 0 _ (inr (omega (arith, ring.laid.long, ring.laid.in_region))) (omega arith)
-    (omega (arith, length_within ring.laid))
+slice-requires-else-self-to_end-2 g c = second_filled (opened c.self.inside c.self.invariant c.self.view_is)
+    (cut_at_end c.self.inside c.self.invariant (c.capacity.result - c.self.inside.start)
+    (omega (arith, c.capacity.ensures)))
 
 pub returns-then-self-to_end-clause-joined : goal.returns-then-self-to_end-clause-joined
 returns-then-self-to_end-clause-joined g c =
-    let ring = opened c.self.inside c.self.invariant c.self.view_is in
-    append-nil c.slice.result.now ∙ same_run ring.laid 0 _ _ _ (inl (omega arith)) (omega arith)
-    (omega (arith, ring.laid.long, ring.laid.in_region)) c.slice.ensures
-    ∙ take_all c.self.inside.len c.args.self.now.items (omega arith)
+    let cut : Cut c.self.inside c.self.inside.len 0 =
+    record { all = omega arith; fits = omega (arith, c.capacity.ensures, c.self.invariant.0); to_end = inl refl } in
+    lent_items (opened c.self.inside c.self.invariant c.self.view_is) cut _ [] c.slice.ensures refl
 
 pub returns-else-self-to_end-clause-joined : goal.returns-else-self-to_end-clause-joined
 returns-else-self-to_end-clause-joined g c =
-    let ring = opened c.self.inside c.self.invariant c.self.view_is in
-    let items = c.args.self.now.items in
-    let to_end = c.capacity.result - c.self.inside.start in
-    let left = c.self.inside.len - to_end in
-    let first = same_run ring.laid 0 _ to_end _ (inl (omega arith)) (omega arith)
-    (omega (arith, ring.laid.long, ring.laid.in_region)) c.slice-else-self-to_end.ensures in
-    let rest = same_run ring.laid to_end 0 left _ (inr (omega (arith, ring.laid.long, ring.laid.in_region)))
-    (omega arith) (omega (arith, length_within ring.laid)) c.slice-else-self-to_end-2.ensures in
-    ap₂ (λ l r. l ++ r) first (rest ∙ take_all left (drop to_end items) (omega (arith, length-drop to_end items)))
-    ∙ take-append-drop to_end items
+    let first = c.capacity.result - c.self.inside.start in
+    lent_items (opened c.self.inside c.self.invariant c.self.view_is)
+    (cut_at_end c.self.inside c.self.invariant first (omega (arith, c.capacity.ensures))) _ _
+    c.slice-else-self-to_end.ensures c.slice-else-self-to_end-2.ensures

@@ -14,7 +14,7 @@ use Rattle.arraydeque_ring.{
     places.{
       Handed.all_empty,
       LaidOut.{length_within, IsFilledRun-rotated},
-      Opened.{opened, Shows, shows},
+      Opened.{opened, bounds, Shows, shows},
       Rotated.{place_of-zero},
     },
     ring.Ring.drain.{Given.Over, Goals.{After-take_run, After-close_gap-self-inside}},
@@ -90,6 +90,9 @@ returns-clause-start g c =
     let count = c.args.to - c.args.from in
     let behind : length c.args.self.now.items - c.args.to ≡ c.self.inside.len - count - c.args.from = omega arith in
     rw (behind, ← ring.start) (rw gap.reads.long at c.close_gap-self-inside.ensures.start)
+
+pub returns-clause-steps : goal.returns-clause-steps
+returns-clause-steps g c = grind (arith, bounds)
 
 pub returns-clause-fewest : goal.returns-clause-fewest
 returns-clause-fewest g c =

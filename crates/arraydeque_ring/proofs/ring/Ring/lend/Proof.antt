@@ -81,7 +81,7 @@ lend_spec 𝓤 𝓛 𝓜 𝓡 wired X L =
     -- [the length; the start; nothing; the slots; ..]
     move ! (0 ∷ 2 ∷ []) $ fjoin ! $ move ! (1 ∷ 0 ∷ []) $ fjoin ! $ move ! (1 ∷ []) $
     let room : ℕ = length x.slots.places - x.start in let first : ℕ = min x.len room in let rest : ℕ = x.len - first in
-    let cut : Cut x first rest = cut_at_end x kept in let open_ring = opened x kept seen in
+    let cut : Cut x first rest = cut_at_end x kept first refl in let open_ring = opened x kept seen in
     sets ! (addr ! (through ! refl (fld ! refl (stop !)))) refl (tt, tt) $
     -- [the slots; the other fields; the way back; the open borrow, in three; half its token; the others]
     move ! (3 ∷ []) $ ages ! (λ age. name_new ! tt ((Sr E).coded.code x.slots) (λ δ.
