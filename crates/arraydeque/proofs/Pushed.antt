@@ -7,7 +7,7 @@ use Rattle.std.proofs.{
   },
 }
 use Rattle.arraydeque_ring.{
-  specs.{Ring.{RingState}},
+  specs.Ring.RingState,
   proofs.fills.{Displaced.{displaced_first, displaced_last}, InRows.{all_before, down_by-all}},
 }
 use Rattle.arraydeque.{
@@ -38,6 +38,7 @@ module _ {X : Type 0} (n : ℕ) (deque : DequeState X) (xs : List X) (none : n �
 
 -- xs found room in a deque that has places
 module _ {X : Type 0} (n : ℕ) (some : 0 < n) (old mid : DequeState X) (xs : List X) where
+  -- new is the deque wrapped, and that says all three
   wraps : (new wrapped : DequeState X) → new ≡ wrapped
       → (new.items ≡ wrapped.items) × (0 < n → new ≡ wrapped) × (n ≡ 0 → new ≡ old)
   wraps new wrapped same = (ap (λ (d : DequeState X). d.items) same, (λ _. same), λ none. absurd (omega arith))
