@@ -12,8 +12,8 @@ use Rattle.arraydeque_ring.{
 }
 
 -- nothing more was put and taken
-more_none : (s : Steps) → s ≡ more_puts 0 (more_takes 0 s)
-more_none s = grind arith
+none_displaced : (s : Steps) → s ≡ more_puts 0 (more_takes 0 s)
+none_displaced s = grind arith
 
 -- a list that is cut twice behind others
 kept_behind : {X : Type 0} (n m : ℕ) (zs xs : List X) → n ≤ m → take n (zs ++ take m xs) ≡ take n (zs ++ xs)
@@ -51,23 +51,23 @@ module _ {X : Type 0} where
 
   -- none came
   pub displaced_first-none : (r : RingState X) → r ≡ displaced_first [] r
-  displaced_first-none r = λ i. record r { items = sym (append-nil r.items) i; steps = more_none r.steps i }
+  displaced_first-none r = λ i. record r { items = sym (append-nil r.items) i; steps = none_displaced r.steps i }
 
   pub displaced_last-none : (r : RingState X) → r ≡ displaced_last [] r
   displaced_last-none r = λ i. record r {
     items = sym (take_all (length r.items) r.items (omega arith)) i;
-    steps = more_none r.steps i;
+    steps = none_displaced r.steps i;
   }
 
   -- ys came after xs
   module _ (xs ys : List X) where
-    long : length xs + length ys ≡ length (xs ++ ys)
-    long = sym (length-append xs ys)
+    lengths_joined : length xs + length ys ≡ length (xs ++ ys)
+    lengths_joined = sym (length-append xs ys)
 
-    counted : (s : Steps)
+    steps_of_both : (s : Steps)
         → more_puts (length ys) (more_takes (length ys) (more_puts (length xs) (more_takes (length xs) s)))
         ≡ more_puts (length (xs ++ ys)) (more_takes (length (xs ++ ys)) s)
-    counted s = grind (arith, length-append xs ys)
+    steps_of_both s = grind (arith, length-append xs ys)
 
     pub displaced_first-both : (r : RingState X)
         → displaced_first ys (displaced_first xs r) ≡ displaced_first (xs ++ ys) r
@@ -76,11 +76,11 @@ module _ {X : Type 0} where
         (r.items ++ (xs ++ ys)) =
         ap (drop (length ys)) (sym (drop-append-le (length xs) (r.items ++ xs) ys
         (omega (arith, length-append r.items xs))) ∙ ap (drop (length xs)) (append_assoc r.items xs ys))
-        ∙ drop-drop (length ys) (length xs) (r.items ++ (xs ++ ys)) ∙ ap (λ k. drop k (r.items ++ (xs ++ ys))) long in
+        ∙ drop-drop (length ys) (length xs) (r.items ++ (xs ++ ys)) ∙ ap (λ k. drop k (r.items ++ (xs ++ ys))) lengths_joined in
         λ i. record r {
           items = items i;
-          start = (up_by-both (length xs) (length ys) r.start r.capacity ∙ ap (λ k. up_by k r.start r.capacity) long) i;
-          steps = counted r.steps i;
+          start = (up_by-both (length xs) (length ys) r.start r.capacity ∙ ap (λ k. up_by k r.start r.capacity) lengths_joined) i;
+          steps = steps_of_both r.steps i;
         }
 
     pub displaced_last-both : (r : RingState X) → displaced_last ys (displaced_last xs r) ≡ displaced_last (xs ++ ys) r
@@ -90,4 +90,4 @@ module _ {X : Type 0} where
         ap (λ k. take k (reverse ys ++ take n all))
         (length-take-le n all (omega (arith, length-append (reverse xs) r.items)))
         ∙ kept_behind n n (reverse ys) all (omega arith) ∙ ap (take n) (all_before xs ys r.items) in
-        λ i. record r { items = items i; start = down_by-all xs ys r.start r.capacity i; steps = counted r.steps i }
+        λ i. record r { items = items i; start = down_by-all xs ys r.start r.capacity i; steps = steps_of_both r.steps i }

@@ -42,8 +42,8 @@ more_twice : {X : Type 0} (xs ys : List X) (s : Steps)
 more_twice xs ys s = grind (arith, length-append xs ys)
 
 -- nothing more was put
-more_none : (s : Steps) → s ≡ more_puts 0 s
-more_none s = grind arith
+no_more_puts : (s : Steps) → s ≡ more_puts 0 s
+no_more_puts s = grind arith
 
 module _ {X : Type 0} where
   -- xs came behind the last item
@@ -73,10 +73,10 @@ module _ {X : Type 0} where
   -- none came
   pub back_none : {r : Inside X} {v : RingState X} → Opened r v → Opened r (filled_back [] v)
   back_none {r = r} {v = v} o =
-      subst (Opened r) (λ i. record v { items = sym (append-nil v.items) i; steps = more_none v.steps i }) o
+      subst (Opened r) (λ i. record v { items = sym (append-nil v.items) i; steps = no_more_puts v.steps i }) o
 
   pub front_none : {r : Inside X} {v : RingState X} → Opened r v → Opened r (filled_front [] v)
-  front_none {r = r} {v = v} o = subst (Opened r) (λ i. record v { steps = more_none v.steps i }) o
+  front_none {r = r} {v = v} o = subst (Opened r) (λ i. record v { steps = no_more_puts v.steps i }) o
 
 -- the first k of xs came behind the items of a list that begins at the first place,
 -- and the next goes into the place behind

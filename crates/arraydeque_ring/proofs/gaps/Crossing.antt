@@ -85,7 +85,7 @@ count_by t i j (suc len) n t_in a b other =
 module _ {X : Type 0} (t : ℕ) (ps : List (Option X)) (t_in : t < length ps) where
   reads : Holds (length ps) t (held_at (rotated t ps)) ps
   reads = record {
-    long = refl;
+    length_is = refl;
     in_region = omega arith;
     at = λ k lt. sym (get_or-rotated t k (length ps) ps None refl (omega arith) lt);
   }
@@ -115,7 +115,7 @@ module _ {X : Type 0} (t : ℕ) (ps : List (Option X)) (t_in : t < length ps) wh
     count = count_by t i j len n t_in i_in j_in other;
     is =
         let moved = Holds-moved reads i j len t_in i_in j_in in
-        same_places _ _ (length-rotated t _ ∙ moved.long ∙ sym long)
+        same_places _ _ (length-rotated t _ ∙ moved.length_is ∙ sym long)
         (λ x lt. Holds-rotated moved x (omega (arith, long)) ∙ each x (omega (arith, long)));
   }
 
@@ -125,34 +125,34 @@ module _ {X : Type 0} (t : ℕ) (ps : List (Option X)) (t_in : t < length ps) wh
     wide : length (rotated t ps) ≡ length ps
     wide = length-rotated t ps
 
-    none : (x : ℕ) → from ≤ x → x < from + gap → held_at (rotated t ps) x ≡ None
-    none x a b = empty_at (rotated t ps) from gap x empty a b
+    empty_in_gap : (x : ℕ) → from ≤ x → x < from + gap → held_at (rotated t ps) x ≡ None
+    empty_in_gap x a b = empty_at (rotated t ps) from gap x empty a b
 
     pub crosses_up : to < from → IsFilledRun (rotated t ps) to (from - to)
         → Crosses t (to + gap) to (from - to) ps (gap_moved from to gap (rotated t ps))
     crosses_up lt filled = crosses (to + gap) to (from - to) _ (omega arith) (omega arith) (omega arith)
         (λ x a b. elim (cases_lt x from) [
           | inl below ↦ inl (omega arith, omega arith)
-          | inr past ↦ inr (none x past (omega arith))
+          | inr past ↦ inr (empty_in_gap x past (omega arith))
         ])
         (λ k less. filled_in_run (rotated t ps) to (from - to) k filled less)
         (length-gap_moved from to gap _ (omega (arith, wide)) (omega (arith, wide)) ∙ wide)
         (λ x x_in. elim (cases_lt x (to + gap)) [
-          | inl low ↦ grind (arith, nat_tests, none x)
+          | inl low ↦ grind (arith, nat_tests, empty_in_gap x)
           | inr high ↦ let back : to + (x - (to + gap)) ≡ x - gap = omega arith in
-              grind (arith, nat_tests, none x, back)
+              grind (arith, nat_tests, empty_in_gap x, back)
         ] ∙ sym (get_or-gap_moved from to gap _ (omega (arith, wide)) (omega (arith, wide)) x))
 
     pub crosses_down : from ≤ to → IsFilledRun (rotated t ps) (from + gap) (to - from)
         → Crosses t from (from + gap) (to - from) ps (gap_moved from to gap (rotated t ps))
     crosses_down le filled = crosses from (from + gap) (to - from) _ (omega arith) (omega arith) (omega arith)
         (λ x a b. elim (cases_lt x (from + gap)) [
-          | inl below ↦ inr (none x a below)
+          | inl below ↦ inr (empty_in_gap x a below)
           | inr past ↦ inl (past, omega arith)
         ])
         (λ k less. filled_in_run (rotated t ps) (from + gap) (to - from) k filled less)
         (length-gap_moved from to gap _ (omega (arith, wide)) (omega (arith, wide)) ∙ wide)
         (λ x x_in. elim (cases_lt x from) [
-          | inl low ↦ grind (arith, nat_tests, none x)
-          | inr high ↦ let on : from + gap + (x - from) ≡ x + gap = omega arith in grind (arith, nat_tests, none x, on)
+          | inl low ↦ grind (arith, nat_tests, empty_in_gap x)
+          | inr high ↦ let on : from + gap + (x - from) ≡ x + gap = omega arith in grind (arith, nat_tests, empty_in_gap x, on)
         ] ∙ sym (get_or-gap_moved from to gap _ (omega (arith, wide)) (omega (arith, wide)) x))

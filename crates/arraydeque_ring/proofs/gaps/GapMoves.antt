@@ -72,7 +72,7 @@ rotated_on t j x ps t_in j_in lt =
 module _ {X : Type 0} {n t : ℕ} {xs : List X} {ps : List (Option X)} (l : LaidOut n t xs ps) (i : ℕ)
     (le : i ≤ length xs) (room : length xs < n) where
   pub opens_up : MayMove t (length xs) i 1 ps
-  opens_up = let long = l.long in let in_region = l.in_region in
+  opens_up = let long = l.length_is in let in_region = l.in_region in
       may_move t (length xs) i 1 ps refl (omega arith) (omega arith) (omega arith)
       (λ x a b. Holds-rotated (holds l) x (omega arith) ∙ slice_get_past xs x a)
       (λ x a b. let v = slice_get_some xs x b in (v.0, Holds-rotated (holds l) x (omega arith) ∙ v.1))
@@ -87,17 +87,17 @@ module _ {X : Type 0} {n t : ℕ} {xs : List X} {ps : List (Option X)} (l : Laid
       (λ k lt. grind (arith, nat_tests, items, place_of_cases (n - 1) k n))
 
   pub opens_down : MayMove before 0 i 1 ps
-  opens_down = let long = l.long in let in_region = turned.in_region in
+  opens_down = let long = l.length_is in let in_region = turned.in_region in
       may_move before 0 i 1 ps refl (omega arith) (omega arith) (omega arith)
       (λ x a b. Holds-rotated turned x (omega arith) ∙ grind (arith, nat_tests)) (λ x a b. absurd (omega arith))
       (λ x a b. let v = slice_get_some xs (x - 1) (omega arith) in
       (v.0, Holds-rotated turned x (omega arith) ∙ grind (arith, nat_tests, v.1)))
 
   -- the gap once it is there
-  opened : (s from : ℕ) (qs : List (Option X)) → s ≤ n - 1 → from < n → rotated s qs ≡ gap_moved from i 1 (rotated s ps)
+  gap_reached : (s from : ℕ) (qs : List (Option X)) → s ≤ n - 1 → from < n → rotated s qs ≡ gap_moved from i 1 (rotated s ps)
       → ((x : ℕ) → x < n → held_at (gap_moved from i 1 (rotated s ps)) x ≡ gapped (take i xs) 1 (drop i xs) x)
       → Gapped n s (take i xs) 1 (drop i xs) qs
-  opened s from qs s_in from_in is at = let wide = length-rotated s ps in let long = l.long in record {
+  gap_reached s from qs s_in from_in is at = let wide = length-rotated s ps in let long = l.length_is in record {
     within = omega (arith, length-take-le i xs le, length-drop i xs);
     reads = Holds-of_rotated (sym (length-rotated s qs) ∙ ap length is
         ∙ length-gap_moved from i 1 (rotated s ps) (omega arith) (omega arith) ∙ wide ∙ long) s_in
@@ -107,8 +107,8 @@ module _ {X : Type 0} {n t : ℕ} {xs : List X} {ps : List (Option X)} (l : Laid
   pub opened_up : (qs : List (Option X)) → rotated t qs ≡ gap_moved (length xs) i 1 (rotated t ps)
       → Gapped n t (take i xs) 1 (drop i xs) qs
   opened_up qs is =
-      let front = length-take-le i xs le in let wide = length-rotated t ps in let long = l.long in
-      opened t (length xs) qs l.in_region room is (λ x lt.
+      let front = length-take-le i xs le in let wide = length-rotated t ps in let long = l.length_is in
+      gap_reached t (length xs) qs l.in_region room is (λ x lt.
       get_or-gap_moved (length xs) i 1 (rotated t ps) (omega arith) (omega arith) x ∙ elim (cases_lt i x) [
         | inl past ↦ let same : i + (x - (i + 1)) ≡ x - 1 = omega arith in
             grind (arith, nat_tests, items, Holds-rotated (holds l) x lt, Holds-rotated (holds l) (x - 1), same)
@@ -118,8 +118,8 @@ module _ {X : Type 0} {n t : ℕ} {xs : List X} {ps : List (Option X)} (l : Laid
   pub opened_down : (qs : List (Option X)) → rotated before qs ≡ gap_moved 0 i 1 (rotated before ps)
       → Gapped n before (take i xs) 1 (drop i xs) qs
   opened_down qs is =
-      let front = length-take-le i xs le in let wide = length-rotated before ps in let long = l.long in
-      opened before 0 qs turned.in_region (omega arith) is (λ x lt.
+      let front = length-take-le i xs le in let wide = length-rotated before ps in let long = l.length_is in
+      gap_reached before 0 qs turned.in_region (omega arith) is (λ x lt.
       get_or-gap_moved 0 i 1 (rotated before ps) (omega arith) (omega arith) x ∙ elim (cases_lt i x) [
         | inl past ↦ let same : i + (x - (i + 1)) ≡ x - 1 = omega arith in
             grind (arith, nat_tests, items, Holds-rotated turned x lt, same)
@@ -181,7 +181,7 @@ module _ {X : Type 0} {n t : ℕ} {xs : List X} {gap : ℕ} {ys : List X} {ps : 
   pub may_close : (i m : ℕ) → 0 < gap → length xs ≡ i → length ys ≡ m → Closes i m
   may_close i m some front back =
       let within = p.within in
-      let long = p.reads.long in
+      let long = p.reads.length_is in
       let wide = length-rotated t ps in
       record {
         some = some;
@@ -203,7 +203,7 @@ module _ {X : Type 0} {n t : ℕ} {xs : List X} {gap : ℕ} {ys : List X} {ps : 
       → LaidOut n s (xs ++ ys) qs
   LaidOut-closed i m s qs some front back here is =
       let within = p.within in
-      let long = p.reads.long in
+      let long = p.reads.length_is in
       let s_in : s ≤ n - 1 =
       rw (here, long) (start_closed-in i gap m n t (omega (arith, p.reads.in_region)) (omega arith)) in
       let wide = length-rotated t ps in

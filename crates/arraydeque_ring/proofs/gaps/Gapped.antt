@@ -32,7 +32,7 @@ module _ {X : Type 0} {n t : ℕ} {xs : List X} {ps : List (Option X)} (l : Laid
       → rotated t qs ≡ run_emptied from gap (rotated t ps) → Gapped n t (take from xs) gap (drop (from + gap) xs) qs
   Gapped-taken from gap qs le out =
       let within = l.within in
-      let long : length (rotated t ps) ≡ n = length-rotated t ps ∙ l.long in
+      let long : length (rotated t ps) ≡ n = length-rotated t ps ∙ l.length_is in
       let front = length-take-le from xs (omega arith) in
       record {
         within = omega (arith, length-drop (from + gap) xs);
@@ -78,7 +78,7 @@ module _ {X : Type 0} {n t : ℕ} {xs ys : List X} {ps : List (Option X)} where
   -- the first place of a gap is empty
   pub IsEmpty-gap : (gap i : ℕ) → Gapped n t xs gap ys ps → length xs ≡ i → 0 < gap → IsEmpty ps (place_of t i n)
   IsEmpty-gap gap i p front some = let within = p.within in (
-    omega (arith, p.reads.long, place_of-lt t i n (omega (arith, p.reads.in_region))),
+    omega (arith, p.reads.length_is, place_of-lt t i n (omega (arith, p.reads.in_region))),
     p.reads.at i (omega arith) ∙ grind (arith, nat_tests),
   )
 

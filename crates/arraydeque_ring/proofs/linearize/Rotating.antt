@@ -84,7 +84,7 @@ FilledFrom-rotated t len ps fills =
 
 -- the places are on their way from `old` to these read from the start on
 pub record Rotating {X : Type 0} (capacity start len dst next : ℕ) (old ps : List (Option X)) : Type 0 where
-  pub long : length ps ≡ capacity
+  pub length_is : length ps ≡ capacity
   pub in_order : dst ≤ next
   pub in_region : next < capacity
   pub placed : dst ≤ len
@@ -97,10 +97,10 @@ module _ {X : Type 0} {capacity start len dst next : ℕ} {old ps : List (Option
 
   before : Underway dst (next - dst) (capacity - next) len ps
   before =
-      underway dst (next - dst) (capacity - next) len ps (omega (arith, t.long, t.in_order, t.in_region)) still_fills
+      underway dst (next - dst) (capacity - next) len ps (omega (arith, t.length_is, t.in_order, t.in_region)) still_fills
 
   pub Rotating-fits : len ≤ capacity
-  Rotating-fits = omega (arith, before.fits, t.long)
+  Rotating-fits = omega (arith, before.fits, t.length_is)
 
   module _ (run x : ℕ) (wraps : capacity - next < len - dst) (pass : run ≡ min (capacity - next) (next - dst)) where
     pub Rotating-pass : x ≡ min (len - dst - (capacity - next)) run → Pass dst next run x ps
@@ -111,7 +111,7 @@ module _ {X : Type 0} {capacity start len dst next : ℕ} {old ps : List (Option
         → ((capacity - next ≤ run) × (next_then ≡ next)) ⊎ ((run < capacity - next) × (next_then ≡ next + run))
         → Rotating capacity start len (dst + run) next_then old (runs_exchanged dst next run ps)
     Rotating-passed next_then ways = record {
-      long = length-runs_exchanged dst next run ps (omega (arith, t.in_order)) (omega (arith, t.long)) ∙ t.long;
+      length_is = length-runs_exchanged dst next run ps (omega (arith, t.in_order)) (omega (arith, t.length_is)) ∙ t.length_is;
       in_order = elim ways [ inl w ↦ omega (arith, t.in_order) | inr w ↦ omega (arith, t.in_order) ];
       in_region = elim ways [ inl w ↦ omega (arith, t.in_region) | inr w ↦ omega arith ];
       placed = omega arith;

@@ -41,19 +41,19 @@ module _ {X : Type 0} where
     low : rest ≤ r.start
     low = elim c.to_end [
       | inl none ↦ omega arith
-      | inr end ↦ omega (arith, c.all, o.len, o.laid.long, length_within o.laid)
+      | inr end ↦ omega (arith, c.all, o.len, o.laid.length_is, length_within o.laid)
     ]
 
     -- the two runs are filled, and lie apart
-    pub first_filled : IsFilledRun ps r.start first
-    first_filled = IsFilledRun-LaidOut o.laid 0 r.start first (inl (omega arith)) (omega (arith, c.all, o.len))
-        (omega (arith, c.fits, o.laid.long))
+    pub first_run_filled : IsFilledRun ps r.start first
+    first_run_filled = IsFilledRun-LaidOut o.laid 0 r.start first (inl (omega arith)) (omega (arith, c.all, o.len))
+        (omega (arith, c.fits, o.laid.length_is))
 
-    pub second_filled : IsFilledRun ps 0 rest
-    second_filled = elim c.to_end [
+    pub second_run_filled : IsFilledRun ps 0 rest
+    second_run_filled = elim c.to_end [
       | inl none ↦ (omega arith, ([], ap (λ k. take k (drop 0 ps)) none))
-      | inr end ↦ IsFilledRun-LaidOut o.laid first 0 rest (inr (omega (arith, o.laid.long)))
-          (omega (arith, c.all, o.len)) (omega (arith, low, c.fits, o.laid.long))
+      | inr end ↦ IsFilledRun-LaidOut o.laid first 0 rest (inr (omega (arith, o.laid.length_is)))
+          (omega (arith, c.all, o.len)) (omega (arith, low, c.fits, o.laid.length_is))
     ]
 
     pub apart : AreApart r.start first 0 rest
@@ -63,12 +63,12 @@ module _ {X : Type 0} where
     pub lent_items : (xs ys : List X) → HoldsRun ps r.start first xs → HoldsRun ps 0 rest ys → xs ++ ys ≡ v.items
     lent_items xs ys held held' =
         let front = same_run o.laid 0 r.start first xs (inl (omega arith)) (omega (arith, c.all, o.len))
-        (omega (arith, c.fits, o.laid.long)) held in
+        (omega (arith, c.fits, o.laid.length_is)) held in
         let behind : ys ≡ drop first v.items = elim c.to_end [
           | inl none ↦ nil_from_length ys (omega (arith, none, run_length ps 0 rest ys (omega (arith, none)) held')) ∙
               sym (nil_from_length (drop first v.items) (omega (arith, none, c.all, o.len, length-drop first v.items)))
-          | inr end ↦ same_run o.laid first 0 rest ys (inr (omega (arith, o.laid.long))) (omega (arith, c.all, o.len))
-              (omega (arith, low, c.fits, o.laid.long)) held'
+          | inr end ↦ same_run o.laid first 0 rest ys (inr (omega (arith, o.laid.length_is))) (omega (arith, c.all, o.len))
+              (omega (arith, low, c.fits, o.laid.length_is)) held'
               ∙ take_all rest (drop first v.items) (omega (arith, c.all, o.len, length-drop first v.items))
         ] in
         ap₂ (λ l m. l ++ m) front behind ∙ take-append-drop first v.items
@@ -108,9 +108,9 @@ module _ {X : Type 0} where
       (drop_at (take from ps) (map Some ws ++ drop (from + length ws) ps) from (omega (arith, length-take from ps)))
       ∙ take_at (map Some ws) (drop (from + length ws) ps) n (length-map ws Some ∙ e)
 
-  held_behind : (from n : ℕ) (ws us : List X) (ps : List (Option X)) → length us ≤ from → HoldsRun ps from n ws
+  held_above : (from n : ℕ) (ws us : List X) (ps : List (Option X)) → length us ≤ from → HoldsRun ps from n ws
       → HoldsRun (with_run 0 us ps) from n ws
-  held_behind from n ws us ps below held =
+  held_above from n ws us ps below held =
       let m = length us in let k = from - m in let e : from ≡ m + k = omega arith in
       ap (take n) (ap (λ j. drop j (with_run 0 us ps)) e ∙ sym (drop-drop k m (with_run 0 us ps))
       ∙ ap (drop k) (drop_at (map Some us) (drop (0 + m) ps) m (length-map us Some)) ∙ drop-drop k (0 + m) ps
@@ -131,20 +131,20 @@ module _ {X : Type 0} where
       let w : Region X = record { places = all_of; steps = more_lends 2 r.slots.steps } in
       let new = after r v seen kept w in
       let many : length us' ≡ first = length-as_many xs us ∙ run_length ps r.start first xs c.fits held in
-      let many' : length vs' ≡ rest = length-as_many ys vs ∙ run_length ps 0 rest ys (second_filled o c).0 held' in
+      let many' : length vs' ≡ rest = length-as_many ys vs ∙ run_length ps 0 rest ys (second_run_filled o c).0 held' in
       let same : all_of ≡ new.slots.places =
-      sym (two_alike ps r.start first xs c.fits held 0 rest ys (second_filled o c).0 held' us vs) in
+      sym (two_alike ps r.start first xs c.fits held 0 rest ys (second_run_filled o c).0 held' us vs) in
       let cut : Cut new first rest = record {
         all = c.all;
         fits = omega (arith, c.fits, length-written_over ps all_of);
         to_end = subst (λ n. (rest ≡ 0) ⊎ (r.start + first ≡ n)) (sym (length-written_over ps all_of)) c.to_end;
       } in
       let first_held : HoldsRun new.slots.places r.start first us' =
-      subst (λ qs. HoldsRun qs r.start first us') same (held_behind r.start first us' vs' front
+      subst (λ qs. HoldsRun qs r.start first us') same (held_above r.start first us' vs' front
       (omega (arith, low o c)) (held_there r.start first us' ps many c.fits)) in
       let rest_held : HoldsRun new.slots.places 0 rest vs' =
       subst (λ qs. HoldsRun qs 0 rest vs') same (held_there 0 rest vs' front many'
-      (omega (arith, (second_filled o c).0, length-with_run r.start us' ps (omega (arith, many, c.fits))))) in
+      (omega (arith, (second_run_filled o c).0, length-with_run r.start us' ps (omega (arith, many, c.fits))))) in
       seen_after r v seen kept w ∙ ap (rewritten v)
       (sym (lent_items (opened new (kept_after r v seen kept w) refl) cut us' vs' first_held rest_held))
 

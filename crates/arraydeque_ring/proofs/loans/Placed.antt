@@ -111,10 +111,10 @@ module _ {X : Type 0} where
       ∙ ap₂ (λ l r. l ++ r) (filled-map_Some ws) (sym (drop-map is_some (from + length ws) ps)))
 
   -- as many values in the stead of a run of values fill no place and empty none
-  run_filled : (from : ℕ) (xs ws : List X) (ps qs : List (Option X)) → HoldsRun ps from (length xs) xs
+  written_filled : (from : ℕ) (xs ws : List X) (ps qs : List (Option X)) → HoldsRun ps from (length xs) xs
       → length ws ≡ length xs → filled qs ≡ filled ps → filled (with_run from ws qs) ≡ filled ps
   unfolding filled
-  run_filled from xs ws ps qs run e same =
+  written_filled from xs ws ps qs run e same =
       let n = length xs in
       let held : replicate n true ≡ take n (drop from (filled ps)) = sym (ap (take n) (drop-map is_some from ps)
       ∙ take-map is_some n (drop from ps) ∙ ap filled run ∙ filled-map_Some xs) in
@@ -125,7 +125,7 @@ module _ {X : Type 0} where
       → length us ≡ length xs → HoldsRun ps b (length ys) ys → length vs ≡ length ys
       → filled (with_run b vs (with_run a us ps)) ≡ filled ps
   two_filled a b xs us ys vs ps run e run' e' =
-      run_filled b ys vs ps (with_run a us ps) run' e' (run_filled a xs us ps ps run e refl)
+      written_filled b ys vs ps (with_run a us ps) run' e' (written_filled a xs us ps ps run e refl)
 
   pub filled-written_over : (ps ws : List (Option X)) → filled (written_over ps ws) ≡ filled ps
   unfolding filled

@@ -14,10 +14,10 @@ use Rattle.arraydeque_ring.proofs.{
 
 module _ {X : Type 0} {n t : ℕ} {xs : List X} {ps : List (Option X)} (l : LaidOut n t xs ps) where
   -- what follows the items, round the end, is empty
-  rest_empty : t + length xs ≤ n → drop (t + length xs) ps ++ take t ps ≡ replicate (n - length xs) None
-  rest_empty fits =
+  others_empty : t + length xs ≤ n → drop (t + length xs) ps ++ take t ps ≡ replicate (n - length xs) None
+  others_empty fits =
       let m = length xs in
-      let long = l.long in
+      let long = l.length_is in
       ap (λ r. r ++ take t ps) (sym (drop-drop m t ps))
       ∙ sym (drop-append-le m (drop t ps) (take t ps) (omega (arith, length-drop t ps)))
       ∙ ap (drop m) (rotated-LaidOut l)
@@ -25,13 +25,13 @@ module _ {X : Type 0} {n t : ℕ} {xs : List X} {ps : List (Option X)} (l : Laid
 
   pub LaidOut-written : (ys : List X) → length ys ≡ length xs → t + length xs ≤ n → LaidOut n t ys (with_run t ys ps)
   LaidOut-written ys same fits =
-      let long = l.long in
+      let long = l.length_is in
       let front : length (take t ps) ≡ t = omega (arith, length-take t ps) in
       let behind = map Some ys ++ drop (t + length ys) ps in
       let read : rotated t (with_run t ys ps) ≡ and_empty ys (n - length ys) =
       ap₂ (λ a b. a ++ b) (drop_at (take t ps) behind t front) (take_at (take t ps) behind t front)
       ∙ append_assoc (map Some ys) (drop (t + length ys) ps) (take t ps)
-      ∙ ap (λ r. map Some ys ++ r) (ap (λ k. drop (t + k) ps ++ take t ps) same ∙ rest_empty fits
+      ∙ ap (λ r. map Some ys ++ r) (ap (λ k. drop (t + k) ps ++ take t ps) same ∙ others_empty fits
       ∙ ap (λ k. replicate (n - k) None) (sym same))
       in
       LaidOut-from (n - length ys) (length-with_run t ys ps (omega arith) ∙ long) l.in_region read

@@ -55,8 +55,8 @@ pub record Next {X : Type 0} (d s l rest_d rest_s rest : ℕ) (ps whole : List (
 
 module _ {X : Type 0} (i j k m l : ℕ) (ps : List (Option X)) (all : k + m ≡ l) (can : CanCopy i j l ps) where
   -- the first k values of a run that moves down
-  pub first_goes : i ≤ j → Next i j k (i + k) (j + k) m ps (run_moved i j l ps)
-  first_goes down =
+  pub first_block_goes : i ≤ j → Next i j k (i + k) (j + k) m ps (run_moved i j l ps)
+  first_block_goes down =
       let source = can.source in
       let long = length-moved i j k ps in
       let is = first_is i j k m ps down (omega arith) ∙ ap (λ n. run_moved i j n ps) all in
@@ -72,8 +72,8 @@ module _ {X : Type 0} (i j k m l : ℕ) (ps : List (Option X)) (all : k + m ≡ 
       }
 
   -- the last m values of one that moves up
-  pub last_goes : j ≤ i → Next (i + k) (j + k) m i j k ps (run_moved i j l ps)
-  last_goes up =
+  pub last_block_goes : j ≤ i → Next (i + k) (j + k) m i j k ps (run_moved i j l ps)
+  last_block_goes up =
       let target = can.target in
       let long = length-moved (i + k) (j + k) m ps in
       let is = last_is i j k m ps up (omega arith) ∙ ap (λ n. run_moved i j n ps) all in

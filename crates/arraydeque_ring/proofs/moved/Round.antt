@@ -32,15 +32,15 @@ module _ {X : Type 0} {n t : ℕ} {f : ℕ → Option X} {ps : List (Option X)} 
   Holds-moved_to : (d s : ℕ) → d ≡ place_of t i n → s ≡ place_of t j n
       → Holds n t (look f i j len) (run_moved d s len ps)
   Holds-moved_to d s at_d at_s = record {
-    long = length-moved d s len ps ∙ h.long;
+    length_is = length-moved d s len ps ∙ h.length_is;
     in_region = h.in_region;
     at = λ x lt.
         let there = place_of-sum t j (distance i x n) n in
-        moved_at d s len ps (place_of t x n) (omega (arith, h.long, place_of-lt t x n (omega arith)))
+        moved_at d s len ps (place_of t x n) (omega (arith, h.length_is, place_of-lt t x n (omega arith)))
         ∙ rw (
           at_d,
           at_s,
-          h.long,
+          h.length_is,
           distance-rotated t i x n t_in (omega arith) lt,
           distance-rotated t j x n t_in (omega arith) lt,
           there,
@@ -50,7 +50,7 @@ module _ {X : Type 0} {n t : ℕ} {f : ℕ → Option X} {ps : List (Option X)} 
   }
 
   pub Holds-moved : Holds n t (look f i j len) (run_moved (place_of t i (length ps)) (place_of t j (length ps)) len ps)
-  Holds-moved = Holds-moved_to _ _ (ap (place_of t i) h.long) (ap (place_of t j) h.long)
+  Holds-moved = Holds-moved_to _ _ (ap (place_of t i) h.length_is) (ap (place_of t j) h.length_is)
 
 module _ {X : Type 0} (f : ℕ → Option X) (i j k m x : ℕ) where
   look_down : i ≤ j → look (look f i j k) (i + k) (j + k) m x ≡ look f i j (k + m) x
@@ -77,7 +77,7 @@ module _ {X : Type 0} (t i j k m n : ℕ) (ps : List (Option X)) (long : length 
     (d s d' s' : ℕ) (at_d : d ≡ place_of t i n) (at_s : s ≡ place_of t j n) (at_d' : d' ≡ place_of t (i + k) n)
     (at_s' : s' ≡ place_of t (j + k) n) where
   start : Holds n t (λ x. held_at ps (place_of t x n)) ps
-  start = record { long = long; in_region = omega arith; at = λ x lt. refl }
+  start = record { length_is = long; in_region = omega arith; at = λ x lt. refl }
 
   pub first_then_rest : i ≤ j → j + (k + m) ≤ n → run_moved d' s' m (run_moved d s k ps) ≡ run_moved d s (k + m) ps
   first_then_rest down within =

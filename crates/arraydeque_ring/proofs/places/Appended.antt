@@ -38,8 +38,8 @@ module _ {X : Type 0} where
   pub Holds-run : {n t : ℕ} {f : ℕ → Option X} {ps : List (Option X)} → Holds n t f ps → (i place : ℕ) (ys : List X)
       → MayStartAt t i n place → place + length ys ≤ n → i + length ys ≤ n → Holds n t (λ k. if nat_lt k i then f k
       else (if nat_lt k (i + length ys) then slice_get ys (k - i) else f k)) (with_run place ys ps)
-  Holds-run {n} {t} {ps = ps} h i place ys lies fits room = let long = h.long in let in_region = h.in_region in record {
-    long = length-with_run place ys ps (omega arith) ∙ long;
+  Holds-run {n} {t} {ps = ps} h i place ys lies fits room = let long = h.length_is in let in_region = h.in_region in record {
+    length_is = length-with_run place ys ps (omega arith) ∙ long;
     in_region = in_region;
     at = λ k lt.
         let was = h.at k lt in
@@ -58,7 +58,7 @@ module _ {X : Type 0} where
     pub IsEmptyRun-from : (i place run : ℕ) → length xs ≤ i → MayStartAt t i n place → place + run ≤ n → i + run ≤ n
         → IsEmptyRun ps place run
     IsEmptyRun-from i place run past lies fits room =
-        let long = l.long in
+        let long = l.length_is in
         let in_region = l.in_region in
         empty_run_of ps place run (omega arith) (λ x from to.
         let j = x - place in

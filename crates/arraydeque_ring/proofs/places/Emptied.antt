@@ -34,8 +34,8 @@ module _ {X : Type 0} where
 
   module _ (ps : List (Option X)) (at k i : ℕ) (here : at + k ≡ i) (lt : i < length ps) where
     -- the next place is as it was, and the run is longer with it
-    pub next_held : get_or (run_emptied at k ps) i None ≡ get_or ps i None
-    next_held = get_or-run_emptied at k ps i (omega arith) ∙ grind (arith, nat_tests)
+    pub next_unchanged : get_or (run_emptied at k ps) i None ≡ get_or ps i None
+    next_unchanged = get_or-run_emptied at k ps i (omega arith) ∙ grind (arith, nat_tests)
 
     pub next_emptied : set (run_emptied at k ps) i None ≡ run_emptied at (k + 1) ps
     next_emptied =

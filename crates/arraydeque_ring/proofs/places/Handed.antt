@@ -27,7 +27,7 @@ use Rattle.arraydeque_ring.{
 pub record Handed {X : Type 0} (t at len place first : ℕ) (ps : List (Option X)) : Type 0 where
   pub here : IsFilledRun ps place first
   pub rest : IsFilledRun (run_emptied place first ps) 0 (len - first)
-  pub many : length (take first (drop place ps)) ≡ first
+  pub first_length : length (take first (drop place ps)) ≡ first
   pub places : rotated t (run_emptied 0 (len - first) (run_emptied place first ps)) ≡ run_emptied at len (rotated t ps)
   pub all : take first (drop place ps) ++ take (len - first)
       (run_emptied place first ps) ≡ take len (drop at (rotated t ps))
@@ -61,7 +61,7 @@ handed t at len n place first ps long in_region run lies before_end cut =
     record {
       here = (end, (take first zs, here));
       rest = (omega arith, (drop first zs, there));
-      many = many;
+      first_length = many;
       places = same_lists (rotated t rs) (run_emptied at len ts) (search (rules, places)) (λ j d lt.
           let within : j < n = omega (arith, lt, length-rotated t rs) in
           let read = get_or-rotated t j n rs d same_rs (omega arith) within in
@@ -80,8 +80,8 @@ module _ {X : Type 0} (len first : ℕ) (qs : List (Option X)) (le : first ≤ l
     abbrev put : List (Option X)
     put = firsts ++ drop (0 + first) qs
 
-    pub rest_empty : IsEmptyRun put first (len - first)
-    rest_empty =
+    pub second_empty : IsEmptyRun put first (len - first)
+    second_empty =
         let all = empty.0 in
         empty_run_of put first (len - first) (grind (arith, common_steps))
         (λ x from to. let was = empty_in_run qs 0 len x empty (omega arith) in grind (arith, common_steps))
@@ -108,7 +108,7 @@ LaidOut-handed {xs = xs} l i m k within room =
     let many : length ys ≡ m = grind (arith, common_steps) in
     let wide : length (map Some ys) ≡ m = length-map ys Some ∙ many in
     rw (HoldsRun-rotated l i m within) (record {
-      long = grind (arith, common_steps);
+      length_is = grind (arith, common_steps);
       in_region = omega arith;
       within = omega (arith, many);
       at = λ x lt. ap (held_at (map Some ys ++ drop m (replicate k None))) (place_of-first x k lt)

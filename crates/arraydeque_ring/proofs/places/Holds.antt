@@ -14,7 +14,7 @@ use Rattle.arraydeque_ring.{
 
 -- the n places hold, from the place t on, what f says of each index
 pub record Holds {X : Type 0} (n t : ℕ) (f : ℕ → Option X) (ps : List (Option X)) : Type 0 where
-  pub long : length ps ≡ n
+  pub length_is : length ps ≡ n
   pub in_region : t ≤ n - 1
   pub at : (k : ℕ) → k < n → held_at ps (place_of t k n) ≡ f k
 
@@ -22,23 +22,23 @@ pub record Holds {X : Type 0} (n t : ℕ) (f : ℕ → Option X) (ps : List (Opt
 pub Holds-of_rotated : {X : Type 0} {n t : ℕ} {f : ℕ → Option X} {ps : List (Option X)} → length ps ≡ n → t ≤ n - 1
     → ((k : ℕ) → k < n → get_or (rotated t ps) k None ≡ f k) → Holds n t f ps
 Holds-of_rotated {n = n} {t = t} {ps = ps} long within each = record {
-  long = long;
+  length_is = long;
   in_region = within;
   at = λ k lt. sym (get_or-rotated t k n ps None long (omega arith) lt) ∙ each k lt;
 }
 
 module _ {X : Type 0} {n t : ℕ} {f : ℕ → Option X} {ps : List (Option X)} (h : Holds n t f ps) where
   pub Holds-rotated : (k : ℕ) → k < n → get_or (rotated t ps) k None ≡ f k
-  Holds-rotated k lt = get_or-rotated t k n ps None h.long (omega (arith, h.in_region)) lt ∙ h.at k lt
+  Holds-rotated k lt = get_or-rotated t k n ps None h.length_is (omega (arith, h.in_region)) lt ∙ h.at k lt
 
   pub Holds-same : {g : ℕ → Option X} → ((k : ℕ) → k < n → f k ≡ g k) → Holds n t g ps
-  Holds-same same = record { long = h.long; in_region = h.in_region; at = λ k lt. h.at k lt ∙ same k lt }
+  Holds-same same = record { length_is = h.length_is; in_region = h.in_region; at = λ k lt. h.at k lt ∙ same k lt }
 
   -- read from the place j further on
   pub Holds-from : {g : ℕ → Option X} (j : ℕ) → 0 < n → j ≤ n → ((k : ℕ) → k < n → f (place_of j k n) ≡ g k)
       → Holds n (place_of t j n) g ps
   Holds-from j some le each = record {
-    long = h.long;
+    length_is = h.length_is;
     in_region = omega (arith, h.in_region, place_of-lt t j n (omega (arith, h.in_region)));
     at = λ k lt. ap (held_at ps) (place_of-place_of t j k n) ∙ h.at (place_of j k n) (place_of-lt j k n (omega arith))
         ∙ each k lt;
@@ -48,11 +48,11 @@ module _ {X : Type 0} {n t : ℕ} {f : ℕ → Option X} {ps : List (Option X)} 
   pub Holds-set : {g : ℕ → Option X} (k : ℕ) (c : Option X) → k < n → c ≡ g k → ((i : ℕ) → i < n → i ≢ k → f i ≡ g i)
       → Holds n t g (set ps (place_of t k n) c)
   Holds-set {g} k c k_in here others = record {
-    long = length-set ps (place_of t k n) c ∙ h.long;
+    length_is = length-set ps (place_of t k n) c ∙ h.length_is;
     in_region = h.in_region;
     at = λ i lt. elim (cases_eq i k) [
       | inl same ↦ ap (λ j. held_at (set ps (place_of t k n) c) (place_of t j n)) same ∙ get_or-set_same ps
-          (place_of t k n) c None (omega (arith, h.long, place_of-lt t k n (omega (arith, h.in_region)))) ∙ here
+          (place_of t k n) c None (omega (arith, h.length_is, place_of-lt t k n (omega (arith, h.in_region)))) ∙ here
           ∙ ap g (sym same)
       | inr other ↦ get_or-set_other ps (place_of t k n) (place_of t i n) c None
           (λ e. other (same_index t i k n (omega (arith, h.in_region)) lt k_in e)) ∙ h.at i lt ∙ others i lt other
@@ -63,14 +63,14 @@ module _ {X : Type 0} {n t : ℕ} {f : ℕ → Option X} {ps : List (Option X)} 
   pub Holds-filled : (i len : ℕ) → i + len ≤ n → ((k : ℕ) → k < len → (x : X) × (f (i + k) ≡ Some x))
       → IsFilledRound (place_of t i (length ps)) len ps
   Holds-filled i len within each k lt = let some = each k lt in
-      (some.0, rw (h.long, place_of-sum t i k n) (h.at (i + k) (omega arith) ∙ some.1))
+      (some.0, rw (h.length_is, place_of-sum t i k n) (h.at (i + k) (omega arith) ∙ some.1))
 
 -- what is read says what the places are
 pub Holds-once : {X : Type 0} {n t : ℕ} {f : ℕ → Option X} {ps qs : List (Option X)} → Holds n t f ps
     → Holds n t f qs → ps ≡ qs
-Holds-once {n = n} {t = t} {ps = ps} {qs = qs} h k = same_places ps qs (h.long ∙ sym k.long) (λ x lt.
-    let here = up_from x t n (omega (arith, k.long)) (omega (arith, h.in_region, k.long)) in
-    let within : distance t x n < n = place_of-lt x (n - t) n (omega (arith, h.in_region, k.long)) in
+Holds-once {n = n} {t = t} {ps = ps} {qs = qs} h k = same_places ps qs (h.length_is ∙ sym k.length_is) (λ x lt.
+    let here = up_from x t n (omega (arith, k.length_is)) (omega (arith, h.in_region, k.length_is)) in
+    let within : distance t x n < n = place_of-lt x (n - t) n (omega (arith, h.in_region, k.length_is)) in
     ap (held_at ps) (sym here) ∙ h.at (distance t x n) within
     ∙ sym (ap (held_at qs) (sym here) ∙ k.at (distance t x n) within))
 

@@ -29,17 +29,17 @@ use Rattle.arraydeque_ring.{
 
 -- the n places hold the items from the place t on, round the end, and nothing else
 pub record LaidOut {X : Type 0} (n t : ℕ) (xs : List X) (ps : List (Option X)) : Type 0 where
-  pub long : length ps ≡ n
+  pub length_is : length ps ≡ n
   pub in_region : t ≤ n - 1
   pub within : length xs ≤ n
   pub at : (k : ℕ) → k < n → held_at ps (place_of t k n) ≡ slice_get xs k
 
 module _ {X : Type 0} {n t : ℕ} {xs : List X} {ps : List (Option X)} where
   pub holds : LaidOut n t xs ps → Holds n t (slice_get xs) ps
-  holds l = record { long = l.long; in_region = l.in_region; at = l.at }
+  holds l = record { length_is = l.length_is; in_region = l.in_region; at = l.at }
 
   pub LaidOut-by : length xs ≤ n → Holds n t (slice_get xs) ps → LaidOut n t xs ps
-  LaidOut-by within h = record { long = h.long; in_region = h.in_region; within = within; at = h.at }
+  LaidOut-by within h = record { length_is = h.length_is; in_region = h.in_region; within = within; at = h.at }
 
   -- where the list that begins at t has the items and then k empty places
   pub LaidOut-from : (k : ℕ) → length ps ≡ n → t ≤ n - 1 → rotated t ps ≡ and_empty xs k → LaidOut n t xs ps
@@ -50,7 +50,7 @@ module _ {X : Type 0} {n t : ℕ} {xs : List X} {ps : List (Option X)} where
 -- empty places hold the empty list
 pub LaidOut-nothing : {X : Type 0} (n : ℕ) → LaidOut {X = X} n 0 [] (replicate n None)
 LaidOut-nothing n = record {
-  long = length-replicate n None;
+  length_is = length-replicate n None;
   in_region = omega arith;
   within = omega arith;
   at = λ k lt. grind (arith, common_steps);
@@ -71,7 +71,7 @@ module _ {X : Type 0} {n t : ℕ} {xs : List X} {ps : List (Option X)} (l : Laid
   pub rotated-LaidOut : rotated t ps ≡ and_empty xs (n - length xs)
   rotated-LaidOut =
       let within = l.within in
-      same_places _ _ (length-rotated t ps ∙ l.long ∙ omega (arith, length-and_empty xs (n - length xs)))
+      same_places _ _ (length-rotated t ps ∙ l.length_is ∙ omega (arith, length-and_empty xs (n - length xs)))
       (λ k lt. Holds-rotated (holds l) k (omega (arith, length-and_empty xs (n - length xs)))
       ∙ sym (get_or-and_empty xs (n - length xs) k))
 
@@ -83,7 +83,7 @@ module _ {X : Type 0} {n t : ℕ} {xs : List X} {ps : List (Option X)} (l : Laid
   pub FilledFrom-LaidOut : (m : ℕ) → length xs ≡ m → FilledFrom t m (filled ps)
   unfolding filled
   FilledFrom-LaidOut m e =
-      let left : n - length xs ≡ length (filled ps) - m = omega (arith, l.long, length-map ps is_some) in
+      let left : n - length xs ≡ length (filled ps) - m = omega (arith, l.length_is, length-map ps is_some) in
       rotated-map is_some t ps ∙ ap filled rotated-LaidOut ∙ filled-and_empty xs (n - length xs)
       ∙ ap₂ (λ a b. replicate a true ++ replicate b false) e left
 
@@ -93,7 +93,7 @@ module _ {X : Type 0} {n t : ℕ} {xs : List X} {ps : List (Option X)} (l : Laid
 
   pub IsEmpty-place_of : (k : ℕ) → length xs ≤ k → k < n → IsEmpty ps (place_of t k n)
   IsEmpty-place_of k past lt =
-      (omega (arith, l.long, place_of-lt t k n (omega (arith, l.in_region))), l.at k lt ∙ grind (arith, items))
+      (omega (arith, l.length_is, place_of-lt t k n (omega (arith, l.in_region))), l.at k lt ∙ grind (arith, items))
 
   -- the start holds the first item
   pub held_at-start : 0 < n → held_at ps t ≡ slice_get xs 0
@@ -107,12 +107,12 @@ module _ {X : Type 0} {n t : ℕ} {xs : List X} {ps : List (Option X)} (l : Laid
   HoldsRun-rotated i len le =
       let within = l.within in
       holds_run_of (rotated t ps) i len (take len (drop i xs))
-      (omega (arith, length-take len (drop i xs), length-drop i xs)) (omega (arith, length-rotated t ps, l.long))
+      (omega (arith, length-take len (drop i xs), length-drop i xs)) (omega (arith, length-rotated t ps, l.length_is))
       (λ k lt. Holds-rotated (holds l) (i + k) (omega arith) ∙ grind (arith, nat_tests, items))
 
   pub IsFilledRun-rotated : (i len : ℕ) → i + len ≤ length xs → IsFilledRun (rotated t ps) i len
   IsFilledRun-rotated i len le =
-      (omega (arith, l.long, length-rotated t ps, length_within), (take len (drop i xs), HoldsRun-rotated i len le))
+      (omega (arith, l.length_is, length-rotated t ps, length_within), (take len (drop i xs), HoldsRun-rotated i len le))
 
   -- they stand from the place p on
   HoldsRun-LaidOut : (i p len : ℕ) → MayStartAt t i n p → i + len ≤ length xs → p + len ≤ n
@@ -120,14 +120,14 @@ module _ {X : Type 0} {n t : ℕ} {xs : List X} {ps : List (Option X)} (l : Laid
   HoldsRun-LaidOut i p len at within fits =
       let all = l.within in
       holds_run_of ps p len (take len (drop i xs)) (omega (arith, length-take len (drop i xs), length-drop i xs))
-      (omega (arith, l.long))
+      (omega (arith, l.length_is))
       (λ k lt. ap (held_at ps) (sym (place_of-run t i k n p at (omega arith) (omega (arith, l.in_region))
       (omega arith))) ∙ l.at (i + k) (omega arith) ∙ grind (arith, nat_tests, items))
 
   pub IsFilledRun-LaidOut : (i p len : ℕ) → MayStartAt t i n p → i + len ≤ length xs → p + len ≤ n
       → IsFilledRun ps p len
   IsFilledRun-LaidOut i p len at within fits =
-      (omega (arith, l.long), (take len (drop i xs), HoldsRun-LaidOut i p len at within fits))
+      (omega (arith, l.length_is), (take len (drop i xs), HoldsRun-LaidOut i p len at within fits))
 
   -- and a run that is read there is of those items
   pub same_run : (i p len : ℕ) (ys : List X) → MayStartAt t i n p → i + len ≤ length xs → p + len ≤ n
@@ -139,14 +139,14 @@ module _ {X : Type 0} {n t : ℕ} {xs : List X} {ps : List (Option X)} (l : Laid
   -- with no items every place is empty
   pub AreAllEmpty-LaidOut : length xs ≡ 0 → AreAllEmpty ps
   AreAllEmpty-LaidOut none = Holds-once (holds l) (record {
-    long = length-replicate (length ps) None ∙ l.long;
+    length_is = length-replicate (length ps) None ∙ l.length_is;
     in_region = l.in_region;
     at = λ k lt. let past = slice_get_past xs k (omega arith) in grind (arith, common_steps);
   })
 
   -- and the list may start at the first place as well
   pub LaidOut-restart : length xs ≡ 0 → LaidOut {X = X} n 0 [] ps
-  LaidOut-restart none = let empty : replicate n None ≡ ps = ap (λ m. replicate m None) (sym l.long)
+  LaidOut-restart none = let empty : replicate n None ≡ ps = ap (λ m. replicate m None) (sym l.length_is)
       ∙ sym (AreAllEmpty-LaidOut none) in subst (LaidOut {X = X} n 0 []) empty (LaidOut-nothing n)
 
   -- c is written at the place of the index k
@@ -195,7 +195,7 @@ LaidOut-swap {n = n} {t = t} {xs = xs} {ps = ps} l i j i_in j_in =
     let p = place_of t i n in let q = place_of t j n in let within = l.within in
     let x = slice_get_some xs i i_in in let y = slice_get_some xs j j_in in
     let in_region : (k : ℕ) → k < length xs → place_of t k n < length ps =
-    λ k lt. omega (arith, l.long, place_of-lt t k n (omega (arith, l.in_region))) in
+    λ k lt. omega (arith, l.length_is, place_of-lt t k n (omega (arith, l.in_region))) in
     let items : set (set xs i y.0) j x.0 ≡ swap xs i j = ap₂ (λ a b. set (set xs i a) j b)
     (sym (get_or_from_slice_get xs j y.0 x.0 y.1)) (sym (get_or_from_slice_get xs i x.0 x.0 x.1))
     ∙ swap_is xs i j x.0 i_in j_in in

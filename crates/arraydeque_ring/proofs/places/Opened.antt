@@ -58,16 +58,16 @@ module _ {X : Type 0} where
 
   -- and back
   pub closed : {r : Inside X} {v : RingState X} → Opened r v → view r ≡ v
-  closed o = rw (values-LaidOut o.laid, o.laid.long, o.start, o.steps)
+  closed o = rw (values-LaidOut o.laid, o.laid.length_is, o.start, o.steps)
 
   pub kept : {r : Inside X} {v : RingState X} → Opened r v → Kept r
-  kept {r = r} o = (rw o.laid.long o.laid.in_region, FilledFrom-LaidOut o.laid r.len o.len)
+  kept {r = r} o = (rw o.laid.length_is o.laid.in_region, FilledFrom-LaidOut o.laid r.len o.len)
 
   -- what is known of the numbers, for every goal of the ring
   pub bounds : (r : Inside X) (v : RingState X) → Kept r → view r ≡ v → (view r ≡ v) × (length v.items ≡ r.len)
       × (r.len ≤ length r.slots.places) × (v.capacity ≡ length r.slots.places) × (v.start ≡ r.start)
   bounds r v kept is = let o = opened r kept is in
-      (is, o.len, omega (arith, o.laid.within, o.laid.long, o.len), omega (arith, o.laid.long), omega (arith, o.start))
+      (is, o.len, omega (arith, o.laid.within, o.laid.length_is, o.len), omega (arith, o.laid.length_is), omega (arith, o.start))
 
 -- where the places ps hold the items xs, laid out from the place t on, what the invariant and the view say of ps
 abbrev pub Shows : {X : Type 0} → ℕ → ℕ → ℕ → List X → List (Option X) → Type 0
@@ -76,7 +76,7 @@ Shows n t len xs ps =
 
 pub shows : {X : Type 0} {n t : ℕ} {xs : List X} {ps : List (Option X)} → LaidOut n t xs ps → (len : ℕ)
     → length xs ≡ len → Shows n t len xs ps
-shows l len many = (l.long, rw l.long l.in_region, FilledFrom-LaidOut l len many, values-LaidOut l)
+shows l len many = (l.length_is, rw l.length_is l.in_region, FilledFrom-LaidOut l len many, values-LaidOut l)
 
 -- what is known of the fields alone, for goals that have no answer by hand. The first equation of what changed places
 -- show is that of the change itself, by which `grind` finds it.

@@ -47,10 +47,10 @@ module _ {X : Type 0} (a b : ℕ) (ps : List (Option X)) where
       → runs_exchanged (a + n) (b + n) m (runs_exchanged a b n ps) ≡ runs_exchanged a b (n + m) ps
   runs_exchanged_both n m before within =
       let once = runs_exchanged a b n ps in
-      let long = length-runs_exchanged a b n ps (omega arith) (omega arith) in
-      same_places _ _ (length-runs_exchanged (a + n) (b + n) m once (omega arith) (omega (arith, long)) ∙ long
+      let length-so_far = length-runs_exchanged a b n ps (omega arith) (omega arith) in
+      same_places _ _ (length-runs_exchanged (a + n) (b + n) m once (omega arith) (omega (arith, length-so_far)) ∙ length-so_far
       ∙ sym (length-runs_exchanged a b (n + m) ps before within)) (λ x lt.
-      get_or-runs_exchanged (a + n) (b + n) m once (omega arith) (omega (arith, long)) x
+      get_or-runs_exchanged (a + n) (b + n) m once (omega arith) (omega (arith, length-so_far)) x
       ∙ get_or-runs_exchanged a b n ps (omega arith) (omega arith) (exchanged_from (a + n) (b + n) m x)
       ∙ ap (λ i. get_or ps i None) (grind (arith, nat_tests))
       ∙ sym (get_or-runs_exchanged a b (n + m) ps before within x))
@@ -61,17 +61,17 @@ module _ {X : Type 0} (a b k : ℕ) (ps : List (Option X)) (before : a + (k + 1)
   abbrev so_far : List (Option X)
   so_far = runs_exchanged a b k ps
 
-  long : length so_far ≡ length ps
-  long = length-runs_exchanged a b k ps (omega arith) (omega arith)
+  length-so_far : length so_far ≡ length ps
+  length-so_far = length-runs_exchanged a b k ps (omega arith) (omega arith)
 
-  held : (x i : ℕ) → exchanged_from a b k x ≡ i → held_at so_far x ≡ held_at ps i
-  held x i same = get_or-runs_exchanged a b k ps (omega arith) (omega arith) x ∙ ap (λ j. get_or ps j None) same
+  still_held : (x i : ℕ) → exchanged_from a b k x ≡ i → held_at so_far x ≡ held_at ps i
+  still_held x i same = get_or-runs_exchanged a b k ps (omega arith) (omega arith) x ∙ ap (λ j. get_or ps j None) same
 
   first_stays : held_at so_far (a + k) ≡ held_at ps (a + k)
-  first_stays = held (a + k) (a + k) (grind (arith, nat_tests))
+  first_stays = still_held (a + k) (a + k) (grind (arith, nat_tests))
 
   second_stays : held_at so_far (b + k) ≡ held_at ps (b + k)
-  second_stays = held (b + k) (b + k) (grind (arith, nat_tests))
+  second_stays = still_held (b + k) (b + k) (grind (arith, nat_tests))
 
   pub next_first : IsFilled ps (a + k) → IsFilled so_far (a + k)
   next_first filled = (filled.0, first_stays ∙ filled.1)
@@ -83,11 +83,11 @@ module _ {X : Type 0} (a b k : ℕ) (ps : List (Option X)) (before : a + (k + 1)
   runs_exchanged_more =
       let ones = set so_far (a + k) (held_at so_far (b + k)) in
       let longer = length-set so_far (a + k) (held_at so_far (b + k)) in
-      sym (swap_is so_far (a + k) (b + k) None (omega (arith, long)) (omega (arith, long)))
-      ∙ same_places _ _ (length-set ones (b + k) (held_at so_far (a + k)) ∙ longer ∙ long
+      sym (swap_is so_far (a + k) (b + k) None (omega (arith, length-so_far)) (omega (arith, length-so_far)))
+      ∙ same_places _ _ (length-set ones (b + k) (held_at so_far (a + k)) ∙ longer ∙ length-so_far
       ∙ sym (length-runs_exchanged a b (k + 1) ps before within)) (λ x lt.
-      get_or-written ones (b + k) x (held_at so_far (a + k)) (omega (arith, long, longer)) ∙ rw (
-        get_or-written so_far (a + k) x (held_at so_far (b + k)) (omega (arith, long)),
+      get_or-written ones (b + k) x (held_at so_far (a + k)) (omega (arith, length-so_far, longer)) ∙ rw (
+        get_or-written so_far (a + k) x (held_at so_far (b + k)) (omega (arith, length-so_far)),
         first_stays,
         second_stays,
         get_or-runs_exchanged a b k ps (omega arith) (omega arith) x,

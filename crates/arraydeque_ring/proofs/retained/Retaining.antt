@@ -35,7 +35,7 @@ pub record SoFar {F X : Type 0} (R : F → X → Bool → F → Type 0) (f : F) 
   pub answers : List Bool
   pub asked : length answers ≡ index
   pub in_turn : ReturnsInTurn R f answers items g
-  pub many : length (items_where_true answers items) ≡ kept
+  pub stay : length (items_where_true answers items) ≡ kept
   pub some_gone : 0 < count_by not answers
   pub places : Gapped n t (items_where_true answers items) (count_by not answers) (drop index items) ps
   pub cost : steps ≡ more_takes (count_by not answers) (more_moves (count_moved answers) before)
@@ -75,7 +75,7 @@ first_goes R f g before {items} {n} {t} {ps} k l lt told =
       answers = bs ++ false ∷ [];
       asked = length_push bs false ∙ ap (λ c. c + 1) (length-replicate k true);
       in_turn = rw (until_goes k (length items) lt) at told;
-      many = ap length stay ∙ length-take-le k items (omega arith);
+      stay = ap length stay ∙ length-take-le k items (omega arith);
       some_gone = omega (arith, one);
       places = rw (stay, one, ← behind) (Gapped-taken_one l k lt);
       cost = ap₂ (λ a b. record before { takes = before.takes + a; moves = b }) (sym one) no_moves;
@@ -85,16 +85,16 @@ module _ {F X : Type 0} {R : F → X → Bool → F → Type 0} {f : F} {items :
     {ps : List (Option X)} {steps : Steps} {g : F} (s : SoFar R f items before n t index kept ps steps g) where
   -- the items asked about stay or are gone
   counted : index ≤ length items → kept + count_by not s.answers ≡ index
-  counted le = omega (arith, kept_and_gone s.answers items (omega (arith, s.asked)), s.asked, s.many)
+  counted le = omega (arith, kept_and_gone s.answers items (omega (arith, s.asked)), s.asked, s.stay)
 
   -- the place behind those that stay is empty
   pub room_for_next : IsEmpty ps (place_of t kept n)
-  room_for_next = IsEmpty-gap (count_by not s.answers) kept s.places s.many s.some_gone
+  room_for_next = IsEmpty-gap (count_by not s.answers) kept s.places s.stay s.some_gone
 
   -- no more stay than were asked about, and all lie in the region
   pub all_within : index ≤ length items → (kept ≤ index) × (length items ≤ n)
   all_within le =
-      (omega (arith, counted le), omega (arith, s.places.within, counted le, s.many, length-drop index items))
+      (omega (arith, counted le), omega (arith, s.places.within, counted le, s.stay, length-drop index items))
 
   -- all have been asked about
   pub all_asked : length items ≤ index → LaidOut n t (items_where_true s.answers items) ps
@@ -105,7 +105,7 @@ module _ {F X : Type 0} {R : F → X → Bool → F → Type 0} {f : F} {items :
     {ps : List (Option X)} {steps : Steps} {g : F} (s : SoFar R f items before n t index kept ps steps g)
     (lt : index < length items) where
   here : length (items_where_true s.answers items) + count_by not s.answers ≡ index
-  here = omega (arith, counted s (omega arith), s.many)
+  here = omega (arith, counted s (omega arith), s.stay)
 
   next_held : held_at ps (place_of t index n) ≡ slice_get items index
   next_held = held_behind items index index s.places here lt
@@ -142,10 +142,10 @@ module _ {F X : Type 0} {R : F → X → Bool → F → Type 0} {f : F} {items :
           answers = bs ++ true ∷ [];
           asked = length_push bs true ∙ ap (λ k. k + 1) s.asked;
           in_turn = answers_push R f g h bs items x true in_list x_is s.in_turn called;
-          many = ap length more ∙ length_push ks x ∙ ap (λ k. k + 1) s.many;
+          stay = ap length more ∙ length_push ks x ∙ ap (λ k. k + 1) s.stay;
           some_gone = omega (arith, s.some_gone, gone);
           places =
-              rw (more, gone) (Gapped-move items index index s.places here lt x kept (sym next_held ∙ held) s.many);
+              rw (more, gone) (Gapped-move items index index s.places here lt x kept (sym next_held ∙ held) s.stay);
           cost = ap (more_moves 1) s.cost
               ∙ ap₂ (λ a b. record before { takes = before.takes + a; moves = b }) (sym gone) moves;
         }
@@ -162,7 +162,7 @@ module _ {F X : Type 0} {R : F → X → Bool → F → Type 0} {f : F} {items :
           answers = bs ++ false ∷ [];
           asked = length_push bs false ∙ ap (λ k. k + 1) s.asked;
           in_turn = answers_push R f g h bs items x false in_list x_is s.in_turn called;
-          many = ap length (picked_push_false bs items) ∙ s.many;
+          stay = ap length (picked_push_false bs items) ∙ s.stay;
           some_gone = omega (arith, gone);
           places = rw (picked_push_false, ← gone) (Gapped-take items index index s.places here lt);
           cost = ap (more_takes 1) s.cost

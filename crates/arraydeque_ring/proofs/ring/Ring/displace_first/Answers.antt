@@ -21,13 +21,13 @@ loop-ended-init g c = record {
 
 pub displace_up-slots-requires-clause-filled : goal.displace_up-slots-requires-clause-filled
 displace_up-slots-requires-clause-filled g c =
-    let was = c.loop-ended.invariant.so_far.1 in let all = c.capacity-capacity.ensures ∙ was.holds.laid.long in
+    let was = c.loop-ended.invariant.so_far.1 in let all = c.capacity-capacity.ensures ∙ was.holds.laid.length_is in
     rw c.moved_out.ensures.region (filled_first was.holds all (omega (arith, all, c.requires.some)) 0
     (displaced_first-full was.items c.args.self.now c.requires.full))
 
 pub loop-ended-preserved : goal.loop-ended-preserved
 loop-ended-preserved g c =
-    let was = c.loop-ended.invariant.so_far.1 in let all = c.capacity-capacity.ensures ∙ was.holds.laid.long in
+    let was = c.loop-ended.invariant.so_far.1 in let all = c.capacity-capacity.ensures ∙ was.holds.laid.length_is in
     let out = c.displace_up-slots in let now = out.ensures.filled in record {
       so_far = (
         _,

@@ -21,7 +21,7 @@ loop-ended-init g c = record {
 
 pub displace_down-slots-requires-clause-filled : goal.displace_down-slots-requires-clause-filled
 displace_down-slots-requires-clause-filled g c =
-    let was = c.loop-ended.invariant.so_far.1 in let all = c.capacity-capacity.ensures ∙ was.holds.laid.long in
+    let was = c.loop-ended.invariant.so_far.1 in let all = c.capacity-capacity.ensures ∙ was.holds.laid.length_is in
     let from = c.wrap_add-from in
     rw c.moved_out.ensures.region (filled_last was.holds all (omega (arith, all, c.requires.some)) (from.result + 1)
     from.result from.ensures (omega arith)
@@ -29,7 +29,7 @@ displace_down-slots-requires-clause-filled g c =
 
 pub loop-ended-preserved : goal.loop-ended-preserved
 loop-ended-preserved g c =
-    let was = c.loop-ended.invariant.so_far.1 in let all = c.capacity-capacity.ensures ∙ was.holds.laid.long in
+    let was = c.loop-ended.invariant.so_far.1 in let all = c.capacity-capacity.ensures ∙ was.holds.laid.length_is in
     let out = c.displace_down-slots in let now = out.ensures.filled in record {
       so_far = (
         _,

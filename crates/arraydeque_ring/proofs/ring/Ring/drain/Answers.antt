@@ -89,7 +89,7 @@ returns-clause-start g c =
     let gap = gap g (goal.at.returns-clause-start g c).After-take_run in
     let count = c.args.to - c.args.from in
     let behind : length c.args.self.now.items - c.args.to ≡ c.self.inside.len - count - c.args.from = omega arith in
-    rw (behind, ← ring.start) (rw gap.reads.long at c.close_gap-self-inside.ensures.start)
+    rw (behind, ← ring.start) (rw gap.reads.length_is at c.close_gap-self-inside.ensures.start)
 
 pub returns-clause-steps : goal.returns-clause-steps
 returns-clause-steps g c = grind (arith, bounds)

@@ -11,7 +11,7 @@ use Rattle.arraydeque_ring.proofs.ring.Ring.fill_back.Goals as goal
 
 pub loop-ended-init : goal.loop-ended-init
 loop-ended-init g c = let ring = opened c.self.inside c.self.invariant c.self.view_is in record {
-  all = c.capacity-capacity.ensures ∙ ring.laid.long;
+  all = c.capacity-capacity.ensures ∙ ring.laid.length_is;
   kept = c.self.invariant;
   so_far = (0, Fills-none _ _ _ (back_none ring));
   goes = λ _. (c.requires, λ f. f);

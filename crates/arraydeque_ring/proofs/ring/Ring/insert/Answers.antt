@@ -22,8 +22,8 @@ use Rattle.arraydeque_ring.proofs.ring.Ring.insert.Goals as goal
 pub move_gap-requires : goal.move_gap-requires
 move_gap-requires g c =
     let ring = opened c.self.inside c.self.invariant c.self.view_is in
-    rw (c.wrap_add-before.ensures, c.capacity-capacity.ensures, ring.laid.long)
-    (rw ring.laid.long at (opens_down ring.laid c.args.index c.requires.in_bounds c.requires.room))
+    rw (c.wrap_add-before.ensures, c.capacity-capacity.ensures, ring.laid.length_is)
+    (rw ring.laid.length_is at (opens_down ring.laid c.args.index c.requires.in_bounds c.requires.room))
 
 pub move_gap-requires-else-index-behind : goal.move_gap-requires-else-index-behind
 move_gap-requires-else-index-behind g c =
@@ -37,7 +37,7 @@ gap g c =
     let ring = opened c.self.inside c.self.invariant c.self.view_is in
     elim c.if-index-behind.branch [
       | then-index-behind w ↦
-          let before = rw (c.capacity-capacity.ensures, ring.laid.long) at w.wrap_add-before.ensures in
+          let before = rw (c.capacity-capacity.ensures, ring.laid.length_is) at w.wrap_add-before.ensures in
           rw (w.self-inside-is, before) (opened_down ring.laid c.args.index c.requires.in_bounds c.requires.room _
           (rw before at w.move_gap.ensures.places))
       | else-index-behind w ↦ rw w.self-inside-is (opened_up ring.laid c.args.index c.requires.in_bounds
@@ -51,7 +51,7 @@ place : (g : Over) (c : goal.After-put-arg-1 g) → c.wrap_add-place.result
     ≡ place_of c.if-index-behind.self-inside.start c.args.index c.args.self.now.capacity
 place g c =
     let ring = opened c.self.inside c.self.invariant c.self.view_is in
-    rw (c.wrap_add-place.ensures, c.capacity-capacity.ensures, ring.laid.long)
+    rw (c.wrap_add-place.ensures, c.capacity-capacity.ensures, ring.laid.length_is)
 
 pub put-requires : goal.put-requires
 put-requires g c = rw (place g c) (IsEmpty-gap 1 c.args.index (gap g c) (front g c) (omega arith))

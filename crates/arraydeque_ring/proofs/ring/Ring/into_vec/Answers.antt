@@ -76,14 +76,14 @@ take-requires g c =
     let ring = opened c.self.inside c.self.invariant c.self.view_is in
     next_filled ring c.loop-k.k _ c.loop-k.v c.loop-k.invariant (omega arith)
     (before_end c.args.self.start c.self.inside.start c.loop-k.k c.args.self.capacity ring.start
-    (omega (arith, ring.laid.long, ring.laid.in_region, c.capacity.ensures, c.min-first.ensures)))
+    (omega (arith, ring.laid.length_is, ring.laid.in_region, c.capacity.ensures, c.min-first.ensures)))
 
 pub loop-k-preserved : goal.loop-k-preserved
 loop-k-preserved g c =
     let ring = opened c.self.inside c.self.invariant c.self.view_is in let pushed = c.push_reserved.ensures in
     next_out ring c.loop-k.k _ c.loop-k.v c.loop-k.invariant (omega arith)
     (before_end c.args.self.start c.self.inside.start c.loop-k.k c.args.self.capacity ring.start
-    (omega (arith, ring.laid.long, ring.laid.in_region, c.capacity.ensures, c.min-first.ensures)))
+    (omega (arith, ring.laid.length_is, ring.laid.in_region, c.capacity.ensures, c.min-first.ensures)))
     c.push_reserved.new.self _ c.take.ensures.value c.take.ensures.places pushed.items pushed.len pushed.capacity
 
 pub take-requires-in-loop-k-2 : goal.take-requires-in-loop-k-2
@@ -92,7 +92,7 @@ take-requires-in-loop-k-2 g c =
     next_filled ring c.loop-k-2.k _ c.loop-k-2.v c.loop-k-2.invariant (omega arith)
     (past_end c.args.self.start c.self.inside.start c.min-first.result c.loop-k-2.k c.args.self.capacity ring.start
     (omega (arith, ring.laid.in_region, ring.start))
-    (omega (arith, ring.laid.long, ring.len, length_within ring.laid, c.capacity.ensures, c.min-first.ensures))
+    (omega (arith, ring.laid.length_is, ring.len, length_within ring.laid, c.capacity.ensures, c.min-first.ensures))
     (omega arith) (omega (arith, ring.len, length_within ring.laid)))
 
 pub loop-k-2-preserved : goal.loop-k-2-preserved
@@ -102,7 +102,7 @@ loop-k-2-preserved g c =
     next_out ring c.loop-k-2.k _ c.loop-k-2.v c.loop-k-2.invariant (omega arith)
     (past_end c.args.self.start c.self.inside.start c.min-first.result c.loop-k-2.k c.args.self.capacity ring.start
     (omega (arith, ring.laid.in_region, ring.start))
-    (omega (arith, ring.laid.long, ring.len, length_within ring.laid, c.capacity.ensures, c.min-first.ensures))
+    (omega (arith, ring.laid.length_is, ring.len, length_within ring.laid, c.capacity.ensures, c.min-first.ensures))
     (omega arith) (omega (arith, ring.len, length_within ring.laid))) c.push_reserved-in-loop-k-2.new.self _
     taken.value taken.places pushed.items pushed.len pushed.capacity
 

@@ -14,8 +14,8 @@ use Rattle.arraydeque_ring.{
       Regions.{Sr, Seen, HoldsRun, IsFilledRun},
     },
     loans.{
-      Lending.{Cut, cut_at_end, ended, with_slots, kept_after, seen_after, both_written, lent_items, first_filled},
-      Lending.{second_filled},
+      Lending.{Cut, cut_at_end, ended, with_slots, kept_after, seen_after, both_written, lent_items, first_run_filled},
+      Lending.{second_run_filled},
       Made.loan_renamed,
       Placed.run_length,
       Names.{hands_on, followed_both},
@@ -112,8 +112,8 @@ lend_spec 𝓤 𝓛 𝓜 𝓡 wired X L =
     move ! (1 ∷ 0 ∷ []) $ fjoin ! $ move ! (7 ∷ 8 ∷ []) $ join ! $ join ! $
     let In = x.start ≤ length x.slots.places in let Within = x.len ≤ length x.slots.places in
     let One = IsFilledRun x.slots.places x.start first in let Two = IsFilledRun x.slots.places 0 rest in
-    use0 𝓛 (raw (fact 𝓤 Two)) (fact_i 𝓤 Two (emp 𝓤) (second_filled open_ring cut)) $
-    use0 𝓛 (raw (fact 𝓤 One)) (fact_i 𝓤 One (emp 𝓤) (first_filled open_ring cut)) $ join ! $
+    use0 𝓛 (raw (fact 𝓤 Two)) (fact_i 𝓤 Two (emp 𝓤) (second_run_filled open_ring cut)) $
+    use0 𝓛 (raw (fact 𝓤 One)) (fact_i 𝓤 One (emp 𝓤) (first_run_filled open_ring cut)) $ join ! $
     use0 𝓛 (raw (fact 𝓤 Within))
     (fact_i 𝓤 Within (emp 𝓤) (omega (arith, open_ring.len, length_within open_ring.laid))) $ join ! $
     use0 𝓛 (raw (fact 𝓤 In)) (fact_i 𝓤 In (emp 𝓤) (let inside = kept.0 in omega (arith, inside))) $ join ! $
@@ -165,9 +165,9 @@ lend_spec 𝓤 𝓛 𝓜 𝓡 wired X L =
     let none : d.start + length d.items ≤ d.capacity → it.second.now ≡ [] =
     λ in_one_piece. nil_from_length it.second.now (omega (
       arith,
-      run_length x.slots.places 0 rest it.second.now (second_filled open_ring cut).0 held',
+      run_length x.slots.places 0 rest it.second.now (second_run_filled open_ring cut).0 held',
       open_ring.len,
       open_ring.start,
-      open_ring.laid.long,
+      open_ring.laid.length_is,
     )) in
     says_two ! (lent_items open_ring cut it.first.now it.second.now held held', none) $ done !)))))))))))))))

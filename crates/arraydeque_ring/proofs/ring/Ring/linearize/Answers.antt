@@ -25,7 +25,7 @@ after g c =
     let places = ap (λ (region : Region g.row.T.Denot). region.places) c.replace-nothing.ensures.after ∙ turns in
     record {
       laid = LaidOut-from _
-          (ap length places ∙ length-rotated c.self.inside.start c.self.inside.slots.places ∙ ring.laid.long)
+          (ap length places ∙ length-rotated c.self.inside.start c.self.inside.slots.places ∙ ring.laid.length_is)
           (omega arith) (append-nil c.replace-nothing.new.dest.places ∙ places ∙ rotated-LaidOut ring.laid);
       len = ring.len;
       start = refl;

@@ -25,7 +25,7 @@ next : {X : Type 0} {ps : List (Option X)} (n : ℕ) (xs : List X) (m k place : 
     → Holds n 0 (λ j. if nat_lt j k then None else slice_get xs j) (set ps place (Some x)))
 next {ps = ps} n xs m k place one here lt h =
     let at = place_of-first k n lt ∙ sym here in (
-      (omega (arith, h.long), ap (held_at ps) (sym at) ∙ h.at k lt ∙ grind (arith, nat_tests)),
+      (omega (arith, h.length_is), ap (held_at ps) (sym at) ∙ h.at k lt ∙ grind (arith, nat_tests)),
       λ x is. subst (λ p. Holds n 0 (λ j. if nat_lt j k then None else slice_get xs j) (set ps p (Some x))) at
           (Holds-set h k (Some x) lt (sym is ∙ grind (arith, nat_tests)) (λ i i_in other. grind (arith, nat_tests))),
     )

@@ -16,7 +16,7 @@ gap : (g : Over) (c : After-take-item g) → let old = c.args.self.now in Gapped
     (take c.args.index old.items) 1 (drop (suc c.args.index) old.items) c.take-item.new.self.places
 gap g c =
     let ring = opened c.self.inside c.self.invariant c.self.view_is in
-    rw (c.take-item.ensures.places, c.wrap_add-place.ensures, c.capacity.ensures, ring.laid.long)
+    rw (c.take-item.ensures.places, c.wrap_add-place.ensures, c.capacity.ensures, ring.laid.length_is)
     (Gapped-taken_one ring.laid c.args.index c.requires)
 
 front : (g : Over) (c : After-take-item g) → length (take c.args.index c.args.self.now.items) ≡ c.args.index
@@ -57,7 +57,7 @@ pub returns-clause-start : goal.returns-clause-start
 returns-clause-start g c =
     let ring = opened c.self.inside c.self.invariant c.self.view_is in
     let gap = gap g (goal.at.returns-clause-start g c).After-take-item in
-    rw (← ring.start, ring.len) (rw gap.reads.long at c.close_gap-self-inside.ensures.start)
+    rw (← ring.start, ring.len) (rw gap.reads.length_is at c.close_gap-self-inside.ensures.start)
 
 pub returns-clause-fewest : goal.returns-clause-fewest
 returns-clause-fewest g c =

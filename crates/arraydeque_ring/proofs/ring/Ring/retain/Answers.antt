@@ -21,7 +21,7 @@ returns-then-kept-len-clause-retains g c =
 pub take-requires : goal.take-requires
 take-requires g c =
     let ring = opened c.self.inside c.self.invariant c.self.view_is in
-    rw (c.wrap_add.ensures, c.capacity-capacity.ensures, ring.laid.long)
+    rw (c.wrap_add.ensures, c.capacity-capacity.ensures, ring.laid.length_is)
     (IsFilled-place_of ring.laid _ (omega (arith, ring.len, c.kept_first-kept.ensures.within)))
 
 pub loop-index-init : goal.loop-index-init
@@ -34,7 +34,7 @@ loop-index-init g c =
         ← ring.steps,
         c.wrap_add.ensures,
         c.capacity-capacity.ensures,
-        ring.laid.long,
+        ring.laid.length_is,
       ) (first_goes (CalledAt g.F.FnMut) _ _ _ _ ring.laid
           (omega (arith, ring.len, c.kept_first-kept.ensures.within)) c.kept_first-kept.ensures.in_turn);
     }
@@ -106,8 +106,8 @@ after g c =
     let ring = opened c.self.inside c.self.invariant c.self.view_is in
     let so_far = c.loop-index.invariant.so_far in
     record {
-      laid = rw (c.capacity-capacity.ensures ∙ ring.laid.long) at (all_asked so_far (omega arith));
-      len = so_far.many;
+      laid = rw (c.capacity-capacity.ensures ∙ ring.laid.length_is) at (all_asked so_far (omega arith));
+      len = so_far.stay;
       start = ring.start;
       steps = so_far.cost;
     }
@@ -133,7 +133,7 @@ returns-clause-no_longer g c =
     let so_far = c.loop-index.invariant.so_far in
     omega (
       arith,
-      so_far.many,
+      so_far.stay,
       (all_within so_far (omega arith)).0,
       ap (λ (ring : RingState g.row.T.Denot). length ring.items) (closed (after g c)),
     )

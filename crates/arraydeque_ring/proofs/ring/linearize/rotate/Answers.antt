@@ -69,7 +69,7 @@ loop-next-preserved g c =
 
 pub place_last-requires-clause-filled : goal.place_last-requires-clause-filled
 place_last-requires-clause-filled g c =
-    rw c.loop-next.invariant.walk.long (still_fills c.requires.filled c.loop-next.invariant.walk)
+    rw c.loop-next.invariant.walk.length_is (still_fills c.requires.filled c.loop-next.invariant.walk)
 
 pub returns-clause-steps : goal.returns-clause-steps
 returns-clause-steps g c =

@@ -2,7 +2,7 @@ use Rattle.std.proofs.{Common.{◌≡◌, ◌-◌, ◌+◌, ◌<◌, [], ◌++�
 use Rattle.arraydeque_ring.{
   proofs.{
     places.{
-      Handed.{Handed, handed, first_empty, rest_empty, both_put},
+      Handed.{Handed, handed, first_empty, second_empty, both_put},
       Rotated.{MayStartAt-place_of, place_of-lt, length-rotated},
     },
     ring.parts.take_run.{Given.Over, Goals.{After-min-first}},
@@ -37,7 +37,7 @@ pub hand_over-requires-then-first-len-clause-empty : goal.hand_over-requires-the
 hand_over-requires-then-first-len-clause-empty g c =
     let p = parts g (goal.at.hand_over-requires-then-first-len-clause-empty g c).After-min-first in
     rw c.hand_over.ensures.there
-    (rest_empty c.args.len _ c.args.taken.now.places (omega arith) c.requires.empty _ [] p.many)
+    (second_empty c.args.len _ c.args.taken.now.places (omega arith) c.requires.empty _ [] p.first_length)
 
 pub returns-then-first-len-clause-places : goal.returns-then-first-len-clause-places
 returns-then-first-len-clause-places g c =
@@ -50,7 +50,7 @@ returns-then-first-len-clause-taken g c =
     let old = c.args.taken.now in
     let puts : old.steps.puts + c.min-first.result + (c.args.len - c.min-first.result) ≡ old.steps.puts + c.args.len =
     omega arith in
-    let both = both_put c.args.len c.min-first.result old.places (omega arith) c.requires.empty _ _ p.many
+    let both = both_put c.args.len c.min-first.result old.places (omega arith) c.requires.empty _ _ p.first_length
     ∙ ap (λ ps. ps ++ drop c.args.len old.places) p.all in
     rw (c.hand_over-then-first-len.ensures.there, c.hand_over.ensures.there, c.hand_over.ensures.here)
     (ap₂ (λ ps n. record { places = ps; steps = record old.steps { puts = n } }) both puts)

@@ -1,7 +1,7 @@
 use Rattle.std.proofs.Common.{◌≡◌, ◌-◌, ◌+◌, set, None, ap, sym, ◌∙◌, arith}
 use Rattle.arraydeque_ring.{
   specs.{Gaps.run_emptied, Places.held_at},
-  proofs.places.{Emptied.{next_held, next_emptied}, Held.filled_in_run},
+  proofs.places.{Emptied.{next_unchanged, next_emptied}, Held.filled_in_run},
 }
 use Rattle.arraydeque_ring.proofs.ring.retain.drop_run.Goals as goal
 
@@ -12,7 +12,7 @@ take-requires g c =
     let filled = filled_in_run _ from _ (place - from) c.requires.filled (omega arith) in
     let here : from + (place - from) ≡ place = omega arith in (
       filled.0,
-      ap (λ ps. held_at ps place) c.loop-place.invariant.places ∙ next_held _ from (place - from) place here
+      ap (λ ps. held_at ps place) c.loop-place.invariant.places ∙ next_unchanged _ from (place - from) place here
           (omega (arith, c.requires.filled.0)) ∙ ap (held_at c.args.slots.now.places) (sym here) ∙ filled.1,
     )
 

@@ -1,16 +1,16 @@
 use Rattle.std.proofs.{Common.{◌+◌, ◌-◌, ◌∙◌, arith}, Math.Nat.add_assoc}
-use Rattle.arraydeque_ring.proofs.moved.{Flat.all_moved, InBlocks.first_goes, Sources.round_run}
+use Rattle.arraydeque_ring.proofs.moved.{Flat.all_moved, InBlocks.first_block_goes, Sources.round_run}
 use Rattle.arraydeque_ring.proofs.slots.Slots.move_first.Goals as goal
 
 pub move_block-requires-clause-filled : goal.move_block-requires-clause-filled
 move_block-requires-clause-filled g c =
-    let goes = (first_goes _ _ g.row.N (c.args.len - (c.loop-moved.moved + g.row.N)) _ _
+    let goes = (first_block_goes _ _ g.row.N (c.args.len - (c.loop-moved.moved + g.row.N)) _ _
     (omega arith) c.loop-moved.invariant.can (omega arith)).can in
     round_run _ _ _ goes.source goes.filled
 
 pub loop-moved-preserved : goal.loop-moved-preserved
 loop-moved-preserved g c =
-    let goes = first_goes _ _ g.row.N (c.args.len - (c.loop-moved.moved + g.row.N)) _ _
+    let goes = first_block_goes _ _ g.row.N (c.args.len - (c.loop-moved.moved + g.row.N)) _ _
     (omega arith) c.loop-moved.invariant.can (omega arith) in
     rw (
       c.move_block.ensures,
