@@ -175,7 +175,7 @@ module _ {X : Type 0} {n t : ℕ} {xs : List X} {gap : ℕ} {ys : List X} {ps : 
     filled_before : IsFilledRun (rotated t ps) 0 i;
     empty : IsEmptyRun (rotated t ps) i gap;
     filled_behind : IsFilledRun (rotated t ps) (i + gap) m;
-    rest : IsEmptyRun (rotated t ps) (i + gap + m) (length ps - (i + gap + m));
+    others_empty : IsEmptyRun (rotated t ps) (i + gap + m) (length ps - (i + gap + m));
   }
 
   pub may_close : (i m : ℕ) → 0 < gap → length xs ≡ i → length ys ≡ m → Closes i m
@@ -193,7 +193,7 @@ module _ {X : Type 0} {n t : ℕ} {xs : List X} {gap : ℕ} {ys : List X} {ps : 
         filled_behind = filled_run_of _ (i + gap) m (omega arith) (λ x a b.
             let v = slice_get_some ys (x - (length xs + gap)) (omega arith) in
             (v.0, gap_at x (omega arith) ∙ grind (arith, nat_tests, v.1)));
-        rest = empty_run_of _ (i + gap + m) (length ps - (i + gap + m)) (omega arith)
+        others_empty = empty_run_of _ (i + gap + m) (length ps - (i + gap + m)) (omega arith)
             (λ x a b. gap_at x (omega arith) ∙ grind (arith, nat_tests, items));
       }
 

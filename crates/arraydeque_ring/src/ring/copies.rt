@@ -56,11 +56,11 @@ impl<T> Ring<T> {
             Ok(slots) => slots,
             Err(_) => return Err(v),
         };
-        let mut rest = v;
-        rest.truncate(capacity);
-        let len = rest.len();
-        while let Some(item) = rest.pop() {
-            slots.put(rest.len(), item);
+        let mut items = v;
+        items.truncate(capacity);
+        let len = items.len();
+        while let Some(item) = items.pop() {
+            slots.put(items.len(), item);
         }
         Ok(Ring {
             slots,

@@ -14,7 +14,7 @@ use std::marker::Model;
 pub struct IntoIter<T> {
     ring: Ring<T>,
     /// The most items that [`Ring::take_before_end`] can't take.
-    rest: usize,
+    from_last_place: usize,
 }
 
 impl<T> Model for IntoIter<T> {
@@ -25,7 +25,7 @@ impl<T> Model for IntoIter<T> {
     ghost view = { λ it. it.ring.items };
 
     ghost invariant = { λ it.
-        length it.ring.items - (it.ring.capacity - 1 - it.ring.start) ≤ it.rest };
+        length it.ring.items - (it.ring.capacity - 1 - it.ring.start) ≤ it.from_last_place };
 }
 
 impl<T> IntoIter<T> {
@@ -34,8 +34,8 @@ impl<T> IntoIter<T> {
     pub fn of(ring: Ring<T>) -> IntoIter<T>
         ensures { result ≡ ring.items }
     {
-        let rest = ring.len_from_last_place();
-        IntoIter { ring, rest }
+        let from_last_place = ring.len_from_last_place();
+        IntoIter { ring, from_last_place }
     }
 }
 
@@ -48,11 +48,11 @@ impl<T: Drop> Iterator for IntoIter<T> {
 
     #[inline]
     fn next(&mut self) -> Option<T> {
-        if self.ring.len() > self.rest {
+        if self.ring.len() > self.from_last_place {
             return Some(self.ring.take_before_end());
         }
         let item = self.ring.pop_front();
-        self.rest = self.ring.len_from_last_place();
+        self.from_last_place = self.ring.len_from_last_place();
         item
     }
 

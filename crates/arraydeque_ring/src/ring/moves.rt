@@ -83,7 +83,7 @@ pub(super) fn close_gap<T>(
     requires filled_before { IsFilledRun (rotated start slots.old.places) 0 before }
     requires empty { IsEmptyRun (rotated start slots.old.places) before gap }
     requires filled_behind { IsFilledRun (rotated start slots.old.places) (before + gap) behind }
-    requires rest { let len = before + gap + behind in
+    requires others_empty { let len = before + gap + behind in
         IsEmptyRun (rotated start slots.old.places) len (length slots.old.places - len) }
     ensures start { result ≡ start_closed before gap behind (length slots.old.places) start }
     ensures places { rotated result slots.new.places ≡

@@ -122,12 +122,12 @@ impl<T> Slots<T> {
         requires within { len ≤ length self.old.places }
         requires first_filled { IsFilledRun self.old.places start
             (min len (length self.old.places - start)) }
-        requires rest_filled { IsFilledRun self.old.places 0
+        requires second_filled { IsFilledRun self.old.places 0
             (len - min len (length self.old.places - start)) }
         ensures* writes_back { sem 𝓛 (lends_loan T.row self.entry start 0 result) }
         ensures first { HoldsRun self.old.places start
             (min len (length self.old.places - start)) result.first.now }
-        ensures rest { HoldsRun self.old.places 0
+        ensures second { HoldsRun self.old.places 0
             (len - min len (length self.old.places - start)) result.second.now }
     {
         let first = len.min(self.capacity - start);

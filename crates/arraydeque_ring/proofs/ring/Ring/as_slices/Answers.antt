@@ -1,6 +1,6 @@
 use Rattle.std.proofs.Common.{◌-◌, [], inl, refl, arith}
 use Rattle.arraydeque_ring.proofs.{
-  loans.Lending.{Cut, cut_at_end, first_filled, second_filled, lent_items},
+  loans.Lending.{Cut, cut_at_end, first_run_filled, second_run_filled, lent_items},
   places.Opened.opened,
 }
 use Rattle.arraydeque_ring.proofs.ring.Ring.as_slices.Goals as goal
@@ -9,14 +9,14 @@ pub slice-requires : goal.slice-requires
 slice-requires g c =
     let cut : Cut c.self.inside c.self.inside.len 0 =
     record { all = omega arith; fits = omega (arith, c.capacity.ensures, c.self.invariant.0); to_end = inl refl } in
-    first_filled (opened c.self.inside c.self.invariant c.self.view_is) cut
+    first_run_filled (opened c.self.inside c.self.invariant c.self.view_is) cut
 
 pub slice-requires-else-self-to_end : goal.slice-requires-else-self-to_end
-slice-requires-else-self-to_end g c = first_filled (opened c.self.inside c.self.invariant c.self.view_is)
+slice-requires-else-self-to_end g c = first_run_filled (opened c.self.inside c.self.invariant c.self.view_is)
     (cut_at_end c.self.inside c.self.invariant _ (omega (arith, c.capacity.ensures)))
 
 pub slice-requires-else-self-to_end-2 : goal.slice-requires-else-self-to_end-2
-slice-requires-else-self-to_end-2 g c = second_filled (opened c.self.inside c.self.invariant c.self.view_is)
+slice-requires-else-self-to_end-2 g c = second_run_filled (opened c.self.inside c.self.invariant c.self.view_is)
     (cut_at_end c.self.inside c.self.invariant (c.capacity.result - c.self.inside.start)
     (omega (arith, c.capacity.ensures)))
 
