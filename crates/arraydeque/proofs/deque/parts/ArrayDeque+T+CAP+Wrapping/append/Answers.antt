@@ -1,5 +1,5 @@
 use Rattle.std.proofs.Common.{◌-◌, length, arith}
-use Rattle.arraydeque_ring.proofs.places.Appended.up_by-both
+use Rattle.arraydeque_ring.proofs.places.Appended.{up_by-both}
 use Rattle.arraydeque.proofs.KeepLast.{keep_last-joined}
 use Rattle.arraydeque.proofs.deque.parts.ArrayDeque+T+CAP+Wrapping.append.Goals as goal
 
