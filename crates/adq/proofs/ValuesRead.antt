@@ -24,10 +24,10 @@ zipped_more R (a ∷ xs) (b ∷ ys) x y z h = (z.0, zipped_more R xs ys x y z.1 
 pub parted_more : (words : List (List ℕ)) (xs : List ℤ) (word : List ℕ) (left : List (List ℕ)) (x : ℤ)
     → Parted words xs (word ∷ left) → Spells word (value x) → Parted words (xs ++ x ∷ []) left
 parted_more words xs word left x (front, e, z) h = (
-      front ++ word ∷ [],
-      e ∙ sym (append_assoc front (word ∷ []) left),
-      rw (map-append value xs (x ∷ [])) (zipped_more Spells front (map value xs) word (value x) z h),
-    )
+  front ++ word ∷ [],
+  e ∙ sym (append_assoc front (word ∷ []) left),
+  rw (map-append value xs (x ∷ [])) (zipped_more Spells front (map value xs) word (value x) z h),
+)
 
 -- and a word that spells no value
 zip_bad : (front : List (List ℕ)) (word : List ℕ) (left : List (List ℕ)) (ys : List ℤ)

@@ -20,8 +20,12 @@ keep_last-append n xs ys =
 -- where there are n already, an item more goes behind them, and the first of them goes
 pub keep_last-full : {X : Type 0} (n : ℕ) (xs : List X) (y : X) → 0 < n → n ≤ length xs →
     keep_last n (xs ++ y ∷ []) ≡ drop 1 (keep_last n xs) ++ y ∷ []
-keep_last-full n xs y some full = grind (arith, length-append xs (y ∷ []), drop-drop 1 (length xs - n) xs,
-    drop-append-le (length xs - n + 1) xs (y ∷ []))
+keep_last-full n xs y some full = grind (
+  arith,
+  length-append xs (y ∷ []),
+  drop-drop 1 (length xs - n) xs,
+  drop-append-le (length xs - n + 1) xs (y ∷ []),
+)
 
 -- what becomes of the last items, one extend or push after another
 pub ruleset keep_last_rules = (keep_last-all, keep_last-append, keep_last-full)
@@ -39,5 +43,11 @@ pub keep_last-joined : {X : Type 0} (n : ℕ) (xs ys : List X) (len : ℕ) → l
     keep_last (n - len) xs ++ take len (keep_last len ys) ≡ keep_last n (xs ++ ys)
 keep_last-joined n xs ys len many =
     let total = length (xs ++ ys) - n in
-    grind (arith, length-append xs ys, length-drop (length ys - len) ys, drop_min total xs, drop-append total xs ys,
-    take_all len (keep_last len ys))
+    grind (
+      arith,
+      length-append xs ys,
+      length-drop (length ys - len) ys,
+      drop_min total xs,
+      drop-append total xs ys,
+      take_all len (keep_last len ys),
+    )

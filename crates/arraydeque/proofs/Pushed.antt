@@ -57,8 +57,14 @@ module _ {X : Type 0} (n : ℕ) (some : 0 < n) (old mid : DequeState X) (xs : Li
     WrapsBack-both ring new ys is all full out =
         let was : ring ≡ as_ring n (with_back xs old) = λ i. as_ring (all i) ((is ∙ same) i) in
         wraps (of_ring new) (wrapped_back n (xs ++ ys) old) (ap of_ring (out ∙ ap (displaced_first ys) was)
-        ∙ grind (arith, nat_tests, length-with_back, append_assoc old.items xs ys, length-append xs ys,
-        length-append old.items (xs ++ ys)))
+        ∙ grind (
+          arith,
+          nat_tests,
+          length-with_back,
+          append_assoc old.items xs ys,
+          length-append xs ys,
+          length-append old.items (xs ++ ys),
+        ))
 
   module _ (same : mid ≡ with_front n xs old) where
     length-joined : length (reverse xs ++ old.items) ≡ length old.items + length xs
@@ -76,5 +82,11 @@ module _ {X : Type 0} (n : ℕ) (some : 0 < n) (old mid : DequeState X) (xs : Li
     WrapsFront-both ring new ys is all full out =
         let was : ring ≡ as_ring n (with_front n xs old) = λ i. as_ring (all i) ((is ∙ same) i) in
         wraps (of_ring new) (wrapped_front n (xs ++ ys) old) (ap of_ring (out ∙ ap (displaced_last ys) was)
-        ∙ grind (arith, length-with_front, length-joined, all_before xs ys old.items, down_by-all xs ys old.start n,
-        length-append xs ys))
+        ∙ grind (
+          arith,
+          length-with_front,
+          length-joined,
+          all_before xs ys old.items,
+          down_by-all xs ys old.start n,
+          length-append xs ys,
+        ))

@@ -39,8 +39,14 @@ module _ {S A : Type 0} (steps : S → Option A → S → Type 0) where
     HandsOut-append first second = (
       first.0 ++ second.0,
       Reads-append old.ended mid.ended new.ended old.iter mid.iter new.iter first.0 second.0 first.1 second.1,
-      grind (arith, append_assoc old.buffer first.0 second.0, append_assoc xs mid.buffer second.0,
-      append_assoc xs ys new.buffer, first.2, second.2),
+      grind (
+        arith,
+        append_assoc old.buffer first.0 second.0,
+        append_assoc xs mid.buffer second.0,
+        append_assoc xs ys new.buffer,
+        first.2,
+        second.2,
+      ),
     )
 
   -- what is handed out goes off the rest

@@ -35,7 +35,10 @@ impl<T> IntoIter<T> {
         ensures { result ≡ ring.items }
     {
         let from_last_place = ring.len_from_last_place();
-        IntoIter { ring, from_last_place }
+        IntoIter {
+            ring,
+            from_last_place,
+        }
     }
 }
 

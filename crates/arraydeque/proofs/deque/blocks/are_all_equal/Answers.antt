@@ -7,5 +7,11 @@ loop-k-preserved g c =
     let k = c.loop-k.k in
     let left = c.args.left.now in
     let right = c.args.right.now in
-    grind (arith, pointwise-push g.T.PartialEq.eq (take k left) (take k right), length-take-le k left,
-    length-take-le k right, take_more left k c.index-left-k.result, take_more right k c.index-right-k.result)
+    grind (
+      arith,
+      pointwise-push g.T.PartialEq.eq (take k left) (take k right),
+      length-take-le k left,
+      length-take-le k right,
+      take_more left k c.index-left-k.result,
+      take_more right k c.index-right-k.result,
+    )
