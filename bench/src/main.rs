@@ -1,5 +1,6 @@
 //! Times the proved deque beside the Rust crate arraydeque and std's `VecDeque`, all in one process.
 mod chart;
+mod counts;
 mod figures;
 mod items;
 mod peers;
@@ -270,53 +271,28 @@ fn measure(wanted: &str, repetitions: usize, writes: bool) -> std::io::Result<()
     if writes && wanted.is_empty() { figures::write(&all, count_first) } else { Ok(()) }
 }
 
-/// Makes rounds of one workload by ours alone, for another program to count its instructions.
-fn once(name: &str, rounds: usize) {
-    let scaled = scale_workloads();
-    let work = scaled.iter().find(|(known, _)| known == name).expect("a workload of the scale");
-    black_box((work.1)(black_box(rounds)));
-}
-
-type Ours = Box<dyn Fn(usize) -> u64>;
-
-/// Work whose cost is not to grow with the capacity.
-fn scale_workloads() -> Vec<(String, Ours)> {
-    let mut list: Vec<(String, Ours)> = Vec::new();
-    macro_rules! scaled {
-        ($export:ident) => {
-            unsafe extern "C" {
-                fn $export(capacity: usize, rounds: usize) -> u64;
-            }
-            for capacity in [64, 1024, 65536, 1048576] {
-                let name = format!("{}_{capacity}", stringify!($export).trim_start_matches("arraydeque_scale_"));
-                // SAFETY: the declaration fits the export, which asks for nothing.
-                list.push((name, Box::new(move |rounds| unsafe { $export(capacity, rounds) })));
-            }
-        };
-    }
-    scaled!(arraydeque_scale_push);
-    scaled!(arraydeque_scale_pop);
-    scaled!(arraydeque_scale_get);
-    scaled!(arraydeque_scale_insert);
-    list
+fn all_workloads() -> Vec<Workload> {
+    first_workloads().into_iter().chain(further_workloads()).collect()
 }
 
 fn main() {
     let words: Vec<String> = std::env::args().skip(1).collect();
-    if let [word, name, rounds] = &words[..]
-        && word == "--once"
-    {
-        return once(name, rounds.parse().expect("a number of rounds"));
-    }
-    if words.first().is_some_and(|word| word == "--draw") {
-        return figures::draw(first_workloads().len()).expect("figures.csv can be read, and what is drawn be written");
-    }
-    let writes = std::env::var_os("ARRAYDEQUE_BENCH_CPU").is_none();
-    let wanted = words.first().cloned().unwrap_or_default();
-    let repetitions = words.get(1).and_then(|word| word.parse().ok()).unwrap_or(51);
     // A peer lies on the stack whole, and the largest has a million items.
-    let measuring =
-        std::thread::Builder::new().stack_size(1 << 28).spawn(move || measure(&wanted, repetitions, writes));
-    let ended = measuring.expect("a thread").join().expect("all sums agree, and each round takes time");
-    ended.expect("the figures can be written");
+    let working = std::thread::Builder::new().stack_size(1 << 28).spawn(move || work(&words));
+    working.expect("a thread").join().expect("all sums agree, and each round takes time");
+}
+
+fn work(words: &[String]) {
+    let word = |place: usize| words.get(place).map_or("", String::as_str);
+    match word(0) {
+        "--draw" => figures::draw(first_workloads().len()).expect("figures.csv can be read, and what is drawn be written"),
+        "--scale" => counts::scale(),
+        "--count" => counts::count(word(1)),
+        "--once" => counts::once(word(1), word(2), word(3).parse().expect("a number of rounds")),
+        wanted => {
+            let repetitions = word(1).parse().unwrap_or(51);
+            let writes = std::env::var_os("ARRAYDEQUE_BENCH_CPU").is_none();
+            measure(wanted, repetitions, writes).expect("the figures can be written");
+        }
+    }
 }

@@ -1,0 +1,82 @@
+//! Instructions of a round, as valgrind counts them.
+use crate::all_workloads;
+use std::hint::black_box;
+use std::process::Command;
+
+/// Who does a workload, in the order of the columns.
+const WHO: [&str; 3] = ["ours", "crate", "VecDeque"];
+
+type Ours = Box<dyn Fn(usize) -> u64>;
+
+/// Work whose cost is not to grow with the capacity.
+fn scale_workloads() -> Vec<(String, Ours)> {
+    let mut list: Vec<(String, Ours)> = Vec::new();
+    macro_rules! scaled {
+        ($export:ident) => {
+            unsafe extern "C" {
+                fn $export(capacity: usize, rounds: usize) -> u64;
+            }
+            for capacity in [64, 1024, 65536, 1048576] {
+                let name = format!("{}_{capacity}", stringify!($export).trim_start_matches("arraydeque_scale_"));
+                // SAFETY: the declaration fits the export, which asks for nothing.
+                list.push((name, Box::new(move |rounds| unsafe { $export(capacity, rounds) })));
+            }
+        };
+    }
+    scaled!(arraydeque_scale_push);
+    scaled!(arraydeque_scale_pop);
+    scaled!(arraydeque_scale_get);
+    scaled!(arraydeque_scale_insert);
+    list
+}
+
+/// Makes rounds of one workload by one of the three alone, for valgrind to count its instructions.
+pub fn once(name: &str, who: &str, rounds: usize) {
+    let rounds = black_box(rounds);
+    if let Some((_, work)) = scale_workloads().iter().find(|(known, _)| known == name) {
+        black_box(work(rounds));
+        return;
+    }
+    let all = all_workloads();
+    let workload = all.iter().find(|workload| workload.name == name).expect("a workload");
+    black_box(match who {
+        "ours" => (workload.ours)(rounds),
+        "crate" => workload.peers[0](rounds),
+        _ => workload.peers[1](rounds),
+    });
+}
+
+fn collected(name: &str, who: &str, rounds: usize) -> u64 {
+    let itself = std::env::current_exe().expect("a path of this program");
+    let mut valgrind = Command::new("valgrind");
+    valgrind.args(["--tool=callgrind", "--callgrind-out-file=/dev/null"]).arg(itself);
+    let told = valgrind.args(["--once", name, who, &rounds.to_string()]).output().expect("valgrind").stderr;
+    let told = String::from_utf8_lossy(&told);
+    let count = told.lines().find_map(|line| line.split_once("Collected : ")?.1.trim().parse().ok());
+    count.unwrap_or_else(|| panic!("{name}: {told}"))
+}
+
+/// The instructions of a round: what some more rounds take beyond a few.
+fn instructions(name: &str, who: &str, more: usize) -> f64 {
+    let few = collected(name, who, 16);
+    (collected(name, who, 16 + more) - few) as f64 / more as f64
+}
+
+/// Prints the instructions of a round of each of the three, of the workloads whose names hold the words.
+pub fn count(wanted: &str) {
+    println!("| Instructions a round | {} |\n|---|---|---|---|", WHO.join(" | "));
+    for workload in all_workloads().iter().filter(|workload| workload.name.contains(wanted)) {
+        let counts = WHO.map(|who| format!("{:.1}", instructions(&workload.name, who, 64)));
+        println!("| {} | {} |", workload.name, counts.join(" | "));
+    }
+}
+
+/// Prints the instructions of a round of ours at four capacities.
+pub fn scale() {
+    println!("| Instructions a round | 64 | 1024 | 65536 | 1048576 |\n|---|---|---|---|---|");
+    for works in scale_workloads().chunks(4) {
+        let name = works[0].0.trim_end_matches("_64");
+        let counts = works.iter().map(|(name, _)| format!("{:.1}", instructions(name, WHO[0], 10_000)));
+        println!("| {name} | {} |", counts.collect::<Vec<_>>().join(" | "));
+    }
+}
