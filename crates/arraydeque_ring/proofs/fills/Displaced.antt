@@ -76,10 +76,12 @@ module _ {X : Type 0} where
         (r.items ++ (xs ++ ys)) =
         ap (drop (length ys)) (sym (drop-append-le (length xs) (r.items ++ xs) ys
         (omega (arith, length-append r.items xs))) ∙ ap (drop (length xs)) (append_assoc r.items xs ys))
-        ∙ drop-drop (length ys) (length xs) (r.items ++ (xs ++ ys)) ∙ ap (λ k. drop k (r.items ++ (xs ++ ys))) lengths_joined in
+        ∙ drop-drop (length ys) (length xs) (r.items ++ (xs ++ ys))
+        ∙ ap (λ k. drop k (r.items ++ (xs ++ ys))) lengths_joined in
         λ i. record r {
           items = items i;
-          start = (up_by-both (length xs) (length ys) r.start r.capacity ∙ ap (λ k. up_by k r.start r.capacity) lengths_joined) i;
+          start = (up_by-both (length xs) (length ys) r.start r.capacity
+              ∙ ap (λ k. up_by k r.start r.capacity) lengths_joined) i;
           steps = steps_of_both r.steps i;
         }
 
@@ -90,4 +92,8 @@ module _ {X : Type 0} where
         ap (λ k. take k (reverse ys ++ take n all))
         (length-take-le n all (omega (arith, length-append (reverse xs) r.items)))
         ∙ kept_behind n n (reverse ys) all (omega arith) ∙ ap (take n) (all_before xs ys r.items) in
-        λ i. record r { items = items i; start = down_by-all xs ys r.start r.capacity i; steps = steps_of_both r.steps i }
+        λ i. record r {
+          items = items i;
+          start = down_by-all xs ys r.start r.capacity i;
+          steps = steps_of_both r.steps i;
+        }

@@ -154,5 +154,6 @@ module _ {X : Type 0} (t : ℕ) (ps : List (Option X)) (t_in : t < length ps) wh
         (length-gap_moved from to gap _ (omega (arith, wide)) (omega (arith, wide)) ∙ wide)
         (λ x x_in. elim (cases_lt x from) [
           | inl low ↦ grind (arith, nat_tests, empty_in_gap x)
-          | inr high ↦ let on : from + gap + (x - from) ≡ x + gap = omega arith in grind (arith, nat_tests, empty_in_gap x, on)
+          | inr high ↦ let on : from + gap + (x - from) ≡ x + gap = omega arith in
+              grind (arith, nat_tests, empty_in_gap x, on)
         ] ∙ sym (get_or-gap_moved from to gap _ (omega (arith, wide)) (omega (arith, wide)) x))

@@ -94,7 +94,8 @@ module _ {X : Type 0} {n t : ℕ} {xs : List X} {ps : List (Option X)} (l : Laid
       (v.0, Holds-rotated turned x (omega arith) ∙ grind (arith, nat_tests, v.1)))
 
   -- the gap once it is there
-  gap_reached : (s from : ℕ) (qs : List (Option X)) → s ≤ n - 1 → from < n → rotated s qs ≡ gap_moved from i 1 (rotated s ps)
+  gap_reached : (s from : ℕ) (qs : List (Option X)) → s ≤ n - 1 → from < n
+      → rotated s qs ≡ gap_moved from i 1 (rotated s ps)
       → ((x : ℕ) → x < n → held_at (gap_moved from i 1 (rotated s ps)) x ≡ gapped (take i xs) 1 (drop i xs) x)
       → Gapped n s (take i xs) 1 (drop i xs) qs
   gap_reached s from qs s_in from_in is at = let wide = length-rotated s ps in let long = l.length_is in record {

@@ -97,7 +97,8 @@ module _ {X : Type 0} {capacity start len dst next : ℕ} {old ps : List (Option
 
   before : Underway dst (next - dst) (capacity - next) len ps
   before =
-      underway dst (next - dst) (capacity - next) len ps (omega (arith, t.length_is, t.in_order, t.in_region)) still_fills
+      underway dst (next - dst) (capacity - next) len ps (omega (arith, t.length_is, t.in_order, t.in_region))
+      still_fills
 
   pub Rotating-fits : len ≤ capacity
   Rotating-fits = omega (arith, before.fits, t.length_is)
@@ -111,7 +112,8 @@ module _ {X : Type 0} {capacity start len dst next : ℕ} {old ps : List (Option
         → ((capacity - next ≤ run) × (next_then ≡ next)) ⊎ ((run < capacity - next) × (next_then ≡ next + run))
         → Rotating capacity start len (dst + run) next_then old (runs_exchanged dst next run ps)
     Rotating-passed next_then ways = record {
-      length_is = length-runs_exchanged dst next run ps (omega (arith, t.in_order)) (omega (arith, t.length_is)) ∙ t.length_is;
+      length_is = length-runs_exchanged dst next run ps (omega (arith, t.in_order)) (omega (arith, t.length_is))
+          ∙ t.length_is;
       in_order = elim ways [ inl w ↦ omega (arith, t.in_order) | inr w ↦ omega (arith, t.in_order) ];
       in_region = elim ways [ inl w ↦ omega (arith, t.in_region) | inr w ↦ omega arith ];
       placed = omega arith;

@@ -67,8 +67,8 @@ module _ {X : Type 0} where
         let behind : ys ≡ drop first v.items = elim c.to_end [
           | inl none ↦ nil_from_length ys (omega (arith, none, run_length ps 0 rest ys (omega (arith, none)) held')) ∙
               sym (nil_from_length (drop first v.items) (omega (arith, none, c.all, o.len, length-drop first v.items)))
-          | inr end ↦ same_run o.laid first 0 rest ys (inr (omega (arith, o.laid.length_is))) (omega (arith, c.all, o.len))
-              (omega (arith, low, c.fits, o.laid.length_is)) held'
+          | inr end ↦ same_run o.laid first 0 rest ys (inr (omega (arith, o.laid.length_is)))
+              (omega (arith, c.all, o.len)) (omega (arith, low, c.fits, o.laid.length_is)) held'
               ∙ take_all rest (drop first v.items) (omega (arith, c.all, o.len, length-drop first v.items))
         ] in
         ap₂ (λ l m. l ++ m) front behind ∙ take-append-drop first v.items

@@ -14,8 +14,8 @@ use Rattle.arraydeque_ring.proofs.{
 
 module _ {X : Type 0} {n t : ℕ} {xs : List X} {ps : List (Option X)} (l : LaidOut n t xs ps) where
   -- what follows the items, round the end, is empty
-  others_empty : t + length xs ≤ n → drop (t + length xs) ps ++ take t ps ≡ replicate (n - length xs) None
-  others_empty fits =
+  past_items_empty : t + length xs ≤ n → drop (t + length xs) ps ++ take t ps ≡ replicate (n - length xs) None
+  past_items_empty fits =
       let m = length xs in
       let long = l.length_is in
       ap (λ r. r ++ take t ps) (sym (drop-drop m t ps))
@@ -31,7 +31,7 @@ module _ {X : Type 0} {n t : ℕ} {xs : List X} {ps : List (Option X)} (l : Laid
       let read : rotated t (with_run t ys ps) ≡ and_empty ys (n - length ys) =
       ap₂ (λ a b. a ++ b) (drop_at (take t ps) behind t front) (take_at (take t ps) behind t front)
       ∙ append_assoc (map Some ys) (drop (t + length ys) ps) (take t ps)
-      ∙ ap (λ r. map Some ys ++ r) (ap (λ k. drop (t + k) ps ++ take t ps) same ∙ others_empty fits
+      ∙ ap (λ r. map Some ys ++ r) (ap (λ k. drop (t + k) ps ++ take t ps) same ∙ past_items_empty fits
       ∙ ap (λ k. replicate (n - k) None) (sym same))
       in
       LaidOut-from (n - length ys) (length-with_run t ys ps (omega arith) ∙ long) l.in_region read

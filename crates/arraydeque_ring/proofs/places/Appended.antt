@@ -38,14 +38,15 @@ module _ {X : Type 0} where
   pub Holds-run : {n t : ℕ} {f : ℕ → Option X} {ps : List (Option X)} → Holds n t f ps → (i place : ℕ) (ys : List X)
       → MayStartAt t i n place → place + length ys ≤ n → i + length ys ≤ n → Holds n t (λ k. if nat_lt k i then f k
       else (if nat_lt k (i + length ys) then slice_get ys (k - i) else f k)) (with_run place ys ps)
-  Holds-run {n} {t} {ps = ps} h i place ys lies fits room = let long = h.length_is in let in_region = h.in_region in record {
-    length_is = length-with_run place ys ps (omega arith) ∙ long;
-    in_region = in_region;
-    at = λ k lt.
-        let was = h.at k lt in
-        let read = get_or-with_run place ys ps in
-        grind (arith, nat_tests, read, was, place_of_cases t k n (omega arith), lies);
-  }
+  Holds-run {n} {t} {ps = ps} h i place ys lies fits room =
+      let long = h.length_is in let in_region = h.in_region in record {
+        length_is = length-with_run place ys ps (omega arith) ∙ long;
+        in_region = in_region;
+        at = λ k lt.
+            let was = h.at k lt in
+            let read = get_or-with_run place ys ps in
+            grind (arith, nat_tests, read, was, place_of_cases t k n (omega arith), lies);
+      }
 
   module _ {n t : ℕ} {xs : List X} {ps : List (Option X)} (l : LaidOut n t xs ps) where
     pub LaidOut-appended : (ys : List X) (place : ℕ) → MayStartAt t (length xs) n place →

@@ -111,8 +111,10 @@ module _ {X : Type 0} {n t : ℕ} {xs : List X} {ps : List (Option X)} (l : Laid
       (λ k lt. Holds-rotated (holds l) (i + k) (omega arith) ∙ grind (arith, nat_tests, items))
 
   pub IsFilledRun-rotated : (i len : ℕ) → i + len ≤ length xs → IsFilledRun (rotated t ps) i len
-  IsFilledRun-rotated i len le =
-      (omega (arith, l.length_is, length-rotated t ps, length_within), (take len (drop i xs), HoldsRun-rotated i len le))
+  IsFilledRun-rotated i len le = (
+    omega (arith, l.length_is, length-rotated t ps, length_within),
+    (take len (drop i xs), HoldsRun-rotated i len le),
+  )
 
   -- they stand from the place p on
   HoldsRun-LaidOut : (i p len : ℕ) → MayStartAt t i n p → i + len ≤ length xs → p + len ≤ n

@@ -67,7 +67,8 @@ module _ {X : Type 0} where
   pub bounds : (r : Inside X) (v : RingState X) → Kept r → view r ≡ v → (view r ≡ v) × (length v.items ≡ r.len)
       × (r.len ≤ length r.slots.places) × (v.capacity ≡ length r.slots.places) × (v.start ≡ r.start)
   bounds r v kept is = let o = opened r kept is in
-      (is, o.len, omega (arith, o.laid.within, o.laid.length_is, o.len), omega (arith, o.laid.length_is), omega (arith, o.start))
+      let same = o.laid.length_is in
+      (is, o.len, omega (arith, o.laid.within, same, o.len), omega (arith, same), omega (arith, o.start))
 
 -- where the places ps hold the items xs, laid out from the place t on, what the invariant and the view say of ps
 abbrev pub Shows : {X : Type 0} → ℕ → ℕ → ℕ → List X → List (Option X) → Type 0

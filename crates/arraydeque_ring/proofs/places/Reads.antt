@@ -48,7 +48,8 @@ module _ {X : Type 0} (a b : ℕ) (ps : List (Option X)) where
   runs_exchanged_both n m before within =
       let once = runs_exchanged a b n ps in
       let length-so_far = length-runs_exchanged a b n ps (omega arith) (omega arith) in
-      same_places _ _ (length-runs_exchanged (a + n) (b + n) m once (omega arith) (omega (arith, length-so_far)) ∙ length-so_far
+      same_places _ _ (length-runs_exchanged (a + n) (b + n) m once (omega arith) (omega (arith, length-so_far))
+      ∙ length-so_far
       ∙ sym (length-runs_exchanged a b (n + m) ps before within)) (λ x lt.
       get_or-runs_exchanged (a + n) (b + n) m once (omega arith) (omega (arith, length-so_far)) x
       ∙ get_or-runs_exchanged a b n ps (omega arith) (omega arith) (exchanged_from (a + n) (b + n) m x)

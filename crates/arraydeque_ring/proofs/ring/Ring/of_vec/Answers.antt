@@ -45,7 +45,8 @@ loop-item-preserved g c =
       left = (
         omega (arith, was.left.0, popped.len),
         λ j lt. ap (λ l. slice_get l j) popped.rest ∙ slice_get-take
-            (vec_len c.loop-item.items - 1) c.loop-item.items.items j ∙ grind (arith, nat_tests, was.left.1, popped.len),
+            (vec_len c.loop-item.items - 1) c.loop-item.items.items j
+            ∙ grind (arith, nat_tests, was.left.1, popped.len),
       );
       filled = rw c.put.ensures.places
           (after.1 c.in-Some.item (sym (was.left.1 k (omega (arith, popped.len))) ∙ ap (λ l. slice_get l k) popped.items
