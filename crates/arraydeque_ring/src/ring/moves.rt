@@ -69,7 +69,7 @@ impl<T> Ring<T> {
 /// Closes the `gap` empty places between the `before` values from the place `start` on and the
 /// `behind` values that follow the gap. The values on one side move: those before it where they are
 /// the fewer, else those behind it. The answer is the place where the list starts then.
-#[inline]
+#[inline(always)]
 pub(super) fn close_gap<T>(
     slots: &mut Slots<T>,
     start: usize,

@@ -2,7 +2,8 @@
 //!
 //! Between two regions a run goes by one copy. Within a region it is cut into parts that don't pass
 //! the region's end, and each part is copied in blocks by `move_block`, in an order that overwrites
-//! no value that has still to move. Meanwhile the region is a local: its pointer is known to stay.
+//! no value that has still to move. Where values move or are exchanged one by one, the region is a
+//! local meanwhile: its pointer is known to stay.
 ghost use Rattle.std.specs.Prelude.{◌≡◌, ◌+◌, ◌-◌, ◌<◌, ◌≤◌, length, take, drop, if◌then◌else◌, ◌==◌};
 ghost use Rattle.std.specs.List.{splice};
 ghost use Rattle.arraydeque_ring.specs.Exchanged.{runs_exchanged};
@@ -88,21 +89,11 @@ impl<T> Slots<T> {
             return;
         }
         let capacity = self.capacity();
-        if dst == wrap_add(src, 1, capacity) {
-            self.slide_up(src, len);
-            return;
-        }
-        if src == wrap_add(dst, 1, capacity) {
-            self.slide_down(dst, len);
-            return;
-        }
-        let mut slots = self.moved_out();
         if len <= (capacity - dst).min(capacity - src) {
-            slots.copy(dst, src, len);
+            self.copy(dst, src, len);
         } else {
-            slots = slots.moved_in_parts(dst, src, len);
+            self.copy_in_parts(dst, src, len);
         }
-        *self = slots;
         self.count(StepKind::Move, len);
     }
 
@@ -191,7 +182,7 @@ impl<T> Slots<T> {
         slots
     }
 
-    /// Moves a run in three parts, cut where either side passes the region's end, by a plain copy
+    /// Copies a run in three parts, cut where either side passes the region's end, by a plain copy
     /// each: from the first on where the run moves down, by no more places than are free, else
     /// from the last on. In a region of 8 places, six values from place 4 on to place 6:
     ///
@@ -201,9 +192,9 @@ impl<T> Slots<T> {
     ///     c d from 6 to 0    c d e f a b . .
     ///     a b from 4 to 6    c d e f . . a b
     #[inline(never)]
-    fn moved_in_parts(self, dst: usize, src: usize, len: usize) -> Slots<T>
-        requires { CanMove dst src len self.places }
-        ensures { result ≡ record self { places = run_moved dst src len self.places } }
+    fn copy_in_parts(&mut self, dst: usize, src: usize, len: usize)
+        requires { CanMove dst src len self.old.places }
+        ensures { self.new ≡ record self.old { places = run_moved dst src len self.old.places } }
     {
         let capacity = self.capacity();
         let (dst_end, src_end) = (capacity - dst, capacity - src);
@@ -211,17 +202,15 @@ impl<T> Slots<T> {
         let far = len.min(dst_end.max(src_end));
         let (dst_near, src_near) = (wrap_add(dst, near, capacity), wrap_add(src, near, capacity));
         let (dst_far, src_far) = (wrap_add(dst, far, capacity), wrap_add(src, far, capacity));
-        let mut slots = self;
         if len <= wrap_add(dst, src_end, capacity) {
-            slots.copy(dst, src, near);
-            slots.copy(dst_near, src_near, far - near);
-            slots.copy(dst_far, src_far, len - far);
+            self.copy(dst, src, near);
+            self.copy(dst_near, src_near, far - near);
+            self.copy(dst_far, src_far, len - far);
         } else {
-            slots.copy(dst_far, src_far, len - far);
-            slots.copy(dst_near, src_near, far - near);
-            slots.copy(dst, src, near);
+            self.copy(dst_far, src_far, len - far);
+            self.copy(dst_near, src_near, far - near);
+            self.copy(dst, src, near);
         }
-        slots
     }
 
     /// Copies a run to where neither side passes the end.

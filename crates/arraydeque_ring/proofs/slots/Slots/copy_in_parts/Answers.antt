@@ -1,14 +1,14 @@
 use Rattle.std.proofs.Common.{◌-◌, ◌<◌, ◌≤◌, sym, refl, arith}
 use Rattle.arraydeque_ring.{
   specs.Moved.run_moved,
-  proofs.{moved.Parts.{Three, three_down, three_up}, slots.Slots.moved_in_parts.{Given.Over, Goals.{After-wrap_add}}},
+  proofs.{moved.Parts.{Three, three_down, three_up}, slots.Slots.copy_in_parts.{Given.Over, Goals.{After-wrap_add}}},
 }
-use Rattle.arraydeque_ring.proofs.slots.Slots.moved_in_parts.Goals as goal
+use Rattle.arraydeque_ring.proofs.slots.Slots.copy_in_parts.Goals as goal
 
 down : (g : Over) (c : After-wrap_add g) → c.args.len ≤ c.wrap_add.result → let a = c.args in
     Three a.dst a.src c.min-near.result c.wrap_add-dst_near.result c.wrap_add-src_near.result
     (c.min-far.result - c.min-near.result) c.wrap_add-dst_far.result c.wrap_add-src_far.result
-    (a.len - c.min-far.result) a.self.places (run_moved a.dst a.src a.len a.self.places)
+    (a.len - c.min-far.result) a.self.now.places (run_moved a.dst a.src a.len a.self.now.places)
 down g c far =
     let long = sym c.capacity-capacity.ensures in
     let d = c.wrap_add.ensures in
@@ -23,8 +23,8 @@ down g c far =
 
 up : (g : Over) (c : After-wrap_add g) → c.wrap_add.result < c.args.len → let a = c.args in
     Three c.wrap_add-dst_far.result c.wrap_add-src_far.result (a.len - c.min-far.result) c.wrap_add-dst_near.result
-    c.wrap_add-src_near.result (c.min-far.result - c.min-near.result) a.dst a.src c.min-near.result a.self.places
-    (run_moved a.dst a.src a.len a.self.places)
+    c.wrap_add-src_near.result (c.min-far.result - c.min-near.result) a.dst a.src c.min-near.result a.self.now.places
+    (run_moved a.dst a.src a.len a.self.now.places)
 up g c near =
     let long = sym c.capacity-capacity.ensures in
     rw (
