@@ -213,46 +213,28 @@ impl<T> Slots<T> {
         }
     }
 
-    /// Copies a run to where neither side passes the end.
+    /// Copies a run to where neither side passes the end, in blocks, the largest first: from the
+    /// first value on where the run moves down, else from the last on.
+    #[inline(never)]
     fn copy(&mut self, dst: usize, src: usize, len: usize)
         requires { CanCopy dst src len self.old.places }
         ensures { self.new ≡ record self.old { places = run_moved dst src len self.old.places } }
     {
         if dst < src {
-            self.copy_down(dst, src, len);
+            let moved = self.move_first::<1024>(dst, src, len, 0);
+            let moved = self.move_first::<256>(dst, src, len, moved);
+            let moved = self.move_first::<64>(dst, src, len, moved);
+            let moved = self.move_first::<16>(dst, src, len, moved);
+            let moved = self.move_first::<4>(dst, src, len, moved);
+            self.move_first::<1>(dst, src, len, moved);
         } else {
-            self.copy_up(dst, src, len);
+            let left = self.move_last::<1024>(dst, src, len);
+            let left = self.move_last::<256>(dst, src, left);
+            let left = self.move_last::<64>(dst, src, left);
+            let left = self.move_last::<16>(dst, src, left);
+            let left = self.move_last::<4>(dst, src, left);
+            self.move_last::<1>(dst, src, left);
         }
-    }
-
-    /// Copies a run up in blocks, the largest first.
-    #[inline(never)]
-    fn copy_up(&mut self, dst: usize, src: usize, len: usize)
-        requires up { src ≤ dst }
-        requires can { CanCopy dst src len self.old.places }
-        ensures { self.new ≡ record self.old { places = run_moved dst src len self.old.places } }
-    {
-        let left = self.move_last::<1024>(dst, src, len);
-        let left = self.move_last::<256>(dst, src, left);
-        let left = self.move_last::<64>(dst, src, left);
-        let left = self.move_last::<16>(dst, src, left);
-        let left = self.move_last::<4>(dst, src, left);
-        self.move_last::<1>(dst, src, left);
-    }
-
-    /// Copies a run down in blocks, the largest first.
-    #[inline(never)]
-    fn copy_down(&mut self, dst: usize, src: usize, len: usize)
-        requires down { dst ≤ src }
-        requires can { CanCopy dst src len self.old.places }
-        ensures { self.new ≡ record self.old { places = run_moved dst src len self.old.places } }
-    {
-        let moved = self.move_first::<1024>(dst, src, len, 0);
-        let moved = self.move_first::<256>(dst, src, len, moved);
-        let moved = self.move_first::<64>(dst, src, len, moved);
-        let moved = self.move_first::<16>(dst, src, len, moved);
-        let moved = self.move_first::<4>(dst, src, len, moved);
-        self.move_first::<1>(dst, src, len, moved);
     }
 
     /// Moves the last values of a run in blocks of `N`, as long as there are so many. The answer is
