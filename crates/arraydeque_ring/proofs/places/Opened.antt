@@ -4,8 +4,9 @@ use Rattle.std.proofs.{
   Common.{None, refl, subst, sym, ap, ap₂, ◌∙◌, arith, inl, Option, List, replicate},
   Math.Nat.mod-eq_of_lt,
   lemmas.{
-    List.{length_push, length-append, length-take-le, length-drop, length-set, nil_from_length, take_all, take_rest},
-    List.{drop_all, Edits.length-swap},
+    Grind.take_at_read,
+    List.{length_push, length-append, length-take, length-take-le, length-drop, length-set, nil_from_length, take_all},
+    List.{take_rest, drop_all, append_assoc, append-nil, Edits.length-swap},
     Option.slice_get_past,
   },
 }
@@ -23,10 +24,10 @@ use Rattle.arraydeque_ring.{
     Appended.{LaidOut-appended, IsEmptyRun-behind},
     Handed.{handed, LaidOut-handed},
     Held.length_filled,
-    Rotated.{MayStartAt, MayStartAt-place_of, place_of-lt, one_place},
+    Rotated.{MayStartAt, MayStartAt-place_of, place_of-first, place_of-lt, one_place},
     LaidOut.{LaidOut, LaidOut-values, values-LaidOut, FilledFrom-LaidOut, LaidOut-put_back, LaidOut-put_front},
     LaidOut.{LaidOut-take_back, LaidOut-take_front, IsEmpty-place_of, held_at-start, LaidOut-restart, IsFilled-start},
-    LaidOut.{AreAllEmpty-LaidOut, IsFilled-place_of, IsFilledRun-rotated, IsFilledRun-LaidOut, same_run, LaidOut-set},
+    LaidOut.{LaidOut-nothing, AreAllEmpty-LaidOut, IsFilled-place_of, IsFilledRun-rotated, IsFilledRun-LaidOut, same_run, LaidOut-set},
     LaidOut.LaidOut-swap,
   },
 }
@@ -79,6 +80,11 @@ pub shows : {X : Type 0} {n t : ℕ} {xs : List X} {ps : List (Option X)} → La
     → length xs ≡ len → Shows n t len xs ps
 shows l len many = (l.length_is, rw l.length_is l.in_region, FilledFrom-LaidOut l len many, values-LaidOut l)
 
+-- a new region shows the empty list
+pub nothing_laid : {X : Type 0} (n : ℕ) → (replicate {A = Option X} n None ≡ replicate n None)
+    × Shows {X = X} n 0 0 [] (replicate n None)
+nothing_laid n = (refl, shows (LaidOut-nothing n) 0 refl)
+
 -- what is known of the fields alone, for goals that have no answer by hand. The first equation of what changed places
 -- show is that of the change itself, by which `grind` finds it.
 module _ {X : Type 0} (r : Inside X) (kept : Kept r) where
@@ -129,6 +135,17 @@ module _ {X : Type 0} (r : Inside X) (kept : Kept r) where
     rw put (shows (rw (is, ← len) (LaidOut-put_back laid x (omega (arith, len))))
         _ (length_push items x ∙ ap (λ m. m + 1) len)),
   )
+
+  -- where the list starts at the first place, that is the place of its length
+  pub next_free : r.start ≡ 0 → r.len < n → (held_at places r.len ≡ None) × (r.len < n)
+  next_free first room =
+      let here : place_of r.start r.len n ≡ r.len = rw first (place_of-first r.len n room) in
+      (rw here at (past_items r.len (omega arith) room).0, room)
+
+  pub next_put : (ps : List (Option X)) (x : X) → r.start ≡ 0 → r.len < n → ps ≡ set places r.len (Some x)
+      → (ps ≡ set places r.len (Some x)) × Shows n r.start (r.len + 1) (items ++ x ∷ []) ps
+  next_put ps x first room put =
+      back_put ps r.len x room (rw first (sym (place_of-first r.len n room))) put
 
   pub front_put : (ps : List (Option X)) (place : ℕ) (x : X) → r.len < n → place ≡ place_of r.start (n - 1) n
       → ps ≡ set places place (Some x)
@@ -270,7 +287,7 @@ module _ {X : Type 0} (r : Inside X) (kept : Kept r) where
         )
 
 -- for the goals of the ring that have no answer by hand
-pub ruleset ring_facts = (bounds, slice_get_past, place_of-lt)
+pub ruleset ring_facts = (bounds, nothing_laid, slice_get_past, place_of-lt)
 
 -- and for those at one index or one end
 pub ruleset end_facts = (
@@ -300,3 +317,17 @@ pub ruleset part_facts = (bounds, last_dropped, run_handed, take_rest)
 
 -- or to another ring
 pub ruleset join_facts = (bounds, behind_empty, piece_joined)
+
+-- items that come one by one from the first place on
+pub ruleset copy_facts = (
+  bounds,
+  nothing_laid,
+  next_free,
+  next_put,
+  take_at_read,
+  take_all,
+  append_assoc,
+  append-nil,
+  length-append,
+  length-take,
+)
