@@ -85,6 +85,12 @@ pub nothing_laid : {X : Type 0} (n : ℕ) → (replicate {A = Option X} n None �
     × Shows {X = X} n 0 0 [] (replicate n None)
 nothing_laid n = (refl, shows (LaidOut-nothing n) 0 refl)
 
+-- and items that are written to it from the first place on
+pub new_laid : {X : Type 0} (xs : List X) (n : ℕ) → length xs ≤ n
+    → Shows n 0 (length xs) xs (with_run 0 xs (replicate n None))
+new_laid xs n within = shows
+    (LaidOut-appended (LaidOut-nothing n) xs 0 (inl refl) (omega arith) (omega arith)) _ refl
+
 -- what is known of the fields alone, for goals that have no answer by hand. The first equation of what changed places
 -- show is that of the change itself, by which `grind` finds it.
 module _ {X : Type 0} (r : Inside X) (kept : Kept r) where
