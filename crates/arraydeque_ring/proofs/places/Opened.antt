@@ -1,12 +1,12 @@
 -- What the fields of an open ring say of the value that its contracts see.
 use Rattle.std.proofs.{
   Common.{◌≡◌, ℕ, suc, ◌+◌, ◌-◌, ◌<◌, ◌≤◌, ◌==◌, [], ◌∷◌, ◌++◌, length, take, drop, set, swap, slice_get, Some},
-  Common.{None, refl, subst, sym, ap, ap₂, ◌∙◌, arith, inl, Option, List, replicate},
+  Common.{None, refl, subst, sym, ap, ap₂, ◌∙◌, arith, inl, inr, Option, List, replicate},
   Math.Nat.mod-eq_of_lt,
   lemmas.{
     Grind.take_at_read,
     List.{length_push, length-append, length-take, length-take-le, length-drop, length-set, nil_from_length, take_all},
-    List.{take_rest, drop_all, append_assoc, append-nil, Edits.length-swap},
+    List.{take_rest, take-append-drop, drop_all, append_assoc, append-nil, Edits.length-swap},
     Option.slice_get_past,
   },
 }
@@ -14,14 +14,15 @@ use Rattle.std.specs.List.{splice}
 use Rattle.arraydeque_ring.{
   specs.{
     declared.ring.Ring.TheInside.Inside,
-    Places.{held_at, IsFilled, IsFilledRun, AreAllEmpty},
+    Places.{held_at, HoldsRun, IsFilled, IsFilledRun, AreAllEmpty},
     Gaps.{IsEmptyRun, run_emptied},
     Loans.with_run,
     Ring.{RingState, place_of, rotated, values, filled, FilledFrom},
   },
+  proofs.loans.Placed.length-as_many,
   proofs.gaps.Gapped.{Gapped-taken, LaidOut-gap_first, LaidOut-gap_last},
   proofs.places.{
-    Appended.{LaidOut-appended, IsEmptyRun-behind},
+    Appended.{LaidOut-appended, LaidOut-written, IsEmptyRun-behind},
     Handed.{handed, LaidOut-handed},
     Held.length_filled,
     Rotated.{MayStartAt, MayStartAt-place_of, place_of-first, place_of-lt, one_place},
@@ -246,6 +247,30 @@ module _ {X : Type 0} (r : Inside X) (kept : Kept r) where
   pub piece_filled : (m : ℕ) → m ≤ r.len → r.start + m ≤ n → IsFilledRun places r.start m
   piece_filled m le fits = IsFilledRun-LaidOut laid 0 r.start m (inl (omega arith)) (omega (arith, len)) fits
 
+  -- what is read there are they
+  pub piece_held : (m : ℕ) (xs : List X) → m ≤ r.len → r.start + m ≤ n → HoldsRun places r.start m xs
+      → HoldsRun places r.start m xs × (xs ≡ take m items)
+  piece_held m xs le fits held =
+      (held, same_run laid 0 r.start m xs (inl (omega arith)) (omega (arith, len)) fits held)
+
+  -- the others stand from the first place on, where these go as far as the region's end
+  pub rest_filled : (m : ℕ) → m ≤ r.len → r.start + m ≡ n → IsFilledRun places 0 (r.len - m)
+  rest_filled m le end = let within = laid.within in
+      IsFilledRun-LaidOut laid m 0 (r.len - m) (inr (omega arith)) (omega (arith, len)) (omega (arith, len))
+
+  pub rest_held : (m : ℕ) (xs : List X) → m ≤ r.len → r.start + m ≡ n → HoldsRun places 0 (r.len - m) xs
+      → HoldsRun places 0 (r.len - m) xs × (xs ≡ drop m items)
+  rest_held m xs le end held = let within = laid.within in (
+    held,
+    same_run laid m 0 (r.len - m) xs (inr (omega arith)) (omega (arith, len)) (omega (arith, len)) held
+        ∙ take_all (r.len - m) (drop m items) (omega (arith, len, length-drop m items)),
+  )
+
+  -- as many are written in their stead
+  pub piece_written : (ws : List X) → length ws ≡ r.len → r.start + r.len ≤ n
+      → Shows n r.start r.len ws (with_run r.start ws places)
+  piece_written ws many fits = shows (LaidOut-written laid ws (omega (arith, len)) (omega (arith, len))) _ many
+
   -- they go
   pub piece_taken : (m : ℕ) → m ≤ r.len → r.start + m ≤ n
       → Shows n (place_of r.start m n) (r.len - m) (drop m items) (run_emptied r.start m places)
@@ -336,4 +361,19 @@ pub ruleset copy_facts = (
   append-nil,
   length-append,
   length-take,
+)
+
+-- and where they are lent in slices
+pub ruleset slice_facts = (
+  bounds,
+  piece_filled,
+  piece_held,
+  rest_filled,
+  rest_held,
+  piece_written,
+  length-as_many,
+  take_all,
+  append-nil,
+  take-append-drop,
+  length-append,
 )
