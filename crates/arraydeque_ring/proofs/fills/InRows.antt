@@ -1,27 +1,11 @@
 -- Items that come one by one behind the last item or before the first.
 use Rattle.std.proofs.{
-  Common.{◌≡◌, ℕ, ◌+◌, ◌-◌, ◌*◌, ◌<◌, ◌≤◌, List, [], ◌∷◌, ◌++◌, length, take, reverse, set, get_or, Some, sym, ap, ◌∙◌},
-  Common.{subst, arith},
-  lemmas.{
-    Bool.Decides.nat_tests,
-    List.{append_assoc, append-nil, length-append, length-take-le, length_push, reverse-append, take_more},
-  },
+  Common.{◌≡◌, ℕ, ◌+◌, ◌-◌, ◌*◌, List, [], ◌++◌, length, reverse, sym, ap, ◌∙◌, subst, arith},
+  lemmas.{Bool.Decides.nat_tests, List.{append_assoc, append-nil, length-append, reverse-append}},
 }
 use Rattle.arraydeque_ring.{
-  specs.{
-    declared.ring.Ring.TheInside.Inside,
-    Places.{Region, IsEmpty},
-    Ring.{RingState, place_of, down_by},
-    Steps.{Steps, more_puts},
-  },
-  proofs.{
-    moved.Sources.{place_of-sum},
-    places.{
-      LaidOut.{IsEmpty-place_of, LaidOut-put_back},
-      Opened.Opened,
-      Rotated.place_of-first,
-    },
-  },
+  specs.{declared.ring.Ring.TheInside.Inside, Ring.{RingState, down_by}, Steps.{Steps, more_puts}},
+  proofs.{moved.Sources.{place_of-sum}, places.Opened.Opened},
 }
 
 -- to go down by j places and then by k is to go down by both
@@ -77,28 +61,3 @@ module _ {X : Type 0} where
 
   pub front_none : {r : Inside X} {v : RingState X} → Opened r v → Opened r (filled_front [] v)
   front_none {r = r} {v = v} o = subst (Opened r) (λ i. record v { steps = no_more_puts v.steps i }) o
-
--- the first k of xs came behind the items of a list that begins at the first place,
--- and the next goes into the place behind
-module _ {X : Type 0} {r : Inside X} (v : RingState X) (xs : List X) (k : ℕ) (o : Opened r (filled_back (take k xs) v))
-    (first : v.start ≡ 0) (some : k < length xs) (room : length v.items + length xs ≤ v.capacity) where
-  has_room : length (v.items ++ take k xs) < v.capacity
-  has_room = omega (arith, length-append v.items (take k xs), length-take-le k xs (omega arith))
-
-  behind : r.len ≡ place_of r.start (length (v.items ++ take k xs)) v.capacity
-  behind = rw (o.start, first, o.len) (sym (place_of-first r.len v.capacity (omega (arith, has_room, o.len))))
-
-  pub next_empty : IsEmpty r.slots.places r.len
-  next_empty = subst (IsEmpty r.slots.places) (sym behind) (IsEmpty-place_of o.laid _ (omega arith) has_room)
-
-  pub next_put : {slots : Region X} (x d : X) → x ≡ get_or xs k d
-      → slots.places ≡ set r.slots.places r.len (Some x) → slots.steps ≡ more_puts 1 r.slots.steps
-      → Opened record r { slots = slots; len = r.len + 1 } (filled_back (take (k + 1) xs) v)
-  next_put {slots = slots} x d is puts steps = rw (take_more xs k d some, ← is)
-      (subst (Opened record r { slots = slots; len = r.len + 1 }) (filled_back-both (take k xs) (x ∷ []) v)
-      (record {
-        laid = rw (puts, behind) (LaidOut-put_back o.laid x has_room);
-        len = length_push (v.items ++ take k xs) x ∙ ap (λ n. n + 1) o.len;
-        start = o.start;
-        steps = steps ∙ ap (more_puts 1) o.steps;
-      }))

@@ -1,7 +1,7 @@
 -- Items that are laid behind a list, in one run of places.
 use Rattle.std.proofs.{
   Common.{◌≡◌, ℕ, ◌+◌, ◌-◌, ◌≤◌, List, ◌++◌, length, take, drop, get_or, slice_get, nat_lt, if◌then◌else◌, Option},
-  Common.{Some, None, sym, ap, ◌∙◌, arith},
+  Common.{Some, None, inl, sym, ap, ◌∙◌, arith},
   lemmas.{
     Bool.Decides.nat_tests,
     Grind.common_steps,
@@ -54,6 +54,12 @@ module _ {X : Type 0} where
     LaidOut-appended ys place lies fits room =
         LaidOut-by (omega (arith, length-append xs ys))
         (Holds-same (Holds-run (holds l) (length xs) place ys lies fits room) (λ k lt. grind (arith, nat_tests, items)))
+
+    -- as many items are written in their stead, where the list lies in one piece
+    pub LaidOut-written : (ys : List X) → length ys ≡ length xs → t + length ys ≤ n → LaidOut n t ys (with_run t ys ps)
+    LaidOut-written ys many fits =
+        LaidOut-by (omega (arith, fits)) (Holds-same (Holds-run (holds l) 0 t ys (inl (omega arith)) fits (omega arith))
+        (λ k lt. grind (arith, nat_tests, items)))
 
     -- the places behind the list are empty
     pub IsEmptyRun-from : (i place run : ℕ) → length xs ≤ i → MayStartAt t i n place → place + run ≤ n → i + run ≤ n

@@ -1,21 +1,16 @@
 -- A run of places that is emptied, one place after another.
 use Rattle.std.proofs.{
-  Common.{◌≡◌, ℕ, ◌+◌, ◌<◌, ◌≤◌, ◌==◌, inl, inr, List, [], ◌∷◌, ◌++◌, length, set, get_or, nat_lt, if◌then◌else◌},
-  Common.{Option, Some, None, refl, sym, ap, ◌∙◌, arith},
+  Common.{◌≡◌, ℕ, ◌+◌, ◌<◌, ◌≤◌, ◌==◌, inl, inr, List, length, set, get_or, nat_lt, if◌then◌else◌, Option, None, sym},
+  Common.{◌∙◌, arith},
   lemmas.{
     Bool.{cases_eq, eq-eqb, ne_eqb, Decides.nat_tests},
     Grind.common_steps,
     List.{length-set, get_or-set_same, get_or-set_other},
   },
 }
-use Rattle.arraydeque_ring.{specs.{Ring.values, Gaps.run_emptied}, proofs.moved.Flat.same_places}
+use Rattle.arraydeque_ring.{specs.Gaps.run_emptied, proofs.moved.Flat.same_places}
 
 module _ {X : Type 0} where
-  values-append : (ps qs : List (Option X)) → values (ps ++ qs) ≡ values ps ++ values qs
-  values-append [] qs = refl
-  values-append (None ∷ ps) qs = values-append ps qs
-  values-append (Some x ∷ ps) qs = ap (λ l. x ∷ l) (values-append ps qs)
-
   -- what a place holds once c is written to the place i
   pub get_or-written : (ps : List (Option X)) (i x : ℕ) (c : Option X) → i < length ps
       → get_or (set ps i c) x None ≡ (if x == i then c else get_or ps x None)

@@ -1,11 +1,12 @@
 -- What the fields of an open ring say of the value that its contracts see.
 use Rattle.std.proofs.{
   Common.{◌≡◌, ℕ, suc, ◌+◌, ◌-◌, ◌<◌, ◌≤◌, ◌==◌, [], ◌∷◌, ◌++◌, length, take, drop, set, swap, slice_get, Some},
-  Common.{None, refl, subst, sym, ap, ap₂, ◌∙◌, arith, inl, Option, List, replicate},
+  Common.{None, refl, subst, sym, ap, ap₂, ◌∙◌, arith, inl, inr, Option, List, replicate},
   Math.Nat.mod-eq_of_lt,
   lemmas.{
-    List.{length_push, length-append, length-take-le, length-drop, length-set, nil_from_length, take_all, take_rest},
-    List.{drop_all, Edits.length-swap},
+    Grind.take_at_read,
+    List.{length_push, length-append, length-take, length-take-le, length-drop, length-set, nil_from_length, take_all},
+    List.{take_rest, take-append-drop, drop_all, append_assoc, append-nil, Edits.length-swap},
     Option.slice_get_past,
   },
 }
@@ -13,20 +14,21 @@ use Rattle.std.specs.List.{splice}
 use Rattle.arraydeque_ring.{
   specs.{
     declared.ring.Ring.TheInside.Inside,
-    Places.{held_at, IsFilled, IsFilledRun, AreAllEmpty},
+    Places.{held_at, HoldsRun, IsFilled, IsFilledRun, AreAllEmpty},
     Gaps.{IsEmptyRun, run_emptied},
     Loans.with_run,
     Ring.{RingState, place_of, rotated, values, filled, FilledFrom},
   },
+  proofs.loans.Placed.length-as_many,
   proofs.gaps.Gapped.{Gapped-taken, LaidOut-gap_first, LaidOut-gap_last},
   proofs.places.{
-    Appended.{LaidOut-appended, IsEmptyRun-behind},
+    Appended.{LaidOut-appended, LaidOut-written, IsEmptyRun-behind},
     Handed.{handed, LaidOut-handed},
     Held.length_filled,
-    Rotated.{MayStartAt, MayStartAt-place_of, place_of-lt, one_place},
+    Rotated.{MayStartAt, MayStartAt-place_of, place_of-first, place_of-lt, one_place},
     LaidOut.{LaidOut, LaidOut-values, values-LaidOut, FilledFrom-LaidOut, LaidOut-put_back, LaidOut-put_front},
     LaidOut.{LaidOut-take_back, LaidOut-take_front, IsEmpty-place_of, held_at-start, LaidOut-restart, IsFilled-start},
-    LaidOut.{AreAllEmpty-LaidOut, IsFilled-place_of, IsFilledRun-rotated, IsFilledRun-LaidOut, same_run, LaidOut-set},
+    LaidOut.{LaidOut-nothing, AreAllEmpty-LaidOut, IsFilled-place_of, IsFilledRun-rotated, IsFilledRun-LaidOut, same_run, LaidOut-set},
     LaidOut.LaidOut-swap,
   },
 }
@@ -79,6 +81,17 @@ pub shows : {X : Type 0} {n t : ℕ} {xs : List X} {ps : List (Option X)} → La
     → length xs ≡ len → Shows n t len xs ps
 shows l len many = (l.length_is, rw l.length_is l.in_region, FilledFrom-LaidOut l len many, values-LaidOut l)
 
+-- a new region shows the empty list
+pub nothing_laid : {X : Type 0} (n : ℕ) → (replicate {A = Option X} n None ≡ replicate n None)
+    × Shows {X = X} n 0 0 [] (replicate n None)
+nothing_laid n = (refl, shows (LaidOut-nothing n) 0 refl)
+
+-- and items that are written to it from the first place on
+pub new_laid : {X : Type 0} (xs : List X) (n : ℕ) → length xs ≤ n
+    → Shows n 0 (length xs) xs (with_run 0 xs (replicate n None))
+new_laid xs n within = shows
+    (LaidOut-appended (LaidOut-nothing n) xs 0 (inl refl) (omega arith) (omega arith)) _ refl
+
 -- what is known of the fields alone, for goals that have no answer by hand. The first equation of what changed places
 -- show is that of the change itself, by which `grind` finds it.
 module _ {X : Type 0} (r : Inside X) (kept : Kept r) where
@@ -129,6 +142,17 @@ module _ {X : Type 0} (r : Inside X) (kept : Kept r) where
     rw put (shows (rw (is, ← len) (LaidOut-put_back laid x (omega (arith, len))))
         _ (length_push items x ∙ ap (λ m. m + 1) len)),
   )
+
+  -- where the list starts at the first place, that is the place of its length
+  pub next_free : r.start ≡ 0 → r.len < n → (held_at places r.len ≡ None) × (r.len < n)
+  next_free first room =
+      let here : place_of r.start r.len n ≡ r.len = rw first (place_of-first r.len n room) in
+      (rw here at (past_items r.len (omega arith) room).0, room)
+
+  pub next_put : (ps : List (Option X)) (x : X) → r.start ≡ 0 → r.len < n → ps ≡ set places r.len (Some x)
+      → (ps ≡ set places r.len (Some x)) × Shows n r.start (r.len + 1) (items ++ x ∷ []) ps
+  next_put ps x first room put =
+      back_put ps r.len x room (rw first (sym (place_of-first r.len n room))) put
 
   pub front_put : (ps : List (Option X)) (place : ℕ) (x : X) → r.len < n → place ≡ place_of r.start (n - 1) n
       → ps ≡ set places place (Some x)
@@ -223,6 +247,30 @@ module _ {X : Type 0} (r : Inside X) (kept : Kept r) where
   pub piece_filled : (m : ℕ) → m ≤ r.len → r.start + m ≤ n → IsFilledRun places r.start m
   piece_filled m le fits = IsFilledRun-LaidOut laid 0 r.start m (inl (omega arith)) (omega (arith, len)) fits
 
+  -- what is read there are they
+  pub piece_held : (m : ℕ) (xs : List X) → m ≤ r.len → r.start + m ≤ n → HoldsRun places r.start m xs
+      → HoldsRun places r.start m xs × (xs ≡ take m items)
+  piece_held m xs le fits held =
+      (held, same_run laid 0 r.start m xs (inl (omega arith)) (omega (arith, len)) fits held)
+
+  -- the others stand from the first place on, where these go as far as the region's end
+  pub rest_filled : (m : ℕ) → m ≤ r.len → r.start + m ≡ n → IsFilledRun places 0 (r.len - m)
+  rest_filled m le end = let within = laid.within in
+      IsFilledRun-LaidOut laid m 0 (r.len - m) (inr (omega arith)) (omega (arith, len)) (omega (arith, len))
+
+  pub rest_held : (m : ℕ) (xs : List X) → m ≤ r.len → r.start + m ≡ n → HoldsRun places 0 (r.len - m) xs
+      → HoldsRun places 0 (r.len - m) xs × (xs ≡ drop m items)
+  rest_held m xs le end held = let within = laid.within in (
+    held,
+    same_run laid m 0 (r.len - m) xs (inr (omega arith)) (omega (arith, len)) (omega (arith, len)) held
+        ∙ take_all (r.len - m) (drop m items) (omega (arith, len, length-drop m items)),
+  )
+
+  -- as many are written in their stead
+  pub piece_written : (ws : List X) → length ws ≡ r.len → r.start + r.len ≤ n
+      → Shows n r.start r.len ws (with_run r.start ws places)
+  piece_written ws many fits = shows (LaidOut-written laid ws (omega (arith, len)) (omega (arith, len))) _ many
+
   -- they go
   pub piece_taken : (m : ℕ) → m ≤ r.len → r.start + m ≤ n
       → Shows n (place_of r.start m n) (r.len - m) (drop m items) (run_emptied r.start m places)
@@ -270,7 +318,7 @@ module _ {X : Type 0} (r : Inside X) (kept : Kept r) where
         )
 
 -- for the goals of the ring that have no answer by hand
-pub ruleset ring_facts = (bounds, slice_get_past, place_of-lt)
+pub ruleset ring_facts = (bounds, nothing_laid, slice_get_past, place_of-lt)
 
 -- and for those at one index or one end
 pub ruleset end_facts = (
@@ -300,3 +348,32 @@ pub ruleset part_facts = (bounds, last_dropped, run_handed, take_rest)
 
 -- or to another ring
 pub ruleset join_facts = (bounds, behind_empty, piece_joined)
+
+-- items that come one by one from the first place on
+pub ruleset copy_facts = (
+  bounds,
+  nothing_laid,
+  next_free,
+  next_put,
+  take_at_read,
+  take_all,
+  append_assoc,
+  append-nil,
+  length-append,
+  length-take,
+)
+
+-- and where they are lent in slices
+pub ruleset slice_facts = (
+  bounds,
+  piece_filled,
+  piece_held,
+  rest_filled,
+  rest_held,
+  piece_written,
+  length-as_many,
+  take_all,
+  append-nil,
+  take-append-drop,
+  length-append,
+)

@@ -12,6 +12,7 @@ use std::alloc::{AllocError, Global};
 impl<T> Ring<T> {
     /// A ring of copies of items, in order from the first place on. It is refused where its region
     /// is.
+    #[tactic(auto, using(crate::proofs::places::Opened::copy_facts))]
     pub fn of_copies(alloc: Global, capacity: usize, items: &[T]) -> Result<Ring<T>, AllocError>
     where
         T: Copy,
@@ -94,6 +95,7 @@ impl<T> Ring<T> {
 
     /// Puts a clone of each item behind the last one, where the list starts at the first place and
     /// there is room.
+    #[tactic(auto, using(crate::proofs::places::Opened::copy_facts))]
     #[inline]
     fn clone_back(&mut self, items: &[T]) -> Result<(), AllocError>
     where

@@ -11,6 +11,7 @@ use crate::slots::loan::Loan;
 
 impl<T> Ring<T> {
     /// The items in two slices: those from the start to the region's end, then those past it.
+    #[tactic(auto, using(crate::proofs::places::Opened::slice_facts))]
     #[inline]
     pub fn as_slices(&self) -> (&[T], &[T])
         ensures joined { result.0.now ++ result.1.now ≡ self.now.items }
@@ -29,6 +30,7 @@ impl<T> Ring<T> {
 
     /// The items for writing in one slice. The list ends as it was written, and starts where it
     /// did.
+    #[tactic(auto, using(crate::proofs::places::Opened::slice_facts))]
     #[inline]
     pub fn as_mut_slice(&mut self) -> &mut [T]
         requires { IsInOnePiece self.old }

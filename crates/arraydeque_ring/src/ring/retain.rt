@@ -103,6 +103,7 @@ impl<T> Ring<T> {
 
     /// How many items stay before the first that goes, at which `f` is called last. None of them
     /// moves, so the loop has nothing to count but places.
+    #[tactic(auto, using(crate::proofs::places::Opened::slice_facts))]
     fn kept_first<F: FnMut(&T) -> bool>(&self, f: &mut F) -> usize
         requires { MayBeAsked F.FnMut f.old self.now.items }
         ensures within { result ≤ length self.now.items }
