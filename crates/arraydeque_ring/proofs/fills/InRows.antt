@@ -15,11 +15,10 @@ use Rattle.arraydeque_ring.{
     Steps.{Steps, more_puts},
   },
   proofs.{
-    moved.Sources.{place_of-sum},
     places.{
       LaidOut.{IsEmpty-place_of, LaidOut-put_back},
       Opened.Opened,
-      Rotated.place_of-first,
+      Rotated.{place_of-first, place_of-sum},
     },
   },
 }

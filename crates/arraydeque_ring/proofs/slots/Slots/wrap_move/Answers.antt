@@ -1,5 +1,5 @@
 use Rattle.std.proofs.Common.{◌+◌, ◌-◌, ◌%◌, length, sym, ap, ◌∙◌, arith}
-use Rattle.arraydeque_ring.proofs.{moved.Parts.{moved_nowhere}, places.Rotated.{place_of_cases}}
+use Rattle.arraydeque_ring.proofs.{moved.Flat.{moved_nowhere}, places.Rotated.{place_of_cases}}
 use Rattle.arraydeque_ring.proofs.slots.Slots.wrap_move.Goals as goal
 
 pub returns-then-dst-src-clause-places : goal.returns-then-dst-src-clause-places
