@@ -1,6 +1,3 @@
 pub mod Flat
-pub mod InBlocks
-pub mod Parts
 pub mod Round
-pub mod Slides
-pub mod Sources
+pub mod Steps

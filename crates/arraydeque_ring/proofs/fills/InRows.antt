@@ -5,7 +5,7 @@ use Rattle.std.proofs.{
 }
 use Rattle.arraydeque_ring.{
   specs.{declared.ring.Ring.TheInside.Inside, Ring.{RingState, down_by}, Steps.{Steps, more_puts}},
-  proofs.{moved.Sources.{place_of-sum}, places.Opened.Opened},
+  proofs.places.{Opened.Opened, Rotated.{place_of-sum}},
 }
 
 -- to go down by j places and then by k is to go down by both

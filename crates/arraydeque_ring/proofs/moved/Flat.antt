@@ -1,15 +1,22 @@
 -- Runs that move where neither side passes the region's end.
 use Rattle.std.proofs.{
   Common.{◌≡◌, ℕ, ◌+◌, ◌-◌, ◌<◌, ◌≤◌, List, ◌++◌, length, take, drop, get_or, nat_lt, if◌then◌else◌, Option, None},
-  Common.{refl, sym, ap, ap₂, ◌∙◌, arith},
+  Common.{inl, inr, ◌⊎◌, refl, sym, ap, ap₂, ◌∙◌, arith},
   Math.Nat.{mod-eq_of_lt},
   lemmas.{
     Bool.Decides.nat_tests,
     List.{places, FromFn.{fill_by_all, length-map-range_with_len, get_or-map-range_with_len}},
   },
 }
+use native.Mathlib.Numerals.{unary_clauses}
 use Rattle.arraydeque_ring.{
-  specs.{Places.Region, Steps.Steps, Gaps.run_emptied, Ring.place_of, Moved.{distance, held_after, run_moved}},
+  specs.{
+    Places.{Region, held_at},
+    Steps.Steps,
+    Gaps.run_emptied,
+    Ring.place_of,
+    Moved.{distance, held_after, run_moved, CanCopy},
+  },
   proofs.places.Rotated.{place_of_cases, place_of-lt},
 }
 
@@ -29,10 +36,12 @@ module _ {X : Type 0} where
   length-moved dst src len ps = length-map-range_with_len (held_after dst src len ps) 0 (length ps)
 
   -- what a place holds after a move
-  pub moved_at : (dst src len : ℕ) (ps : List (Option X)) (x : ℕ) → x < length ps
-      → get_or (run_moved dst src len ps) x None ≡ held_after dst src len ps x
-  moved_at dst src len ps x lt =
-      get_or-map-range_with_len (held_after dst src len ps) 0 (length ps) x x None lt (omega arith)
+  pub moved_at : {n : ℕ} (dst src len : ℕ) (ps : List (Option X)) (x : ℕ) → length ps ≡ n → x < n
+      → held_at (run_moved dst src len ps) x ≡ (if nat_lt (distance dst x n) len
+      then held_at ps (place_of src (distance dst x n) n)
+      else (if nat_lt (distance src x n) len then None else held_at ps x))
+  moved_at dst src len ps x long lt = rw (← long) (get_or-map-range_with_len (held_after dst src len ps) 0 (length ps) x
+      x None (omega arith) (omega arith))
 
   -- two lists of places are one where each place holds the same
   pub same_places : (ps qs : List (Option X)) → length ps ≡ length qs
@@ -56,7 +65,7 @@ module _ {X : Type 0} where
       let n = length ps in
       let d = distance_is i x n (omega arith) lt in
       let e = distance_is j x n (omega arith) lt in
-      moved_at i j len ps x lt ∙ rw (d, e) (grind (arith, nat_tests, mod-eq_of_lt {n = j + (x - i)} {m = n}))
+      moved_at i j len ps x refl lt ∙ rw (d, e) (grind (arith, nat_tests, mod-eq_of_lt {n = j + (x - i)} {m = n}))
 
   -- the source emptied, and its values written over the target
   pub moved_parts : (ps : List (Option X)) (dst src len : ℕ) → src + len ≤ length ps → dst + len ≤ length ps
@@ -73,10 +82,30 @@ module _ {X : Type 0} where
 
   -- where no value moves, or all of a run have, nothing is left to move
   pub moved_none : (dst src : ℕ) (ps : List (Option X)) → run_moved dst src 0 ps ≡ ps
-  moved_none dst src ps =
-      same_places _ _ (length-moved dst src 0 ps) (λ x lt. moved_at dst src 0 ps x lt ∙ grind (arith, nat_tests))
+  moved_none dst src ps = same_places _ _ (length-moved dst src 0 ps)
+      (λ x lt. moved_at dst src 0 ps x refl lt ∙ grind (arith, nat_tests))
 
   pub all_moved : (dst src len : ℕ) (now : Region X) {whole : List (Option X)} {steps : Steps} → len ≡ 0
       → run_moved dst src len now.places ≡ whole → now.steps ≡ steps → now ≡ record { places = whole; steps = steps }
   all_moved dst src len now none is same = ap₂ (λ ps s. record { places = ps; steps = s })
       (sym (ap (λ l. run_moved dst src l now.places) none ∙ moved_none dst src now.places) ∙ is) same
+
+  -- and any places will do
+  pub same_move : (d s e t l : ℕ) (ps : List (Option X)) → (l ≡ 0) ⊎ ((d ≡ e) × (s ≡ t))
+      → run_moved d s l ps ≡ run_moved e t l ps
+  same_move d s e t l ps (inl none) = rw none (moved_none d s ps ∙ sym (moved_none e t ps))
+  same_move d s e t l ps (inr same) = ap₂ (λ x y. run_moved x y l ps) same.0 same.1
+
+  -- or where a run moves to where it is
+  pub moved_nowhere : (at len : ℕ) (ps : List (Option X)) → at < length ps → run_moved at at len ps ≡ ps
+  moved_nowhere at len ps lt = same_places _ _ (length-moved at at len ps)
+      (λ x x_in. moved_at at at len ps x refl x_in ∙ grind (arith, nat_tests, up_from x at (length ps) x_in lt))
+
+  -- a run from its index 0 on is the run
+  pub whole_run : (dst src len : ℕ) (ps : List (Option X))
+      → run_moved (dst + 0) (src + 0) (len - 0) ps ≡ run_moved dst src len ps
+  whole_run dst src len ps = simp unary_clauses
+
+  pub whole_can : (dst src len : ℕ) (ps : List (Option X)) → CanCopy dst src len ps
+      → CanCopy (dst + 0) (src + 0) (len - 0) ps
+  whole_can dst src len ps can = simp unary_clauses can

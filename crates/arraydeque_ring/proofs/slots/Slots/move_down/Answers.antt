@@ -4,7 +4,7 @@ use Rattle.std.proofs.{
   lemmas.Bool.Decides.nat_tests,
 }
 use Rattle.arraydeque_ring.proofs.{
-  moved.{Flat.{flat_at, length-moved, same_places}, InBlocks.{whole_run, whole_can}},
+  moved.Flat.{flat_at, length-moved, same_places, whole_run, whole_can},
   places.{Held.{filled_in_run, empty_in_run}, Reads.{length-runs_exchanged, get_or-runs_exchanged}},
 }
 use Rattle.arraydeque_ring.proofs.slots.Slots.move_down.Goals as goal

@@ -1,24 +1,22 @@
 use Rattle.std.proofs.{Common.{◌+◌, ◌-◌, ◌∙◌, arith}, Math.Nat.add_assoc}
-use Rattle.arraydeque_ring.proofs.moved.{Flat.all_moved, InBlocks.first_block_goes, Sources.round_run}
+use Rattle.arraydeque_ring.proofs.moved.{Flat.{all_moved, length-moved}, Steps.{can_copy, first_block_goes, round_run}}
 use Rattle.arraydeque_ring.proofs.slots.Slots.move_first.Goals as goal
 
 pub move_block-requires-clause-filled : goal.move_block-requires-clause-filled
 move_block-requires-clause-filled g c =
-    let goes = (first_block_goes _ _ g.row.N (c.args.len - (c.loop-moved.moved + g.row.N)) _ _
-    (omega arith) c.loop-moved.invariant.can (omega arith)).can in
-    round_run _ _ _ goes.source goes.filled
+    round_run _ _ _ (omega arith) (λ k lt. c.loop-moved.invariant.can.filled k (omega arith))
 
 pub loop-moved-preserved : goal.loop-moved-preserved
 loop-moved-preserved g c =
     let goes = first_block_goes _ _ g.row.N (c.args.len - (c.loop-moved.moved + g.row.N)) _ _
-    (omega arith) c.loop-moved.invariant.can (omega arith) in
+    (omega arith) (omega arith) c.loop-moved.invariant.can (omega arith) in
     rw (
       c.move_block.ensures,
       ← add_assoc c.args.dst c.loop-moved.moved g.row.N,
       ← add_assoc c.args.src c.loop-moved.moved g.row.N,
     ) (record {
       within = omega arith;
-      can = goes.then;
+      can = can_copy (length-moved _ _ _ _) (omega arith) goes.second;
       moved = goes.is ∙ c.loop-moved.invariant.moved;
       steps = c.loop-moved.invariant.steps;
     })

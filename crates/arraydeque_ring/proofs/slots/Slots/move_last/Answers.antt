@@ -1,6 +1,6 @@
 use Rattle.std.proofs.Common.{◌+◌, ◌-◌, ◌∙◌, arith}
 use Rattle.arraydeque_ring.proofs.{
-  moved.{Flat.all_moved, InBlocks.last_block_goes, Sources.round_run},
+  moved.{Flat.{all_moved, length-moved}, Steps.{can_copy, last_block_goes, round_run}},
   slots.Slots.move_last.Goals.{then-this-eq1+else-loop-moved-test, else-this-eq1+else-size_of_item},
 }
 use Rattle.arraydeque_ring.proofs.slots.Slots.move_last.Goals as goal
@@ -8,16 +8,16 @@ use Rattle.arraydeque_ring.proofs.slots.Slots.move_last.Goals as goal
 pub move_block-requires-clause-filled : goal.move_block-requires-clause-filled
 move_block-requires-clause-filled g c =
     let goes = (last_block_goes _ _ (c.args.len - (c.loop-moved.moved + g.row.N)) g.row.N _ _
-    (omega arith) c.loop-moved.invariant.can c.requires.up).can in
-    round_run _ _ _ goes.source goes.filled
+    (omega arith) (omega arith) c.loop-moved.invariant.can c.requires.up) in
+    round_run _ _ _ (omega arith) goes.first
 
 pub loop-moved-preserved : goal.loop-moved-preserved
 loop-moved-preserved g c =
     let goes = last_block_goes _ _ (c.args.len - (c.loop-moved.moved + g.row.N)) g.row.N _ _
-    (omega arith) c.loop-moved.invariant.can c.requires.up in
+    (omega arith) (omega arith) c.loop-moved.invariant.can c.requires.up in
     rw c.move_block.ensures (record {
       within = omega arith;
-      can = goes.then;
+      can = can_copy (length-moved _ _ _ _) (omega arith) goes.second;
       moved = goes.is ∙ c.loop-moved.invariant.moved;
       steps = c.loop-moved.invariant.steps;
     })

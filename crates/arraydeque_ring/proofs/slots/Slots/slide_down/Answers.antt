@@ -1,14 +1,19 @@
-use Rattle.std.proofs.Common.{◌+◌, refl, arith}
+use Rattle.std.proofs.{Common.{◌+◌, length, refl, arith}, Math.Nat.{mod-eq_of_lt}}
 use Rattle.arraydeque_ring.proofs.{
-  moved.{InBlocks.{whole_run, whole_can}, Slides.{flat_down, flat_down_can}},
+  moved.Flat.{same_move, whole_run, whole_can},
   slots.Slots.slide_down.Goals.{then-len-capacity, else-len-capacity},
 }
 use Rattle.arraydeque_ring.proofs.slots.Slots.slide_down.Goals as goal
 
 pub move_first-requires-clause-can : goal.move_first-requires-clause-can
 move_first-requires-clause-can g c =
-    whole_can _ _ _ _ (flat_down_can c.args.dst c.args.len c.moved_out-slots.result.places (omega arith)
-    (rw c.moved_out-slots.ensures.region c.requires.filled))
+    let n = length c.moved_out-slots.result.places in
+    whole_can _ _ _ _ (record {
+      target = omega arith;
+      source = omega arith;
+      filled = λ k lt. rw (← mod-eq_of_lt {n = c.args.dst + 1} {m = n} (omega arith), c.moved_out-slots.ensures.region)
+          (c.requires.filled k lt);
+    })
 
 pub slide_down_round-slots-requires-clause-filled : goal.slide_down_round-slots-requires-clause-filled
 slide_down_round-slots-requires-clause-filled g c = rw c.moved_out-slots.ensures.region c.requires.filled
@@ -19,6 +24,7 @@ returns-clause-places g c =
     rw (c.count.ensures, ← c.moved_out-slots.ensures.region) (elim c.if-len-capacity.branch [
       | then-len-capacity w ↦
           rw (w.slots-is, w.move_first.ensures.all refl, whole_run c.args.dst (c.args.dst + 1) c.args.len ps)
-          (flat_down c.args.dst c.args.len ps (omega (arith, w.if-len-capacity.true)))
+          (same_move _ _ _ _ _ _
+          (grind (arith, w.if-len-capacity.true, mod-eq_of_lt {n = c.args.dst + 1} {m = length ps})))
       | else-len-capacity w ↦ rw (w.slots-is, w.slide_down_round-slots.ensures) refl
     ])

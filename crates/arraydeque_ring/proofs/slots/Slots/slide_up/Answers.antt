@@ -1,6 +1,6 @@
-use Rattle.std.proofs.Common.{refl, arith}
+use Rattle.std.proofs.{Common.{◌+◌, length, refl, arith}, Math.Nat.{mod-eq_of_lt}}
 use Rattle.arraydeque_ring.proofs.{
-  moved.Slides.{flat_up},
+  moved.Flat.{same_move},
   slots.Slots.slide_up.Goals.{then-len-capacity, else-len-capacity},
 }
 use Rattle.arraydeque_ring.proofs.slots.Slots.slide_up.Goals as goal
@@ -19,6 +19,10 @@ pub returns-clause-places : goal.returns-clause-places
 returns-clause-places g c =
     rw (c.count.ensures, ← c.moved_out-slots.ensures.region) (elim c.if-len-capacity.branch [
       | then-len-capacity w ↦ rw (w.slots-is, w.move_last.ensures.all refl)
-          (flat_up c.args.src c.args.len c.moved_out-slots.result.places (omega (arith, w.if-len-capacity.true)))
+          (same_move _ _ _ _ _ _ (grind (
+            arith,
+            w.if-len-capacity.true,
+            mod-eq_of_lt {n = c.args.src + 1} {m = length c.moved_out-slots.result.places},
+          )))
       | else-len-capacity w ↦ rw (w.slots-is, w.slide_up_round-slots.ensures) refl
     ])

@@ -1,5 +1,5 @@
 use Rattle.std.proofs.Common.{sym}
-use Rattle.arraydeque_ring.proofs.moved.Parts.{moved_nowhere}
+use Rattle.arraydeque_ring.proofs.moved.Flat.{moved_nowhere}
 use Rattle.arraydeque_ring.proofs.slots.Slots.wrap_move.Goals as goal
 
 pub returns-then-dst-src-clause-places : goal.returns-then-dst-src-clause-places
