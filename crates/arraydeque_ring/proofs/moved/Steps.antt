@@ -141,27 +141,27 @@ round_run ps from len le filled = filled_run_of ps from len le (λ x a b.
 -- a run that passes no end, nor its target, and moves in two steps: the first k values first where it moves down, else
 -- the last m
 module _ {X : Type 0} (i j k m l : ℕ) (ps : List (Option X)) (all : k + m ≡ l) (some : 0 < l) (can : CanCopy i j l ps)
-    where
-  names : IsPart i j (length ps) 0 k i j × IsPart i j (length ps) k m (i + k) (j + k)
-  names = let n = length ps in let target = can.target in let source = can.source in grind (
-    arith,
-    place_of-zero i n (omega arith),
-    place_of-zero j n (omega arith),
-    place_of_cases i k n (omega arith),
-    place_of_cases j k n (omega arith),
-  )
+  where
+    names : IsPart i j (length ps) 0 k i j × IsPart i j (length ps) k m (i + k) (j + k)
+    names = let n = length ps in let target = can.target in let source = can.source in grind (
+      arith,
+      place_of-zero i n (omega arith),
+      place_of-zero j n (omega arith),
+      place_of_cases i k n (omega arith),
+      place_of_cases j k n (omega arith),
+    )
 
-  pub first_block_goes : i ≤ j → Steps i j k (i + k) (j + k) m ps (run_moved i j l ps)
-  first_block_goes down = let n = length ps in let target = can.target in let source = can.source in
-      steps i j l 0 k k m n ps refl (omega arith) (omega arith) (omega arith) all
-      (inl (omega arith, omega arith, λ far. grind (arith, nat_tests, distance_is j i n (omega arith) (omega arith))))
-      can.filled i j (i + k) (j + k) names.0 names.1
+    pub first_block_goes : i ≤ j → Steps i j k (i + k) (j + k) m ps (run_moved i j l ps)
+    first_block_goes down = let n = length ps in let target = can.target in let source = can.source in
+        steps i j l 0 k k m n ps refl (omega arith) (omega arith) (omega arith) all
+        (inl (omega arith, omega arith, λ far. grind (arith, nat_tests, distance_is j i n (omega arith) (omega arith))))
+        can.filled i j (i + k) (j + k) names.0 names.1
 
-  pub last_block_goes : j ≤ i → Steps (i + k) (j + k) m i j k ps (run_moved i j l ps)
-  last_block_goes up = let n = length ps in let target = can.target in let source = can.source in
-      steps i j l k 0 m k n ps refl (omega arith) (omega arith) (omega arith) (omega arith)
-      (inr (omega arith, omega arith, grind (arith, nat_tests, distance_is j i n (omega arith) (omega arith))))
-      can.filled (i + k) (j + k) i j names.1 names.0
+    pub last_block_goes : j ≤ i → Steps (i + k) (j + k) m i j k ps (run_moved i j l ps)
+    last_block_goes up = let n = length ps in let target = can.target in let source = can.source in
+        steps i j l k 0 m k n ps refl (omega arith) (omega arith) (omega arith) (omega arith)
+        (inr (omega arith, omega arith, grind (arith, nat_tests, distance_is j i n (omega arith) (omega arith))))
+        can.filled (i + k) (j + k) i j names.1 names.0
 
 -- three copies can be made one after the other
 pub record Three {X : Type 0} (d₁ s₁ l₁ d₂ s₂ l₂ d₃ s₃ l₃ : ℕ) (ps whole : List (Option X)) : Type 0 where

@@ -28,7 +28,10 @@ use Rattle.arraydeque_ring.{
     Rotated.{MayStartAt, MayStartAt-place_of, place_of-first, place_of-lt, one_place},
     LaidOut.{LaidOut, LaidOut-values, values-LaidOut, FilledFrom-LaidOut, LaidOut-put_back, LaidOut-put_front},
     LaidOut.{LaidOut-take_back, LaidOut-take_front, IsEmpty-place_of, held_at-start, LaidOut-restart, IsFilled-start},
-    LaidOut.{LaidOut-nothing, AreAllEmpty-LaidOut, IsFilled-place_of, IsFilledRun-rotated, IsFilledRun-LaidOut, same_run, LaidOut-set},
+    LaidOut.{
+      LaidOut-nothing, AreAllEmpty-LaidOut, IsFilled-place_of, IsFilledRun-rotated, IsFilledRun-LaidOut, same_run,
+      LaidOut-set,
+    },
     LaidOut.LaidOut-swap,
   },
 }

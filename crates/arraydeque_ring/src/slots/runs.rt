@@ -97,7 +97,8 @@ impl<T> Slots<T> {
         self.count(StepKind::Move, len);
     }
 
-    /// Moves the values in the `len` places from `src` on up by one place, round the region's end.
+    /// Moves the values in the `len` places from `src` on up by one place, round the region's end:
+    /// first those past the end, then the one in the last place, then those before it.
     ///
     /// They move one after the other, of which the compiler makes one `memmove`.
     pub(crate) fn slide_up(&mut self, src: usize, len: usize)
@@ -111,10 +112,14 @@ impl<T> Slots<T> {
         ensures steps { self.new.steps ≡ more_moves len self.old.steps }
     {
         let mut slots = self.moved_out();
-        if len < slots.capacity() - src {
+        let capacity = slots.capacity();
+        let upper = capacity - src;
+        if len < upper {
             slots.move_last::<1>(src + 1, src, len);
         } else {
-            slots = slots.slide_up_round(src, len);
+            slots.move_last::<1>(1, 0, len - upper);
+            slots.move_first::<1>(0, capacity - 1, 1, 0);
+            slots.move_last::<1>(src + 1, src, upper - 1);
         }
         *self = slots;
         self.count(StepKind::Move, len);
@@ -133,53 +138,17 @@ impl<T> Slots<T> {
         ensures steps { self.new.steps ≡ more_moves len self.old.steps }
     {
         let mut slots = self.moved_out();
-        if len < slots.capacity() - dst {
+        let last = slots.capacity() - 1;
+        let upper = last - dst;
+        if len <= upper {
             slots.move_first::<1>(dst, dst + 1, len, 0);
         } else {
-            slots = slots.slide_down_round(dst, len);
+            slots.move_first::<1>(dst, dst + 1, upper, 0);
+            slots.move_last::<1>(last, 0, 1);
+            slots.move_first::<1>(0, 1, len - upper - 1, 0);
         }
         *self = slots;
         self.count(StepKind::Move, len);
-    }
-
-    /// Moves a run up by one place, round the end: what lies past the end, the value that crosses
-    /// it, and what lies before.
-    fn slide_up_round(self, src: usize, len: usize) -> Slots<T>
-        requires in_region { src < length self.places }
-        requires wraps { length self.places ≤ src + len }
-        requires room { len < length self.places }
-        requires filled { IsFilledRound src len self.places }
-        ensures { result ≡ record self {
-          places = run_moved (place_of src 1 (length self.places)) src len self.places;
-        } }
-    {
-        let capacity = self.capacity();
-        let upper = capacity - src;
-        let mut slots = self;
-        slots.move_last::<1>(1, 0, len - upper);
-        slots.move_first::<1>(0, capacity - 1, 1, 0);
-        slots.move_last::<1>(src + 1, src, upper - 1);
-        slots
-    }
-
-    /// Moves a run down by one place, round the end: what lies before the end, the value that
-    /// crosses it, and what lies past it.
-    fn slide_down_round(self, dst: usize, len: usize) -> Slots<T>
-        requires in_region { dst < length self.places }
-        requires wraps { length self.places ≤ dst + len }
-        requires room { len < length self.places }
-        requires filled { IsFilledRound (place_of dst 1 (length self.places)) len self.places }
-        ensures { result ≡ record self {
-          places = run_moved dst (place_of dst 1 (length self.places)) len self.places;
-        } }
-    {
-        let last = self.capacity() - 1;
-        let upper = last - dst;
-        let mut slots = self;
-        slots.move_first::<1>(dst, dst + 1, upper, 0);
-        slots.move_last::<1>(last, 0, 1);
-        slots.move_first::<1>(0, 1, len - upper - 1, 0);
-        slots
     }
 
     /// Copies a run in three parts, cut where either side passes the region's end, by a plain copy

@@ -1,30 +1,88 @@
-use Rattle.std.proofs.{Common.{◌+◌, length, refl, arith}, Math.Nat.{mod-eq_of_lt}}
-use Rattle.arraydeque_ring.proofs.{
-  moved.Flat.{same_move, whole_run, whole_can},
-  slots.Slots.slide_down.Goals.{then-len-capacity, else-len-capacity},
+use Rattle.std.proofs.{
+  Common.{◌+◌, ◌-◌, ◌<◌, length, ap, sym, refl, arith},
+  Math.Nat.{mod-eq_of_lt},
+  lemmas.Bool.Decides.nat_tests,
+}
+use Rattle.arraydeque_ring.{
+  specs.{Ring.place_of, Moved.{run_moved}},
+  proofs.{
+    moved.{Flat.{distance_is, same_move, whole_run, whole_can}, Steps.{Three, three}},
+    places.Rotated.{place_of_cases, place_of-lt, place_of-zero},
+    slots.Slots.slide_down.{Given.Over, Goals.{After-capacity-last, then-len-upper, else-len-upper}},
+  },
 }
 use Rattle.arraydeque_ring.proofs.slots.Slots.slide_down.Goals as goal
+
+-- a run that wraps: what is before the end, the value that crosses it, and what is past it
+round : (g : Over) (c : After-capacity-last g) → let n = c.capacity-last.result in let t = c.args.dst in
+    let ps = c.moved_out-slots.result.places in
+    n - 1 - t < c.args.len → Three t (t + 1) (n - 1 - t) (n - 1) 0 1 0 1 (c.args.len - (n - 1 - t) - 1) ps
+    (run_moved t (place_of t 1 n) c.args.len ps)
+round g c wraps =
+    let n = c.capacity-last.result in
+    let t = c.args.dst in
+    let next = place_of t 1 n in
+    let long = sym c.capacity-last.ensures in
+    let same = ap (λ r. length r.places) c.moved_out-slots.ensures.region in
+    let in_region : t < n = omega (arith, long, same) in
+    let room : c.args.len < n = omega (arith, long, same) in
+    let next_is = place_of_cases t 1 n (omega arith) in
+    let next_in = place_of-lt t 1 n (omega arith) in
+    (three t next c.args.len n (n - 1 - t) (n - t) _ _ _ _ _ _ _ _ _ long in_region next_in
+    (rw (c.capacity-last.ensures, c.moved_out-slots.ensures.region) c.requires.filled) (omega arith)
+    (grind (arith, place_of-zero t n (omega arith), place_of-zero next n (omega arith)))
+    (grind (arith, place_of_cases t (n - 1 - t) n (omega arith), place_of_cases next (n - 1 - t) n (omega arith)))
+    (grind (arith, place_of_cases t (n - t) n (omega arith), place_of_cases next (n - t) n (omega arith)))
+    ).0 (λ far. grind (arith, nat_tests, room, distance_is next t n (omega arith) in_region))
 
 pub move_first-requires-clause-can : goal.move_first-requires-clause-can
 move_first-requires-clause-can g c =
     let n = length c.moved_out-slots.result.places in
+    let same = ap (λ r. length r.places) c.moved_out-slots.ensures.region in
     whole_can _ _ _ _ (record {
-      target = omega arith;
-      source = omega arith;
-      filled = λ k lt. rw (← mod-eq_of_lt {n = c.args.dst + 1} {m = n} (omega arith), c.moved_out-slots.ensures.region)
-          (c.requires.filled k lt);
+      target = omega (arith, same);
+      source = omega (arith, same);
+      filled = λ k lt. rw (
+        ← mod-eq_of_lt {n = c.args.dst + 1} {m = n} (omega (arith, same)),
+        c.moved_out-slots.ensures.region,
+      ) (c.requires.filled k lt);
     })
 
-pub slide_down_round-slots-requires-clause-filled : goal.slide_down_round-slots-requires-clause-filled
-slide_down_round-slots-requires-clause-filled g c = rw c.moved_out-slots.ensures.region c.requires.filled
+pub move_first-requires-else-len-upper-clause-can : goal.move_first-requires-else-len-upper-clause-can
+move_first-requires-else-len-upper-clause-can g c = whole_can _ _ _ _
+    (round g (goal.at.move_first-requires-else-len-upper-clause-can g c).After-capacity-last (omega arith)).one
+
+pub move_last-requires-clause-can : goal.move_last-requires-clause-can
+move_last-requires-clause-can g c = rw (
+  c.move_first-else-len-upper.ensures.all refl,
+  whole_run c.args.dst (c.args.dst + 1) (c.capacity-last.result - 1 - c.args.dst),
+) (round g (goal.at.move_last-requires-clause-can g c).After-capacity-last (omega arith)).two
+
+pub move_first-requires-else-len-upper-2-clause-can : goal.move_first-requires-else-len-upper-2-clause-can
+move_first-requires-else-len-upper-2-clause-can g c = rw (
+  c.move_last.ensures.all refl,
+  c.move_first-else-len-upper.ensures.all refl,
+  whole_run c.args.dst (c.args.dst + 1) (c.capacity-last.result - 1 - c.args.dst),
+) (whole_can _ _ _ _
+    (round g (goal.at.move_first-requires-else-len-upper-2-clause-can g c).After-capacity-last (omega arith)).three)
 
 pub returns-clause-places : goal.returns-clause-places
 returns-clause-places g c =
     let ps = c.moved_out-slots.result.places in
-    rw (c.count.ensures, ← c.moved_out-slots.ensures.region) (elim c.if-len-capacity.branch [
-      | then-len-capacity w ↦
+    let upper = c.capacity-last.result - 1 - c.args.dst in
+    rw (c.count.ensures, ← c.moved_out-slots.ensures.region) (elim c.if-len-upper.branch [
+      | then-len-upper w ↦
           rw (w.slots-is, w.move_first.ensures.all refl, whole_run c.args.dst (c.args.dst + 1) c.args.len ps)
           (same_move _ _ _ _ _ _
-          (grind (arith, w.if-len-capacity.true, mod-eq_of_lt {n = c.args.dst + 1} {m = length ps})))
-      | else-len-capacity w ↦ rw (w.slots-is, w.slide_down_round-slots.ensures) refl
+          (grind (arith, w.if-len-upper.true, mod-eq_of_lt {n = c.args.dst + 1} {m = length ps})))
+      | else-len-upper w ↦ rw (
+        w.slots-is,
+        w.move_first-else-len-upper-2.ensures.all refl,
+        w.move_last.ensures.all refl,
+        w.move_first-else-len-upper.ensures.all refl,
+        whole_run c.args.dst (c.args.dst + 1) upper,
+        whole_run 0 1 (c.args.len - upper - 1),
+        (round g (goal.at.returns-clause-places g c).After-capacity-last (omega (arith, w.if-len-upper.false))).is,
+        c.capacity-last.ensures,
+      ) refl
     ])
