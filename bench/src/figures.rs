@@ -105,13 +105,43 @@ fn short_table(summaries: &[Summary]) -> String {
     table
 }
 
-/// Writes the tables and the picture, and the figures for another program to read.
-pub fn write(all: &[Figures], count_first: usize) -> Result<()> {
+/// Where the least figures so far are kept between the programs.
+const KEPT: &str = "target/least.csv";
+
+fn save(path: &str, all: &[Figures]) -> Result<()> {
     let mut csv = String::from("workload;ours ns;crate ns;VecDeque ns\n");
     for Figures { name, nanoseconds: [ours, rust, std] } in all {
         let _ = writeln!(csv, "{name};{ours:.6};{rust:.6};{std:.6}");
     }
-    std::fs::write("figures.csv", csv)?;
+    std::fs::write(path, csv)
+}
+
+fn load(path: &str) -> Result<Vec<Figures>> {
+    let text = std::fs::read_to_string(path)?;
+    let all: Option<Vec<Figures>> = text.lines().skip(1).map(read).collect();
+    all.ok_or_else(|| Error::other(format!("a line of {path} isn't one")))
+}
+
+/// Keeps the figures for the next program.
+pub fn keep(all: &[Figures]) -> Result<()> {
+    std::fs::create_dir_all("target")?;
+    save(KEPT, all)
+}
+
+/// Puts the least figures so far in the place of greater ones.
+pub fn keep_least(all: &mut [Figures]) -> Result<()> {
+    for (figures, kept) in all.iter_mut().zip(load(KEPT)?) {
+        assert_eq!(figures.name, kept.name, "the programs before measured other workloads");
+        for (time, least) in figures.nanoseconds.iter_mut().zip(kept.nanoseconds) {
+            *time = time.min(least);
+        }
+    }
+    Ok(())
+}
+
+/// Writes the tables and the picture, and the figures for another program to read.
+pub fn write(all: &[Figures], count_first: usize) -> Result<()> {
+    save("figures.csv", all)?;
     write_drawn(all, count_first)
 }
 
@@ -132,9 +162,7 @@ fn write_drawn(all: &[Figures], count_first: usize) -> Result<()> {
 
 /// Writes the tables and the picture again, of the figures that were written.
 pub fn draw(count_first: usize) -> Result<()> {
-    let text = std::fs::read_to_string("figures.csv")?;
-    let all: Option<Vec<Figures>> = text.lines().skip(1).map(read).collect();
-    write_drawn(&all.ok_or_else(|| Error::other("a line of figures.csv isn't one"))?, count_first)
+    write_drawn(&load("figures.csv")?, count_first)
 }
 
 fn read(line: &str) -> Option<Figures> {

@@ -16,6 +16,16 @@ use std::time::{Duration, Instant};
 /// How long one timed run of a workload is to take, about.
 const RUN: Duration = Duration::from_millis(3);
 
+/// The last of the shifts that `bench/run` links at.
+const LAST_SHIFT: &str = "48";
+
+// All code lies so many bytes further on than without this.
+std::arch::global_asm!(
+    ".section .text.unlikely.shift, \"axR\", @progbits",
+    concat!(".space ", env!("ARRAYDEQUE_BENCH_SHIFT")),
+    ".text"
+);
+
 /// One workload at one size of items and one capacity, as each of the three does it.
 pub struct Workload {
     name: String,
@@ -248,25 +258,34 @@ fn measured(workload: &Workload, repetitions: usize) -> Figures {
     Figures { name: workload.name.clone(), nanoseconds }
 }
 
+/// Measures, and keeps the least of what was measured at the shifts so far. The last prints and writes the figures.
+///
+/// The shift is read when the program runs: the code is not to depend on it.
 fn measure(wanted: &str, repetitions: usize, writes: bool) -> std::io::Result<()> {
     let (first, further) = (first_workloads(), further_workloads());
     let fits = |workload: &Workload| workload.name.contains(wanted);
     let count_first = first.iter().filter(|workload| fits(workload)).count();
     let workloads: Vec<Workload> = first.into_iter().chain(further).filter(fits).collect();
     let is_watched = std::io::stderr().is_terminal();
-    println!("{}", figures::HEAD);
+    let shift = std::env::var("ARRAYDEQUE_BENCH_SHIFT").unwrap_or_default();
     let mut all = Vec::new();
     for (done, workload) in workloads.iter().enumerate() {
         if is_watched {
-            eprint!("\r{}/{} {:<60}", done + 1, workloads.len(), workload.name);
+            eprint!("\r{shift}: {}/{} {:<60}", done + 1, workloads.len(), workload.name);
         }
-        let figures = measured(workload, repetitions);
+        all.push(measured(workload, repetitions));
         if is_watched {
             eprint!("\r{:<70}\r", "");
         }
-        println!("{}", figures.line());
-        all.push(figures);
     }
+    if shift != "0" {
+        figures::keep_least(&mut all)?;
+    }
+    if shift != LAST_SHIFT {
+        return figures::keep(&all);
+    }
+    println!("{}", figures::HEAD);
+    all.iter().for_each(|figures| println!("{}", figures.line()));
     print!("{}", figures::mean_lines(&all, count_first));
     if writes && wanted.is_empty() { figures::write(&all, count_first) } else { Ok(()) }
 }
