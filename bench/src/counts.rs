@@ -1,5 +1,6 @@
 //! Instructions of a round, as valgrind counts them.
 use crate::all_workloads;
+use crate::figures::{self, Figures};
 use std::hint::black_box;
 use std::process::Command;
 
@@ -62,13 +63,23 @@ fn instructions(name: &str, who: &str, more: usize) -> f64 {
     (collected(name, who, 16 + more) - few) as f64 / more as f64
 }
 
+fn counted(name: &str) -> [f64; 3] {
+    WHO.map(|who| instructions(name, who, 64))
+}
+
 /// Prints the instructions of a round of each of the three, of the workloads whose names hold the words.
 pub fn count(wanted: &str) {
-    println!("| Instructions a round | {} |\n|---|---|---|---|", WHO.join(" | "));
+    println!("{}", figures::COUNTS_HEAD);
     for workload in all_workloads().iter().filter(|workload| workload.name.contains(wanted)) {
-        let counts = WHO.map(|who| format!("{:.1}", instructions(&workload.name, who, 64)));
-        println!("| {} | {} |", workload.name, counts.join(" | "));
+        println!("{}", figures::counts_line(&workload.name, counted(&workload.name)));
     }
+}
+
+/// Counts the rows that take long beside the better peer, and writes the counts.
+pub fn count_slow() -> std::io::Result<()> {
+    let slow = figures::slow()?;
+    let counts = slow.iter().map(|name| Figures { name: name.clone(), columns: counted(name) });
+    figures::save(figures::COUNTS, &counts.collect::<Vec<_>>())
 }
 
 /// Prints the instructions of a round of ours at four capacities.

@@ -7,21 +7,30 @@ use std::io::{Error, Result};
 pub const HEAD: &str = "| Workload | ours, ns | crate, ns | `VecDeque`, ns | ours / crate | ours / `VecDeque` |
 |---|---|---|---|---|---|";
 
-/// What was measured of a workload: the least nanoseconds of a round, ours first.
+/// The head of the table of instructions.
+pub const COUNTS_HEAD: &str = "| Instructions a round | ours | crate | `VecDeque` |\n|---|---|---|---|";
+
+/// Where the instructions of rows that take long are written.
+pub const COUNTS: &str = "counts.csv";
+
+/// How much of the better peer's time is long.
+const LONG: f64 = 1.5;
+
+/// What was measured of a workload, ours first: the least nanoseconds of a round, or its instructions.
 pub struct Figures {
     pub name: String,
-    pub nanoseconds: [f64; 3],
+    pub columns: [f64; 3],
 }
 
 impl Figures {
     /// Our time as a part of the Rust crate's (0) or of `VecDeque`'s (1).
     pub fn ratio(&self, peer: usize) -> f64 {
-        self.nanoseconds[0] / self.nanoseconds[peer + 1]
+        self.columns[0] / self.columns[peer + 1]
     }
 
     /// The row of the whole table.
     pub fn line(&self) -> String {
-        let [ours, rust, std] = self.nanoseconds;
+        let [ours, rust, std] = self.columns;
         let (to_rust, to_std) = (self.ratio(0), self.ratio(1));
         format!("| {} | {ours:.2} | {rust:.2} | {std:.2} | {to_rust:.2} | {to_std:.2} |", self.name)
     }
@@ -108,9 +117,9 @@ fn short_table(summaries: &[Summary]) -> String {
 /// Where the least figures so far are kept between the programs.
 const KEPT: &str = "target/least.csv";
 
-fn save(path: &str, all: &[Figures]) -> Result<()> {
-    let mut csv = String::from("workload;ours ns;crate ns;VecDeque ns\n");
-    for Figures { name, nanoseconds: [ours, rust, std] } in all {
+pub fn save(path: &str, all: &[Figures]) -> Result<()> {
+    let mut csv = String::from("workload;ours;crate;VecDeque\n");
+    for Figures { name, columns: [ours, rust, std] } in all {
         let _ = writeln!(csv, "{name};{ours:.6};{rust:.6};{std:.6}");
     }
     std::fs::write(path, csv)
@@ -132,7 +141,7 @@ pub fn keep(all: &[Figures]) -> Result<()> {
 pub fn keep_least(all: &mut [Figures]) -> Result<()> {
     for (figures, kept) in all.iter_mut().zip(load(KEPT)?) {
         assert_eq!(figures.name, kept.name, "the programs before measured other workloads");
-        for (time, least) in figures.nanoseconds.iter_mut().zip(kept.nanoseconds) {
+        for (time, least) in figures.columns.iter_mut().zip(kept.columns) {
             *time = time.min(least);
         }
     }
@@ -145,6 +154,30 @@ pub fn write(all: &[Figures], count_first: usize) -> Result<()> {
     write_drawn(all, count_first)
 }
 
+/// A row of the table of instructions.
+pub fn counts_line(name: &str, [ours, rust, std]: [f64; 3]) -> String {
+    format!("| {name} | {ours:.1} | {rust:.1} | {std:.1} |")
+}
+
+fn is_long(figures: &Figures) -> bool {
+    figures.ratio(0).max(figures.ratio(1)) > LONG
+}
+
+/// The workloads that take long beside the better peer.
+pub fn slow() -> Result<Vec<String>> {
+    Ok(load("figures.csv")?.into_iter().filter(is_long).map(|figures| figures.name).collect())
+}
+
+/// The instructions of the rows that take long, as far as they were counted.
+fn counts_table(all: &[Figures]) -> String {
+    let counts = load(COUNTS).unwrap_or_default();
+    let lines = all.iter().filter(|row| is_long(row)).filter_map(|row| {
+        let counted = counts.iter().find(|counted| counted.name == row.name)?;
+        Some(counts_line(&row.name, counted.columns) + "\n")
+    });
+    format!("{COUNTS_HEAD}\n{}", lines.collect::<String>())
+}
+
 fn write_drawn(all: &[Figures], count_first: usize) -> Result<()> {
     let summaries = by_workload(all);
     let rows: String = all.iter().map(|figures| figures.line() + "\n").collect();
@@ -152,8 +185,10 @@ fn write_drawn(all: &[Figures], count_first: usize) -> Result<()> {
         "# The figures\n\n\
          Written by `bench/run`; [README.md](README.md) says what they mean.\n\n\
          By workload, the geometric mean of its rows and the least and the greatest of them:\n\n\
-         {}\nAll rows:\n\n{HEAD}\n{rows}{}",
+         {}\nRows above {LONG} times the better peer's time:\n\n{}\n\
+         All rows:\n\n{HEAD}\n{rows}{}",
         short_table(&summaries),
+        counts_table(all),
         mean_lines(all, count_first),
     );
     std::fs::write("figures.md", text)?;
@@ -169,5 +204,5 @@ fn read(line: &str) -> Option<Figures> {
     let mut words = line.split(';');
     let name = words.next()?.to_string();
     let mut time = || words.next()?.parse().ok();
-    Some(Figures { name, nanoseconds: [time()?, time()?, time()?] })
+    Some(Figures { name, columns: [time()?, time()?, time()?] })
 }

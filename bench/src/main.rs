@@ -255,7 +255,7 @@ fn measured(workload: &Workload, repetitions: usize) -> Figures {
         "{}: a round takes no time: {nanoseconds:?}",
         workload.name
     );
-    Figures { name: workload.name.clone(), nanoseconds }
+    Figures { name: workload.name.clone(), columns: nanoseconds }
 }
 
 /// Measures, and keeps the least of what was measured at the shifts so far. The last prints and writes the figures.
@@ -306,6 +306,10 @@ fn work(words: &[String]) {
     match word(0) {
         "--draw" => figures::draw(first_workloads().len()).expect("figures.csv can be read, and what is drawn be written"),
         "--scale" => counts::scale(),
+        "--count" if words.len() == 1 => {
+            let counted = counts::count_slow().and_then(|()| figures::draw(first_workloads().len()));
+            counted.expect("figures.csv can be read, and what was counted be written");
+        }
         "--count" => counts::count(word(1)),
         "--once" => counts::once(word(1), word(2), word(3).parse().expect("a number of rounds")),
         wanted => {
