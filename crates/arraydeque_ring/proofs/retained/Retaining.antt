@@ -20,7 +20,7 @@ use Rattle.arraydeque_ring.{
   },
   proofs.{
     gaps.Gapped.{Gapped, Gapped-taken_one, Gapped-take, Gapped-move, IsEmpty-gap, held_behind, LaidOut-gap_last},
-    places.{Items.slice_get_some, LaidOut.LaidOut},
+    places.{Items.slice_get_some, LaidOut.LaidOut, Opened.{Shows, shows}},
     retained.{
       Answered.{kept_and_gone, count_by-push, moved-push_true, moved-push_false},
       First.{until_goes, all_stay, picked_front, none_goes, none_moved},
@@ -97,9 +97,9 @@ module _ {F X : Type 0} {R : F → X → Bool → F → Type 0} {f : F} {items :
       (omega (arith, counted le), omega (arith, s.places.within, counted le, s.stay, length-drop index items))
 
   -- all have been asked about
-  pub all_asked : length items ≤ index → LaidOut n t (items_where_true s.answers items) ps
-  all_asked past = LaidOut-gap_last (subst (λ l. Gapped n t (items_where_true s.answers items)
-      (count_by not s.answers) l ps) (drop_all index items past) s.places)
+  pub all_asked : length items ≤ index → Shows n t kept (items_where_true s.answers items) ps
+  all_asked past = shows (LaidOut-gap_last (subst (λ l. Gapped n t (items_where_true s.answers items)
+      (count_by not s.answers) l ps) (drop_all index items past) s.places)) kept s.stay
 
 module _ {F X : Type 0} {R : F → X → Bool → F → Type 0} {f : F} {items : List X} {before : Steps} {n t index kept : ℕ}
     {ps : List (Option X)} {steps : Steps} {g : F} (s : SoFar R f items before n t index kept ps steps g)
