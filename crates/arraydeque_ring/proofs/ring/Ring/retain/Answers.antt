@@ -1,9 +1,5 @@
-use Rattle.std.{
-  proofs.{Common.{length, not, count_by, refl, sym, ap, ◌∙◌, subst, Bool, arith}, lemmas.Fn.called_at},
-  specs.{Fn.CalledAt, List.items_where_true},
-}
+use Rattle.std.{proofs.{Common.{refl, sym, ◌∙◌, subst, Bool, arith}, lemmas.Fn.called_at}, specs.{Fn.CalledAt}}
 use Rattle.arraydeque_ring.{
-  specs.{Retained.count_moved, Ring.RingState, Steps.{more_takes, more_moves}},
   proofs.{
     retained.Retaining.{all_kept, first_goes, next_filled, next_asked, room_for_next, all_within, one_stays, one_goes},
     retained.Retaining.{all_asked},
