@@ -1,9 +1,9 @@
 -- Items that come one by one into a full ring, each in the place of another.
 use Rattle.std.proofs.{
-  Common.{◌≡◌, ◌≤◌, ℕ, zero, suc, ◌+◌, List, [], ◌∷◌, ◌++◌, length, take, drop, reverse, refl, sym, ap, ◌∙◌, arith},
+  Common.{◌≡◌, ◌≤◌, ℕ, zero, suc, ◌+◌, List, [], ◌∷◌, ◌++◌, length, take, drop, reverse, refl, sym, ap, ◌∙◌, arith, rules},
   lemmas.{
     List.{append_assoc, append-nil, length-append, length-drop, length-take, length-take-le, drop-drop},
-    List.{drop-append-le, take-take, take_all},
+    List.{drop-append-le, take-take, take_all, places, same_lists},
   },
 }
 use Rattle.arraydeque_ring.{
@@ -14,12 +14,6 @@ use Rattle.arraydeque_ring.{
 -- nothing more was put and taken
 none_displaced : (s : Steps) → s ≡ more_puts 0 (more_takes 0 s)
 none_displaced s = grind arith
-
--- a list that is cut twice behind others
-kept_behind : {X : Type 0} (n m : ℕ) (zs xs : List X) → n ≤ m → take n (zs ++ take m xs) ≡ take n (zs ++ xs)
-kept_behind n m [] xs le = take-take n m xs le
-kept_behind zero m (z ∷ zs) xs le = refl
-kept_behind (suc n) m (z ∷ zs) xs le = ap (λ l. z ∷ l) (kept_behind n m zs xs (omega arith))
 
 module _ {X : Type 0} where
   -- xs came behind, each in the place of the first item
@@ -73,11 +67,7 @@ module _ {X : Type 0} where
         → displaced_first ys (displaced_first xs r) ≡ displaced_first (xs ++ ys) r
     displaced_first-both r =
         let items : drop (length ys) (drop (length xs) (r.items ++ xs) ++ ys) ≡ drop (length (xs ++ ys))
-        (r.items ++ (xs ++ ys)) =
-        ap (drop (length ys)) (sym (drop-append-le (length xs) (r.items ++ xs) ys
-        (omega (arith, length-append r.items xs))) ∙ ap (drop (length xs)) (append_assoc r.items xs ys))
-        ∙ drop-drop (length ys) (length xs) (r.items ++ (xs ++ ys))
-        ∙ ap (λ k. drop k (r.items ++ (xs ++ ys))) lengths_joined in
+        (r.items ++ (xs ++ ys)) = same_lists _ _ (search (rules, places)) (λ j d lt. grind (arith, places)) in
         λ i. record r {
           items = items i;
           start = (up_by-both (length xs) (length ys) r.start r.capacity
@@ -89,9 +79,7 @@ module _ {X : Type 0} where
     displaced_last-both r =
         let n = length r.items in let all = reverse xs ++ r.items in
         let items : take (length (take n all)) (reverse ys ++ take n all) ≡ take n (reverse (xs ++ ys) ++ r.items) =
-        ap (λ k. take k (reverse ys ++ take n all))
-        (length-take-le n all (omega (arith, length-append (reverse xs) r.items)))
-        ∙ kept_behind n n (reverse ys) all (omega arith) ∙ ap (take n) (all_before xs ys r.items) in
+        rw (← all_before xs ys r.items) (same_lists _ _ (search (rules, places)) (λ j d lt. grind (arith, places))) in
         λ i. record r {
           items = items i;
           start = down_by-all xs ys r.start r.capacity i;

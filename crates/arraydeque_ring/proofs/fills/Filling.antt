@@ -1,8 +1,8 @@
 -- A run of places that is written with items from an iterator, one place after another.
 use Rattle.std.proofs.{
   Common.{◌≡◌, ℕ, ◌+◌, ◌-◌, ◌<◌, ◌≤◌, ◌⊎◌, List, [], ◌∷◌, ◌++◌, length, reverse, set, Option, Some, sym, ap},
-  Common.{◌∙◌, arith},
-  lemmas.{Bool.Decides.nat_tests, List.{length-append, length-reverse, length-set, reverse-append}},
+  Common.{◌∙◌, arith, rules},
+  lemmas.{Bool.{cases_eq, Decides.nat_tests}, List.{get_or-set_same, places, same_lists, length-map, map-append, length-append, length-reverse, length-set, reverse-append}},
 }
 use Rattle.arraydeque_ring.{
   specs.{Gaps.IsEmptyRun, Loans.with_run, Places.{held_at, IsEmpty, IsFilled, IsFilledRun}},
@@ -23,11 +23,10 @@ module _ {X : Type 0} (at : ℕ) (xs : List X) (ps : List (Option X)) (within : 
   pub with_run-behind : (x : X) (place : ℕ) → place ≡ at + length xs → place < length ps
       → set (with_run at xs ps) place (Some x) ≡ with_run at (xs ++ x ∷ []) ps
   with_run-behind x place here lt =
-      let long = length-with_run at xs ps within in
+      let long = length-map xs Some in
       let more = length-append xs (x ∷ []) in
-      same_places _ _ (length-set (with_run at xs ps) place (Some x) ∙ long
-      ∙ sym (length-with_run at (xs ++ x ∷ []) ps (omega (arith, more)))) (λ i i_in.
-      get_or-written (with_run at xs ps) place i (Some x) (omega (arith, long)) ∙ grind (
+      same_places _ _ (search (rules, places, map-append, long)) (λ i i_in.
+      get_or-written (with_run at xs ps) place i (Some x) (search (rules, places, long)) ∙ grind (
         arith,
         nat_tests,
         items,
@@ -39,12 +38,9 @@ module _ {X : Type 0} (at : ℕ) (xs : List X) (ps : List (Option X)) (within : 
 
   pub with_run-before : (x : X) (place : ℕ) → place + 1 ≡ at
       → set (with_run at xs ps) place (Some x) ≡ with_run place (x ∷ xs) ps
-  with_run-before x place here =
-      let long = length-with_run at xs ps within in
-      same_places _ _ (length-set (with_run at xs ps) place (Some x) ∙ long
-      ∙ sym (length-with_run place (x ∷ xs) ps (omega arith))) (λ i i_in.
-      get_or-written (with_run at xs ps) place i (Some x) (omega (arith, long)) ∙ grind
-      (arith, nat_tests, slice_get-cons, get_or-with_run at xs ps i, get_or-with_run place (x ∷ xs) ps i))
+  with_run-before x place here = let long = length-map xs Some in
+      same_lists _ _ (search (rules, places)) (λ j d lt.
+      grind (arith, places, long, get_or-set_same, cases_eq j place))
 
   -- the places outside are as they were
   module _ (place : ℕ) (outside : (place < at) ⊎ (at + length xs ≤ place)) where

@@ -24,29 +24,17 @@ module _ {S A : Type 0} (gives : S → Option A → S → Type 0) where
   }
 
   -- the same, said otherwise
-  pub Fills-as : {from to : S} {n : ℕ} {ended : Bool} {P : List A → Type 0} → Fills gives from to n ended P
-      → (m : ℕ) (Q : List A → Type 0) → n ≡ m → ((xs : List A) → P xs → Q xs) → Fills gives from to m ended Q
-  Fills-as f m Q same holds = record {
-    items = f.items;
-    last = f.last;
-    yielded = f.yielded;
-    at_most = omega (arith, f.at_most);
-    none = f.none;
-    all = λ some. let all = f.all some in (all.0, omega (arith, all.1));
-    holds = holds f.items f.holds;
-  }
-
-  -- of an iterator that ended, with another bound
-  pub Fills-within : {from to : S} {n : ℕ} {ended : Bool} {P : List A → Type 0} (f : Fills gives from to n ended P)
-      (m : ℕ) → ended ≡ true → length f.items ≤ m → Fills gives from to m ended P
-  Fills-within f m over le = record {
+  pub Fills-as : {from to : S} {n : ℕ} {ended : Bool} {P : List A → Type 0} (f : Fills gives from to n ended P) (m : ℕ)
+      (Q : List A → Type 0) → length f.items ≤ m → (ended ≡ false → n ≡ m) → ((xs : List A) → P xs → Q xs)
+      → Fills gives from to m ended Q
+  Fills-as f m Q le same holds = record {
     items = f.items;
     last = f.last;
     yielded = f.yielded;
     at_most = le;
     none = f.none;
-    all = λ some. absurd (true≢false (sym over ∙ some));
-    holds = f.holds;
+    all = λ some. let all = f.all some in (all.0, all.1 ∙ same some);
+    holds = holds f.items f.holds;
   }
 
   module _ {from mid : S} {k : ℕ} {P : List A → Type 0} (was : Fills gives from mid k false P) where

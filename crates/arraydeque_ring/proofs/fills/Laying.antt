@@ -38,11 +38,8 @@ down_by-is : (k s n : ℕ) → s < n → k ≤ n → place_of s (n - k) n ≡ do
 down_by-is zero s n lt le = ap (λ j. place_of s j n) (omega arith) ∙ add-mod_right s n ∙ mod-eq_of_lt lt
 down_by-is (suc k) s zero lt le = absurd (omega arith)
 down_by-is (suc k) s (suc p) lt le =
-    let less : suc p - 1 ≡ p = omega arith in
-    let same : suc p - suc k ≡ p - k = omega arith in
     let round : s + suc k * p ≡ s + (p - k) + k * suc p = omega arith in
-    let is : place_of s (suc k * (suc p - 1)) (suc p) ≡ place_of s (suc p - suc k) (suc p) =
-    rw (less, same) (ap (λ j. j % suc p) round ∙ add-mul-mod_self_right (s + (p - k)) k (suc p)) in
+    let is = ap (λ j. j % suc p) round ∙ add-mul-mod_self_right (s + (p - k)) k (suc p) in
     grind (arith, nat_tests, is)
 
 module _ {X : Type 0} {n t : ℕ} {ys : List X} {ps : List (Option X)} (l : LaidOut n t ys ps) (some : 0 < n) where

@@ -1,11 +1,11 @@
 -- A run of places that is emptied, one place after another.
 use Rattle.std.proofs.{
   Common.{◌≡◌, ℕ, ◌+◌, ◌<◌, ◌≤◌, ◌==◌, inl, inr, List, length, set, get_or, nat_lt, if◌then◌else◌, Option, None, sym},
-  Common.{◌∙◌, arith},
+  Common.{◌∙◌, arith, rules},
   lemmas.{
     Bool.{cases_eq, eq-eqb, ne_eqb, Decides.nat_tests},
     Grind.common_steps,
-    List.{length-set, get_or-set_same, get_or-set_other},
+    List.{places, get_or-set_same, get_or-set_other},
   },
 }
 use Rattle.arraydeque_ring.{specs.Gaps.run_emptied, proofs.moved.Flat.same_places}
@@ -33,9 +33,6 @@ module _ {X : Type 0} where
     next_unchanged = get_or-run_emptied at k ps i (omega arith) ∙ grind (arith, nat_tests)
 
     pub next_emptied : set (run_emptied at k ps) i None ≡ run_emptied at (k + 1) ps
-    next_emptied =
-        let long = length-run_emptied at k ps (omega arith) in
-        let longer = length-run_emptied at (k + 1) ps (omega arith) in
-        same_places _ _ (length-set (run_emptied at k ps) i None ∙ long ∙ sym longer)
-        (λ x x_in. get_or-written (run_emptied at k ps) i x None (omega (arith, long)) ∙ grind
-        (arith, nat_tests, get_or-run_emptied at k ps x) ∙ sym (get_or-run_emptied at (k + 1) ps x (omega arith)))
+    next_emptied = same_places _ _ (search (rules, places)) (λ x x_in.
+        get_or-written (run_emptied at k ps) i x None (search (rules, places)) ∙ grind
+        (arith, nat_tests, get_or-run_emptied at k ps x, get_or-run_emptied at (k + 1) ps x))

@@ -19,20 +19,19 @@ use Rattle.arraydeque_ring.{
     Loans.with_run,
     Ring.{RingState, place_of, rotated, values, filled, FilledFrom},
   },
-  proofs.loans.Placed.length-as_many,
-  proofs.gaps.Gapped.{Gapped-taken, LaidOut-gap_first, LaidOut-gap_last},
-  proofs.places.{
-    Appended.{LaidOut-appended, LaidOut-written, IsEmptyRun-behind},
-    Handed.{handed, LaidOut-handed},
-    Held.length_filled,
-    Rotated.{MayStartAt, MayStartAt-place_of, place_of-first, place_of-lt, one_place},
-    LaidOut.{LaidOut, LaidOut-values, values-LaidOut, FilledFrom-LaidOut, LaidOut-put_back, LaidOut-put_front},
-    LaidOut.{LaidOut-take_back, LaidOut-take_front, IsEmpty-place_of, held_at-start, LaidOut-restart, IsFilled-start},
-    LaidOut.{
-      LaidOut-nothing, AreAllEmpty-LaidOut, IsFilled-place_of, IsFilledRun-rotated, IsFilledRun-LaidOut, same_run,
-      LaidOut-set,
+  proofs.{
+    gaps.Gapped.{Gapped-taken, LaidOut-gap_first, LaidOut-gap_last},
+    loans.Placed.length-as_many,
+    places.{
+      Appended.{LaidOut-appended, LaidOut-written, IsEmptyRun-behind},
+      Handed.{handed, LaidOut-handed},
+      Held.length_filled,
+      LaidOut.{LaidOut, LaidOut-values, values-LaidOut, FilledFrom-LaidOut, LaidOut-nothing, LaidOut-put_back},
+      LaidOut.{LaidOut-put_front, LaidOut-take_back, LaidOut-take_front, IsEmpty-place_of, held_at-start},
+      LaidOut.{LaidOut-restart, IsFilled-start, AreAllEmpty-LaidOut, IsFilled-place_of, IsFilledRun-rotated},
+      LaidOut.{IsFilledRun-LaidOut, same_run, LaidOut-set, LaidOut-swap},
+      Rotated.{MayStartAt, MayStartAt-place_of, place_of-first, place_of-lt, one_place},
     },
-    LaidOut.LaidOut-swap,
   },
 }
 
@@ -112,6 +111,9 @@ module _ {X : Type 0} (r : Inside X) (kept : Kept r) where
 
   len : length items ≡ r.len
   len = (opened r kept refl).len
+
+  pub items_within : length items ≤ n
+  items_within = laid.within
 
   pub at_index : (k : ℕ) → k < n → held_at places (place_of r.start k n) ≡ slice_get items k
   at_index k lt = laid.at k lt
@@ -321,7 +323,7 @@ module _ {X : Type 0} (r : Inside X) (kept : Kept r) where
         )
 
 -- for the goals of the ring that have no answer by hand
-pub ruleset ring_facts = (bounds, nothing_laid, slice_get_past, place_of-lt)
+pub ruleset ring_facts = (bounds, items_within, nothing_laid, slice_get_past, place_of-lt)
 
 -- and for those at one index or one end
 pub ruleset end_facts = (

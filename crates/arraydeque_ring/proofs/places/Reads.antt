@@ -1,8 +1,8 @@
 -- Two runs that are rotated or exchanged, read place by place: where what a place holds came from.
 use Rattle.std.{
   proofs.{
-    Common.{◌≡◌, ℕ, ◌+◌, ◌-◌, ◌≤◌, List, length, set, get_or, nat_lt, if◌then◌else◌, Option, None, sym, ap, ◌∙◌, arith},
-    lemmas.{Bool.Decides.nat_tests, Grind.common_steps, List.{places, length-set, Edits.swap_is}},
+    Common.{◌≡◌, ℕ, ◌+◌, ◌-◌, ◌≤◌, List, length, set, get_or, nat_lt, if◌then◌else◌, Option, None, sym, ap, ◌∙◌, arith, rules},
+    lemmas.{Bool.Decides.nat_tests, Grind.common_steps, List.{places, same_lists, length-set, Edits.swap_is}},
   },
   specs.Prelude.swap,
 }
@@ -39,19 +39,16 @@ module _ {X : Type 0} (a b n : ℕ) (ps : List (Option X)) (before : a + n ≤ b
 module _ {X : Type 0} (a b : ℕ) (ps : List (Option X)) where
   -- no run is exchanged
   pub runs_exchanged_none : a + 0 ≤ b → b + 0 ≤ length ps → runs_exchanged a b 0 ps ≡ ps
-  runs_exchanged_none before within = same_places _ _ (length-runs_exchanged a b 0 ps before within)
-      (λ x lt. get_or-runs_exchanged a b 0 ps before within x ∙ ap (λ i. get_or ps i None) (grind (arith, nat_tests)))
+  runs_exchanged_none before within = same_lists _ _ (search (rules, places)) (λ j d lt. grind (arith, places))
 
   -- a run longer by m is exchanged in two steps
   pub runs_exchanged_both : (n m : ℕ) → a + (n + m) ≤ b → b + (n + m) ≤ length ps
       → runs_exchanged (a + n) (b + n) m (runs_exchanged a b n ps) ≡ runs_exchanged a b (n + m) ps
   runs_exchanged_both n m before within =
       let once = runs_exchanged a b n ps in
-      let length-so_far = length-runs_exchanged a b n ps (omega arith) (omega arith) in
-      same_places _ _ (length-runs_exchanged (a + n) (b + n) m once (omega arith) (omega (arith, length-so_far))
-      ∙ length-so_far
-      ∙ sym (length-runs_exchanged a b (n + m) ps before within)) (λ x lt.
-      get_or-runs_exchanged (a + n) (b + n) m once (omega arith) (omega (arith, length-so_far)) x
+      let long = length-runs_exchanged a b n ps (omega arith) (omega arith) in
+      same_places _ _ (search (rules, places)) (λ x lt.
+      get_or-runs_exchanged (a + n) (b + n) m once (omega arith) (omega (arith, long)) x
       ∙ get_or-runs_exchanged a b n ps (omega arith) (omega arith) (exchanged_from (a + n) (b + n) m x)
       ∙ ap (λ i. get_or ps i None) (grind (arith, nat_tests))
       ∙ sym (get_or-runs_exchanged a b (n + m) ps before within x))

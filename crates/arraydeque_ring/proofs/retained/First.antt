@@ -2,10 +2,10 @@
 use Rattle.std.{
   proofs.{
     Common.{◌≡◌, ℕ, zero, suc, ◌+◌, ◌<◌, List, [], ◌∷◌, ◌++◌, length, take, replicate, get_or, slice_get, Bool, true},
-    Common.{false, cond, not, count_by, inl, inr, ◌==◌, if◌then◌else◌, refl, sym, ap, ap₂, ◌∙◌, subst, arith},
+    Common.{false, cond, not, count_by, ◌==◌, if◌then◌else◌, refl, sym, ap, ap₂, ◌∙◌, subst, arith},
     Retain.answers_push,
     lemmas.{
-      Bool.{cases_eq, ne_eqb, eq-eqb, Decides.nat_tests},
+      Bool.{Decides.nat_tests},
       List.{append-nil, append_assoc, length-append, length-replicate, replicate-append-replicate},
       List.{Folds.sum_by-replicate},
       Option.slice_get_within,
@@ -19,19 +19,15 @@ use Rattle.arraydeque_ring.{
 }
 
 pub until_goes : (k n : ℕ) → k < n → answers_until k n ≡ replicate k true ++ false ∷ []
-until_goes k n lt = ap (λ b. replicate k true ++ (if b then [] else false ∷ [])) (ne_eqb k n (omega arith))
+until_goes k n lt = grind (arith, nat_tests)
 
 until_all : (n : ℕ) → answers_until n n ≡ replicate n true
-until_all n = ap (λ b. replicate n true ++ (if b then [] else false ∷ [])) (eq-eqb n n refl)
-    ∙ append-nil (replicate n true)
+until_all n = grind (arith, nat_tests, append-nil (replicate n true))
 
 -- n items that stay stand before
 until_behind : (n k m : ℕ) → answers_until (n + k) (n + m) ≡ replicate n true ++ answers_until k m
 until_behind n k m =
-    let test : (n + k == n + m) ≡ (k == m) = elim (cases_eq k m) [
-      | inl same ↦ eq-eqb (n + k) (n + m) (omega arith) ∙ sym (eq-eqb k m same)
-      | inr apart ↦ ne_eqb (n + k) (n + m) (λ same. apart (omega arith)) ∙ sym (ne_eqb k m apart)
-    ] in
+    let test : (n + k == n + m) ≡ (k == m) = grind (arith, nat_tests) in
     ap₂ (λ bs b. bs ++ (if b then [] else false ∷ [])) (sym (replicate-append-replicate n k true)) test
     ∙ append_assoc (replicate n true) (replicate k true) (if k == m then [] else false ∷ [])
 
@@ -43,7 +39,7 @@ picked_front (suc k) [] = refl
 picked_front (suc k) (x ∷ xs) = ap (λ l. x ∷ l) (picked_front k xs)
 
 pub none_goes : (k : ℕ) → count_by not (replicate k true) ≡ 0
-none_goes k = let sum = sum_by-replicate (λ b. cond (not b) 1 0) k true in omega arith
+none_goes k = omega (arith, sum_by-replicate (λ b. cond (not b) 1 0) k true)
 
 pub none_moved : (k : ℕ) → count_moved (replicate k true) ≡ 0
 none_moved zero = refl

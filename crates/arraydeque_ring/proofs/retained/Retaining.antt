@@ -2,7 +2,7 @@
 use Rattle.std.{
   proofs.{
     Common.{◌≡◌, ℕ, suc, ◌+◌, ◌<◌, ◌≤◌, List, [], ◌∷◌, ◌++◌, length, take, drop, set, get_or, replicate, slice_get},
-    Common.{Option, Some, None, Bool, true, false, not, count_by, sym, ap, ap₂, ◌∙◌, subst, arith},
+    Common.{add-one, Option, Some, None, Bool, true, false, not, count_by, sym, ap, ◌∙◌, subst, arith},
     Retain.{picked_push_true, picked_push_false, answers_push},
     lemmas.{
       List.{length_push, length-drop, length-take-le, length-replicate, take_all, drop_all},
@@ -20,7 +20,7 @@ use Rattle.arraydeque_ring.{
   },
   proofs.{
     gaps.Gapped.{Gapped, Gapped-taken_one, Gapped-take, Gapped-move, IsEmpty-gap, held_behind, LaidOut-gap_last},
-    places.{Items.slice_get_some, LaidOut.LaidOut},
+    places.{Items.slice_get_some, LaidOut.LaidOut, Opened.{Shows, shows}},
     retained.{
       Answered.{kept_and_gone, count_by-push, moved-push_true, moved-push_false},
       First.{until_goes, all_stay, picked_front, none_goes, none_moved},
@@ -46,16 +46,14 @@ pub all_kept : {F X : Type 0} (R : F → X → Bool → F → Type 0) (f g : F) 
     → Retains R f ring ring
 all_kept R f g ring k all told =
     let bs = replicate k true in
-    let items : ring.items ≡ items_where_true bs ring.items =
-    sym (picked_front k ring.items ∙ take_all k ring.items (omega arith)) in
-    let takes : ring.steps.takes ≡ ring.steps.takes + count_by not bs = omega (arith, none_goes k) in
-    let moves : ring.steps.moves ≡ ring.steps.moves + count_moved bs = omega (arith, none_moved k) in
+    let items : items_where_true bs ring.items ≡ ring.items =
+    picked_front k ring.items ∙ take_all k ring.items (omega arith) in
     record {
       answers = bs;
       last = g;
       one_each = length-replicate k true ∙ all;
       in_turn = all_stay R f g k ring.items all told;
-      kept = λ i. record ring { items = items i; steps = record ring.steps { takes = takes i; moves = moves i } };
+      kept = grind (arith, items, none_goes k, none_moved k);
     }
 
 -- behind k items that stay, the first goes
@@ -67,18 +65,16 @@ first_goes R f g before {items} {n} {t} {ps} k l lt told =
     let bs = replicate k true in
     let stay : items_where_true (bs ++ false ∷ []) items ≡ take k items =
     picked_push_false bs items ∙ picked_front k items in
-    let one : count_by not (bs ++ false ∷ []) ≡ 1 = count_by-push not bs false ∙ ap (λ c. c + 1) (none_goes k) in
-    let behind : suc k ≡ k + 1 = omega arith in
-    let no_moves : before.moves ≡ before.moves + count_moved (bs ++ false ∷ []) =
-    omega (arith, moved-push_false bs, none_moved k) in
+    let long = length-replicate k true in
+    let one : count_by not (bs ++ false ∷ []) ≡ 1 = omega (arith, count_by-push not bs false, none_goes k) in
     record {
       answers = bs ++ false ∷ [];
-      asked = length_push bs false ∙ ap (λ c. c + 1) (length-replicate k true);
+      asked = omega (arith, length_push bs false, long);
       in_turn = rw (until_goes k (length items) lt) at told;
       stay = ap length stay ∙ length-take-le k items (omega arith);
       some_gone = omega (arith, one);
-      places = rw (stay, one, ← behind) (Gapped-taken_one l k lt);
-      cost = ap₂ (λ a b. record before { takes = before.takes + a; moves = b }) (sym one) no_moves;
+      places = rw (stay, one, add-one k) (Gapped-taken_one l k lt);
+      cost = grind (arith, one, moved-push_false bs, none_moved k);
     }
 
 module _ {F X : Type 0} {R : F → X → Bool → F → Type 0} {f : F} {items : List X} {before : Steps} {n t index kept : ℕ}
@@ -97,74 +93,66 @@ module _ {F X : Type 0} {R : F → X → Bool → F → Type 0} {f : F} {items :
       (omega (arith, counted le), omega (arith, s.places.within, counted le, s.stay, length-drop index items))
 
   -- all have been asked about
-  pub all_asked : length items ≤ index → LaidOut n t (items_where_true s.answers items) ps
-  all_asked past = LaidOut-gap_last (subst (λ l. Gapped n t (items_where_true s.answers items)
-      (count_by not s.answers) l ps) (drop_all index items past) s.places)
+  pub all_asked : length items ≤ index → Shows n t kept (items_where_true s.answers items) ps
+  all_asked past = shows (LaidOut-gap_last (subst (λ l. Gapped n t (items_where_true s.answers items)
+      (count_by not s.answers) l ps) (drop_all index items past) s.places)) kept s.stay
 
-module _ {F X : Type 0} {R : F → X → Bool → F → Type 0} {f : F} {items : List X} {before : Steps} {n t index kept : ℕ}
-    {ps : List (Option X)} {steps : Steps} {g : F} (s : SoFar R f items before n t index kept ps steps g)
-    (lt : index < length items) where
-  here : length (items_where_true s.answers items) + count_by not s.answers ≡ index
-  here = omega (arith, counted s (omega arith), s.stay)
+  module _ (lt : index < length items) where
+    here : length (items_where_true s.answers items) + count_by not s.answers ≡ index
+    here = omega (arith, counted (omega arith), s.stay)
 
-  next_held : held_at ps (place_of t index n) ≡ slice_get items index
-  next_held = held_behind items index index s.places here lt
+    next_held : held_at ps (place_of t index n) ≡ slice_get items index
+    next_held = held_behind items index index s.places here lt
 
-  pub next_filled : IsFilled ps (place_of t index n)
-  next_filled = let some = slice_get_some items index lt in (some.0, next_held ∙ some.1)
+    pub next_filled : IsFilled ps (place_of t index n)
+    next_filled = let some = slice_get_some items index lt in (some.0, next_held ∙ some.1)
 
-  -- what stands there is the item in turn
-  pub next_asked : (x : X) → held_at ps (place_of t index n) ≡ Some x → slice_get items (length s.answers) ≡ Some x
-  next_asked x held = ap (slice_get items) s.asked ∙ sym next_held ∙ held
+    -- what stands there is the item in turn
+    pub next_asked : (x : X) → held_at ps (place_of t index n) ≡ Some x → slice_get items (length s.answers) ≡ Some x
+    next_asked x held = ap (slice_get items) s.asked ∙ sym next_held ∙ held
 
-  -- the item x is answered
-  module _ (x : X) (h : F) (held : held_at ps (place_of t index n) ≡ Some x) where
-    in_list : length s.answers < length items
-    in_list = omega (arith, s.asked)
+    -- the item x is answered
+    module _ (x : X) (h : F) (held : held_at ps (place_of t index n) ≡ Some x) where
+      in_list : length s.answers < length items
+      in_list = omega (arith, s.asked)
 
-    x_is : x ≡ get_or items (length s.answers) x
-    x_is = sym (get_or_from_slice_get items (length s.answers) x x (next_asked x held))
+      x_is : x ≡ get_or items (length s.answers) x
+      x_is = sym (get_or_from_slice_get items (length s.answers) x x (next_asked x held))
 
-    -- the next item stays, and is moved up
-    pub one_stays : R g x true h → let src = place_of t index n in let dst = place_of t kept n in
-        SoFar R f items before n t (index + 1) (kept + 1) (set (set ps src None) dst (held_at ps src))
-        (more_moves 1 steps) h
-    one_stays called =
-        let bs = s.answers in
-        let ks = items_where_true bs items in
-        let gap = count_by not bs in
-        let more : items_where_true (bs ++ true ∷ []) items ≡ ks ++ x ∷ [] =
-        picked_push_true bs items x in_list ∙ ap (λ y. ks ++ y ∷ []) (sym x_is) in
-        let gone : count_by not (bs ++ true ∷ []) ≡ gap = let push = count_by-push not bs true in omega arith in
-        let moves : before.moves + count_moved bs + 1 ≡ before.moves + count_moved (bs ++ true ∷ []) =
-        omega (arith, moved-push_true bs s.some_gone) in
-        record {
-          answers = bs ++ true ∷ [];
-          asked = length_push bs true ∙ ap (λ k. k + 1) s.asked;
-          in_turn = answers_push R f g h bs items x true in_list x_is s.in_turn called;
-          stay = ap length more ∙ length_push ks x ∙ ap (λ k. k + 1) s.stay;
-          some_gone = omega (arith, s.some_gone, gone);
-          places =
-              rw (more, gone) (Gapped-move items index index s.places here lt x kept (sym next_held ∙ held) s.stay);
-          cost = ap (more_moves 1) s.cost
-              ∙ ap₂ (λ a b. record before { takes = before.takes + a; moves = b }) (sym gone) moves;
-        }
+      -- the next item stays, and is moved up
+      pub one_stays : R g x true h → let src = place_of t index n in let dst = place_of t kept n in
+          SoFar R f items before n t (index + 1) (kept + 1) (set (set ps src None) dst (held_at ps src))
+          (more_moves 1 steps) h
+      one_stays called =
+          let bs = s.answers in
+          let ks = items_where_true bs items in
+          let more : items_where_true (bs ++ true ∷ []) items ≡ ks ++ x ∷ [] =
+          picked_push_true bs items x in_list ∙ ap (λ y. ks ++ y ∷ []) (sym x_is) in
+          let gone : count_by not (bs ++ true ∷ []) ≡ count_by not bs = omega (arith, count_by-push not bs true) in
+          record {
+            answers = bs ++ true ∷ [];
+            asked = omega (arith, length_push bs true, s.asked);
+            in_turn = answers_push R f g h bs items x true in_list x_is s.in_turn called;
+            stay = omega (arith, ap length more, length_push ks x, s.stay);
+            some_gone = omega (arith, s.some_gone, gone);
+            places =
+                rw (more, gone) (Gapped-move items index index s.places here lt x kept (sym next_held ∙ held) s.stay);
+            cost = grind (arith, s.cost, gone, moved-push_true bs s.some_gone);
+          }
 
-    -- the next item goes
-    pub one_goes : R g x false h
-        → SoFar R f items before n t (index + 1) kept (set ps (place_of t index n) None) (more_takes 1 steps) h
-    one_goes called =
-        let bs = s.answers in
-        let gap = count_by not bs in
-        let gone : suc gap ≡ count_by not (bs ++ false ∷ []) = let push = count_by-push not bs false in omega arith in
-        let takes : before.takes + gap + 1 ≡ before.takes + count_by not (bs ++ false ∷ []) = omega arith in
-        record {
-          answers = bs ++ false ∷ [];
-          asked = length_push bs false ∙ ap (λ k. k + 1) s.asked;
-          in_turn = answers_push R f g h bs items x false in_list x_is s.in_turn called;
-          stay = ap length (picked_push_false bs items) ∙ s.stay;
-          some_gone = omega (arith, gone);
-          places = rw (picked_push_false, ← gone) (Gapped-take items index index s.places here lt);
-          cost = ap (more_takes 1) s.cost
-              ∙ ap₂ (λ a b. record before { takes = a; moves = before.moves + b }) takes (sym (moved-push_false bs));
-        }
+      -- the next item goes
+      pub one_goes : R g x false h
+          → SoFar R f items before n t (index + 1) kept (set ps (place_of t index n) None) (more_takes 1 steps) h
+      one_goes called =
+          let bs = s.answers in
+          let gone : suc (count_by not bs) ≡ count_by not (bs ++ false ∷ []) =
+          omega (arith, count_by-push not bs false) in
+          record {
+            answers = bs ++ false ∷ [];
+            asked = omega (arith, length_push bs false, s.asked);
+            in_turn = answers_push R f g h bs items x false in_list x_is s.in_turn called;
+            stay = ap length (picked_push_false bs items) ∙ s.stay;
+            some_gone = omega (arith, gone);
+            places = rw (picked_push_false, ← gone) (Gapped-take items index index s.places here lt);
+            cost = grind (arith, s.cost, gone, moved-push_false bs);
+          }

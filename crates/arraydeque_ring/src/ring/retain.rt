@@ -72,6 +72,7 @@ impl<T> Ring<T> {
     /// Keeps the items at which `f` answers true, in their order, and drops the others, in place.
     /// `f` is called once on each item, front to back. Each item that stays behind the first that
     /// goes moves once.
+    #[tactic(auto, using(crate::proofs::places::Opened::end_facts))]
     pub fn retain<F: FnMut(&T) -> bool>(&mut self, mut f: F)
     where
         T: Drop,

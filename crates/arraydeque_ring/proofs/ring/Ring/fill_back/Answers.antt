@@ -1,7 +1,7 @@
-use Rattle.std.proofs.{Common.{refl, subst, ◌∙◌, arith}, lemmas.List.length-append}
+use Rattle.std.proofs.{Common.{refl, subst, ◌∙◌, sym, true≢false, arith}, lemmas.List.length-append}
 use Rattle.arraydeque_ring.proofs.{
   fills.{
-    FromIterator.{Fills-none, Fills-both, Fills-as, Fills-within},
+    FromIterator.{Fills-none, Fills-both, Fills-as},
     InRows.{back_none, filled_back-both},
     Laying.{empty_behind, laid_back},
   },
@@ -44,26 +44,12 @@ loop-ended-preserved g c =
 
 pub returns-else-self-capacity-clause-filled : goal.returns-else-self-capacity-clause-filled
 returns-else-self-capacity-clause-filled g c =
-    let inv = c.loop-ended.invariant in let was = inv.so_far.1 in let some = c.loop-ended-test.true in
-    Fills-as _ was _ _ (omega (
-      arith,
-      inv.all,
-      was.holds.len,
-      was.holds.laid.within,
-      length-append c.args.self.now.items was.items,
-      (was.all some).1,
-    )) (λ xs. closed)
+    let inv = c.loop-ended.invariant in let was = inv.so_far.1 in let within = was.holds.laid.within in
+    Fills-as _ was _ _ (omega (arith, length-append c.args.self.now.items was.items))
+    (λ some. omega (arith, was.holds.len, length-append c.args.self.now.items was.items, (was.all some).1)) (λ xs. closed)
 
 pub returns-after-loop-ended-clause-filled : goal.returns-after-loop-ended-clause-filled
-returns-after-loop-ended-clause-filled g c = let was = c.loop-ended.invariant.so_far.1 in
-    Fills-as _ (Fills-within _ was _ c.loop-ended-test.false (omega
-    (arith, was.holds.laid.within, length-append c.args.self.now.items was.items)))
-    _ _ refl (λ xs. closed)
-
-pub returns-else-self-capacity-clause-within : goal.returns-else-self-capacity-clause-within
-returns-else-self-capacity-clause-within g c =
-    (opened c.loop-ended.self-inside c.loop-ended.invariant.kept refl).laid.within
-
-pub returns-after-loop-ended-clause-within : goal.returns-after-loop-ended-clause-within
-returns-after-loop-ended-clause-within g c =
-    (opened c.loop-ended.self-inside c.loop-ended.invariant.kept refl).laid.within
+returns-after-loop-ended-clause-filled g c =
+    let was = c.loop-ended.invariant.so_far.1 in
+    Fills-as _ was _ _ (omega (arith, was.holds.laid.within, length-append c.args.self.now.items was.items))
+    (λ some. absurd (true≢false (sym c.loop-ended-test.false ∙ some))) (λ xs. closed)

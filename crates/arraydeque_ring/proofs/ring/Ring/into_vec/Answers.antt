@@ -1,8 +1,7 @@
 use Rattle.std.{
   proofs.{
-    Common.{
-      ◌≡◌, ℕ, ◌+◌, ◌-◌, ◌<◌, ◌≤◌, List, ◌∷◌, [], ◌++◌, length, drop, set, Option, Some, None, Vec, Global, vec_len,
-    },
+    Common.{◌≡◌, ℕ, ◌+◌, ◌-◌, ◌<◌, ◌≤◌, List, ◌∷◌, [], ◌++◌, length, drop, set, Option, Some, None, Vec, Global},
+    Common.{vec_len},
     Common.{inl, inr, sym, ap₂, ◌∙◌, arith},
     lemmas.{Grind.common_steps, List.{take_all, take_more, drop-drop, length-drop}, Option.get_or_from_slice_get},
   },

@@ -1,14 +1,10 @@
-use Rattle.std.{
-  proofs.{Common.{length, not, count_by, refl, sym, ap, ◌∙◌, subst, Bool, arith}, lemmas.Fn.called_at},
-  specs.{Fn.CalledAt, List.items_where_true},
-}
+use Rattle.std.{proofs.{Common.{refl, sym, ◌∙◌, subst, Bool, arith}, lemmas.Fn.called_at}, specs.{Fn.CalledAt}}
 use Rattle.arraydeque_ring.{
-  specs.{Retained.count_moved, Ring.RingState, Steps.{more_takes, more_moves}},
   proofs.{
     retained.Retaining.{all_kept, first_goes, next_filled, next_asked, room_for_next, all_within, one_stays, one_goes},
     retained.Retaining.{all_asked},
-    places.{LaidOut.IsFilled-place_of, Opened.{Opened, opened, closed, kept}},
-    ring.Ring.retain.{Given.Over, Goals.{then-keeps, else-keeps}},
+    places.Opened.{opened, bounds},
+    ring.Ring.retain.Goals.{then-keeps, else-keeps},
   },
 }
 use Rattle.arraydeque_ring.proofs.ring.Ring.retain.Goals as goal
@@ -18,16 +14,11 @@ returns-then-kept-len-clause-retains g c =
     let ring = opened c.self.inside c.self.invariant c.self.view_is in
     all_kept (CalledAt g.F.FnMut) _ _ _ _ (c.if-kept-len.true ∙ sym ring.len) c.kept_first-kept.ensures.in_turn
 
-pub take-requires : goal.take-requires
-take-requires g c =
-    let ring = opened c.self.inside c.self.invariant c.self.view_is in
-    rw (c.wrap_add.ensures, c.capacity-capacity.ensures, ring.laid.length_is)
-    (IsFilled-place_of ring.laid _ (omega (arith, ring.len, c.kept_first-kept.ensures.within)))
-
 pub loop-index-init : goal.loop-index-init
 loop-index-init g c =
     let ring = opened c.self.inside c.self.invariant c.self.view_is in
     record {
+      all = omega (arith, ring.len);
       so_far = rw (
         c.take.ensures.places,
         c.take.ensures.steps,
@@ -41,37 +32,33 @@ loop-index-init g c =
 
 pub get-requires : goal.get-requires
 get-requires g c =
-    let ring = opened c.self.inside c.self.invariant c.self.view_is in
     rw c.wrap_add-place.ensures (next_filled c.loop-index.invariant.so_far (omega arith))
 
 pub f-keeps-requires : goal.f-keeps-requires
 f-keeps-requires g c =
-    let ring = opened c.self.inside c.self.invariant c.self.view_is in
     let so_far = c.loop-index.invariant.so_far in
     c.requires so_far.answers c.loop-index.f _
     (next_asked so_far (omega arith) _ (rw c.wrap_add-place.ensures at c.get.ensures)) so_far.in_turn
 
 pub shift-requires-clause-filled : goal.shift-requires-clause-filled
 shift-requires-clause-filled g c =
-    let ring = opened c.self.inside c.self.invariant c.self.view_is in
     rw c.wrap_add-place.ensures (next_filled c.loop-index.invariant.so_far (omega arith))
 
 pub shift-requires-clause-empty : goal.shift-requires-clause-empty
 shift-requires-clause-empty g c = rw c.wrap_add-then-keeps.ensures (room_for_next c.loop-index.invariant.so_far)
 
 pub overflow_add-kept : goal.overflow_add-kept
-overflow_add-kept g c = let ring = opened c.self.inside c.self.invariant c.self.view_is in
-    let within = all_within c.loop-index.invariant.so_far (omega arith) in omega arith
+overflow_add-kept g c = let within = all_within c.loop-index.invariant.so_far (omega arith) in omega arith
 
 pub loop-index-preserved : goal.loop-index-preserved
 loop-index-preserved g c =
-    let ring = opened c.self.inside c.self.invariant c.self.view_is in
     let so_far = c.loop-index.invariant.so_far in
     let held = rw c.wrap_add-place.ensures at c.get.ensures in
     let said = called_at g.F.FnMut c.f-keeps.ensures refl in
     let answered : Bool → Type 0 = λ b. CalledAt g.F.FnMut c.loop-index.f c.get.result.now b c.f-keeps.new.self in
     elim c.if-keeps.branch [
       | then-keeps w ↦ record {
+        all = c.loop-index.invariant.all;
         so_far = rw (
           w.slots-is,
           w.kept-is,
@@ -82,6 +69,7 @@ loop-index-preserved g c =
         ) (one_stays so_far (omega arith) _ _ held (subst answered w.if-keeps.true said));
       }
       | else-keeps w ↦ record {
+        all = c.loop-index.invariant.all;
         so_far = rw (
           w.slots-is,
           w.kept-is,
@@ -92,48 +80,20 @@ loop-index-preserved g c =
       }
     ]
 
-after : (g : Over) (c : goal.After-drop-f-2 g) → let answers = c.loop-index.invariant.so_far.answers in
-    Opened record {
-      slots = c.loop-index.slots;
-      start = c.self.inside.start;
-      len = c.loop-index.kept;
-    }
-    record c.args.self.now {
-      items = items_where_true answers c.args.self.now.items;
-      steps = more_takes (count_by not answers) (more_moves (count_moved answers) c.args.self.now.steps);
-    }
-after g c =
-    let ring = opened c.self.inside c.self.invariant c.self.view_is in
-    let so_far = c.loop-index.invariant.so_far in
-    record {
-      laid = rw (c.capacity-capacity.ensures ∙ ring.laid.length_is) at (all_asked so_far (omega arith));
-      len = so_far.stay;
-      start = ring.start;
-      steps = so_far.cost;
-    }
-
 pub invariant_of-self : goal.invariant_of-self
-invariant_of-self g c = kept (after g c)
+invariant_of-self g c = grind (arith, bounds, all_asked c.loop-index.invariant.so_far (omega arith))
 
 pub returns-clause-retains : goal.returns-clause-retains
 returns-clause-retains g c =
-    let ring = opened c.self.inside c.self.invariant c.self.view_is in
     let so_far = c.loop-index.invariant.so_far in
     record {
       answers = so_far.answers;
       last = c.loop-index.f;
       one_each = omega (arith, so_far.asked);
       in_turn = so_far.in_turn;
-      kept = closed (after g c);
+      kept = grind (arith, bounds, all_asked so_far (omega arith), so_far.cost);
     }
 
 pub returns-clause-no_longer : goal.returns-clause-no_longer
-returns-clause-no_longer g c =
-    let ring = opened c.self.inside c.self.invariant c.self.view_is in
-    let so_far = c.loop-index.invariant.so_far in
-    omega (
-      arith,
-      so_far.stay,
-      (all_within so_far (omega arith)).0,
-      ap (λ (ring : RingState g.row.T.Denot). length ring.items) (closed (after g c)),
-    )
+returns-clause-no_longer g c = let so_far = c.loop-index.invariant.so_far in
+    grind (arith, bounds, all_asked so_far (omega arith), all_within so_far (omega arith))
