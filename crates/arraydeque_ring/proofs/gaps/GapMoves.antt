@@ -1,13 +1,5 @@
 -- A gap among the items of a ring that moves: it opens for an item, or is moved to an end of them, and so closed.
-use Rattle.std.proofs.{
-  Common.{◌≡◌, ℕ, ◌+◌, ◌-◌, ◌<◌, ◌≤◌, List, [], ◌++◌, length, drop, slice_get, max, nat_lt, Option, None, refl},
-  Common.{if◌then◌else◌, sym, ap, ◌∙◌, arith},
-  lemmas.{
-    Bool.Decides.nat_tests,
-    List.{length-append, append-nil, get_or-take, get_or-drop},
-    Option.slice_get_past,
-  },
-}
+use Rattle.std.proofs.{Common.{◌≡◌, ℕ, ◌+◌, ◌-◌, ◌<◌, ◌≤◌, List, [], ◌++◌, length, drop, slice_get, max, Option, None, refl}, Common.{sym, ap, ◌∙◌, arith}, lemmas.{Bool.Decides.nat_tests, List.{length-append, append-nil, get_or-take, get_or-drop}}}
 use Rattle.arraydeque_ring.{
   specs.{
     Gaps.{IsEmptyRun, gap_moved},

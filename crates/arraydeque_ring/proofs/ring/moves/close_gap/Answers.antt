@@ -1,4 +1,4 @@
-use Rattle.std.proofs.Common.{length, refl, arith}
+use Rattle.std.proofs.Common.{length, arith}
 use Rattle.arraydeque_ring.{
   proofs.{
     gaps.{Gapped.Gapped, GapMoves.{Gapped-runs, gap_may_move, closed_up}},
