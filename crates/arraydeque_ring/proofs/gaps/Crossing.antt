@@ -10,7 +10,7 @@ use Rattle.arraydeque_ring.{
   specs.{
     Gaps.{IsEmptyRun, gap_moved},
     Moved.{distance, MeetAtOneEndAtMost, IsFilledRound, IsFreeRound, run_moved},
-    Places.{held_at, IsFilled, IsFilledRun},
+    Places.{held_at, IsFilledRun},
     Ring.{place_of, rotated},
   },
   proofs.{
@@ -33,19 +33,6 @@ module _ {X : Type 0} (from to gap : ℕ) (ps : List (Option X)) (from_in : from
       then (if nat_lt x from then held_at ps x else held_at ps (x + gap)) else (if nat_lt x (to + gap) then None
       else (if nat_lt (x - gap) from then held_at ps (x - gap) else held_at ps x)))
   get_or-gap_moved x = grind (arith, nat_tests, places)
-
--- where it moves down: nothing in the gap, and the values that were before it behind it
-module _ {X : Type 0} (from to gap : ℕ) (ps : List (Option X)) (le : to ≤ from) (within : from + gap ≤ length ps)
-    (x : ℕ) where
-  pub gap_here : to ≤ x → x < to + gap → held_at (gap_moved from to gap ps) x ≡ None
-  gap_here a b = get_or-gap_moved from to gap ps within (omega arith) x ∙ grind (arith, nat_tests)
-
-  pub gap_passed : to + gap ≤ x → x < from + gap → held_at (gap_moved from to gap ps) x ≡ held_at ps (x - gap)
-  gap_passed a b = get_or-gap_moved from to gap ps within (omega arith) x ∙ grind (arith, nat_tests)
-
-  pub gap_elsewhere : (x < to) ⊎ (from + gap ≤ x) → held_at (gap_moved from to gap ps) x ≡ held_at ps x
-  gap_elsewhere (inl a) = get_or-gap_moved from to gap ps within (omega arith) x ∙ grind (arith, nat_tests)
-  gap_elsewhere (inr b) = get_or-gap_moved from to gap ps within (omega arith) x ∙ grind (arith, nat_tests)
 
 -- a place of an empty run, by its number
 pub empty_at : {X : Type 0} (ps : List (Option X)) (from len x : ℕ) → IsEmptyRun ps from len → from ≤ x
@@ -87,7 +74,8 @@ Passes from to gap i j len = ((i ≡ to + gap) × (j ≡ to) × (to + len ≡ fr
 goes_to : (t from to gap i j len x n : ℕ) → t < n → x < n → Passes from to gap i j len → j + len ≤ n → i ≤ x
     → x < i + len → (distance (place_of t j n) (place_of t x n) n < len) ⊎ ((from ≤ x) × (x < from + gap))
 goes_to t from to gap i j len x n t_in x_in ways within a b =
-    rw (distance-rotated t j x n t_in (omega arith) x_in) (grind (arith, nat_tests, distance_is j x n (omega arith) x_in))
+    rw (distance-rotated t j x n t_in (omega arith) x_in)
+    (grind (arith, nat_tests, distance_is j x n (omega arith) x_in))
 
 passed : {X : Type 0} (from to gap i j len x : ℕ) (qs : List (Option X)) → from + gap ≤ length qs
     → to + gap ≤ length qs → (from ≤ x → x < from + gap → held_at qs x ≡ None) → Passes from to gap i j len
@@ -122,10 +110,13 @@ crosses t from to gap i j len d s m ps t_in some within empty ways long at_d at_
         src_in_region = place_of-lt t j n (omega arith);
         apart = apart_by t i j len n t_in (omega arith) (omega arith);
         filled = Holds-filled reads j len (omega arith) (λ k lt. filled_in_run qs j len k filled lt);
-        free = λ k lt. rw (place_of-sum t i k n)
-            (elim (goes_to t from to gap i j len (i + k) n t_in (omega arith) ways (omega arith) (omega arith) (omega arith)) [
+        free = λ k lt. rw (place_of-sum t i k n) (elim (goes_to t from to gap i j len (i + k) n t_in (omega arith)
+            ways (omega arith) (omega arith) (omega arith)) [
               | inl source ↦ inl source
-              | inr gap ↦ inr (place_of-lt t (i + k) n (omega arith), reads.at (i + k) (omega arith) ∙ none (i + k) gap.0 gap.1)
+              | inr gap ↦ inr (
+                place_of-lt t (i + k) n (omega arith),
+                reads.at (i + k) (omega arith) ∙ none (i + k) gap.0 gap.1,
+              )
             ]);
       };
       count = count_by t i j len n t_in (omega arith) (omega arith) (omega arith);

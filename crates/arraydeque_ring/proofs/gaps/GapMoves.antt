@@ -1,5 +1,9 @@
 -- A gap among the items of a ring that moves: it opens for an item, or is moved to an end of them, and so closed.
-use Rattle.std.proofs.{Common.{◌≡◌, ℕ, ◌+◌, ◌-◌, ◌<◌, ◌≤◌, List, [], ◌++◌, length, drop, slice_get, max, Option, None, refl}, Common.{sym, ap, ◌∙◌, arith}, lemmas.{Bool.Decides.nat_tests, List.{length-append, append-nil, get_or-take, get_or-drop}}}
+use Rattle.std.proofs.{
+  Common.{◌≡◌, ℕ, ◌+◌, ◌-◌, ◌<◌, ◌≤◌, List, [], ◌++◌, length, drop, slice_get, max, Option, None, refl},
+  Common.{sym, ap, ◌∙◌, arith},
+  lemmas.{Bool.Decides.nat_tests, List.{length-append, append-nil, get_or-take, get_or-drop}},
+}
 use Rattle.arraydeque_ring.{
   specs.{
     Gaps.{IsEmptyRun, gap_moved},
@@ -59,7 +63,8 @@ held_in_run ps from len k run lt = sym (get_or-take len (drop from ps) k None lt
     ∙ ap (λ l. held_at l k) run.1.1 ∙ get_or-map_Some run.1.0 k
 
 -- where there is room, there is a gap behind all items, or before them, from a start one place down
-module _ {X : Type 0} {n t : ℕ} {xs : List X} {ps : List (Option X)} (l : LaidOut n t xs ps) (room : length xs < n) where
+module _ {X : Type 0} {n t : ℕ} {xs : List X} {ps : List (Option X)} (l : LaidOut n t xs ps)
+    (room : length xs < n) where
   pub Gapped-behind : Gapped n t xs 1 [] ps
   Gapped-behind = record {
     within = omega arith;

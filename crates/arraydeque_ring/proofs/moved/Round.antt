@@ -1,5 +1,8 @@
 -- Runs that move round the end: what is read afterwards, from a place from which on neither side passes it.
-use Rattle.std.proofs.{Common.{◌≡◌, ℕ, ◌+◌, ◌-◌, ◌<◌, ◌≤◌, List, length, Option, ◌∙◌, arith}, lemmas.Bool.Decides.nat_tests}
+use Rattle.std.proofs.{
+  Common.{◌≡◌, ℕ, ◌+◌, ◌-◌, ◌<◌, ◌≤◌, List, length, Option, ◌∙◌, arith},
+  lemmas.Bool.Decides.nat_tests,
+}
 use Rattle.arraydeque_ring.{
   specs.{Ring.place_of, Moved.{distance, run_moved}},
   proofs.{
