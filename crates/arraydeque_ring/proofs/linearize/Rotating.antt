@@ -1,6 +1,6 @@
 -- A region while it is rotated: pass after pass, values come to their places.
 use Rattle.std.proofs.{
-  Common.{◌≡◌, ℕ, ◌+◌, ◌-◌, ◌<◌, ◌≤◌, ◌⊎◌, inl, inr, List, ◌++◌, length, min, replicate, Option, true, false, is_some},
+  Common.{◌≡◌, ℕ, ◌+◌, ◌-◌, ◌<◌, ◌≤◌, ◌⊎◌, List, ◌++◌, length, min, replicate, Option, true, false, is_some},
   Common.{sym, ap, ◌∙◌, subst, arith},
   lemmas.{Bool.Decides.nat_tests, List.{append-nil}},
 }
@@ -18,28 +18,23 @@ use Rattle.arraydeque_ring.{
       Rotated.{length-rotated, rotated-map},
       Held.{filled_run_of, empty_run_of},
     },
-    linearize.Underway.{Underway, underway, reads},
+    moved.Flat.same_places,
+    linearize.Underway.{Underway, underway, filled_now, empty_now},
   },
 }
 
-module _ {X : Type 0} {dst gap behind len : ℕ} {ps : List (Option X)} (next : ℕ) (u : Underway dst gap behind len ps)
-    (here : dst + gap ≡ next) where
-  -- after a pass of `run` values to their places, two runs have still to change places
-  rotated_by_pass : (run left last : ℕ)
-      → ((run ≡ behind) × (left + run ≡ gap) × (last ≡ behind)) ⊎ ((run ≡ gap) × (left ≡ gap) × (last + run ≡ behind))
-      → run_rotated (dst + run) left last (runs_exchanged dst next run ps) ≡ run_rotated dst gap behind ps
-  rotated_by_pass run left last ways =
-      let rs = runs_exchanged dst next run ps in
-      let within : (dst + run ≤ next) × (next + run ≤ length ps) × (dst + run + left + last ≤ length ps) = elim ways [
-        | inl w ↦ omega (arith, u.whole)
-        | inr w ↦ omega (arith, u.whole)
-      ] in
-      let long = length-runs_exchanged dst next run ps within.0 within.1 in
-      let fits : dst + run + left + last ≤ length rs = omega (arith, long, within.2) in
-      reads next u here _ (length-run_rotated (dst + run) left last rs fits
-      ∙ long) (λ x lt. get_or-run_rotated (dst + run) left last rs fits x
-      ∙ get_or-runs_exchanged dst next run ps within.0 within.1 (rotated_from (dst + run) left last x)
-      ∙ ap (held_at ps) (elim ways [ inl w ↦ grind (arith, nat_tests) | inr w ↦ grind (arith, nat_tests) ]))
+-- after a pass of `run` values to their places, two runs have still to change places
+rotated_by_pass : {X : Type 0} (dst gap behind next run left last : ℕ) (ps : List (Option X))
+    → dst + gap + behind ≡ length ps → dst + gap ≡ next
+    → ((run ≡ behind) × (left + run ≡ gap) × (last ≡ behind)) ⊎ ((run ≡ gap) × (left ≡ gap) × (last + run ≡ behind))
+    → run_rotated (dst + run) left last (runs_exchanged dst next run ps) ≡ run_rotated dst gap behind ps
+rotated_by_pass dst gap behind next run left last ps whole here ways =
+    let long = length-runs_exchanged dst next run ps (omega arith) (omega arith) in
+    let rotated = length-run_rotated dst gap behind ps (omega arith) in
+    same_places _ _ (length-run_rotated (dst + run) left last _ (omega arith) ∙ long ∙ sym rotated) (λ x lt.
+    get_or-run_rotated (dst + run) left last _ (omega arith) x
+    ∙ get_or-runs_exchanged dst next run ps (omega arith) (omega arith) (rotated_from (dst + run) left last x)
+    ∙ ap (held_at ps) (grind (arith, nat_tests)) ∙ sym (get_or-run_rotated dst gap behind ps (omega arith) x))
 
 -- a pass: `run` values come to their places, x of them by an exchange and the others into empty places
 pub record Pass {X : Type 0} (dst next run x : ℕ) (ps : List (Option X)) : Type 0 where
@@ -49,29 +44,6 @@ pub record Pass {X : Type 0} (dst next run x : ℕ) (ps : List (Option X)) : Typ
   pub filled : IsFilledRun (runs_exchanged dst next x ps) (next + x) (run - x)
   pub all : runs_exchanged (dst + x) (next + x) (run - x) (runs_exchanged dst next x ps)
       ≡ runs_exchanged dst next run ps
-
-pass_of : {X : Type 0} {dst gap behind len : ℕ} {ps : List (Option X)} (next run x : ℕ) → Underway dst gap behind len ps
-    → dst + gap ≡ next → behind < len - dst → run ≡ min behind gap → x ≡ min (len - dst - behind) run
-    → Pass dst next run x ps
-pass_of {dst = dst} {gap = gap} {behind = behind} {len = len} {ps = ps} next run x u here wraps most both =
-    let rs = runs_exchanged dst next x ps in
-    let within : next + x ≤ length ps = omega (arith, u.whole) in
-    let long = length-runs_exchanged dst next x ps (omega arith) within in
-    let stays : (y : ℕ) → exchanged_from dst next x y ≡ y → held_at rs y ≡ held_at ps y =
-    λ y same. get_or-runs_exchanged dst next x ps (omega arith) within y ∙ ap (held_at ps) same in
-    record {
-      a_filled = filled_run_of ps dst x (omega arith)
-          (λ y a b. u.filled_at y (y + behind) (omega arith) (grind (arith, nat_tests)));
-      b_filled =
-          filled_run_of ps next x within (λ y a b. u.filled_at y (y - gap) (omega arith) (grind (arith, nat_tests)));
-      empty = empty_run_of rs (dst + x) (run - x) (omega (arith, long, u.whole)) (λ y a b.
-          stays y (grind (arith, nat_tests)) ∙ u.empty_at y (y + behind) (omega arith) (grind (arith, nat_tests)));
-      filled = filled_run_of rs (next + x) (run - x) (omega (arith, long, u.whole))
-          (λ y a b. let is = u.filled_at y (y - gap) (omega arith) (grind (arith, nat_tests)) in
-          (is.0, stays y (grind (arith, nat_tests)) ∙ is.1));
-      all = runs_exchanged_both dst next ps x (run - x) (omega arith) (omega (arith, u.whole))
-          ∙ ap (λ n. runs_exchanged dst next n ps) (omega arith);
-    }
 
 -- of the places read from t on the first len are filled
 FilledFrom-rotated : {X : Type 0} (t len : ℕ) (ps : List (Option X)) → FilledFrom t len (filled ps)
@@ -101,25 +73,44 @@ module _ {X : Type 0} {capacity start len dst next : ℕ} {old ps : List (Option
       still_fills
 
   pub Rotating-fits : len ≤ capacity
-  Rotating-fits = omega (arith, before.fits, t.length_is)
+  Rotating-fits = omega (arith, before.many, before.laid.within, t.length_is)
 
-  module _ (run x : ℕ) (wraps : capacity - next < len - dst) (pass : run ≡ min (capacity - next) (next - dst)) where
-    pub Rotating-pass : x ≡ min (len - dst - (capacity - next)) run → Pass dst next run x ps
-    Rotating-pass both = pass_of next run x before (omega (arith, t.in_order)) wraps pass both
+  module _ (run : ℕ) (wraps : capacity - next < len - dst) (most : run ≡ min (capacity - next) (next - dst)) where
+    pub Rotating-pass : (x : ℕ) → x ≡ min (len - dst - (capacity - next)) run → Pass dst next run x ps
+    Rotating-pass x both =
+        let whole = before.whole in
+        let all = t.length_is in
+        let in_order = t.in_order in
+        let in_region = t.in_region in
+        let rs = runs_exchanged dst next x ps in
+        let long = length-runs_exchanged dst next x ps (omega arith) (omega arith) in
+        let stays : (y : ℕ) → exchanged_from dst next x y ≡ y → held_at rs y ≡ held_at ps y =
+        λ y same. get_or-runs_exchanged dst next x ps (omega arith) (omega arith) y ∙ ap (held_at ps) same in
+        let filled = filled_now before in
+        let none = empty_now before in
+        record {
+          a_filled = filled_run_of ps dst x (omega arith) (λ y a b. filled y (omega arith) (grind (arith, nat_tests)));
+          b_filled = filled_run_of ps next x (omega arith) (λ y a b. filled y (omega arith) (grind (arith, nat_tests)));
+          empty = empty_run_of rs (dst + x) (run - x) (omega arith)
+              (λ y a b. stays y (grind (arith, nat_tests)) ∙ none y (omega arith) (grind (arith, nat_tests)));
+          filled = filled_run_of rs (next + x) (run - x) (omega arith) (λ y a b.
+              let is = filled y (omega arith) (grind (arith, nat_tests)) in
+              (is.0, stays y (grind (arith, nat_tests)) ∙ is.1));
+          all = runs_exchanged_both dst next ps x (run - x) (omega arith) (omega arith)
+              ∙ ap (λ n. runs_exchanged dst next n ps) (omega arith);
+        }
 
     -- after it the others stand where they did, or one run further on
     pub Rotating-passed : (next_then : ℕ)
         → ((capacity - next ≤ run) × (next_then ≡ next)) ⊎ ((run < capacity - next) × (next_then ≡ next + run))
         → Rotating capacity start len (dst + run) next_then old (runs_exchanged dst next run ps)
-    Rotating-passed next_then ways = record {
-      length_is = length-runs_exchanged dst next run ps (omega (arith, t.in_order)) (omega (arith, t.length_is))
-          ∙ t.length_is;
-      in_order = elim ways [ inl w ↦ omega (arith, t.in_order) | inr w ↦ omega (arith, t.in_order) ];
-      in_region = elim ways [ inl w ↦ omega (arith, t.in_region) | inr w ↦ omega arith ];
-      placed = omega arith;
-      left = t.left ∙ sym (rotated_by_pass next before (omega (arith, t.in_order)) run (next_then - (dst + run))
-          (capacity - next_then) (elim ways [
-            | inl w ↦ inl (omega arith, omega (arith, t.in_order), omega arith)
-            | inr w ↦ inr (omega (arith, t.in_order), omega (arith, t.in_order), omega arith)
-          ]));
-    }
+    Rotating-passed next_then ways =
+        let all = t.length_is in let in_order = t.in_order in let in_region = t.in_region in
+        record {
+          length_is = length-runs_exchanged dst next run ps (omega arith) (omega arith) ∙ all;
+          in_order = omega arith;
+          in_region = omega arith;
+          placed = omega arith;
+          left = t.left ∙ sym (rotated_by_pass dst (next - dst) (capacity - next) next run (next_then - (dst + run))
+              (capacity - next_then) ps (omega arith) (omega arith) (grind arith));
+        }

@@ -1,154 +1,146 @@
 -- A region while its list is laid in one piece: the first values are in their places, and two runs behind them have
 -- still to change places.
 use Rattle.std.proofs.{
-  Common.{◌≡◌, ℕ, ◌+◌, ◌-◌, ◌<◌, ◌≤◌, ◌⊎◌, inl, inr, List, length, Option, None, refl, sym, ap, ◌∙◌, arith},
-  lemmas.{Bool.{cases_lt, Decides.nat_tests}, List.{append-nil, get_or_past}, Option.slice_get_past},
+  Common.{◌≡◌, ℕ, ◌+◌, ◌-◌, ◌<◌, ◌≤◌, List, length, take, drop, slice_get, nat_lt, if◌then◌else◌, None, refl, sym},
+  Common.{Option, ap, ◌∙◌, arith},
+  lemmas.{
+    Bool.Decides.nat_tests,
+    List.{append-nil, take-append-drop, length-take-le, length-drop},
+    Option.slice_get_past,
+  },
 }
 use Rattle.arraydeque_ring.{
   specs.{
     Gaps.{IsEmptyRun, gap_moved, run_rotated},
     Places.{held_at, IsFilled, IsFilledRun},
-    Ring.{rotated, values, filled, FilledFrom},
+    Ring.{rotated, filled, FilledFrom},
     Exchanged.runs_exchanged,
   },
   proofs.{
     gaps.{
-      Crossing.{length-gap_moved, get_or-gap_moved, gap_here, gap_passed, gap_elsewhere},
-      GapMoves.{MayMove, may_move},
+      Crossing.{length-gap_moved, get_or-gap_moved},
+      Gapped.{Gapped, LaidOut-gap_last},
+      GapMoves.{MayMove, may_move, gap_may_move, gap_moves},
     },
     moved.Flat.same_places,
     places.{
       Held.{filled_run_of, empty_run_of},
-      Holds.Holds-first,
-      Items.slice_get_some,
-      LaidOut.{holds, LaidOut-values},
-      Reads.{rotated_from, length-run_rotated, get_or-run_rotated, exchanged_from, length-runs_exchanged},
-      Reads.{get_or-runs_exchanged},
+      Holds.{Holds-first, Holds-of_rotated},
+      Items.{items, slice_get_some},
+      LaidOut.{LaidOut, holds, LaidOut-values},
+      Reads.{rotated_from, length-run_rotated, get_or-run_rotated, length-runs_exchanged, get_or-runs_exchanged},
     },
   },
 }
 
--- once the run of `gap` from the index dst on and the run of `behind` that follows it to the end change places, the
--- first len places are filled, and no others
+-- once the run of `gap` from the index dst on and the run of `behind` that follows it to the end change places, len
+-- values are laid out from the first place on
 pub record Underway {X : Type 0} (dst gap behind len : ℕ) (ps : List (Option X)) : Type 0 where
   pub whole : dst + gap + behind ≡ length ps
-  pub fits : len ≤ length ps
-  pub filled_at : (x y : ℕ) → y < len → rotated_from dst gap behind y ≡ x → IsFilled ps x
-  pub empty_at : (x y : ℕ) → len ≤ y → rotated_from dst gap behind y ≡ x → held_at ps x ≡ None
+  pub list : List X
+  pub many : length list ≡ len
+  pub laid : LaidOut (length ps) 0 list (run_rotated dst gap behind ps)
 
 pub underway : {X : Type 0} (dst gap behind len : ℕ) (ps : List (Option X)) → dst + gap + behind ≡ length ps
     → FilledFrom 0 len (filled (run_rotated dst gap behind ps)) → Underway dst gap behind len ps
 underway dst gap behind len ps whole fills =
-    let after = run_rotated dst gap behind ps in
-    let laid = LaidOut-values 0 len after (omega arith) fills in
-    let long = length-run_rotated dst gap behind ps (omega arith) in
-    let within = laid.0.within in
-    let many = laid.1 in
-    let held : (y : ℕ) → held_at ps (rotated_from dst gap behind y) ≡ held_at after y =
-    λ y. sym (get_or-run_rotated dst gap behind ps (omega arith) y) in
-    record {
+    let laid = LaidOut-values 0 len (run_rotated dst gap behind ps) (omega arith) fills in record {
       whole = whole;
-      fits = omega arith;
-      filled_at = λ x y lt is. let some = slice_get_some (values (rotated 0 after)) y (omega arith) in
-          (some.0, ap (held_at ps) (sym is) ∙ held y ∙ Holds-first (holds laid.0) y (omega arith) ∙ some.1);
-      empty_at = λ x y le is. ap (held_at ps) (sym is) ∙ held y ∙ elim (cases_lt y (length after)) [
-        | inl lt ↦ Holds-first (holds laid.0) y lt ∙ slice_get_past (values (rotated 0 after)) y (omega arith)
-        | inr past ↦ get_or_past after y None past
-      ];
+      list = _;
+      many = laid.1;
+      laid = rw (length-run_rotated dst gap behind ps (omega arith)) at laid.0;
     }
 
-module _ {X : Type 0} {dst gap behind len : ℕ} {ps : List (Option X)} (next : ℕ) (u : Underway dst gap behind len ps)
-    (here : dst + gap ≡ next) where
-  -- a list that is laid out is all of the places
-  pub reads : (qs : List (Option X)) → length qs ≡ length ps → ((x : ℕ) → x < length ps
-      → held_at qs x ≡ held_at ps (rotated_from dst gap behind x)) → qs ≡ run_rotated dst gap behind ps
-  reads qs long each =
-      let same = length-run_rotated dst gap behind ps (omega (arith, u.whole)) in
-      same_places _ _ (long ∙ sym same)
-      (λ x lt. each x (omega arith) ∙ sym (get_or-run_rotated dst gap behind ps (omega (arith, u.whole)) x))
+module _ {X : Type 0} {dst gap behind len : ℕ} {ps : List (Option X)} (u : Underway dst gap behind len ps) where
+  -- what a place holds now
+  held_now : (x : ℕ) → x < length ps → held_at ps x ≡ slice_get u.list (rotated_from dst behind gap x)
+  held_now x lt =
+      let whole = u.whole in
+      let y = rotated_from dst behind gap x in
+      let back : rotated_from dst gap behind y ≡ x = grind (arith, nat_tests) in
+      ap (held_at ps) (sym back) ∙ sym (get_or-run_rotated dst gap behind ps (omega arith) y)
+      ∙ Holds-first (holds u.laid) y (grind (arith, nat_tests))
+
+  pub filled_now : (x : ℕ) → x < length ps → rotated_from dst behind gap x < len → IsFilled ps x
+  filled_now x lt some = let v = slice_get_some u.list _ (omega (arith, some, u.many)) in (v.0, held_now x lt ∙ v.1)
+
+  pub empty_now : (x : ℕ) → x < length ps → len ≤ rotated_from dst behind gap x → held_at ps x ≡ None
+  empty_now x lt past = held_now x lt ∙ slice_get_past u.list _ (omega (arith, past, u.many))
+
+  -- places that hold the list are all of them
+  pub holds_all : (qs : List (Option X)) → length qs ≡ length ps
+      → ((x : ℕ) → x < length ps → held_at qs x ≡ slice_get u.list x) → qs ≡ run_rotated dst gap behind ps
+  holds_all qs long each = same_places _ _ (long ∙ sym u.laid.length_is) (λ x lt.
+      let x_in : x < length ps = omega (arith, u.laid.length_is) in
+      each x x_in ∙ sym (Holds-first (holds u.laid) x x_in))
 
   -- with no gap all are in their places
   pub none_left : gap ≡ 0 → ps ≡ run_rotated dst gap behind ps
-  none_left none = reads ps refl (λ x lt. ap (held_at ps) (grind (arith, nat_tests)))
+  none_left none = let whole = u.whole in
+      holds_all ps refl (λ x lt. held_now x lt ∙ ap (slice_get u.list) (grind (arith, nat_tests)))
 
--- the values that are left stand behind the gap, in one piece, and can be moved before it
-pub record LastInOnePiece {X : Type 0} (dst gap behind len : ℕ) (ps : List (Option X)) : Type 0 where
-  pub may : MayMove 0 dst len gap ps
-  pub after : gap_moved dst len gap ps ≡ run_rotated dst gap behind ps
+  -- the values that are left may stand behind the gap, in one piece
+  module _ (placed : dst ≤ len) (fits : len ≤ dst + behind) where
+    front : length (take dst u.list) ≡ dst
+    front = length-take-le dst u.list (omega (arith, u.many))
 
-pub last_in_one_piece : {X : Type 0} {dst gap behind len : ℕ} {ps : List (Option X)}
-    → Underway dst gap behind len ps → dst ≤ len → len ≤ dst + behind → 0 < gap
-    → LastInOnePiece dst gap behind len ps
-last_in_one_piece {dst = dst} {gap = gap} {behind = behind} {len = len} {ps = ps} u placed fits some =
-    let whole = u.whole in
-    record {
-      may = may_move 0 dst len gap ps (append-nil ps) some (omega arith) (omega arith)
-          (λ x a b. u.empty_at x (x + behind) (omega arith) (grind (arith, nat_tests))) (λ x a b. absurd (omega arith))
-          (λ x a b. u.filled_at x (x - gap) (omega arith) (grind (arith, nat_tests)));
-      after = reads _ u refl _ (length-gap_moved dst len gap ps (omega arith) (omega arith)) (λ x x_in.
-          get_or-gap_moved dst len gap ps (omega arith) (omega arith) x ∙ elim (cases_lt x len) [
-            | inl lt ↦ grind (arith, nat_tests)
-            | inr le ↦ elim (cases_lt x (len + gap)) [
-              | inl low ↦ grind (arith, nat_tests)
-              | inr high ↦ let none = u.empty_at x (x - gap) (omega arith) (grind (arith, nat_tests)) in
-                  grind (arith, nat_tests, none)
-            ] ∙ sym (u.empty_at (rotated_from dst gap behind x) x le refl)
-          ]);
-    }
+    parted : Gapped (length ps) 0 (take dst u.list) gap (drop dst u.list) ps
+    parted =
+        let whole = u.whole in
+        let many = u.many in
+        record {
+          within = omega (arith, front, length-drop dst u.list);
+          reads = Holds-of_rotated refl (omega arith)
+              (λ k lt. rw (append-nil ps) (held_now k lt ∙ grind (arith, nat_tests, items, front)));
+        }
 
--- or there is room for the values behind the gap:
--- the ones in front of it move up by as many places, and they take their place
-pub record RoomForFirst {X : Type 0} (dst gap next behind from : ℕ) (ps : List (Option X)) : Type 0 where
-  pub may : MayMove 0 from dst behind ps
-  pub moved : (qs : List (Option X)) → qs ≡ gap_moved from dst behind ps → IsEmptyRun qs dst behind
-      × IsFilledRun qs next behind × (runs_exchanged dst next behind qs ≡ run_rotated dst gap behind ps)
+    pub last_may_move : 0 < gap → MayMove 0 dst len gap ps
+    last_may_move some = gap_may_move parted dst len front some (omega (arith, u.many, length-drop dst u.list))
 
-pub room_for_first : {X : Type 0} {dst gap behind len : ℕ} {ps : List (Option X)} (next from : ℕ)
-    → Underway dst gap behind len ps → dst + gap ≡ next → from + behind ≡ len → dst ≤ from → len ≤ next
-    → next < length ps → RoomForFirst dst gap next behind from ps
-room_for_first {dst = dst} {gap = gap} {behind = behind} {len = len} {ps = ps} next from u here many low fits some =
-    let whole = u.whole in
-    let in_gap : (z : ℕ) → from ≤ z → z < next → held_at ps z ≡ None =
-    λ z a b. u.empty_at z (z + behind) (omega arith) (grind (arith, nat_tests)) in
-    record {
-      may = may_move 0 from dst behind ps (append-nil ps) (omega arith) (omega arith) (omega arith)
-          (λ x a b. in_gap x a (omega arith))
-          (λ x a b. u.filled_at x (x + behind) (omega arith) (grind (arith, nat_tests)))
-          (λ x a b. absurd (omega arith));
-      moved = λ qs is.
+    pub last_moved : (qs : List (Option X)) → rotated 0 qs ≡ gap_moved dst len gap (rotated 0 ps)
+        → qs ≡ run_rotated dst gap behind ps
+    last_moved qs is =
+        let l = holds (LaidOut-gap_last (gap_moves parted dst len front 0 qs
+        (append-nil u.list ∙ sym (take-append-drop dst u.list)) u.many (omega arith) is)) in
+        holds_all qs l.length_is (λ x lt. Holds-first l x lt)
+
+  -- or there is room for the values behind the gap:
+  -- the ones in front of it move up by as many places, and they take their place
+  module _ (next from : ℕ)
+      (room : (dst + gap ≡ next) × (from + behind ≡ len) × (dst ≤ from) × (len ≤ next) × (0 < behind)) where
+    pub room_for_first : MayMove 0 from dst behind ps
+    room_for_first =
+        let whole = u.whole in
+        may_move 0 from dst behind ps (append-nil ps) (omega arith) (omega arith) (omega arith)
+        (λ x a b. empty_now x (omega arith) (grind (arith, nat_tests)))
+        (λ x a b. filled_now x (omega arith) (grind (arith, nat_tests))) (λ x a b. absurd (omega arith))
+
+    module _ (qs : List (Option X)) (is : rotated 0 qs ≡ gap_moved from dst behind (rotated 0 ps)) where
+      same : qs ≡ gap_moved from dst behind ps
+      same = sym (append-nil qs) ∙ is ∙ ap (gap_moved from dst behind) (append-nil ps)
+
+      made_room : (x : ℕ) → x < length ps → held_at qs x ≡ (if nat_lt x dst then slice_get u.list x
+          else (if nat_lt x (dst + behind) then None
+          else (if nat_lt x next then slice_get u.list x else slice_get u.list (x - gap))))
+      made_room x lt =
+          let whole = u.whole in
+          let many = u.many in
+          ap (λ l. held_at l x) same ∙ get_or-gap_moved from dst behind ps (omega arith) (omega arith) x
+          ∙ grind (arith, nat_tests, slice_get_past, held_now x lt, held_now (x - behind))
+
+      pub first_moved : IsEmptyRun qs dst behind × IsFilledRun qs next behind
+          × (runs_exchanged dst next behind qs ≡ run_rotated dst gap behind ps)
+      first_moved =
+          let whole = u.whole in
+          let many = u.many in
           let long : length qs ≡ length ps =
-          ap length is ∙ length-gap_moved from dst behind ps (omega arith) (omega arith) in
-          let held : (x : ℕ) → held_at qs x ≡ held_at (gap_moved from dst behind ps) x =
-          λ x. ap (λ l. held_at l x) is in
-          let same : (x : ℕ) → (x < dst) ⊎ (from + behind ≤ x) → held_at qs x ≡ held_at ps x =
-          λ x out. held x ∙ gap_elsewhere from dst behind ps low (omega arith) x out in
-          let none : (x : ℕ) → dst ≤ x → x < dst + behind → held_at qs x ≡ None =
-          λ x a b. held x ∙ gap_here from dst behind ps low (omega arith) x a b in (
-            empty_run_of qs dst behind (omega arith) none,
-            filled_run_of qs next behind (omega arith) (λ y a b. let filled = u.filled_at y (y - gap) (omega arith)
-                (grind (arith, nat_tests)) in (filled.0, same y (inr (omega arith)) ∙ filled.1)),
-            reads _ u refl _ (length-runs_exchanged dst next behind qs (omega arith) (omega arith) ∙ long) (λ x lt.
-                let via : (w : ℕ) → exchanged_from dst next behind x ≡ w
-                → held_at (runs_exchanged dst next behind qs) x ≡ held_at qs w =
-                λ w e. get_or-runs_exchanged dst next behind qs (omega arith) (omega arith) x ∙ ap (held_at qs) e in
-                elim (cases_lt x len) [
-                  | inl below ↦ elim (cases_lt x (dst + behind)) [
-                    | inl first ↦ elim (cases_lt x dst) [
-                      | inl stays ↦ via x (grind (arith, nat_tests)) ∙ same x (inl stays)
-                          ∙ ap (held_at ps) (grind (arith, nat_tests))
-                      | inr comes ↦ via (x - dst + next) (grind (arith, nat_tests))
-                          ∙ same (x - dst + next) (inr (omega arith)) ∙ ap (held_at ps) (grind (arith, nat_tests))
-                    ]
-                    | inr second ↦ via x (grind (arith, nat_tests)) ∙ held x
-                        ∙ gap_passed from dst behind ps low (omega arith) x second (omega arith)
-                        ∙ ap (held_at ps) (grind (arith, nat_tests))
-                  ]
-                  | inr le ↦ elim (cases_lt x next) [
-                    | inl stays ↦ via x (grind (arith, nat_tests)) ∙ same x (inr (omega arith))
-                        ∙ in_gap x (omega arith) stays
-                    | inr goes ↦ via (x - next + dst) (grind (arith, nat_tests))
-                        ∙ none (x - next + dst) (omega arith) (omega arith)
-                  ] ∙ sym (u.empty_at (rotated_from dst gap behind x) x le refl)
-                ]),
-          );
-    }
+          ap length same ∙ length-gap_moved from dst behind ps (omega arith) (omega arith) in (
+            empty_run_of qs dst behind (omega arith) (λ x a b. made_room x (omega arith) ∙ grind (arith, nat_tests)),
+            filled_run_of qs next behind (omega arith) (λ x a b.
+                let v = slice_get_some u.list (x - gap) (omega arith) in
+                (v.0, made_room x (omega arith) ∙ grind (arith, nat_tests, v.1))),
+            holds_all _ (length-runs_exchanged dst next behind qs (omega arith) (omega arith) ∙ long) (λ x lt.
+                get_or-runs_exchanged dst next behind qs (omega arith) (omega arith) x
+                ∙ grind (arith, nat_tests, slice_get_past, made_room x lt, made_room (x - dst + next),
+                made_room (x - next + dst))),
+          )

@@ -1,7 +1,7 @@
 use Rattle.std.{
   proofs.{
-    Common.{◌≡◌, ◌+◌, length, take, drop, arith, rules},
-    lemmas.{Grind.common_steps, List.{length-take-le, Edits.length-insert}},
+    Common.{◌≡◌, ◌+◌, length, take, drop, refl, sym, ◌∙◌, arith, rules},
+    lemmas.{Grind.common_steps, List.{append-nil, take-append-drop, length-take-le, Edits.length-insert}},
   },
   specs.List.insert,
 }
@@ -11,7 +11,7 @@ use Rattle.arraydeque_ring.{
     gaps.{
       Fewest.fewest_insert,
       Gapped.{Gapped, IsEmpty-gap, LaidOut-put},
-      GapMoves.{opens_up, opens_down, opened_up, opened_down},
+      GapMoves.{Gapped-behind, Gapped-before, gap_may_move, gap_moves},
     },
     places.Opened.{opened, shows, Shows, ring_facts},
     ring.Ring.insert.{Given.Over, Goals.{After-put, then-index-behind, else-index-behind}},
@@ -23,25 +23,30 @@ pub move_gap-requires : goal.move_gap-requires
 move_gap-requires g c =
     let ring = opened c.self.inside c.self.invariant c.self.view_is in
     rw (c.wrap_add-before.ensures, c.capacity-capacity.ensures, ring.laid.length_is)
-    (rw ring.laid.length_is at (opens_down ring.laid c.args.index c.requires.in_bounds c.requires.room))
+    (rw ring.laid.length_is at
+    (gap_may_move (Gapped-before ring.laid c.requires.room) 0 c.args.index refl (omega arith) (omega arith)))
 
 pub move_gap-requires-else-index-behind : goal.move_gap-requires-else-index-behind
 move_gap-requires-else-index-behind g c =
     let ring = opened c.self.inside c.self.invariant c.self.view_is in
-    rw (← ring.len) (opens_up ring.laid c.args.index c.requires.in_bounds c.requires.room)
+    gap_may_move (Gapped-behind ring.laid c.requires.room) _ _ ring.len (omega arith) (omega (arith, ring.len))
 
 -- with the gap open
 gap : (g : Over) (c : goal.After-put-arg-1 g) → let old = c.args.self.now in let now = c.if-index-behind.self-inside in
     Gapped old.capacity now.start (take c.args.index old.items) 1 (drop c.args.index old.items) now.slots.places
 gap g c =
     let ring = opened c.self.inside c.self.invariant c.self.view_is in
+    let items = c.args.self.now.items in
+    let front = length-take-le c.args.index items c.requires.in_bounds in
     elim c.if-index-behind.branch [
       | then-index-behind w ↦
           let before = rw (c.capacity-capacity.ensures, ring.laid.length_is) at w.wrap_add-before.ensures in
-          rw (w.self-inside-is, before) (opened_down ring.laid c.args.index c.requires.in_bounds c.requires.room _
+          rw (w.self-inside-is, before) (gap_moves (Gapped-before ring.laid c.requires.room) 0 c.args.index refl _ _
+          (take-append-drop c.args.index items) front (Gapped-before ring.laid c.requires.room).reads.in_region
           (rw before at w.move_gap.ensures.places))
-      | else-index-behind w ↦ rw w.self-inside-is (opened_up ring.laid c.args.index c.requires.in_bounds
-          c.requires.room _ (rw (← ring.len) at w.move_gap-else-index-behind.ensures.places))
+      | else-index-behind w ↦ rw w.self-inside-is (gap_moves (Gapped-behind ring.laid c.requires.room) _ c.args.index
+          ring.len _ _ (take-append-drop c.args.index items ∙ sym (append-nil items)) front ring.laid.in_region
+          w.move_gap-else-index-behind.ensures.places)
     ]
 
 front : (g : Over) (c : goal.After-put-arg-1 g) → length (take c.args.index c.args.self.now.items) ≡ c.args.index

@@ -1,53 +1,39 @@
-use Rattle.std.proofs.{Common.{◌-◌, ◌<◌, ◌≤◌, length, inl, inr, sym, ◌∙◌, arith}, lemmas.List.append-nil}
+use Rattle.std.proofs.Common.{◌-◌, length, arith}
 use Rattle.arraydeque_ring.proofs.{
-  linearize.Underway.{underway, none_left, LastInOnePiece, last_in_one_piece, RoomForFirst, room_for_first},
-  ring.linearize.place_last.{Given.Over, Goals.{After-capacity}},
+  linearize.Underway.{Underway, underway, none_left, last_may_move, last_moved, room_for_first, first_moved},
+  ring.linearize.place_last.{Given.Over, Goals.{Start}},
 }
 use Rattle.arraydeque_ring.proofs.ring.linearize.place_last.Goals as goal
 
+now : (g : Over) (c : Start g) → let ps = c.args.slots.places in
+    Underway c.args.dst (c.args.next - c.args.dst) (length ps - c.args.next) c.args.len ps
+now g c = underway _ _ _ _ _ (omega arith) c.requires.filled
+
 pub returns-then-dst-next-clause-places : goal.returns-then-dst-next-clause-places
-returns-then-dst-next-clause-places g c = none_left c.args.next
-    (underway c.args.dst _ _ c.args.len c.args.slots.places (omega arith) c.requires.filled) (omega arith) (omega arith)
+returns-then-dst-next-clause-places g c =
+    none_left (now g (goal.at.returns-then-dst-next-clause-places g c).Start) (omega arith)
 
 -- the others stand in one piece
-in_one_piece : (g : Over) (c : After-capacity g) → c.args.len - c.args.dst ≤ length c.args.slots.places - c.args.next
-    → LastInOnePiece c.args.dst (c.args.next - c.args.dst) (length c.args.slots.places - c.args.next) c.args.len
-    c.args.slots.places
-in_one_piece g c fits = last_in_one_piece (underway c.args.dst _ _ c.args.len c.args.slots.places
-    (omega arith) c.requires.filled) c.requires.some_left (omega arith) (omega arith)
+pub move_gap-requires : goal.move_gap-requires
+move_gap-requires g c =
+    last_may_move (now g (goal.at.move_gap-requires g c).Start) c.requires.some_left (omega arith) (omega arith)
+
+pub returns-then-left-first-clause-places : goal.returns-then-left-first-clause-places
+returns-then-left-first-clause-places g c = last_moved (now g (goal.at.returns-then-left-first-clause-places g c).Start)
+    c.requires.some_left (omega arith) _ c.move_gap.ensures.places
 
 -- or there is room before them
-room : (g : Over) (c : After-capacity g) → length c.args.slots.places - c.args.next < c.args.len - c.args.dst
-    → let first = length c.args.slots.places - c.args.next in
-    RoomForFirst c.args.dst (c.args.next - c.args.dst) c.args.next first (c.args.len - first) c.args.slots.places
-room g c wraps =
-    let before = underway c.args.dst (c.args.next - c.args.dst)
-    (length c.args.slots.places - c.args.next) c.args.len c.args.slots.places (omega arith) c.requires.filled in
-    elim c.requires.room [
-      | inl fits ↦ absurd (omega arith)
-      | inr fits ↦ room_for_first c.args.next _ before (omega arith) (omega arith) (omega arith) fits (omega arith)
-    ]
-
-pub move_gap-requires : goal.move_gap-requires
-move_gap-requires g c = (in_one_piece g (goal.at.move_gap-requires g c).After-capacity (omega arith)).may
-
 pub move_gap-requires-2 : goal.move_gap-requires-2
-move_gap-requires-2 g c =
-    rw c.capacity.ensures (room g (goal.at.move_gap-requires-2 g c).After-capacity (omega arith)).may
+move_gap-requires-2 g c = rw c.capacity.ensures
+    (room_for_first (now g (goal.at.move_gap-requires-2 g c).Start) c.args.next _ (omega arith))
 
 pub move_down-requires : goal.move_down-requires
 move_down-requires g c =
-    let moved = (room g (goal.at.move_down-requires g c).After-capacity (omega arith)).moved _ (sym (append-nil _)
-    ∙ (rw (c.capacity.ensures, append-nil c.args.slots.places) at c.move_gap-2.ensures.places)) in
+    let moved = first_moved (now g (goal.at.move_down-requires g c).Start) c.args.next _
+    (omega arith) _ (rw c.capacity.ensures at c.move_gap-2.ensures.places) in
     rw c.capacity.ensures (record { apart = omega arith; empty = moved.0; filled = moved.1 })
 
-pub returns-then-left-first-clause-places : goal.returns-then-left-first-clause-places
-returns-then-left-first-clause-places g c =
-    sym (append-nil _) ∙ (rw (append-nil c.args.slots.places) at c.move_gap.ensures.places)
-    ∙ (in_one_piece g (goal.at.returns-then-left-first-clause-places g c).After-capacity (omega arith)).after
-
 pub returns-clause-places : goal.returns-clause-places
-returns-clause-places g c =
-    rw (c.move_down.ensures.places, c.capacity.ensures) ((room g (goal.at.returns-clause-places g c).After-capacity
-    (omega arith)).moved _ (sym (append-nil _)
-    ∙ (rw (c.capacity.ensures, append-nil c.args.slots.places) at c.move_gap-2.ensures.places))).2
+returns-clause-places g c = rw (c.move_down.ensures.places, c.capacity.ensures)
+    (first_moved (now g (goal.at.returns-clause-places g c).Start) c.args.next _
+    (omega arith) _ (rw c.capacity.ensures at c.move_gap-2.ensures.places)).2

@@ -1,8 +1,6 @@
-use Rattle.std.proofs.{Common.{rules}, lemmas.Grind.{common_steps}}
-use Rattle.arraydeque_ring.{specs.Ring.{filled}, proofs.places.Opened.{ring_facts}}
 use Rattle.std.proofs.{
   Common.{◌≡◌, ◌+◌, ◌-◌, inl, inr, ◌==◌, refl, if◌then◌else◌, arith},
-  lemmas.Bool.Decides.nat_tests,
+  lemmas.{Bool.Decides.nat_tests, Grind.common_steps},
 }
 use Rattle.arraydeque_ring.{
   specs.{Exchanged.runs_exchanged, Steps.Rearranges},
@@ -15,8 +13,8 @@ use Rattle.arraydeque_ring.proofs.ring.linearize.rotate.Goals as goal
 
 pass : (g : Over) (c : After-min-past_end g)
     → Pass c.loop-next.dst c.loop-next.next c.min-run.result c.min-past_end.result c.loop-next.slots.places
-pass g c = Rotating-pass c.requires.filled c.loop-next.invariant.walk c.min-run.result c.min-past_end.result
-    c.if-capacity-next.true c.min-run.ensures c.min-past_end.ensures
+pass g c = Rotating-pass c.requires.filled c.loop-next.invariant.walk _ c.if-capacity-next.true c.min-run.ensures
+    _ c.min-past_end.ensures
 
 pub exchange_runs-slots-requires : goal.exchange_runs-slots-requires
 exchange_runs-slots-requires g c =
@@ -45,16 +43,14 @@ steps g c =
 
 after : (g : Over) (c : After-move_down-slots g) → c.move_down-slots.result.places
     ≡ runs_exchanged c.loop-next.dst c.loop-next.next c.min-run.result c.loop-next.slots.places
-after g c = rw (c.move_down-slots.ensures.places, c.exchange_runs-slots.ensures.places)
-    (Rotating-pass c.requires.filled c.loop-next.invariant.walk c.min-run.result c.min-past_end.result
-    c.if-capacity-next.true c.min-run.ensures c.min-past_end.ensures).all
+after g c = rw (c.move_down-slots.ensures.places, c.exchange_runs-slots.ensures.places) (pass g c.before.before).all
 
 pub loop-next-preserved-then-run-first : goal.loop-next-preserved-then-run-first
 loop-next-preserved-then-run-first g c =
     let moved = (goal.at.loop-next-preserved-then-run-first g c).After-move_down-slots in
     record {
-      walk = rw (after g moved) (Rotating-passed c.requires.filled c.loop-next.invariant.walk c.min-run.result
-          c.min-past_end.result c.if-capacity-next.true c.min-run.ensures _ (inr (c.if-run-first.true, refl)));
+      walk = rw (after g moved) (Rotating-passed c.requires.filled c.loop-next.invariant.walk _ c.if-capacity-next.true
+          c.min-run.ensures _ (inr (c.if-run-first.true, refl)));
       steps = steps g moved;
     }
 
@@ -62,8 +58,8 @@ pub loop-next-preserved : goal.loop-next-preserved
 loop-next-preserved g c =
     let moved = (goal.at.loop-next-preserved g c).After-move_down-slots in
     record {
-      walk = rw (after g moved) (Rotating-passed c.requires.filled c.loop-next.invariant.walk c.min-run.result
-          c.min-past_end.result c.if-capacity-next.true c.min-run.ensures _ (inl (c.if-run-first.false, refl)));
+      walk = rw (after g moved) (Rotating-passed c.requires.filled c.loop-next.invariant.walk _ c.if-capacity-next.true
+          c.min-run.ensures _ (inl (c.if-run-first.false, refl)));
       steps = steps g moved;
     }
 
@@ -81,6 +77,4 @@ returns-clause-steps g c =
     )
 
 pub loop-next-init : goal.loop-next-init
-unfolding filled
-loop-next-init g c =
-    first_of (search rules, grind (arith, common_steps), grind (arith, ring_facts))
+loop-next-init g c = record { walk = grind (arith, common_steps); steps = (0, 0, omega arith, grind arith) }
