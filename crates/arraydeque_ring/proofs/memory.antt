@@ -1,7 +1,9 @@
 pub mod Blocks
+pub mod Called
 pub mod Heap
 pub mod Kit
 pub mod Lent
+pub mod Methods
 pub mod Owned
 pub mod Regions
 pub mod Rows

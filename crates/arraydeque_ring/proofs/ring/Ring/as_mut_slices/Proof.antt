@@ -1,20 +1,18 @@
 -- `as_mut_slices` is `lend`, and the ring follows the loan's slices. Assumes `Logic`.
 use Rattle.arraydeque_ring.{
   proofs.{
-    memory.Kit.{◌≡◌, refl, sym, ap, ◌∙◌, List, [], ◌∷◌, ◌++◌, ◌+◌, ◌≤◌, length, emp, id⊢, fact_i, ftrue, flft, Fn},
-    memory.Kit.{inst_fn, named, ◌⊑◌, fact, tables, ‵, raw, ◌⊛◌, some, later, ◌$◌, ◌∵◌, !, qed, move, use0, use1, use2},
-    memory.Kit.{drop, split, join, pick, frame, rewrite, await, fsplit, fjoin, suffices, done, enter, addr, stop},
-    memory.Kit.{no_more, and_then, returns, alloc_all, pass_all, free_all, look_at, get, through, sets, lands_as, no},
-    memory.Kit.{plain, mem, Is, shows, peeks, Stays, walk_of, says_two, stay_dropped, ends_at, nothing, heard},
-    memory.Kit.{calls_at, framed, triple_of, param_laws, El, R, args, el_x, proved, ap₂, after₂, split3, Array},
-    memory.Kit.{both_by, MutBor, NamedLft, mut_vals, mut_Tells, named_lft, lasts, Lasts, on_entry, Goes-spent_ref},
-    loans.{Names.followed_both, Placed.{as_many-twice}, Rings.Rr, Slices.{Slices, slices_lawful}},
+    memory.Kit.{◌≡◌, refl, sym, ap, ◌∙◌, List, [], ◌∷◌, ◌++◌, ◌+◌, ◌≤◌, length, id⊢, ftrue, Fn, inst_fn, ◌⊑◌, fact},
+    memory.Kit.{tables, ‵, raw, ◌⊛◌, ◌$◌, !, move, use1, use2, split, join, frame, rewrite, fsplit, fjoin, suffices},
+    memory.Kit.{done, addr, stop, no_more, and_then, returns, alloc_all, pass_all, free_all, look_at, get, through},
+    memory.Kit.{sets, lands_as, mem, says_two, nothing, heard, calls_at, framed, triple_of, param_laws, El, R, args},
+    memory.Kit.{el_x, ap₂, after₂, split3, Array, both_by, MutBor, NamedLft, named_lft},
+    loans.{Names.followed_both, Placed.{as_many-twice}, Rings.Rr, Slices.{slices_lawful}},
+    memory.{Methods.{passing_on, spent, values}, Called.{knows, returned}},
     ring.Ring.lend.Met.met,
     slots.loan.Loan.into_slices.Met.{met as into_met},
   },
-  specs.{Loans.{LoanState, remaining, as_many}, Ring.RingState, RingLends.{rewritten, lends_loan, lends_slices}},
+  specs.{Loans.{remaining, as_many}, Ring.RingState, RingLends.{rewritten, lends_loan, lends_slices}},
 }
-use Rattle.arraydeque_ring.specs.contracts.slots.loan.Loan as loan
 use Rattle.arraydeque_ring.proofs.slots.loan.Loan.TheLaws as loan_laws
 use Rattle.arraydeque_ring.specs.contracts.ring.Ring.lend as g
 use Rattle.arraydeque_ring.specs.contracts.slots.loan.Loan.into_slices as h
@@ -26,51 +24,38 @@ pub as_mut_slices_spec : {M : Type 1} → stated.statement M
 unfolding both_by
 as_mut_slices_spec 𝓤 𝓛 𝓜 𝓡 wired X L =
     let E : El = record { row = X; laws = L } in let here : Fn = inst_fn (args E) code.function in
-    let ended = f.ended X in let stayed : Stays ended.signature.params ended.kept = (stay_dropped _ no, tt) in
-    let c = f.clauses X 𝓛 𝓜.mem 𝓡.returns in let W = walk_of 𝓛 ended stayed c in let 𝓣 = tables 𝓤 𝓛.H 𝓜 𝓡 𝓡.env in
-    proved 𝓛 ended stayed c 𝓜 𝓡 (Goes-spent_ref 𝓛 2 (0 ∷ []) tt (plain (λ _. Rr E)), tt)
-    (f.Key.name (args E)) here (code.unfolded 𝓤 𝓛.H 𝓜 𝓡 wired (X, tt))
-    (λ κs. (mut_vals, tt)) (λ κs. (mut_Tells (named 0) κs.0 (Rr E), tt)) (λ κs qs bounds a _ are.
-    let y : W.Ghost = ((κs, qs, bounds, a, (mut_vals a.0, tt)), tt) in let d : RingState (el_x E) = a.0.now in
-    let κ₁ = κs.1.0 in
+    let 𝓣 = tables 𝓤 𝓛.H 𝓜 𝓡 𝓡.env in
+    passing_on 1 0 (Rr E) 𝓛 (spent 1 𝓛 _) 𝓜 𝓡 _ _ (f.clauses X 𝓛 𝓜.mem 𝓡.returns) (f.Key.name (args E)) here
+    (code.unfolded 𝓤 𝓛.H 𝓜 𝓡 wired (X, tt)) (λ κs qs bounds a _ fit post ends.
+    let d : RingState (el_x E) = a.0.now in let κ₁ = κs.1.0 in
     let G = triple_of 𝓛 (g.signature X) (g.spec X 𝓛 𝓜.mem 𝓡.returns) in
-    let G' = triple_of 𝓛 (h.signature X) (h.spec X 𝓛 𝓜.mem 𝓡.returns) in
-    let α : NamedLft = named_lft 2 0 tt κs in let It = loan.the_row α (R E) in let Pair = Slices α (R E) in
-    let Two_slices : Type 0 = MutBor (List (el_x E)) × MutBor (List (el_x E)) in
-    let Toks = ‵ (flft κs.0 qs.0) ⊛ ‵ (flft κ₁ qs.1.0) ⊛ ‵ ftrue in
-    qed 𝓛 (raw (on_entry 𝓛 ended.signature κs qs a y.0.4) ∷ (raw (fact 𝓤 (κ₁ ⊑ X.lives)) ⊛ ‵ ftrue) ∷ []) ∵
-    move ! (1 ∷ []) $ split ! $ heard ! (κ₁ ⊑ X.lives) (λ lives. use0 𝓛 (raw (fact 𝓤 (κ₁ ⊑ X.lives)))
-    (fact_i 𝓤 (κ₁ ⊑ X.lives) (emp 𝓤) lives) $ join ! $ move ! (1 ∷ 0 ∷ []) $ use2 𝓛 (raw (G.pre y)) (id⊢ 𝓤 _) $
-    enter ! 𝓣.C 𝓣.Λ here _ _ $ alloc_all ! (λ l. pass_all ! refl ((tt, tt), tt) $
+    let y : G.Ghost = ((κs, qs, bounds, a, values 1 κs 0 a), tt) in
+    move ! (1 ∷ []) $ use1 𝓛 (raw (fact 𝓤 (κ₁ ⊑ X.lives)) ⊛ ‵ ftrue) (id⊢ 𝓤 _) $ split ! $
+    heard ! (κ₁ ⊑ X.lives) (λ lives. knows ! (κ₁ ⊑ X.lives) lives $ join ! $ move ! (1 ∷ 0 ∷ []) $
+    use2 𝓛 (raw (G.pre y)) (id⊢ 𝓤 _) $ alloc_all ! (λ l. pass_all ! refl ((tt, tt), fit) $
     sets ! (addr ! (through ! refl (stop !))) refl (tt, tt) $
     calls_at ! (framed 𝓤 𝓛.H 𝓜 𝓣) G (met 𝓤 𝓛 𝓜 𝓡 (code.calls-arraydeque_ring::ring::Ring::lend 𝓡.env wired) X L) y
     (and_then ! (get ! refl) (no_more !)) (λ v.
-    let Value : LoanState (el_x E) → Type 0 = λ it. remaining it ≡ d.items in
-    let Piece : LoanState (el_x E) → Type 0 = λ it. d.start + length d.items ≤ d.capacity → it.second.now ≡ [] in
-    use1 𝓛 (later (some (λ (it : LoanState (el_x E)). (Toks ⊛ ‵ (It.own_val it (v ∷ [])))
-    ⊛ some (λ (ws : Lasts (g.ended X) κs a). ‵ (lasts (g.ended X) κs a ws)
-    ⊛ (‵ (lends_loan (R E) a.0 it) ⊛ raw (fact 𝓤 (Value it)) ⊛ raw (fact 𝓤 (Piece it))))))) (id⊢ 𝓤 _) $
-    await ! tt $ pick ! (λ it. split ! $ split ! $ move ! (1 ∷ []) $
-    peeks ! It (Is It) (shows 𝓛 It) it (v ∷ []) (λ is_it. lands_as ! refl refl
-    (((loan_laws.the_row_laws α (R E) (param_laws 0 X L)).lawful 𝓛).typed it (v ∷ []) is_it).0 $
+    let α : NamedLft = named_lft 2 0 tt κs in
+    returned 𝓛 ! tt (g.ended X) (g.clauses X 𝓛 𝓜.mem 𝓡.returns) y v
+    ((loan_laws.the_row_laws α (R E) (param_laws 0 X L)).lawful 𝓛) (λ it ws it_typed. lands_as ! refl refl it_typed.0 $
     -- [the loan; the tokens; what `lend` says]
+    let G' = triple_of 𝓛 (h.signature X) (h.spec X 𝓛 𝓜.mem 𝓡.returns) in
     let z : G'.Ghost = ((κs, qs, bounds, (it, tt), (v ∷ [], tt)), tt) in
-    nothing ! $ move ! (1 ∷ 0 ∷ []) $ fjoin ! $ move ! (1 ∷ 0 ∷ []) $ join ! $ nothing ! $
-    use0 𝓛 (raw (fact 𝓤 (κ₁ ⊑ X.lives))) (fact_i 𝓤 (κ₁ ⊑ X.lives) (emp 𝓤) lives) $ join ! $ move ! (1 ∷ 0 ∷ []) $
-    use2 𝓛 (raw (G'.pre z)) (id⊢ 𝓤 _) $
+    nothing ! $ move ! (1 ∷ 0 ∷ []) $ fjoin ! $ move ! (1 ∷ 0 ∷ []) $ join ! $
+    nothing ! $ knows ! (κ₁ ⊑ X.lives) lives $ join ! $ move ! (1 ∷ 0 ∷ []) $ use2 𝓛 (raw (G'.pre z)) (id⊢ 𝓤 _) $
     calls_at ! (framed 𝓤 𝓛.H 𝓜 𝓣) G'
     (into_met 𝓤 𝓛 𝓜 𝓡 (code.calls-arraydeque_ring::slots::loan::Loan::into_slices 𝓡.env wired) X L) z
     (and_then ! (get ! refl) (no_more !)) (λ u.
-    use1 𝓛 (later (some (λ (two : Two_slices). (Toks ⊛ ‵ (Pair.own_val two (u ∷ [])))
-    ⊛ some (λ (ws : Lasts (h.ended X) κs z.0.3). ‵ (lasts (h.ended X) κs z.0.3 ws)
-    ⊛ (raw (fact 𝓤 (two.0 ≡ it.first)) ⊛ raw (fact 𝓤 (two.1 ≡ it.second))))))) (id⊢ 𝓤 _) $
-    await ! tt $ pick ! (λ two. split ! $ move ! (1 ∷ []) $ pick ! (λ ws. split ! $ drop ! $ split ! $
-    heard ! (two.0 ≡ it.first) (λ e. heard ! (two.1 ≡ it.second) (λ e'. split ! $ move ! (1 ∷ []) $
-    peeks ! Pair (Is Pair) (shows 𝓛 Pair) two (u ∷ []) (λ is_pair.
-    lands_as ! refl refl ((slices_lawful α (R E) 𝓛).typed two (u ∷ []) is_pair).0 $
+    returned 𝓛 ! tt (h.ended X) (h.clauses X 𝓛 𝓜.mem 𝓡.returns) z u (slices_lawful α (R E) 𝓛) (λ two ws' two_typed.
+    lands_as ! refl refl two_typed.0 $ move ! (2 ∷ []) $
+    use1 𝓛 (raw (fact 𝓤 (two.0 ≡ it.first)) ⊛ raw (fact 𝓤 (two.1 ≡ it.second))) (id⊢ 𝓤 _) $ split ! $
+    heard ! (two.0 ≡ it.first) (λ e. heard ! (two.1 ≡ it.second) (λ e'.
     -- [the pair; the tokens; what `lend` says]
-    move ! (2 ∷ []) $ pick ! (λ ws'. split ! $ drop ! $ split3 ! $ move ! (1 ∷ 2 ∷ []) $
-    heard ! (Value it) (λ value. heard ! (Piece it) (λ piece. fsplit ! $
+    let Value : Type 0 = remaining it ≡ d.items in
+    let Piece : Type 0 = d.start + length d.items ≤ d.capacity → it.second.now ≡ [] in
+    move ! (2 ∷ []) $ use1 𝓛 (‵ (lends_loan (R E) a.0 it) ⊛ raw (fact 𝓤 Value) ⊛ raw (fact 𝓤 Piece)) (id⊢ 𝓤 _) $
+    split3 ! $ move ! (1 ∷ 2 ∷ []) $ heard ! Value (λ value. heard ! Piece (λ piece. fsplit ! $
     let γ = a.0.ghost_name in let Rows = mem (Array (R E) 0) in
     let Ended : RingState (el_x E) → RingState (el_x E) = λ w. rewritten d w.items in
     let Put : List (el_x E) → List (el_x E) → RingState (el_x E) =
@@ -83,11 +68,12 @@ as_mut_slices_spec 𝓤 𝓛 𝓜 𝓡 wired X L =
     (λ i us vs. record (Put us vs) {
       items = as_many-twice d.items (as_many it.first.now us ++ as_many it.second.now vs) i;
     }) refl $
-    rewrite ! 0 (λ (pair : Two_slices). ‵ (lends_slices (R E) a.0 pair)) (λ i. (sym e i, sym e' i)) refl $
+    rewrite ! 0 (λ (pair : MutBor (List (el_x E)) × MutBor (List (el_x E))). ‵ (lends_slices (R E) a.0 pair))
+    (λ i. (sym e i, sym e' i)) refl $
     -- [what the ring follows; the pair; the tokens]
-    returns ! (look_at ! 0 refl) $ free_all ! refl $ suffices ! _ (ends_at 𝓛 ended stayed c y u two (tt, tt) (tt, tt)) $
-    move ! (1 ∷ []) $ nothing ! $ nothing ! $ fjoin ! $ join ! $ move ! (2 ∷ 0 ∷ []) $ join ! $ frame ! $
+    returns ! (look_at ! 0 refl) $ free_all ! refl $
+    suffices ! _ (ends u two tt) $ nothing ! $ frame ! $ move ! (1 ∷ 2 ∷ []) $ frame ! $ frame ! $
     says_two ! (
       ap₂ (λ (x y : MutBor (List (el_x E))). x.now ++ y.now) e e' ∙ value,
       λ in_one_piece. ap (λ (x : MutBor (List (el_x E))). x.now) e' ∙ piece in_one_piece,
-    ) $ done !)))))))))))))))
+    ) $ done !)))))))))))

@@ -1,16 +1,15 @@
 -- `lend` lends the value in a filled place, and that place follows it. Assumes `Logic`.
 use Rattle.arraydeque_ring.proofs.{
   memory.{
-    Kit.{refl, sym, [], ◌∷◌, ℕ, ◌+◌, ◌*◌, ◌<◌, ◌^◌, arith, length, get_or, set, length-set, Some, None, Ura, ent, sep},
-    Kit.{id⊢, GName, Fml, ftrue, fsep, flft, Fn, inst_fn, named, w64, vint, vptr, Env, ◌⊑◌, fact, tables, Logic, sem},
-    Kit.{owns, types_at, ‵, raw, ◌⊛◌, some, later, at_ret, ◌$◌, ◌∵◌, !, qed, by, move, keep, use1, use2, drop, split},
-    Kit.{join, pick, frame, rewrite, await, fsplit, fsplit3, fjoin, suffices, done, whole, sub, look_in, enter, of_opd},
-    Kit.{size_lit, bin, load, addr, stop, fld, first, blocks, exec, returns, alloc_all, pass_all, free_all, look_at},
-    Kit.{get, through, sets, sets_last, env, yes, no, plain, usize, uint_vals, uint_Tells, mem, Stays, walk_of, says},
-    Kit.{stay_dropped, Goes-dropped, ends_at, nothing, heard, after, El, R, args, el_x, one_below, proved, split3},
-    Kit.{group, follows, MutBor, mut_vals, mut_Tells, Goes-spent_ref, Global},
+    Kit.{nothing, join, refl, sym, [], ◌∷◌, ℕ, ◌+◌, ◌*◌, ◌<◌, ◌^◌, arith, length, get_or, set, length-set, Some},
+    Kit.{None, Ura, ent, sep, id⊢, GName, Fml, fsep, flft, Fn, inst_fn, named, vptr, Env, ◌⊑◌, fact, tables, Logic},
+    Kit.{sem, ‵, raw, ◌⊛◌, some, later, at_ret, ◌$◌, ◌∵◌, !, qed, by, move, use1, use2, drop, split, pick, frame},
+    Kit.{rewrite, await, fsplit, fjoin, suffices, done, whole, sub, look_in, of_opd, size_lit, bin, load, addr, stop},
+    Kit.{fld, first, blocks, exec, returns, alloc_all, pass_all, free_all, look_at, get, through, sets, sets_last},
+    Kit.{env, mem, says, heard, after, El, R, args, el_x, one_below, split3, group, follows, MutBor, Global},
     Regions.{Sr, Seen, Fits, near, run_fits, places, Frame, slots_whole, slots_open, item_size, Place, Around},
     Regions.{place_out, place_in, place_owned, IsFilled},
+    Methods.{method, spent},
   },
   places.Held.filled_within,
 }
@@ -41,28 +40,16 @@ module _ (E : El) {M : Type 1} {𝓤 : Ura M} (𝓛 : Logic 𝓤) (rb ro : ℕ) 
 pub lend_spec : {M : Type 1} → stated.statement M
 lend_spec 𝓤 𝓛 𝓜 𝓡 wired X L =
     let E : El = record { row = X; laws = L } in let here : Fn = inst_fn (args E) code.function in
-    let ended = f.ended X in
-    let stayed : Stays ended.signature.params ended.kept = (stay_dropped _ no, (stay_dropped _ yes, tt)) in
-    let c = f.clauses X 𝓛 𝓜.mem 𝓡.returns in let W = walk_of 𝓛 ended stayed c in let 𝓣 = tables 𝓤 𝓛.H 𝓜 𝓡 𝓡.env in
-    proved 𝓛 ended stayed c 𝓜 𝓡 (
-      Goes-spent_ref 𝓛 2 (0 ∷ []) tt (plain (λ _. Sr E)),
-      (Goes-dropped 𝓛 2 (plain (λ _. usize)) yes (λ κs x w. refl), tt),
-    )
-    (f.Key.name (args E)) here (code.unfolded 𝓤 𝓛.H 𝓜 𝓡 wired (X, tt))
-    (λ κs. (mut_vals, (uint_vals w64, tt))) (λ κs. (mut_Tells (named 0) κs.0 (Sr E), (uint_Tells w64, tt)))
-    (λ κs qs bounds a _ are.
-    let κ = κs.0 in let κ₁ = κs.1.0 in let q = qs.0 in let q₁ = qs.1.0 in
-    let rb : ℕ = a.0.ref_ptr.0 in let ro : ℕ = a.0.ref_ptr.1 in let γ = a.0.ghost_name in let r : Seen E = a.0.now in
-    let i : ℕ = a.1.0 in let i_fits : i < 2 ^ 64 = are.1.0.1 in
-    let y : W.Ghost = ((κs, qs, bounds, a, (mut_vals a.0, (uint_vals w64 i, tt))), tt) in
+    let 𝓣 = tables 𝓤 𝓛.H 𝓜 𝓡 𝓡.env in
+    method 1 1 (Sr E) 𝓛 (spent 1 𝓛 _) 𝓜 𝓡 _ _ (f.clauses X 𝓛 𝓜.mem 𝓡.returns) (f.Key.name (args E)) here
+    (code.unfolded 𝓤 𝓛.H 𝓜 𝓡 wired (X, tt)) (λ κs qs bounds a _ typed post ends.
+    let κ = κs.0 in let q = qs.0 in let rb : ℕ = a.0.ref_ptr.0 in let ro : ℕ = a.0.ref_ptr.1 in
+    let γ = a.0.ghost_name in let r : Seen E = a.0.now in let i : ℕ = a.1.0 in
     let s : ℕ = item_size E in let Asked : Type 0 = IsFilled r.places i in let coded = (Sr E).coded.code r in
-    qed 𝓛 (((‵ (flft κ q) ⊛ ‵ (flft κ₁ q₁) ⊛ ‵ ftrue) ⊛ ‵ (owns (types_at ended.signature.params κs) a y.0.4))
-    ∷ (raw (fact 𝓤 (κ₁ ⊑ X.lives)) ⊛ raw (fact 𝓤 Asked)) ∷ []) ∵
-    move ! (1 ∷ []) $ split ! $ drop ! $ heard ! Asked (λ asked.
+    use1 𝓛 (raw (fact 𝓤 (κs.1.0 ⊑ X.lives)) ⊛ raw (fact 𝓤 Asked)) (id⊢ 𝓤 _) $ split ! $ drop ! $
+    heard ! Asked (λ asked.
     let x : el_x E = asked.0 in let within : i < length r.places = filled_within r.places i x asked.1 in
-    split ! $ split ! $ move ! (2 ∷ []) $ fsplit3 ! $ fsplit3 ! $ keep ! (1 ∷ 2 ∷ 5 ∷ 6 ∷ []) $
-    enter ! 𝓣.C 𝓣.Λ here (vptr rb ro ∷ vint w64 i ∷ []) _ $
-    alloc_all ! (λ l. pass_all ! refl ((tt, tt), ((tt, record { fits = i_fits }), tt)) $
+    alloc_all ! (λ l. pass_all ! refl ((tt, tt), typed) $
     let En : Env 𝓤 𝓛.H = env here.locals l in
     slots_open E ! tt r rb ro (λ g b o n ok.
     let far = near E ok i (omega arith) in let small : s < 2 ^ 64 = omega (
@@ -76,7 +63,7 @@ lend_spec 𝓤 𝓛 𝓜 𝓡 wired X L =
     (tt, record { fits = far }) $
     sets ! (bin ! (get ! refl) (get ! refl) tt) refl (tt, tt) $
     sets_last ! (addr ! (through ! refl (stop !))) refl (tt, tt) $
-    exec ! 𝓣.C 𝓣.Λ En (after 1 here.body) (at_ret En (W.post y)) $ sets ! (of_opd ! (get ! refl)) refl (tt, tt) $
+    exec ! 𝓣.C 𝓣.Λ En (after 1 here.body) (at_ret En post) $ sets ! (of_opd ! (get ! refl)) refl (tt, tt) $
     let at = i * s + o in let way = back E 𝓛 rb ro r i g b o n ok within in let new = Written E r i in
     let Rest₀ = sem 𝓛 (Rest E 𝓛 rb ro r i g b o n) in
     use1 𝓛 (‵ (place_owned (R E) b at (get_or r.places i None)) ⊛ ‵ (Around E 𝓛 b o r.places i 1))
@@ -90,6 +77,5 @@ lend_spec 𝓤 𝓛 𝓜 𝓡 wired X L =
     returns ! (look_at ! 0 refl) $ free_all ! refl $
     use1 𝓛 (‵ ((MutRef (named 0) κ (R E)).own_val lent (vptr b at ∷ [])) ⊛ ‵ (flft κ q)
     ⊛ ‵ (follows (Sr E) (R E) γ δ new)) (id⊢ 𝓤 _) $ split3 ! $
-    suffices ! _ (ends_at 𝓛 ended stayed c y (vptr b at) lent (tt, (tt, tt)) (tt, (tt, tt))) $
-    move ! (1 ∷ 3 ∷ []) $ join ! $ move ! (1 ∷ []) $ nothing ! $ nothing ! $ fjoin ! $ nothing ! $ fjoin ! $ join ! $
-    move ! (1 ∷ 0 ∷ []) $ join ! $ frame ! $ says ! asked.1 $ done !)))))
+    suffices ! _ (ends (vptr b at) lent tt) $ nothing ! $ frame ! $ frame ! $ move ! (0 ∷ 2 ∷ []) $ join ! $ frame ! $
+    says ! asked.1 $ done !)))))

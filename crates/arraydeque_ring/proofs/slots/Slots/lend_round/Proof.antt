@@ -2,16 +2,15 @@
 use Rattle.arraydeque_ring.{
   proofs.{
     memory.{
-      Kit.{◌≡◌, refl, sym, ap, subst, ◌∙◌, List, [], ◌∷◌, ℕ, ◌<◌, ◌≤◌, ◌^◌, lit<, arith, length, emp, id⊢, fact_i},
-      Kit.{ftrue, flft, Fn, inst_fn, named, w64, Val, vptr, ◌⊑◌, fact, tables, owns, types_at, ‵, raw, ◌⊛◌, some},
-      Kit.{later, ◌$◌, ◌∵◌, !, qed, move, keep, use0, use1, use2, drop, split, join, pick, frame, await, fsplit},
-      Kit.{fsplit3, fjoin, fjoin3, feq_i, feq_l, flt_l, suffices, done, enter, of_opd, lit, bin, addr, load, stop, fld},
-      Kit.{no_more, whole, sub, look_in, only, and_then, returns, alloc_all, pass_all, free_all, look_at, get, through},
-      Kit.{sets, lands_as, yes, no, plain, usize, uint_vals, uint_Tells, Is, shows, peeks, Stays, walk_of, says_two},
-      Kit.{stay_dropped, Goes-dropped, ends_at, nothing, heard, calls_at, framed, triple_of, param_laws, El, R, args},
-      Kit.{el_x, proved, split3, both_by, NamedLft, mut_vals, mut_Tells, named_lft, lasts, Lasts, Goes-spent_ref},
-      Kit.{pure_i},
+      Kit.{◌≡◌, refl, sym, ap, subst, ◌∙◌, List, [], ◌∷◌, ℕ, ◌<◌, ◌≤◌, ◌^◌, lit<, arith, length, id⊢, Fn, inst_fn, w64},
+      Kit.{Val, vptr, ◌⊑◌, fact, tables, owns, ‵, raw, ◌⊛◌, ◌$◌, !, move, use1, use2, drop, split, join, frame, fsplit},
+      Kit.{fjoin, fjoin3, feq_i, feq_l, flt_l, suffices, done, of_opd, lit, bin, addr, load, stop, fld, no_more, whole},
+      Kit.{sub, look_in, only, and_then, returns, alloc_all, pass_all, free_all, look_at, get, through, sets, lands_as},
+      Kit.{usize, uint_vals, says_two, nothing, heard, calls_at, framed, triple_of, param_laws, El, R, args, el_x},
+      Kit.{split3, both_by, NamedLft, mut_vals, named_lft, pure_i},
       Regions.{Sr, Seen, slots_open, slots_close, HoldsRun, IsFilledRun},
+      Methods.{method, spent},
+      Called.{knows, returned},
     },
     slots.Slots.lend_two.Met.met,
   },
@@ -25,36 +24,25 @@ use Rattle.std.below.core.specs.contracts.int.usize.min as e
 use Rattle.arraydeque_ring.specs.contracts.slots.Slots.lend_round as f
 use Rattle.arraydeque_ring.proofs.slots.Slots.lend_round.Statement as stated
 use Rattle.arraydeque_ring.proofs.slots.Slots.lend_round.Code as code
+use denote.Plain.{uint_Lawful}
 
 pub lend_round_spec : {M : Type 1} → stated.statement M
 unfolding both_by
 lend_round_spec 𝓤 𝓛 𝓜 𝓡 wired X L =
     let E : El = record { row = X; laws = L } in let here : Fn = inst_fn (args E) code.function in
-    let ended = f.ended X in let stayed : Stays ended.signature.params ended.kept =
-    (stay_dropped _ no, (stay_dropped _ yes, (stay_dropped _ yes, tt))) in
-    let c = f.clauses X 𝓛 𝓜.mem 𝓡.returns in let W = walk_of 𝓛 ended stayed c in let 𝓣 = tables 𝓤 𝓛.H 𝓜 𝓡 𝓡.env in
-    let word = Goes-dropped 𝓛 2 (plain (λ _. usize)) yes (λ κs x w. refl) in
-    proved 𝓛 ended stayed c 𝓜 𝓡 (Goes-spent_ref 𝓛 2 (0 ∷ []) tt (plain (λ _. Sr E)), (word, (word, tt)))
-    (f.Key.name (args E)) here (code.unfolded 𝓤 𝓛.H 𝓜 𝓡 wired (X, tt))
-    (λ κs. (mut_vals, (uint_vals w64, (uint_vals w64, tt))))
-    (λ κs. (mut_Tells (named 0) κs.0 (Sr E), (uint_Tells w64, (uint_Tells w64, tt)))) (λ κs qs bounds a _ are.
-    let κ = κs.0 in let κ₁ = κs.1.0 in let q = qs.0 in let q₁ = qs.1.0 in
-    let rb : ℕ = a.0.ref_ptr.0 in let ro : ℕ = a.0.ref_ptr.1 in let r : Seen E = a.0.now in let start : ℕ = a.1.0 in
-    let len : ℕ = a.1.1.0 in
-    let fs : start < 2 ^ 64 = are.1.0.1 in let fl : len < 2 ^ 64 = are.1.1.0.1 in
-    let cut : ℕ = min len (length r.places - start) in
-    let y : W.Ghost = ((κs, qs, bounds, a, (mut_vals a.0, (uint_vals w64 start, (uint_vals w64 len, tt)))), tt) in
+    let 𝓣 = tables 𝓤 𝓛.H 𝓜 𝓡 𝓡.env in
+    method 1 2 (Sr E) 𝓛 (spent 1 𝓛 _) 𝓜 𝓡 _ _ (f.clauses X 𝓛 𝓜.mem 𝓡.returns) (f.Key.name (args E)) here
+    (code.unfolded 𝓤 𝓛.H 𝓜 𝓡 wired (X, tt)) (λ κs qs bounds a _ typed post ends.
+    let κ₁ = κs.1.0 in let rb : ℕ = a.0.ref_ptr.0 in let ro : ℕ = a.0.ref_ptr.1 in let r : Seen E = a.0.now in
+    let start : ℕ = a.1.0 in let len : ℕ = a.1.1.0 in let cut : ℕ = min len (length r.places - start) in
+    let fs : start < 2 ^ 64 = typed.0.1.fits in let fl : len < 2 ^ 64 = typed.1.0.1.fits in
     let In : Type 0 = start ≤ length r.places in let Within : Type 0 = len ≤ length r.places in
     let One : ℕ → Type 0 = λ first. IsFilledRun r.places start first in
     let Two : ℕ → Type 0 = λ first. IsFilledRun r.places 0 (len - first) in
-    qed 𝓛 (((‵ (flft κ q) ⊛ ‵ (flft κ₁ q₁) ⊛ ‵ ftrue)
-    ⊛ ‵ (owns (types_at ended.signature.params κs) a y.0.4)) ∷ (raw (fact 𝓤 (κ₁ ⊑ X.lives)) ⊛ raw (fact 𝓤 In)
-    ⊛ raw (fact 𝓤 Within) ⊛ raw (fact 𝓤 (One cut)) ⊛ raw (fact 𝓤 (Two cut))) ∷ []) ∵
-    move ! (1 ∷ []) $ split ! $ heard ! (κ₁ ⊑ X.lives) (λ lives. split3 ! $
+    use1 𝓛 (raw (fact 𝓤 (κ₁ ⊑ X.lives)) ⊛ raw (fact 𝓤 In) ⊛ raw (fact 𝓤 Within) ⊛ raw (fact 𝓤 (One cut))
+    ⊛ raw (fact 𝓤 (Two cut))) (id⊢ 𝓤 _) $ split ! $ heard ! (κ₁ ⊑ X.lives) (λ lives. split3 ! $
     heard ! In (λ inside. heard ! Within (λ within. split ! $ heard ! (One cut) (λ one. heard ! (Two cut) (λ two.
-    split ! $ split ! $ move ! (2 ∷ []) $ fsplit3 ! $ fsplit3 ! $ keep ! (1 ∷ 2 ∷ 5 ∷ 6 ∷ []) $
-    enter ! 𝓣.C 𝓣.Λ here _ _ $
-    alloc_all ! (λ l. pass_all ! refl ((tt, tt), ((tt, record { fits = fs }), ((tt, record { fits = fl }), tt))) $
+    alloc_all ! (λ l. pass_all ! refl ((tt, tt), typed) $
     slots_open E ! tt r rb ro (λ heap b o n ok.
     sets ! (of_opd ! (load ! (through ! refl (fld ! refl (stop !))) (look_in ! 2 (sub ! 1 refl (whole !))))) refl
     (tt, record { fits = ok.word }) $
@@ -69,12 +57,9 @@ lend_round_spec 𝓤 𝓛 𝓜 𝓡 wired X L =
     ((refl, fl), ((refl, room_fits), tt)) $ nothing ! $ join ! $ join ! $ use1 𝓛 (raw (At.pre zₑ)) (id⊢ 𝓤 _) $
     calls_at ! (framed 𝓤 𝓛.H 𝓜 𝓣) At (e_met 𝓤 𝓛 𝓜 𝓡 (code.calls-core::int::usize::min 𝓡.env wired)) zₑ
     (and_then ! (get ! refl) (and_then ! (get ! refl) (no_more !))) (λ u.
-    use1 𝓛 (later (some (λ (first : ℕ). (‵ ftrue ⊛ ‵ (usize.own_val first (u ∷ []))) ⊛ some
-    (λ (ws : Lasts e.ended tt zₑ.0.3). ‵ (lasts e.ended tt zₑ.0.3 ws) ⊛ raw (fact 𝓤 (first ≡ min len room))))))
-    (id⊢ 𝓤 _) $
-    await ! tt $ pick ! (λ first. split ! $ split ! $ drop ! $ fsplit ! $
-    feq_l ! (λ is_first. flt_l ! (λ ff. lands_as ! (ap only is_first) refl (tt, record { fits = ff }) $
-    pick ! (λ ws. split ! $ drop ! $ heard ! (first ≡ min len room) (λ cuts.
+    returned 𝓛 ! tt e.ended (e.clauses 𝓛 𝓜.mem 𝓡.returns) zₑ u (uint_Lawful 𝓛 w64) (λ first ws _. fsplit ! $
+    feq_l ! (λ is_first. flt_l ! (λ ff. lands_as ! (ap only is_first) refl (tt, record { fits = ff }) $ drop ! $
+    heard ! (first ≡ min len room) (λ cuts.
     let same : cut ≡ first = sym (cuts ∙ ap (λ k. min len (k - start)) ok.capacity) in let rest : ℕ = len - first in
     let fr : rest < 2 ^ 64 = omega arith in
     sets ! (addr ! (through ! refl (stop !))) refl (tt, tt) $
@@ -98,10 +83,8 @@ lend_round_spec 𝓤 𝓛 𝓜 𝓡 wired X L =
     move ! (1 ∷ 0 ∷ []) $ fjoin ! $ move ! (1 ∷ 2 ∷ []) $ join ! $ join ! $
     let Apart = AreApart start first 0 rest in
     let apart : Apart = λ k from to from' to'. omega (arith, within, ok.capacity, cuts) in
-    use0 𝓛 (raw (fact 𝓤 Apart)) (fact_i 𝓤 Apart (emp 𝓤) apart) $
-    use0 𝓛 (raw (fact 𝓤 (Two first))) (fact_i 𝓤 (Two first) (emp 𝓤) (subst Two same two)) $ join ! $
-    use0 𝓛 (raw (fact 𝓤 (One first))) (fact_i 𝓤 (One first) (emp 𝓤) (subst One same one)) $ join ! $
-    use0 𝓛 (raw (fact 𝓤 (κ₁ ⊑ X.lives))) (fact_i 𝓤 (κ₁ ⊑ X.lives) (emp 𝓤) lives) $ join ! $ move ! (1 ∷ 0 ∷ []) $
+    knows ! Apart apart $ knows ! (Two first) (subst Two same two) $ join ! $
+    knows ! (One first) (subst One same one) $ join ! $ knows ! (κ₁ ⊑ X.lives) lives $ join ! $ move ! (1 ∷ 0 ∷ []) $
     use2 𝓛 (raw (G.pre z)) (id⊢ 𝓤 _) $
     calls_at ! (framed 𝓤 𝓛.H 𝓜 𝓣) G (met 𝓤 𝓛 𝓜 𝓡 (code.calls-arraydeque_ring::slots::Slots::lend_two 𝓡.env wired) X L) z
     (and_then ! (get ! refl) (and_then ! (get ! refl)
@@ -109,19 +92,12 @@ lend_round_spec 𝓤 𝓛 𝓜 𝓡 wired X L =
     let α : NamedLft = named_lft 2 0 tt κs in let It = loan.the_row α (R E) in
     let First : LoanState (el_x E) → ℕ → Type 0 = λ it k. HoldsRun r.places start k it.first.now in
     let Second : LoanState (el_x E) → ℕ → Type 0 = λ it k. HoldsRun r.places 0 (len - k) it.second.now in
-    use1 𝓛 (later (some (λ (it : LoanState (el_x E)).
-    ((‵ (flft κ q) ⊛ ‵ (flft κ₁ q₁) ⊛ ‵ ftrue) ⊛ ‵ (It.own_val it (v ∷ []))) ⊛
-    some (λ (ws : Lasts (g.ended X) κs z.0.3). ‵ (lasts (g.ended X) κs z.0.3 ws) ⊛ (‵ (lends_loan (R E) a.0 start 0 it)
-    ⊛ raw (fact 𝓤 (First it first)) ⊛ raw (fact 𝓤 (Second it first))))))) (id⊢ 𝓤 _) $
-    await ! tt $ pick ! (λ it. split ! $ split ! $ move ! (1 ∷ []) $
-    peeks ! It (Is It) (shows 𝓛 It) it (v ∷ []) (λ is_it. lands_as ! refl refl
-    (((loan_laws.the_row_laws α (R E) (param_laws 0 X L)).lawful 𝓛).typed it (v ∷ []) is_it).0 $
-    -- [the loan; the tokens; what `lend_two` says]
-    move ! (2 ∷ []) $ pick ! (λ ws'. split ! $ drop ! $ split3 ! $ move ! (1 ∷ 2 ∷ []) $
+    returned 𝓛 ! tt (g.ended X) (g.clauses X 𝓛 𝓜.mem 𝓡.returns) z v
+    ((loan_laws.the_row_laws α (R E) (param_laws 0 X L)).lawful 𝓛) (λ it ws it_typed. lands_as ! refl refl it_typed.0 $
+    move ! (2 ∷ []) $ use1 𝓛 (‵ (lends_loan (R E) a.0 start 0 it) ⊛ raw (fact 𝓤 (First it first))
+    ⊛ raw (fact 𝓤 (Second it first))) (id⊢ 𝓤 _) $ split3 ! $ move ! (1 ∷ 2 ∷ []) $
     heard ! (First it first) (λ held. heard ! (Second it first) (λ held'.
     -- [what the region follows; the loan; the tokens]
     returns ! (look_at ! 0 refl) $ free_all ! refl $
-    suffices ! _ (ends_at 𝓛 ended stayed c y v it (tt, (tt, (tt, tt))) (tt, (tt, (tt, tt)))) $
-    move ! (1 ∷ []) $ nothing ! $ nothing ! $ fjoin ! $ nothing ! $ fjoin ! $ nothing ! $ fjoin ! $ join ! $
-    move ! (2 ∷ 0 ∷ []) $ join ! $ frame ! $
-    says_two ! (subst (First it) (sym same) held, subst (Second it) (sym same) held') $ done !))))))))))))))))))))
+    suffices ! _ (ends v it tt) $ nothing ! $ frame ! $ move ! (1 ∷ 2 ∷ []) $ frame ! $ frame ! $
+    says_two ! (subst (First it) (sym same) held, subst (Second it) (sym same) held') $ done !)))))))))))))))))

@@ -2,17 +2,16 @@
 use Rattle.arraydeque_ring.{
   proofs.{
     memory.{
-      Kit.{◌≡◌, refl, sym, ap, ◌∙◌, List, [], ◌∷◌, map, ℕ, ◌+◌, ◌*◌, ◌<◌, ◌≤◌, ◌^◌, arith, length, take, length-map},
-      Kit.{drop_list, Some, Ura, ent, sep, id⊢, GName, Fml, ftrue, fsep, flft, Fn, inst_fn, named, w64, vint, vptr},
-      Kit.{Env, ◌⊑◌, fact, tables, Logic, sem, owns, types_at, ‵, raw, ◌⊛◌, some, later, at_ret, ◌$◌, ◌∵◌, !, qed, by},
-      Kit.{move, keep, use1, use2, drop, split, join, pick, frame, rewrite, await, fsplit, fsplit3, fjoin, suffices},
-      Kit.{done, whole, sub, look_in, agg, enter, of_opd, bin, load, stop, fld, no_more, and_then, first, blocks, exec},
-      Kit.{returns, alloc_all, pass_all, free_all, look_at, get, through, sets, sets_last, env, yes, no, plain, usize},
-      Kit.{uint_vals, uint_Tells, mem, Stays, walk_of, says, stay_dropped, Goes-dropped, ends_at, nothing, heard},
-      Kit.{after, El, R, args, el_x, proved, split3, group, cells, Array, follows, MutBor, mut_vals, mut_Tells},
-      Kit.{MutSlice, slice_val, Goes-spent_ref, Global},
+      Kit.{nothing, join, ◌≡◌, refl, sym, ap, ◌∙◌, List, [], ◌∷◌, map, ℕ, ◌+◌, ◌*◌, ◌≤◌, arith, length, take},
+      Kit.{length-map, drop_list, Some, Ura, ent, sep, id⊢, GName, Fml, fsep, flft, Fn, inst_fn, named, Env, ◌⊑◌, fact},
+      Kit.{tables, Logic, sem, ‵, raw, ◌⊛◌, some, later, at_ret, ◌$◌, ◌∵◌, !, qed, by, move, use1, use2, drop, split},
+      Kit.{pick, frame, rewrite, await, fsplit, fjoin, suffices, done, whole, sub, look_in, agg, of_opd, bin, load},
+      Kit.{stop, fld, no_more, and_then, first, blocks, exec, returns, alloc_all, pass_all, free_all, look_at, get},
+      Kit.{through, sets, sets_last, env, mem, says, heard, after, El, R, args, el_x, split3, group, cells, Array},
+      Kit.{follows, MutBor, MutSlice, slice_val, Global},
       Regions.{Sr, Seen, Fits, near, run_fits, Frame, slots_whole, slots_open, scaled, item_size, Place, places_owned},
       Regions.{IsFilledRun, Around, run_out, run_in},
+      Methods.{method, spent},
     },
     loans.{Placed.{placed, as_many-same, length-placed}, Runs.{run, same_cells}},
     places.Held.length_filled,
@@ -55,29 +54,19 @@ module _ (E : El) {M : Type 1} {𝓤 : Ura M} (𝓛 : Logic 𝓤) (rb ro : ℕ) 
 pub lend_run_spec : {M : Type 1} → stated.statement M
 lend_run_spec 𝓤 𝓛 𝓜 𝓡 wired X L =
     let E : El = record { row = X; laws = L } in let here : Fn = inst_fn (args E) code.function in
-    let ended = f.ended X in let stayed : Stays ended.signature.params ended.kept =
-    (stay_dropped _ no, (stay_dropped _ yes, (stay_dropped _ yes, tt))) in
-    let c = f.clauses X 𝓛 𝓜.mem 𝓡.returns in let W = walk_of 𝓛 ended stayed c in let 𝓣 = tables 𝓤 𝓛.H 𝓜 𝓡 𝓡.env in
-    let word = Goes-dropped 𝓛 2 (plain (λ _. usize)) yes (λ κs x w. refl) in
-    proved 𝓛 ended stayed c 𝓜 𝓡 (Goes-spent_ref 𝓛 2 (0 ∷ []) tt (plain (λ _. Sr E)), (word, (word, tt)))
-    (f.Key.name (args E)) here (code.unfolded 𝓤 𝓛.H 𝓜 𝓡 wired (X, tt))
-    (λ κs. (mut_vals, (uint_vals w64, (uint_vals w64, tt))))
-    (λ κs. (mut_Tells (named 0) κs.0 (Sr E), (uint_Tells w64, (uint_Tells w64, tt)))) (λ κs qs bounds a _ are.
-    let κ = κs.0 in let κ₁ = κs.1.0 in let q = qs.0 in let q₁ = qs.1.0 in
-    let rb : ℕ = a.0.ref_ptr.0 in let ro : ℕ = a.0.ref_ptr.1 in let γ = a.0.ghost_name in let r : Seen E = a.0.now in
-    let from : ℕ = a.1.0 in let len : ℕ = a.1.1.0 in
-    let y : W.Ghost = ((κs, qs, bounds, a, (mut_vals a.0, (uint_vals w64 from, (uint_vals w64 len, tt)))), tt) in
+    let 𝓣 = tables 𝓤 𝓛.H 𝓜 𝓡 𝓡.env in
+    method 1 2 (Sr E) 𝓛 (spent 1 𝓛 _) 𝓜 𝓡 _ _ (f.clauses X 𝓛 𝓜.mem 𝓡.returns) (f.Key.name (args E)) here
+    (code.unfolded 𝓤 𝓛.H 𝓜 𝓡 wired (X, tt)) (λ κs qs bounds a _ typed post ends.
+    let κ = κs.0 in let q = qs.0 in let rb : ℕ = a.0.ref_ptr.0 in let ro : ℕ = a.0.ref_ptr.1 in
+    let γ = a.0.ghost_name in let r : Seen E = a.0.now in let from : ℕ = a.1.0 in let len : ℕ = a.1.1.0 in
     let s : ℕ = item_size E in let Asked : Type 0 = IsFilledRun r.places from len in
-    let ff : from < 2 ^ 64 = are.1.0.1 in let fl : len < 2 ^ 64 = are.1.1.0.1 in let coded = (Sr E).coded.code r in
-    qed 𝓛 (((‵ (flft κ q) ⊛ ‵ (flft κ₁ q₁) ⊛ ‵ ftrue) ⊛ ‵ (owns (types_at ended.signature.params κs) a y.0.4))
-    ∷ (raw (fact 𝓤 (κ₁ ⊑ X.lives)) ⊛ raw (fact 𝓤 Asked)) ∷ []) ∵
-    move ! (1 ∷ []) $ split ! $ drop ! $ heard ! Asked (λ asked.
+    let coded = (Sr E).coded.code r in let len_ok = typed.1.0.1 in
+    use1 𝓛 (raw (fact 𝓤 (κs.1.0 ⊑ X.lives)) ⊛ raw (fact 𝓤 Asked)) (id⊢ 𝓤 _) $ split ! $ drop ! $
+    heard ! Asked (λ asked.
     let xs : List (el_x E) = asked.1.0 in let held = asked.1.1 in
     let long = length_filled r.places from len asked in
     let within : from + length xs ≤ length r.places = omega (arith, asked.0) in
-    split ! $ split ! $ move ! (2 ∷ []) $ fsplit3 ! $ fsplit3 ! $ keep ! (1 ∷ 2 ∷ 5 ∷ 6 ∷ []) $
-    enter ! 𝓣.C 𝓣.Λ here (vptr rb ro ∷ vint w64 from ∷ vint w64 len ∷ []) _ $
-    alloc_all ! (λ l. pass_all ! refl ((tt, tt), ((tt, record { fits = ff }), ((tt, record { fits = fl }), tt))) $
+    alloc_all ! (λ l. pass_all ! refl ((tt, tt), typed) $
     let En : Env 𝓤 𝓛.H = env here.locals l in
     slots_open E ! tt r rb ro (λ g b o n ok.
     let far = near E ok from (omega arith) in
@@ -96,9 +85,9 @@ lend_run_spec 𝓤 𝓛 𝓜 𝓡 wired X L =
     (ap (λ k. take k (drop_list from r.places)) long ∙ held) refl $
     rewrite ! 0 (λ (F : Fml). ‵ F) (same_cells E 𝓛 b xs at) refl $
     sets_last ! (agg ! (and_then ! (get ! refl) (and_then ! (get ! refl) (no_more !)))) refl
-    (tt, (tt, (record { fits = fl }, tt))) $
-    exec ! 𝓣.C 𝓣.Λ En (after 1 here.body) (at_ret En (W.post y)) $
-    sets ! (of_opd ! (get ! refl)) refl (tt, (tt, (record { fits = fl }, tt))) $
+    (tt, (tt, (len_ok, tt))) $
+    exec ! 𝓣.C 𝓣.Λ En (after 1 here.body) (at_ret En post) $
+    sets ! (of_opd ! (get ! refl)) refl (tt, (tt, (len_ok, tt))) $
     -- [the values; the others; the right; the words; the open borrow, in three; the other token]
     move ! (2 ∷ 3 ∷ []) $ fjoin ! $ move ! (2 ∷ 0 ∷ []) $ fjoin ! $ move ! (2 ∷ 3 ∷ 4 ∷ 1 ∷ 0 ∷ []) $ group ! 5 $
     use1 𝓛
@@ -110,6 +99,5 @@ lend_run_spec 𝓤 𝓛 𝓜 𝓡 wired X L =
     use1 𝓛 (‵ ((MutSlice (named 0) κ (R E)).own_val lent (slice_val (b, at) (length xs) ∷ [])) ⊛ ‵ (flft κ q)
     ⊛ ‵ (follows (Sr E) (Array (R E) 0) γ δ new)) (id⊢ 𝓤 _) $ split3 ! $
     rewrite ! 0 (λ (k : ℕ). ‵ ((MutSlice (named 0) κ (R E)).own_val lent (slice_val (b, at) k ∷ []))) long refl $
-    suffices ! _ (ends_at 𝓛 ended stayed c y (slice_val (b, at) len) lent (tt, (tt, (tt, tt))) (tt, (tt, (tt, tt)))) $
-    move ! (1 ∷ 3 ∷ []) $ join ! $ move ! (1 ∷ []) $ nothing ! $ nothing ! $ fjoin ! $ nothing ! $ fjoin ! $ nothing ! $
-    fjoin ! $ join ! $ move ! (1 ∷ 0 ∷ []) $ join ! $ frame ! $ says ! held $ done !)))))
+    suffices ! _ (ends (slice_val (b, at) len) lent tt) $ nothing ! $ frame ! $ frame ! $ move ! (0 ∷ 2 ∷ []) $
+    join ! $ frame ! $ says ! held $ done !)))))

@@ -2,18 +2,17 @@
 use Rattle.arraydeque_ring.{
   proofs.{
     memory.{
-      Kit.{◌≡◌, refl, sym, ap, subst, ◌∙◌, List, [], ◌∷◌, map, ℕ, ◌+◌, ◌*◌, ◌<◌, ◌≤◌, ◌^◌, arith, length, take},
-      Kit.{length-map, drop_list, Some, Ura, SProp, ent, sep, GName, ftrue, flft, fobs, fbor, Fn, inst_fn, named, w64},
-      Kit.{vint, vptr, Env, ◌⊑◌, fact, tables, Logic, sem, Borrowed, owns, types_at, ‵, raw, ◌⊛◌, some, later, at_ret},
-      Kit.{◌$◌, ◌∵◌, !, qed, by, move, keep, use1, use2, drop, split, join, pick, frame, rewrite, await, fsplit},
-      Kit.{fsplit3, fjoin, feq_i, feq_l, suffices, done, whole, sub, look_in, agg, enter, of_opd, bin, load, stop, fld},
-      Kit.{no_more, and_then, first, blocks, exec, returns, alloc_all, pass_all, free_all, look_at, get, through, sets},
-      Kit.{sets_last, env, yes, no, plain, usize, uint_vals, uint_Tells, mem, Stays, walk_of, says_two, stay_dropped},
-      Kit.{Goes-dropped, ends_at, nothing, heard, after, El, R, args, el_x, proved, after₂, split3, group, SemTy, all},
-      Kit.{all_e, apply∗, follows, both_by, MutBor, NamedLft, mut_vals, mut_Tells, named_lft, MutSlice, slice_val},
-      Kit.{Goes-spent_ref, Global, Fml},
+      Kit.{nothing, id⊢, ◌≡◌, refl, sym, ap, subst, ◌∙◌, List, [], ◌∷◌, map, ℕ, ◌+◌, ◌*◌, ◌<◌, ◌≤◌, arith, length},
+      Kit.{take, length-map, drop_list, Some, Ura, SProp, ent, sep, GName, flft, fobs, fbor, Fn, inst_fn, named, Env},
+      Kit.{◌⊑◌, fact, tables, Logic, sem, Borrowed, ‵, raw, ◌⊛◌, some, later, at_ret, ◌$◌, ◌∵◌, !, qed, by, move, use1},
+      Kit.{use2, drop, split, join, pick, frame, rewrite, await, fsplit, fjoin, feq_i, feq_l, suffices, done, whole},
+      Kit.{sub, look_in, agg, of_opd, bin, load, stop, fld, no_more, and_then, first, blocks, exec, returns, alloc_all},
+      Kit.{pass_all, free_all, look_at, get, through, sets, sets_last, env, mem, says_two, heard, after, El, R, args},
+      Kit.{el_x, after₂, split3, group, SemTy, all, all_e, apply∗, follows, both_by, MutBor, NamedLft, named_lft},
+      Kit.{MutSlice, slice_val, Global, Fml},
       Regions.{Sr, Seen, Fits, near, run_fits, Frame, slots_whole, slots_open, scaled, item_size, Place, places_owned},
       Regions.{IsFilledRun, HoldsRun},
+      Methods.{method, spent},
     },
     loans.{
       Made.{loan_val, loan_made},
@@ -95,38 +94,16 @@ pub lend_two_spec : {M : Type 1} → stated.statement M
 unfolding both_by
 lend_two_spec 𝓤 𝓛 𝓜 𝓡 wired X L =
     let E : El = record { row = X; laws = L } in let here : Fn = inst_fn (args E) code.function in
-    let ended = f.ended X in let stayed : Stays ended.signature.params ended.kept = (
-      stay_dropped _ no,
-      (stay_dropped _ yes, (stay_dropped _ yes, (stay_dropped _ yes, (stay_dropped _ yes, tt)))),
-    ) in
-    let c = f.clauses X 𝓛 𝓜.mem 𝓡.returns in let W = walk_of 𝓛 ended stayed c in let 𝓣 = tables 𝓤 𝓛.H 𝓜 𝓡 𝓡.env in
-    let word = Goes-dropped 𝓛 2 (plain (λ _. usize)) yes (λ κs x w. refl) in
-    proved 𝓛 ended stayed c 𝓜 𝓡 (Goes-spent_ref 𝓛 2 (0 ∷ []) tt (plain (λ _. Sr E)), (word, (word, (word, (word, tt)))))
-    (f.Key.name (args E)) here (code.unfolded 𝓤 𝓛.H 𝓜 𝓡 wired (X, tt))
-    (λ κs. (mut_vals, (uint_vals w64, (uint_vals w64, (uint_vals w64, (uint_vals w64, tt)))))) (λ κs.
-    (mut_Tells (named 0) κs.0 (Sr E), (uint_Tells w64, (uint_Tells w64, (uint_Tells w64, (uint_Tells w64, tt))))))
-    (λ κs qs bounds arg _ are.
-    let κ = κs.0 in let κ₁ = κs.1.0 in let q = qs.0 in let q₁ = qs.1.0 in
-    let rb : ℕ = arg.0.ref_ptr.0 in let ro : ℕ = arg.0.ref_ptr.1 in let γ = arg.0.ghost_name in
-    let r : Seen E = arg.0.now in
+    let 𝓣 = tables 𝓤 𝓛.H 𝓜 𝓡 𝓡.env in
+    method 1 4 (Sr E) 𝓛 (spent 1 𝓛 _) 𝓜 𝓡 _ _ (f.clauses X 𝓛 𝓜.mem 𝓡.returns) (f.Key.name (args E)) here
+    (code.unfolded 𝓤 𝓛.H 𝓜 𝓡 wired (X, tt)) (λ κs qs bounds arg _ typed post ends.
+    let κ = κs.0 in let q = qs.0 in let rb : ℕ = arg.0.ref_ptr.0 in let ro : ℕ = arg.0.ref_ptr.1 in
+    let γ = arg.0.ghost_name in let r : Seen E = arg.0.now in let coded = (Sr E).coded.code r in
     let a : ℕ = arg.1.0 in let la : ℕ = arg.1.1.0 in let b : ℕ = arg.1.1.1.0 in let lb : ℕ = arg.1.1.1.1.0 in
-    let y : W.Ghost = (
-      (
-        κs,
-        qs,
-        bounds,
-        arg,
-        (mut_vals arg.0, (uint_vals w64 a, (uint_vals w64 la, (uint_vals w64 b, (uint_vals w64 lb, tt))))),
-      ),
-      tt,
-    ) in
-    let fa : a < 2 ^ 64 = are.1.0.1 in let fla : la < 2 ^ 64 = are.1.1.0.1 in let fb : b < 2 ^ 64 = are.1.1.1.0.1 in
-    let flb : lb < 2 ^ 64 = are.1.1.1.1.0.1 in
-    let s : ℕ = item_size E in let coded = (Sr E).coded.code r in
-    qed 𝓛 (((‵ (flft κ q) ⊛ ‵ (flft κ₁ q₁) ⊛ ‵ ftrue) ⊛ ‵ (owns (types_at ended.signature.params κs) arg y.0.4))
-    ∷ (raw (fact 𝓤 (κ₁ ⊑ X.lives)) ⊛ raw (fact 𝓤 (IsFilledRun r.places a la))
-    ⊛ raw (fact 𝓤 (IsFilledRun r.places b lb)) ⊛ raw (fact 𝓤 (AreApart a la b lb))) ∷ []) ∵
-    move ! (1 ∷ []) $ split ! $ drop ! $ split3 ! $ heard ! (IsFilledRun r.places a la) (λ one.
+    let la_ok = typed.1.0.1 in let lb_ok = typed.1.1.1.0.1 in let s : ℕ = item_size E in
+    use1 𝓛 (raw (fact 𝓤 (κs.1.0 ⊑ X.lives)) ⊛ raw (fact 𝓤 (IsFilledRun r.places a la))
+    ⊛ raw (fact 𝓤 (IsFilledRun r.places b lb)) ⊛ raw (fact 𝓤 (AreApart a la b lb))) (id⊢ 𝓤 _) $
+    split ! $ drop ! $ split3 ! $ heard ! (IsFilledRun r.places a la) (λ one.
     heard ! (IsFilledRun r.places b lb) (λ two. heard ! (AreApart a la b lb) (λ apart.
     let xs : List (el_x E) = one.1.0 in let ys : List (el_x E) = two.1.0 in
     let long = length_filled r.places a la one in let long' = length_filled r.places b lb two in
@@ -136,15 +113,7 @@ lend_two_spec 𝓤 𝓛 𝓜 𝓡 wired X L =
     let in_b : b + length ys ≤ length r.places = omega (arith, two.0) in
     let clear : AreApart a (length xs) b (length ys) = λ k. subst (λ m. a ≤ k → k < a + m → b ≤ k → k < b + length ys
     → ⊥) (sym long) (subst (λ m. a ≤ k → k < a + la → b ≤ k → k < b + m → ⊥) (sym long') (apart k)) in
-    split ! $ split ! $ move ! (2 ∷ []) $ fsplit3 ! $ fsplit3 ! $ keep ! (1 ∷ 2 ∷ 5 ∷ 6 ∷ []) $
-    enter ! 𝓣.C 𝓣.Λ here (vptr rb ro ∷ vint w64 a ∷ vint w64 la ∷ vint w64 b ∷ vint w64 lb ∷ []) _ $
-    alloc_all ! (λ l. pass_all ! refl (
-      (tt, tt),
-      (
-        (tt, record { fits = fa }),
-        ((tt, record { fits = fla }), ((tt, record { fits = fb }), ((tt, record { fits = flb }), tt))),
-      ),
-    ) $
+    alloc_all ! (λ l. pass_all ! refl ((tt, tt), typed) $
     let En : Env 𝓤 𝓛.H = env here.locals l in
     slots_open E ! tt r rb ro (λ g p o n ok.
     let far = near E ok a (omega arith) in let far' = near E ok b (omega arith) in
@@ -154,19 +123,19 @@ lend_two_spec 𝓤 𝓛 𝓜 𝓡 wired X L =
     sets ! (scaled ! (get ! refl) far) refl (tt, record { fits = far }) $
     sets ! (bin ! (get ! refl) (get ! refl) tt) refl (tt, tt) $
     sets ! (agg ! (and_then ! (get ! refl) (and_then ! (get ! refl) (no_more !)))) refl
-    (tt, (tt, (record { fits = fla }, tt))) $
+    (tt, (tt, (la_ok, tt))) $
     sets ! (of_opd ! (load ! (through ! refl (fld ! refl (stop !))) (look_in ! 2 (sub ! 0 refl (whole !)))))
     refl (tt, tt) $
     sets ! (scaled ! (get ! refl) far') refl (tt, record { fits = far' }) $
     sets ! (bin ! (get ! refl) (get ! refl) tt) refl (tt, tt) $
     sets ! (agg ! (and_then ! (get ! refl) (and_then ! (get ! refl) (no_more !)))) refl
-    (tt, (tt, (record { fits = flb }, tt))) $
+    (tt, (tt, (lb_ok, tt))) $
     sets ! (agg ! (no_more !)) refl (tt, tt) $
     sets ! (agg ! (and_then ! (get ! refl) (no_more !))) refl (tt, (tt, tt)) $
     sets_last ! (agg ! (and_then ! (get ! refl) (and_then ! (get ! refl) (and_then ! (get ! refl) (no_more !))))) refl
-    (tt, ((tt, (record { fits = fla }, tt)), ((tt, (record { fits = flb }, tt)), ((tt, tt), tt)))) $
-    exec ! 𝓣.C 𝓣.Λ En (after 1 here.body) (at_ret En (W.post y)) $ sets ! (of_opd ! (get ! refl)) refl
-    (tt, ((tt, (record { fits = fla }, tt)), ((tt, (record { fits = flb }, tt)), ((tt, tt), tt)))) $
+    (tt, ((tt, (la_ok, tt)), ((tt, (lb_ok, tt)), ((tt, tt), tt)))) $
+    exec ! 𝓣.C 𝓣.Λ En (after 1 here.body) (at_ret En post) $ sets ! (of_opd ! (get ! refl)) refl
+    (tt, ((tt, (la_ok, tt)), ((tt, (lb_ok, tt)), ((tt, tt), tt)))) $
     let pa = a * s + o in let pb = b * s + o in let Rest₀ = Rest E 𝓛 rb ro r a b xs ys g p o n in
     let way = back E 𝓛 rb ro r a b xs ys g p o n ok held held' in
     use1 𝓛 (‵ (places_owned (R E) p pa (run E 𝓛 p o r.places a (length xs))) ⊛ ‵ (places_owned (R E) p pb
@@ -205,7 +174,5 @@ lend_two_spec 𝓤 𝓛 𝓜 𝓡 wired X L =
     (loan_made α (R E) 𝓛 seen (slice_val (p, pa) la) (slice_val (p, pb) lb) bounded) $ move ! (1 ∷ []) $ split3 ! $
     returns ! (look_at ! 0 refl) $ free_all ! refl $
     -- [the token; what the region follows; what its name follows; the iterator; the other token]
-    suffices ! _ (ends_at 𝓛 ended stayed c y v seen (tt, (tt, (tt, (tt, (tt, tt))))) (tt, (tt, (tt, (tt, (tt, tt)))))) $
-    move ! (1 ∷ 2 ∷ []) $ fjoin ! $ move ! (1 ∷ 3 ∷ []) $ join ! $ move ! (2 ∷ []) $ nothing ! $ nothing ! $
-    fjoin ! $ nothing ! $ fjoin ! $ nothing ! $ fjoin ! $ nothing ! $ fjoin ! $ nothing ! $ fjoin ! $ join ! $
-    move ! (1 ∷ 0 ∷ []) $ join ! $ frame ! $ says_two ! (one.1.1, two.1.1) $ done !)))))))
+    suffices ! _ (ends v seen tt) $ nothing ! $ frame ! $ move ! (3 ∷ 0 ∷ 4 ∷ []) $ frame ! $ join ! $ frame ! $
+    fjoin ! $ says_two ! (one.1.1, two.1.1) $ done !)))))))

@@ -2,18 +2,16 @@
 use Rattle.arraydeque_ring.{
   proofs.{
     memory.{
-      Kit.{◌≡◌, refl, sym, ap, List, [], ◌∷◌, ◌++◌, map, ℕ, ◌+◌, ◌*◌, ◌<◌, ◌≤◌, ◌^◌, arith, length, take, drop_list},
-      Kit.{replicate, length-take, length-drop, length-map, length-replicate, Some, None, full_share, fat, froom},
-      Kit.{ftrue, flft, Fn, inst_fn, named, w64, ty_array, Val, vunit, vint, vptr, Env, ◌⊑◌, fact, tables, owns},
-      Kit.{types_at, ‵, raw, ◌⊛◌, some, at_ret, ◌$◌, ◌∵◌, !, qed, move, keep, use1, use2, drop, split, join, pick},
-      Kit.{rewrite, fsplit, fsplit3, fjoin, fjoin3, feq_i, suffices, done, whole, sub, look_in, enter, of_opd},
+      Kit.{frame, id⊢, ◌≡◌, refl, sym, ap, List, [], ◌∷◌, ◌++◌, map, ℕ, ◌+◌, ◌*◌, ◌≤◌, arith, length, take, drop_list},
+      Kit.{replicate, length-take, length-drop, length-map, length-replicate, Some, None, full_share, fat, froom, Fn},
+      Kit.{inst_fn, ty_array, Val, vunit, vptr, Env, ◌⊑◌, fact, tables, ‵, raw, ◌⊛◌, some, at_ret, ◌$◌, !, move, keep},
+      Kit.{use1, use2, drop, split, join, pick, rewrite, fjoin3, feq_i, suffices, done, whole, sub, look_in, of_opd},
       Kit.{unit_lit, bin, load, look, init, stop, fld, assigns_last, first, blocks, exec, returns, alloc_all, pass_all},
-      Kit.{free_all, look_at, get, through, sets, is, env, yes, plain, usize, uint_vals, uint_Tells, Stays, walk_of},
-      Kit.{stay_dropped, stay_ref, Goes-dropped, Goes-ref, ends_at, nothing, heard, peeks, after, says, Is, shows},
-      Kit.{param, param_laws, part_at, El, R, el_x, elτ, proved, common_steps, Args, a_type, a_number, part_in},
-      Kit.{part_out, Array, layouts, number, mut_vals, mut_Tells},
+      Kit.{free_all, look_at, get, through, sets, is, env, heard, peeks, after, says, Is, shows, param, param_laws},
+      Kit.{part_at, El, R, el_x, elτ, common_steps, Args, a_type, a_number, part_in, part_out, Array, layouts, number},
       Regions.{Sr, Seen, near, slots_open, slots_close, scaled, item_size, Place, Row, of_room, IsFilledRun, Around},
       Regions.{run_out, run_in, row_room, to_array, of_array},
+      Methods.{method, comes_back},
     },
     moved.Flat.{length-moved, moved_parts},
   },
@@ -30,33 +28,16 @@ move_block_spec 𝓤 𝓛 𝓜 𝓡 wired X N L N_fits =
     let E : El = record { row = X; laws = L } in
     let types : Args = layouts (a_type ∷ a_number ∷ []) (X, (number N, tt)) in
     let here : Fn = inst_fn types code.function in
-    let ended = f.ended X (number N) in let place = stay_dropped (plain (λ _. usize)) yes in
-    let stayed : Stays ended.signature.params ended.kept =
-    (stay_ref (0 ∷ []) tt (plain (λ _. Sr E)), (place, (place, (place, tt)))) in
-    let c = f.clauses X (number N) 𝓛 𝓜.mem 𝓡.returns in let W = walk_of 𝓛 ended stayed c in
     let 𝓣 = tables 𝓤 𝓛.H 𝓜 𝓡 𝓡.env in
-    let word_goes = Goes-dropped 𝓛 3 (plain (λ _. usize)) yes (λ κs x w. refl) in
-    proved 𝓛 ended stayed c 𝓜 𝓡 (Goes-ref 𝓛 3 0 tt (plain (λ _. Sr E)), (word_goes, (word_goes, (word_goes, tt))))
-    (f.Key.name types) here (code.unfolded 𝓤 𝓛.H 𝓜 𝓡 wired (X, (number N, tt)))
-    (λ κs. (mut_vals, (uint_vals w64, (uint_vals w64, (uint_vals w64, tt)))))
-    (λ κs. (mut_Tells (named 0) κs.0 (Sr E), (uint_Tells w64, (uint_Tells w64, (uint_Tells w64, tt)))))
-    (λ κs qs bounds a _ are.
-    let κ = κs.0 in let κ₁ = κs.1.0 in let κ₂ = κs.1.1.0 in let q = qs.0 in let q₁ = qs.1.0 in let q₂ = qs.1.1.0 in
+    method 2 3 (Sr E) 𝓛 (comes_back 2 𝓛 _) 𝓜 𝓡 _ _ (f.clauses X (number N) 𝓛 𝓜.mem 𝓡.returns) (f.Key.name types) here
+    (code.unfolded 𝓤 𝓛.H 𝓜 𝓡 wired (X, (number N, tt))) (λ κs qs bounds a _ fit post ends.
     let rb : ℕ = a.0.ref_ptr.0 in let ro : ℕ = a.0.ref_ptr.1 in let r : Seen E = a.0.now in
     let ps : List (Place E) = r.places in
     let to : ℕ = a.1.0 in let from : ℕ = a.1.1.0 in let at : ℕ = a.1.1.1.0 in let dst : ℕ = to + at in
-    let src : ℕ = from + at in
-    let to_fits : to < 2 ^ 64 = are.1.0.1 in let from_fits : from < 2 ^ 64 = are.1.1.0.1 in
-    let at_fits : at < 2 ^ 64 = are.1.1.1.0.1 in
-    let y : W.Ghost =
-    ((κs, qs, bounds, a, (mut_vals a.0, (uint_vals w64 to, (uint_vals w64 from, (uint_vals w64 at, tt))))), tt) in
-    let s : ℕ = item_size E in let Filled : Type 0 = IsFilledRun ps src N in
+    let src : ℕ = from + at in let s : ℕ = item_size E in let Filled : Type 0 = IsFilledRun ps src N in
     let Target : Type 0 = dst + N ≤ length ps in
-    qed 𝓛 (((‵ (flft κ q) ⊛ ‵ (flft κ₁ q₁) ⊛ ‵ (flft κ₂ q₂) ⊛ ‵ ftrue)
-    ⊛ ‵ (owns (types_at ended.signature.params κs) a y.0.4))
-    ∷ (raw (fact 𝓤 (κ₁ ⊑ X.lives)) ⊛ raw (fact 𝓤 (κ₂ ⊑ [])) ⊛ raw (fact 𝓤 Filled) ⊛ raw (fact 𝓤 Target)) ∷ []) ∵
-    move ! (1 ∷ []) $ split ! $ drop ! $ split ! $ drop ! $ split ! $
-    heard ! Filled (λ filled. heard ! Target (λ target.
+    use1 𝓛 (raw (fact 𝓤 (κs.1.0 ⊑ X.lives)) ⊛ raw (fact 𝓤 (κs.1.1.0 ⊑ [])) ⊛ raw (fact 𝓤 Filled) ⊛ raw (fact 𝓤 Target))
+    (id⊢ 𝓤 _) $ split ! $ drop ! $ split ! $ drop ! $ split ! $ heard ! Filled (λ filled. heard ! Target (λ target.
     let within = filled.0 in let xs : List (el_x E) = filled.1.0 in let held = filled.1.1 in
     let es : List (Place E) = run_emptied src N ps in let run : List (Place E) = take N (drop_list src ps) in
     let nones : List (Place E) = replicate N None in
@@ -65,12 +46,7 @@ move_block_spec 𝓤 𝓛 𝓜 𝓡 wired X N L N_fits =
     let es_long : length es ≡ length ps = grind (arith, common_steps) in
     let new : Seen E = record { places = run_moved dst src N ps; steps = r.steps } in
     let same_new : length ps ≡ length new.places = sym (length-moved dst src N ps) in
-    split ! $ split ! $ move ! (2 ∷ []) $ fsplit ! $ fsplit3 ! $ keep ! (1 ∷ 2 ∷ 4 ∷ 5 ∷ []) $
-    enter ! 𝓣.C 𝓣.Λ here (vptr rb ro ∷ vint w64 to ∷ vint w64 from ∷ vint w64 at ∷ []) _ $
-    alloc_all ! (λ l. pass_all ! refl (
-      (tt, tt),
-      ((tt, record { fits = to_fits }), ((tt, record { fits = from_fits }), ((tt, record { fits = at_fits }), tt))),
-    ) $
+    alloc_all ! (λ l. pass_all ! refl ((tt, tt), fit) $
     let En : Env 𝓤 𝓛.H = env here.locals l in
     slots_open E ! tt r rb ro (λ g b o n ok.
     let to_near = near E ok to (omega arith) in let from_near = near E ok from (omega arith) in
@@ -114,7 +90,7 @@ move_block_spec 𝓤 𝓛 𝓜 𝓡 wired X N L N_fits =
     use1 𝓛 (‵ (froom (ty_array (elτ E) N) b (dst * s + o))) (row_room E 𝓛 b (take N (drop_list dst es)) N (dst * s + o)
     (omega (arith, length-take N (drop_list dst es), length-drop dst es))) $
     assigns_last ! (of_opd ! (get ! refl)) (through ! refl (stop !)) (init ! 0 refl v_fits) $
-    exec ! 𝓣.C 𝓣.Λ En (after 1 here.body) (at_ret En (W.post y)) $ sets ! (of_opd ! (unit_lit !)) refl (tt, tt) $
+    exec ! 𝓣.C 𝓣.Λ En (after 1 here.body) (at_ret En post) $ sets ! (of_opd ! (unit_lit !)) refl (tt, tt) $
     -- [the array; the other places; what the array owns; ..]
     move ! (0 ∷ 2 ∷ []) $ use2 𝓛 (‵ (part_at (Array (R E) N) full_share xs b (dst * s + o)))
     (part_in 𝓛 (Array (R E) N) refl full_share xs b (dst * s + o) v) $
@@ -125,9 +101,6 @@ move_block_spec 𝓤 𝓛 𝓜 𝓡 wired X N L N_fits =
     rewrite ! 0 (λ (l : List (Place E)). ‵ (Row E 𝓛 b o l)) (moved_parts ps dst src N within target) refl $
     slots_close E ! tt g r new b o n rb ro ok same_new $
     returns ! (look_at ! 0 refl) $ free_all ! refl $
-    suffices ! _ (ends_at 𝓛 ended stayed c y vunit tt (new, (tt, (tt, (tt, tt)))) (tt, (tt, (tt, (tt, tt))))) $
-    says ! refl $
-    feq_i ! (List Val) (vptr rb ro ∷ []) (vptr rb ro ∷ []) refl $ fjoin3 ! $ nothing ! $ nothing ! $ fjoin ! $
-    nothing ! $ fjoin ! $ nothing ! $ fjoin ! $ move ! (1 ∷ 0 ∷ []) $ fjoin ! $
-    move ! (1 ∷ 2 ∷ []) $ join ! $ feq_i ! (List Val) (vunit ∷ []) (vunit ∷ []) refl $ keep ! (1 ∷ 2 ∷ 0 ∷ []) $
-    done !)))))))
+    suffices ! _ (ends vunit tt new) $ feq_i ! (List Val) (vptr rb ro ∷ []) (vptr rb ro ∷ []) refl $ fjoin3 ! $
+    frame ! $ feq_i ! (List Val) (vunit ∷ []) (vunit ∷ []) refl $ frame ! $ join ! $ says ! refl $
+    keep ! (0 ∷ []) $ done !)))))))
