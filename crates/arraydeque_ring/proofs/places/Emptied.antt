@@ -1,6 +1,6 @@
 -- A run of places that is emptied, one place after another.
 use Rattle.std.proofs.{
-  Common.{◌≡◌, ℕ, ◌+◌, ◌<◌, ◌≤◌, ◌==◌, inl, inr, List, length, set, get_or, nat_lt, if◌then◌else◌, Option, None, sym},
+  Common.{◌≡◌, ℕ, ◌+◌, ◌<◌, ◌≤◌, ◌==◌, inl, inr, List, length, set, get_or, nat_lt, if◌then◌else◌, Option, None},
   Common.{◌∙◌, arith, rules},
   lemmas.{
     Bool.{cases_eq, eq-eqb, ne_eqb, Decides.nat_tests},
