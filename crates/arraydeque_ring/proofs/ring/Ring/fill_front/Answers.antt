@@ -49,14 +49,15 @@ pub returns-else-self-capacity-clause-filled : goal.returns-else-self-capacity-c
 returns-else-self-capacity-clause-filled g c =
     let all = c.loop-ended.invariant.all in let was = c.loop-ended.invariant.so_far.1 in
     let within = was.holds.laid.within in
-    Fills-as _ was _ _ (omega (arith, length-append (reverse was.items) c.args.self.now.items, length-reverse was.items))
+    Fills-as _ was _ _
+    (omega (arith, length-append (reverse was.items) c.args.self.now.items, length-reverse was.items))
     (λ some. omega (arith, was.holds.len, (was.all some).1,
     length-append (reverse was.items) c.args.self.now.items, length-reverse was.items))
     (λ xs. closed)
 
 pub returns-after-loop-ended-clause-filled : goal.returns-after-loop-ended-clause-filled
 returns-after-loop-ended-clause-filled g c =
-    let was = c.loop-ended.invariant.so_far.1 in
-    Fills-as _ was _ _ (omega (arith, was.holds.laid.within,
-    length-append (reverse was.items) c.args.self.now.items, length-reverse was.items))
+    let was = c.loop-ended.invariant.so_far.1 in let within = was.holds.laid.within in
+    Fills-as _ was _ _
+    (omega (arith, length-append (reverse was.items) c.args.self.now.items, length-reverse was.items))
     (λ some. absurd (true≢false (sym c.loop-ended-test.false ∙ some))) (λ xs. closed)
