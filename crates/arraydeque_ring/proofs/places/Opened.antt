@@ -23,7 +23,7 @@ use Rattle.arraydeque_ring.{
     gaps.Gapped.{Gapped-taken, LaidOut-gap_first, LaidOut-gap_last},
     loans.Placed.length-as_many,
     places.{
-      Appended.{LaidOut-appended, LaidOut-written, IsEmptyRun-behind},
+      Appended.{LaidOut-appended, LaidOut-written, LaidOut-new, IsEmptyRun-behind},
       Handed.{handed, LaidOut-handed},
       Held.length_filled,
       LaidOut.{LaidOut, LaidOut-values, values-LaidOut, FilledFrom-LaidOut, LaidOut-nothing, LaidOut-put_back},
@@ -100,8 +100,7 @@ nothing_laid n = (refl, shows (LaidOut-nothing n) 0 refl)
 -- and items that are written to it from the first place on
 pub new_laid : {X : Type 0} (xs : List X) (n : ℕ) → length xs ≤ n
     → Shows n 0 (length xs) xs (with_run 0 xs (replicate n None))
-new_laid xs n within = shows
-    (LaidOut-appended (LaidOut-nothing n) xs 0 (inl refl) (omega arith) (omega arith)) _ refl
+new_laid xs n within = shows (LaidOut-new xs n within) _ refl
 
 -- what is known of the fields alone, for goals that have no answer by hand
 module _ {X : Type 0} (r : Inside X) (kept : Kept r) where
