@@ -1,8 +1,11 @@
 -- A run of places that is written with items from an iterator, one place after another.
 use Rattle.std.proofs.{
-  Common.{◌≡◌, ℕ, ◌+◌, ◌-◌, ◌<◌, ◌≤◌, ◌⊎◌, List, [], ◌∷◌, ◌++◌, length, reverse, set, Option, Some, sym, ap},
+  Common.{◌≡◌, ℕ, ◌+◌, ◌-◌, ◌<◌, ◌≤◌, ◌⊎◌, List, [], ◌∷◌, ◌++◌, length, reverse, set, Option, Some, ap},
   Common.{◌∙◌, arith, rules},
-  lemmas.{Bool.{cases_eq, Decides.nat_tests}, List.{get_or-set_same, places, same_lists, length-map, map-append, length-append, length-reverse, length-set, reverse-append}},
+  lemmas.{
+    Bool.{cases_eq, Decides.nat_tests},
+    List.{get_or-set_same, places, same_lists, length-map, map-append, length-append, length-reverse, reverse-append},
+  },
 }
 use Rattle.arraydeque_ring.{
   specs.{Gaps.IsEmptyRun, Loans.with_run, Places.{held_at, IsEmpty, IsFilled, IsFilledRun}},

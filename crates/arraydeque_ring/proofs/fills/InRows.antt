@@ -1,12 +1,9 @@
 -- Items that come one by one behind the last item or before the first.
 use Rattle.std.proofs.{
-  Common.{◌≡◌, ℕ, ◌+◌, ◌-◌, ◌*◌, List, [], ◌++◌, length, reverse, sym, ap, ◌∙◌, subst, arith},
-  lemmas.{Bool.Decides.nat_tests, List.{append_assoc, append-nil, length-append, reverse-append}},
+  Common.{◌≡◌, ℕ, ◌+◌, ◌-◌, ◌*◌, List, ◌++◌, length, reverse, sym, ap, ◌∙◌, arith},
+  lemmas.{Bool.Decides.nat_tests, List.{append_assoc, length-append, reverse-append}},
 }
-use Rattle.arraydeque_ring.{
-  specs.{declared.ring.Ring.TheInside.Inside, Ring.{RingState, down_by}, Steps.{Steps, more_puts}},
-  proofs.places.{Opened.Opened, Rotated.{place_of-sum}},
-}
+use Rattle.arraydeque_ring.{specs.{Ring.{RingState, down_by}, Steps.{more_puts}}, proofs.{places.Rotated.{place_of-sum}}}
 
 -- to go down by j places and then by k is to go down by both
 down_by-both : (j k s n : ℕ) → down_by k (down_by j s n) n ≡ down_by (j + k) s n
@@ -19,15 +16,6 @@ module _ {X : Type 0} (xs ys : List X) where
   -- those that went in last stand first
   pub all_before : (zs : List X) → reverse ys ++ (reverse xs ++ zs) ≡ reverse (xs ++ ys) ++ zs
   all_before zs = sym (append_assoc (reverse ys) (reverse xs) zs) ∙ ap (λ l. l ++ zs) (sym (reverse-append xs ys))
-
--- puts that are counted in two parts
-more_twice : {X : Type 0} (xs ys : List X) (s : Steps)
-    → more_puts (length ys) (more_puts (length xs) s) ≡ more_puts (length (xs ++ ys)) s
-more_twice xs ys s = grind (arith, length-append xs ys)
-
--- nothing more was put
-no_more_puts : (s : Steps) → s ≡ more_puts 0 s
-no_more_puts s = grind arith
 
 module _ {X : Type 0} where
   -- xs came behind the last item
@@ -44,20 +32,9 @@ module _ {X : Type 0} where
 
   pub filled_back-both : (xs ys : List X) (v : RingState X)
       → filled_back ys (filled_back xs v) ≡ filled_back (xs ++ ys) v
-  filled_back-both xs ys v = λ i. record v { items = append_assoc v.items xs ys i; steps = more_twice xs ys v.steps i }
+  filled_back-both xs ys v = grind (arith, append_assoc v.items xs ys, length-append xs ys)
 
   pub filled_front-both : (xs ys : List X) (v : RingState X)
       → filled_front ys (filled_front xs v) ≡ filled_front (xs ++ ys) v
-  filled_front-both xs ys v = λ i. record v {
-    items = all_before xs ys v.items i;
-    start = down_by-all xs ys v.start v.capacity i;
-    steps = more_twice xs ys v.steps i;
-  }
-
-  -- none came
-  pub back_none : {r : Inside X} {v : RingState X} → Opened r v → Opened r (filled_back [] v)
-  back_none {r = r} {v = v} o =
-      subst (Opened r) (λ i. record v { items = sym (append-nil v.items) i; steps = no_more_puts v.steps i }) o
-
-  pub front_none : {r : Inside X} {v : RingState X} → Opened r v → Opened r (filled_front [] v)
-  front_none {r = r} {v = v} o = subst (Opened r) (λ i. record v { steps = no_more_puts v.steps i }) o
+  filled_front-both xs ys v =
+      grind (arith, all_before xs ys v.items, down_by-all xs ys v.start v.capacity, length-append xs ys)

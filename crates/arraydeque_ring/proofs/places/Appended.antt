@@ -1,7 +1,7 @@
 -- Items that are laid behind a list, in one run of places.
 use Rattle.std.proofs.{
   Common.{◌≡◌, ℕ, ◌+◌, ◌-◌, ◌≤◌, List, ◌++◌, length, take, drop, get_or, slice_get, nat_lt, if◌then◌else◌, Option},
-  Common.{Some, None, inl, sym, ap, ◌∙◌, arith},
+  Common.{Some, None, replicate, refl, inl, sym, ap, ◌∙◌, arith},
   lemmas.{
     Bool.Decides.nat_tests,
     Grind.common_steps,
@@ -18,7 +18,7 @@ use Rattle.arraydeque_ring.{
       Items.{items, get_or-map_Some},
       Held.empty_run_of,
       Holds.{Holds, Holds-same},
-      LaidOut.{LaidOut, LaidOut-by, holds},
+      LaidOut.{LaidOut, LaidOut-by, LaidOut-nothing, holds},
       Rotated.{MayStartAt, place_of_cases, place_of-run, place_of-sum},
     },
   },
@@ -76,6 +76,11 @@ module _ {X : Type 0} where
     pub IsEmptyRun-behind : (place run : ℕ) → MayStartAt t (length xs) n place →
         place + run ≤ n → length xs + run ≤ n → IsEmptyRun ps place run
     IsEmptyRun-behind place run = IsEmptyRun-from (length xs) place run (omega arith)
+
+-- in a new region items are written from the first place on
+pub LaidOut-new : {X : Type 0} (xs : List X) (n : ℕ) → length xs ≤ n
+    → LaidOut n 0 xs (with_run 0 xs (replicate n None))
+LaidOut-new xs n within = LaidOut-appended (LaidOut-nothing n) xs 0 (inl refl) (omega arith) (omega arith)
 
 -- to go up by j places and then by k is to go up by both
 pub up_by-both : (j k s n : ℕ) → up_by k (up_by j s n) n ≡ up_by (j + k) s n

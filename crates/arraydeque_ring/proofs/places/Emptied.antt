@@ -1,12 +1,8 @@
 -- A run of places that is emptied, one place after another.
 use Rattle.std.proofs.{
-  Common.{◌≡◌, ℕ, ◌+◌, ◌<◌, ◌≤◌, ◌==◌, inl, inr, List, length, set, get_or, nat_lt, if◌then◌else◌, Option, None, sym},
+  Common.{◌≡◌, ℕ, ◌+◌, ◌<◌, ◌≤◌, ◌==◌, List, length, set, get_or, nat_lt, if◌then◌else◌, Option, None},
   Common.{◌∙◌, arith, rules},
-  lemmas.{
-    Bool.{cases_eq, eq-eqb, ne_eqb, Decides.nat_tests},
-    Grind.common_steps,
-    List.{places, get_or-set_same, get_or-set_other},
-  },
+  lemmas.{Bool.{Decides.nat_tests}, Grind.common_steps, List.{places}},
 }
 use Rattle.arraydeque_ring.{specs.Gaps.run_emptied, proofs.moved.Flat.same_places}
 
@@ -14,10 +10,7 @@ module _ {X : Type 0} where
   -- what a place holds once c is written to the place i
   pub get_or-written : (ps : List (Option X)) (i x : ℕ) (c : Option X) → i < length ps
       → get_or (set ps i c) x None ≡ (if x == i then c else get_or ps x None)
-  get_or-written ps i x c lt = elim (cases_eq x i) [
-    | inl same ↦ rw (eq-eqb x i same, same) (get_or-set_same ps i c None lt)
-    | inr other ↦ rw (ne_eqb x i other) (get_or-set_other ps i x c None other)
-  ]
+  get_or-written ps i x c lt = grind (arith, nat_tests, common_steps)
 
   module _ (at k : ℕ) (ps : List (Option X)) where
     pub length-run_emptied : at + k ≤ length ps → length (run_emptied at k ps) ≡ length ps

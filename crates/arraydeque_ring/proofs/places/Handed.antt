@@ -3,22 +3,22 @@
 use Rattle.std.{
   proofs.{
     Common.{◌≡◌, ℕ, ◌+◌, ◌-◌, ◌<◌, ◌≤◌, min, List, ◌++◌, map, length, take, drop, replicate, Option, Some, None, sym},
-    Common.{ap, ◌∙◌, arith, rules},
+    Common.{ap, ◌∙◌, subst, arith, rules},
     lemmas.{
-      Bool.Decides.nat_tests,
       Grind.common_steps,
-      List.{places, length-map, same_lists, take_at, drop_at, take-map, drop-map, drop-drop, append_assoc},
+      List.{places, take-replicate, length-replicate, same_lists, take_at, drop_at, take-map, drop-map, drop-drop},
+      List.{append_assoc},
     },
   },
 }
 use Rattle.arraydeque_ring.{
-  specs.{Gaps.{IsEmptyRun, run_emptied}, Places.{held_at, IsFilledRun}, Ring.rotated},
+  specs.{Gaps.{IsEmptyRun, run_emptied}, Places.{IsFilledRun}, Ring.rotated},
   proofs.places.{
+    Appended.LaidOut-new,
     Emptied.length-run_emptied,
     Held.{empty_in_run, empty_run_of},
-    Items.{items, get_or-map_Some},
     LaidOut.{LaidOut, HoldsRun-rotated},
-    Rotated.{place_of-first, MayStartAt, place_of_cases, length-rotated, get_or-rotated},
+    Rotated.{MayStartAt, place_of_cases, length-rotated, get_or-rotated},
   },
 }
 
@@ -96,8 +96,7 @@ module _ {X : Type 0} (len first : ℕ) (qs : List (Option X)) (le : first ≤ l
 
 -- in a new region the first places are empty
 pub all_empty : {X : Type 0} (len n : ℕ) → len ≤ n → IsEmptyRun {X = X} (replicate n None) 0 len
-all_empty len n le =
-    empty_run_of (replicate n None) 0 len (grind (arith, common_steps)) (λ x from to. grind (arith, common_steps))
+all_empty {X = X} len n le = (omega (arith, length-replicate {A = Option X} n None), take-replicate len n None le)
 
 -- in a region that was empty the m items from the index i on are a list of their own
 pub LaidOut-handed : {X : Type 0} {n t : ℕ} {xs : List X} {ps : List (Option X)} → LaidOut n t xs ps → (i m k : ℕ)
@@ -105,12 +104,6 @@ pub LaidOut-handed : {X : Type 0} {n t : ℕ} {xs : List X} {ps : List (Option X
     → LaidOut k 0 (take m (drop i xs)) (take m (drop i (rotated t ps)) ++ drop m (replicate k None))
 LaidOut-handed {xs = xs} l i m k within room =
     let ys = take m (drop i xs) in
-    let many : length ys ≡ m = grind (arith, common_steps) in
-    let wide : length (map Some ys) ≡ m = length-map ys Some ∙ many in
-    rw (HoldsRun-rotated l i m within) (record {
-      length_is = grind (arith, common_steps);
-      in_region = omega arith;
-      within = omega (arith, many);
-      at = λ x lt. ap (held_at (map Some ys ++ drop m (replicate k None))) (place_of-first x k lt)
-          ∙ grind (arith, nat_tests, places, items, get_or-map_Some ys x);
-    })
+    let many : 0 + length ys ≡ m = grind (arith, common_steps) in
+    rw (HoldsRun-rotated l i m within) (subst (λ j. LaidOut k 0 ys (map Some ys ++ drop j (replicate k None))) many
+    (LaidOut-new ys k (omega arith)))

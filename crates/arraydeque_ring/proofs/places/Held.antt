@@ -5,7 +5,7 @@ use Rattle.std.proofs.{
   lemmas.{
     Grind.common_steps,
     List.{length-map, length-take-le, length-drop, map-append, take_more, get_or-take, get_or-drop, get_or-replicate},
-    List.{get_or-set_other, set-set, set_comm, Edits.swap_is},
+    List.{get_or_past, get_or-set_other, set-set, set_comm, Edits.swap_is},
   },
 }
 use Rattle.arraydeque_ring.{
@@ -16,9 +16,7 @@ use Rattle.arraydeque_ring.{
 module _ {X : Type 0} where
   -- a filled place is one of the region's
   pub filled_within : (ps : List (Option X)) (i : ℕ) (x : X) → get_or ps i None ≡ Some x → i < length ps
-  filled_within [] i x e = cc
-  filled_within (p ∷ ps) zero x e = omega arith
-  filled_within (p ∷ ps) (suc i) x e = omega (arith, filled_within ps i x e)
+  filled_within ps i x e = grind (arith, get_or_past ps i None)
 
   -- a filled run has as many values as places
   pub length_filled : (ps : List (Option X)) (from len : ℕ) (run : IsFilledRun ps from len) → length run.1.0 ≡ len

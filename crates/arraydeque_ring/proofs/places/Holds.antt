@@ -1,14 +1,17 @@
 -- What places hold, read one by one from a place on, round the region's end.
 use Rattle.std.proofs.{
-  Common.{◌≡◌, ◌≢◌, ℕ, ◌+◌, ◌-◌, ◌<◌, ◌≤◌, inl, inr, List, length, set, get_or, Option, Some, None, sym, ap, ◌∙◌},
+  Common.{◌≡◌, ◌≢◌, ℕ, ◌+◌, ◌-◌, ◌<◌, ◌≤◌, List, length, set, get_or, Option, Some, None, sym, ap, ◌∙◌},
   Common.{arith},
-  lemmas.{Bool.cases_eq, List.{length-set, get_or-set_same, get_or-set_other}},
+  lemmas.{Bool.Decides.nat_tests, List.length-set},
 }
 use Rattle.arraydeque_ring.{
   specs.{Moved.{distance, IsFilledRound}, Places.held_at, Ring.{place_of, rotated}},
   proofs.{
     moved.Flat.{same_places, up_from},
-    places.Rotated.{place_of-first, place_of-lt, place_of-sum, place_of-place_of, same_index, get_or-rotated},
+    places.{
+      Emptied.get_or-written,
+      Rotated.{place_of-first, place_of-lt, place_of-sum, place_of-place_of, one_place, get_or-rotated},
+    },
   },
 }
 
@@ -50,13 +53,10 @@ module _ {X : Type 0} {n t : ℕ} {f : ℕ → Option X} {ps : List (Option X)} 
   Holds-set {g} k c k_in here others = record {
     length_is = length-set ps (place_of t k n) c ∙ h.length_is;
     in_region = h.in_region;
-    at = λ i lt. elim (cases_eq i k) [
-      | inl same ↦ ap (λ j. held_at (set ps (place_of t k n) c) (place_of t j n)) same ∙ get_or-set_same ps
-          (place_of t k n) c None (omega (arith, h.length_is, place_of-lt t k n (omega (arith, h.in_region)))) ∙ here
-          ∙ ap g (sym same)
-      | inr other ↦ get_or-set_other ps (place_of t k n) (place_of t i n) c None
-          (λ e. other (same_index t i k n (omega (arith, h.in_region)) lt k_in e)) ∙ h.at i lt ∙ others i lt other
-    ];
+    at = λ i lt. get_or-written ps (place_of t k n) (place_of t i n) c
+        (omega (arith, h.length_is, place_of-lt t k n (omega (arith, h.in_region))))
+        ∙ rw (one_place t i k n (omega (arith, h.in_region)) lt k_in)
+        (grind (arith, nat_tests, here, h.at i lt, others i lt));
   }
 
   -- a run of indexes that have values

@@ -23,7 +23,7 @@ use Rattle.arraydeque_ring.{
     gaps.Gapped.{Gapped-taken, LaidOut-gap_first, LaidOut-gap_last},
     loans.Placed.length-as_many,
     places.{
-      Appended.{LaidOut-appended, LaidOut-written, IsEmptyRun-behind},
+      Appended.{LaidOut-appended, LaidOut-written, LaidOut-new, IsEmptyRun-behind},
       Handed.{handed, LaidOut-handed},
       Held.length_filled,
       LaidOut.{LaidOut, LaidOut-values, values-LaidOut, FilledFrom-LaidOut, LaidOut-nothing, LaidOut-put_back},
@@ -83,6 +83,15 @@ pub shows : {X : Type 0} {n t : ℕ} {xs : List X} {ps : List (Option X)} → La
     → length xs ≡ len → Shows n t len xs ps
 shows l len many = (l.length_is, rw l.length_is l.in_region, FilledFrom-LaidOut l len many, values-LaidOut l)
 
+-- the same of any places ps that are qs. The equation comes once more, as the first part of what is shown, by which
+-- `grind` finds it.
+abbrev pub Become : {X : Type 0} → ℕ → ℕ → ℕ → List X → List (Option X) → Type 0
+Become {X} n t len xs qs = (ps : List (Option X)) → ps ≡ qs → (ps ≡ qs) × Shows n t len xs ps
+
+become : {X : Type 0} {n t : ℕ} {xs : List X} {qs : List (Option X)} → LaidOut n t xs qs → (len : ℕ)
+    → length xs ≡ len → Become n t len xs qs
+become l len many ps is = (is, rw is (shows l len many))
+
 -- a new region shows the empty list
 pub nothing_laid : {X : Type 0} (n : ℕ) → (replicate {A = Option X} n None ≡ replicate n None)
     × Shows {X = X} n 0 0 [] (replicate n None)
@@ -91,11 +100,9 @@ nothing_laid n = (refl, shows (LaidOut-nothing n) 0 refl)
 -- and items that are written to it from the first place on
 pub new_laid : {X : Type 0} (xs : List X) (n : ℕ) → length xs ≤ n
     → Shows n 0 (length xs) xs (with_run 0 xs (replicate n None))
-new_laid xs n within = shows
-    (LaidOut-appended (LaidOut-nothing n) xs 0 (inl refl) (omega arith) (omega arith)) _ refl
+new_laid xs n within = shows (LaidOut-new xs n within) _ refl
 
--- what is known of the fields alone, for goals that have no answer by hand. The first equation of what changed places
--- show is that of the change itself, by which `grind` finds it.
+-- what is known of the fields alone, for goals that have no answer by hand
 module _ {X : Type 0} (r : Inside X) (kept : Kept r) where
   abbrev places : List (Option X)
   places = r.slots.places
@@ -139,14 +146,10 @@ module _ {X : Type 0} (r : Inside X) (kept : Kept r) where
   no_items none = (nil_from_length items (len ∙ none), AreAllEmpty-LaidOut laid (len ∙ none))
 
   -- an item is put at an end, or taken off there
-  pub back_put : (ps : List (Option X)) (place : ℕ) (x : X) → r.len < n → place ≡ place_of r.start r.len n
-      → ps ≡ set places place (Some x)
-      → (ps ≡ set places place (Some x)) × Shows n r.start (r.len + 1) (items ++ x ∷ []) ps
-  back_put ps place x room is put = (
-    put,
-    rw put (shows (rw (is, ← len) (LaidOut-put_back laid x (omega (arith, len))))
-        _ (length_push items x ∙ ap (λ m. m + 1) len)),
-  )
+  pub back_put : (place : ℕ) (x : X) → r.len < n → place ≡ place_of r.start r.len n
+      → Become n r.start (r.len + 1) (items ++ x ∷ []) (set places place (Some x))
+  back_put place x room is = become (rw (is, ← len) (LaidOut-put_back laid x (omega (arith, len)))) _
+      (omega (arith, len, length_push items x))
 
   -- where the list starts at the first place, that is the place of its length
   pub next_free : r.start ≡ 0 → r.len < n → (held_at places r.len ≡ None) × (r.len < n)
@@ -154,43 +157,29 @@ module _ {X : Type 0} (r : Inside X) (kept : Kept r) where
       let here : place_of r.start r.len n ≡ r.len = rw first (place_of-first r.len n room) in
       (rw here at (past_items r.len (omega arith) room).0, room)
 
-  pub next_put : (ps : List (Option X)) (x : X) → r.start ≡ 0 → r.len < n → ps ≡ set places r.len (Some x)
-      → (ps ≡ set places r.len (Some x)) × Shows n r.start (r.len + 1) (items ++ x ∷ []) ps
-  next_put ps x first room put =
-      back_put ps r.len x room (rw first (sym (place_of-first r.len n room))) put
+  pub next_put : (x : X) → r.start ≡ 0 → r.len < n
+      → Become n r.start (r.len + 1) (items ++ x ∷ []) (set places r.len (Some x))
+  next_put x first room = back_put r.len x room (rw first (sym (place_of-first r.len n room)))
 
-  pub front_put : (ps : List (Option X)) (place : ℕ) (x : X) → r.len < n → place ≡ place_of r.start (n - 1) n
-      → ps ≡ set places place (Some x)
-      → (ps ≡ set places place (Some x)) × Shows n place (r.len + 1) (x ∷ items) ps
-  front_put ps place x room is put = (
-    put,
-    rw put
-        (shows (rw is (LaidOut-put_front laid x (omega (arith, len)))) _ (ap suc len ∙ omega arith)),
-  )
+  pub front_put : (place : ℕ) (x : X) → r.len < n → place ≡ place_of r.start (n - 1) n
+      → Become n place (r.len + 1) (x ∷ items) (set places place (Some x))
+  front_put place x room is =
+      become (rw is (LaidOut-put_front laid x (omega (arith, len)))) _ (omega (arith, len))
 
-  pub back_taken : (ps : List (Option X)) (place : ℕ) → 0 < r.len → place ≡ place_of r.start (r.len - 1) n
-      → ps ≡ set places place None
-      → (ps ≡ set places place None) × Shows n r.start (r.len - 1) (take (r.len - 1) items) ps
-  back_taken ps place some is taken = (
-    taken,
-    rw taken (shows (rw is (LaidOut-take_back laid (r.len - 1)
-        (omega (arith, len)))) _ (length-take-le (r.len - 1) items (omega (arith, len)))),
-  )
+  pub back_taken : (place : ℕ) → 0 < r.len → place ≡ place_of r.start (r.len - 1) n
+      → Become n r.start (r.len - 1) (take (r.len - 1) items) (set places place None)
+  back_taken place some is = become (rw is (LaidOut-take_back laid (r.len - 1) (omega (arith, len)))) _
+      (length-take-le (r.len - 1) items (omega (arith, len)))
 
-  pub front_taken : (ps : List (Option X)) (place : ℕ) → 0 < r.len → place ≡ r.start → ps ≡ set places place None
-      → (ps ≡ set places place None) × Shows n (place_of r.start 1 n) (r.len - 1) (drop 1 items) ps
-  front_taken ps place some is taken = (
-    taken,
-    rw (taken, is)
-        (shows (LaidOut-take_front laid (omega (arith, len))) _ (omega (arith, len, length-drop 1 items))),
-  )
+  pub front_taken : (place : ℕ) → 0 < r.len → place ≡ r.start
+      → Become n (place_of r.start 1 n) (r.len - 1) (drop 1 items) (set places place None)
+  front_taken place some is =
+      become (rw is (LaidOut-take_front laid (omega (arith, len)))) _ (omega (arith, len, length-drop 1 items))
 
   -- one takes the place of another
-  pub item_set : (k : ℕ) (x : X) (ps : List (Option X)) → k < r.len
-      → ps ≡ set places (place_of r.start k n) (Some x)
-      → (ps ≡ set places (place_of r.start k n) (Some x)) × Shows n r.start r.len (set items k x) ps
-  item_set k x ps lt is =
-      (is, rw is (shows (LaidOut-set laid k x (omega (arith, len))) _ (length-set items k x ∙ len)))
+  pub item_set : (k : ℕ) (x : X) → k < r.len
+      → Become n r.start r.len (set items k x) (set places (place_of r.start k n) (Some x))
+  item_set k x lt = become (LaidOut-set laid k x (omega (arith, len))) _ (length-set items k x ∙ len)
 
   -- two are exchanged
   pub swapped : (i j : ℕ) (ps : List (Option X)) → i < r.len → j < r.len
@@ -238,15 +227,10 @@ module _ {X : Type 0} (r : Inside X) (kept : Kept r) where
   )
 
   -- or handed over to another region, which was empty
-  pub run_handed : (i m k : ℕ) (qs : List (Option X)) → i + m ≤ r.len → m ≤ k
-      → qs ≡ take m (drop i (rotated r.start places)) ++ drop m (replicate k None)
-      → (qs ≡ take m (drop i (rotated r.start places)) ++ drop m (replicate k None))
-      × Shows k 0 m (take m (drop i items)) qs
-  run_handed i m k qs le room is = (
-    is,
-    rw is (shows (LaidOut-handed laid i m k (omega (arith, len)) room) m
-        (length-take-le m (drop i items) (omega (arith, len, length-drop i items)))),
-  )
+  pub run_handed : (i m k : ℕ) → i + m ≤ r.len → m ≤ k → Become k 0 m (take m (drop i items))
+      (take m (drop i (rotated r.start places)) ++ drop m (replicate k None))
+  run_handed i m k le room = become (LaidOut-handed laid i m k (omega (arith, len)) room) m
+      (length-take-le m (drop i items) (omega (arith, len, length-drop i items)))
 
   -- the first m items stand in one piece
   pub piece_filled : (m : ℕ) → m ≤ r.len → r.start + m ≤ n → IsFilledRun places r.start m
@@ -301,12 +285,10 @@ module _ {X : Type 0} (r : Inside X) (kept : Kept r) where
     behind_empty some = IsEmptyRun-behind laid behind m (lies some) fits (omega (arith, len))
 
     -- the first m items of another ring come there
-    pub piece_joined : (o : Inside X) → Kept o → (ps : List (Option X)) → 0 < m → m ≤ o.len
-        → o.start + m ≤ length o.slots.places
-        → ps ≡ splice places behind (behind + m) (take m (drop o.start o.slots.places))
-        → (ps ≡ splice places behind (behind + m) (take m (drop o.start o.slots.places)))
-        × Shows n r.start (r.len + m) (items ++ take m (values (rotated o.start o.slots.places))) ps
-    piece_joined o okept ps some le fits' put =
+    pub piece_joined : (o : Inside X) → Kept o → 0 < m → m ≤ o.len → o.start + m ≤ length o.slots.places
+        → Become n r.start (r.len + m) (items ++ take m (values (rotated o.start o.slots.places)))
+        (splice places behind (behind + m) (take m (drop o.start o.slots.places)))
+    piece_joined o okept some le fits' =
         let other = opened o okept refl in
         let others = values (rotated o.start o.slots.places) in
         let run = IsFilledRun-LaidOut other.laid 0 o.start m (inl (omega arith)) (omega (arith, other.len)) fits' in
@@ -314,13 +296,11 @@ module _ {X : Type 0} (r : Inside X) (kept : Kept r) where
         let taken = length-take-le m others (omega (arith, other.len)) in
         let many : length xs ≡ m = length_filled o.slots.places o.start m run in
         let same = same_run other.laid 0 o.start m xs (inl (omega arith)) (omega (arith, other.len)) fits' run.1.1 in
-        let written : ps ≡ with_run behind xs places =
-        put ∙ ap₂ (λ k l. splice places behind (behind + k) l) (sym many) run.1.1 in (
-          put,
-          shows (rw (written, ← same)
-              (LaidOut-appended laid xs behind (lies some) (omega (arith, many)) (omega (arith, len, many)))) _
-              (omega (arith, len, length-append items (take m others), taken)),
-        )
+        let written : splice places behind (behind + m) (take m (drop o.start o.slots.places))
+        ≡ with_run behind xs places = ap₂ (λ k l. splice places behind (behind + k) l) (sym many) run.1.1 in
+        become (rw (written, ← same)
+            (LaidOut-appended laid xs behind (lies some) (omega (arith, many)) (omega (arith, len, many)))) _
+            (omega (arith, len, length-append items (take m others), taken))
 
 -- for the goals of the ring that have no answer by hand
 pub ruleset ring_facts = (bounds, items_within, nothing_laid, slice_get_past, place_of-lt)

@@ -1,7 +1,8 @@
 -- Two runs that are rotated or exchanged, read place by place: where what a place holds came from.
 use Rattle.std.{
   proofs.{
-    Common.{◌≡◌, ℕ, ◌+◌, ◌-◌, ◌≤◌, List, length, set, get_or, nat_lt, if◌then◌else◌, Option, None, sym, ap, ◌∙◌, arith, rules},
+    Common.{◌≡◌, ℕ, ◌+◌, ◌-◌, ◌≤◌, List, length, set, get_or, nat_lt, if◌then◌else◌, Option, None, sym, ap, ◌∙◌, arith},
+    Common.{rules},
     lemmas.{Bool.Decides.nat_tests, Grind.common_steps, List.{places, same_lists, length-set, Edits.swap_is}},
   },
   specs.Prelude.swap,

@@ -4,7 +4,7 @@ use Rattle.std.proofs.{
   Common.{sym, ap, ap₂, ◌∙◌, arith},
   Math.Nat.{mod-eq_of_lt, mod-eq-sub-mod, add-mod-mod, mod-add-mod, add_assoc},
   lemmas.{
-    Bool.{cases_lt, cases_eq, eq-eqb, ne_eqb},
+    Bool.{cases_lt, Decides.nat_tests},
     List.{places, length-append, length-take, length-drop, map-append, drop-map, take-map},
   },
 }
@@ -21,7 +21,7 @@ place_of_cases t k n within = elim (cases_lt (t + k) n) [
 
 -- a place lies in the region
 pub place_of-lt : (t k n : ℕ) → t + k < n + n → place_of t k n < n
-place_of-lt t k n within = elim (place_of_cases t k n within) [ inl below ↦ omega arith | inr past ↦ omega arith ]
+place_of-lt t k n within = grind (arith, place_of_cases t k n within)
 
 -- the index 0 has the start itself
 pub place_of-zero : (t n : ℕ) → t ≤ n - 1 → place_of t 0 n ≡ t
@@ -42,17 +42,11 @@ place_of-place_of t i x n = place_of-sum t i x n ∙ sym (add-mod-mod t (i + x) 
 
 -- two indexes have two places
 pub same_index : (t i j n : ℕ) → t ≤ n → i < n → j < n → place_of t i n ≡ place_of t j n → i ≡ j
-same_index t i j n a b c e = elim (place_of_cases t i n (omega arith)) [
-  | inl x ↦ elim (place_of_cases t j n (omega arith)) [ inl y ↦ omega arith | inr y ↦ omega arith ]
-  | inr x ↦ elim (place_of_cases t j n (omega arith)) [ inl y ↦ omega arith | inr y ↦ omega arith ]
-]
+same_index t i j n a b c e =
+    grind (arith, place_of_cases t i n (omega arith), place_of_cases t j n (omega arith))
 
 pub one_place : (t i j n : ℕ) → t ≤ n → i < n → j < n → (place_of t i n == place_of t j n) ≡ (i == j)
-one_place t i j n a b c = elim (cases_eq i j) [
-  | inl same ↦ eq-eqb (place_of t i n) (place_of t j n) (ap (λ k. place_of t k n) same) ∙ sym (eq-eqb i j same)
-  | inr other ↦ ne_eqb (place_of t i n) (place_of t j n) (λ e. other (same_index t i j n a b c e))
-      ∙ sym (ne_eqb i j other)
-]
+one_place t i j n a b c = grind (arith, nat_tests, same_index t i j n a b c)
 
 -- a run from the index i on may start at the place p: the place of i, or the region's end in its stead
 abbrev pub MayStartAt : ℕ → ℕ → ℕ → ℕ → Type 0
@@ -66,10 +60,7 @@ MayStartAt-place_of t i n within = elim (place_of_cases t i n within) [
 
 -- and its items stand side by side, as far as the end
 pub place_of-run : (t i j n p : ℕ) → MayStartAt t i n p → p + j < n → t ≤ n → i + j < n → place_of t (i + j) n ≡ p + j
-place_of-run t i j n p at a b c = elim (place_of_cases t (i + j) n (omega arith)) [
-  | inl w ↦ elim at [ inl e ↦ omega arith | inr e ↦ omega arith ]
-  | inr w ↦ elim at [ inl e ↦ omega arith | inr e ↦ omega arith ]
-]
+place_of-run t i j n p at a b c = grind (arith, at, place_of_cases t (i + j) n (omega arith))
 
 module _ {X : Type 0} where
   pub length-rotated : (t : ℕ) (xs : List X) → length (rotated t xs) ≡ length xs

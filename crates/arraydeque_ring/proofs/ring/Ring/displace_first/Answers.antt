@@ -1,41 +1,40 @@
-use Rattle.std.proofs.Common.{subst, ◌∙◌, arith}
+use Rattle.std.proofs.{Common.{subst, ◌∙◌, arith}, lemmas.List.append-nil}
 use Rattle.arraydeque_ring.proofs.{
   fills.{
-    Displaced.{displaced_first-none, displaced_first-both, displaced_first-full},
+    Displaced.displaced_first-both,
     FromIterator.{Fills-none, Fills-both, Ends-fills},
     Laying.{filled_first, laid_first},
   },
-  places.Opened.{Opened, opened, closed, kept},
+  places.Opened.{Opened, bounds, opened, closed, kept},
 }
 use Rattle.arraydeque_ring.proofs.ring.Ring.displace_first.Goals as goal
 
 pub loop-ended-init : goal.loop-ended-init
 loop-ended-init g c = record {
-  so_far = (
-    0,
-    Fills-none _ _ _ (subst (Opened c.self.inside) (displaced_first-none c.args.self.now)
-        (opened c.self.inside c.self.invariant c.self.view_is)),
-  );
+  full = omega (arith, bounds c.self.inside _ c.self.invariant c.self.view_is, c.requires.full);
+  so_far = (0, Fills-none _ _ _ (opened c.self.inside c.self.invariant (grind (arith, append-nil))));
   goes = λ _. (c.requires.may, c.requires.ends);
 }
 
 pub displace_up-slots-requires-clause-filled : goal.displace_up-slots-requires-clause-filled
 displace_up-slots-requires-clause-filled g c =
-    let was = c.loop-ended.invariant.so_far.1 in let all = c.capacity-capacity.ensures ∙ was.holds.laid.length_is in
-    rw c.moved_out.ensures.region (filled_first was.holds all (omega (arith, all, c.requires.some)) 0
-    (displaced_first-full was.items c.args.self.now c.requires.full))
+    let was = c.loop-ended.invariant in let ring = was.so_far.1.holds in
+    let all = c.capacity-capacity.ensures ∙ ring.laid.length_is in
+    rw c.moved_out.ensures.region
+    (filled_first ring all (omega (arith, all, c.requires.some)) (omega (arith, all, was.full)))
 
 pub loop-ended-preserved : goal.loop-ended-preserved
 loop-ended-preserved g c =
-    let was = c.loop-ended.invariant.so_far.1 in let all = c.capacity-capacity.ensures ∙ was.holds.laid.length_is in
+    let full = c.loop-ended.invariant.full in let was = c.loop-ended.invariant.so_far.1 in
+    let all = c.capacity-capacity.ensures ∙ was.holds.laid.length_is in
     let out = c.displace_up-slots in let now = out.ensures.filled in record {
+      full = full;
       so_far = (
         _,
         Fills-both _ was now _ c.loop-ended-test.true (subst (Opened _)
             (displaced_first-both was.items now.items c.args.self.now)
             (laid_first was.holds all (omega (arith, all, c.requires.some)) out.result.1 now.items now.holds.0
-            (displaced_first-full was.items c.args.self.now c.requires.full) (omega (arith, now.at_most, now.holds.0))
-            c.wrap_add-self-inside.ensures
+            (omega (arith, all, full)) (omega (arith, now.at_most, now.holds.0)) c.wrap_add-self-inside.ensures
             (rw (c.replace-nothing.ensures.after, ← c.moved_out.ensures.region) now.holds.1)
             (rw (c.replace-nothing.ensures.after, ← c.moved_out.ensures.region) out.ensures.steps))),
       );

@@ -4,6 +4,7 @@ use Rattle.arraydeque_ring.proofs.ring.Ring.displace_last.Given as goal
 
 abbrev pub invariant-loop-ended : goal.invariant-loop-ended
 invariant-loop-ended g l = record {
+  full : l.self-inside.len ≡ l.fn.self.capacity;
   so_far : (n : ℕ) × Fills g.I.Iterator.next_gives l.fn.elements l.elements n l.ended
       (λ xs. Opened l.self-inside (displaced_last xs l.fn.self));
   goes : l.ended ≡ false → g.I.Iterator.can_next l.elements × IsFinite (g.I.Iterator.remaining l.elements);

@@ -1,19 +1,19 @@
-use Rattle.std.proofs.{Common.{refl, subst, ◌∙◌, sym, true≢false, arith}, lemmas.List.length-append}
+use Rattle.std.proofs.{Common.{subst, ◌∙◌, sym, true≢false, arith}, lemmas.List.{append-nil, length-append}}
 use Rattle.arraydeque_ring.proofs.{
   fills.{
     FromIterator.{Fills-none, Fills-both, Fills-as},
-    InRows.{back_none, filled_back-both},
+    InRows.filled_back-both,
     Laying.{empty_behind, laid_back},
   },
-  places.Opened.{Opened, opened, closed, kept},
+  places.Opened.{Opened, bounds, opened, closed, kept},
 }
 use Rattle.arraydeque_ring.proofs.ring.Ring.fill_back.Goals as goal
 
 pub loop-ended-init : goal.loop-ended-init
-loop-ended-init g c = let ring = opened c.self.inside c.self.invariant c.self.view_is in record {
-  all = c.capacity-capacity.ensures ∙ ring.laid.length_is;
+loop-ended-init g c = let ring = bounds c.self.inside _ c.self.invariant c.self.view_is in record {
+  all = omega arith;
   kept = c.self.invariant;
-  so_far = (0, Fills-none _ _ _ (back_none ring));
+  so_far = (0, Fills-none _ _ _ (opened c.self.inside c.self.invariant (grind (arith, append-nil))));
   goes = λ _. (c.requires, λ f. f);
 }
 
@@ -25,9 +25,9 @@ fill_up-slots-requires-clause-empty g c = let was = c.loop-ended.invariant in le
 pub loop-ended-preserved : goal.loop-ended-preserved
 loop-ended-preserved g c =
     let was = c.loop-ended.invariant in let some = c.loop-ended-test.true in let fill = c.fill_up-slots in
-    let xs = was.so_far.1.items in let now = fill.ensures.filled in let from = c.wrap_add-from in
-    let after = laid_back was.so_far.1.holds was.all (omega arith) fill.result.1 from.result from.ensures
-    (omega (arith, c.min-run.ensures, now.holds.0, now.at_most))
+    let xs = was.so_far.1.items in let now = fill.ensures.filled in
+    let after = laid_back was.so_far.1.holds was.all (omega arith) fill.result.1 c.wrap_add-from.result
+    c.wrap_add-from.ensures (omega (arith, c.min-run.ensures, now.holds.0, now.at_most))
     (omega (arith, c.min-run.ensures, now.holds.0, now.at_most)) now.items now.holds.0
     {slots = c.replace-nothing.new.dest}
     (rw (c.replace-nothing.ensures.after, ← c.moved_out.ensures.region) now.holds.1)
@@ -44,9 +44,11 @@ loop-ended-preserved g c =
 
 pub returns-else-self-capacity-clause-filled : goal.returns-else-self-capacity-clause-filled
 returns-else-self-capacity-clause-filled g c =
-    let inv = c.loop-ended.invariant in let was = inv.so_far.1 in let within = was.holds.laid.within in
+    let all = c.loop-ended.invariant.all in let was = c.loop-ended.invariant.so_far.1 in
+    let within = was.holds.laid.within in
     Fills-as _ was _ _ (omega (arith, length-append c.args.self.now.items was.items))
-    (λ some. omega (arith, was.holds.len, length-append c.args.self.now.items was.items, (was.all some).1)) (λ xs. closed)
+    (λ some. omega (arith, was.holds.len, (was.all some).1, length-append c.args.self.now.items was.items))
+    (λ xs. closed)
 
 pub returns-after-loop-ended-clause-filled : goal.returns-after-loop-ended-clause-filled
 returns-after-loop-ended-clause-filled g c =

@@ -1,19 +1,22 @@
-use Rattle.std.proofs.{Common.{reverse, refl, subst, ◌∙◌, sym, true≢false, arith}, lemmas.List.{length-append, length-reverse}}
+use Rattle.std.proofs.{
+  Common.{reverse, subst, ◌∙◌, sym, true≢false, arith},
+  lemmas.List.{length-append, length-reverse},
+}
 use Rattle.arraydeque_ring.proofs.{
   fills.{
     FromIterator.{Fills-none, Fills-both, Fills-as},
-    InRows.{front_none, filled_front-both},
+    InRows.filled_front-both,
     Laying.{empty_before, laid_front},
   },
-  places.Opened.{Opened, opened, closed, kept},
+  places.Opened.{Opened, bounds, opened, closed, kept},
 }
 use Rattle.arraydeque_ring.proofs.ring.Ring.fill_front.Goals as goal
 
 pub loop-ended-init : goal.loop-ended-init
-loop-ended-init g c = let ring = opened c.self.inside c.self.invariant c.self.view_is in record {
-  all = c.capacity-capacity.ensures ∙ ring.laid.length_is;
+loop-ended-init g c = let ring = bounds c.self.inside _ c.self.invariant c.self.view_is in record {
+  all = omega arith;
   kept = c.self.invariant;
-  so_far = (0, Fills-none _ _ _ (front_none ring));
+  so_far = (0, Fills-none _ _ _ (opened c.self.inside c.self.invariant (grind arith)));
   goes = λ _. (c.requires, λ f. f);
 }
 
@@ -25,10 +28,10 @@ fill_down-slots-requires-clause-empty g c = let was = c.loop-ended.invariant in 
 pub loop-ended-preserved : goal.loop-ended-preserved
 loop-ended-preserved g c =
     let was = c.loop-ended.invariant in let some = c.loop-ended-test.true in let fill = c.fill_down-slots in
-    let xs = was.so_far.1.items in let now = fill.ensures.filled in let from = c.wrap_add-from in
-    let after = laid_front was.so_far.1.holds was.all (omega arith) fill.result.1 from.result from.ensures
-    (omega (arith, c.min-run.ensures, now.holds.0, now.at_most)) now.items now.holds.0 c.wrap_add-self-inside.ensures
-    {slots = c.replace-nothing.new.dest}
+    let xs = was.so_far.1.items in let now = fill.ensures.filled in
+    let after = laid_front was.so_far.1.holds was.all (omega arith) fill.result.1 c.wrap_add-from.result
+    c.wrap_add-from.ensures (omega (arith, c.min-run.ensures, now.holds.0, now.at_most)) now.items now.holds.0
+    c.wrap_add-self-inside.ensures c.replace-nothing.new.dest
     (rw (c.replace-nothing.ensures.after, ← c.moved_out.ensures.region) now.holds.1)
     (omega (arith, c.min-run.ensures, now.holds.0, now.at_most))
     (rw (c.replace-nothing.ensures.after, ← c.moved_out.ensures.region) fill.ensures.steps) in
@@ -44,12 +47,17 @@ loop-ended-preserved g c =
 
 pub returns-else-self-capacity-clause-filled : goal.returns-else-self-capacity-clause-filled
 returns-else-self-capacity-clause-filled g c =
-    let inv = c.loop-ended.invariant in let was = inv.so_far.1 in let within = was.holds.laid.within in
-    Fills-as _ was _ _ (omega (arith, length-append (reverse was.items) c.args.self.now.items, length-reverse was.items))
-    (λ some. omega (arith, was.holds.len, length-append (reverse was.items) c.args.self.now.items, length-reverse was.items, (was.all some).1)) (λ xs. closed)
+    let all = c.loop-ended.invariant.all in let was = c.loop-ended.invariant.so_far.1 in
+    let within = was.holds.laid.within in
+    Fills-as _ was _ _
+    (omega (arith, length-append (reverse was.items) c.args.self.now.items, length-reverse was.items))
+    (λ some. omega (arith, was.holds.len, (was.all some).1,
+    length-append (reverse was.items) c.args.self.now.items, length-reverse was.items))
+    (λ xs. closed)
 
 pub returns-after-loop-ended-clause-filled : goal.returns-after-loop-ended-clause-filled
 returns-after-loop-ended-clause-filled g c =
-    let was = c.loop-ended.invariant.so_far.1 in
-    Fills-as _ was _ _ (omega (arith, was.holds.laid.within, length-append (reverse was.items) c.args.self.now.items, length-reverse was.items))
+    let was = c.loop-ended.invariant.so_far.1 in let within = was.holds.laid.within in
+    Fills-as _ was _ _
+    (omega (arith, length-append (reverse was.items) c.args.self.now.items, length-reverse was.items))
     (λ some. absurd (true≢false (sym c.loop-ended-test.false ∙ some))) (λ xs. closed)
