@@ -35,15 +35,13 @@ module _ (i n c t : ℕ) (t_in : t < c) (i_in : i ≤ n) (room : n < c) where
       → changed_insert i n c t u ≡ (if not (t == u) then i else 0) + (if not (t == place_of u 1 c) then n - i else 0)
   inserted u u_in =
       let next = place_of-lt u 1 c (omega arith) in
-      let at : (k : ℕ) → place_of (place_of u 1 c) k c ≡ place_of u (k + 1) c =
-      λ k. place_of-sum u 1 k c ∙ ap (λ x. place_of u x c) (omega arith) in
       count_sides _ (not (t == u)) (not (t == place_of u 1 c)) i i n (omega arith)
       (λ k lt. grind (
         arith,
         nat_tests,
         one_start c t u k t_in u_in (omega arith),
         one_start c t (place_of u 1 c) k t_in next (omega arith),
-        at k,
+        place_of-sum u 1 k c,
       )) ∙ grind (arith, nat_tests)
 
   pub fewest_insert : IsFewest (moves_to_insert i n) c (changed_insert i n c t) (start_opened i (n - i) c t)
@@ -51,16 +49,15 @@ module _ (i n c t : ℕ) (t_in : t < c) (i_in : i ≤ n) (room : n < c) where
     least = λ u lt. grind (arith, nat_tests, inserted u lt, place_of_cases u 1 c (omega arith));
     met =
         let back = place_of-lt t (c - 1) c (omega arith) in
-        elim (cases_lt i (n - i)) [
-          | inl fewer ↦ grind (
-            arith,
-            nat_tests,
-            inserted (place_of t (c - 1) c) back,
-            place_of_cases t (c - 1) c (omega arith),
-            place_of_cases (place_of t (c - 1) c) 1 c (omega arith),
-          )
-          | inr more ↦ grind (arith, nat_tests, inserted t t_in, place_of_cases t 1 c (omega arith))
-        ];
+        grind (
+          arith,
+          nat_tests,
+          inserted t t_in,
+          inserted (place_of t (c - 1) c) back,
+          place_of_cases t 1 c (omega arith),
+          place_of_cases t (c - 1) c (omega arith),
+          place_of_cases (place_of t (c - 1) c) 1 c (omega arith),
+        );
   }
 
 module _ (s e n c t : ℕ) (t_in : t < c) (in_order : s ≤ e) (e_in : e ≤ n) (within : n ≤ c) where
@@ -70,15 +67,13 @@ module _ (s e n c t : ℕ) (t_in : t < c) (in_order : s ≤ e) (e_in : e ≤ n) 
   drained u u_in =
       let gap = e - s in
       let next = place_of-lt t gap c (omega arith) in
-      let at : (k : ℕ) → e ≤ k → place_of (place_of t gap c) (k - gap) c ≡ place_of t k c =
-      λ k le. place_of-sum t gap (k - gap) c ∙ ap (λ x. place_of t x c) (omega arith) in
       count_sides _ (not (t == u)) (not (place_of t gap c == u)) s e n in_order
       (λ k lt. grind (
         arith,
         nat_tests,
         one_start c t u k t_in u_in (omega arith),
         one_start c (place_of t gap c) u (k - gap) next u_in (omega arith),
-        at k,
+        place_of-sum t gap (k - gap) c,
       )) ∙ grind (arith, nat_tests)
 
   started : IsFewest (moves_to_drain s e n) c (changed_drain s e n c t) (start_closed s (e - s) (n - e) c t)
@@ -86,11 +81,13 @@ module _ (s e n c t : ℕ) (t_in : t < c) (in_order : s ≤ e) (e_in : e ≤ n) 
     least = λ u lt. grind (arith, nat_tests, drained u lt, place_of_cases t (e - s) c (omega arith));
     met =
         let next = place_of-lt t (e - s) c (omega arith) in
-        elim (cases_lt s (n - e)) [
-          | inl fewer ↦
-              grind (arith, nat_tests, drained (place_of t (e - s) c) next, place_of_cases t (e - s) c (omega arith))
-          | inr more ↦ grind (arith, nat_tests, drained t t_in, place_of_cases t (e - s) c (omega arith))
-        ];
+        grind (
+          arith,
+          nat_tests,
+          drained t t_in,
+          drained (place_of t (e - s) c) next,
+          place_of_cases t (e - s) c (omega arith),
+        );
   }
 
 pub fewest_drain : (s e n c t : ℕ) → t ≤ c - 1 → s ≤ e → e ≤ n → n ≤ c

@@ -2,7 +2,7 @@ use Rattle.std.proofs.{Common.{rules}, lemmas.Grind.{common_steps}}
 use Rattle.arraydeque_ring.{specs.Ring.{filled}, proofs.places.Opened.{ring_facts}}
 use Rattle.std.{
   proofs.{
-    Common.{◌≡◌, ◌+◌, ◌-◌, length, take, drop, inl, inr, refl, sym, subst, arith},
+    Common.{◌≡◌, ◌+◌, ◌-◌, length, take, drop, inl, inr, refl, sym, subst, ap, ◌∙◌, arith},
     lemmas.{Bool.{cases_lt, cond_above, lt-ltb}, List.{length-append, length-take-le, length-drop}},
   },
   specs.List.remove_range,
@@ -10,11 +10,11 @@ use Rattle.std.{
 use Rattle.arraydeque_ring.{
   specs.Changed.IsFewest,
   proofs.{
-    gaps.{Fewest.fewest_drain, GapMoves.{may_close, LaidOut-closed}, Gapped.{Gapped, Gapped-taken}},
+    gaps.Fewest.fewest_drain,
     places.{
       Handed.all_empty,
       LaidOut.{length_within, IsFilledRun-rotated},
-      Opened.{opened, bounds, Shows, shows},
+      Opened.{opened, bounds, Closing, run_out, Shows},
       Rotated.{place_of-zero},
     },
     ring.Ring.drain.{Given.Over, Goals.{After-take_run, After-close_gap-self-inside}},
@@ -44,34 +44,19 @@ take_run-requires-clause-filled g c =
     let ring = opened c.self.inside c.self.invariant c.self.view_is in
     IsFilledRun-rotated ring.laid _ _ (omega arith)
 
-gap : (g : Over) (c : After-take_run g) → let old = c.args.self.now in
-    Gapped old.capacity c.self.inside.start (take c.args.from old.items) (c.args.to - c.args.from)
-    (drop c.args.to old.items) c.take_run.new.slots.places
-gap g c =
-    let ring = opened c.self.inside c.self.invariant c.self.view_is in
-    let up_to : c.args.from + (c.args.to - c.args.from) ≡ c.args.to = omega arith in
-    rw up_to at (Gapped-taken ring.laid c.args.from (c.args.to - c.args.from) _ (omega arith) c.take_run.ensures.places)
+out : (g : Over) (c : After-take_run g) → let old = c.args.self.now in Closing c.self.inside.start old.capacity
+    c.args.from (c.args.to - c.args.from) c.args.to c.self.inside.len old.items c.take_run.new.slots.places
+out g c = run_out (opened c.self.inside c.self.invariant c.self.view_is) _ _ _ (omega arith) c.requires.in_bounds
+    c.take_run.ensures.places
 
 pub close_gap-self-inside-requires : goal.close_gap-self-inside-requires
-close_gap-self-inside-requires g c =
-    let ring = opened c.self.inside c.self.invariant c.self.view_is in
-    may_close (gap g (goal.at.close_gap-self-inside-requires g c).After-take_run) _ _
-    (omega arith) (length-take-le c.args.from c.args.self.now.items (omega arith))
-    (omega (arith, length-drop c.args.to c.args.self.now.items))
+close_gap-self-inside-requires g c = (out g (goal.at.close_gap-self-inside-requires g c).After-take_run).may
 
 after : (g : Over) (c : After-close_gap-self-inside g) → let old = c.args.self.now in
     Shows old.capacity c.close_gap-self-inside.result (c.self.inside.len - (c.args.to - c.args.from))
     (remove_range old.items c.args.from c.args.to) c.close_gap-self-inside.new.slots.places
-after g c =
-    let items = c.args.self.now.items in
-    let ring = opened c.self.inside c.self.invariant c.self.view_is in
-    let gap = gap g c.before.before.before in
-    let moved = c.close_gap-self-inside.ensures in
-    let front = length-take-le c.args.from items (omega arith) in
-    let behind = length-drop c.args.to items in
-    shows (LaidOut-closed gap _ _ c.close_gap-self-inside.result _ (omega arith) front (omega (arith, behind))
-    moved.start moved.places) _
-    (omega (arith, length-append (take c.args.from items) (drop c.args.to items), front, behind))
+after g c = let moved = c.close_gap-self-inside.ensures in
+    (out g c.before.before.before).closed _ _ moved.start moved.places
 
 pub invariant_of-self : goal.invariant_of-self
 invariant_of-self g c =
@@ -86,10 +71,10 @@ returns-clause-capacity g c = (after g (goal.at.returns-clause-capacity g c).Aft
 pub returns-clause-start : goal.returns-clause-start
 returns-clause-start g c =
     let ring = opened c.self.inside c.self.invariant c.self.view_is in
-    let gap = gap g (goal.at.returns-clause-start g c).After-take_run in
     let count = c.args.to - c.args.from in
     let behind : length c.args.self.now.items - c.args.to ≡ c.self.inside.len - count - c.args.from = omega arith in
-    rw (behind, ← ring.start) (rw gap.reads.length_is at c.close_gap-self-inside.ensures.start)
+    rw (behind, ← ring.start)
+    (rw (out g (goal.at.returns-clause-start g c).After-take_run).long at c.close_gap-self-inside.ensures.start)
 
 pub returns-clause-steps : goal.returns-clause-steps
 returns-clause-steps g c = grind (arith, bounds)
