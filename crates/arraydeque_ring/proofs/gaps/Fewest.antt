@@ -1,9 +1,9 @@
 -- No placement of a list after an edit gives fewer items another place than the lesser side has,
 -- and the one that the ring leaves just so many.
 use Rattle.std.proofs.{
-  Common.{◌≡◌, ℕ, zero, suc, ◌+◌, ◌-◌, ◌%◌, ◌<◌, ◌≤◌, inl, inr, min, Bool, false, not, nat_lt, ◌==◌, if◌then◌else◌, ap},
+  Common.{◌≡◌, ℕ, zero, suc, ◌+◌, ◌-◌, ◌%◌, ◌<◌, ◌≤◌, min, Bool, false, not, nat_lt, ◌==◌, if◌then◌else◌},
   Common.{ap₂, ◌∙◌, arith},
-  lemmas.Bool.{cases_lt, Decides.nat_tests},
+  lemmas.Bool.Decides.nat_tests,
 }
 use Rattle.arraydeque_ring.{
   specs.{

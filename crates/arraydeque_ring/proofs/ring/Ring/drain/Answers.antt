@@ -1,10 +1,5 @@
-use Rattle.std.proofs.{Common.{rules}, lemmas.Grind.{common_steps}}
-use Rattle.arraydeque_ring.{specs.Ring.{filled}, proofs.places.Opened.{ring_facts}}
 use Rattle.std.{
-  proofs.{
-    Common.{◌≡◌, ◌+◌, ◌-◌, length, take, drop, inl, inr, refl, sym, subst, ap, ◌∙◌, arith},
-    lemmas.{Bool.{cases_lt, cond_above, lt-ltb}, List.{length-append, length-take-le, length-drop}},
-  },
+  proofs.{Common.{◌≡◌, ◌-◌, length, sym, subst, arith}, lemmas.{Bool.Decides.nat_tests, Grind.common_steps}},
   specs.List.remove_range,
 }
 use Rattle.arraydeque_ring.{
@@ -24,17 +19,11 @@ use Rattle.arraydeque_ring.proofs.ring.Ring.drain.Goals as goal
 
 pub returns-then-count-eq0-clause-start : goal.returns-then-count-eq0-clause-start
 returns-then-count-eq0-clause-start g c =
-    let old = c.args.self.now in
-    let behind = length old.items - c.args.to in
     let ring = opened c.self.inside c.self.invariant c.self.view_is in
-    elim (cases_lt c.args.from behind) [
-      | inl lt ↦ let none : c.args.to - c.args.from ≡ 0 = omega arith in rw (
-        lt-ltb c.args.from behind lt,
-        none,
-        place_of-zero old.start old.capacity (omega (arith, ring.laid.in_region, ring.start)),
-      )
-      | inr le ↦ cond_above c.args.from behind _ _ _ le refl
-    ]
+    let old = c.args.self.now in
+    let none : c.args.to - c.args.from ≡ 0 = omega arith in
+    rw (none, place_of-zero old.start old.capacity (omega (arith, ring.laid.in_region, ring.start)))
+    (grind (arith, nat_tests))
 
 pub take_run-requires-clause-empty : goal.take_run-requires-clause-empty
 take_run-requires-clause-empty g c = rw c.in_ok-slots.ensures.ok (all_empty (c.args.to - c.args.from) _ (omega arith))
@@ -94,6 +83,4 @@ returns-then-count-eq0-clause-fewest g c =
     (arith, ring.laid.in_region, ring.start)) c.requires.in_order c.requires.in_bounds (length_within ring.laid))
 
 pub returns-then-count-eq0-clause-items : goal.returns-then-count-eq0-clause-items
-unfolding filled
-returns-then-count-eq0-clause-items g c =
-    first_of (search rules, grind (arith, common_steps), grind (arith, ring_facts))
+returns-then-count-eq0-clause-items g c = grind (arith, common_steps, bounds)
