@@ -1,7 +1,7 @@
 -- A run of values that moves across a run of empty places, read from the start on.
 use Rattle.std.{
   proofs.{
-    Common.{◌≡◌, ◌≢◌, ◌==◌, ℕ, zero, suc, ◌+◌, ◌-◌, ◌<◌, ◌≤◌, ◌⊎◌, inl, inr, List, length, nat_lt, if◌then◌else◌},
+    Common.{◌≡◌, ◌≢◌, ◌==◌, ℕ, ◌+◌, ◌-◌, ◌<◌, ◌≤◌, ◌⊎◌, inl, inr, List, length, nat_lt, if◌then◌else◌},
     Common.{Option, None, max, refl, sym, ap, ◌∙◌, arith},
     lemmas.{Bool.{cases_lt, Decides.nat_tests}, Grind.common_steps, List.places},
   },
@@ -62,9 +62,7 @@ apart_by t i j len n t_in a b = grind (arith, nat_tests, distance-rotated t j i 
 
 count_by : (t i j len n : ℕ) → t < n → i + len ≤ n → j + len ≤ n → i ≢ j
     → (if place_of t i n == place_of t j n then 0 else len) ≡ len
-count_by t i j zero n t_in a b other = grind (arith, nat_tests)
-count_by t i j (suc len) n t_in a b other =
-    rw (one_place t i j n (omega arith) (omega arith) (omega arith)) (grind (arith, nat_tests))
+count_by t i j len n t_in a b other = grind (arith, nat_tests, one_place t i j n (omega arith))
 
 -- a gap goes from one index to another where the len values between them, from the index j on, go the other way, to i
 abbrev pub Passes : ℕ → ℕ → ℕ → ℕ → ℕ → ℕ → Type 0
