@@ -23,7 +23,7 @@ returns-clause-places g c =
     let ps = c.moved_out-slots.result.places in
     rw (c.count.ensures, ← c.moved_out-slots.ensures.region) (elim c.if-len-capacity.branch [
       | then-len-capacity w ↦
-          rw (w.slots-is, w.move_first.ensures.all refl, whole_run c.args.dst (c.args.dst + 1) c.args.len ps)
+          rw (w.slots-is, w.move_first.ensures.all refl, whole_run)
           (same_move _ _ _ _ _ _
           (grind (arith, w.if-len-capacity.true, mod-eq_of_lt {n = c.args.dst + 1} {m = length ps})))
       | else-len-capacity w ↦ rw (w.slots-is, w.slide_down_round-slots.ensures) refl

@@ -32,7 +32,7 @@ move_first-requires-clause-can g c =
 pub move_last-requires-clause-can : goal.move_last-requires-clause-can
 move_last-requires-clause-can g c = rw (
   c.move_first.ensures.all refl,
-  whole_run c.args.dst (c.args.dst + 1) (c.capacity-last.result - 1 - c.args.dst),
+  whole_run,
 ) (down g (goal.at.move_last-requires-clause-can g c).After-capacity-last).two
 
 pub move_first-requires-2-clause-can : goal.move_first-requires-2-clause-can
