@@ -1,7 +1,7 @@
 -- A run of values that moves across a run of empty places, read from the start on.
 use Rattle.std.{
   proofs.{
-    Common.{◌≡◌, ◌≢◌, ◌==◌, ℕ, zero, suc, ◌+◌, ◌-◌, ◌<◌, ◌≤◌, ◌⊎◌, inl, inr, List, length, nat_lt, if◌then◌else◌},
+    Common.{◌≡◌, ◌≢◌, ◌==◌, ℕ, ◌+◌, ◌-◌, ◌<◌, ◌≤◌, ◌⊎◌, inl, inr, List, length, nat_lt, if◌then◌else◌},
     Common.{Option, None, max, refl, sym, ap, ◌∙◌, arith},
     lemmas.{Bool.{cases_lt, Decides.nat_tests}, Grind.common_steps, List.places},
   },
@@ -17,8 +17,8 @@ use Rattle.arraydeque_ring.{
     moved.{Flat.{distance_is, look, same_places}, Round.{Holds-moved, distance-rotated}},
     places.{
       Held.{filled_in_run, empty_in_run},
-      Holds.{Holds, Holds-filled, Holds-rotated},
-      Rotated.{place_of-lt, place_of-sum, one_place, length-rotated, get_or-rotated},
+      Holds.{Holds, Holds-filled, Holds-of_rotated, Holds-rotated},
+      Rotated.{place_of-lt, place_of-sum, one_place, length-rotated},
     },
   },
 }
@@ -62,9 +62,7 @@ apart_by t i j len n t_in a b = grind (arith, nat_tests, distance-rotated t j i 
 
 count_by : (t i j len n : ℕ) → t < n → i + len ≤ n → j + len ≤ n → i ≢ j
     → (if place_of t i n == place_of t j n then 0 else len) ≡ len
-count_by t i j zero n t_in a b other = grind (arith, nat_tests)
-count_by t i j (suc len) n t_in a b other =
-    rw (one_place t i j n (omega arith) (omega arith) (omega arith)) (grind (arith, nat_tests))
+count_by t i j len n t_in a b other = grind (arith, nat_tests, one_place t i j n (omega arith))
 
 -- a gap goes from one index to another where the len values between them, from the index j on, go the other way, to i
 abbrev pub Passes : ℕ → ℕ → ℕ → ℕ → ℕ → ℕ → Type 0
@@ -80,13 +78,12 @@ goes_to t from to gap i j len x n t_in x_in ways within a b =
 passed : {X : Type 0} (from to gap i j len x : ℕ) (qs : List (Option X)) → from + gap ≤ length qs
     → to + gap ≤ length qs → (from ≤ x → x < from + gap → held_at qs x ≡ None) → Passes from to gap i j len
     → look (held_at qs) i j len x ≡ held_at (gap_moved from to gap qs) x
-passed from to gap i j len x qs from_in to_in none (inl up) = elim (cases_lt x i) [
+passed from to gap i j len x qs from_in to_in none ways = elim (cases_lt x i) [
   | inl low ↦ grind (arith, nat_tests, none)
-  | inr high ↦ let back : j + (x - i) ≡ x - gap = omega arith in grind (arith, nat_tests, none, back)
-] ∙ sym (get_or-gap_moved from to gap qs from_in to_in x)
-passed from to gap i j len x qs from_in to_in none (inr down) = elim (cases_lt x i) [
-  | inl low ↦ grind (arith, nat_tests, none)
-  | inr high ↦ let on : j + (x - i) ≡ x + gap = omega arith in grind (arith, nat_tests, none, on)
+  | inr high ↦ elim ways [
+    | inl up ↦ let back : j + (x - i) ≡ x - gap = omega arith in grind (arith, nat_tests, none, back)
+    | inr down ↦ let on : j + (x - i) ≡ x + gap = omega arith in grind (arith, nat_tests, none, on)
+  ]
 ] ∙ sym (get_or-gap_moved from to gap qs from_in to_in x)
 
 pub crosses : {X : Type 0} (t from to gap i j len d s m : ℕ) (ps : List (Option X)) → t < length ps → 0 < gap
@@ -98,11 +95,7 @@ crosses t from to gap i j len d s m ps t_in some within empty ways long at_d at_
     let qs = rotated t ps in
     let wide : length qs ≡ n = length-rotated t ps in
     let none : (x : ℕ) → from ≤ x → x < from + gap → held_at qs x ≡ None = λ x a b. empty_at qs from gap x empty a b in
-    let reads : Holds n t (held_at qs) ps = record {
-      length_is = refl;
-      in_region = omega arith;
-      at = λ k lt. sym (get_or-rotated t k n ps None refl (omega arith) lt);
-    } in
+    let reads : Holds n t (held_at qs) ps = Holds-of_rotated refl (omega arith) (λ k lt. refl) in
     let moved = Holds-moved reads i j len t_in (omega arith) (omega arith) in
     rw (at_d, at_s, long) (record {
       may = record {

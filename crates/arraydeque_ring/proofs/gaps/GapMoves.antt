@@ -56,6 +56,18 @@ may_move t from to gap ps {ts = ts} is some t_in within none before behind =
       filled_behind = filled_run_of ts (from + gap) (to - from) (omega arith) (λ x a b. behind x a (omega arith));
     })
 
+-- what `close_gap` asks: a gap between two runs, and nothing behind these
+abbrev pub MayClose : {X : Type 0} → ℕ → ℕ → ℕ → ℕ → List (Option X) → Type 0
+MayClose t i gap m ps = record {
+  some : 0 < gap;
+  in_region : t < length ps;
+  within : i + gap + m ≤ length ps;
+  filled_before : IsFilledRun (rotated t ps) 0 i;
+  empty : IsEmptyRun (rotated t ps) i gap;
+  filled_behind : IsFilledRun (rotated t ps) (i + gap) m;
+  others_empty : IsEmptyRun (rotated t ps) (i + gap + m) (length ps - (i + gap + m));
+}
+
 -- what the places of a run hold
 held_in_run : {X : Type 0} (ps : List (Option X)) (from len k : ℕ) (run : IsFilledRun ps from len) → k < len
     → held_at ps (from + k) ≡ slice_get run.1.0 k
@@ -136,19 +148,8 @@ module _ {X : Type 0} {n t : ℕ} {xs : List X} {gap : ℕ} {ys : List X} {ps : 
       (omega (arith, length-append xs ys)) (omega arith) (append-nil after) in
       rotated-LaidOut (LaidOut-gap_first gap first) ∙ sym (rotated-LaidOut (LaidOut-gap_last last)) ∙ append-nil after
 
-  -- what `close_gap` asks
-  abbrev pub Closes : ℕ → ℕ → Type 0
-  Closes i m = record {
-    some : 0 < gap;
-    in_region : t < length ps;
-    within : i + gap + m ≤ length ps;
-    filled_before : IsFilledRun (rotated t ps) 0 i;
-    empty : IsEmptyRun (rotated t ps) i gap;
-    filled_behind : IsFilledRun (rotated t ps) (i + gap) m;
-    others_empty : IsEmptyRun (rotated t ps) (i + gap + m) (length ps - (i + gap + m));
-  }
-
-  pub may_close : (i m : ℕ) → 0 < gap → length xs ≡ i → length ys ≡ m → Closes i m
+  -- it may be closed
+  pub may_close : (i m : ℕ) → 0 < gap → length xs ≡ i → length ys ≡ m → MayClose t i gap m ps
   may_close i m some front back =
       let within = p.within in
       let long = p.reads.length_is in

@@ -15,12 +15,16 @@ use Rattle.arraydeque_ring.{
   specs.{
     declared.ring.Ring.TheInside.Inside,
     Places.{held_at, HoldsRun, IsFilled, IsFilledRun, AreAllEmpty},
-    Gaps.{IsEmptyRun, run_emptied},
+    Gaps.{IsEmptyRun, run_emptied, gap_moved},
     Loans.with_run,
     Ring.{RingState, place_of, rotated, values, filled, FilledFrom},
+    Sides.start_closed,
   },
   proofs.{
-    gaps.Gapped.{Gapped-taken, LaidOut-gap_first, LaidOut-gap_last},
+    gaps.{
+      Gapped.{Gapped, Gapped-taken, Gapped-taken_one, LaidOut-gap_first, LaidOut-gap_last},
+      GapMoves.{MayClose, may_close, LaidOut-closed},
+    },
     loans.Placed.length-as_many,
     places.{
       Appended.{LaidOut-appended, LaidOut-written, LaidOut-new, IsEmptyRun-behind},
@@ -101,6 +105,40 @@ nothing_laid n = (refl, shows (LaidOut-nothing n) 0 refl)
 pub new_laid : {X : Type 0} (xs : List X) (n : ℕ) → length xs ≤ n
     → Shows n 0 (length xs) xs (with_run 0 xs (replicate n None))
 new_laid xs n within = shows (LaidOut-new xs n within) _ refl
+
+-- the gap that m items from the index a up to b left in the places qs: it may be closed, and what is shown then
+pub record Closing {X : Type 0} (t n a m b len : ℕ) (items : List X) (qs : List (Option X)) : Type 0 where
+  pub long : length qs ≡ n
+  pub may : MayClose t a m (len - m - a) qs
+  pub closed : (s : ℕ) (ps : List (Option X)) → s ≡ start_closed a m (len - m - a) (length qs) t
+      → rotated s ps ≡ gap_moved a (a + (len - m - a)) m (rotated t qs)
+      → Shows n s (len - m) (take a items ++ drop b items) ps
+
+module _ {X : Type 0} {r : Inside X} {v : RingState X} (o : Opened r v) where
+  gap_left : (a m b : ℕ) (qs : List (Option X)) → a + m ≡ b → 0 < m → b ≤ length v.items
+      → Gapped v.capacity r.start (take a v.items) m (drop b v.items) qs
+      → Closing r.start v.capacity a m b r.len v.items qs
+  gap_left a m b qs all some le p =
+      let len = o.len in
+      let front = length-take-le a v.items (omega arith) in
+      let back = length-drop b v.items in
+      record {
+        long = p.reads.length_is;
+        may = may_close p _ _ some front (omega arith);
+        closed = λ s ps here is. shows (LaidOut-closed p _ _ s ps some front (omega arith) here is) _
+            (omega (arith, length-append (take a v.items) (drop b v.items)));
+      }
+
+  pub run_out : (a b : ℕ) (qs : List (Option X)) → a < b → b ≤ length v.items
+      → rotated r.start qs ≡ run_emptied a (b - a) (rotated r.start r.slots.places)
+      → Closing r.start v.capacity a (b - a) b r.len v.items qs
+  run_out a b qs some le out = let on : a + (b - a) ≡ b = omega arith in
+      gap_left a (b - a) b qs on (omega arith) le (rw on at (Gapped-taken o.laid a (b - a) qs (omega arith) out))
+
+  pub one_out : (k : ℕ) (qs : List (Option X)) → k < length v.items
+      → qs ≡ set r.slots.places (place_of r.start k v.capacity) None
+      → Closing r.start v.capacity k 1 (suc k) r.len v.items qs
+  one_out k qs lt out = gap_left k 1 (suc k) qs (omega arith) (omega arith) lt (rw out (Gapped-taken_one o.laid k lt))
 
 -- what is known of the fields alone, for goals that have no answer by hand
 module _ {X : Type 0} (r : Inside X) (kept : Kept r) where

@@ -1,20 +1,15 @@
-use Rattle.std.proofs.{Common.{rules}, lemmas.Grind.{common_steps}}
-use Rattle.arraydeque_ring.{specs.Ring.{filled}, proofs.places.Opened.{ring_facts}}
 use Rattle.std.{
-  proofs.{
-    Common.{◌≡◌, ◌+◌, ◌-◌, length, take, drop, inl, inr, refl, sym, subst, arith},
-    lemmas.{Bool.{cases_lt, cond_above, lt-ltb}, List.{length-append, length-take-le, length-drop}},
-  },
+  proofs.{Common.{◌≡◌, ◌-◌, length, sym, subst, arith}, lemmas.{Bool.Decides.nat_tests, Grind.common_steps}},
   specs.List.remove_range,
 }
 use Rattle.arraydeque_ring.{
   specs.Changed.IsFewest,
   proofs.{
-    gaps.{Fewest.fewest_drain, GapMoves.{may_close, LaidOut-closed}, Gapped.{Gapped, Gapped-taken}},
+    gaps.Fewest.fewest_drain,
     places.{
       Handed.all_empty,
       LaidOut.{length_within, IsFilledRun-rotated},
-      Opened.{opened, bounds, Shows, shows},
+      Opened.{opened, bounds, Closing, run_out, Shows},
       Rotated.{place_of-zero},
     },
     ring.Ring.drain.{Given.Over, Goals.{After-take_run, After-close_gap-self-inside}},
@@ -24,17 +19,11 @@ use Rattle.arraydeque_ring.proofs.ring.Ring.drain.Goals as goal
 
 pub returns-then-count-eq0-clause-start : goal.returns-then-count-eq0-clause-start
 returns-then-count-eq0-clause-start g c =
-    let old = c.args.self.now in
-    let behind = length old.items - c.args.to in
     let ring = opened c.self.inside c.self.invariant c.self.view_is in
-    elim (cases_lt c.args.from behind) [
-      | inl lt ↦ let none : c.args.to - c.args.from ≡ 0 = omega arith in rw (
-        lt-ltb c.args.from behind lt,
-        none,
-        place_of-zero old.start old.capacity (omega (arith, ring.laid.in_region, ring.start)),
-      )
-      | inr le ↦ cond_above c.args.from behind _ _ _ le refl
-    ]
+    let old = c.args.self.now in
+    let none : c.args.to - c.args.from ≡ 0 = omega arith in
+    rw (none, place_of-zero old.start old.capacity (omega (arith, ring.laid.in_region, ring.start)))
+    (grind (arith, nat_tests))
 
 pub take_run-requires-clause-empty : goal.take_run-requires-clause-empty
 take_run-requires-clause-empty g c = rw c.in_ok-slots.ensures.ok (all_empty (c.args.to - c.args.from) _ (omega arith))
@@ -44,34 +33,19 @@ take_run-requires-clause-filled g c =
     let ring = opened c.self.inside c.self.invariant c.self.view_is in
     IsFilledRun-rotated ring.laid _ _ (omega arith)
 
-gap : (g : Over) (c : After-take_run g) → let old = c.args.self.now in
-    Gapped old.capacity c.self.inside.start (take c.args.from old.items) (c.args.to - c.args.from)
-    (drop c.args.to old.items) c.take_run.new.slots.places
-gap g c =
-    let ring = opened c.self.inside c.self.invariant c.self.view_is in
-    let up_to : c.args.from + (c.args.to - c.args.from) ≡ c.args.to = omega arith in
-    rw up_to at (Gapped-taken ring.laid c.args.from (c.args.to - c.args.from) _ (omega arith) c.take_run.ensures.places)
+out : (g : Over) (c : After-take_run g) → let old = c.args.self.now in Closing c.self.inside.start old.capacity
+    c.args.from (c.args.to - c.args.from) c.args.to c.self.inside.len old.items c.take_run.new.slots.places
+out g c = run_out (opened c.self.inside c.self.invariant c.self.view_is) _ _ _ (omega arith) c.requires.in_bounds
+    c.take_run.ensures.places
 
 pub close_gap-self-inside-requires : goal.close_gap-self-inside-requires
-close_gap-self-inside-requires g c =
-    let ring = opened c.self.inside c.self.invariant c.self.view_is in
-    may_close (gap g (goal.at.close_gap-self-inside-requires g c).After-take_run) _ _
-    (omega arith) (length-take-le c.args.from c.args.self.now.items (omega arith))
-    (omega (arith, length-drop c.args.to c.args.self.now.items))
+close_gap-self-inside-requires g c = (out g (goal.at.close_gap-self-inside-requires g c).After-take_run).may
 
 after : (g : Over) (c : After-close_gap-self-inside g) → let old = c.args.self.now in
     Shows old.capacity c.close_gap-self-inside.result (c.self.inside.len - (c.args.to - c.args.from))
     (remove_range old.items c.args.from c.args.to) c.close_gap-self-inside.new.slots.places
-after g c =
-    let items = c.args.self.now.items in
-    let ring = opened c.self.inside c.self.invariant c.self.view_is in
-    let gap = gap g c.before.before.before in
-    let moved = c.close_gap-self-inside.ensures in
-    let front = length-take-le c.args.from items (omega arith) in
-    let behind = length-drop c.args.to items in
-    shows (LaidOut-closed gap _ _ c.close_gap-self-inside.result _ (omega arith) front (omega (arith, behind))
-    moved.start moved.places) _
-    (omega (arith, length-append (take c.args.from items) (drop c.args.to items), front, behind))
+after g c = let moved = c.close_gap-self-inside.ensures in
+    (out g c.before.before.before).closed _ _ moved.start moved.places
 
 pub invariant_of-self : goal.invariant_of-self
 invariant_of-self g c =
@@ -86,10 +60,10 @@ returns-clause-capacity g c = (after g (goal.at.returns-clause-capacity g c).Aft
 pub returns-clause-start : goal.returns-clause-start
 returns-clause-start g c =
     let ring = opened c.self.inside c.self.invariant c.self.view_is in
-    let gap = gap g (goal.at.returns-clause-start g c).After-take_run in
     let count = c.args.to - c.args.from in
     let behind : length c.args.self.now.items - c.args.to ≡ c.self.inside.len - count - c.args.from = omega arith in
-    rw (behind, ← ring.start) (rw gap.reads.length_is at c.close_gap-self-inside.ensures.start)
+    rw (behind, ← ring.start)
+    (rw (out g (goal.at.returns-clause-start g c).After-take_run).long at c.close_gap-self-inside.ensures.start)
 
 pub returns-clause-steps : goal.returns-clause-steps
 returns-clause-steps g c = grind (arith, bounds)
@@ -109,6 +83,4 @@ returns-then-count-eq0-clause-fewest g c =
     (arith, ring.laid.in_region, ring.start)) c.requires.in_order c.requires.in_bounds (length_within ring.laid))
 
 pub returns-then-count-eq0-clause-items : goal.returns-then-count-eq0-clause-items
-unfolding filled
-returns-then-count-eq0-clause-items g c =
-    first_of (search rules, grind (arith, common_steps), grind (arith, ring_facts))
+returns-then-count-eq0-clause-items g c = grind (arith, common_steps, bounds)

@@ -1,7 +1,7 @@
 use Rattle.std.{
   proofs.{
-    Common.{◌≡◌, ◌+◌, length, take, drop, refl, sym, ◌∙◌, arith, rules},
-    lemmas.{Grind.common_steps, List.{append-nil, take-append-drop, length-take-le, Edits.length-insert}},
+    Common.{◌≡◌, ◌+◌, length, take, drop, refl, sym, ◌∙◌, arith},
+    lemmas.List.{append-nil, take-append-drop, length-take-le, Edits.length-insert},
   },
   specs.List.insert,
 }
@@ -84,7 +84,7 @@ pub returns-clause-capacity : goal.returns-clause-capacity
 returns-clause-capacity g c = (after g c).0
 
 pub returns-clause-start : goal.returns-clause-start
-returns-clause-start g c = first_of (search rules, grind (arith, common_steps), grind (arith, ring_facts))
+returns-clause-start g c = grind (arith, ring_facts)
 
 pub returns-clause-fewest : goal.returns-clause-fewest
 returns-clause-fewest g c =

@@ -1,4 +1,4 @@
-use Rattle.std.proofs.{Common.{◌≡◌, ◌-◌, ◌+◌, ◌<◌, [], ◌++◌, drop, sym, ap, ap₂, ◌∙◌, arith}, lemmas.List.append-nil}
+use Rattle.std.proofs.{Common.{◌≡◌, ◌-◌, ◌+◌, ◌<◌, [], ◌++◌, drop, sym, ap, ◌∙◌, arith}, lemmas.List.append-nil}
 use Rattle.arraydeque_ring.{
   proofs.{
     places.{
@@ -47,13 +47,10 @@ returns-then-first-len-clause-places g c =
 pub returns-then-first-len-clause-taken : goal.returns-then-first-len-clause-taken
 returns-then-first-len-clause-taken g c =
     let p = parts g (goal.at.returns-then-first-len-clause-taken g c).After-min-first in
-    let old = c.args.taken.now in
-    let puts : old.steps.puts + c.min-first.result + (c.args.len - c.min-first.result) ≡ old.steps.puts + c.args.len =
-    omega arith in
-    let both = both_put c.args.len c.min-first.result old.places (omega arith) c.requires.empty _ _ p.first_length
-    ∙ ap (λ ps. ps ++ drop c.args.len old.places) p.all in
+    let both = both_put c.args.len c.min-first.result c.args.taken.now.places (omega arith) c.requires.empty _ _
+    p.first_length ∙ ap (λ ps. ps ++ drop c.args.len c.args.taken.now.places) p.all in
     rw (c.hand_over-then-first-len.ensures.there, c.hand_over.ensures.there, c.hand_over.ensures.here)
-    (ap₂ (λ ps n. record { places = ps; steps = record old.steps { puts = n } }) both puts)
+    (grind (arith, both))
 
 pub returns-else-first-len-clause-places : goal.returns-else-first-len-clause-places
 returns-else-first-len-clause-places g c =
@@ -63,11 +60,8 @@ returns-else-first-len-clause-places g c =
 
 pub returns-else-first-len-clause-taken : goal.returns-else-first-len-clause-taken
 returns-else-first-len-clause-taken g c =
-    let old = c.args.taken.now in
     let none : c.args.len - c.min-first.result ≡ 0 = omega arith in
-    let behind : 0 + c.min-first.result ≡ c.args.len = omega arith in
-    let puts : old.steps.puts + c.min-first.result ≡ old.steps.puts + c.args.len = omega arith in
+    let same : c.min-first.result ≡ c.args.len = omega arith in
     let all =
     rw append-nil at (rw none at (parts g (goal.at.returns-else-first-len-clause-taken g c).After-min-first).all) in
-    rw c.hand_over.ensures.there (ap₂ (λ ps n. record { places = ps; steps = record old.steps { puts = n } })
-    (ap₂ (λ l k. l ++ drop k old.places) all behind) puts)
+    rw c.hand_over.ensures.there (grind (arith, all, same))
