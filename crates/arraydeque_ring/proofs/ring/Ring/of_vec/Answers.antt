@@ -10,11 +10,14 @@ use Rattle.arraydeque_ring.proofs.{
 use Rattle.arraydeque_ring.proofs.ring.Ring.of_vec.Goals as goal
 
 pub loop-item-init : goal.loop-item-init
-loop-item-init g c = ([], record {
-  all = append-nil _ ∙ c.truncate.ensures.items;
-  places = rw c.in-Ok.ensures.ok (grind (arith, common_steps));
-  steps = rw c.in-Ok.ensures.ok refl;
-})
+loop-item-init g c = (
+  [],
+  record {
+    all = append-nil _ ∙ c.truncate.ensures.items;
+    places = rw c.in-Ok.ensures.ok (grind (arith, common_steps));
+    steps = rw c.in-Ok.ensures.ok refl;
+  },
+)
 
 -- the items that are left, and the others, are no more than there are places
 fits : (g : Over) (c : In-Some g)
@@ -38,13 +41,16 @@ put-requires g c =
 
 pub loop-item-preserved : goal.loop-item-preserved
 loop-item-preserved g c =
-    let was = c.loop-item.invariant in let x = c.in-Some.item in (x ∷ was.0, record {
-      all = sym (append_assoc c.pop.new.self.items (x ∷ []) was.0)
-          ∙ ap (λ l. l ++ was.0) (sym c.in-Some.ensures.items) ∙ was.1.all;
-      places = rw (c.put.ensures.places, was.1.places, c.len.ensures)
-          (with_run-before _ _ _ (fits g (goal.at.loop-item-preserved g c).In-Some) x _ c.in-Some.ensures.len);
-      steps = grind (arith, c.put.ensures.steps, was.1.steps);
-    })
+    let was = c.loop-item.invariant in let x = c.in-Some.item in (
+      x ∷ was.0,
+      record {
+        all = sym (append_assoc c.pop.new.self.items (x ∷ []) was.0)
+            ∙ ap (λ l. l ++ was.0) (sym c.in-Some.ensures.items) ∙ was.1.all;
+        places = rw (c.put.ensures.places, was.1.places, c.len.ensures)
+            (with_run-before _ _ _ (fits g (goal.at.loop-item-preserved g c).In-Some) x _ c.in-Some.ensures.len);
+        steps = grind (arith, c.put.ensures.steps, was.1.steps);
+      },
+    )
 
 pub invariant_of-result : goal.invariant_of-result
 invariant_of-result g c = grind (arith, new_laid c.loop-item.invariant.0 c.args.capacity)
