@@ -337,8 +337,8 @@ module _ {X : Type 0} (r : Inside X) (kept : Kept r) where
         let written : splice places behind (behind + m) (take m (drop o.start o.slots.places))
         ≡ with_run behind xs places = ap₂ (λ k l. splice places behind (behind + k) l) (sym many) run.1.1 in
         become (rw (written, ← same)
-            (LaidOut-appended laid xs behind (lies some) (omega (arith, many)) (omega (arith, len, many)))) _
-            (omega (arith, len, length-append items (take m others), taken))
+        (LaidOut-appended laid xs behind (lies some) (omega (arith, many)) (omega (arith, len, many)))) _
+        (omega (arith, len, length-append items (take m others), taken))
 
 -- for the goals of the ring that have no answer by hand
 pub ruleset ring_facts = (bounds, items_within, nothing_laid, slice_get_past, place_of-lt)

@@ -51,8 +51,13 @@ returns-else-self-capacity-clause-filled g c =
     let within = was.holds.laid.within in
     Fills-as _ was _ _
     (omega (arith, length-append (reverse was.items) c.args.self.now.items, length-reverse was.items))
-    (λ some. omega (arith, was.holds.len, (was.all some).1,
-    length-append (reverse was.items) c.args.self.now.items, length-reverse was.items))
+    (λ some. omega (
+      arith,
+      was.holds.len,
+      (was.all some).1,
+      length-append (reverse was.items) c.args.self.now.items,
+      length-reverse was.items,
+    ))
     (λ xs. closed)
 
 pub returns-after-loop-ended-clause-filled : goal.returns-after-loop-ended-clause-filled
