@@ -1,14 +1,19 @@
 -- What a `Slots` ends as, once a `&mut` into it has ended.
 use Rattle.std.specs.{
-  Prelude.{ℕ, List, slice_set, Some},
+  Prelude.{ℕ, List, [], ◌∷◌, slice_set, Some},
   Borrow.{Fml, RattleType, MutBor, Array, Lends, LendsBoth, fsep, follows, follows_both},
 }
 use Rattle.arraydeque_ring.specs.{
-  Loans.{LoanState, as_many, with_run, written_over},
+  Loans.{LoanState, as_many, with_run},
   Places.Region,
   Steps.more_lends,
   contracts.slots.Slots.the_row,
 }
+use denote.Struct.Tuple.{Tuple}
+
+-- a pair of lists
+abbrev pub two_lists : RattleType → RattleType
+two_lists R = Tuple (Array R 0 ∷ Array R 0 ∷ [])
 
 module _ (R : RattleType) (region : MutBor (Region R.Denot)) where
   module _ (place : ℕ) (r : MutBor R.Denot) where
@@ -55,13 +60,11 @@ module _ (R : RattleType) (region : MutBor (Region R.Denot)) where
     lends_two_runs r = LendsBoth (the_row R) (Array R 0) (Array R 0) region r
         (two_written r.0.now r.1.now)
 
-    -- the region follows the name of a loan of two runs, and that name follows the two slices
+    -- the region follows the name of a loan of two runs, that of a pair of lists, which follows the
+    -- two slices
     abbrev pub lends_loan : LoanState R.Denot → Fml
     lends_loan loan = fsep
-        (follows (the_row R) (the_row R) region.ghost_name loan.name (λ w. record {
-          places = written_over region.now.places w.places;
-          steps = more_lends 2 region.now.steps;
-        }))
-        (follows_both (the_row R) (Array R 0) (Array R 0)
-        loan.name loan.first.ghost_name loan.second.ghost_name
-        (two_written loan.first.now loan.second.now))
+        (follows (the_row R) (two_lists R) region.ghost_name loan.name
+        (λ w. two_written loan.first.now loan.second.now w.0 w.1))
+        (follows_both (two_lists R) (Array R 0) (Array R 0)
+        loan.name loan.first.ghost_name loan.second.ghost_name (λ ws vs. (ws, vs)))

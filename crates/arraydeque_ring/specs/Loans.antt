@@ -1,6 +1,6 @@
 -- Values that are lent for writing, in one slice or in two, and what writing leaves.
 use Rattle.std.specs.{
-  Prelude.{ℕ, ◌+◌, ◌<◌, ◌≤◌, List, [], ◌∷◌, ◌++◌, length, map, Option, Some, None},
+  Prelude.{ℕ, ◌+◌, ◌<◌, ◌≤◌, List, ◌++◌, length, map, Option, Some},
   Borrow.{GName, MutBor},
   List.{refill, splice},
 }
@@ -23,14 +23,6 @@ module _ {X : Type 0} where
   -- the places, with the values ws from the place `from` on
   abbrev pub with_run : ℕ → List X → List (Option X) → List (Option X)
   with_run from ws ps = splice ps from (from + length ws) (map Some ws)
-
-  -- the places ps, with the value that ws has in each place that both fill
-  abbrev pub written_over : List (Option X) → List (Option X) → List (Option X)
-  written_over [] ws = []
-  written_over (p ∷ ps) [] = p ∷ ps
-  written_over (None ∷ ps) (w ∷ ws) = None ∷ written_over ps ws
-  written_over (Some x ∷ ps) (None ∷ ws) = Some x ∷ written_over ps ws
-  written_over (Some x ∷ ps) (Some y ∷ ws) = Some y ∷ written_over ps ws
 
 -- no place is one of the m from the place a on and one of the n from the place b on
 abbrev pub AreApart : ℕ → ℕ → ℕ → ℕ → Type 0

@@ -13,7 +13,7 @@ use Rattle.std.{
 }
 use Rattle.arraydeque_ring.{
   specs.{
-    Loans.{as_many, with_run, written_over, AreApart},
+    Loans.{as_many, with_run, AreApart},
     Places.{HoldsRun, IsFilledRun, Region},
     Ring.{RingState, FilledFrom},
     RingLends.rewritten,
@@ -21,8 +21,7 @@ use Rattle.arraydeque_ring.{
     declared.ring.Ring.TheInside.Inside,
   },
   proofs.{
-    loans.Placed.{as_many-same, length-as_many, filled-written_over, length-written_over, length-with_run, two_alike},
-    loans.Placed.{run_length},
+    loans.Placed.{as_many-same, length-as_many, length-with_run, two_filled, length-two_written, run_length},
     places.{LaidOut.{length_within, IsFilledRun-LaidOut, same_run}, Opened.{Opened, opened, view, Kept}},
   },
 }
@@ -76,30 +75,6 @@ module _ {X : Type 0} where
   abbrev pub with_slots : Inside X → Region X → Inside X
   with_slots r w = record { slots = w; start = r.start; len = r.len }
 
-  -- the region and the ring after any writing through the loan
-  abbrev pub ended : Region X → Region X → Region X
-  ended region w = record { places = written_over region.places w.places; steps = more_lends 2 region.steps }
-
-  module _ (r : Inside X) (v : RingState X) (seen : view r ≡ v) (kept : Kept r) (w : Region X) where
-    abbrev pub after : Inside X
-    after = with_slots r (ended r.slots w)
-
-    pub kept_after : Kept after
-    kept_after = (
-      subst (λ n. r.start ≤ n - 1) (sym (length-written_over r.slots.places w.places)) kept.0,
-      subst (FilledFrom r.start r.len) (sym (filled-written_over r.slots.places w.places)) kept.1,
-    )
-
-    -- as many items are seen
-    pub seen_after : view after ≡ rewritten v (view after).items
-    seen_after = rw (
-      as_many-same v.items (view after).items ((opened after kept_after refl).len ∙ sym (opened r kept seen).len),
-      length-written_over r.slots.places w.places,
-      ap (λ (u : RingState X). u.capacity) seen,
-      ap (λ (u : RingState X). u.start) seen,
-      ap (λ (u : RingState X). u.steps) seen,
-    )
-
   -- a run that was written holds what was written, also where another was written before it
   held_there : (from n : ℕ) (ws : List X) (ps : List (Option X)) → length ws ≡ n → from + n ≤ length ps
       → HoldsRun (with_run from ws ps) from n ws
@@ -116,37 +91,61 @@ module _ {X : Type 0} where
       ∙ ap (drop k) (drop_at (map Some us) (drop (0 + m) ps) m (length-map us Some)) ∙ drop-drop k (0 + m) ps
       ∙ ap (λ j. drop j ps) (omega arith)) ∙ held
 
-  -- the ring once both slices were written
-  pub both_written : (r : Inside X) (v : RingState X) (seen : view r ≡ v) (kept : Kept r) (first rest : ℕ)
-      → Cut r first rest → (xs ys : List X) → HoldsRun r.slots.places r.start first xs
-      → HoldsRun r.slots.places 0 rest ys
-      → (us vs : List X) → view (after r v seen kept (record {
-        places = with_run 0 (as_many ys vs) (with_run r.start (as_many xs us) r.slots.places);
-        steps = more_lends 2 r.slots.steps;
-      })) ≡ rewritten v (as_many xs us ++ as_many ys vs)
-  both_written r v seen kept first rest c xs ys held held' us vs =
-      let ps = r.slots.places in let o = opened r kept seen in
-      let us' = as_many xs us in let vs' = as_many ys vs in
-      let front = with_run r.start us' ps in let all_of = with_run 0 vs' front in
-      let w : Region X = record { places = all_of; steps = more_lends 2 r.slots.steps } in
-      let new = after r v seen kept w in
-      let many : length us' ≡ first = length-as_many xs us ∙ run_length ps r.start first xs c.fits held in
-      let many' : length vs' ≡ rest = length-as_many ys vs ∙ run_length ps 0 rest ys (second_run_filled o c).0 held' in
-      let same : all_of ≡ new.slots.places =
-      sym (two_alike ps r.start first xs c.fits held 0 rest ys (second_run_filled o c).0 held' us vs) in
-      let cut : Cut new first rest = record {
-        all = c.all;
-        fits = omega (arith, c.fits, length-written_over ps all_of);
-        to_end = subst (λ n. (rest ≡ 0) ⊎ (r.start + first ≡ n)) (sym (length-written_over ps all_of)) c.to_end;
-      } in
-      let first_held : HoldsRun new.slots.places r.start first us' =
-      subst (λ qs. HoldsRun qs r.start first us') same (held_above r.start first us' vs' front
-      (omega (arith, low o c)) (held_there r.start first us' ps many c.fits)) in
-      let rest_held : HoldsRun new.slots.places 0 rest vs' =
-      subst (λ qs. HoldsRun qs 0 rest vs') same (held_there 0 rest vs' front many'
-      (omega (arith, (second_run_filled o c).0, length-with_run r.start us' ps (omega (arith, many, c.fits))))) in
-      seen_after r v seen kept w ∙ ap (rewritten v)
-      (sym (lent_items (opened new (kept_after r v seen kept w) refl) cut us' vs' first_held rest_held))
+  module _ (r : Inside X) {v : RingState X} (seen : view r ≡ v) (old : Kept r) {first rest : ℕ} (c : Cut r first rest)
+      (xs ys : List X) (held : HoldsRun r.slots.places r.start first xs) (held' : HoldsRun r.slots.places 0 rest ys)
+      (us vs : List X) where
+    o : Opened r v
+    o = opened r old seen
+
+    -- the slots once both slices were written
+    abbrev pub both_written : Region X
+    both_written = record {
+      places = with_run 0 (as_many ys vs) (with_run r.start (as_many xs us) r.slots.places);
+      steps = more_lends 2 r.slots.steps;
+    }
+
+    abbrev new : Inside X
+    new = with_slots r both_written
+
+    long : length both_written.places ≡ length r.slots.places
+    long = length-two_written r.slots.places r.start first xs c.fits held 0 rest ys (second_run_filled o c).0 held' us
+        vs
+
+    -- the ring is whole, and its items are those that were written
+    pub kept_after : Kept new
+    kept_after = (
+      subst (λ n. r.start ≤ n - 1) (sym long) old.0,
+      subst (FilledFrom r.start r.len) (sym (two_filled r.slots.places r.start first xs c.fits held 0 rest ys
+      (second_run_filled o c).0 held' us vs)) old.1,
+    )
+
+    pub seen_after : view new ≡ rewritten v (rewritten v (as_many xs us ++ as_many ys vs)).items
+    seen_after =
+        let us' = as_many xs us in let vs' = as_many ys vs in let front = with_run r.start us' r.slots.places in
+        let ps = both_written.places in let p = opened new kept_after refl in
+        let many : length us' ≡ first = length-as_many xs us ∙ run_length r.slots.places r.start first xs c.fits held in
+        let many' : length vs' ≡ rest =
+        length-as_many ys vs ∙ run_length r.slots.places 0 rest ys (second_run_filled o c).0 held' in
+        let cut : Cut new first rest = record {
+          all = c.all;
+          fits = omega (arith, c.fits, long);
+          to_end = subst (λ n. (rest ≡ 0) ⊎ (r.start + first ≡ n)) (sym long) c.to_end;
+        } in
+        let first_held : HoldsRun ps r.start first us' = held_above r.start first us' vs' front (omega (arith, low o c))
+        (held_there r.start first us' r.slots.places many c.fits) in
+        let rest_held : HoldsRun ps 0 rest vs' = held_there 0 rest vs' front many' (omega (arith,
+        (second_run_filled o c).0, length-with_run r.start us' r.slots.places (omega (arith, many, c.fits)))) in
+        let same : us' ++ vs' ≡ (view new).items = lent_items p cut us' vs' first_held rest_held in
+        let whole = as_many-same v.items (view new).items (p.len ∙ sym o.len) in
+        rw (
+          same,
+          whole,
+          whole,
+          long,
+          ap (λ (u : RingState X). u.capacity) seen,
+          ap (λ (u : RingState X). u.start) seen,
+          ap (λ (u : RingState X). u.steps) seen,
+        )
 
   -- as many items as fit come before the region's end
   pub cut_at_end : (r : Inside X) → Kept r → (first : ℕ) → first ≡ min r.len (length r.slots.places - r.start)

@@ -36,19 +36,19 @@ module _ {M : Type 1} {𝓤 : Ura M} (𝓛 : Logic 𝓤) (R S T U : SemTy) (F : 
       (A.res ν (S.coded.code (P w.0 w.1)))) $ move ! (1 ∷ 0 ∷ []) $ by ! (followed 𝓛 R S F γ ν (P w.0 w.1)))
 
 -- An open borrow is cut into borrows of two parts.
--- The whole's name follows a new name of the whole's own type, and that one follows the parts'.
-module _ {M : Type 1} {𝓤 : Ura M} (𝓛 : Logic 𝓤) (R T U : SemTy) (F : R.rep → R.rep) (V : T.rep → U.rep → R.rep)
+-- The whole's name follows a new name, and that one follows the parts'.
+module _ {M : Type 1} {𝓤 : Ura M} (𝓛 : Logic 𝓤) (R N T U : SemTy) (F : N.rep → R.rep) (V : T.rep → U.rep → N.rep)
     (κ : Lft) (q : Share) (b o b₁ o₁ b₂ o₂ : ℕ) (γ : GName) (Rest : SProp 𝓤)
     (back : (w₁ : T.rep) (w₂ : U.rep) → ent 𝓤 (sep 𝓤 (sem 𝓛 (T.own_at w₁ b₁ o₁))
     (sep 𝓤 (sem 𝓛 (U.own_at w₂ b₂ o₂)) Rest)) (sem 𝓛 (R.own_at (F (V w₁ w₂)) b o))) where
   open 𝓛 use {H, A}
 
   abbrev Turns : GName → SProp 𝓤
-  Turns ν = all 𝓤 (λ (w : R.rep). wand 𝓤 (A.auth ν (R.coded.code w)) (A.auth γ (R.coded.code (F w))))
+  Turns ν = all 𝓤 (λ (w : N.rep). wand 𝓤 (A.auth ν (N.coded.code w)) (A.auth γ (R.coded.code (F w))))
 
   abbrev Both : GName → GName → GName → SProp 𝓤
   Both ν γ₁ γ₂ = all 𝓤 (λ (w : T.rep × U.rep). wand 𝓤
-      (sep 𝓤 (A.auth γ₁ (T.coded.code w.0)) (A.auth γ₂ (U.coded.code w.1))) (A.auth ν (R.coded.code (V w.0 w.1))))
+      (sep 𝓤 (A.auth γ₁ (T.coded.code w.0)) (A.auth γ₂ (U.coded.code w.1))) (A.auth ν (N.coded.code (V w.0 w.1))))
 
   abbrev Parts : GName → GName → List Fml
   Parts γ₁ γ₂ = Body T b₁ o₁ γ₁ ∷ Body U b₂ o₂ γ₂ ∷ []
@@ -64,43 +64,43 @@ module _ {M : Type 1} {𝓤 : Ura M} (𝓛 : Logic 𝓤) (R T U : SemTy) (F : R.
       move ! (0 ∷ 5 ∷ []) $ join ! $ move ! (2 ∷ 0 ∷ []) $ use2 𝓛 (‵ (R.own_at (F (V w₁ w₂)) b o)) (back w₁ w₂) $
       move ! (5 ∷ []) $
       use1 𝓛 (raw (wand 𝓤 (sep 𝓤 (A.auth γ₁ (T.coded.code w₁)) (A.auth γ₂ (U.coded.code w₂)))
-      (A.auth ν (R.coded.code (V w₁ w₂)))))
+      (A.auth ν (N.coded.code (V w₁ w₂)))))
       (all_e 𝓤 (λ (w : T.rep × U.rep). wand 𝓤 (sep 𝓤 (A.auth γ₁ (T.coded.code w.0)) (A.auth γ₂ (U.coded.code w.1)))
-      (A.auth ν (R.coded.code (V w.0 w.1)))) (w₁, w₂)) $
+      (A.auth ν (N.coded.code (V w.0 w.1)))) (w₁, w₂)) $
       -- [the way of both; the whole; auth γ₂; auth γ₁; nothing; the way of ν]
-      move ! (3 ∷ 2 ∷ []) $ join ! $ use2 𝓛 (‵ (fauth ν (R.coded.code (V w₁ w₂)))) (apply∗ 𝓤
-      (sep 𝓤 (A.auth γ₁ (T.coded.code w₁)) (A.auth γ₂ (U.coded.code w₂))) (A.auth ν (R.coded.code (V w₁ w₂)))) $
+      move ! (3 ∷ 2 ∷ []) $ join ! $ use2 𝓛 (‵ (fauth ν (N.coded.code (V w₁ w₂)))) (apply∗ 𝓤
+      (sep 𝓤 (A.auth γ₁ (T.coded.code w₁)) (A.auth γ₂ (U.coded.code w₂))) (A.auth ν (N.coded.code (V w₁ w₂)))) $
       move ! (3 ∷ []) $
-      use1 𝓛 (raw (wand 𝓤 (A.auth ν (R.coded.code (V w₁ w₂))) (A.auth γ (R.coded.code (F (V w₁ w₂))))))
-      (all_e 𝓤 (λ (z : R.rep). wand 𝓤 (A.auth ν (R.coded.code z)) (A.auth γ (R.coded.code (F z)))) (V w₁ w₂)) $
+      use1 𝓛 (raw (wand 𝓤 (A.auth ν (N.coded.code (V w₁ w₂))) (A.auth γ (R.coded.code (F (V w₁ w₂))))))
+      (all_e 𝓤 (λ (z : N.rep). wand 𝓤 (A.auth ν (N.coded.code z)) (A.auth γ (R.coded.code (F z)))) (V w₁ w₂)) $
       move ! (1 ∷ 0 ∷ []) $ use2 𝓛 (‵ (fauth γ (R.coded.code (F (V w₁ w₂)))))
-      (apply∗ 𝓤 (A.auth ν (R.coded.code (V w₁ w₂))) (A.auth γ (R.coded.code (F (V w₁ w₂))))) $
+      (apply∗ 𝓤 (A.auth ν (N.coded.code (V w₁ w₂))) (A.auth γ (R.coded.code (F (V w₁ w₂))))) $
       move ! (1 ∷ 0 ∷ []) $ fjoin ! $ fpack ! R.rep (λ z. fsep (R.own_at z b o) (fauth γ (R.coded.code z)))
       (F (V w₁ w₂)) $ keep ! (0 ∷ []) $ done !))
 
   abbrev Took : T.rep → U.rep → GName × (GName × GName) → SProp 𝓤
   Took y z νs = sep 𝓤 (sep 𝓤 (A.obs νs.1.0 (T.coded.code y)) (A.bor κ (Body T b₁ o₁ νs.1.0)))
       (sep 𝓤 (sep 𝓤 (A.obs νs.1.1 (U.coded.code z)) (A.bor κ (Body U b₂ o₂ νs.1.1)))
-      (sep 𝓤 (A.lft κ q) (sep 𝓤 (sem 𝓛 (after R R γ νs.0 F)) (sem 𝓛 (after₂ R T U νs.0 νs.1.0 νs.1.1 V)))))
+      (sep 𝓤 (A.lft κ q) (sep 𝓤 (sem 𝓛 (after R N γ νs.0 F)) (sem 𝓛 (after₂ N T U νs.0 νs.1.0 νs.1.1 V)))))
 
-  pub takes_named : (u v : Gv) (x : R.rep) (y : T.rep) (z : U.rep)
+  pub takes_named : (u v : Gv) (x : N.rep) (y : T.rep) (z : U.rep)
       → ent 𝓤 (sep 𝓤 (A.obor κ q (Body R b o γ)) (sep 𝓤 (A.obs γ u) (sep 𝓤 (A.auth γ v)
       (sep 𝓤 (sem 𝓛 (T.own_at y b₁ o₁)) (sep 𝓤 (sem 𝓛 (U.own_at z b₂ o₂)) Rest))))) (H.⇛ (ex 𝓤 (Took y z)))
   unfolding fseps
   takes_named u v x y z =
       qed 𝓛 (‵ (fobor κ q (Body R b o γ)) ∷ ‵ (fobs γ u) ∷ ‵ (fauth γ v) ∷ ‵ (T.own_at y b₁ o₁) ∷ ‵ (U.own_at z b₂ o₂)
       ∷ raw Rest ∷ []) ∵ updating ! $
-      name_new ! tt (R.coded.code x) (λ ν. move ! (3 ∷ 4 ∷ []) $
-      use2 𝓛 (later (‵ (after R R γ ν F) ⊛ raw (Turns ν))) (follows_anew 𝓛 R R F γ ν u v) $ await ! tt $ split ! $
+      name_new ! tt (N.coded.code x) (λ ν. move ! (3 ∷ 4 ∷ []) $
+      use2 𝓛 (later (‵ (after R N γ ν F) ⊛ raw (Turns ν))) (follows_anew 𝓛 R N F γ ν u v) $ await ! tt $ split ! $
       -- [after; the way of ν; obs ν; auth ν; the open borrow; the first; the second; the rest]
       name_new ! tt (U.coded.code z) (λ γ₂. name_new ! tt (T.coded.code y) (λ γ₁. move ! (6 ∷ 7 ∷ []) $
-      use2 𝓛 (later (raw (and 𝓤.op (sem 𝓛 (after₂ R T U ν γ₁ γ₂ V))
-      (all 𝓤 (λ (g : Gv). wand 𝓤 (A.auth ν g) (ex 𝓤 (λ (w : T.rep × U.rep). guard 𝓤 (g ≡ R.coded.code (V w.0 w.1))
+      use2 𝓛 (later (raw (and 𝓤.op (sem 𝓛 (after₂ N T U ν γ₁ γ₂ V))
+      (all 𝓤 (λ (g : Gv). wand 𝓤 (A.auth ν g) (ex 𝓤 (λ (w : T.rep × U.rep). guard 𝓤 (g ≡ N.coded.code (V w.0 w.1))
       (sep 𝓤 (A.auth γ₁ (T.coded.code w.0)) (A.auth γ₂ (U.coded.code w.1)))))))) ⊛ raw (Both ν γ₁ γ₂)))
       (𝓛.names.name_follow ν γ₁ γ₂ (T.rep × U.rep) (λ w. T.coded.code w.0) (λ w. U.coded.code w.1)
-      (λ w. R.coded.code (V w.0 w.1)) (λ s t e e'. ap₂ (λ x₁ x₂. R.coded.code (V x₁ x₂)) (T.coded.inj s.0 t.0 e)
-      (U.coded.inj s.1 t.1 e')) (R.coded.code x) (R.coded.code x)) $ await ! tt $ split ! $
-      use1 𝓛 (‵ (after₂ R T U ν γ₁ γ₂ V)) (record { apply = λ a p. p.0 }) $
+      (λ w. N.coded.code (V w.0 w.1)) (λ s t e e'. ap₂ (λ x₁ x₂. N.coded.code (V x₁ x₂)) (T.coded.inj s.0 t.0 e)
+      (U.coded.inj s.1 t.1 e')) (N.coded.code x) (N.coded.code x)) $ await ! tt $ split ! $
+      use1 𝓛 (‵ (after₂ N T U ν γ₁ γ₂ V)) (record { apply = λ a p. p.0 }) $
       -- [after₂; the way of both;
       -- obs γ₁; auth γ₁; obs γ₂; auth γ₂; after; the way of ν; the open borrow; the first; the second; the rest]
       move ! (7 ∷ 1 ∷ []) $ join ! $ move ! (10 ∷ 0 ∷ []) $
@@ -118,9 +118,9 @@ module _ {M : Type 1} {𝓤 : Ura M} (𝓛 : Logic 𝓤) (R T U : SemTy) (F : R.
 
 -- The whole stays open while its part, under the name δ, is lent to a call, which says that δ follows m by G.
 -- The whole is then closed, and follows a new name of its own type, which follows m.
-module _ {M : Type 1} {𝓤 : Ura M} (𝓛 : Logic 𝓤) (R T : SemTy) (F : R.rep → R.rep) (V : T.rep → R.rep)
-    (G : T.rep → T.rep) (κ : Lft) (q : Share) (b o b' o' : ℕ) (γ δ m : GName) (Rest : SProp 𝓤)
-    (back : (w : T.rep) → ent 𝓤 (sep 𝓤 (sem 𝓛 (T.own_at (G w) b' o')) Rest) (sem 𝓛 (R.own_at (F (V w)) b o))) where
+module _ {M : Type 1} {𝓤 : Ura M} (𝓛 : Logic 𝓤) (R T N : SemTy) (F : R.rep → R.rep) (V : N.rep → R.rep)
+    (G : N.rep → T.rep) (κ : Lft) (q : Share) (b o b' o' : ℕ) (γ δ m : GName) (Rest : SProp 𝓤)
+    (back : (w : N.rep) → ent 𝓤 (sep 𝓤 (sem 𝓛 (T.own_at (G w) b' o')) Rest) (sem 𝓛 (R.own_at (F (V w)) b o))) where
   open 𝓛 use {H, A}
 
   abbrev Whole : Fml
@@ -130,25 +130,25 @@ module _ {M : Type 1} {𝓤 : Ura M} (𝓛 : Logic 𝓤) (R T : SemTy) (F : R.re
   Turned ν = all 𝓤 (λ (w : R.rep). wand 𝓤 (A.auth ν (R.coded.code w)) (A.auth γ (R.coded.code (F w))))
 
   abbrev Comes : GName → SProp 𝓤
-  Comes ν = all 𝓤 (λ (w : T.rep). wand 𝓤 (A.auth m (T.coded.code w)) (A.auth ν (R.coded.code (V w))))
+  Comes ν = all 𝓤 (λ (w : N.rep). wand 𝓤 (A.auth m (N.coded.code w)) (A.auth ν (R.coded.code (V w))))
 
-  late : (ν : GName) → ent 𝓤 (sep 𝓤 Rest (sep 𝓤 (Turned ν) (sep 𝓤 (Comes ν) (sem 𝓛 (after T T δ m G)))))
+  late : (ν : GName) → ent 𝓤 (sep 𝓤 Rest (sep 𝓤 (Turned ν) (sep 𝓤 (Comes ν) (sem 𝓛 (after T N δ m G)))))
       (sem 𝓛 (fwand (fsep (fdead κ) (fseps (Body T b' o' δ ∷ []))) (fupd Whole)))
   unfolding fseps
   late ν =
-      qed 𝓛 (raw Rest ∷ raw (Turned ν) ∷ raw (Comes ν) ∷ ‵ (after T T δ m G) ∷ []) ∵
+      qed 𝓛 (raw Rest ∷ raw (Turned ν) ∷ raw (Comes ν) ∷ ‵ (after T N δ m G) ∷ []) ∵
       assume ! (‵ (fsep (fdead κ) (fseps (Body T b' o' δ ∷ [])))) $
       suffices ! (sem 𝓛 Whole) (upd_i 𝓤 (sem 𝓛 Whole)) $
       fsplit ! $ drop ! $ fsplit ! $ fpick ! (λ z. fsplit ! $ move ! (1 ∷ 6 ∷ []) $
-      use2 𝓛 (‵ (fex T.rep (Came 𝓛 T T G m z))) (came 𝓛 T T G δ m z) $ fpick ! (λ w. fsplit ! $ feq_l ! (λ e.
+      use2 𝓛 (‵ (fex N.rep (Came 𝓛 T N G m z))) (came 𝓛 T N G δ m z) $ fpick ! (λ w. fsplit ! $ feq_l ! (λ e.
       -- [auth m; the part; nothing; the rest; the way of ν; that of m]
       rewrite ! 1 (λ (t : T.rep). ‵ (T.own_at t b' o')) e refl $ move ! (1 ∷ 3 ∷ []) $
       use2 𝓛 (‵ (R.own_at (F (V w)) b o)) (back w) $ move ! (4 ∷ []) $
-      use1 𝓛 (raw (wand 𝓤 (A.auth m (T.coded.code w)) (A.auth ν (R.coded.code (V w)))))
-      (all_e 𝓤 (λ (t : T.rep). wand 𝓤 (A.auth m (T.coded.code t)) (A.auth ν (R.coded.code (V t)))) w) $
+      use1 𝓛 (raw (wand 𝓤 (A.auth m (N.coded.code w)) (A.auth ν (R.coded.code (V w)))))
+      (all_e 𝓤 (λ (t : N.rep). wand 𝓤 (A.auth m (N.coded.code t)) (A.auth ν (R.coded.code (V t)))) w) $
       -- [the way of m; the whole; auth m; nothing; the way of ν]
       move ! (2 ∷ 0 ∷ []) $ use2 𝓛 (‵ (fauth ν (R.coded.code (V w))))
-      (apply∗ 𝓤 (A.auth m (T.coded.code w)) (A.auth ν (R.coded.code (V w)))) $ move ! (3 ∷ []) $
+      (apply∗ 𝓤 (A.auth m (N.coded.code w)) (A.auth ν (R.coded.code (V w)))) $ move ! (3 ∷ []) $
       use1 𝓛 (raw (wand 𝓤 (A.auth ν (R.coded.code (V w))) (A.auth γ (R.coded.code (F (V w))))))
       (all_e 𝓤 (λ (t : R.rep). wand 𝓤 (A.auth ν (R.coded.code t)) (A.auth γ (R.coded.code (F t)))) (V w)) $
       move ! (1 ∷ 0 ∷ []) $ use2 𝓛 (‵ (fauth γ (R.coded.code (F (V w)))))
@@ -157,18 +157,18 @@ module _ {M : Type 1} {𝓤 : Ura M} (𝓛 : Logic 𝓤) (R T : SemTy) (F : R.re
       keep ! (0 ∷ []) $ done !)))
 
   abbrev pub Handed : GName → SProp 𝓤
-  Handed ν = sep 𝓤 (A.lft κ q) (sep 𝓤 (sem 𝓛 (after R R γ ν F)) (sem 𝓛 (after R T ν m V)))
+  Handed ν = sep 𝓤 (A.lft κ q) (sep 𝓤 (sem 𝓛 (after R R γ ν F)) (sem 𝓛 (after R N ν m V)))
 
   pub hands_on : (n : ℕ) (u v : Gv) (x : R.rep)
       → ent 𝓤 (sep 𝓤 (aged 𝓤 H A n κ q Whole) (sep 𝓤 (A.obs γ u) (sep 𝓤 (A.auth γ v)
-      (sep 𝓤 (A.lent (deep n κ) (Body T b' o' δ)) (sep 𝓤 (sem 𝓛 (after T T δ m G)) Rest))))) (H.⇛ (ex 𝓤 Handed))
+      (sep 𝓤 (A.lent (deep n κ) (Body T b' o' δ)) (sep 𝓤 (sem 𝓛 (after T N δ m G)) Rest))))) (H.⇛ (ex 𝓤 Handed))
   hands_on n u v x =
       qed 𝓛 (raw (aged 𝓤 H A n κ q Whole) ∷ ‵ (fobs γ u) ∷ ‵ (fauth γ v) ∷ ‵ (flent (deep n κ) (Body T b' o' δ))
-      ∷ ‵ (after T T δ m G) ∷ raw Rest ∷ []) ∵ updating ! $
+      ∷ ‵ (after T N δ m G) ∷ raw Rest ∷ []) ∵ updating ! $
       name_new ! tt (R.coded.code x) (λ ν. move ! (3 ∷ 4 ∷ []) $ use2 𝓛 (later (‵ (after R R γ ν F) ⊛ raw (Turned ν)))
       (follows_anew 𝓛 R R F γ ν u v) $ await ! tt $ split ! $ move ! (2 ∷ 3 ∷ []) $
-      use2 𝓛 (later (‵ (after R T ν m V) ⊛ raw (Comes ν)))
-      (follows_anew 𝓛 R T V ν m (R.coded.code x) (R.coded.code x)) $ await ! tt $ split ! $
+      use2 𝓛 (later (‵ (after R N ν m V) ⊛ raw (Comes ν)))
+      (follows_anew 𝓛 R N V ν m (R.coded.code x) (R.coded.code x)) $ await ! tt $ split ! $
       -- [what ν follows; the way of m;
       -- what γ follows; the way of ν; the open borrow; the right to the part's end; what δ follows; the rest]
       move ! (7 ∷ 3 ∷ 1 ∷ 6 ∷ []) $ group ! 4 $

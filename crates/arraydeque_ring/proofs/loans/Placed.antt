@@ -2,7 +2,7 @@
 use Rattle.std.{
   proofs.{
     Common.{◌≡◌, ℕ, zero, suc, ◌+◌, ◌-◌, ◌≤◌, ◌⊎◌, inl, inr, List, [], ◌∷◌, ◌++◌, map, length, take, drop, replicate},
-    Common.{Option, Some, None, is_some, true, false, refl, sym, ap, ap₂, ◌∙◌, arith},
+    Common.{Option, Some, is_some, true, refl, sym, ap, ap₂, ◌∙◌, arith},
     lemmas.{
       Bool.cases_lt,
       List.{length-map, nil_from_length, length-append, length-take, length-drop, map-append, append_assoc, take_at},
@@ -11,7 +11,7 @@ use Rattle.std.{
   },
   specs.List.{length_refill, splice, take-map, drop-map},
 }
-use Rattle.arraydeque_ring.specs.{Loans.{as_many, with_run, written_over, AreApart}, Places.HoldsRun, Ring.filled}
+use Rattle.arraydeque_ring.specs.{Loans.{as_many, with_run, AreApart}, Places.HoldsRun, Ring.filled}
 
 module _ {Y : Type 0} where
   -- the list, with ws in the stead of the n items from the index i on
@@ -121,36 +121,6 @@ module _ {X : Type 0} where
       filled-with_run from ws qs ∙ ap (λ k. placed from k (replicate k true) (filled qs)) e
       ∙ ap₂ (placed from n) held same ∙ placed_same from n (filled ps)
 
-  pub two_filled : (a b : ℕ) (xs us ys vs : List X) (ps : List (Option X)) → HoldsRun ps a (length xs) xs
-      → length us ≡ length xs → HoldsRun ps b (length ys) ys → length vs ≡ length ys
-      → filled (with_run b vs (with_run a us ps)) ≡ filled ps
-  two_filled a b xs us ys vs ps run e run' e' =
-      written_filled b ys vs ps (with_run a us ps) run' e' (written_filled a xs us ps ps run e refl)
-
-  pub filled-written_over : (ps ws : List (Option X)) → filled (written_over ps ws) ≡ filled ps
-  unfolding filled
-  filled-written_over [] ws = refl
-  filled-written_over (p ∷ ps) [] = refl
-  filled-written_over (None ∷ ps) (w ∷ ws) = ap (λ l. false ∷ l) (filled-written_over ps ws)
-  filled-written_over (Some x ∷ ps) (None ∷ ws) = ap (λ l. true ∷ l) (filled-written_over ps ws)
-  filled-written_over (Some x ∷ ps) (Some y ∷ ws) = ap (λ l. true ∷ l) (filled-written_over ps ws)
-
-  pub length-written_over : (ps ws : List (Option X)) → length (written_over ps ws) ≡ length ps
-  unfolding filled
-  length-written_over ps ws = sym (length-map (written_over ps ws) is_some) ∙ ap length (filled-written_over ps ws)
-      ∙ length-map ps is_some
-
-  -- where the same places are filled, all is as written
-  pub written_over-same : (ps ws : List (Option X)) → filled ws ≡ filled ps → written_over ps ws ≡ ws
-  unfolding filled
-  written_over-same [] [] e = refl
-  written_over-same [] (w ∷ ws) e = absurd (let l = ap length e in omega arith)
-  written_over-same (p ∷ ps) [] e = absurd (let l = ap length e in omega arith)
-  written_over-same (None ∷ ps) (None ∷ ws) e = ap (λ l. None ∷ l) (written_over-same ps ws (ap (drop 1) e))
-  written_over-same (None ∷ ps) (Some y ∷ ws) e = cc
-  written_over-same (Some x ∷ ps) (None ∷ ws) e = cc
-  written_over-same (Some x ∷ ps) (Some y ∷ ws) e = ap (λ l. Some y ∷ l) (written_over-same ps ws (ap (drop 1) e))
-
 -- a run that ends before the j-th item
 pub run_before : {Y : Type 0} (ps : List Y) (i m j : ℕ) → i + m ≤ j → take m (drop i (take j ps)) ≡ take m (drop i ps)
 run_before ps i m j le =
@@ -164,13 +134,19 @@ module _ {X : Type 0} (ps : List (Option X)) where
   run_length from len xs within run =
       omega (arith, ap length run, length-map xs Some, length-take len (drop from ps), length-drop from ps)
 
-  -- of two runs of values all is as written
-  pub two_alike : (a la : ℕ) (xs : List X) → a + la ≤ length ps → HoldsRun ps a la xs → (b lb : ℕ) (ys : List X)
-      → b + lb ≤ length ps → HoldsRun ps b lb ys
-      → (us vs : List X) → written_over ps (with_run b (as_many ys vs) (with_run a (as_many xs us) ps))
-      ≡ with_run b (as_many ys vs) (with_run a (as_many xs us) ps)
-  two_alike a la xs in_a run b lb ys in_b run' us vs =
-      let held : HoldsRun ps a (length xs) xs = ap (λ k. take k (drop a ps)) (run_length a la xs in_a run) ∙ run in
-      let held' : HoldsRun ps b (length ys) ys = ap (λ k. take k (drop b ps)) (run_length b lb ys in_b run') ∙ run' in
-      written_over-same ps _ (two_filled a b xs (as_many xs us) ys (as_many ys vs) ps held (length-as_many xs us) held'
-      (length-as_many ys vs))
+  -- what is written into two runs of values fills no place and empties none
+  module _ (a la : ℕ) (xs : List X) (in_a : a + la ≤ length ps) (run : HoldsRun ps a la xs) (b lb : ℕ) (ys : List X)
+      (in_b : b + lb ≤ length ps) (run' : HoldsRun ps b lb ys) (us vs : List X) where
+    abbrev written : List (Option X)
+    written = with_run b (as_many ys vs) (with_run a (as_many xs us) ps)
+
+    pub two_filled : filled written ≡ filled ps
+    two_filled =
+        let held : HoldsRun ps a (length xs) xs = ap (λ k. take k (drop a ps)) (run_length a la xs in_a run) ∙ run in
+        let held' : HoldsRun ps b (length ys) ys = ap (λ k. take k (drop b ps)) (run_length b lb ys in_b run') ∙ run' in
+        written_filled b ys (as_many ys vs) ps (with_run a (as_many xs us) ps) held' (length-as_many ys vs)
+        (written_filled a xs (as_many xs us) ps ps held (length-as_many xs us) refl)
+
+    pub length-two_written : length written ≡ length ps
+    unfolding filled
+    length-two_written = sym (length-map written is_some) ∙ ap length two_filled ∙ length-map ps is_some

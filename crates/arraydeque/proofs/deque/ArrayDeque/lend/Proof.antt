@@ -102,7 +102,7 @@ lend_spec 𝓤 𝓛 𝓜 𝓡 wired X N B L fits LB members dict dict_met =
     move ! (6 ∷ 7 ∷ []) $ join ! $ move ! (6 ∷ 7 ∷ 8 ∷ 5 ∷ 1 ∷ 0 ∷ []) $ group ! 6 $
     use1 𝓛 (later (some (λ (ν : GName). ‵ (flft κ l) ⊛ ‵ (follow.after (mem (Dr E N B))
     (mem (Dr E N B)) γ ν (λ u. rewritten d u.items)) ⊛ ‵ (follow.after (mem (Dr E N B)) (mem (Rr E)) ν it.name V))))
-    (hands_on 𝓛 (mem (Dr E N B)) (mem (Rr E))
+    (hands_on 𝓛 (mem (Dr E N B)) (mem (Rr E)) (mem (Rr E))
     (λ u. rewritten d u.items) V (λ u. ring.rewritten x.ring u.items) κ l rb ro rb (ro + 0) γ δ it.name Rest
     (λ u. deque_whole E N B LB 𝓛 rb ro (rewritten d (V u).items) x (ring.rewritten x.ring u.items)
     (seen_after E N B x d seen kept u.items) (kept_after E N B x d seen kept u.items)) age coded coded d) $

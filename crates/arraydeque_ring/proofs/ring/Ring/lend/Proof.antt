@@ -2,9 +2,9 @@
 use Rattle.arraydeque_ring.{
   proofs.{
     memory.{
-      Kit.{nothing, ◌≡◌, refl, List, [], ◌∷◌, ℕ, ◌+◌, ◌<◌, ◌≤◌, ◌^◌, arith, length, full_share, id⊢, Share, GName},
-      Kit.{ftrue, fsep, fat, flft, fauth, Fn, inst_fn, w64, Val, vptr, ◌⊑◌, fact, tables, sem, Borrowed, owns, ‵, raw},
-      Kit.{◌⊛◌, some, later, ◌$◌, !, move, use1, use2, drop, split, join, pick, frame, rewrite, await, fsplit, fjoin},
+      Kit.{◌++◌, nothing, ◌≡◌, refl, List, [], ◌∷◌, ℕ, ◌+◌, ◌<◌, ◌≤◌, ◌^◌, arith, length, full_share, id⊢, Share},
+      Kit.{GName, ftrue, fsep, fat, flft, fauth, Fn, inst_fn, w64, Val, vptr, ◌⊑◌, fact, tables, sem, Borrowed, owns},
+      Kit.{‵, raw, ◌⊛◌, some, later, ◌$◌, !, move, use1, use2, drop, split, join, pick, frame, await, fsplit, fjoin},
       Kit.{fjoin3, fpack, feq_i, suffices, done, of_opd, addr, load, look, stop, fld, no_more, and_then, returns},
       Kit.{alloc_all, pass_all, free_all, look_at, get, through, sets, lands_as, usize, mem, part_at, says_two, heard},
       Kit.{calls_at, framed, triple_of, param_laws, El, R, args, el_x, after₂, split3, group, name_new, Array, both_by},
@@ -14,8 +14,7 @@ use Rattle.arraydeque_ring.{
       Called.{knows, returned},
     },
     loans.{
-      Lending.{Cut, cut_at_end, ended, with_slots, kept_after, seen_after, both_written, lent_items, first_run_filled},
-      Lending.{second_run_filled},
+      Lending.{Cut, cut_at_end, kept_after, seen_after, both_written, lent_items, first_run_filled, second_run_filled},
       Made.loan_renamed,
       Placed.run_length,
       Names.{hands_on, followed_both},
@@ -24,7 +23,7 @@ use Rattle.arraydeque_ring.{
     places.{LaidOut.length_within, Opened.{opened, view, Kept}},
     slots.Slots.lend_round.Met.met,
   },
-  specs.{Loans.{LoanState}, Ring.RingState, RingLends.rewritten},
+  specs.{Loans.{LoanState, as_many}, Ring.RingState, RingLends.rewritten},
 }
 use Rattle.std.{specs.Prelude.{◌-◌, min}, proofs.lemmas.List.nil_from_length}
 use types.{Follow.after, Late.{ages, bor_new_deep}, Mut.open_ref, Run.well_typed}
@@ -33,6 +32,7 @@ use contract.Lifetimes.{toks}
 use base.Logic.{sep}
 use denote.Plain.{uint_in, uint_out}
 use Rattle.arraydeque_ring.specs.Lends as Lends
+use Rattle.arraydeque_ring.specs.Lends.{two_lists}
 use Rattle.arraydeque_ring.specs.contracts.slots.loan.Loan as loan
 use Rattle.arraydeque_ring.specs.contracts.ring.Ring.TheInside as inside
 use Rattle.arraydeque_ring.proofs.slots.loan.Loan.TheLaws as loan_laws
@@ -115,24 +115,24 @@ lend_spec 𝓤 𝓛 𝓜 𝓡 wired X L =
     heard ! (First it) (λ held. heard ! (Second it) (λ held'. fsplit ! $
     -- [what δ follows; what the loan's name follows;
     -- the loan; the tokens; the right; the open borrow; the other fields; the way back; obs γ; auth γ]
-    let V : Seen E → RingState (el_x E) = λ w. view (with_slots x (ended x.slots w)) in
+    let Lists = mem (two_lists (R E)) in let Put : List (el_x E) × List (el_x E) → Seen E =
+    λ w. both_written x seen kept cut it.first.now it.second.now held held' w.0 w.1 in
+    let V : List (el_x E) × List (el_x E) → RingState (el_x E) = λ w.
+    rewritten d (as_many it.first.now w.0 ++ as_many it.second.now w.1) in
     let Rest = sep 𝓤 (sem 𝓛 (Others E 𝓛 rb ro x)) (Way E 𝓛 rb ro) in
     move ! (6 ∷ 7 ∷ []) $ join ! $ move ! (6 ∷ 7 ∷ 8 ∷ 5 ∷ 1 ∷ 0 ∷ []) $ group ! 6 $
     use1 𝓛 (later (some (λ (ν : GName). ‵ (flft κ l) ⊛ ‵ (after (mem (Rr E))
-    (mem (Rr E)) γ ν (λ u. rewritten d u.items)) ⊛ ‵ (after (mem (Rr E)) (mem (Sr E)) ν it.name V))))
-    (hands_on 𝓛 (mem (Rr E)) (mem (Sr E))
-    (λ u. rewritten d u.items) V (ended x.slots) κ l rb ro rb (ro + 0) γ δ it.name Rest
-    (λ w. ring_whole E 𝓛 rb ro (rewritten d (V w).items) x (ended x.slots w) (seen_after x d seen kept w)
-    (kept_after x d seen kept w)) age coded coded d) $ await ! tt $ pick ! (λ ν. split3 ! $
+    (mem (Rr E)) γ ν (λ u. rewritten d u.items)) ⊛ ‵ (after (mem (Rr E)) Lists ν it.name V))))
+    (hands_on 𝓛 (mem (Rr E)) (mem (Sr E)) Lists (λ u. rewritten d u.items) V Put κ l rb ro rb (ro + 0) γ δ it.name Rest
+    (λ w. ring_whole E 𝓛 rb ro (rewritten d (V w).items) x (Put w) (seen_after x seen kept cut it.first.now
+    it.second.now held held' w.0 w.1)
+    (kept_after x seen kept cut it.first.now it.second.now held held' w.0 w.1)) age coded coded d) $
+    await ! tt $ pick ! (λ ν. split3 ! $
     -- [half the token; what γ follows; what ν follows; what the loan's name follows; the loan; the tokens]
-    let Rows = mem (Array (R E) 0) in let Put : List (el_x E) → List (el_x E) → Seen E =
-    Lends.two_written (R E) lent x.start 0 it.first.now it.second.now in
-    move ! (2 ∷ 3 ∷ []) $
-    use2 𝓛 (‵ (after₂ (mem (Rr E)) Rows Rows ν it.first.ghost_name it.second.ghost_name (λ us vs. V (Put us vs))))
-    (followed_both 𝓛 (mem (Rr E)) (mem (Sr E)) Rows Rows V Put ν it.name it.first.ghost_name it.second.ghost_name) $
-    rewrite ! 0 (λ (F : List (el_x E) → List (el_x E) → RingState (el_x E)).
-    ‵ (after₂ (mem (Rr E)) Rows Rows ν it.first.ghost_name it.second.ghost_name F))
-    (λ i us vs. both_written x d seen kept first rest cut it.first.now it.second.now held held' us vs i) refl $
+    let Rows = mem (Array (R E) 0) in move ! (2 ∷ 3 ∷ []) $
+    use2 𝓛 (‵ (after₂ (mem (Rr E)) Rows Rows ν it.first.ghost_name it.second.ghost_name (λ us vs. V (us, vs))))
+    (followed_both 𝓛 (mem (Rr E)) Lists Rows Rows V (λ us vs. (us, vs)) ν it.name it.first.ghost_name
+    it.second.ghost_name) $
     -- [what ν follows; half the token; what γ follows; the loan; the tokens]
     let out : LoanState (el_x E) = record it { name = ν } in
     move ! (2 ∷ 0 ∷ []) $ fjoin ! $ move ! (2 ∷ []) $

@@ -17,12 +17,12 @@ use Rattle.arraydeque_ring.{
     loans.{
       Made.{loan_val, loan_made},
       Names.takes_named,
-      Placed.{placed, apart_within, as_many-same, two_filled, length-written_over, written_over-same},
+      Placed.{placed, apart_within, as_many-same, length-two_written},
       Runs.{run, News, Filling, two_out, same_cells},
     },
     places.Held.length_filled,
   },
-  specs.{Loans.{LoanState, as_many, with_run, written_over, AreApart}, Steps.more_lends},
+  specs.{Lends.two_lists, Loans.{LoanState, as_many, with_run, AreApart}, Steps.more_lends},
 }
 use types.SemTy.{Arr}
 use base.Stored.{coded_list}
@@ -43,10 +43,6 @@ module _ (E : El) where
     steps = more_lends 2 r.steps;
   }
 
-  -- and after any writing through the loan
-  abbrev Ended : Seen E → Seen E → Seen E
-  Ended r w = record { places = written_over r.places w.places; steps = more_lends 2 r.steps }
-
 module _ (E : El) {M : Type 1} {𝓤 : Ura M} (𝓛 : Logic 𝓤) (rb ro : ℕ) (r : Seen E) (a b : ℕ) (xs ys : List (el_x E))
     (g : Global) (p o n : ℕ) where
   abbrev s : ℕ
@@ -59,25 +55,22 @@ module _ (E : El) {M : Type 1} {𝓤 : Ura M} (𝓛 : Logic 𝓤) (rb ro : ℕ) 
   abbrev Rest : SProp 𝓤
   Rest = sep 𝓤 (all 𝓤 Way) (sem 𝓛 (Frame E 𝓛 rb ro g r p o n))
 
-  back : Fits E r o n → HoldsRun r.places a (length xs) xs → HoldsRun r.places b (length ys) ys
-      → (us vs : List (el_x E))
+  back : Fits E r o n → a + length xs ≤ length r.places → HoldsRun r.places a (length xs) xs
+      → b + length ys ≤ length r.places → HoldsRun r.places b (length ys) ys → (us vs : List (el_x E))
       → ent 𝓤 (sep 𝓤 (sem 𝓛 ((Lin E (length xs)).own_at us p (a * s + o)))
       (sep 𝓤 (sem 𝓛 ((Lin E (length ys)).own_at vs p (b * s + o))) Rest))
-      (sem 𝓛 ((mem (Sr E)).own_at (Ended E r (Written E r a b xs ys us vs)) rb ro))
-  back ok held held' us vs =
+      (sem 𝓛 ((mem (Sr E)).own_at (Written E r a b xs ys us vs) rb ro))
+  back ok in_a held in_b held' us vs =
       qed 𝓛 (‵ ((Lin E (length xs)).own_at us p (a * s + o)) ∷ ‵ ((Lin E (length ys)).own_at vs p (b * s + o))
       ∷ (raw (all 𝓤 Way) ⊛ ‵ (Frame E 𝓛 rb ro g r p o n)) ∷ []) ∵
       fsplit ! $ feq_l ! (λ same. move ! (1 ∷ []) $ fsplit ! $ feq_l ! (λ same'.
       let put = placed b (length ys) (map Some vs) (placed a (length xs) (map Some us) r.places) in
-      let new : Seen E = Ended E r (Written E r a b xs ys us vs) in
+      let new : Seen E = Written E r a b xs ys us vs in
       let alike : put ≡ new.places =
       ap (λ k. placed b k (map Some vs) (placed a (length xs) (map Some us) r.places)) (sym same')
       ∙ ap (λ k. with_run b vs (placed a k (map Some us) r.places)) (sym same)
-      ∙ sym (written_over-same r.places (with_run b vs (with_run a us r.places))
-      (two_filled a b xs us ys vs r.places held same held' same'))
-      ∙ ap (λ l. written_over r.places (with_run b l (with_run a us r.places))) (sym (as_many-same ys vs same'))
-      ∙ ap (λ l. written_over r.places (with_run b (as_many ys vs) (with_run a l r.places)))
-      (sym (as_many-same xs us same)) in
+      ∙ ap (λ l. with_run b l (with_run a us r.places)) (sym (as_many-same ys vs same'))
+      ∙ ap (λ l. with_run b (as_many ys vs) (with_run a l r.places)) (sym (as_many-same xs us same)) in
       let w : News E 𝓛 p o r.places a (length xs) b (length ys) =
       (map Some us, map Some vs, sym (length-map us Some ∙ same), sym (length-map vs Some ∙ same')) in
       -- [the second's values; the first's; the rest]
@@ -88,7 +81,7 @@ module _ (E : El) {M : Type 1} {𝓤 : Ura M} (𝓛 : Logic 𝓤) (rb ro : ℕ) 
       use2 𝓛 (‵ (places_owned (R E) p o put)) (apply∗ 𝓤 (sep 𝓤 (sem 𝓛 (places_owned (R E) p (a * s + o) w.0))
       (sem 𝓛 (places_owned (R E) p (b * s + o) w.1))) (sem 𝓛 (places_owned (R E) p o put))) $
       rewrite ! 0 (λ (ps : List (Place E)). ‵ (places_owned (R E) p o ps)) alike refl $ by ! (slots_whole E 𝓛 rb ro g r
-      p o n ok new (sym (length-written_over r.places (Written E r a b xs ys us vs).places)))))
+      p o n ok new (sym (length-two_written r.places a (length xs) xs in_a held b (length ys) ys in_b held' us vs)))))
 
 pub lend_two_spec : {M : Type 1} → stated.statement M
 unfolding both_by
@@ -137,7 +130,7 @@ lend_two_spec 𝓤 𝓛 𝓜 𝓡 wired X L =
     exec ! 𝓣.C 𝓣.Λ En (after 1 here.body) (at_ret En post) $ sets ! (of_opd ! (get ! refl)) refl
     (tt, ((tt, (la_ok, tt)), ((tt, (lb_ok, tt)), ((tt, tt), tt)))) $
     let pa = a * s + o in let pb = b * s + o in let Rest₀ = Rest E 𝓛 rb ro r a b xs ys g p o n in
-    let way = back E 𝓛 rb ro r a b xs ys g p o n ok held held' in
+    let way = back E 𝓛 rb ro r a b xs ys g p o n ok in_a held in_b held' in
     use1 𝓛 (‵ (places_owned (R E) p pa (run E 𝓛 p o r.places a (length xs))) ⊛ ‵ (places_owned (R E) p pb
     (run E 𝓛 p o r.places b (length ys))) ⊛ raw (all 𝓤 (Way E 𝓛 rb ro r a b xs ys g p o n)))
     (two_out E 𝓛 p o r.places a (length xs) b (length ys) in_a in_b clear) $ split3 ! $
@@ -150,13 +143,15 @@ lend_two_spec 𝓤 𝓛 𝓜 𝓡 wired X L =
     (length ys) refl $ fjoin ! $ move ! (2 ∷ []) $ feq_i ! ℕ (length xs) (length xs) refl $ fjoin ! $
     -- [the first; the second; the rest; the open borrow, in three; ..]
     move ! (3 ∷ 4 ∷ 5 ∷ 0 ∷ 1 ∷ 2 ∷ []) $ group ! 6 $
+    let Both = mem (two_lists (R E)) in
     use1 𝓛 (later (some (λ (νs : GName × (GName × GName)).
     (‵ (fobs νs.1.0 ((coded_list (R E).coded).code xs)) ⊛ ‵ (fbor κ (Borrowed (Lin E (length xs)) p pa νs.1.0)))
     ⊛ (‵ (fobs νs.1.1 ((coded_list (R E).coded).code ys)) ⊛ ‵ (fbor κ (Borrowed (Lin E (length ys)) p pb νs.1.1)))
-    ⊛ ‵ (flft κ q) ⊛ ‵ (follows (Sr E) (Sr E) γ νs.0 (Ended E r))
-    ⊛ ‵ (after₂ (mem (Sr E)) (Lin E (length xs)) (Lin E (length ys)) νs.0 νs.1.0 νs.1.1 (Written E r a b xs ys)))))
-    (takes_named 𝓛 (mem (Sr E)) (Lin E (length xs)) (Lin E (length ys)) (Ended E r) (Written E r a b xs ys) κ q rb ro p
-    pa p pb γ Rest₀ way coded coded r xs ys) $ await ! tt $ pick ! (λ νs. split3 ! $
+    ⊛ ‵ (flft κ q) ⊛ ‵ (follows (Sr E) (two_lists (R E)) γ νs.0 (λ w. Written E r a b xs ys w.0 w.1))
+    ⊛ ‵ (after₂ Both (Lin E (length xs)) (Lin E (length ys)) νs.0 νs.1.0 νs.1.1 (λ us vs. (us, vs))))))
+    (takes_named 𝓛 (mem (Sr E)) Both (Lin E (length xs)) (Lin E (length ys)) (λ w. Written E r a b xs ys w.0 w.1)
+    (λ us vs. (us, vs)) κ q rb ro p pa p pb γ Rest₀ way coded coded (xs, ys) xs ys) $ await ! tt $
+    pick ! (λ νs. split3 ! $
     let first_slice : MutBor (List (el_x E)) = record { ref_ptr = (p, pa); ghost_name = νs.1.0; now = xs } in
     let second_slice : MutBor (List (el_x E)) = record { ref_ptr = (p, pb); ghost_name = νs.1.1; now = ys } in
     let room = run_fits E ok in let bounded =

@@ -2,19 +2,19 @@
 use Rattle.arraydeque_ring.{
   proofs.{
     memory.{
-      Kit.{◌≡◌, refl, sym, ap, subst, List, [], ◌∷◌, ℕ, id⊢, Fn, inst_fn, ◌⊑◌, fact, tables, ‵, raw, ◌⊛◌, ◌$◌, !, move},
+      Kit.{◌≡◌, refl, sym, subst, List, [], ◌∷◌, ℕ, id⊢, Fn, inst_fn, ◌⊑◌, fact, tables, ‵, raw, ◌⊛◌, ◌$◌, !, move},
       Kit.{use1, use2, split, join, frame, rewrite, fsplit, fjoin, suffices, done, addr, stop, no_more, and_then},
       Kit.{returns, alloc_all, pass_all, free_all, look_at, get, through, sets, lands_as, mem, says_two, nothing},
       Kit.{heard, calls_at, framed, triple_of, param_laws, El, R, args, el_x, after₂, split3, Array, both_by, MutBor},
       Kit.{NamedLft, named_lft},
-      Regions.{Sr, Seen, Place, IsFilledRun, HoldsRun},
+      Regions.{Sr, Seen, IsFilledRun, HoldsRun},
       Methods.{passing_on, spent, values},
       Called.{knows, returned},
     },
-    loans.{Names.followed_both, Slices.{slices_lawful}, Placed.two_alike},
+    loans.{Names.followed_both, Slices.slices_lawful},
     slots.{Slots.lend_two.Met.met, loan.Loan.into_slices.Met.{met as into_met}},
   },
-  specs.{Lends.{lends_loan, lends_two_runs, two_written}, Loans.{LoanState, written_over, AreApart}, Steps.more_lends},
+  specs.{Lends.{two_lists, lends_loan, lends_two_runs, two_written}, Loans.{LoanState, AreApart}},
 }
 use Rattle.arraydeque_ring.specs.contracts.slots.loan.Loan as loan
 use Rattle.arraydeque_ring.proofs.slots.loan.Loan.TheLaws as loan_laws
@@ -67,17 +67,11 @@ two_slices_mut_spec 𝓤 𝓛 𝓜 𝓡 wired X L =
     move ! (2 ∷ []) $ use1 𝓛 (‵ (lends_loan (R E) arg.0 a b it) ⊛ raw (fact 𝓤 (First it)) ⊛ raw (fact 𝓤 (Second it)))
     (id⊢ 𝓤 _) $ split3 ! $ move ! (1 ∷ 2 ∷ []) $
     heard ! (First it) (λ held. heard ! (Second it) (λ held'. fsplit ! $
-    let γ = arg.0.ghost_name in let Ended : Seen E → Seen E =
-    λ w. record { places = written_over r.places w.places; steps = more_lends 2 r.steps } in
-    let Put = two_written (R E) arg.0 a b it.first.now it.second.now in let Rows = mem (Array (R E) 0) in
-    let alike : (us vs : List (el_x E)) → Ended (Put us vs) ≡ Put us vs =
-    λ us vs. ap (λ (ps : List (Place E)). record { places = ps; steps = more_lends 2 r.steps })
-    (two_alike r.places a la it.first.now one.0 held b lb it.second.now two'.0 held' us vs) in
-    use2 𝓛 (‵ (after₂ (mem (Sr E)) Rows Rows γ it.first.ghost_name it.second.ghost_name (λ us vs. Ended (Put us vs))))
-    (followed_both 𝓛 (mem (Sr E))
-    (mem (Sr E)) Rows Rows Ended Put γ it.name it.first.ghost_name it.second.ghost_name) $
-    rewrite ! 0 (λ (F : List (el_x E) → List (el_x E) → Seen E). ‵ (after₂
-    (mem (Sr E)) Rows Rows γ it.first.ghost_name it.second.ghost_name F)) (λ i us vs. alike us vs i) refl $
+    let γ = arg.0.ghost_name in let Rows = mem (Array (R E) 0) in
+    let Put = two_written (R E) arg.0 a b it.first.now it.second.now in
+    use2 𝓛 (‵ (after₂ (mem (Sr E)) Rows Rows γ it.first.ghost_name it.second.ghost_name Put))
+    (followed_both 𝓛 (mem (Sr E)) (mem (two_lists (R E))) Rows Rows (λ w. Put w.0 w.1) (λ us vs. (us, vs)) γ it.name
+    it.first.ghost_name it.second.ghost_name) $
     rewrite ! 0 (λ (pair : MutBor (List (el_x E)) × MutBor (List (el_x E))). ‵ (lends_two_runs (R E) arg.0 a b pair))
     (λ i. (sym e i, sym e' i)) refl $
     -- [what the region follows; the pair; the tokens]
