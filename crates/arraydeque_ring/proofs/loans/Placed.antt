@@ -142,8 +142,8 @@ module _ {X : Type 0} (ps : List (Option X)) where
 
     pub two_filled : filled written ≡ filled ps
     two_filled =
-        let held : HoldsRun ps a (length xs) xs = ap (λ k. take k (drop a ps)) (run_length a la xs in_a run) ∙ run in
-        let held' : HoldsRun ps b (length ys) ys = ap (λ k. take k (drop b ps)) (run_length b lb ys in_b run') ∙ run' in
+        let held : HoldsRun ps a (length xs) xs = rw (run_length a la xs in_a run) run in
+        let held' : HoldsRun ps b (length ys) ys = rw (run_length b lb ys in_b run') run' in
         written_filled b ys (as_many ys vs) ps (with_run a (as_many xs us) ps) held' (length-as_many ys vs)
         (written_filled a xs (as_many xs us) ps ps held (length-as_many xs us) refl)
 

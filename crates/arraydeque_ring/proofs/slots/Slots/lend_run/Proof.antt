@@ -2,13 +2,13 @@
 use Rattle.arraydeque_ring.{
   proofs.{
     memory.{
-      Kit.{nothing, join, ◌≡◌, refl, sym, ap, ◌∙◌, List, [], ◌∷◌, map, ℕ, ◌+◌, ◌*◌, ◌≤◌, arith, length, take},
-      Kit.{length-map, drop_list, Some, Ura, ent, sep, id⊢, GName, Fml, fsep, flft, Fn, inst_fn, named, Env, ◌⊑◌, fact},
-      Kit.{tables, Logic, sem, ‵, raw, ◌⊛◌, some, later, at_ret, ◌$◌, ◌∵◌, !, qed, by, move, use1, use2, drop, split},
-      Kit.{pick, frame, rewrite, await, fsplit, fjoin, suffices, done, whole, sub, look_in, agg, of_opd, bin, load},
-      Kit.{stop, fld, no_more, and_then, first, blocks, exec, returns, alloc_all, pass_all, free_all, look_at, get},
-      Kit.{through, sets, sets_last, env, mem, says, heard, after, El, R, args, el_x, split3, group, cells, Array},
-      Kit.{follows, MutBor, MutSlice, slice_val, Global},
+      Kit.{nothing, join, ◌≡◌, refl, sym, ap, ◌∙◌, List, [], ◌∷◌, map, ℕ, ◌+◌, ◌*◌, ◌≤◌, arith, length, length-map},
+      Kit.{Some, Ura, ent, sep, id⊢, GName, Fml, fsep, flft, Fn, inst_fn, named, Env, ◌⊑◌, fact, tables, Logic, sem, ‵},
+      Kit.{raw, ◌⊛◌, some, later, at_ret, ◌$◌, ◌∵◌, !, qed, by, move, use1, use2, drop, split, pick, frame, rewrite},
+      Kit.{await, fsplit, fjoin, suffices, done, whole, sub, look_in, agg, of_opd, bin, load, stop, fld, no_more},
+      Kit.{and_then, first, blocks, exec, returns, alloc_all, pass_all, free_all, look_at, get, through, sets},
+      Kit.{sets_last, env, mem, says, heard, after, El, R, args, el_x, split3, group, cells, Array, follows, MutBor},
+      Kit.{MutSlice, slice_val, Global},
       Regions.{Sr, Seen, Fits, near, run_fits, Frame, slots_whole, slots_open, scaled, item_size, Place, places_owned},
       Regions.{IsFilledRun, Around, run_out, run_in},
       Methods.{method, spent},
@@ -40,8 +40,7 @@ module _ (E : El) {M : Type 1} {𝓤 : Ura M} (𝓛 : Logic 𝓤) (rb ro : ℕ) 
   back ok ws same =
       let put = placed from (length xs) (map Some ws) r.places in
       let new : Seen E = Written E r from xs ws in
-      let alike : put ≡ new.places = ap (λ k. placed from k (map Some ws) r.places) (sym same)
-      ∙ ap (λ l. with_run from l r.places) (sym (as_many-same xs ws same)) in
+      let alike : put ≡ new.places = rw (as_many-same xs ws same, sym same) in
       let many : length (map Some ws) ≡ length xs = length-map ws Some ∙ same in
       qed 𝓛 (‵ (cells (mem (R E)) ws b (from * item_size E + o)) ∷ ‵ Rest ∷ []) ∵
       rewrite ! 0 (λ (F : Fml). ‵ F) (sym (same_cells E 𝓛 b ws (from * item_size E + o))) refl $
@@ -82,7 +81,7 @@ lend_run_spec 𝓤 𝓛 𝓜 𝓡 wired X L =
     use1 𝓛 (‵ (places_owned (R E) b at (run E 𝓛 b o r.places from (length xs)))
     ⊛ ‵ (Around E 𝓛 b o r.places from (length xs))) (run_out E 𝓛 b o r.places from (length xs) within) $ split ! $
     rewrite ! 0 (λ (ps : List (Place E)). ‵ (places_owned (R E) b at ps))
-    (ap (λ k. take k (drop_list from r.places)) long ∙ held) refl $
+    (rw long held) refl $
     rewrite ! 0 (λ (F : Fml). ‵ F) (same_cells E 𝓛 b xs at) refl $
     sets_last ! (agg ! (and_then ! (get ! refl) (and_then ! (get ! refl) (no_more !)))) refl
     (tt, (tt, (len_ok, tt))) $

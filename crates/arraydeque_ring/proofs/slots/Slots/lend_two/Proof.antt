@@ -2,14 +2,13 @@
 use Rattle.arraydeque_ring.{
   proofs.{
     memory.{
-      Kit.{nothing, id⊢, ◌≡◌, refl, sym, ap, subst, ◌∙◌, List, [], ◌∷◌, map, ℕ, ◌+◌, ◌*◌, ◌<◌, ◌≤◌, arith, length},
-      Kit.{take, length-map, drop_list, Some, Ura, SProp, ent, sep, GName, flft, fobs, fbor, Fn, inst_fn, named, Env},
-      Kit.{◌⊑◌, fact, tables, Logic, sem, Borrowed, ‵, raw, ◌⊛◌, some, later, at_ret, ◌$◌, ◌∵◌, !, qed, by, move, use1},
-      Kit.{use2, drop, split, join, pick, frame, rewrite, await, fsplit, fjoin, feq_i, feq_l, suffices, done, whole},
-      Kit.{sub, look_in, agg, of_opd, bin, load, stop, fld, no_more, and_then, first, blocks, exec, returns, alloc_all},
-      Kit.{pass_all, free_all, look_at, get, through, sets, sets_last, env, mem, says_two, heard, after, El, R, args},
-      Kit.{el_x, after₂, split3, group, SemTy, all, all_e, apply∗, follows, both_by, MutBor, NamedLft, named_lft},
-      Kit.{MutSlice, slice_val, Global, Fml},
+      Kit.{nothing, id⊢, ◌≡◌, refl, sym, ◌∙◌, List, [], ◌∷◌, map, ℕ, ◌+◌, ◌*◌, ◌≤◌, arith, length, length-map, Some},
+      Kit.{Ura, SProp, ent, sep, GName, flft, fobs, fbor, Fn, inst_fn, named, Env, ◌⊑◌, fact, tables, Logic, sem},
+      Kit.{Borrowed, ‵, raw, ◌⊛◌, some, later, at_ret, ◌$◌, ◌∵◌, !, qed, by, move, use1, use2, drop, split, join, pick},
+      Kit.{frame, rewrite, await, fsplit, fjoin, feq_i, feq_l, suffices, done, whole, sub, look_in, agg, of_opd, bin},
+      Kit.{load, stop, fld, no_more, and_then, first, blocks, exec, returns, alloc_all, pass_all, free_all, look_at},
+      Kit.{get, through, sets, sets_last, env, mem, says_two, heard, after, El, R, args, el_x, after₂, split3, group},
+      Kit.{SemTy, all, all_e, apply∗, follows, both_by, MutBor, NamedLft, named_lft, MutSlice, slice_val, Global, Fml},
       Regions.{Sr, Seen, Fits, near, run_fits, Frame, slots_whole, slots_open, scaled, item_size, Place, places_owned},
       Regions.{IsFilledRun, HoldsRun},
       Methods.{method, spent},
@@ -66,11 +65,7 @@ module _ (E : El) {M : Type 1} {𝓤 : Ura M} (𝓛 : Logic 𝓤) (rb ro : ℕ) 
       fsplit ! $ feq_l ! (λ same. move ! (1 ∷ []) $ fsplit ! $ feq_l ! (λ same'.
       let put = placed b (length ys) (map Some vs) (placed a (length xs) (map Some us) r.places) in
       let new : Seen E = Written E r a b xs ys us vs in
-      let alike : put ≡ new.places =
-      ap (λ k. placed b k (map Some vs) (placed a (length xs) (map Some us) r.places)) (sym same')
-      ∙ ap (λ k. with_run b vs (placed a k (map Some us) r.places)) (sym same)
-      ∙ ap (λ l. with_run b l (with_run a us r.places)) (sym (as_many-same ys vs same'))
-      ∙ ap (λ l. with_run b (as_many ys vs) (with_run a l r.places)) (sym (as_many-same xs us same)) in
+      let alike : put ≡ new.places = rw (as_many-same xs us same, as_many-same ys vs same', sym same, sym same') in
       let w : News E 𝓛 p o r.places a (length xs) b (length ys) =
       (map Some us, map Some vs, sym (length-map us Some ∙ same), sym (length-map vs Some ∙ same')) in
       -- [the second's values; the first's; the rest]
@@ -100,12 +95,11 @@ lend_two_spec 𝓤 𝓛 𝓜 𝓡 wired X L =
     heard ! (IsFilledRun r.places b lb) (λ two. heard ! (AreApart a la b lb) (λ apart.
     let xs : List (el_x E) = one.1.0 in let ys : List (el_x E) = two.1.0 in
     let long = length_filled r.places a la one in let long' = length_filled r.places b lb two in
-    let held : HoldsRun r.places a (length xs) xs = ap (λ k. take k (drop_list a r.places)) long ∙ one.1.1 in
-    let held' : HoldsRun r.places b (length ys) ys = ap (λ k. take k (drop_list b r.places)) long' ∙ two.1.1 in
+    let held : HoldsRun r.places a (length xs) xs = rw long one.1.1 in
+    let held' : HoldsRun r.places b (length ys) ys = rw long' two.1.1 in
     let in_a : a + length xs ≤ length r.places = omega (arith, one.0) in
     let in_b : b + length ys ≤ length r.places = omega (arith, two.0) in
-    let clear : AreApart a (length xs) b (length ys) = λ k. subst (λ m. a ≤ k → k < a + m → b ≤ k → k < b + length ys
-    → ⊥) (sym long) (subst (λ m. a ≤ k → k < a + la → b ≤ k → k < b + m → ⊥) (sym long') (apart k)) in
+    let clear : AreApart a (length xs) b (length ys) = rw (long, long') apart in
     alloc_all ! (λ l. pass_all ! refl ((tt, tt), typed) $
     let En : Env 𝓤 𝓛.H = env here.locals l in
     slots_open E ! tt r rb ro (λ g p o n ok.
