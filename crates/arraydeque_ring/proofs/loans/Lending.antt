@@ -78,10 +78,10 @@ module _ {X : Type 0} where
   -- a run that was written holds what was written, also where another was written before it
   held_there : (from n : ℕ) (ws : List X) (ps : List (Option X)) → length ws ≡ n → from + n ≤ length ps
       → HoldsRun (with_run from ws ps) from n ws
-  held_there from n ws ps e within =
-      ap (take n)
-      (drop_at (take from ps) (map Some ws ++ drop (from + length ws) ps) from (omega (arith, length-take from ps)))
-      ∙ take_at (map Some ws) (drop (from + length ws) ps) n (length-map ws Some ∙ e)
+  held_there from n ws ps e within = rw (
+    drop_at (take from ps) (map Some ws ++ drop (from + length ws) ps) from (omega (arith, length-take from ps)),
+    take_at (map Some ws) (drop (from + length ws) ps) n (length-map ws Some ∙ e),
+  )
 
   held_above : (from n : ℕ) (ws us : List X) (ps : List (Option X)) → length us ≤ from → HoldsRun ps from n ws
       → HoldsRun (with_run 0 us ps) from n ws

@@ -5,8 +5,9 @@ use Rattle.std.{
     Common.{Option, Some, is_some, true, refl, sym, ap, ap₂, ◌∙◌, arith},
     lemmas.{
       Bool.cases_lt,
-      List.{length-map, nil_from_length, length-append, length-take, length-drop, map-append, append_assoc, take_at},
-      List.{drop_at, drop-take, take-take, take-append-drop, take-append-le, drop-append-le, drop-drop},
+      Grind.common_steps,
+      List.{length-map, nil_from_length, length-take, map-append, append_assoc, take_at, drop_at, drop-take, take-take},
+      List.{take-append-drop, take-append-le, drop-append-le, drop-drop},
     },
   },
   specs.List.{length_refill, splice, take-map, drop-map},
@@ -20,32 +21,25 @@ module _ {Y : Type 0} where
 
   -- the items that are there already
   placed_same : (i n : ℕ) (ps : List Y) → placed i n (take n (drop i ps)) ps ≡ ps
-  placed_same i n ps = ap (λ l. take i ps ++ (take n (drop i ps) ++ l)) (sym (drop-drop n i ps))
-      ∙ ap (λ l. take i ps ++ l) (take-append-drop n (drop i ps)) ∙ take-append-drop i ps
+  placed_same i n ps = rw (sym (drop-drop n i ps), take-append-drop n (drop i ps), take-append-drop i ps)
 
   -- no item changes nothing
   pub placed_nothing : (i : ℕ) (ws ps : List Y) → length ws ≡ 0 → placed i 0 ws ps ≡ ps
-  placed_nothing i ws ps e = ap (λ l. placed i 0 l ps) (nil_from_length ws e) ∙ placed_same i 0 ps
+  placed_nothing i ws ps e = rw (nil_from_length ws e) (placed_same i 0 ps)
 
   pub length-placed : (i n : ℕ) (ws ps : List Y) → i + n ≤ length ps → length ws ≡ n
       → length (placed i n ws ps) ≡ length ps
-  length-placed i n ws ps le e = omega (
-    arith,
-    e,
-    le,
-    length-append (take i ps) (ws ++ drop (i + n) ps),
-    length-append ws (drop (i + n) ps),
-    length-take i ps,
-    length-drop (i + n) ps,
-  )
+  length-placed i n ws ps le e = grind (arith, common_steps, e, le)
 
   -- what is placed in the first part of a list leaves the second
   pub placed-append : (i n : ℕ) (ws xs ys : List Y) → i + n ≤ length xs
       → placed i n ws (xs ++ ys) ≡ placed i n ws xs ++ ys
-  placed-append i n ws xs ys le =
-      ap₂ (λ a b. a ++ (ws ++ b)) (take-append-le i xs ys (omega arith)) (drop-append-le (i + n) xs ys le)
-      ∙ ap (λ l. take i xs ++ l) (sym (append_assoc ws (drop (i + n) xs) ys))
-      ∙ sym (append_assoc (take i xs) (ws ++ drop (i + n) xs) ys)
+  placed-append i n ws xs ys le = rw (
+    take-append-le i xs ys (omega arith),
+    drop-append-le (i + n) xs ys le,
+    append_assoc (take i xs) (ws ++ drop (i + n) xs) ys,
+    append_assoc ws (drop (i + n) xs) ys,
+  )
 
   -- what is placed behind a run can be placed after it
   pub placed_behind : (a m b n : ℕ) (us vs ps : List Y) → a + m ≤ b → b + n ≤ length ps → length us ≡ m
@@ -104,11 +98,12 @@ module _ {X : Type 0} where
   filled-with_run : (from : ℕ) (ws : List X) (ps : List (Option X))
       → filled (with_run from ws ps) ≡ placed from (length ws) (replicate (length ws) true) (filled ps)
   unfolding filled
-  filled-with_run from ws ps =
-      map-append is_some (take from ps) (map Some ws ++ drop (from + length ws) ps)
-      ∙ ap₂ (λ l r. l ++ r) (sym (take-map is_some from ps))
-      (map-append is_some (map Some ws) (drop (from + length ws) ps)
-      ∙ ap₂ (λ l r. l ++ r) (filled-map_Some ws) (sym (drop-map is_some (from + length ws) ps)))
+  filled-with_run from ws ps = rw (
+    map-append is_some (take from ps) (map Some ws ++ drop (from + length ws) ps),
+    map-append is_some (map Some ws) (drop (from + length ws) ps),
+    take-map is_some from ps,
+    drop-map is_some (from + length ws) ps,
+  ) (ap (λ l. filled (take from ps) ++ (l ++ filled (drop (from + length ws) ps))) (filled-map_Some ws))
 
   -- as many values in the stead of a run of values fill no place and empty none
   written_filled : (from : ℕ) (xs ws : List X) (ps qs : List (Option X)) → HoldsRun ps from (length xs) xs
@@ -125,14 +120,13 @@ module _ {X : Type 0} where
 pub run_before : {Y : Type 0} (ps : List Y) (i m j : ℕ) → i + m ≤ j → take m (drop i (take j ps)) ≡ take m (drop i ps)
 run_before ps i m j le =
     let e : j ≡ i + (j - i) = omega arith in
-    ap (λ k. take m (drop i (take k ps))) e ∙ ap (take m) (drop-take i (j - i) ps)
-    ∙ take-take m (j - i) (drop i ps) (omega arith)
+    rw (e, drop-take i (j - i) ps, take-take m (j - i) (drop i ps) (omega arith))
 
 module _ {X : Type 0} (ps : List (Option X)) where
   -- a run has as many values as places
   pub run_length : (from len : ℕ) (xs : List X) → from + len ≤ length ps → HoldsRun ps from len xs → length xs ≡ len
   run_length from len xs within run =
-      omega (arith, ap length run, length-map xs Some, length-take len (drop from ps), length-drop from ps)
+      grind (arith, common_steps, ap length run)
 
   -- what is written into two runs of values fills no place and empties none
   module _ (a la : ℕ) (xs : List X) (in_a : a + la ≤ length ps) (run : HoldsRun ps a la xs) (b lb : ℕ) (ys : List X)

@@ -1,6 +1,6 @@
 -- A list in one piece, with other items written in its places.
 use Rattle.std.proofs.{
-  Common.{◌≡◌, ℕ, ◌+◌, ◌-◌, ◌≤◌, List, ◌++◌, map, length, take, drop, replicate, Option, Some, None, sym, ap, ap₂, ◌∙◌},
+  Common.{◌≡◌, ℕ, ◌+◌, ◌-◌, ◌≤◌, List, ◌++◌, map, length, take, drop, replicate, Option, Some, None, sym, ap, ◌∙◌},
   Common.{arith},
 }
 use Rattle.std.proofs.lemmas.{
@@ -18,10 +18,8 @@ module _ {X : Type 0} {n t : ℕ} {xs : List X} {ps : List (Option X)} (l : Laid
   past_items_empty fits =
       let m = length xs in
       let long = l.length_is in
-      ap (λ r. r ++ take t ps) (sym (drop-drop m t ps))
-      ∙ sym (drop-append-le m (drop t ps) (take t ps) (omega (arith, length-drop t ps)))
-      ∙ ap (drop m) (rotated-LaidOut l)
-      ∙ drop_at (map Some xs) (replicate (n - m) None) m (length-map xs Some)
+      rw (sym (drop-drop m t ps), sym (drop-append-le m (drop t ps) (take t ps) (omega (arith, length-drop t ps))))
+      (ap (drop m) (rotated-LaidOut l) ∙ drop_at (map Some xs) (replicate (n - m) None) m (length-map xs Some))
 
   pub LaidOut-written : (ys : List X) → length ys ≡ length xs → t + length xs ≤ n → LaidOut n t ys (with_run t ys ps)
   LaidOut-written ys same fits =
@@ -29,9 +27,11 @@ module _ {X : Type 0} {n t : ℕ} {xs : List X} {ps : List (Option X)} (l : Laid
       let front : length (take t ps) ≡ t = omega (arith, length-take t ps) in
       let behind = map Some ys ++ drop (t + length ys) ps in
       let read : rotated t (with_run t ys ps) ≡ and_empty ys (n - length ys) =
-      ap₂ (λ a b. a ++ b) (drop_at (take t ps) behind t front) (take_at (take t ps) behind t front)
-      ∙ append_assoc (map Some ys) (drop (t + length ys) ps) (take t ps)
-      ∙ ap (λ r. map Some ys ++ r) (ap (λ k. drop (t + k) ps ++ take t ps) same ∙ past_items_empty fits
-      ∙ ap (λ k. replicate (n - k) None) (sym same))
-      in
+      rw (
+        drop_at (take t ps) behind t front,
+        take_at (take t ps) behind t front,
+        append_assoc (map Some ys) (drop (t + length ys) ps) (take t ps),
+        same,
+        past_items_empty fits,
+      ) in
       LaidOut-from (n - length ys) (length-with_run t ys ps (omega arith) ∙ long) l.in_region read
