@@ -5,4 +5,3 @@ pub mod Placed
 pub mod Rings
 pub mod Runs
 pub mod Slices
-pub mod Written

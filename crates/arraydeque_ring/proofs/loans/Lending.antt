@@ -116,7 +116,7 @@ module _ {X : Type 0} where
     kept_after = (
       subst (λ n. r.start ≤ n - 1) (sym long) old.0,
       subst (FilledFrom r.start r.len) (sym (two_filled r.slots.places r.start first xs c.fits held 0 rest ys
-      (second_run_filled o c).0 held' us vs)) old.1,
+          (second_run_filled o c).0 held' us vs)) old.1,
     )
 
     pub seen_after : view new ≡ rewritten v (rewritten v (as_many xs us ++ as_many ys vs)).items
@@ -133,8 +133,11 @@ module _ {X : Type 0} where
         } in
         let first_held : HoldsRun ps r.start first us' = held_above r.start first us' vs' front (omega (arith, low o c))
         (held_there r.start first us' r.slots.places many c.fits) in
-        let rest_held : HoldsRun ps 0 rest vs' = held_there 0 rest vs' front many' (omega (arith,
-        (second_run_filled o c).0, length-with_run r.start us' r.slots.places (omega (arith, many, c.fits)))) in
+        let rest_held : HoldsRun ps 0 rest vs' = held_there 0 rest vs' front many' (omega (
+          arith,
+          (second_run_filled o c).0,
+          length-with_run r.start us' r.slots.places (omega (arith, many, c.fits)),
+        )) in
         let same : us' ++ vs' ≡ (view new).items = lent_items p cut us' vs' first_held rest_held in
         let whole = as_many-same v.items (view new).items (p.len ∙ sym o.len) in
         rw (

@@ -5,7 +5,7 @@ use Rattle.arraydeque_ring.{
   proofs.memory.Kit.{feq_i, done, RattleType, Valss, nothing, NamedLft, MutSlice, makes_shadow, Struct},
   specs.{Loans.LoanState, declared.slots.loan.Loan.TheInside.Inside},
 }
-use denote.Struct.{Declared.shape, Owning.{shape as owned_shape}, Struct.within}
+use denote.Struct.{Declared.shape, Owning.shape as owned_shape, Struct.within}
 use Rattle.arraydeque_ring.specs.contracts.slots.loan.Loan as loan
 use Rattle.arraydeque_ring.specs.contracts.slots.loan.Loan.TheInside as inside
 use Rattle.arraydeque_ring.specs.contracts.slots.loan.LoanName as loan_name

@@ -1,11 +1,11 @@
 -- A loan under a name of its lender's own type: how it is made, and handed on by what holds the lender.
 -- For any types in memory. Assumes `Logic`.
 use Rattle.arraydeque_ring.proofs.memory.{
-  Kit.{◌≡◌, refl, SProp, ent, sep, wand, ex, id⊢, emp, guard, snd∗, flft, Lft, GName, Share, Fml, ftrue, fsep, fobs},
-  Kit.{fauth, fobor, fbor, ‵, raw, ◌⊛◌, later, ◌$◌, ◌∵◌, !, qed, by, move, keep, use0, use1, use2, drop, split, join},
-  Kit.{fsplit, fsplit3, fjoin, fjoin3, fpick, fpack, feq_l, rewrite, suffices, updating, await, show, done, ap₂},
-  Kit.{wand_i, all, apply∗, all_e, upd_i, fex, fres, fwand, fupd, fdead, flent, fseps, each, split3, assume, group, ℕ},
-  Kit.{List, [], ◌∷◌, Ura, Gv, Logic, sem, name_new, SemTy, after₂},
+  Kit.{via, mono_r, ◌≡◌, refl, SProp, ent, sep, wand, ex, id⊢, emp, guard, snd∗, flft, Lft, GName, Share, Fml, ftrue},
+  Kit.{fsep, fobs, fauth, fobor, fbor, ‵, raw, ◌⊛◌, later, ◌$◌, ◌∵◌, !, qed, by, move, keep, use0, use1, use2, drop},
+  Kit.{split, join, fsplit, fsplit3, fjoin, fjoin3, fpick, fpack, feq_l, rewrite, suffices, updating, await, show},
+  Kit.{done, ap₂, wand_i, all, apply∗, all_e, upd_i, fex, fres, fwand, fupd, fdead, flent, fseps, each, split3, assume},
+  Kit.{group, ℕ, List, [], ◌∷◌, Ura, Gv, Logic, sem, name_new, SemTy, after₂},
 }
 use types.{
   Kit.now,
@@ -16,6 +16,20 @@ use types.{
 }
 use seplogic.Bi.Basic.{and}
 use ghost.Rules.{aged}
+
+-- who has the value under ν has it under γ, as F makes it
+module _ {M : Type 1} {𝓤 : Ura M} (𝓛 : Logic 𝓤) (R S : SemTy) (F : S.rep → R.rep) (γ ν : GName) where
+  open 𝓛 use {A}
+
+  abbrev Turn : S.rep → SProp 𝓤
+  Turn w = wand 𝓤 (A.auth ν (S.coded.code w)) (A.auth γ (R.coded.code (F w)))
+
+  abbrev Turns : SProp 𝓤
+  Turns = all 𝓤 Turn
+
+  turned : (w : S.rep) → ent 𝓤 (sep 𝓤 (A.auth ν (S.coded.code w)) Turns) (A.auth γ (R.coded.code (F w)))
+  turned w = via 𝓤 (sep 𝓤 (A.auth ν (S.coded.code w)) (Turn w)) (mono_r 𝓤 (A.auth ν (S.coded.code w)) (all_e 𝓤 Turn w))
+      (apply∗ 𝓤 (A.auth ν (S.coded.code w)) (A.auth γ (R.coded.code (F w))))
 
 -- what follows a value that follows two follows the two
 module _ {M : Type 1} {𝓤 : Ura M} (𝓛 : Logic 𝓤) (R S T U : SemTy) (F : S.rep → R.rep) (P : T.rep → U.rep → S.rep)
@@ -43,38 +57,29 @@ module _ {M : Type 1} {𝓤 : Ura M} (𝓛 : Logic 𝓤) (R N T U : SemTy) (F : 
     (sep 𝓤 (sem 𝓛 (U.own_at w₂ b₂ o₂)) Rest)) (sem 𝓛 (R.own_at (F (V w₁ w₂)) b o))) where
   open 𝓛 use {H, A}
 
-  abbrev Turns : GName → SProp 𝓤
-  Turns ν = all 𝓤 (λ (w : N.rep). wand 𝓤 (A.auth ν (N.coded.code w)) (A.auth γ (R.coded.code (F w))))
-
-  abbrev Both : GName → GName → GName → SProp 𝓤
-  Both ν γ₁ γ₂ = all 𝓤 (λ (w : T.rep × U.rep). wand 𝓤
-      (sep 𝓤 (A.auth γ₁ (T.coded.code w.0)) (A.auth γ₂ (U.coded.code w.1))) (A.auth ν (N.coded.code (V w.0 w.1))))
+  abbrev Both : GName → GName → GName → T.rep × U.rep → SProp 𝓤
+  Both ν γ₁ γ₂ w = wand 𝓤
+      (sep 𝓤 (A.auth γ₁ (T.coded.code w.0)) (A.auth γ₂ (U.coded.code w.1))) (A.auth ν (N.coded.code (V w.0 w.1)))
 
   abbrev Parts : GName → GName → List Fml
   Parts γ₁ γ₂ = Body T b₁ o₁ γ₁ ∷ Body U b₂ o₂ γ₂ ∷ []
 
-  way_back : (ν γ₁ γ₂ : GName) → ent 𝓤 (sep 𝓤 Rest (sep 𝓤 (Turns ν) (Both ν γ₁ γ₂)))
+  way_back : (ν γ₁ γ₂ : GName) → ent 𝓤 (sep 𝓤 Rest (sep 𝓤 (Turns 𝓛 R N F γ ν) (all 𝓤 (Both ν γ₁ γ₂))))
       (sem 𝓛 (fwand (fsep (fdead κ) (fseps (Parts γ₁ γ₂))) (fupd (Body R b o γ))))
   unfolding fseps
   way_back ν γ₁ γ₂ =
-      qed 𝓛 (raw Rest ∷ raw (Turns ν) ∷ raw (Both ν γ₁ γ₂) ∷ []) ∵ assume ! (‵ (fsep (fdead κ) (fseps (Parts γ₁ γ₂)))) $
+      qed 𝓛 (raw Rest ∷ raw (Turns 𝓛 R N F γ ν) ∷ raw (all 𝓤 (Both ν γ₁ γ₂)) ∷ []) ∵
+      assume ! (‵ (fsep (fdead κ) (fseps (Parts γ₁ γ₂)))) $
       suffices ! (sem 𝓛 (Body R b o γ)) (upd_i 𝓤 (sem 𝓛 (Body R b o γ))) $
       fsplit ! $ drop ! $ fsplit3 ! $ fpick ! (λ w₁. fsplit ! $ move ! (2 ∷ []) $ fpick ! (λ w₂. fsplit ! $
       -- [the second part; its auth; the first; its auth; nothing; the rest; the ways of the names]
       move ! (0 ∷ 5 ∷ []) $ join ! $ move ! (2 ∷ 0 ∷ []) $ use2 𝓛 (‵ (R.own_at (F (V w₁ w₂)) b o)) (back w₁ w₂) $
       move ! (5 ∷ []) $
-      use1 𝓛 (raw (wand 𝓤 (sep 𝓤 (A.auth γ₁ (T.coded.code w₁)) (A.auth γ₂ (U.coded.code w₂)))
-      (A.auth ν (N.coded.code (V w₁ w₂)))))
-      (all_e 𝓤 (λ (w : T.rep × U.rep). wand 𝓤 (sep 𝓤 (A.auth γ₁ (T.coded.code w.0)) (A.auth γ₂ (U.coded.code w.1)))
-      (A.auth ν (N.coded.code (V w.0 w.1)))) (w₁, w₂)) $
+      use1 𝓛 (raw (Both ν γ₁ γ₂ (w₁, w₂))) (all_e 𝓤 (Both ν γ₁ γ₂) (w₁, w₂)) $
       -- [the way of both; the whole; auth γ₂; auth γ₁; nothing; the way of ν]
       move ! (3 ∷ 2 ∷ []) $ join ! $ use2 𝓛 (‵ (fauth ν (N.coded.code (V w₁ w₂)))) (apply∗ 𝓤
       (sep 𝓤 (A.auth γ₁ (T.coded.code w₁)) (A.auth γ₂ (U.coded.code w₂))) (A.auth ν (N.coded.code (V w₁ w₂)))) $
-      move ! (3 ∷ []) $
-      use1 𝓛 (raw (wand 𝓤 (A.auth ν (N.coded.code (V w₁ w₂))) (A.auth γ (R.coded.code (F (V w₁ w₂))))))
-      (all_e 𝓤 (λ (z : N.rep). wand 𝓤 (A.auth ν (N.coded.code z)) (A.auth γ (R.coded.code (F z)))) (V w₁ w₂)) $
-      move ! (1 ∷ 0 ∷ []) $ use2 𝓛 (‵ (fauth γ (R.coded.code (F (V w₁ w₂)))))
-      (apply∗ 𝓤 (A.auth ν (N.coded.code (V w₁ w₂))) (A.auth γ (R.coded.code (F (V w₁ w₂))))) $
+      move ! (0 ∷ 3 ∷ []) $ use2 𝓛 (‵ (fauth γ (R.coded.code (F (V w₁ w₂))))) (turned 𝓛 R N F γ ν (V w₁ w₂)) $
       move ! (1 ∷ 0 ∷ []) $ fjoin ! $ fpack ! R.rep (λ z. fsep (R.own_at z b o) (fauth γ (R.coded.code z)))
       (F (V w₁ w₂)) $ keep ! (0 ∷ []) $ done !))
 
@@ -91,12 +96,13 @@ module _ {M : Type 1} {𝓤 : Ura M} (𝓛 : Logic 𝓤) (R N T U : SemTy) (F : 
       qed 𝓛 (‵ (fobor κ q (Body R b o γ)) ∷ ‵ (fobs γ u) ∷ ‵ (fauth γ v) ∷ ‵ (T.own_at y b₁ o₁) ∷ ‵ (U.own_at z b₂ o₂)
       ∷ raw Rest ∷ []) ∵ updating ! $
       name_new ! tt (N.coded.code x) (λ ν. move ! (3 ∷ 4 ∷ []) $
-      use2 𝓛 (later (‵ (after R N γ ν F) ⊛ raw (Turns ν))) (follows_anew 𝓛 R N F γ ν u v) $ await ! tt $ split ! $
+      use2 𝓛 (later (‵ (after R N γ ν F) ⊛ raw (Turns 𝓛 R N F γ ν))) (follows_anew 𝓛 R N F γ ν u v) $ await ! tt $
+      split ! $
       -- [after; the way of ν; obs ν; auth ν; the open borrow; the first; the second; the rest]
       name_new ! tt (U.coded.code z) (λ γ₂. name_new ! tt (T.coded.code y) (λ γ₁. move ! (6 ∷ 7 ∷ []) $
       use2 𝓛 (later (raw (and 𝓤.op (sem 𝓛 (after₂ N T U ν γ₁ γ₂ V))
       (all 𝓤 (λ (g : Gv). wand 𝓤 (A.auth ν g) (ex 𝓤 (λ (w : T.rep × U.rep). guard 𝓤 (g ≡ N.coded.code (V w.0 w.1))
-      (sep 𝓤 (A.auth γ₁ (T.coded.code w.0)) (A.auth γ₂ (U.coded.code w.1)))))))) ⊛ raw (Both ν γ₁ γ₂)))
+      (sep 𝓤 (A.auth γ₁ (T.coded.code w.0)) (A.auth γ₂ (U.coded.code w.1)))))))) ⊛ raw (all 𝓤 (Both ν γ₁ γ₂))))
       (𝓛.names.name_follow ν γ₁ γ₂ (T.rep × U.rep) (λ w. T.coded.code w.0) (λ w. U.coded.code w.1)
       (λ w. N.coded.code (V w.0 w.1)) (λ s t e e'. ap₂ (λ x₁ x₂. N.coded.code (V x₁ x₂)) (T.coded.inj s.0 t.0 e)
       (U.coded.inj s.1 t.1 e')) (N.coded.code x) (N.coded.code x)) $ await ! tt $ split ! $
@@ -126,33 +132,21 @@ module _ {M : Type 1} {𝓤 : Ura M} (𝓛 : Logic 𝓤) (R T N : SemTy) (F : R.
   abbrev Whole : Fml
   Whole = Body R b o γ
 
-  abbrev Turned : GName → SProp 𝓤
-  Turned ν = all 𝓤 (λ (w : R.rep). wand 𝓤 (A.auth ν (R.coded.code w)) (A.auth γ (R.coded.code (F w))))
-
-  abbrev Comes : GName → SProp 𝓤
-  Comes ν = all 𝓤 (λ (w : N.rep). wand 𝓤 (A.auth m (N.coded.code w)) (A.auth ν (R.coded.code (V w))))
-
-  late : (ν : GName) → ent 𝓤 (sep 𝓤 Rest (sep 𝓤 (Turned ν) (sep 𝓤 (Comes ν) (sem 𝓛 (after T N δ m G)))))
+  late : (ν : GName) → ent 𝓤
+      (sep 𝓤 Rest (sep 𝓤 (Turns 𝓛 R R F γ ν) (sep 𝓤 (Turns 𝓛 R N V ν m) (sem 𝓛 (after T N δ m G)))))
       (sem 𝓛 (fwand (fsep (fdead κ) (fseps (Body T b' o' δ ∷ []))) (fupd Whole)))
   unfolding fseps
   late ν =
-      qed 𝓛 (raw Rest ∷ raw (Turned ν) ∷ raw (Comes ν) ∷ ‵ (after T N δ m G) ∷ []) ∵
+      qed 𝓛 (raw Rest ∷ raw (Turns 𝓛 R R F γ ν) ∷ raw (Turns 𝓛 R N V ν m) ∷ ‵ (after T N δ m G) ∷ []) ∵
       assume ! (‵ (fsep (fdead κ) (fseps (Body T b' o' δ ∷ [])))) $
       suffices ! (sem 𝓛 Whole) (upd_i 𝓤 (sem 𝓛 Whole)) $
       fsplit ! $ drop ! $ fsplit ! $ fpick ! (λ z. fsplit ! $ move ! (1 ∷ 6 ∷ []) $
       use2 𝓛 (‵ (fex N.rep (Came 𝓛 T N G m z))) (came 𝓛 T N G δ m z) $ fpick ! (λ w. fsplit ! $ feq_l ! (λ e.
       -- [auth m; the part; nothing; the rest; the way of ν; that of m]
       rewrite ! 1 (λ (t : T.rep). ‵ (T.own_at t b' o')) e refl $ move ! (1 ∷ 3 ∷ []) $
-      use2 𝓛 (‵ (R.own_at (F (V w)) b o)) (back w) $ move ! (4 ∷ []) $
-      use1 𝓛 (raw (wand 𝓤 (A.auth m (N.coded.code w)) (A.auth ν (R.coded.code (V w)))))
-      (all_e 𝓤 (λ (t : N.rep). wand 𝓤 (A.auth m (N.coded.code t)) (A.auth ν (R.coded.code (V t)))) w) $
-      -- [the way of m; the whole; auth m; nothing; the way of ν]
-      move ! (2 ∷ 0 ∷ []) $ use2 𝓛 (‵ (fauth ν (R.coded.code (V w))))
-      (apply∗ 𝓤 (A.auth m (N.coded.code w)) (A.auth ν (R.coded.code (V w)))) $ move ! (3 ∷ []) $
-      use1 𝓛 (raw (wand 𝓤 (A.auth ν (R.coded.code (V w))) (A.auth γ (R.coded.code (F (V w))))))
-      (all_e 𝓤 (λ (t : R.rep). wand 𝓤 (A.auth ν (R.coded.code t)) (A.auth γ (R.coded.code (F t)))) (V w)) $
-      move ! (1 ∷ 0 ∷ []) $ use2 𝓛 (‵ (fauth γ (R.coded.code (F (V w)))))
-      (apply∗ 𝓤 (A.auth ν (R.coded.code (V w))) (A.auth γ (R.coded.code (F (V w))))) $
+      use2 𝓛 (‵ (R.own_at (F (V w)) b o)) (back w) $
+      move ! (1 ∷ 4 ∷ []) $ use2 𝓛 (‵ (fauth ν (R.coded.code (V w)))) (turned 𝓛 R N V ν m w) $
+      move ! (0 ∷ 3 ∷ []) $ use2 𝓛 (‵ (fauth γ (R.coded.code (F (V w))))) (turned 𝓛 R R F γ ν (V w)) $
       move ! (1 ∷ 0 ∷ []) $ fjoin ! $ fpack ! R.rep (λ t. fsep (R.own_at t b o) (fauth γ (R.coded.code t))) (F (V w)) $
       keep ! (0 ∷ []) $ done !)))
 
@@ -165,9 +159,10 @@ module _ {M : Type 1} {𝓤 : Ura M} (𝓛 : Logic 𝓤) (R T N : SemTy) (F : R.
   hands_on n u v x =
       qed 𝓛 (raw (aged 𝓤 H A n κ q Whole) ∷ ‵ (fobs γ u) ∷ ‵ (fauth γ v) ∷ ‵ (flent (deep n κ) (Body T b' o' δ))
       ∷ ‵ (after T N δ m G) ∷ raw Rest ∷ []) ∵ updating ! $
-      name_new ! tt (R.coded.code x) (λ ν. move ! (3 ∷ 4 ∷ []) $ use2 𝓛 (later (‵ (after R R γ ν F) ⊛ raw (Turned ν)))
-      (follows_anew 𝓛 R R F γ ν u v) $ await ! tt $ split ! $ move ! (2 ∷ 3 ∷ []) $
-      use2 𝓛 (later (‵ (after R N ν m V) ⊛ raw (Comes ν)))
+      name_new ! tt (R.coded.code x) (λ ν. move ! (3 ∷ 4 ∷ []) $
+      use2 𝓛 (later (‵ (after R R γ ν F) ⊛ raw (Turns 𝓛 R R F γ ν))) (follows_anew 𝓛 R R F γ ν u v) $
+      await ! tt $ split ! $ move ! (2 ∷ 3 ∷ []) $
+      use2 𝓛 (later (‵ (after R N ν m V) ⊛ raw (Turns 𝓛 R N V ν m)))
       (follows_anew 𝓛 R N V ν m (R.coded.code x) (R.coded.code x)) $ await ! tt $ split ! $
       -- [what ν follows; the way of m;
       -- what γ follows; the way of ν; the open borrow; the right to the part's end; what δ follows; the rest]

@@ -3,7 +3,7 @@ use Rattle.arraydeque_ring.proofs.memory.Kit.{List, [], ◌∷◌, Ura, Logic, R
 use denote.{
   Laws.Lawful,
   Slice.mut_slice_Lawful,
-  Struct.{Declared.{Declared, shape}, Recorded.recorded_lawful, Struct.{Struct-Lawful}, Tuple.{Tuple, tuple_type}},
+  Struct.{Declared.{Declared, shape}, Recorded.recorded_lawful, Struct.Struct-Lawful, Tuple.{Tuple, tuple_type}},
 }
 
 module _ (α : NamedLft) (T : RattleType) where

@@ -8,7 +8,7 @@ use Rattle.arraydeque_ring.{
   },
   specs.Ownership.{owned_if, right_to_free},
 }
-use mir.{Raw.{raw as bare}, Syntax.{Opd as Operand, op2, mul, unsigned, size_of}}
+use mir.{Raw.raw as bare, Syntax.{Opd as Operand, op2, mul, unsigned, size_of}}
 use types.Run.{Opd, Rv}
 use prog.RawLaws.{size-raw, align-raw}
 use Rattle.std.proofs.{lemmas.Bool.{lt-ltb, le-ltb}, GlobalToken.dealloc_token_start}

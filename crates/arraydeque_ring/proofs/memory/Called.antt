@@ -5,7 +5,7 @@ use Rattle.arraydeque_ring.proofs.memory.{
 }
 use denote.{
   Laws.{Lawful, Typed},
-  Signature.{type_at},
+  Signature.type_at,
   Triple.{Entry.{Res, alive}, Clauses.{Ended, Clauses, closing, at_exit}},
 }
 

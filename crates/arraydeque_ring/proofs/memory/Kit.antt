@@ -46,7 +46,7 @@ pub use types.{
 pub use types.Part.{whole, sub, look_in, agg}
 pub use types.Match.{live, vrt, in_variant}
 pub use types.{
-  Run.{enter, of_opd, lit, unit_lit, size_word, align_word, size_lit, bin, addr, from, load, look, init, stop, fld},
+  Run.{enter, of_opd, lit, unit_lit, size_word, align_word, bin, addr, from, load, look, init, stop, fld},
   Run.{no_more, and_then, assigns_last, first, blocks, branches, skips, switches_on, exec, returns},
 }
 pub use types.{
@@ -80,7 +80,7 @@ pub use Rattle.std.proofs.RcSteps.{Good, first_Good}
 pub use Rattle.std.proofs.VecSteps.Shapes.{after, head, arm_body}
 pub use Rattle.std.proofs.mem.Facts.{says_two}
 pub use Rattle.std.proofs.mem.Param.{El, R, args, el_x, elτ, lawful, one}
-pub use Rattle.std.proofs.ptr.Rows.{times_below, one_below}
+pub use Rattle.std.proofs.ptr.Rows.{times_below}
 pub use Rattle.std.proofs.raw_atomic.Walks.{proved, proved_at}
 pub use Rattle.std.specs.declared.alloc.Global.{Global}
 pub use types.Follow.{after₂}

@@ -10,7 +10,7 @@ use denote.{
   RawPtr.{Ptr, block_ptr, null_ptr},
   Sharing.{ShrLaws, said},
   SharingLaws.{beside_shr_laws, nothing_shr_laws, said_shr_laws},
-  Shares.{Shares-less},
+  Shares.Shares-less,
   Struct.Lending.{Lends, Lends-both, Lends-first, Lends-nothing, Lends-said, Lends-false},
 }
 use Rattle.arraydeque_ring.specs.{

@@ -1,15 +1,18 @@
 -- `as_mut_slices` is `lend`, and the ring follows the loan's slices. Assumes `Logic`.
 use Rattle.arraydeque_ring.{
   proofs.{
-    memory.Kit.{◌≡◌, refl, sym, ap, ◌∙◌, List, [], ◌∷◌, ◌++◌, ◌+◌, ◌≤◌, length, id⊢, ftrue, Fn, inst_fn, ◌⊑◌, fact},
-    memory.Kit.{tables, ‵, raw, ◌⊛◌, ◌$◌, !, move, use1, use2, split, join, frame, rewrite, fsplit, fjoin, suffices},
-    memory.Kit.{done, addr, stop, no_more, and_then, returns, alloc_all, pass_all, free_all, look_at, get, through},
-    memory.Kit.{sets, lands_as, mem, says_two, nothing, heard, calls_at, framed, triple_of, param_laws, El, R, args},
-    memory.Kit.{el_x, ap₂, after₂, split3, Array, both_by, MutBor, NamedLft, named_lft},
-    loans.{Names.followed_both, Placed.{as_many-twice}, Rings.Rr, Slices.{slices_lawful}},
-    memory.{Methods.{passing_on, spent, values}, Called.{knows, returned}},
+    memory.{
+      Kit.{◌≡◌, refl, sym, ap, ◌∙◌, List, [], ◌∷◌, ◌++◌, ◌+◌, ◌≤◌, length, id⊢, ftrue, Fn, inst_fn, ◌⊑◌, fact, tables},
+      Kit.{‵, raw, ◌⊛◌, ◌$◌, !, move, use1, use2, split, join, frame, rewrite, fsplit, fjoin, suffices, done, addr},
+      Kit.{stop, no_more, and_then, returns, alloc_all, pass_all, free_all, look_at, get, through, sets, lands_as, mem},
+      Kit.{says_two, nothing, heard, calls_at, framed, triple_of, param_laws, El, R, args, el_x, ap₂, after₂, split3},
+      Kit.{Array, both_by, MutBor, NamedLft, named_lft},
+      Methods.{passing_on, spent, values},
+      Called.{knows, returned},
+    },
+    loans.{Names.followed_both, Placed.as_many-twice, Rings.Rr, Slices.slices_lawful},
     ring.Ring.lend.Met.met,
-    slots.loan.Loan.into_slices.Met.{met as into_met},
+    slots.loan.Loan.into_slices.Met.met as into_met,
   },
   specs.{Loans.{remaining, as_many}, Ring.RingState, RingLends.{rewritten, lends_loan, lends_slices}},
 }

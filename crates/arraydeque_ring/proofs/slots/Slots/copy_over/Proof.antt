@@ -2,22 +2,22 @@
 -- and room for it in another region, and puts both back. Assumes `Logic`.
 use Rattle.arraydeque_ring.{
   proofs.memory.{
-    Kit.{◌≡◌, refl, sym, ap, subst, List, [], ◌∷◌, ◌++◌, map, ℕ, ◌+◌, ◌*◌, ◌<◌, ◌^◌, arith, length, take, drop_list},
-    Kit.{replicate, length-take, length-drop, length-map, length-replicate, Some, None, T, emp, id⊢, fact_i},
-    Kit.{full_share, ftrue, fsep, froom, flft, Fn, inst_fn, named, w64, ty_array, ty_unit, Val, has_ty, WT, vunit},
-    Kit.{vint, vptr, Env, ◌⊑◌, fact, tables, owns, types_at, ‵, raw, ◌⊛◌, some, later, at_ret, ◌$◌, ◌∵◌, !, qed, move},
-    Kit.{keep, use0, use1, use2, drop, split, join, pick, rewrite, await, fsplit, fsplit3, fjoin, fjoin3, feq_i, feq_l},
-    Kit.{suffices, done, whole, sub, look_in, enter, of_opd, unit_lit, bin, load, stop, fld, no_more, and_then, first},
-    Kit.{blocks, exec, returns, alloc_all, pass_all, free_all, look_at, get, through, sets, lands_last, env, yes},
-    Kit.{plain, usize, unit, only, uint_vals, uint_Tells, RawPtr, block_ptr, Stays, walk_of, stay_dropped, stay_ref},
-    Kit.{Goes-dropped, Goes-ref, ends_at, nothing, heard, after, says_two, calls_at_last, framed, triple_of, part_at},
-    Kit.{El, R, args, el_x, elτ, proved, common_steps, split3, Array, mut_vals, mut_Tells, pure_i},
+    Kit.{◌≡◌, refl, sym, ap, List, [], ◌∷◌, ◌++◌, map, ℕ, ◌+◌, ◌*◌, ◌<◌, ◌^◌, arith, length, take, drop_list},
+    Kit.{replicate, length-take, length-drop, length-map, length-replicate, Some, None, id⊢, full_share, ftrue, froom},
+    Kit.{flft, Fn, inst_fn, named, w64, ty_array, Val, vunit, vint, vptr, Env, ◌⊑◌, fact, tables, owns, types_at, ‵},
+    Kit.{raw, ◌⊛◌, at_ret, ◌$◌, ◌∵◌, !, qed, move, keep, use1, use2, drop, split, join, rewrite, fsplit, fsplit3},
+    Kit.{fjoin, fjoin3, feq_i, suffices, done, whole, sub, look_in, enter, of_opd, unit_lit, bin, load, stop, fld},
+    Kit.{no_more, and_then, first, blocks, exec, returns, alloc_all, pass_all, free_all, look_at, get, through, sets},
+    Kit.{lands_last, env, yes, plain, usize, uint_vals, uint_Tells, RawPtr, block_ptr, Stays, walk_of, stay_dropped},
+    Kit.{stay_ref, Goes-dropped, Goes-ref, ends_at, nothing, heard, after, says_two, calls_at_last, framed, triple_of},
+    Kit.{part_at, El, R, args, el_x, elτ, proved, common_steps, split3, Array, mut_vals, mut_Tells, pure_i},
     Regions.{Sr, Seen, near, run_fits, slots_open, slots_close, scaled, item_size, Place, Row, of_room, IsFilledRun},
     Regions.{Around, run_out, run_in, row_room, to_array, of_array},
+    Called.{knows, returned},
   },
   specs.Gaps.{IsEmptyRun, run_emptied},
 }
-use denote.RawPtr.{rawptr_vals}
+use denote.{Plain.Nothing-Lawful, RawPtr.rawptr_vals}
 use Rattle.std.specs.contracts.ptr.copy_nonoverlapping as copy
 use Rattle.std.proofs.ptr.copy_nonoverlapping.Met as copy_thm
 use Rattle.arraydeque_ring.specs.contracts.slots.Slots.copy_over as f
@@ -121,20 +121,17 @@ copy_over_spec 𝓤 𝓛 𝓜 𝓡 wired X L =
       ),
       xs,
     ) in
-    use0 𝓛 (raw (fact 𝓤 (n * s < 2 ^ 63))) (fact_i 𝓤 (n * s < 2 ^ 63) (emp 𝓤) (run_fits E ok n (omega arith)).1) $
-    join ! $ use0 𝓛 (raw (fact 𝓤 (κ₂ ⊑ X.lives))) (fact_i 𝓤 (κ₂ ⊑ X.lives) (emp 𝓤) lives) $ join ! $
+    knows ! (n * s < 2 ^ 63) (run_fits E ok n (omega arith)).1 $ join ! $ knows ! (κ₂ ⊑ X.lives) lives $ join ! $
     pure_i ! (owns (RawPtr ∷ RawPtr ∷ usize ∷ []) z.0.3 z.0.4) (tt, (tt, ((tt, tt), tt)))
     (refl, (refl, ((refl, n_fits), tt))) $ move ! (14 ∷ 0 ∷ []) $ join ! $ join ! $
     use1 𝓛 (raw (Copies.pre z)) (id⊢ 𝓤 _) $
     calls_at_last ! (framed 𝓤 𝓛.H 𝓜 𝓣) Copies
     (copy_thm.met 𝓤 𝓛 𝓜 𝓡 (code.calls-std::ptr::copy_nonoverlapping 𝓡.env wired) X L) z
     (and_then ! (get ! refl) (and_then ! (get ! refl) (and_then ! (get ! refl) (no_more !)))) (λ v.
-    use1 𝓛 (later (some (λ (u : Unit {0}). ((‵ (flft κ₂ q₂) ⊛ ‵ ftrue) ⊛ ‵ (unit.own_val u (v ∷ [])))
-    ⊛ some (λ (ws : Unit {0} × (Unit {0} × (Unit {0} × Unit {0}))). ‵ (fsep ftrue (fsep ftrue (fsep ftrue ftrue)))
-    ⊛ ‵ (fsep (part_at (Array (R E) n) full_share xs b' dst) (froom (ty_array (elτ E) n) b src)))))) (id⊢ 𝓤 _) $
-    await ! tt $ pick ! (λ u. split ! $ split ! $ move ! (1 ∷ []) $
-    feq_l ! (λ e. move ! (1 ∷ []) $ pick ! (λ ws. split ! $ drop ! $ fsplit ! $
-    lands_last ! refl (subst (λ (w : Val). T (has_ty ty_unit w) × WT w) (sym (ap only e)) (tt, tt)) $
+    returned 𝓛 ! tt (copy.ended X) (copy.clauses X 𝓛 𝓜.mem 𝓡.returns) z v (Nothing-Lawful 𝓛) (λ u ws v_typed. drop ! $
+    lands_last ! refl v_typed.0 $ move ! (1 ∷ []) $
+    use1 𝓛 (‵ (part_at (Array (R E) n) full_share xs b' dst) ⊛ ‵ (froom (ty_array (elτ E) n) b src)) (id⊢ 𝓤 _) $
+    split ! $
     exec ! 𝓣.C 𝓣.Λ En (after 1 here.body) (at_ret En (W.post y)) $ sets ! (of_opd ! (unit_lit !)) refl (tt, tt) $
     -- [the values; the room; the token; the others here; the others there; ..]
     use1 𝓛 (‵ (Row E 𝓛 b' dst (map Some xs))) (of_array E 𝓛 b' n xs dst) $
@@ -153,4 +150,4 @@ copy_over_spec 𝓤 𝓛 𝓜 𝓡 wired X L =
     move ! (2 ∷ 0 ∷ 1 ∷ []) $ fjoin3 ! $
     move ! (2 ∷ 3 ∷ []) $ join ! $ move ! (2 ∷ 0 ∷ []) $ join ! $ feq_i ! (List Val) (vunit ∷ []) (vunit ∷ []) refl $
     move ! (2 ∷ 0 ∷ []) $ join ! $ move ! (1 ∷ 0 ∷ []) $ join ! $
-    keep ! (0 ∷ []) $ done !)))))))))))
+    keep ! (0 ∷ []) $ done !)))))))))

@@ -13,6 +13,7 @@ use Rattle.arraydeque_ring.proofs.memory.{
   Regions.{Sr, Seen, slots_val, slots_Good, slots_apart, item_size, Place, to_room, owned_if, places_owned},
   Regions.{right_to_free, AreAllEmpty},
 }
+use types.Kit.{Sq, prop}
 use Rattle.std.{specs.Prelude.nat_lt, proofs.{Flags.T_true, impls.GlobalAllocator.deallocate.Met.met}}
 use Rattle.std.specs.contracts.alloc.Global as heap
 use Rattle.arraydeque_ring.specs.contracts.slots.Slots.give_back as f
@@ -65,6 +66,10 @@ give_back_spec 𝓤 𝓛 𝓜 𝓡 wired X L =
       size_fits = bytes;
       align_fits = capped_fits (align (elτ E));
     } in
+    let out : Sq 𝓛 (‵ (flft κ q) ∷ (‵ (flft κ₁ q₁) ⊛ ‵ ftrue) ∷ []) (prop (W.post y vunit)) =
+    suffices ! _ (ends_at 𝓛 ended stayed c y vunit tt (tt, (tt, tt)) (tt, (tt, tt))) $
+    join ! $ feq_i ! (List Val) (vunit ∷ []) (vunit ∷ []) refl $ nothing ! $ nothing ! $ fjoin ! $ nothing ! $ fjoin ! $
+    join ! $ move ! (1 ∷ 0 ∷ []) $ join ! $ nothing ! $ keep ! (1 ∷ 0 ∷ []) $ done ! in
     sets ! (of_opd ! (get_in ! (fld ! refl (stop !)) (sub ! 0 refl (whole !)))) refl (tt, tt) $
     sets ! (of_opd ! (get_in ! (fld ! refl (stop !)) (sub ! 1 refl (whole !)))) refl (tt, record { fits = ok.word }) $
     sets ! (scaled ! (get ! refl) bytes) refl (tt, record { fits = bytes }) $
@@ -85,12 +90,8 @@ give_back_spec 𝓤 𝓛 𝓜 𝓡 wired X L =
     exec ! 𝓣.C 𝓣.Λ En (after 5 here.body) (at_ret En (W.post y)) $
     sets ! (of_opd ! (unit_lit !)) refl (tt, tt) $ returns ! (look_at ! 0 refl) $ free_all ! refl $
     keep ! (0 ∷ 1 ∷ []) $
-    suffices ! _ (ends_at 𝓛 ended stayed c y vunit tt (tt, (tt, tt)) (tt, (tt, tt))) $
-    join ! $ feq_i ! (List Val) (vunit ∷ []) (vunit ∷ []) refl $ nothing ! $ nothing ! $ fjoin ! $ nothing ! $ fjoin ! $
-    join ! $ move ! (1 ∷ 0 ∷ []) $ join ! $ nothing ! $ keep ! (1 ∷ 0 ∷ []) $ done !)))
+    out)))
     (λ none. skips ! $ exec ! 𝓣.C 𝓣.Λ En (after 5 here.body) (at_ret En (W.post y)) $
     sets ! (of_opd ! (unit_lit !)) refl (tt, tt) $ returns ! (look_at ! 0 refl) $ free_all ! refl $
     keep ! (3 ∷ 4 ∷ []) $
-    suffices ! _ (ends_at 𝓛 ended stayed c y vunit tt (tt, (tt, tt)) (tt, (tt, tt))) $
-    join ! $ feq_i ! (List Val) (vunit ∷ []) (vunit ∷ []) refl $ nothing ! $ nothing ! $ fjoin ! $ nothing ! $ fjoin ! $
-    join ! $ move ! (1 ∷ 0 ∷ []) $ join ! $ nothing ! $ keep ! (1 ∷ 0 ∷ []) $ done !)))))
+    out)))))

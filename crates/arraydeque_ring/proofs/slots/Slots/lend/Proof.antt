@@ -1,13 +1,13 @@
 -- `lend` lends the value in a filled place, and that place follows it. Assumes `Logic`.
 use Rattle.arraydeque_ring.proofs.{
   memory.{
-    Kit.{nothing, join, refl, sym, [], ◌∷◌, ℕ, ◌+◌, ◌*◌, ◌<◌, ◌^◌, arith, length, get_or, set, length-set, Some},
-    Kit.{None, Ura, ent, sep, id⊢, GName, Fml, fsep, flft, Fn, inst_fn, named, vptr, Env, ◌⊑◌, fact, tables, Logic},
-    Kit.{sem, ‵, raw, ◌⊛◌, some, later, at_ret, ◌$◌, ◌∵◌, !, qed, by, move, use1, use2, drop, split, pick, frame},
-    Kit.{rewrite, await, fsplit, fjoin, suffices, done, whole, sub, look_in, of_opd, size_lit, bin, load, addr, stop},
-    Kit.{fld, first, blocks, exec, returns, alloc_all, pass_all, free_all, look_at, get, through, sets, sets_last},
-    Kit.{env, mem, says, heard, after, El, R, args, el_x, one_below, split3, group, follows, MutBor, Global},
-    Regions.{Sr, Seen, Fits, near, run_fits, places, Frame, slots_whole, slots_open, item_size, Place, Around},
+    Kit.{nothing, join, refl, sym, [], ◌∷◌, ℕ, ◌+◌, ◌*◌, ◌<◌, arith, length, get_or, set, length-set, Some, None},
+    Kit.{Ura, ent, sep, id⊢, GName, Fml, fsep, flft, Fn, inst_fn, named, vptr, Env, ◌⊑◌, fact, tables, Logic, sem, ‵},
+    Kit.{raw, ◌⊛◌, some, later, at_ret, ◌$◌, ◌∵◌, !, qed, by, move, use1, use2, drop, split, pick, frame, rewrite},
+    Kit.{await, fsplit, fjoin, suffices, done, whole, sub, look_in, of_opd, bin, load, addr, stop, fld, first},
+    Kit.{blocks, exec, returns, alloc_all, pass_all, free_all, look_at, get, through, sets, sets_last, env, mem},
+    Kit.{says, heard, after, El, R, args, el_x, split3, group, follows, MutBor, Global},
+    Regions.{scaled, Sr, Seen, Fits, near, places, Frame, slots_whole, slots_open, item_size, Place, Around},
     Regions.{place_out, place_in, place_owned, IsFilled},
     Methods.{method, spent},
   },
@@ -52,15 +52,11 @@ lend_spec 𝓤 𝓛 𝓜 𝓡 wired X L =
     alloc_all ! (λ l. pass_all ! refl ((tt, tt), typed) $
     let En : Env 𝓤 𝓛.H = env here.locals l in
     slots_open E ! tt r rb ro (λ g b o n ok.
-    let far = near E ok i (omega arith) in let small : s < 2 ^ 64 = omega (
-      arith,
-      one_below (length r.places) s (2 ^ 63) (omega arith) (run_fits E ok (length r.places) (omega arith)).1,
-    ) in
+    let far = near E ok i (omega arith) in
     first ! $ blocks ! $
     sets ! (of_opd ! (load ! (through ! refl (fld ! refl (stop !))) (look_in ! 2 (sub ! 0 refl (whole !)))))
     refl (tt, tt) $
-    sets ! (bin ! (get ! refl) (size_lit ! (record { fits = small })) (record { fits = far })) refl
-    (tt, record { fits = far }) $
+    sets ! (scaled ! (get ! refl) far) refl (tt, record { fits = far }) $
     sets ! (bin ! (get ! refl) (get ! refl) tt) refl (tt, tt) $
     sets_last ! (addr ! (through ! refl (stop !))) refl (tt, tt) $
     exec ! 𝓣.C 𝓣.Λ En (after 1 here.body) (at_ret En post) $ sets ! (of_opd ! (get ! refl)) refl (tt, tt) $

@@ -16,7 +16,7 @@ use Rattle.arraydeque_ring.{
   },
   specs.{Lends.lends_loan, Loans.{LoanState, AreApart}},
 }
-use Rattle.std.{specs.Prelude.{◌-◌, min}, below.core.proofs.int.usize.min.Met.{met as e_met}}
+use Rattle.std.{specs.Prelude.{◌-◌, min}, below.core.proofs.int.usize.min.Met.met as e_met}
 use Rattle.arraydeque_ring.specs.contracts.slots.loan.Loan as loan
 use Rattle.arraydeque_ring.proofs.slots.loan.Loan.TheLaws as loan_laws
 use Rattle.arraydeque_ring.specs.contracts.slots.Slots.lend_two as g

@@ -1,13 +1,12 @@
 -- `read` empties a filled place. Assumes `Logic`.
 use Rattle.arraydeque_ring.proofs.{
   memory.{
-    Kit.{frame, id⊢, refl, sym, List, [], ◌∷◌, ℕ, ◌+◌, ◌*◌, ◌<◌, ◌^◌, arith, length, get_or, set, length-set, None},
+    Kit.{frame, id⊢, refl, sym, List, [], ◌∷◌, ℕ, ◌+◌, ◌*◌, ◌<◌, arith, length, get_or, set, length-set, None},
     Kit.{full_share, fat, froom, Fn, inst_fn, Val, vptr, Env, ◌⊑◌, fact, tables, ‵, raw, ◌⊛◌, some, given, at_ret, ◌$◌},
-    Kit.{!, move, keep, use1, use2, drop, split, join, pick, learn, rewrite, fjoin3, feq_i, suffices, done, whole, sub},
-    Kit.{look_in, of_opd, size_lit, bin, load, look, stop, fld, first, blocks, exec, returns, alloc_all, pass_all},
-    Kit.{free_all, look_at, get, through, sets, sets_last, env, heard, as_raw, after, says_two, Good, El, R, args},
-    Kit.{el_x, elτ, one_below},
-    Regions.{Sr, Seen, near, run_fits, places, slots_open, slots_close, item_size, Place, Around, place_out, place_in},
+    Kit.{move, !, keep, use1, use2, drop, split, join, pick, learn, rewrite, fjoin3, feq_i, suffices, done, whole, sub},
+    Kit.{look_in, of_opd, bin, load, look, stop, fld, first, blocks, exec, returns, alloc_all, pass_all, free_all},
+    Kit.{look_at, get, through, sets, sets_last, env, heard, as_raw, after, says_two, Good, El, R, args, el_x, elτ},
+    Regions.{scaled, Sr, Seen, near, places, slots_open, slots_close, item_size, Place, Around, place_out, place_in},
     Regions.{value_out, place_owned, IsFilled},
     Methods.{method, comes_back},
   },
@@ -31,10 +30,7 @@ read_spec 𝓤 𝓛 𝓜 𝓡 wired X L =
     alloc_all ! (λ l. pass_all ! refl ((tt, tt), fit) $
     let En : Env 𝓤 𝓛.H = env here.locals l in
     slots_open E ! tt r rb ro (λ g b o n ok.
-    let far = near E ok i (omega arith) in let small : s < 2 ^ 64 = omega (
-      arith,
-      one_below (length r.places) s (2 ^ 63) (omega arith) (run_fits E ok (length r.places) (omega arith)).1,
-    ) in
+    let far = near E ok i (omega arith) in
     let new : Seen E = record r { places = set r.places i None } in
     use1 𝓛 (‵ (place_owned (R E) b (i * s + o) (get_or r.places i None)) ⊛ ‵ (Around E 𝓛 b o r.places i 1))
     (place_out E 𝓛 b o r.places i within) $ split ! $
@@ -45,8 +41,7 @@ read_spec 𝓤 𝓛 𝓜 𝓡 wired X L =
     first ! $ blocks ! $
     sets ! (of_opd ! (load ! (through ! refl (fld ! refl (stop !))) (look_in ! 4 (sub ! 0 refl (whole !)))))
     refl (tt, tt) $
-    sets ! (bin ! (get ! refl) (size_lit ! (record { fits = small })) (record { fits = far })) refl
-    (tt, record { fits = far }) $
+    sets ! (scaled ! (get ! refl) far) refl (tt, record { fits = far }) $
     sets ! (bin ! (get ! refl) (get ! refl) tt) refl (tt, tt) $
     sets_last ! (of_opd ! (load ! (through ! refl (stop !)) (look ! 0 refl))) refl v_fits $
     exec ! 𝓣.C 𝓣.Λ En (after 1 here.body) (at_ret En post) $ sets ! (of_opd ! (get ! refl)) refl v_fits $

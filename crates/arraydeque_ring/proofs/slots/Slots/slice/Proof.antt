@@ -13,7 +13,7 @@ use Rattle.arraydeque_ring.proofs.{
   },
   places.Held.length_filled,
 }
-use denote.{Copied.plain_Copied, Opens.hide, RawPtr.{coded_ptr, ptr_own, rawptr_pure}, Struct.Laws.{RawPtr-laws}}
+use denote.{Copied.plain_Copied, Opens.hide, RawPtr.{coded_ptr, ptr_own, rawptr_pure}, Struct.Laws.RawPtr-laws}
 use Rattle.arraydeque_ring.specs.contracts.slots.Slots.slice as f
 use Rattle.arraydeque_ring.proofs.slots.Slots.slice.Statement as stated
 use Rattle.arraydeque_ring.proofs.slots.Slots.slice.Code as code

@@ -12,7 +12,7 @@ use Rattle.arraydeque_ring.{
       Called.{knows, returned},
     },
     loans.{Names.followed_both, Slices.slices_lawful},
-    slots.{Slots.lend_two.Met.met, loan.Loan.into_slices.Met.{met as into_met}},
+    slots.{Slots.lend_two.Met.met, loan.Loan.into_slices.Met.met as into_met},
   },
   specs.{Lends.{two_lists, lends_loan, lends_two_runs, two_written}, Loans.{LoanState, AreApart}},
 }

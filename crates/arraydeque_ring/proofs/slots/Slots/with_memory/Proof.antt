@@ -19,7 +19,7 @@ use denote.Struct.Declared as Declared
 use Rattle.std.specs.contracts.result.Result as results
 use Rattle.std.specs.contracts.alloc.AllocError as refusals
 use Rattle.std.specs.contracts.alloc.Global as heap
-use Rattle.std.proofs.{alloc.Calls.{Answer-typed}, impls.GlobalAllocator.allocate.Met.met, ResultValues.{ok_of, err_of}}
+use Rattle.std.proofs.{alloc.Calls.Answer-typed, impls.GlobalAllocator.allocate.Met.met, ResultValues.{ok_of, err_of}}
 use Rattle.arraydeque_ring.specs.contracts.slots.Slots.with_memory as f
 use Rattle.arraydeque_ring.proofs.slots.Slots.with_memory.Statement as stated
 use Rattle.arraydeque_ring.proofs.slots.Slots.with_memory.Code as code

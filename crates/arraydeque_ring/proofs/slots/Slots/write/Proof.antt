@@ -3,11 +3,11 @@ use Rattle.arraydeque_ring.proofs.memory.{
   Kit.{refl, sym, subst, List, [], ◌∷◌, ℕ, ◌+◌, ◌*◌, ◌<◌, ◌^◌, arith, length, get_or, set, length-set, Some, None, ent},
   Kit.{ftrue, flft, Fn, inst_fn, w64, Val, vunit, vint, vptr, Env, WpFn, ◌⊑◌, fact, tables, owns, types_at, ‵, raw},
   Kit.{◌⊛◌, at_ret, ◌$◌, ◌∵◌, !, qed, move, keep, use1, use2, drop, split, join, rewrite, fsplit, fsplit3, fjoin},
-  Kit.{fjoin3, feq_i, suffices, done, whole, sub, look_in, enter, of_opd, unit_lit, size_lit, bin, load, init, stop},
-  Kit.{fld, assigns_last, first, blocks, exec, returns, alloc_all, pass_all, free_all, look_at, get, through, sets},
-  Kit.{env, yes, no, plain, usize, Vals, Stays, walk_of, stay_dropped, stay_ref, Goes-dropped, Goes-ref, ends_at},
-  Kit.{nothing, heard, as_written, after, says, El, R, args, el_x, elτ, lawful, one, one_below, proved_at},
-  Regions.{Sr, Seen, near, run_fits, places, slots_open, slots_close, item_size, Place, Around, place_out, place_in},
+  Kit.{fjoin3, feq_i, suffices, done, whole, sub, look_in, enter, of_opd, unit_lit, bin, load, init, stop, fld},
+  Kit.{assigns_last, first, blocks, exec, returns, alloc_all, pass_all, free_all, look_at, get, through, sets, env},
+  Kit.{yes, no, plain, usize, Vals, Stays, walk_of, stay_dropped, stay_ref, Goes-dropped, Goes-ref, ends_at, nothing},
+  Kit.{heard, as_written, after, says, El, R, args, el_x, elτ, lawful, one, proved_at},
+  Regions.{scaled, Sr, Seen, near, places, slots_open, slots_close, item_size, Place, Around, place_out, place_in},
   Regions.{value_in, place_owned, IsEmpty},
 }
 use Rattle.arraydeque_ring.specs.contracts.slots.Slots.write as f
@@ -49,10 +49,7 @@ write_spec 𝓤 𝓛 𝓜 𝓡 wired X L =
     alloc_all ! (λ l. pass_all ! refl ((tt, tt), ((tt, record { fits = i_fits }), (v_fits, tt))) $
     let En : Env 𝓤 𝓛.H = env here.locals l in
     slots_open E ! tt r rb ro (λ g b o n ok.
-    let far = near E ok i (omega arith) in let small : s < 2 ^ 64 = omega (
-      arith,
-      one_below (length r.places) s (2 ^ 63) (omega arith) (run_fits E ok (length r.places) (omega arith)).1,
-    ) in
+    let far = near E ok i (omega arith) in
     let new : Seen E = record r { places = set r.places i (Some x) } in
     use1 𝓛 (‵ (place_owned (R E) b (i * s + o) (get_or r.places i None)) ⊛ ‵ (Around E 𝓛 b o r.places i 1))
     (place_out E 𝓛 b o r.places i within) $ split ! $
@@ -62,8 +59,7 @@ write_spec 𝓤 𝓛 𝓜 𝓡 wired X L =
     first ! $ blocks ! $
     sets ! (of_opd ! (load ! (through ! refl (fld ! refl (stop !))) (look_in ! 3 (sub ! 0 refl (whole !)))))
     refl (tt, tt) $
-    sets ! (bin ! (get ! refl) (size_lit ! (record { fits = small })) (record { fits = far })) refl
-    (tt, record { fits = far }) $
+    sets ! (scaled ! (get ! refl) far) refl (tt, record { fits = far }) $
     sets ! (bin ! (get ! refl) (get ! refl) tt) refl (tt, tt) $ sets ! (of_opd ! (get ! refl)) refl v_fits $
     assigns_last ! (of_opd ! (get ! refl)) (through ! refl (stop !)) (init ! 0 refl v_fits) $
     exec ! 𝓣.C 𝓣.Λ En (after 1 here.body) (at_ret En (W.post y)) $ sets ! (of_opd ! (unit_lit !)) refl (tt, tt) $
