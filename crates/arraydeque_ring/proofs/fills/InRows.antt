@@ -3,7 +3,10 @@ use Rattle.std.proofs.{
   Common.{◌≡◌, ℕ, ◌+◌, ◌-◌, ◌*◌, List, ◌++◌, length, reverse, sym, ap, ◌∙◌, arith},
   lemmas.{Bool.Decides.nat_tests, List.{append_assoc, length-append, reverse-append}},
 }
-use Rattle.arraydeque_ring.{specs.{Ring.{RingState, down_by}, Steps.{more_puts}}, proofs.{places.Rotated.{place_of-sum}}}
+use Rattle.arraydeque_ring.{
+  specs.{Ring.{RingState, down_by}, Steps.{more_puts}},
+  proofs.{places.Rotated.{place_of-sum}},
+}
 
 -- to go down by j places and then by k is to go down by both
 down_by-both : (j k s n : ℕ) → down_by k (down_by j s n) n ≡ down_by (j + k) s n

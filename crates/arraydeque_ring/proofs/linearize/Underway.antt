@@ -141,6 +141,12 @@ module _ {X : Type 0} {dst gap behind len : ℕ} {ps : List (Option X)} (u : Und
                 (v.0, made_room x (omega arith) ∙ grind (arith, nat_tests, v.1))),
             holds_all _ (length-runs_exchanged dst next behind qs (omega arith) (omega arith) ∙ long) (λ x lt.
                 get_or-runs_exchanged dst next behind qs (omega arith) (omega arith) x
-                ∙ grind (arith, nat_tests, slice_get_past, made_room x lt, made_room (x - dst + next),
-                made_room (x - next + dst))),
+                ∙ grind (
+                  arith,
+                  nat_tests,
+                  slice_get_past,
+                  made_room x lt,
+                  made_room (x - dst + next),
+                  made_room (x - next + dst),
+                )),
           )

@@ -73,8 +73,8 @@ module _ {X : Type 0} (d s l i j k m n : ℕ) (ps : List (Option X)) (long : len
   apart : (x : ℕ) → x < n → distance (place_of s j n) x n < m → k ≤ distance (place_of d i n) x n
   apart x lt a = grind (arith, either d x d_in lt, either s x s_in lt, distance-by s d x n s_in d_in lt)
 
-  still_held : (x : ℕ) → x < n → distance (place_of s j n) x n < m → held_at after_first x ≡ held_at ps x
-  still_held x lt a = moved_at (place_of d i n) (place_of s i n) k ps x long lt
+  still_there : (x : ℕ) → x < n → distance (place_of s j n) x n < m → held_at after_first x ≡ held_at ps x
+  still_there x lt a = moved_at (place_of d i n) (place_of s i n) k ps x long lt
       ∙ grind (arith, nat_tests, apart x lt a, either s x s_in lt)
 
   both : run_moved (place_of d j n) (place_of s j n) m after_first ≡ run_moved d s l ps
@@ -90,7 +90,7 @@ module _ {X : Type 0} (d s l i j k m n : ℕ) (ps : List (Option X)) (long : len
           nat_tests,
           either d x d_in x_in,
           distance-up (place_of s j n) far n (place_of-lt s j n (omega arith)),
-          still_held y (place_of-lt (place_of s j n) far n (omega (arith, place_of-lt s j n))),
+          still_there y (place_of-lt (place_of s j n) far n (omega (arith, place_of-lt s j n))),
           place_of-sum s j far n,
         )
         | inr rests ↦ grind (
@@ -121,7 +121,7 @@ module _ {X : Type 0} (d s l i j k m n : ℕ) (ps : List (Option X)) (long : len
               let s'_in = place_of-lt s j n (omega arith) in (
                 held.0,
                 ap₂ held_at now (ap₂ (λ a c. place_of a x c) is.1 (length-moved e t k ps ∙ long))
-                    ∙ still_held _ (place_of-lt (place_of s j n) x n (omega arith))
+                    ∙ still_there _ (place_of-lt (place_of s j n) x n (omega arith))
                     (rw (distance-up (place_of s j n) x n s'_in (omega arith)) lt) ∙ held.1,
               )
         ];

@@ -1,6 +1,7 @@
 -- `as_mut_slices` is `lend`, and the deque follows the loan's slices. Assumes `Logic`.
 use Rattle.arraydeque_ring.{
   proofs.{
+    memory.Called.returned,
     memory.Kit.{◌≡◌, refl, sym, ap, ap₂, ◌∙◌, List, [], ◌∷◌, ◌++◌, ◌+◌, ◌≤◌, length, id⊢, flft, Fn, inst_fn, named},
     memory.Kit.{◌⊑◌, fact, tables, ‵, raw, ◌⊛◌, ◌$◌, ◌∵◌, !, qed, move, use1, use2, split, split3, join, frame},
     memory.Kit.{rewrite, fsplit, suffices, done, enter, addr, stop, no_more, and_then, returns, alloc_all, pass_all},
@@ -20,7 +21,7 @@ use Rattle.arraydeque_ring.specs.contracts.slots.loan.Loan as loan
 use Rattle.arraydeque_ring.proofs.slots.loan.Loan.TheLaws as loan_laws
 use Rattle.arraydeque.{
   specs.{Deque.DequeState, DequeLends.{rewritten, lends_loan, lends_slices}},
-  proofs.{Called.{known, returned, handed, come_back}, Lent.Dr, deque.ArrayDeque.lend.Met.met},
+  proofs.{Called.{known, handed, come_back}, Lent.Dr, deque.ArrayDeque.lend.Met.met},
 }
 use Rattle.arraydeque.specs.contracts.deque.ArrayDeque.lend as g
 use Rattle.arraydeque_ring.specs.contracts.slots.loan.Loan.into_slices as h

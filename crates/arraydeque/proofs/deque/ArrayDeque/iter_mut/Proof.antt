@@ -1,5 +1,6 @@
 -- `iter_mut` goes over what `lend` lends, and the deque follows the loan's name. Assumes `Logic`.
 use Rattle.arraydeque_ring.{
+  proofs.memory.Called.returned,
   proofs.memory.Kit.{◌≡◌, ◌≤◌, ◌+◌, length, refl, sym, ap, ◌∙◌, [], ◌∷◌, id⊢, flft, Fn, inst_fn, named, ◌⊑◌, fact},
   proofs.memory.Kit.{tables, ‵, raw, ◌⊛◌, ◌$◌, ◌∵◌, !, qed, move, keep, use1, use2, split, split3, join, frame},
   proofs.memory.Kit.{rewrite, fsplit, fjoin, suffices, done, enter, addr, stop, no_more, and_then, returns, alloc_all},
@@ -16,7 +17,7 @@ use Rattle.arraydeque_ring.specs.contracts.slots.loan.Loan as loan
 use Rattle.arraydeque_ring.proofs.slots.loan.Loan.TheLaws as loan_laws
 use Rattle.arraydeque.{
   specs.{Deque.DequeState, DequeLends.{lends_items, lends_loan}},
-  proofs.{Called.{known, returned, handed, come_back}, Lent.Dr, deque.ArrayDeque.lend.Met.met},
+  proofs.{Called.{known, handed, come_back}, Lent.Dr, deque.ArrayDeque.lend.Met.met},
   proofs.iter.iter_mut.IterMut.of.Met.{met as of_met},
 }
 use Rattle.arraydeque.proofs.iter.iter_mut.IterMut.TheLaws as iter_laws

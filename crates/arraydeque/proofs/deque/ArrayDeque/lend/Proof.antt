@@ -1,6 +1,7 @@
 -- `lend` lends all items: the ring lends its own, and the deque follows what the ring follows. Assumes `Logic`.
 use Rattle.arraydeque_ring.{
   proofs.{
+    memory.Called.returned,
     memory.Kit.{◌≡◌, refl, ap, ◌∙◌, List, [], ◌∷◌, ◌++◌, ℕ, ◌+◌, ◌≤◌, arith, length, full_share, emp, id⊢, fact_i, sep},
     memory.Kit.{Share, GName, fsep, flft, fauth, Fn, inst_fn, named, Val, vptr, ◌⊑◌, fact, tables, Borrowed, owns},
     memory.Kit.{types_at, ‵, raw, ◌⊛◌, some, later, ◌$◌, ◌∵◌, !, qed, move, keep, use0, use1, use2, split, split3},
@@ -28,7 +29,7 @@ use Rattle.arraydeque_ring.specs.contracts.ring.Ring.lend as g
 use Rattle.arraydeque.{
   specs.{Deque.DequeState, DequeLends.rewritten},
   proofs.Lent.{Dr, FieldsRow, Fields, view, Kept, Other, Way, fields_out, ring_out, deque_whole, after, kept_after},
-  proofs.{Called.{Asked, known, returned, come_back}, Lent.{seen_after, written}},
+  proofs.{Called.{Asked, known, come_back}, Lent.{seen_after, written}},
 }
 use Rattle.arraydeque.specs.contracts.deque.ArrayDeque.lend as f
 use Rattle.arraydeque.proofs.deque.ArrayDeque.lend.Statement as stated

@@ -10,8 +10,12 @@ out : (g : Over) (c : After-take-item g) → let old = c.args.self.now in Closin
     c.args.index 1 (suc c.args.index) c.self.inside.len old.items c.take-item.new.self.places
 out g c =
     let ring = opened c.self.inside c.self.invariant c.self.view_is in
-    one_out ring _ _ c.requires (rw (c.take-item.ensures.places, c.wrap_add-place.ensures, c.capacity.ensures,
-    ring.laid.length_is))
+    one_out ring _ _ c.requires (rw (
+      c.take-item.ensures.places,
+      c.wrap_add-place.ensures,
+      c.capacity.ensures,
+      ring.laid.length_is,
+    ))
 
 pub close_gap-self-inside-requires : goal.close_gap-self-inside-requires
 close_gap-self-inside-requires g c = (out g (goal.at.close_gap-self-inside-requires g c).After-take-item).may
