@@ -1,6 +1,11 @@
--- A call in a walk: what it gives, and how a value and the tokens of two lifetimes go on to the next call.
+-- A call in a walk: what `lend` requires, and how a value and the tokens of two lifetimes go on to the next call.
 -- Assumes `Logic`.
-use Rattle.arraydeque_ring.proofs.memory.{Kit.{[], ◌∷◌, Ura, SProp, ent, sep, emp, via, snd∗, fact, fact_i, fact_use, Logic, sem}, Kit.{‵, raw, ◌⊛◌, ◌$◌, ◌∵◌, !, qed, move, keep, use0, split3, join}, Kit.{done, RattleType, Fml, ftrue, fsep, fjoin, nothing, ◌⊑◌, ◌<◌}, Kit.{Lft}}
+use Rattle.arraydeque_ring.proofs.memory.{
+  Kit.{[], ◌∷◌, Ura, SProp, ent, sep, emp, via, snd∗, fact, fact_i, fact_use, Logic, sem},
+  Kit.{‵, raw, ◌⊛◌, ◌$◌, ◌∵◌, !, qed, move, keep, use0, split3, join},
+  Kit.{done, RattleType, Fml, ftrue, fsep, fjoin, nothing, ◌⊑◌, ◌<◌},
+  Kit.{Lft},
+}
 use base.Logic.{fst∗}
 
 module _ {M : Type 1} (𝓤 : Ura M) (κ₁ κ₂ κ₃ : Lft) (X B : RattleType) where

@@ -1,5 +1,19 @@
 -- A fold that goes over a list slice by slice: how far it has come.
-use Rattle.std.{proofs.{Common.{◌≡◌, ℕ, ◌+◌, ◌<◌, ◌≤◌, List, [], ◌∷◌, ◌++◌, length, drop, get_or, refl, subst, append-nil}, Common.arith, lemmas.List.{drop_more, drop_all}, iter.Next.{Yields-more, served, Serves-on}, SliceLists.chained_more}, specs.{Borrow.Bor, Fn.{Called, Takes, Mut}, List.FoldsTo, Iterator.{YieldsFirstRef, Yields, FoldTurn, CallableInFold, FoldsItems}}}
+use Rattle.std.{
+  proofs.{
+    Common.{◌≡◌, ℕ, ◌+◌, ◌<◌, ◌≤◌, List, [], ◌∷◌, ◌++◌, length, drop, get_or, refl, subst, append-nil},
+    Common.arith,
+    lemmas.List.{drop_more, drop_all},
+    iter.Next.{Yields-more, served, Serves-on},
+    SliceLists.chained_more,
+  },
+  specs.{
+    Borrow.Bor,
+    Fn.{Called, Takes, Mut},
+    List.FoldsTo,
+    Iterator.{YieldsFirstRef, Yields, FoldTurn, CallableInFold, FoldsItems},
+  },
+}
 
 -- a fold of `whole` from f and `init` on called at the items before `rest`, which led to g and `total`, and goes on
 pub record Folded {X A F : Type 0} (call : Mut F (A × (Bor X × Unit {0})) A) (whole : List X) (f : F) (init : A)

@@ -1,5 +1,11 @@
 -- What pushes leave, one and many.
-use Rattle.std.proofs.{Common.{◌≡◌, ◌<◌, ◌≤◌, ℕ, ◌+◌, List, ◌++◌, length, reverse, ap, ◌∙◌, refl, arith}, lemmas.{Bool.Decides.nat_tests, List.{append_assoc, length-append, length-reverse, take_all, drop_all, nil_from_length}}}
+use Rattle.std.proofs.{
+  Common.{◌≡◌, ◌<◌, ◌≤◌, ℕ, ◌+◌, List, ◌++◌, length, reverse, ap, ◌∙◌, refl, arith},
+  lemmas.{
+    Bool.Decides.nat_tests,
+    List.{append_assoc, length-append, length-reverse, take_all, drop_all, nil_from_length},
+  },
+}
 use Rattle.arraydeque_ring.{
   specs.Ring.RingState,
   proofs.fills.{Displaced.{displaced_first, displaced_last}, InRows.{all_before, down_by-all}},
