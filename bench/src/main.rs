@@ -313,7 +313,7 @@ fn work(words: &[String]) {
         "--count" => counts::count(word(1)),
         "--once" => counts::once(word(1), word(2), word(3).parse().expect("a number of rounds")),
         wanted => {
-            let repetitions = word(1).parse().unwrap_or(51);
+            let repetitions = word(1).parse().unwrap_or(13);
             let writes = std::env::var_os("ARRAYDEQUE_BENCH_CPU").is_none();
             measure(wanted, repetitions, writes).expect("the figures can be written");
         }
