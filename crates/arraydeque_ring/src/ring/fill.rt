@@ -30,15 +30,17 @@ impl<T> Ring<T> {
         ensures goes { GoesOn I.can_next I.remaining elements.old elements.new result }
     {
         let capacity = self.slots.capacity();
+        let mut slots = self.slots.moved_out();
         let mut ended = false;
         while !ended && self.len < capacity {
             let from = wrap_add(self.start, self.len, capacity);
             let run = (capacity - self.len).min(capacity - from);
-            let (slots, filled) = fill_up(self.slots.moved_out(), from, run, elements);
-            let _nothing = replace(&mut self.slots, slots);
+            let (written, filled) = fill_up(slots, from, run, elements);
+            slots = written;
             self.len += filled;
             ended = filled < run;
         }
+        let _nothing = replace(&mut self.slots, slots);
         ended
     }
 
@@ -59,16 +61,18 @@ impl<T> Ring<T> {
         ensures goes { GoesOn I.can_next I.remaining elements.old elements.new result }
     {
         let capacity = self.slots.capacity();
+        let mut slots = self.slots.moved_out();
         let mut ended = false;
         while !ended && self.len < capacity {
             let from = wrap_add(self.start, capacity - 1, capacity) + 1;
             let run = (capacity - self.len).min(from);
-            let (slots, filled) = fill_down(self.slots.moved_out(), from, run, elements);
-            let _nothing = replace(&mut self.slots, slots);
+            let (written, filled) = fill_down(slots, from, run, elements);
+            slots = written;
             self.start = wrap_add(self.start, capacity - filled, capacity);
             self.len += filled;
             ended = filled < run;
         }
+        let _nothing = replace(&mut self.slots, slots);
         ended
     }
 
@@ -88,20 +92,17 @@ impl<T> Ring<T> {
           steps = more_puts (length xs) (more_takes (length xs) self.old.steps);
         }) }
     {
+        let capacity = self.slots.capacity();
+        let mut slots = self.slots.moved_out();
         let mut ended = false;
         while !ended {
-            let capacity = self.slots.capacity();
             let run = capacity - self.start;
-            let (slots, displaced) = displace_up(
-                self.slots.moved_out(),
-                self.start,
-                run,
-                &mut elements,
-            );
-            let _nothing = replace(&mut self.slots, slots);
+            let (written, displaced) = displace_up(slots, self.start, run, &mut elements);
+            slots = written;
             self.start = wrap_add(self.start, displaced, capacity);
             ended = displaced < run;
         }
+        let _nothing = replace(&mut self.slots, slots);
     }
 
     /// Puts what the iterator gives before the first item of a full ring, one by one. Each takes
@@ -120,20 +121,17 @@ impl<T> Ring<T> {
           steps = more_puts (length xs) (more_takes (length xs) self.old.steps);
         }) }
     {
+        let capacity = self.slots.capacity();
+        let mut slots = self.slots.moved_out();
         let mut ended = false;
         while !ended {
-            let capacity = self.slots.capacity();
             let from = wrap_add(self.start, capacity - 1, capacity) + 1;
-            let (slots, displaced) = displace_down(
-                self.slots.moved_out(),
-                from,
-                from,
-                &mut elements,
-            );
-            let _nothing = replace(&mut self.slots, slots);
+            let (written, displaced) = displace_down(slots, from, from, &mut elements);
+            slots = written;
             self.start = wrap_add(self.start, capacity - displaced, capacity);
             ended = displaced < from;
         }
+        let _nothing = replace(&mut self.slots, slots);
     }
 }
 

@@ -10,39 +10,39 @@ use Rattle.arraydeque_ring.proofs.{
 use Rattle.arraydeque_ring.proofs.ring.Ring.displace_first.Goals as goal
 
 pub loop-ended-init : goal.loop-ended-init
-loop-ended-init g c = record {
-  full = omega (arith, bounds c.self.inside _ c.self.invariant c.self.view_is, c.requires.full);
-  so_far = (0, Fills-none _ _ _ (opened c.self.inside c.self.invariant (grind (arith, append-nil))));
+loop-ended-init g c = let ring = bounds c.self.inside _ c.self.invariant c.self.view_is in record {
+  full = (omega (arith, ring, c.requires.full), omega (arith, ring, c.capacity-capacity.ensures));
+  out = c.moved_out-slots.ensures.left;
+  so_far = (0, Fills-none _ _ _ (rw c.moved_out-slots.ensures.region
+      (opened c.self.inside c.self.invariant (grind (arith, append-nil)))));
   goes = λ _. (c.requires.may, c.requires.ends);
 }
 
-pub displace_up-slots-requires-clause-filled : goal.displace_up-slots-requires-clause-filled
-displace_up-slots-requires-clause-filled g c =
-    let was = c.loop-ended.invariant in let ring = was.so_far.1.holds in
-    let all = c.capacity-capacity.ensures ∙ ring.laid.length_is in
-    rw c.moved_out.ensures.region
-    (filled_first ring all (omega (arith, all, c.requires.some)) (omega (arith, all, was.full)))
+pub displace_up-written-requires-clause-filled : goal.displace_up-written-requires-clause-filled
+displace_up-written-requires-clause-filled g c = let full = c.loop-ended.invariant.full in
+    filled_first c.loop-ended.invariant.so_far.1.holds full.1 (omega (arith, full.1, c.requires.some))
+    (omega (arith, full))
 
 pub loop-ended-preserved : goal.loop-ended-preserved
 loop-ended-preserved g c =
     let full = c.loop-ended.invariant.full in let was = c.loop-ended.invariant.so_far.1 in
-    let all = c.capacity-capacity.ensures ∙ was.holds.laid.length_is in
-    let out = c.displace_up-slots in let now = out.ensures.filled in record {
+    let done = c.displace_up-written in let now = done.ensures.filled in record {
       full = full;
+      out = c.loop-ended.invariant.out;
       so_far = (
         _,
         Fills-both _ was now _ c.loop-ended-test.true (subst (Opened _)
             (displaced_first-both was.items now.items c.args.self.now)
-            (laid_first was.holds all (omega (arith, all, c.requires.some)) out.result.1 now.items now.holds.0
-            (omega (arith, all, full)) (omega (arith, now.at_most, now.holds.0)) c.wrap_add-self-inside.ensures
-            (rw (c.replace-nothing.ensures.after, ← c.moved_out.ensures.region) now.holds.1)
-            (rw (c.replace-nothing.ensures.after, ← c.moved_out.ensures.region) out.ensures.steps))),
+            (laid_first was.holds full.1 (omega (arith, full.1, c.requires.some)) done.result.1 now.items now.holds.0
+            (omega (arith, full)) (omega (arith, now.at_most, now.holds.0)) c.wrap_add-self-inside.ensures
+            now.holds.1 done.ensures.steps)),
       );
-      goes = λ more. let goes = out.ensures.goes more in (goes.0, goes.1);
+      goes = λ more. let goes = done.ensures.goes more in (goes.0, goes.1);
     }
 
 pub invariant_of-self : goal.invariant_of-self
-invariant_of-self g c = kept c.loop-ended.invariant.so_far.1.holds
+invariant_of-self g c = rw c.replace-nothing.ensures.after (kept c.loop-ended.invariant.so_far.1.holds)
 
 pub returns : goal.returns
-returns g c = Ends-fills _ c.loop-ended.invariant.so_far.1 c.loop-ended-test.false (λ xs. closed)
+returns g c = rw c.replace-nothing.ensures.after
+    (Ends-fills _ c.loop-ended.invariant.so_far.1 c.loop-ended-test.false (λ xs. closed))

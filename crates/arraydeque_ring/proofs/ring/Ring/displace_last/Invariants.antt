@@ -1,12 +1,16 @@
 use Rattle.std.{proofs.Common.{◌≡◌, ℕ, suc, if◌then◌else◌, false}, specs.Iterator.{IsFinite, size}}
-use Rattle.arraydeque_ring.{specs.Fills.Fills, proofs.{fills.Displaced.displaced_last, places.Opened.Opened}}
+use Rattle.arraydeque_ring.{
+  specs.{Fills.Fills, Places.empty_region},
+  proofs.{fills.Displaced.displaced_last, places.Opened.Opened},
+}
 use Rattle.arraydeque_ring.proofs.ring.Ring.displace_last.Given as goal
 
 abbrev pub invariant-loop-ended : goal.invariant-loop-ended
 invariant-loop-ended g l = record {
-  full : l.self-inside.len ≡ l.fn.self.capacity;
+  full : (l.self-inside.len ≡ l.fn.self.capacity) × (l.capacity ≡ l.fn.self.capacity);
+  out : l.self-inside.slots ≡ empty_region 0;
   so_far : (n : ℕ) × Fills g.I.Iterator.next_gives l.fn.elements l.elements n l.ended
-      (λ xs. Opened l.self-inside (displaced_last xs l.fn.self));
+      (λ xs. Opened record l.self-inside { slots = l.slots } (displaced_last xs l.fn.self));
   goes : l.ended ≡ false → g.I.Iterator.can_next l.elements × IsFinite (g.I.Iterator.remaining l.elements);
 }
 

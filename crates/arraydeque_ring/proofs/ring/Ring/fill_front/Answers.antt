@@ -8,36 +8,39 @@ use Rattle.arraydeque_ring.proofs.{
     InRows.filled_front-both,
     Laying.{empty_before, laid_front},
   },
-  places.Opened.{Opened, bounds, opened, closed, kept},
+  places.Opened.{Opened, bounds, opened, closed, kept, items_within},
 }
 use Rattle.arraydeque_ring.proofs.ring.Ring.fill_front.Goals as goal
+use Rattle.arraydeque_ring.proofs.ring.Ring.fill_front.Goals.{
+  then-loop-ended-test+else-self-capacity,
+  else-loop-ended-test,
+}
 
 pub loop-ended-init : goal.loop-ended-init
 loop-ended-init g c = let ring = bounds c.self.inside _ c.self.invariant c.self.view_is in record {
   all = omega arith;
-  kept = c.self.invariant;
-  so_far = (0, Fills-none _ _ _ (opened c.self.inside c.self.invariant (grind arith)));
+  out = c.moved_out-slots.ensures.left;
+  so_far = (0, Fills-none _ _ _ (rw c.moved_out-slots.ensures.region
+      (opened c.self.inside c.self.invariant (grind arith))));
   goes = λ _. (c.requires, λ f. f);
 }
 
-pub fill_down-slots-requires-clause-empty : goal.fill_down-slots-requires-clause-empty
-fill_down-slots-requires-clause-empty g c = let was = c.loop-ended.invariant in let run = c.min-run in
-    rw c.moved_out.ensures.region (empty_before was.so_far.1.holds was.all (omega arith) run.result
-    c.wrap_add-from.result c.wrap_add-from.ensures (omega (arith, run.ensures)) (omega (arith, run.ensures)))
+pub fill_down-written-requires-clause-empty : goal.fill_down-written-requires-clause-empty
+fill_down-written-requires-clause-empty g c = let was = c.loop-ended.invariant in let run = c.min-run in
+    empty_before was.so_far.1.holds was.all (omega arith) run.result
+    c.wrap_add-from.result c.wrap_add-from.ensures (omega (arith, run.ensures)) (omega (arith, run.ensures))
 
 pub loop-ended-preserved : goal.loop-ended-preserved
 loop-ended-preserved g c =
-    let was = c.loop-ended.invariant in let some = c.loop-ended-test.true in let fill = c.fill_down-slots in
+    let was = c.loop-ended.invariant in let some = c.loop-ended-test.true in let fill = c.fill_down-written in
     let xs = was.so_far.1.items in let now = fill.ensures.filled in
     let after = laid_front was.so_far.1.holds was.all (omega arith) fill.result.1 c.wrap_add-from.result
     c.wrap_add-from.ensures (omega (arith, c.min-run.ensures, now.holds.0, now.at_most)) now.items now.holds.0
-    c.wrap_add-self-inside.ensures c.replace-nothing.new.dest
-    (rw (c.replace-nothing.ensures.after, ← c.moved_out.ensures.region) now.holds.1)
-    (omega (arith, c.min-run.ensures, now.holds.0, now.at_most))
-    (rw (c.replace-nothing.ensures.after, ← c.moved_out.ensures.region) fill.ensures.steps) in
+    c.wrap_add-self-inside.ensures fill.result.0 now.holds.1
+    (omega (arith, c.min-run.ensures, now.holds.0, now.at_most)) fill.ensures.steps in
     record {
       all = was.all;
-      kept = kept after;
+      out = was.out;
       so_far = (
         _,
         Fills-both _ was.so_far.1 now _ some (subst (Opened _) (filled_front-both xs now.items c.args.self.now) after),
@@ -45,24 +48,22 @@ loop-ended-preserved g c =
       goes = λ more. let goes = fill.ensures.goes more in (goes.0, λ f. goes.1 ((was.goes some).1 f));
     }
 
-pub returns-else-self-capacity-clause-filled : goal.returns-else-self-capacity-clause-filled
-returns-else-self-capacity-clause-filled g c =
+pub invariant_of-self : goal.invariant_of-self
+invariant_of-self g c = rw c.replace-nothing.ensures.after (kept c.loop-ended.invariant.so_far.1.holds)
+
+pub returns-clause-within : goal.returns-clause-within
+returns-clause-within g c = rw c.replace-nothing.ensures.after
+    (items_within record c.loop-ended.self-inside { slots = c.loop-ended.slots }
+    (kept c.loop-ended.invariant.so_far.1.holds))
+
+pub returns-clause-filled : goal.returns-clause-filled
+returns-clause-filled g c =
     let all = c.loop-ended.invariant.all in let was = c.loop-ended.invariant.so_far.1 in
     let within = was.holds.laid.within in
-    Fills-as _ was _ _
-    (omega (arith, length-append (reverse was.items) c.args.self.now.items, length-reverse was.items))
-    (λ some. omega (
-      arith,
-      was.holds.len,
-      (was.all some).1,
-      length-append (reverse was.items) c.args.self.now.items,
-      length-reverse was.items,
-    ))
-    (λ xs. closed)
-
-pub returns-after-loop-ended-clause-filled : goal.returns-after-loop-ended-clause-filled
-returns-after-loop-ended-clause-filled g c =
-    let was = c.loop-ended.invariant.so_far.1 in let within = was.holds.laid.within in
-    Fills-as _ was _ _
-    (omega (arith, length-append (reverse was.items) c.args.self.now.items, length-reverse was.items))
-    (λ some. absurd (true≢false (sym c.loop-ended-test.false ∙ some))) (λ xs. closed)
+    let long = length-append (reverse was.items) c.args.self.now.items in let same = length-reverse was.items in
+    rw c.replace-nothing.ensures.after (Fills-as _ was _ _ (omega (arith, within, long, same)) (λ more.
+    elim c.loop-ended-test.branch [
+      | then-loop-ended-test+else-self-capacity w ↦
+          omega (arith, w.if-self-capacity, all, was.holds.len, (was.all more).1, within, long, same)
+      | else-loop-ended-test w ↦ absurd (true≢false (sym w.loop-ended-test.false ∙ more))
+    ]) (λ xs. closed))
