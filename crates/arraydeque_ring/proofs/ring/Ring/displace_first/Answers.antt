@@ -1,4 +1,4 @@
-use Rattle.std.proofs.{Common.{subst, ◌∙◌, arith}, lemmas.List.append-nil}
+use Rattle.std.proofs.{Common.{subst, arith}, lemmas.List.append-nil}
 use Rattle.arraydeque_ring.proofs.{
   fills.{
     Displaced.displaced_first-both,
@@ -13,8 +13,11 @@ pub loop-ended-init : goal.loop-ended-init
 loop-ended-init g c = let ring = bounds c.self.inside _ c.self.invariant c.self.view_is in record {
   full = (omega (arith, ring, c.requires.full), omega (arith, ring, c.capacity-capacity.ensures));
   out = c.moved_out-slots.ensures.left;
-  so_far = (0, Fills-none _ _ _ (rw c.moved_out-slots.ensures.region
-      (opened c.self.inside c.self.invariant (grind (arith, append-nil)))));
+  so_far = (
+    0,
+    Fills-none _ _ _ (rw c.moved_out-slots.ensures.region
+        (opened c.self.inside c.self.invariant (grind (arith, append-nil)))),
+  );
   goes = λ _. (c.requires.may, c.requires.ends);
 }
 

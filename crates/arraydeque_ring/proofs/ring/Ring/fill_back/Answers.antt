@@ -8,14 +8,20 @@ use Rattle.arraydeque_ring.proofs.{
   places.Opened.{Opened, bounds, opened, closed, kept, items_within},
 }
 use Rattle.arraydeque_ring.proofs.ring.Ring.fill_back.Goals as goal
-use Rattle.arraydeque_ring.proofs.ring.Ring.fill_back.Goals.{then-loop-ended-test+else-self-capacity, else-loop-ended-test}
+use Rattle.arraydeque_ring.proofs.ring.Ring.fill_back.Goals.{
+  then-loop-ended-test+else-self-capacity,
+  else-loop-ended-test,
+}
 
 pub loop-ended-init : goal.loop-ended-init
 loop-ended-init g c = let ring = bounds c.self.inside _ c.self.invariant c.self.view_is in record {
   all = omega arith;
   out = c.moved_out-slots.ensures.left;
-  so_far = (0, Fills-none _ _ _ (rw c.moved_out-slots.ensures.region
-      (opened c.self.inside c.self.invariant (grind (arith, append-nil)))));
+  so_far = (
+    0,
+    Fills-none _ _ _ (rw c.moved_out-slots.ensures.region
+        (opened c.self.inside c.self.invariant (grind (arith, append-nil)))),
+  );
   goes = λ _. (c.requires, λ f. f);
 }
 

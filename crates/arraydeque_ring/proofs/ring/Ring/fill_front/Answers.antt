@@ -20,8 +20,11 @@ pub loop-ended-init : goal.loop-ended-init
 loop-ended-init g c = let ring = bounds c.self.inside _ c.self.invariant c.self.view_is in record {
   all = omega arith;
   out = c.moved_out-slots.ensures.left;
-  so_far = (0, Fills-none _ _ _ (rw c.moved_out-slots.ensures.region
-      (opened c.self.inside c.self.invariant (grind arith))));
+  so_far = (
+    0,
+    Fills-none _ _ _ (rw c.moved_out-slots.ensures.region
+        (opened c.self.inside c.self.invariant (grind arith))),
+  );
   goes = λ _. (c.requires, λ f. f);
 }
 
