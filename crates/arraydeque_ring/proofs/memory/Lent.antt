@@ -1,9 +1,9 @@
 -- What a `&` to a `Slots` shows: its pointer, and a `&` to each value in its places. Assumes `Logic`.
 use Rattle.arraydeque_ring.{
   proofs.memory.{
-    Kit.{◌≡◌, refl, ap, List, [], ◌∷◌, ℕ, ◌+◌, ◌*◌, ◌<◌, ◌^◌, length, Option, Ura, ent, sep, never, id⊢, Lft, fhide},
-    Kit.{Logic, sem, Goal, Seq, Item, ‵, ◌⊛◌, ◌$◌, ◌∵◌, !, qed, keep, done, move, drop, use1, split, rewrite, fsplit},
-    Kit.{fpick, flt_l, hidden_shr, Ptr, RawPtr, block_ptr, in_a_block, El, R, el_x, Struct},
+    Kit.{◌≡◌, refl, ap, List, [], ◌∷◌, ℕ, ◌+◌, ◌*◌, ◌<◌, ◌^◌, length, Ura, ent, sep, never, id⊢, Lft, fhide, Logic},
+    Kit.{sem, Goal, Seq, Item, ‵, ◌⊛◌, ◌$◌, ◌∵◌, !, qed, keep, done, move, drop, use1, split, rewrite, fsplit, fpick},
+    Kit.{flt_l, hidden_shr, Ptr, RawPtr, block_ptr, in_a_block, El, R, el_x, Struct},
     Owned.item_size,
     Regions.{Sr, Seen, owning},
   },
@@ -37,6 +37,6 @@ module _ (E : El) {M : Type 1} {𝓤 : Ura M} {𝓛 : Logic 𝓤} {K : Type 0} {
       use1 𝓛 (‵ (slots_lent (R E) a.ptr a.places κ) ⊛ ‵ (hidden_shr RawPtr κ a.ptr rb (ro + 0)))
       (fields_seen E 𝓛 κ a rb ro) $ split t $
       in_a_block t a.ptr (λ p. slots_lent (R E) p a.places κ) (id⊢ 𝓤 (never 𝓤)) (λ b o at.
-      rewrite t 0 (λ (ps : List (Option (el_x E))). ‵ (slots_lent (R E) (block_ptr b o) ps κ))
+      rewrite t 0 (λ ps. ‵ (slots_lent (R E) (block_ptr b o) ps κ))
       (ap (λ (v : Seen E). v.places) x.1.0) refl $
       fsplit t $ flt_l t (λ reach. then a.ptr b o at reach)))

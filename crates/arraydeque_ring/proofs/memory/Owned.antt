@@ -51,7 +51,7 @@ module _ (E : El) {M : Type 1} {𝓤 : Ura M} (𝓛 : Logic 𝓤) (b : ℕ) wher
   pub cut : (ps qs : List (Place E)) (o at : ℕ) → at ≡ length ps * s + o
       → ent 𝓤 (sem 𝓛 (Row o (ps ++ qs))) (sep 𝓤 (sem 𝓛 (Row o ps)) (sem 𝓛 (Row at qs)))
   cut [] qs o at e = qed 𝓛 (‵ (Row o qs) ∷ []) ∵
-      rewrite ! 0 (λ (k : ℕ). ‵ (Row k qs)) {x = at} (omega (arith, zero-mul s)) refl $ nothing ! $ done !
+      rewrite ! 0 (λ k. ‵ (Row k qs)) {x = at} (omega (arith, zero-mul s)) refl $ nothing ! $ done !
   cut (p ∷ ps) qs o at e =
       let on : at ≡ length ps * s + (o + s) = let all : at ≡ suc (length ps) * s + o = e in
       omega (arith, suc-mul (length ps) s) in
@@ -62,7 +62,7 @@ module _ (E : El) {M : Type 1} {𝓤 : Ura M} (𝓛 : Logic 𝓤) (b : ℕ) wher
   pub glue : (ps qs : List (Place E)) (o at : ℕ) → at ≡ length ps * s + o
       → ent 𝓤 (sep 𝓤 (sem 𝓛 (Row o ps)) (sem 𝓛 (Row at qs))) (sem 𝓛 (Row o (ps ++ qs)))
   glue [] qs o at e = qed 𝓛 (‵ (Row o []) ∷ ‵ (Row at qs) ∷ []) ∵ drop ! $
-      rewrite ! 0 (λ (k : ℕ). ‵ (Row k qs)) {x = o} (omega (arith, zero-mul s)) refl $ done !
+      rewrite ! 0 (λ k. ‵ (Row k qs)) {x = o} (omega (arith, zero-mul s)) refl $ done !
   glue (p ∷ ps) qs o at e =
       let on : at ≡ length ps * s + (o + s) = let all : at ≡ suc (length ps) * s + o = e in
       omega (arith, suc-mul (length ps) s) in
@@ -118,5 +118,5 @@ module _ (E : El) {M : Type 1} {𝓤 : Ura M} (𝓛 : Logic 𝓤) (b : ℕ) wher
         let rest = drop_list n (drop_list i ps) in
         qed 𝓛 (‵ (Shown o ps) ∷ []) ∵
         use1 𝓛 (‵ (Shown (i * s + o) (drop_list i ps))) (seen_from ps i o (i * s + o) le refl) $
-        rewrite ! 0 (λ (l : List (Place E)). ‵ (Shown (i * s + o) l)) (sym (take-append-drop n (drop_list i ps))
+        rewrite ! 0 (λ l. ‵ (Shown (i * s + o) l)) (sym (take-append-drop n (drop_list i ps))
         ∙ ap (λ l. l ++ rest) held) refl $ by ! (seen_values xs rest (i * s + o))

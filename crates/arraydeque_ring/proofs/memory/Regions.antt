@@ -1,13 +1,13 @@
 -- A `Slots` is taken apart into its words, its places and its right to free, and made of them;
 -- a `&mut` to one is opened and closed. Assumes `Logic`.
 use Rattle.arraydeque_ring.{
-  proofs.memory.Kit.{◌≡◌, refl, ap, subst, ◌∙◌, List, [], ◌∷◌, ◌++◌, ℕ, ◌+◌, ◌*◌, ◌<◌, ◌≤◌, ◌^◌, arith, length, Option},
-  proofs.memory.Kit.{Ura, full_share, Gv, ent, sep, emp, id⊢, never, Lft, Share, GName, Fml, fsep, flft, fobs, fauth},
-  proofs.memory.Kit.{fbor, fobor, ftrue, w64, Val, vunit, vint, vptr, vstruct, vcons, vnil, of_list, Logic, sem},
-  proofs.memory.Kit.{Borrowed, Goal, Soaks, Step, step, Seq, Item, ‵, ◌$◌, ◌∵◌, !, qed, move, drop, rewrite, use0},
-  proofs.memory.Kit.{fsplit, fjoin, fpick, fpack, feq_l, feq_i, flt_l, flt_i, RattleType, Valss, Is, shows, layout},
-  proofs.memory.Kit.{cell_at, mem, Ptr, block_ptr, ptr_val, in_a_block, nothing, opens, closes, peeks, Good, heap_val},
-  proofs.memory.Kit.{heap_Tells, times_below, done, El, R, el_x, part_of, makes_shadow, Global},
+  proofs.memory.Kit.{◌≡◌, refl, ap, subst, ◌∙◌, List, [], ◌∷◌, ◌++◌, ℕ, ◌+◌, ◌*◌, ◌<◌, ◌≤◌, ◌^◌, arith, length, Ura},
+  proofs.memory.Kit.{full_share, Gv, ent, sep, emp, id⊢, never, Lft, Share, GName, Fml, fsep, flft, fobs, fauth, fbor},
+  proofs.memory.Kit.{fobor, ftrue, w64, Val, vunit, vint, vptr, vstruct, vcons, vnil, of_list, Logic, sem, Borrowed},
+  proofs.memory.Kit.{Goal, Soaks, Step, step, Seq, Item, ‵, ◌$◌, ◌∵◌, !, qed, move, drop, rewrite, use0, fsplit, fjoin},
+  proofs.memory.Kit.{fpick, fpack, feq_l, feq_i, flt_l, flt_i, RattleType, Valss, Is, shows, layout, cell_at, mem, Ptr},
+  proofs.memory.Kit.{block_ptr, ptr_val, in_a_block, nothing, opens, closes, peeks, Good, heap_val, heap_Tells},
+  proofs.memory.Kit.{times_below, done, El, R, el_x, part_of, makes_shadow, Global},
   specs.{Places.Region, Ownership.slots_owned, declared.slots.Slots.TheInside.Inside},
 }
 use denote.Struct.{Struct.within, Owning.{Owning, shape}}
@@ -21,7 +21,7 @@ pub use Rattle.arraydeque_ring.proofs.memory.{
   Owned.{Place, Row, item_size, of_nothing, of_room, run_seen, to_room, value_in, value_out},
 }
 pub use Rattle.arraydeque_ring.proofs.memory.{
-  Rows.{Around, run_out, run_in, place_out, place_in, row_room, to_array, of_array},
+  Rows.{Around, run_out, run_in, place_out, place_in, array_out, array_in, room_out, room_in},
 }
 
 -- the words of a `Slots`: the pointer, the capacity and the allocator
@@ -96,7 +96,7 @@ module _ (E : El) {M : Type 1} {𝓤 : Ura M} {𝓛 : Logic 𝓤} {K : Type 0} {
       feq_l t (λ pointer. fsplit t $ fsplit t $ feq_l t (λ word. flt_l t (λ fits. fsplit t $
       peeks t heap.the_row (Is heap.the_row) (shows 𝓛 heap.the_row) a.alloc vss.1.1.0 (λ is. drop t $ drop t $
       in_a_block t a.ptr (λ p. slots_owned (R E) a.alloc p a.places) (id⊢ 𝓤 (never 𝓤)) (λ b o at.
-      rewrite t 0 (λ (ps : List (Option (el_x E))). ‵ (slots_owned (R E) a.alloc (block_ptr b o) ps)) same refl $
+      rewrite t 0 (λ ps. ‵ (slots_owned (R E) a.alloc (block_ptr b o) ps)) same refl $
       fsplit t $ flt_l t (λ reach. fsplit t $
       then a.alloc b o a.capacity (record { capacity = x.1.1 ∙ ap length same; word = fits; reach = reach })
       (all ∙ ((λ i. vstruct (of_list (pointer i ++ (word i ++ (heap_Tells a.alloc vss.1.1.0 is i ++ [])))) ∷ [])
@@ -116,8 +116,8 @@ module _ (E : El) {M : Type 1} {𝓤 : Ura M} {𝓛 : Logic 𝓤} {K : Type 0} {
       let vs : List Val = slots_val b o n ∷ [] in
       fjoin t $ flt_i t (length r.places * item_size E + o) (2 ^ 63) ok.reach $ fjoin t $
       nothing t $ use0 𝓛 (‵ (heap.the_row.own_val g (heap_val ∷ []))) (heap_made 𝓛 g) $ fjoin t $
-      flt_i t n (2 ^ 64) ok.word $ feq_i t (List Val) (vint w64 n ∷ []) (vint w64 n ∷ []) refl $ fjoin t $ fjoin t $
-      feq_i t (List Val) (vptr b o ∷ []) (vptr b o ∷ []) refl $ fjoin t $ feq_i t (List Val) vs vs refl $ fjoin t $
+      flt_i t n (2 ^ 64) ok.word $ feq_i t _ (vint w64 n ∷ []) _ refl $ fjoin t $ fjoin t $
+      feq_i t _ (vptr b o ∷ []) _ refl $ fjoin t $ feq_i t _ vs _ refl $ fjoin t $
       fpack t (Valss (shape (owning E)).fields)
       (within (shape (owning E)) (block_ptr b o, (n, (heap.the_type.to g, tt))) vs)
       (vptr b o ∷ [], (vint w64 n ∷ [], (heap_val ∷ [], tt))) $ fjoin t $
@@ -130,7 +130,7 @@ module _ (E : El) {M : Type 1} {𝓤 : Ura M} {𝓛 : Logic 𝓤} {K : Type 0} {
       → Step K 𝓛 (‵ ((Sr E).own_val new (slots_val b o n ∷ [])) ∷ Γ) G
       (‵ (places E new b o) ∷ ‵ (right E g r b o) ∷ Γ) G
   slots_remade t g r new b o n ok same =
-      step (λ s. move t (1 ∷ []) $ rewrite t 0 (λ (k : ℕ). ‵ (right_to_free (R E) g k (block_ptr b o))) same refl $
+      step (λ s. move t (1 ∷ []) $ rewrite t 0 (λ k. ‵ (right_to_free (R E) g k (block_ptr b o))) same refl $
       move t (1 ∷ 0 ∷ []) $ slots_made t g new b o n (Fits-as E ok new same) $ s)
 
 module _ (E : El) {M : Type 1} {𝓤 : Ura M} {𝓛 : Logic 𝓤} {K : Type 0} {Γ : List (Item 𝓤)} {G : Goal 𝓤 𝓛.H} where
@@ -144,7 +144,7 @@ module _ (E : El) {M : Type 1} {𝓤 : Ura M} {𝓛 : Logic 𝓤} {K : Type 0} {
       → Seq K 𝓛 (‵ (fobs γ ((Sr E).coded.code r)) ∷ ‵ (fbor κ (Borrowed (mem (Sr E)) rb ro γ)) ∷ ‵ (flft κ q) ∷ Γ) G
   slots_open t z r rb ro then =
       opens t z (Sr E) {h = r} rb ro (λ vs. move t (1 ∷ []) $ slots_apart E t r vs (λ g b o n ok is.
-      rewrite t 2 (λ (ws : List Val). ‵ (cell_at full_share (Sr E).mir ws rb ro)) is refl $ then g b o n ok))
+      rewrite t 2 (λ ws. ‵ (cell_at full_share (Sr E).mir ws rb ro)) is refl $ then g b o n ok))
 
   -- and closed with other places in the stead of those of r, as many
   pub slots_close : K → Soaks G → {κ : Lft} {q : Share} {u v : Gv} {γ : GName} (g : Global) (r new : Seen E)

@@ -5,10 +5,11 @@ use Rattle.arraydeque_ring.{
     Kit.{take-append-drop, length-take, length-drop, Some, None, Ura, full_share, ent, sep, Fml, fsep, fat, froom},
     Kit.{ty_array, Val, Logic, sem, ‵, ◌⊛◌, some, given, ◌$◌, ◌∵◌, !, qed, by, move, keep, use1, use2, pick, learn},
     Kit.{split, fsplit, fjoin, rewrite, done, part_at, Good, El, R, el_x, elτ, Array, ◌<◌, get_or, set, drop-cons},
-    Kit.{set_split, nothing, suc},
-    Owned.{item_size, Place, Row, cut, glue, value_out},
+    Kit.{set_split, nothing, suc, Item, Goal, Step, step, length-map, length-replicate, replicate},
+    Owned.{item_size, Place, Row, cut, glue, of_room, value_out},
   },
-  specs.Ownership.place_owned,
+  proofs.places.Held.length_filled,
+  specs.{Gaps.run_emptied, Ownership.place_owned, Places.IsFilledRun},
 }
 use lib.Seq.{drop-drop}
 use denote.Index.{row}
@@ -39,7 +40,7 @@ module _ (E : El) {M : Type 1} {𝓤 : Ura M} (𝓛 : Logic 𝓤) (b : ℕ) wher
         let rest = drop_list (i + n) ps in
         let long : n ≡ length run = omega (arith, length-take n (drop_list i ps), length-drop i ps) in
         qed 𝓛 (‵ (On o ps) ∷ []) ∵
-        rewrite ! 0 (λ (l : List (Place E)). ‵ (On o l)) (sym (take-append-drop i ps) ∙ ap (λ l. take i ps ++ l)
+        rewrite ! 0 (λ l. ‵ (On o l)) (sym (take-append-drop i ps) ∙ ap (λ l. take i ps ++ l)
         (sym (take-append-drop n (drop_list i ps)) ∙ ap (λ l. run ++ l) (drop-drop n i ps))) refl $
         use1 𝓛 (‵ (On o (take i ps)) ⊛ ‵ (On (i * s + o) (run ++ rest)))
         (cut E 𝓛 b (take i ps) (run ++ rest) o (i * s + o) (at_i within)) $ split ! $ move ! (1 ∷ []) $
@@ -63,7 +64,7 @@ module _ (E : El) {M : Type 1} {𝓤 : Ura M} (𝓛 : Logic 𝓤) (b : ℕ) wher
     place_out =
         qed 𝓛 (‵ (On o ps) ∷ []) ∵ use1 𝓛 (‵ (On (i * s + o) (take 1 (drop_list i ps))) ⊛ ‵ (Around o ps i 1))
         (run_out o ps i 1 (omega arith)) $ split ! $
-        rewrite ! 0 (λ (qs : List (Place E)). ‵ (On (i * s + o) qs)) (ap (take 1) (drop-cons ps i None lt)) refl $
+        rewrite ! 0 (λ qs. ‵ (On (i * s + o) qs)) (ap (take 1) (drop-cons ps i None lt)) refl $
         fsplit ! $ keep ! (0 ∷ 2 ∷ []) $ done !
 
     pub place_in : (p : Place E) → ent 𝓤 (sep 𝓤 (sem 𝓛 (place_owned (R E) b (i * s + o) p)) (sem 𝓛 (Around o ps i 1)))
@@ -72,7 +73,7 @@ module _ (E : El) {M : Type 1} {𝓤 : Ura M} (𝓛 : Logic 𝓤) (b : ℕ) wher
         qed 𝓛 (‵ (place_owned (R E) b (i * s + o) p) ∷ ‵ (Around o ps i 1) ∷ []) ∵ nothing ! $
         move ! (1 ∷ 0 ∷ []) $ fjoin ! $
         use2 𝓛 (‵ (On o (take i ps ++ (p ∷ drop_list (i + 1) ps)))) (run_in o ps i 1 (omega arith) (p ∷ []) refl) $
-        rewrite ! 0 (λ (qs : List (Place E)). ‵ (On o qs)) (ap (λ k. take i ps ++ (p ∷ drop_list k ps)) {y = suc i}
+        rewrite ! 0 (λ qs. ‵ (On o qs)) (ap (λ k. take i ps ++ (p ∷ drop_list k ps)) {y = suc i}
         (omega arith) ∙ sym (set_split ps i p lt)) refl $ done !
 
   -- a place is room, whether or not it holds a value, and a run of places is room for an array
@@ -83,7 +84,7 @@ module _ (E : El) {M : Type 1} {𝓤 : Ura M} (𝓛 : Logic 𝓤) (b : ℕ) wher
       (‵ (fat full_share (elτ E) b o v) ⊛ ‵ (E.row.own_val x (v ∷ []))))) (value_out 0 E.row E.laws 𝓛 x b o) $
       pick ! (λ v. learn ! (λ v_fits. split ! $ keep ! (0 ∷ []) $ by ! (𝓛.laws.at_room (elτ E) b o v)))
 
-  pub row_room : (ps : List (Place E)) (n o : ℕ) → length ps ≡ n
+  row_room : (ps : List (Place E)) (n o : ℕ) → length ps ≡ n
       → ent 𝓤 (sem 𝓛 (On o ps)) (H.room (ty_array (elτ E) n) b o)
   row_room [] n o long = rw (sym long) (𝓛.laws.room_nil (elτ E) b o)
   row_room (p ∷ ps) n o long = rw (sym long) (qed 𝓛 (‵ (place_owned (R E) b o p) ∷ ‵ (On (o + s) ps) ∷ []) ∵
@@ -91,7 +92,7 @@ module _ (E : El) {M : Type 1} {𝓤 : Ura M} (𝓛 : Logic 𝓤) (b : ℕ) wher
       use1 𝓛 (‵ (froom (ty_array (elτ E) (length ps)) b (o + s))) (row_room ps (length ps) (o + s) refl) $
       move ! (1 ∷ []) $ by ! (𝓛.laws.room_cons (elτ E) (length ps) b o))
 
-  -- a filled run is an array, and back
+  -- a filled run is an array
   abbrev Cells : arrays.El
   Cells = record { row = E.row; laws = E.laws }
 
@@ -99,13 +100,45 @@ module _ (E : El) {M : Type 1} {𝓤 : Ura M} (𝓛 : Logic 𝓤) (b : ℕ) wher
   same_row [] o = refl
   same_row (x ∷ xs) o = ap (λ (F : Fml). fsep (part_at (R E) full_share x b o) F) (same_row xs (o + s))
 
-  pub to_array : (n : ℕ) (xs : List (el_x E)) (o : ℕ) → length xs ≡ n
-      → ent 𝓤 (sem 𝓛 (On o (map Some xs))) (sem 𝓛 (part_at (Array (R E) n) full_share xs b o))
-  to_array n xs o long = qed 𝓛 (‵ (On o (map Some xs)) ∷ []) ∵ rewrite ! 0 (λ (F : Fml). ‵ F) (same_row xs o) refl $
-      by ! (arrays.whole Cells 𝓛 full_share n xs b o long)
+-- the n places from the i-th on, as an array of values, and as room for one
+module _ (E : El) (b o i n : ℕ) where
+  abbrev Values : List (el_x E) → Fml
+  Values xs = part_at (Array (R E) n) full_share xs b (i * item_size E + o)
 
-  pub of_array : (n : ℕ) (xs : List (el_x E)) (o : ℕ)
-      → ent 𝓤 (sem 𝓛 (part_at (Array (R E) n) full_share xs b o)) (sem 𝓛 (On o (map Some xs)))
-  of_array n xs o = qed 𝓛 (‵ (part_at (Array (R E) n) full_share xs b o) ∷ []) ∵
-      use1 𝓛 (given (length xs ≡ n) (‵ (row (R E) full_share xs b o))) (arrays.apart Cells 𝓛 full_share n xs b o) $
-      learn ! (λ _. rewrite ! 0 (λ (F : Fml). ‵ F) (sym (same_row xs o)) refl $ done !)
+  abbrev Room : Fml
+  Room = froom (ty_array (elτ E) n) b (i * item_size E + o)
+
+-- they are taken from the others, and put back
+module _ (E : El) {M : Type 1} {𝓤 : Ura M} {𝓛 : Logic 𝓤} {K : Type 0} {Γ : List (Item 𝓤)} {G : Goal 𝓤 𝓛.H} (t : K)
+    (b o : ℕ) (ps : List (Place E)) (i n : ℕ) where
+  pub array_out : (filled : IsFilledRun ps i n)
+      → Step K 𝓛 (‵ (Values E b o i n filled.1.0) ∷ ‵ (Around E 𝓛 b o ps i n) ∷ Γ) G (‵ (Row E 𝓛 b o ps) ∷ Γ) G
+  array_out filled = let xs = filled.1.0 in let at = i * item_size E + o in step (λ s.
+      use1 𝓛 (‵ (Row E 𝓛 b at (take n (drop_list i ps))) ⊛ ‵ (Around E 𝓛 b o ps i n))
+      (run_out E 𝓛 b o ps i n filled.0) $ split t $
+      rewrite t 0 (λ F. ‵ F) (ap (Row E 𝓛 b at) filled.1.1 ∙ same_row E 𝓛 b xs at) refl $
+      use1 𝓛 (‵ (Values E b o i n xs))
+      (arrays.whole (Cells E 𝓛 b) 𝓛 full_share n xs b at (length_filled ps i n filled)) $ s)
+
+  pub array_in : i + n ≤ length ps → (xs : List (el_x E)) {qs : List (Place E)} → qs ≡ map Some xs
+      → Step K 𝓛 (‵ (Row E 𝓛 b o (take i ps ++ (qs ++ drop_list (i + n) ps))) ∷ Γ) G
+      (‵ (Values E b o i n xs) ∷ ‵ (Around E 𝓛 b o ps i n) ∷ Γ) G
+  array_in within xs {qs} e = let at = i * item_size E + o in step (λ s.
+      use1 𝓛 (given (length xs ≡ n) (‵ (row (R E) full_share xs b at)))
+      (arrays.apart (Cells E 𝓛 b) 𝓛 full_share n xs b at) $ learn t (λ long.
+      rewrite t 0 (λ F. ‵ F) (sym (ap (Row E 𝓛 b at) e ∙ same_row E 𝓛 b xs at)) refl $
+      use2 𝓛 (‵ (Row E 𝓛 b o (take i ps ++ (qs ++ drop_list (i + n) ps))))
+      (run_in E 𝓛 b o ps i n within qs (ap length e ∙ length-map xs Some ∙ long)) $ s))
+
+  pub room_out : i + n ≤ length ps
+      → Step K 𝓛 (‵ (Room E b o i n) ∷ ‵ (Around E 𝓛 b o ps i n) ∷ Γ) G (‵ (Row E 𝓛 b o ps) ∷ Γ) G
+  room_out within = let run = take n (drop_list i ps) in let at = i * item_size E + o in step (λ s.
+      use1 𝓛 (‵ (Row E 𝓛 b at run) ⊛ ‵ (Around E 𝓛 b o ps i n)) (run_out E 𝓛 b o ps i n within) $ split t $
+      use1 𝓛 (‵ (Room E b o i n))
+      (row_room E 𝓛 b run n at (omega (arith, length-take n (drop_list i ps), length-drop i ps))) $ s)
+
+  pub room_in : i + n ≤ length ps
+      → Step K 𝓛 (‵ (Row E 𝓛 b o (run_emptied i n ps)) ∷ Γ) G (‵ (Room E b o i n) ∷ ‵ (Around E 𝓛 b o ps i n) ∷ Γ) G
+  room_in within = let nones : List (Place E) = replicate n None in let at = i * item_size E + o in step (λ s.
+      use1 𝓛 (‵ (Row E 𝓛 b at nones)) (of_room E 𝓛 b n at) $
+      use2 𝓛 (‵ (Row E 𝓛 b o (run_emptied i n ps))) (run_in E 𝓛 b o ps i n within nones (length-replicate n None)) $ s)

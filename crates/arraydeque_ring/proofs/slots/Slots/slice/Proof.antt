@@ -2,14 +2,15 @@
 use Rattle.arraydeque_ring.proofs.{
   memory.{
     Kit.{refl, sym, ap, List, [], ◌∷◌, ℕ, ◌+◌, ◌*◌, ◌<◌, ◌^◌, arith, length, ftrue, flft, Fn, inst_fn, named, w64, Val},
-    Kit.{vint, vptr, Env, ◌⊑◌, fact, tables, owns, types_at, ‵, raw, ◌⊛◌, at_ret, ◌$◌, ◌∵◌, !, qed, move, keep, use1},
-    Kit.{drop, split, join, fsplit, fjoin, feq_i, flt_i, suffices, done, agg, enter, of_opd, bin, load, look, stop},
-    Kit.{fld, no_more, and_then, first, blocks, exec, returns, alloc_all, pass_all, free_all, look_at, get, through},
-    Kit.{sets, sets_last, env, yes, plain, usize, RefOf, uint_vals, uint_Tells, shr_vals, shr_Tells, Stays, walk_of},
-    Kit.{says, stay_dropped, Goes-dropped, ends_at, nothing, heard, after, El, R, args, el_x, times_below, proved},
-    Kit.{slice_val, elements_shared, ◌∙◌, looks, shuts, RawPtr, Ptr, ptr_val, ty_ptr, feq_l, rewrite, cell_at},
+    Kit.{vptr, tables, owns, types_at, ‵, raw, ◌⊛◌, at_ret, ◌$◌, ◌∵◌, !, qed, move, keep, use1, drop, split, join},
+    Kit.{fsplit, fjoin, feq_i, flt_i, suffices, done, agg, enter, of_opd, bin, load, look, stop, fld, no_more},
+    Kit.{and_then, first, blocks, exec, returns, alloc_all, pass_all, free_all, look_at, get, through, sets, sets_last},
+    Kit.{env, yes, plain, usize, RefOf, uint_vals, uint_Tells, shr_vals, shr_Tells, Stays, walk_of, says, stay_dropped},
+    Kit.{Goes-dropped, ends_at, nothing, heard, after, El, R, args, el_x, times_below, proved, slice_val},
+    Kit.{elements_shared, ◌∙◌, looks, shuts, RawPtr, Ptr, ptr_val, ty_ptr, feq_l, rewrite, cell_at},
+    Called.hears,
     Lent.slots_seen,
-    Regions.{Sr, Seen, scaled, item_size, run_seen, IsFilledRun},
+    Regions.{Sr, Seen, scaled, item_size, run_seen},
   },
   places.Held.length_filled,
 }
@@ -37,10 +38,10 @@ slice_spec 𝓤 𝓛 𝓜 𝓡 wired X L =
     let len : ℕ = a.1.1.0 in
     let i_fits : i < 2 ^ 64 = are.1.0.1 in let len_fits : len < 2 ^ 64 = are.1.1.0.1 in
     let y : W.Ghost = ((κs, qs, bounds, a, (shr_vals a.0, (uint_vals w64 i, (uint_vals w64 len, tt)))), tt) in
-    let s : ℕ = item_size E in let Asked : Type 0 = IsFilledRun r.places i len in
+    let s : ℕ = item_size E in
     qed 𝓛 (((‵ (flft κ q) ⊛ ‵ (flft κ₁ q₁) ⊛ ‵ ftrue) ⊛ ‵ (owns (types_at ended.signature.params κs) a y.0.4))
-    ∷ (raw (fact 𝓤 (κ₁ ⊑ X.lives)) ⊛ raw (fact 𝓤 Asked)) ∷ []) ∵
-    move ! (1 ∷ []) $ split ! $ drop ! $ heard ! Asked (λ asked.
+    ∷ raw ((c κs a).requires tt) ∷ []) ∵
+    move ! (1 ∷ []) $ hears ! (λ _. heard ! _ (λ asked.
     let within = asked.0 in let xs : List (el_x E) = asked.1.0 in let held = asked.1.1 in
     let long = length_filled r.places i len asked in
     split ! $ split ! $ move ! (2 ∷ []) $ fsplit ! $ fsplit ! $ drop ! $
@@ -51,12 +52,11 @@ slice_spec 𝓤 𝓛 𝓜 𝓡 wired X L =
     hide ! $
     -- [the values; the pointer; its token; the other tokens]
     keep ! (1 ∷ 3 ∷ 4 ∷ 0 ∷ []) $
-    enter ! 𝓣.C 𝓣.Λ here (vptr rb ro ∷ vint w64 i ∷ vint w64 len ∷ []) _ $ alloc_all ! (λ l.
+    enter ! _ _ _ _ _ $ alloc_all ! (λ l.
     pass_all ! refl ((tt, tt), ((tt, record { fits = i_fits }), ((tt, record { fits = len_fits }), tt))) $
-    let En : Env 𝓤 𝓛.H = env here.locals l in
     first ! $ blocks ! $ looks ! tt RawPtr (plain_Copied 𝓛 Ptr coded_ptr (ty_ptr ∷ []) ptr_own rawptr_pure ptr_val
     RawPtr-laws.tells).opens p rb (ro + 0) (λ q' vs. move ! (1 ∷ []) $ feq_l ! (λ word.
-    rewrite ! 0 (λ (us : List Val). ‵ (cell_at q' RawPtr.mir us rb (ro + 0))) (word
+    rewrite ! 0 (λ us. ‵ (cell_at q' RawPtr.mir us rb (ro + 0))) (word
     ∙ ap (λ (r : Ptr). ptr_val r ∷ []) at) refl $ move ! (2 ∷ []) $ drop ! $
     sets ! (of_opd ! (load ! (through ! refl (fld ! refl (stop !))) (look ! 0 refl))) refl (tt, tt) $
     feq_i ! (List Val) (vptr b o ∷ []) (ptr_val p ∷ []) (ap (λ (r : Ptr). ptr_val r ∷ []) (sym at)) $
@@ -66,7 +66,7 @@ slice_spec 𝓤 𝓛 𝓜 𝓡 wired X L =
     let run : ℕ × ℕ = (b, i * s + o) in
     sets_last ! (agg ! (and_then ! (get ! refl) (and_then ! (get ! refl) (no_more !)))) refl
     (tt, (tt, (record { fits = len_fits }, tt))) $
-    exec ! 𝓣.C 𝓣.Λ En (after 1 here.body) (at_ret En (W.post y)) $
+    exec ! 𝓣.C 𝓣.Λ (env here.locals l) (after 1 here.body) (at_ret _ (W.post y)) $
     sets ! (of_opd ! (get ! refl)) refl (tt, (tt, (record { fits = len_fits }, tt))) $
     returns ! (look_at ! 0 refl) $ free_all ! refl $
     suffices ! _ (ends_at 𝓛 ended stayed c y (slice_val run len) (record { ref_ptr = run; now = xs })
@@ -76,4 +76,5 @@ slice_spec 𝓤 𝓛 𝓜 𝓡 wired X L =
     flt_i ! (length xs) (2 ^ 64) (omega arith) $ fjoin ! $
     feq_i ! (List Val) (slice_val run len ∷ []) (slice_val run (length xs) ∷ [])
     (ap (λ k. slice_val run k ∷ []) (sym long)) $ fjoin ! $ fjoin ! $
-    nothing ! $ nothing ! $ fjoin ! $ nothing ! $ fjoin ! $ nothing ! $ fjoin ! $ keep ! (2 ∷ 0 ∷ 1 ∷ []) $ done !))))))
+    nothing ! $ nothing ! $ fjoin ! $ nothing ! $ fjoin ! $ nothing ! $ fjoin ! $
+    keep ! (2 ∷ 0 ∷ 1 ∷ []) $ done !)))))))

@@ -1,17 +1,17 @@
 -- `with_memory` cuts a new block into empty places, and keeps the right to free it. Assumes `Logic`.
 use Rattle.arraydeque_ring.proofs.memory.{
   Kit.{true, false, ◌≡◌, refl, sym, subst, [], ◌∷◌, ℕ, ◌+◌, ◌*◌, ◌<◌, ◌^◌, arith, lit<, length, length-replicate, None},
-  Kit.{Ok, Err, Fml, ftrue, flft, Fn, Body, inst_fn, named, w64, ty_array, Val, vint, vptr, vstruct, vcons, vnil},
-  Kit.{align, capped, capped_fits, Env, Wp, after_seq, at_return, ◌⊑◌, fact, tables, After, ‵, raw, ◌⊛◌, given, later},
-  Kit.{at_ret, any_q, ◌$◌, ◌∵◌, !, qed, move, keep, drop, use1, use2, split, join, learn, frame, fsplit, fjoin},
-  Kit.{rewrite, suffices, await, done, whole, agg, live, vrt, in_variant, enter, of_opd, lit, align_word, stop, fld},
-  Kit.{no_more, and_then, first, switches_on, exec, returns, alloc_all, pass_all, free_all, look_at, get, get_in},
-  Kit.{get_tag, sets, sets_last, lands_as, env, yes, RattleType, owns, Is, layout, uint_vals, uint_Tells, block_ptr},
-  Kit.{shr_vals, shr_Tells, usize, RefOf, plain, types_at, heard, nothing, owned, calls_at, framed, Stays, walk_of},
-  Kit.{says, stay_dropped, Goes-dropped, ends_at, heap_val, heap_Tells, as_written, Good, first_Good, after, head},
-  Kit.{arm_body, El, args, elτ, proved, Struct, Global},
-  Blocks.{scaled, block_ty, block_size, block_align, token, token_at_start, right_is},
-  Heap.{Allocates, Answered, Asks, to_allocate, allocate_goes, allocate_gives, answers},
+  Kit.{Ok, Err, ftrue, flft, Fn, Body, inst_fn, named, w64, ty_array, Val, vstruct, vcons, vnil, Env, Wp, after_seq},
+  Kit.{at_return, tables, After, ‵, raw, ◌⊛◌, given, at_ret, any_q, ◌$◌, ◌∵◌, !, qed, move, keep, drop, use1, use2},
+  Kit.{split, join, learn, frame, fsplit, fjoin, rewrite, suffices, done, whole, agg, live, vrt, in_variant, enter},
+  Kit.{of_opd, lit, align_word, stop, fld, no_more, and_then, first, switches_on, exec, returns, alloc_all, pass_all},
+  Kit.{free_all, look_at, get, get_in, get_tag, sets, sets_last, lands_as, env, yes, RattleType, owns, Is, layout},
+  Kit.{uint_vals, uint_Tells, block_ptr, shr_vals, shr_Tells, usize, RefOf, plain, types_at, heard, nothing, owned},
+  Kit.{calls_at, framed, Stays, walk_of, says, stay_dropped, Goes-dropped, ends_at, heap_val, heap_Tells, as_written},
+  Kit.{Good, first_Good, after, head, arm_body, El, args, elτ, proved, Struct, Global},
+  Blocks.{scaled, token, token_at_start, right_is},
+  Called.hears,
+  Heap.{Allocates, to_allocate, allocate_goes, allocated},
   Regions.{Sr, Seen, places, heap_Good, slots_val, slots_Good, slots_made, item_size, of_room, empty_region},
 }
 use denote.Struct.Struct.{Struct-Makes}
@@ -47,34 +47,25 @@ with_memory_spec 𝓤 𝓛 𝓜 𝓡 wired X L =
     let y : W.Ghost = ((κs, qs, bounds, a, (shr_vals a.0, (heap_val ∷ [], (uint_vals w64 n, tt)))), tt) in
     let s : ℕ = item_size E in
     qed 𝓛 (((‵ (flft κ q) ⊛ ‵ (flft κ₁ q₁) ⊛ ‵ ftrue) ⊛ ‵ (owns (types_at ended.signature.params κs) a y.0.4))
-    ∷ (raw (fact 𝓤 (κ₁ ⊑ X.lives)) ⊛ raw (fact 𝓤 (0 < n * s)) ⊛ raw (fact 𝓤 (n * s < 2 ^ 63))) ∷ []) ∵
-    move ! (1 ∷ []) $ split ! $ drop ! $ split ! $ heard ! (0 < n * s) (λ some. heard ! (n * s < 2 ^ 63) (λ named_by.
+    ∷ raw ((c κs a).requires tt) ∷ []) ∵
+    move ! (1 ∷ []) $ hears ! (λ _. hears ! (λ some. heard ! _ (λ named_by.
     let bytes : n * s < 2 ^ 64 = omega arith in
     split ! $ split ! $ move ! (2 ∷ []) $ fsplit ! $ fsplit ! $ drop ! $ keep ! (0 ∷ 2 ∷ 3 ∷ []) $
     -- [the `&`; its token; the other tokens]
-    enter ! 𝓣.C 𝓣.Λ here (vptr rb ro ∷ heap_val ∷ vint w64 n ∷ []) _ $
+    enter ! _ _ _ _ _ $
     alloc_all ! (λ l. pass_all ! refl ((tt, tt), (heap_Good, ((tt, record { fits = n_fits }), tt))) $
     let En : Env 𝓤 𝓛.H = env here.locals l in
     let arms : Body = head (after 2 here.body) in
     let Then : After 𝓤 𝓛.H = any_q (after_seq 𝓤 𝓛.H
     (Wp 𝓤 𝓛.H 𝓣.C 𝓣.Λ En (after 3 here.body) (at_return 𝓤 𝓛.H En (W.post y))) (at_return 𝓤 𝓛.H En (W.post y))) in
-    let al : ℕ = capped (align (elτ E)) in let τ = block_ty E n in
-    let z : (Allocates 𝓛 𝓜.mem 𝓡.returns).Ghost = to_allocate 𝓛 𝓜.mem 𝓡.returns κ q (rb, ro) h (n * s) al τ in
-    let asked : Asks 𝓛 𝓜.mem 𝓡.returns κ q (rb, ro) h τ (n * s) al = record {
-      size_is = block_size E n bytes;
-      align_is = block_align E n;
-      size_fits = bytes;
-      align_fits = capped_fits (align (elτ E));
-    } in
+    let Asks = Allocates 𝓛 𝓜.mem 𝓡.returns in
+    let z : Asks.Ghost = to_allocate 𝓛 𝓜.mem 𝓡.returns E n κ q (rb, ro) h in
     sets ! (scaled ! (get ! refl) bytes) refl (tt, record { fits = bytes }) $
-    use2 𝓛 (raw ((Allocates 𝓛 𝓜.mem 𝓡.returns).pre z))
-    (allocate_goes 𝓛 𝓜.mem 𝓡.returns κ q (rb, ro) h (n * s) al τ asked) $
-    calls_at ! (framed 𝓤 𝓛.H 𝓜 𝓣) (Allocates 𝓛 𝓜.mem 𝓡.returns)
+    use2 𝓛 (raw (Asks.pre z)) (allocate_goes 𝓛 𝓜.mem 𝓡.returns E n κ q (rb, ro) h bytes) $
+    calls_at ! (framed 𝓤 𝓛.H 𝓜 𝓣) Asks
     (met 𝓤 𝓛 𝓜 𝓡 (code.calls-std_heap::GlobalAllocator::allocate 𝓡.env wired)) z
     (and_then ! (get ! refl) (and_then ! (get ! refl) (and_then ! (align_word !) (no_more !)))) (λ v.
-    use1 𝓛 (later (raw (Answered 𝓛 𝓜.mem 𝓡.returns h τ v) ⊛ ‵ (flft κ q)))
-    (allocate_gives 𝓛 𝓜.mem 𝓡.returns κ q (rb, ro) h (n * s) al τ v) $ await ! tt $ split ! $
-    answers ! 𝓜.mem 𝓡.returns h τ v
+    allocated ! tt 𝓜.mem 𝓡.returns E n κ q (rb, ro) h v
     (λ b o e.
     let r : Seen E = empty_region n in let long : n ≡ length r.places = sym (length-replicate n None) in
     let made : Val = slots_val b o n in let typed : Good (layout (Sr E)) made = slots_Good E b o n n_fits in
@@ -87,11 +78,11 @@ with_memory_spec 𝓤 𝓛 𝓜 𝓡 wired X L =
     sets ! (agg ! (and_then ! (get ! refl) (and_then ! (get ! refl) (and_then ! (get ! refl) (no_more !)))))
     refl typed $
     sets_last ! (agg ! (and_then ! (lit ! tt) (and_then ! (get ! refl) (no_more !)))) refl ok $
-    exec ! 𝓣.C 𝓣.Λ En (after 3 here.body) (at_ret En (W.post y)) $ sets ! (of_opd ! (get ! refl)) refl ok $
+    exec ! 𝓣.C 𝓣.Λ En (after 3 here.body) (at_ret _ (W.post y)) $ sets ! (of_opd ! (get ! refl)) refl ok $
     as_written ! (ty_array (elτ E) n) b o $ use1 𝓛 (‵ (places E r b o)) (of_room E 𝓛 b n o) $ move ! (1 ∷ []) $
     use1 𝓛 (given (o ≡ 0) (‵ (token E g n (block_ptr b o)))) (token_at_start E 𝓛 g n b o) $ learn ! (λ start.
-    rewrite ! 0 (λ (m : ℕ). ‵ (token E g m (block_ptr b o))) long refl $
-    rewrite ! 0 (λ (F : Fml). ‵ F)
+    rewrite ! 0 (λ m. ‵ (token E g m (block_ptr b o))) long refl $
+    rewrite ! 0 (λ F. ‵ F)
     (sym (right_is E g (length r.places) (block_ptr b o) (subst (λ m. 0 < m * s) long some))) refl $
     move ! (1 ∷ 0 ∷ []) $
     slots_made E ! g r b o n (record {
@@ -115,7 +106,7 @@ with_memory_spec 𝓤 𝓛 𝓜 𝓡 wired X L =
     refl (tt, tt) $
     sets_last ! (agg ! (and_then ! (lit ! tt) (and_then ! (get ! refl) (no_more !)))) refl
     (tt, (record { fits = lit< tt }, (tt, tt))) $
-    exec ! 𝓣.C 𝓣.Λ En (after 3 here.body) (at_ret En (W.post y)) $
+    exec ! 𝓣.C 𝓣.Λ En (after 3 here.body) (at_ret _ (W.post y)) $
     sets ! (of_opd ! (get ! refl)) refl (tt, (record { fits = lit< tt }, (tt, tt))) $
     owned ! Refusal (Is Refusal) (Struct-Makes 𝓛 (Declared.shape refusals.the_type) tt) tt (vstruct vnil ∷ [])
     (tt, (refl, tt)) $
@@ -125,4 +116,4 @@ with_memory_spec 𝓤 𝓛 𝓜 𝓡 wired X L =
     suffices ! _
     (ends_at 𝓛 ended stayed c y none (Err (record {})) (tt, (tt, (tt, tt))) (tt, (tt, (tt, tt)))) $ says ! tt $
     move ! (1 ∷ 2 ∷ []) $ join ! $ frame ! $ nothing ! $ nothing ! $ fjoin ! $ nothing ! $ fjoin ! $ nothing ! $
-    fjoin ! $ done !))))))
+    fjoin ! $ done !)))))))

@@ -1,11 +1,12 @@
 -- `without_memory` makes places that take no bytes out of nothing. Assumes `Logic`.
 use Rattle.arraydeque_ring.proofs.memory.{
   Kit.{◌≡◌, refl, sym, ap, subst, ◌∙◌, [], ◌∷◌, ℕ, ◌+◌, ◌*◌, ◌<◌, ◌^◌, lit<, length, length-replicate, None, ftrue},
-  Kit.{flft, Fn, inst_fn, w64, vint, ◌⊑◌, fact, tables, owns, types_at, ‵, raw, ◌⊛◌, ◌$◌, ◌∵◌, !, qed, move, keep},
-  Kit.{use0, drop, split, fjoin, suffices, done, agg, enter, addr, from, stop, no_more, and_then, returns, alloc_all},
-  Kit.{pass_all, free_all, look_at, get, sets, yes, plain, usize, uint_vals, uint_Tells, heap_val, heap_Tells, Stays},
-  Kit.{walk_of, says, stay_dropped, Goes-dropped, ends_at, nothing, heard, block_ptr, El, args, proved, Global},
+  Kit.{flft, Fn, inst_fn, w64, tables, owns, types_at, ‵, raw, ◌⊛◌, ◌$◌, ◌∵◌, !, qed, move, keep, use0, split, fjoin},
+  Kit.{suffices, done, agg, enter, addr, from, stop, no_more, and_then, returns, alloc_all, pass_all, free_all},
+  Kit.{look_at, get, sets, yes, plain, usize, uint_vals, uint_Tells, heap_val, heap_Tells, Stays, walk_of, says},
+  Kit.{stay_dropped, Goes-dropped, ends_at, nothing, heard, block_ptr, El, args, proved, Global},
   Blocks.no_right,
+  Called.hears,
   Regions.{Seen, Fits, places, right, heap_Good, slots_val, slots_Good, slots_made, item_size, of_nothing},
   Regions.{empty_region},
 }
@@ -29,14 +30,14 @@ without_memory_spec 𝓤 𝓛 𝓜 𝓡 wired X L =
     (λ κs qs bounds a _ are.
     let κ = κs.0 in let q = qs.0 in let g : Global = a.0 in let n : ℕ = a.1.0 in let n_fits : n < 2 ^ 64 = are.1.0.1 in
     let y : W.Ghost = ((κs, qs, bounds, a, (heap_val ∷ [], (uint_vals w64 n, tt))), tt) in
-    let s : ℕ = item_size E in let Asked : Type 0 = n * s ≡ 0 in
+    let s : ℕ = item_size E in
     let r : Seen E = empty_region n in let long : n ≡ length r.places = sym (length-replicate n None) in
     qed 𝓛 (((‵ (flft κ q) ⊛ ‵ ftrue) ⊛ ‵ (owns (types_at ended.signature.params κs) a y.0.4))
-    ∷ (raw (fact 𝓤 (κ ⊑ X.lives)) ⊛ raw (fact 𝓤 Asked)) ∷ []) ∵
-    move ! (1 ∷ []) $ split ! $ drop ! $ heard ! Asked (λ no_bytes.
+    ∷ raw ((c κs a).requires tt) ∷ []) ∵
+    move ! (1 ∷ []) $ hears ! (λ _. heard ! _ (λ no_bytes.
     let none : length r.places * s ≡ 0 = ap (λ k. k * s) (sym long) ∙ no_bytes in
     split ! $ keep ! (0 ∷ []) $
-    enter ! 𝓣.C 𝓣.Λ here (heap_val ∷ vint w64 n ∷ []) _ $
+    enter ! _ _ _ _ _ $
     alloc_all ! (λ l. pass_all ! refl (heap_Good, ((tt, record { fits = n_fits }), tt)) $
     let b : ℕ = l 3 in let ok : Fits E r 0 n = record {
       capacity = long;
@@ -53,4 +54,4 @@ without_memory_spec 𝓤 𝓛 𝓜 𝓡 wired X L =
     use0 𝓛 (‵ (right E g r b 0)) (no_right E 𝓛 g (length r.places) (block_ptr b 0) none) $
     use0 𝓛 (‵ (places E r b 0)) (of_nothing E 𝓛 b n 0 no_bytes) $
     slots_made E ! g r b 0 n ok $
-    nothing ! $ nothing ! $ fjoin ! $ nothing ! $ fjoin ! $ keep ! (2 ∷ 0 ∷ 1 ∷ []) $ done !)))
+    nothing ! $ nothing ! $ fjoin ! $ nothing ! $ fjoin ! $ keep ! (2 ∷ 0 ∷ 1 ∷ []) $ done !))))

@@ -1,9 +1,9 @@
 -- `size_of_item` answers the size of any type, capped to a word. Assumes `Logic`.
 use Rattle.arraydeque_ring.proofs.memory.{
-  Kit.{refl, List, [], ◌∷◌, ℕ, ◌^◌, ftrue, flft, Fn, inst_fn, w64, Val, vint, size, capped, capped_fits, tables, owns},
-  Kit.{types_at, ‵, raw, ◌⊛◌, ◌$◌, ◌∵◌, !, qed, move, keep, join, split, fjoin, feq_i, flt_i, suffices, done, enter},
-  Kit.{of_opd, size_word, returns, alloc_all, pass_all, free_all, look_at, sets, nothing, walk_of, says, ends_at},
-  Kit.{proved, layout, Args, a_type, layouts},
+  Kit.{refl, [], ◌∷◌, ℕ, ◌^◌, ftrue, flft, Fn, inst_fn, w64, vint, size, capped, capped_fits, tables, owns, types_at},
+  Kit.{‵, raw, ◌⊛◌, ◌$◌, ◌∵◌, !, qed, move, keep, join, split, fjoin, feq_i, flt_i, suffices, done, enter, of_opd},
+  Kit.{size_word, returns, alloc_all, pass_all, free_all, look_at, sets, nothing, walk_of, says, ends_at, proved},
+  Kit.{layout, Args, a_type, layouts},
 }
 use Rattle.arraydeque_ring.specs.contracts.slots.raw.size_of_item as f
 use Rattle.arraydeque_ring.proofs.slots.raw.size_of_item.Statement as stated
@@ -19,9 +19,9 @@ size_of_item_spec 𝓤 𝓛 𝓜 𝓡 wired X L =
     let y : W.Ghost = ((κs, qs, bounds, a, tt), g) in let s : ℕ = capped (size (layout X)) in
     qed 𝓛 (((‵ (flft κs.0 qs.0) ⊛ ‵ ftrue) ⊛ ‵ (owns (types_at ended.signature.params κs) a tt)) ∷ raw
     ((c κs a).requires g) ∷ []) ∵
-    split ! $ keep ! (0 ∷ []) $ enter ! 𝓣.C 𝓣.Λ here [] _ $ alloc_all ! (λ l. pass_all ! refl tt $
+    split ! $ keep ! (0 ∷ []) $ enter ! _ _ _ _ _ $ alloc_all ! (λ l. pass_all ! refl tt $
     sets ! (of_opd ! (size_word !)) refl (tt, record { fits = capped_fits (size (layout X)) }) $
     returns ! (look_at ! 0 refl) $ free_all ! refl $
     suffices ! _ (ends_at 𝓛 ended tt c y (vint w64 s) s tt tt) $ says ! refl $
-    flt_i ! s (2 ^ 64) (capped_fits (size (layout X))) $ feq_i ! (List Val) (vint w64 s ∷ []) (vint w64 s ∷ []) refl $
+    flt_i ! s (2 ^ 64) (capped_fits (size (layout X))) $ feq_i ! _ (vint w64 s ∷ []) _ refl $
     fjoin ! $ nothing ! $ join ! $ move ! (1 ∷ 0 ∷ []) $ join ! $ done !))
