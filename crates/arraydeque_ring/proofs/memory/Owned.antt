@@ -2,11 +2,9 @@
 use Rattle.arraydeque_ring.{
   proofs.memory.Kit.{◌≡◌, refl, sym, ap, subst, ◌∙◌, List, [], ◌∷◌, ◌++◌, map, ℕ, zero, suc, ◌+◌, ◌*◌, ◌≤◌, arith},
   proofs.memory.Kit.{zero-mul, suc-mul, length, drop_list, replicate, take-append-drop, Option, Some, None, type_size},
-  proofs.memory.Kit.{Ura, full_share, SProp, ent, sep, emp, ex, guard, wand, via, id⊢, snd∗, mono_r, Lft, Fml, fat},
-  proofs.memory.Kit.{froom, ty_array, Val, align, Logic, sem, ‵, raw, ◌⊛◌, some, ◌$◌, ◌∵◌, !, qed, by, move, keep},
-  proofs.memory.Kit.{drop, use0, use1, use2, pick, split, check, show, frame, fsplit, fjoin, rewrite, done, RattleType},
-  proofs.memory.Kit.{Is, shows, param, layout, Laws, param_laws, part_at, nothing, peeks, Good, El, R, el_x, elτ},
-  proofs.memory.Kit.{part_in, part_out, elements_shared},
+  proofs.memory.Kit.{Ura, ent, sep, emp, wand, via, id⊢, snd∗, mono_r, Lft, Fml, froom, ty_array, align, Logic, sem, ‵},
+  proofs.memory.Kit.{raw, ◌⊛◌, ◌$◌, ◌∵◌, !, qed, by, move, keep, drop, use0, use1, use2, split, frame, fsplit, fjoin},
+  proofs.memory.Kit.{rewrite, done, nothing, El, R, el_x, elτ, elements_shared},
   specs.{Ownership.{place_owned, places_owned, place_lent, places_lent}, Places.HoldsRun},
 }
 use prog.Align.{dv_self}
@@ -18,25 +16,6 @@ module _ (E : El) where
 
   abbrev pub Place : Type 0
   Place = Option (el_x E)
-
--- a value in a block is one machine value of its type, with what the value owns
-module _ (i : ℕ) (Y : RattleType) (L : Laws Y) {M : Type 1} {𝓤 : Ura M} (𝓛 : Logic 𝓤) where
-  open 𝓛 use {H}
-
-  pub value_out : (x : Y.Denot) (b o : ℕ) → ent 𝓤 (sem 𝓛 (part_at (param i Y) full_share x b o)) (ex 𝓤 (λ (v : Val).
-      guard 𝓤 (Good (layout Y) v) (sep 𝓤 (H.at full_share (layout Y) b o v) (sem 𝓛 (Y.own_val x (v ∷ []))))))
-  value_out x b o =
-      let Out : Val → SProp 𝓤 =
-      λ v. guard 𝓤 (Good (layout Y) v) (sep 𝓤 (H.at full_share (layout Y) b o v) (sem 𝓛 (Y.own_val x (v ∷ [])))) in
-      qed 𝓛 (‵ (part_at (param i Y) full_share x b o) ∷ []) ∵
-      use1 𝓛 (some (λ (v : Val). ‵ (fat full_share (layout Y) b o v) ⊛ ‵ (Y.own_val x (v ∷ []))))
-      (part_out 𝓛 (param i Y) refl full_share x b o) $ pick ! (λ v. split ! $ move ! (1 ∷ []) $
-      peeks ! (param i Y) (Is (param i Y)) (shows 𝓛 (param i Y)) x (v ∷ []) (λ is. show ! Out v $
-      check ! (((param_laws i Y L).lawful 𝓛).typed x (v ∷ []) is).0 $ move ! (1 ∷ 0 ∷ []) $ done !))
-
-  pub value_in : (x : Y.Denot) (b o : ℕ) (v : Val) → ent 𝓤 (sep 𝓤 (H.at full_share (layout Y) b o v)
-      (sem 𝓛 (Y.own_val x (v ∷ [])))) (sem 𝓛 (part_at (param i Y) full_share x b o))
-  value_in x b o v = part_in 𝓛 (param i Y) refl full_share x b o v
 
 module _ (E : El) {M : Type 1} {𝓤 : Ura M} (𝓛 : Logic 𝓤) (b : ℕ) where
   open 𝓛 use {H}
@@ -69,20 +48,13 @@ module _ (E : El) {M : Type 1} {𝓤 : Ura M} (𝓛 : Logic 𝓤) (b : ℕ) wher
       qed 𝓛 (‵ (Row o (p ∷ ps)) ∷ ‵ (Row at qs) ∷ []) ∵ fsplit ! $ move ! (1 ∷ 2 ∷ []) $
       use2 𝓛 (‵ (Row (o + s) (ps ++ qs))) (glue ps qs (o + s) at on) $ move ! (1 ∷ 0 ∷ []) $ fjoin ! $ done !
 
-  -- the room of a block is that many empty places, and back
+  -- the room of a block is that many empty places
   pub of_room : (n o : ℕ) → ent 𝓤 (H.room (ty_array (elτ E) n) b o) (sem 𝓛 (Row o (replicate n None)))
   of_room zero o = qed 𝓛 (‵ (froom (ty_array (elτ E) 0) b o) ∷ []) ∵ keep ! [] $ done !
   of_room (suc n) o = qed 𝓛 (‵ (froom (ty_array (elτ E) (suc n)) b o) ∷ []) ∵
       use1 𝓛 (‵ (froom (elτ E) b o) ⊛ ‵ (froom (ty_array (elτ E) n) b (o + s))) (𝓛.laws.room_uncons (elτ E) n b o) $
       split ! $
       use1 𝓛 (‵ (place_owned (R E) b o None)) (𝓛.laws.room-raw (elτ E) b o) $ frame ! $ by ! (of_room n (o + s))
-
-  pub to_room : (n o : ℕ) → ent 𝓤 (sem 𝓛 (Row o (replicate n None))) (H.room (ty_array (elτ E) n) b o)
-  to_room zero o = 𝓛.laws.room_nil (elτ E) b o
-  to_room (suc n) o = qed 𝓛 (‵ (place_owned (R E) b o None) ∷ ‵ (Row (o + s) (replicate n None)) ∷ []) ∵
-      use1 𝓛 (‵ (froom (elτ E) b o)) (𝓛.laws.raw-room (elτ E) b o) $ move ! (1 ∷ []) $
-      use1 𝓛 (‵ (froom (ty_array (elτ E) n) b (o + s))) (to_room n (o + s)) $ move ! (1 ∷ []) $
-      by ! (𝓛.laws.room_cons (elτ E) n b o)
 
   -- places that take no bytes need no block
   pub of_nothing : (n o : ℕ) → n * s ≡ 0 → ent 𝓤 (emp 𝓤) (sem 𝓛 (Row o (replicate n None)))

@@ -18,10 +18,10 @@ use Rattle.arraydeque_ring.specs.contracts.slots.Slots as slots
 use Rattle.arraydeque_ring.specs.contracts.slots.Slots.TheInside as inside
 pub use Rattle.arraydeque_ring.proofs.memory.Blocks.{scaled}
 pub use Rattle.arraydeque_ring.proofs.memory.{
-  Owned.{Place, Row, item_size, of_nothing, of_room, run_seen, to_room, value_in, value_out},
+  Owned.{Place, Row, item_size, of_nothing, of_room, run_seen},
 }
 pub use Rattle.arraydeque_ring.proofs.memory.{
-  Rows.{Around, run_out, run_in, place_out, place_in, array_out, array_in, room_out, room_in},
+  Rows.{Around, run_out, run_in, place_out, place_in, row_room, array_out, array_in, room_out, room_in},
 }
 
 -- the words of a `Slots`: the pointer, the capacity and the allocator

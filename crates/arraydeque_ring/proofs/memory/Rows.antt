@@ -3,10 +3,10 @@ use Rattle.arraydeque_ring.{
   proofs.memory.{
     Kit.{◌≡◌, refl, sym, ap, ◌∙◌, List, [], ◌∷◌, ◌++◌, map, ℕ, ◌+◌, ◌*◌, ◌≤◌, arith, length, take, drop_list},
     Kit.{take-append-drop, length-take, length-drop, Some, None, Ura, full_share, ent, sep, Fml, fsep, fat, froom},
-    Kit.{ty_array, Val, Logic, sem, ‵, ◌⊛◌, some, given, ◌$◌, ◌∵◌, !, qed, by, move, keep, use1, use2, pick, learn},
-    Kit.{split, fsplit, fjoin, rewrite, done, part_at, Good, El, R, el_x, elτ, Array, ◌<◌, get_or, set, drop-cons},
+    Kit.{ty_array, Logic, sem, ‵, ◌⊛◌, some, given, ◌$◌, ◌∵◌, !, qed, by, move, keep, use1, use2, pick, learn, split},
+    Kit.{fsplit, fjoin, rewrite, done, part_at, El, R, el_x, elτ, Array, ◌<◌, get_or, set, drop-cons, part_out},
     Kit.{set_split, nothing, suc, Item, Goal, Step, step, length-map, length-replicate, replicate},
-    Owned.{item_size, Place, Row, cut, glue, of_room, value_out},
+    Owned.{item_size, Place, Row, cut, glue, of_room},
   },
   proofs.places.Held.length_filled,
   specs.{Gaps.run_emptied, Ownership.place_owned, Places.IsFilledRun},
@@ -80,11 +80,11 @@ module _ (E : El) {M : Type 1} {𝓤 : Ura M} (𝓛 : Logic 𝓤) (b : ℕ) wher
   place_room : (p : Place E) (o : ℕ) → ent 𝓤 (sem 𝓛 (place_owned (R E) b o p)) (H.room (elτ E) b o)
   place_room None o = 𝓛.laws.raw-room (elτ E) b o
   place_room (Some x) o = qed 𝓛 (‵ (part_at (R E) full_share x b o) ∷ []) ∵
-      use1 𝓛 (some (λ (v : Val). given (Good (elτ E) v)
-      (‵ (fat full_share (elτ E) b o v) ⊛ ‵ (E.row.own_val x (v ∷ []))))) (value_out 0 E.row E.laws 𝓛 x b o) $
-      pick ! (λ v. learn ! (λ v_fits. split ! $ keep ! (0 ∷ []) $ by ! (𝓛.laws.at_room (elτ E) b o v)))
+      use1 𝓛 (some (λ v. ‵ (fat full_share (elτ E) b o v) ⊛ ‵ (E.row.own_val x (v ∷ []))))
+      (part_out 𝓛 (R E) refl full_share x b o) $
+      pick ! (λ v. split ! $ keep ! (0 ∷ []) $ by ! (𝓛.laws.at_room (elτ E) b o v))
 
-  row_room : (ps : List (Place E)) (n o : ℕ) → length ps ≡ n
+  pub row_room : (ps : List (Place E)) (n o : ℕ) → length ps ≡ n
       → ent 𝓤 (sem 𝓛 (On o ps)) (H.room (ty_array (elτ E) n) b o)
   row_room [] n o long = rw (sym long) (𝓛.laws.room_nil (elτ E) b o)
   row_room (p ∷ ps) n o long = rw (sym long) (qed 𝓛 (‵ (place_owned (R E) b o p) ∷ ‵ (On (o + s) ps) ∷ []) ∵

@@ -5,12 +5,12 @@ use Rattle.arraydeque_ring.proofs.memory.{
   Kit.{!, qed, move, keep, drop, use1, use3, split, join, rewrite, fsplit, fjoin, feq_i, suffices, done, whole, sub},
   Kit.{enter, of_opd, lit, unit_lit, align_word, bin, stop, fld, no_more, and_then, first, blocks, branches, skips},
   Kit.{exec, returns, alloc_all, pass_all, free_all, look_at, get, get_in, sets, lands_last, env, yes, no, plain},
-  Kit.{RefOf, Stays, walk_of, stay_dropped, Goes-dropped, ends_at, heard, nothing, calls_at_last, framed, block_ptr},
-  Kit.{after, El, R, args, elτ, proved_at, Global},
+  Kit.{RefOf, Stays, walk_of, stay_dropped, Goes-dropped, ends_at, nothing, calls_at_last, framed, block_ptr, after},
+  Kit.{El, R, args, elτ, proved_at, Global},
   Blocks.{scaled, block_ty, token},
-  Called.{hears, returned},
+  Called.{returned},
   Heap.{Deallocates, to_deallocate, deallocate_goes},
-  Regions.{Sr, Seen, slots_val, slots_Good, slots_apart, item_size, to_room, owned_if, places_owned, right_to_free},
+  Regions.{Sr, Seen, slots_val, slots_Good, slots_apart, item_size, row_room, owned_if, right_to_free},
 }
 use types.Kit.{Sq, prop}
 use denote.Plain.{Nothing-Lawful}
@@ -39,14 +39,12 @@ give_back_spec 𝓤 𝓛 𝓜 𝓡 wired X L =
     let s : ℕ = item_size E in
     qed 𝓛 (((‵ (flft κ q) ⊛ ‵ (flft κ₁ q₁) ⊛ ‵ ftrue) ⊛ ‵ (owns (types_at ended.signature.params y.0.0) a vss))
     ∷ raw ((c y.0.0 a).requires y.1) ∷ []) ∵
-    move ! (1 ∷ []) $ hears ! (λ _. heard ! _ (λ all_empty.
+    move ! (1 ∷ []) $ drop ! $
     split ! $ split ! $ move ! (2 ∷ []) $ fsplit ! $ slots_apart E ! r vss.0 (λ g b o n ok words.
     let reach : length r.places * s < 2 ^ 63 = let all = ok.reach in omega arith in
     let bytes : n * s < 2 ^ 64 = let small : n * s < 2 ^ 63 = subst (λ k. k * s < 2 ^ 63) (sym ok.capacity) reach in
     omega arith in
-    rewrite ! 0 (λ ps. ‵ (places_owned (R E) b o ps)) all_empty refl $
-    use1 𝓛 (‵ (froom (ty_array (elτ E) (length r.places)) b o)) (to_room E 𝓛 b (length r.places) o) $
-    rewrite ! 0 (λ k. ‵ (froom (ty_array (elτ E) k) b o)) (sym ok.capacity) refl $
+    use1 𝓛 (‵ (froom (ty_array (elτ E) n) b o)) (row_room E 𝓛 b r.places n o (sym ok.capacity)) $
     use1 𝓛 (‵ (froom (block_ty E n) b o)) (𝓛.laws.room-raw (ty_array (elτ E) n) b o) $
     move ! (1 ∷ []) $ rewrite ! 0 (λ k. ‵ (right_to_free (R E) g k (block_ptr b o))) (sym ok.capacity) refl $
     move ! (2 ∷ []) $ fsplit ! $ fsplit ! $ drop ! $ keep ! (2 ∷ 3 ∷ 0 ∷ 4 ∷ 5 ∷ []) $
@@ -88,4 +86,4 @@ give_back_spec 𝓤 𝓛 𝓜 𝓡 wired X L =
     (λ none. skips ! $ exec ! 𝓣.C 𝓣.Λ En (after 5 here.body) (at_ret _ (W.post y)) $
     sets ! (of_opd ! (unit_lit !)) refl (tt, tt) $ returns ! (look_at ! 0 refl) $ free_all ! refl $
     keep ! (3 ∷ 4 ∷ []) $
-    out))))))
+    out))))

@@ -3,11 +3,11 @@ use Rattle.arraydeque_ring.{
   proofs.{
     memory.{
       Kit.{frame, ◌≡◌, refl, sym, ap, List, [], ◌∷◌, ℕ, ◌+◌, ◌*◌, arith, length, full_share, fat, froom, Fn, inst_fn},
-      Kit.{ty_array, Val, vunit, vptr, tables, ‵, ◌⊛◌, some, at_ret, ◌$◌, !, move, keep, use1, use2, split, join, pick},
+      Kit.{ty_array, vunit, vptr, tables, ‵, ◌⊛◌, some, at_ret, ◌$◌, !, move, keep, use1, use2, split, join, pick},
       Kit.{rewrite, fjoin3, feq_i, suffices, done, whole, sub, look_in, of_opd, unit_lit, bin, load, look, init, stop},
       Kit.{fld, assigns_last, first, blocks, exec, returns, alloc_all, pass_all, free_all, look_at, get, through, sets},
-      Kit.{is, env, heard, peeks, after, says, Is, shows, param, param_laws, part_at, El, R, el_x, elτ, common_steps},
-      Kit.{Args, a_type, a_number, part_in, part_out, Array, layouts, number},
+      Kit.{is, env, heard, after, says, part_at, El, R, el_x, elτ, common_steps, Args, a_type, a_number, part_in},
+      Kit.{part_out, Array, layouts, number},
       Called.hears,
       Regions.{Sr, Seen, near, slots_open, slots_close, scaled, item_size, Place, Row, array_out, array_in, room_out},
       Regions.{room_in},
@@ -18,7 +18,7 @@ use Rattle.arraydeque_ring.{
   specs.{Gaps.run_emptied, Moved.run_moved},
 }
 use Rattle.std.proofs.Math.Nat.{add-mul}
-use denote.Param.{ArrayAt, Laws.array_at_laws}
+use types.Run.{well_typed}
 use Rattle.arraydeque_ring.specs.contracts.slots.Slots.move_block as f
 use Rattle.arraydeque_ring.proofs.slots.Slots.move_block.Statement as stated
 use Rattle.arraydeque_ring.proofs.slots.Slots.move_block.Code as code
@@ -48,13 +48,9 @@ move_block_spec 𝓤 𝓛 𝓜 𝓡 wired X N L N_fits =
     let on : (i : ℕ) → vptr b (at * s + (i * s + o)) ≡ vptr b ((i + at) * s + o) =
     λ i. ap (vptr b) (omega (arith, add-mul i at s)) in
     array_out E ! b o ps src N filled $
-    use1 𝓛 (some (λ (v : Val). ‵ (fat full_share (ty_array (elτ E) N) b (src * s + o) v)
-    ⊛ ‵ ((ArrayAt (R E) (param 1 (number N))).own_val xs (v ∷ []))))
-    (part_out 𝓛 (Array (R E) N) refl full_share xs b (src * s + o)) $ pick ! (λ v. split ! $
-    move ! (1 ∷ []) $ peeks ! (ArrayAt (R E) (param 1 (number N))) (Is (ArrayAt (R E) (param 1 (number N))))
-    (shows 𝓛 (ArrayAt (R E) (param 1 (number N)))) xs (v ∷ []) (λ v_is.
-    let v_fits = (((array_at_laws 1 (R E) (param_laws 0 X L) N).lawful 𝓛).typed xs (v ∷ []) v_is).0 in
-    move ! (1 ∷ []) $
+    use1 𝓛 (some (λ v. ‵ (fat full_share (ty_array (elτ E) N) b (src * s + o) v)
+    ⊛ ‵ ((Array (R E) N).own_val xs (v ∷ [])))) (part_out 𝓛 (Array (R E) N) refl full_share xs b (src * s + o)) $
+    pick ! (λ v. split ! $ well_typed ! (λ v_fits.
     -- [the array; what it owns; the other places; the right; the words; the open borrow, in three; the other tokens]
     first ! $ blocks ! $
     sets ! (of_opd ! (load ! (through ! refl (fld ! refl (stop !))) (look_in ! 4 (sub ! 0 refl (whole !)))))

@@ -1,18 +1,19 @@
 -- `read` empties a filled place. Assumes `Logic`.
 use Rattle.arraydeque_ring.proofs.{
   memory.{
-    Kit.{frame, refl, sym, [], ◌∷◌, ℕ, ◌+◌, ◌*◌, ◌<◌, arith, length, get_or, set, length-set, None, full_share, fat},
-    Kit.{froom, Fn, inst_fn, Val, vptr, tables, ‵, ◌⊛◌, some, given, at_ret, ◌$◌, move, !, keep, use1, use2, split},
-    Kit.{join, pick, learn, rewrite, fjoin3, feq_i, suffices, done, whole, sub, look_in, of_opd, bin, load, look, stop},
+    Kit.{part_out, frame, refl, sym, [], ◌∷◌, ℕ, ◌+◌, ◌*◌, ◌<◌, arith, length, get_or, set, length-set, None},
+    Kit.{full_share, fat, froom, Fn, inst_fn, vptr, tables, ‵, ◌⊛◌, some, at_ret, ◌$◌, move, !, keep, use1, use2},
+    Kit.{split, join, pick, rewrite, fjoin3, feq_i, suffices, done, whole, sub, look_in, of_opd, bin, load, look, stop},
     Kit.{fld, first, blocks, exec, returns, alloc_all, pass_all, free_all, look_at, get, through, sets, sets_last, env},
-    Kit.{heard, as_raw, after, says_two, Good, El, R, args, el_x, elτ},
+    Kit.{heard, as_raw, after, says_two, El, R, args, el_x, elτ},
     Regions.{scaled, Sr, Seen, near, places, slots_open, slots_close, item_size, Around, place_out, place_in},
-    Regions.{value_out, place_owned},
+    Regions.{place_owned},
     Called.hears,
     Methods.{method, comes_back},
   },
   places.Held.filled_within,
 }
+use types.Run.{well_typed}
 use Rattle.arraydeque_ring.specs.contracts.slots.Slots.read as f
 use Rattle.arraydeque_ring.proofs.slots.Slots.read.Statement as stated
 use Rattle.arraydeque_ring.proofs.slots.Slots.read.Code as code
@@ -34,8 +35,8 @@ read_spec 𝓤 𝓛 𝓜 𝓡 wired X L =
     use1 𝓛 (‵ (place_owned (R E) b (i * s + o) (get_or r.places i None)) ⊛ ‵ (Around E 𝓛 b o r.places i 1))
     (place_out E 𝓛 b o r.places i within) $ split ! $
     rewrite ! 0 (λ p. ‵ (place_owned (R E) b (i * s + o) p)) asked.1 refl $
-    use1 𝓛 (some (λ (v : Val). given (Good (elτ E) v) (‵ (fat full_share (elτ E) b (i * s + o) v)
-    ⊛ ‵ (X.own_val x (v ∷ []))))) (value_out 0 X L 𝓛 x b (i * s + o)) $ pick ! (λ v. learn ! (λ v_fits. split ! $
+    use1 𝓛 (some (λ v. ‵ (fat full_share (elτ E) b (i * s + o) v) ⊛ ‵ (X.own_val x (v ∷ []))))
+    (part_out 𝓛 (R E) refl full_share x b (i * s + o)) $ pick ! (λ v. split ! $ well_typed ! (λ v_fits.
     -- [the value; what x owns; the other places; the right; the words; the open borrow, in three; the other token]
     first ! $ blocks ! $
     sets ! (of_opd ! (load ! (through ! refl (fld ! refl (stop !))) (look_in ! 4 (sub ! 0 refl (whole !)))))

@@ -1,13 +1,13 @@
 -- `write` fills an empty place. Assumes `Logic`.
 use Rattle.arraydeque_ring.proofs.memory.{
-  Kit.{refl, sym, subst, [], ◌∷◌, ℕ, ◌+◌, ◌*◌, ◌<◌, ◌^◌, arith, length, get_or, set, length-set, Some, None, ent},
-  Kit.{ftrue, flft, Fn, inst_fn, w64, Val, vunit, vint, vptr, WpFn, tables, owns, types_at, ‵, raw, ◌⊛◌, at_ret, ◌$◌},
-  Kit.{◌∵◌, !, qed, move, keep, use1, use2, split, join, rewrite, fsplit, fsplit3, fjoin, fjoin3, feq_i, suffices},
-  Kit.{done, whole, sub, look_in, enter, of_opd, unit_lit, bin, load, init, stop, fld, assigns_last, first, blocks},
-  Kit.{exec, returns, alloc_all, pass_all, free_all, look_at, get, through, sets, env, yes, no, plain, usize, Vals},
-  Kit.{Stays, walk_of, stay_dropped, stay_ref, Goes-dropped, Goes-ref, ends_at, nothing, heard, as_written, after},
-  Kit.{says, El, R, args, el_x, elτ, lawful, one, proved_at},
-  Regions.{scaled, Sr, Seen, near, places, slots_open, slots_close, item_size, Around, place_out, place_in, value_in},
+  Kit.{part_in, full_share, refl, sym, subst, [], ◌∷◌, ℕ, ◌+◌, ◌*◌, ◌<◌, ◌^◌, arith, length, get_or, set, length-set},
+  Kit.{Some, None, ent, ftrue, flft, Fn, inst_fn, w64, Val, vunit, vint, vptr, WpFn, tables, owns, types_at, ‵, raw},
+  Kit.{◌⊛◌, at_ret, ◌$◌, ◌∵◌, !, qed, move, keep, use1, use2, split, join, rewrite, fsplit, fsplit3, fjoin, fjoin3},
+  Kit.{feq_i, suffices, done, whole, sub, look_in, enter, of_opd, unit_lit, bin, load, init, stop, fld, assigns_last},
+  Kit.{first, blocks, exec, returns, alloc_all, pass_all, free_all, look_at, get, through, sets, env, yes, no, plain},
+  Kit.{usize, Vals, Stays, walk_of, stay_dropped, stay_ref, Goes-dropped, Goes-ref, ends_at, nothing, heard},
+  Kit.{as_written, after, says, El, R, args, el_x, elτ, lawful, one, proved_at},
+  Regions.{scaled, Sr, Seen, near, places, slots_open, slots_close, item_size, Around, place_out, place_in},
   Regions.{place_owned},
   Called.hears,
 }
@@ -64,7 +64,8 @@ write_spec 𝓤 𝓛 𝓜 𝓡 wired X L =
     assigns_last ! (of_opd ! (get ! refl)) (through ! refl (stop !)) (init ! 0 refl v_fits) $
     exec ! 𝓣.C 𝓣.Λ (env here.locals l) (after 1 here.body) (at_ret _ (W.post y)) $
     sets ! (of_opd ! (unit_lit !)) refl (tt, tt) $
-    move ! (0 ∷ 7 ∷ []) $ use2 𝓛 (‵ (place_owned (R E) b (i * s + o) (Some x))) (value_in 0 X L 𝓛 x b (i * s + o) v) $
+    move ! (0 ∷ 7 ∷ []) $ use2 𝓛 (‵ (place_owned (R E) b (i * s + o) (Some x)))
+    (part_in 𝓛 (R E) refl full_share x b (i * s + o) v) $
     use2 𝓛 (‵ (places E new b o)) (place_in E 𝓛 b o r.places i within (Some x)) $
     slots_close E ! tt g r new b o n rb ro ok (sym (length-set r.places i (Some x))) $
     returns ! (look_at ! 0 refl) $ free_all ! refl $
