@@ -6,11 +6,11 @@ use Rattle.arraydeque_ring.proofs.memory.{
   Kit.{enter, of_opd, lit, unit_lit, align_word, bin, stop, fld, no_more, and_then, first, blocks, branches, skips},
   Kit.{exec, returns, alloc_all, pass_all, free_all, look_at, get, get_in, sets, lands_last, env, yes, no, plain},
   Kit.{RefOf, Stays, walk_of, stay_dropped, Goes-dropped, ends_at, nothing, calls_at_last, framed, block_ptr, after},
-  Kit.{El, R, args, elτ, proved_at, Global},
+  Kit.{El, args, elτ, proved_at, Global},
   Blocks.{scaled, block_ty, token},
   Called.{returned},
   Heap.{Deallocates, to_deallocate, deallocate_goes},
-  Regions.{Sr, Seen, slots_val, slots_Good, slots_apart, item_size, row_room, owned_if, right_to_free},
+  Regions.{Sr, Seen, slots_val, slots_Good, slots_apart, item_size, row_room, owned_if},
 }
 use types.Kit.{Sq, prop}
 use denote.Plain.{Nothing-Lawful}
@@ -46,8 +46,7 @@ give_back_spec 𝓤 𝓛 𝓜 𝓡 wired X L =
     omega arith in
     use1 𝓛 (‵ (froom (ty_array (elτ E) n) b o)) (row_room E 𝓛 b r.places n o (sym ok.capacity)) $
     use1 𝓛 (‵ (froom (block_ty E n) b o)) (𝓛.laws.room-raw (ty_array (elτ E) n) b o) $
-    move ! (1 ∷ []) $ rewrite ! 0 (λ k. ‵ (right_to_free (R E) g k (block_ptr b o))) (sym ok.capacity) refl $
-    move ! (2 ∷ []) $ fsplit ! $ fsplit ! $ drop ! $ keep ! (2 ∷ 3 ∷ 0 ∷ 4 ∷ 5 ∷ []) $
+    move ! (2 ∷ []) $ fsplit ! $ fsplit ! $ drop ! $ keep ! (3 ∷ 2 ∷ 0 ∷ 4 ∷ 5 ∷ []) $
     -- [the right; the room; the handle; its token; the other tokens]
     let at_hp : vss.1.0 ≡ vptr hp.0 hp.1 ∷ [] = are.1.0.0 in
     let us : List Val = slots_val b o n ∷ vptr hp.0 hp.1 ∷ [] in
