@@ -6,7 +6,7 @@ use Rattle.arraydeque_ring.{
     Kit.{Global, List, Item, Env, w64, vint, size_word, bin, is},
     Owned.item_size,
   },
-  specs.Ownership.{owned_if, right_to_free},
+  specs.Ownership.{right_to_free},
 }
 use mir.{Raw.raw as bare, Syntax.{Opd as Operand, op2, mul, unsigned, size_of}}
 use types.Run.{Opd, Rv}
@@ -42,18 +42,14 @@ module _ (E : El) where
   abbrev pub token : Global → ℕ → Ptr → base.Fml.Fml
   token alloc n p = heap.ghosts.dealloc_token alloc (block_ty n) p
 
-  -- a block of some bytes comes with that right, and one of no bytes needs none
-  pub right_is : (alloc : Global) (n : ℕ) (p : Ptr) → 0 < n * item_size E
-      → right_to_free (R E) alloc n p ≡ token alloc n p
-  right_is alloc n p some = ap (λ t. owned_if t (token alloc n p)) (lt-ltb 0 (n * item_size E) some)
+  module _ {M : Type 1} {𝓤 : Ura M} (𝓛 : Logic 𝓤) (alloc : Global) (n : ℕ) where
+    -- a block of some bytes comes with the right to free it, which says that it begins at its offset 0
+    pub right_at_start : (b o : ℕ) → 0 < n * item_size E → ent 𝓤 (sem 𝓛 (token alloc n (block_ptr b o)))
+        (guard 𝓤 (o ≡ 0) (sem 𝓛 (right_to_free (R E) alloc n (block_ptr b o))))
+    right_at_start b o some = rw (lt-ltb 0 (n * item_size E) some) (fact_use 𝓤 (o ≡ 0)
+        (dealloc_token_start 𝓛 alloc (block_ty n) (block_ptr b o))
+        (guard_i 𝓤 (o ≡ 0) (sem 𝓛 (token alloc n (block_ptr b o)))))
 
-  pub no_right : {M : Type 1} {𝓤 : Ura M} (𝓛 : Logic 𝓤) (alloc : Global) (n : ℕ) (p : Ptr) → n * item_size E ≡ 0
-      → ent 𝓤 (emp 𝓤) (sem 𝓛 (right_to_free (R E) alloc n p))
-  no_right {𝓤 = 𝓤} 𝓛 alloc n p none = subst (λ t. ent 𝓤 (emp 𝓤) (sem 𝓛 (owned_if t (token alloc n p))))
-      (sym (le-ltb 0 (n * item_size E) (omega arith))) (id⊢ 𝓤 (emp 𝓤))
-
-  -- a block that may be freed begins at its offset 0
-  pub token_at_start : {M : Type 1} {𝓤 : Ura M} (𝓛 : Logic 𝓤) (alloc : Global) (n b o : ℕ)
-      → ent 𝓤 (sem 𝓛 (token alloc n (block_ptr b o))) (guard 𝓤 (o ≡ 0) (sem 𝓛 (token alloc n (block_ptr b o))))
-  token_at_start {𝓤 = 𝓤} 𝓛 alloc n b o = fact_use 𝓤 (o ≡ 0) (dealloc_token_start 𝓛 alloc (block_ty n) (block_ptr b o))
-      (λ start. guard_i 𝓤 (o ≡ 0) (sem 𝓛 (token alloc n (block_ptr b o))) start)
+    -- and one of no bytes needs none
+    pub no_right : (p : Ptr) → n * item_size E ≡ 0 → ent 𝓤 (emp 𝓤) (sem 𝓛 (right_to_free (R E) alloc n p))
+    no_right p none = rw (le-ltb 0 (n * item_size E) (omega (arith, none))) (id⊢ 𝓤 (emp 𝓤))

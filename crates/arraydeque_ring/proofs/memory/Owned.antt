@@ -1,10 +1,10 @@
 -- The places of a block, taken apart and put together again. Assumes `Logic`.
 use Rattle.arraydeque_ring.{
-  proofs.memory.Kit.{◌≡◌, refl, sym, ap, subst, ◌∙◌, List, [], ◌∷◌, ◌++◌, map, ℕ, zero, suc, ◌+◌, ◌*◌, ◌≤◌, arith},
-  proofs.memory.Kit.{zero-mul, suc-mul, length, drop_list, replicate, take-append-drop, Option, Some, None, type_size},
-  proofs.memory.Kit.{Ura, ent, sep, emp, wand, via, id⊢, snd∗, mono_r, Lft, Fml, froom, ty_array, align, Logic, sem, ‵},
-  proofs.memory.Kit.{raw, ◌⊛◌, ◌$◌, ◌∵◌, !, qed, by, move, keep, drop, use0, use1, use2, split, frame, fsplit, fjoin},
-  proofs.memory.Kit.{rewrite, done, nothing, El, R, el_x, elτ, elements_shared},
+  proofs.memory.Kit.{◌≡◌, refl, sym, ap, subst, ◌∙◌, List, [], ◌∷◌, ◌++◌, map, ℕ, zero, suc, ◌+◌, ◌*◌, arith, zero-mul},
+  proofs.memory.Kit.{suc-mul, length, drop_list, replicate, take-append-drop, Option, Some, None, type_size, Ura, ent},
+  proofs.memory.Kit.{sep, emp, wand, via, id⊢, snd∗, mono_r, Lft, Fml, froom, ty_array, align, Logic, sem, ‵, raw, ◌⊛◌},
+  proofs.memory.Kit.{◌$◌, ◌∵◌, !, qed, by, move, keep, drop, use0, use1, use2, split, frame, fsplit, fjoin, rewrite},
+  proofs.memory.Kit.{done, nothing, El, R, el_x, elτ, elements_shared},
   specs.{Ownership.{place_owned, places_owned, place_lent, places_lent}, Places.HoldsRun},
 }
 use prog.Align.{dv_self}
@@ -69,14 +69,14 @@ module _ (E : El) {M : Type 1} {𝓤 : Ura M} (𝓛 : Logic 𝓤) (b : ℕ) wher
     abbrev Shown : ℕ → List (Place E) → Fml
     Shown o ps = places_lent (R E) b o ps κ
 
-    seen_from : (ps : List (Place E)) (i o at : ℕ) → i ≤ length ps → at ≡ i * s + o
+    seen_from : (ps : List (Place E)) (i o at : ℕ) → at ≡ i * s + o
         → ent 𝓤 (sem 𝓛 (Shown o ps)) (sem 𝓛 (Shown at (drop_list i ps)))
-    seen_from ps zero o at le e = let same : o ≡ at = omega (arith, zero-mul s) in
+    seen_from ps zero o at e = let same : o ≡ at = omega (arith, zero-mul s) in
         subst (λ k. ent 𝓤 (sem 𝓛 (Shown o ps)) (sem 𝓛 (Shown k ps))) same (id⊢ 𝓤 (sem 𝓛 (Shown o ps)))
-    seen_from [] (suc i) o at le e = absurd (omega arith)
-    seen_from (p ∷ ps) (suc i) o at le e =
+    seen_from [] (suc i) o at e = id⊢ 𝓤 (sem 𝓛 (Shown o []))
+    seen_from (p ∷ ps) (suc i) o at e =
         via 𝓤 (sem 𝓛 (Shown (o + s) ps)) (snd∗ 𝓤 (sem 𝓛 (place_lent (R E) b o p κ)) (sem 𝓛 (Shown (o + s) ps)))
-        (seen_from ps i (o + s) at (omega arith) (omega (arith, suc-mul i s)))
+        (seen_from ps i (o + s) at (omega (arith, suc-mul i s)))
 
     seen_values : (xs : List (el_x E)) (rest : List (Place E)) (o : ℕ)
         → ent 𝓤 (sem 𝓛 (Shown o (map Some xs ++ rest))) (sem 𝓛 (elements_shared (R E) xs b o κ))
@@ -84,11 +84,11 @@ module _ (E : El) {M : Type 1} {𝓤 : Ura M} (𝓛 : Logic 𝓤) (b : ℕ) wher
     seen_values (x ∷ xs) rest o = mono_r 𝓤 (sem 𝓛 (place_lent (R E) b o (Some x) κ)) (seen_values xs rest (o + s))
 
     -- the values of a filled run are seen through a `&`
-    pub run_seen : (o : ℕ) (ps : List (Place E)) (i n : ℕ) (xs : List (el_x E)) → i ≤ length ps → HoldsRun ps i n xs
+    pub run_seen : (o : ℕ) (ps : List (Place E)) (i n : ℕ) (xs : List (el_x E)) → HoldsRun ps i n xs
         → ent 𝓤 (sem 𝓛 (Shown o ps)) (sem 𝓛 (elements_shared (R E) xs b (i * s + o) κ))
-    run_seen o ps i n xs le held =
+    run_seen o ps i n xs held =
         let rest = drop_list n (drop_list i ps) in
         qed 𝓛 (‵ (Shown o ps) ∷ []) ∵
-        use1 𝓛 (‵ (Shown (i * s + o) (drop_list i ps))) (seen_from ps i o (i * s + o) le refl) $
+        use1 𝓛 (‵ (Shown (i * s + o) (drop_list i ps))) (seen_from ps i o (i * s + o) refl) $
         rewrite ! 0 (λ l. ‵ (Shown (i * s + o) l)) (sym (take-append-drop n (drop_list i ps))
         ∙ ap (λ l. l ++ rest) held) refl $ by ! (seen_values xs rest (i * s + o))

@@ -122,7 +122,7 @@ module _ (E : El) {M : Type 1} {𝓤 : Ura M} {𝓛 : Logic 𝓤} {K : Type 0} {
         steps = r.steps;
       } in
       let vs : List Val = slots_val b o n ∷ [] in
-      rewrite t 1 (λ k. ‵ (right E g k b o)) ok.capacity refl $ fjoin t $ flt_i t (length r.places * item_size E + o) (2 ^ 63) ok.reach $ fjoin t $
+      rewrite t 1 (λ k. ‵ (right E g k b o)) ok.capacity refl $ fjoin t $ flt_i t _ (2 ^ 63) ok.reach $ fjoin t $
       nothing t $ use0 𝓛 (‵ (heap.the_row.own_val g (heap_val ∷ []))) (heap_made 𝓛 g) $ fjoin t $
       flt_i t n (2 ^ 64) ok.word $ feq_i t _ (vint w64 n ∷ []) _ refl $ fjoin t $ fjoin t $
       feq_i t _ (vptr b o ∷ []) _ refl $ fjoin t $ feq_i t _ vs _ refl $ fjoin t $

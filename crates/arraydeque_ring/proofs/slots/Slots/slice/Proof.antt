@@ -48,7 +48,7 @@ slice_spec 𝓤 𝓛 𝓜 𝓡 wired X L =
     slots_seen E ! r rb ro (λ p b o at reach.
     let all : length r.places * s < 2 ^ 63 = omega arith in
     let far : i * s < 2 ^ 64 = omega (arith, times_below i (length r.places) s (2 ^ 63) (omega arith) all) in
-    use1 𝓛 (‵ (elements_shared (R E) xs b (i * s + o) κ)) (run_seen E 𝓛 b κ o r.places i len xs (omega arith) held) $
+    use1 𝓛 (‵ (elements_shared (R E) xs b (i * s + o) κ)) (run_seen E 𝓛 b κ o r.places i len xs held) $
     hide ! $
     -- [the values; the pointer; its token; the other tokens]
     keep ! (1 ∷ 3 ∷ 4 ∷ 0 ∷ []) $

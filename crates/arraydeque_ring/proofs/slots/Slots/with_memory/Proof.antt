@@ -1,18 +1,18 @@
 -- `with_memory` cuts a new block into empty places, and keeps the right to free it. Assumes `Logic`.
 use Rattle.arraydeque_ring.proofs.memory.{
-  Kit.{true, false, ◌≡◌, refl, sym, [], ◌∷◌, ℕ, ◌*◌, ◌<◌, ◌^◌, arith, lit<, Ok, Err, ftrue, flft, Fn, Body, inst_fn},
-  Kit.{named, w64, ty_array, Val, vstruct, vcons, vnil, Env, Wp, after_seq, at_return, tables, After, ‵, raw, ◌⊛◌},
-  Kit.{given, at_ret, any_q, ◌$◌, ◌∵◌, !, qed, move, keep, drop, use1, use2, split, join, learn, frame, fsplit, fjoin},
-  Kit.{rewrite, suffices, done, whole, agg, live, vrt, in_variant, enter, of_opd, lit, align_word, stop, fld, no_more},
-  Kit.{and_then, first, switches_on, exec, returns, alloc_all, pass_all, free_all, look_at, get, get_in, get_tag, sets},
-  Kit.{sets_last, lands_as, env, yes, RattleType, owns, Is, layout, uint_vals, uint_Tells, block_ptr, shr_vals},
-  Kit.{shr_Tells, usize, RefOf, plain, types_at, heard, nothing, owned, calls_at, framed, Stays, walk_of, says},
-  Kit.{stay_dropped, Goes-dropped, ends_at, heap_val, heap_Tells, as_written, Good, first_Good, after, head, arm_body},
-  Kit.{El, args, elτ, proved, Struct, Global},
-  Blocks.{scaled, token, token_at_start, right_is},
+  Kit.{true, false, ◌≡◌, refl, [], ◌∷◌, ℕ, ◌*◌, ◌<◌, ◌^◌, arith, lit<, Ok, Err, ftrue, flft, Fn, Body, inst_fn, named},
+  Kit.{w64, ty_array, Val, vstruct, vcons, vnil, Env, Wp, after_seq, at_return, tables, After, ‵, raw, ◌⊛◌, given},
+  Kit.{at_ret, any_q, ◌$◌, ◌∵◌, !, qed, move, keep, drop, use1, use2, split, join, learn, frame, fsplit, fjoin},
+  Kit.{suffices, done, whole, agg, live, vrt, in_variant, enter, of_opd, lit, align_word, stop, fld, no_more, and_then},
+  Kit.{first, switches_on, exec, returns, alloc_all, pass_all, free_all, look_at, get, get_in, get_tag, sets},
+  Kit.{sets_last, lands_as, env, yes, RattleType, owns, Is, layout, uint_vals, uint_Tells, shr_vals, shr_Tells, usize},
+  Kit.{RefOf, plain, types_at, heard, nothing, owned, calls_at, framed, Stays, walk_of, says, stay_dropped},
+  Kit.{Goes-dropped, ends_at, heap_val, heap_Tells, as_written, Good, first_Good, after, head, arm_body, El, args, elτ},
+  Kit.{proved, Struct, Global},
+  Blocks.{scaled, right_at_start},
   Called.hears,
   Heap.{Allocates, to_allocate, allocate_goes, allocated},
-  Regions.{Sr, Seen, places, heap_Good, slots_val, slots_Good, slots_made, Fits-empty, item_size, of_room},
+  Regions.{Sr, Seen, places, right, heap_Good, slots_val, slots_Good, slots_made, Fits-empty, item_size, of_room},
   Regions.{empty_region},
 }
 use denote.Struct.Struct.{Struct-Makes}
@@ -81,8 +81,8 @@ with_memory_spec 𝓤 𝓛 𝓜 𝓡 wired X L =
     sets_last ! (agg ! (and_then ! (lit ! tt) (and_then ! (get ! refl) (no_more !)))) refl ok $
     exec ! 𝓣.C 𝓣.Λ En (after 3 here.body) (at_ret _ (W.post y)) $ sets ! (of_opd ! (get ! refl)) refl ok $
     as_written ! (ty_array (elτ E) n) b o $ use1 𝓛 (‵ (places E r b o)) (of_room E 𝓛 b n o) $ move ! (1 ∷ []) $
-    use1 𝓛 (given (o ≡ 0) (‵ (token E g n (block_ptr b o)))) (token_at_start E 𝓛 g n b o) $ learn ! (λ start.
-    rewrite ! 0 (λ F. ‵ F) (sym (right_is E g n (block_ptr b o) some)) refl $ move ! (1 ∷ 0 ∷ []) $
+    use1 𝓛 (given (o ≡ 0) (‵ (right E g n b o))) (right_at_start E 𝓛 g n b o some) $ learn ! (λ start.
+    move ! (1 ∷ 0 ∷ []) $
     slots_made E ! g r b o n (Fits-empty E o n n_fits (omega arith)) $
     use1 𝓛 (‵ (Out.own_val (Ok r) (live 0 (vcons made vnil) ∷ []))) (ok_of 𝓛 (Sr E) refusals.the_row r made) $
     returns ! (look_at ! 0 refl) $ free_all ! refl $ keep ! (0 ∷ 1 ∷ 2 ∷ []) $
