@@ -19,7 +19,7 @@ module _ {M : Type 1} {𝓤 : Ura M} {𝓛 : Logic 𝓤} {K : Type 0} {Γ : List
   pub scaled : K → {x : Operand} {n : ℕ} {τ : Ty} → Opd K 𝓛 Γ En x (vint w64 n) → n * size τ < 2 ^ 64
       → Rv K 𝓛 Γ En (op2 (mul unsigned) x (size_of τ)) (vint w64 (n * size τ))
   scaled t {n = n} {τ = τ} items fits = is t (bin t items (size_word t)
-      (record { fits = subst (λ (k : ℕ). k < 2 ^ 64) (sym (uncapped n (size τ) fits)) fits }))
+      (record { fits = subst (λ k. k < 2 ^ 64) (sym (uncapped n (size τ) fits)) fits }))
       (ap (vint w64) (uncapped n (size τ) fits))
 
 module _ (E : El) where

@@ -101,13 +101,13 @@ module _ {M : Type 1} {𝓤 : Ura M} {𝓛 : Logic 𝓤} {K : Type 0} {G : Goal 
         fpick t (λ us. fsplit t $
         feq_l t (λ tag. fpick t (λ vss. fsplit t $ feq_l t (λ fields. fsplit t $ feq_l t (λ word. drop t $
         in_a_block t block (λ z. fsep (room_for (block_ty E n) z) (frees z)) (fst∗ 𝓤 (never 𝓤) (sem 𝓛 (frees null_ptr)))
-        (λ b o at. fsplit t $ ok b o (ap only tag ∙ ap (λ (ws : List Val). live 0 (of_list ws))
-        (fields ∙ ap (λ (ws : List Val). ws ++ []) (word ∙ ap (λ (z : Ptr). ptr_val z ∷ []) at)))))))))
+        (λ b o at. fsplit t $ ok b o (ap only tag ∙ ap (λ ws. live 0 (of_list ws))
+        (fields ∙ ap (λ ws. ws ++ []) (word ∙ ap (λ z. ptr_val z ∷ []) at)))))))))
     answers t (Err refusal) =
         fpick t (λ us. fsplit t $ feq_l t (λ tag. fpick t (λ vss. fsplit t $ feq_l t (λ fields. fsplit t $
         fpick t (λ none. fsplit t $ feq_l t (λ word. drop t $ drop t $ drop t $
-        refused (ap only tag ∙ ap (λ (ws : List Val). live 1 (of_list ws))
-        (fields ∙ ap (λ (ws : List Val). ws ++ []) word))))))))
+        refused (ap only tag ∙ ap (λ ws. live 1 (of_list ws))
+        (fields ∙ ap (λ ws. ws ++ []) word))))))))
 
   -- a call of `allocate` gives the token back, and goes on with a block, or with a refusal
   pub allocated : K → Soaks G → {Γ : List (Item 𝓤)} (at_mem : Memory → SProp 𝓤) (run : Routine → Fun 𝓤) (E : El)
@@ -117,7 +117,7 @@ module _ {M : Type 1} {𝓤 : Ura M} {𝓛 : Logic 𝓤} {K : Type 0} {G : Goal 
       → (v ≡ answer_val false 0 0 → Seq K 𝓛 (‵ (flft κ q) ∷ Γ) G)
       → Seq K 𝓛 (raw ((Allocates 𝓛 at_mem run).post (to_allocate 𝓛 at_mem run E n κ q p g) v) ∷ Γ) G
   allocated t soaks at_mem run E n κ q p g v ok refused =
-      use1 𝓛 (later (some (λ (r : Answer.Denot). ((‵ (flft κ q) ⊛ ‵ ftrue) ⊛ ‵ (Answer.own_val r (v ∷ [])))
+      use1 𝓛 (later (some (λ r. ((‵ (flft κ q) ⊛ ‵ ftrue) ⊛ ‵ (Answer.own_val r (v ∷ [])))
       ⊛ some (λ (ws : Unit {0} × (Unit {0} × (Unit {0} × Unit {0}))). ‵ (fsep ftrue (fsep ftrue (fsep ftrue ftrue)))
       ⊛ ‵ (block_if_ok (impl_heap.ghosts.dealloc_token g) (block_ty E n) r))))) (id⊢ 𝓤 _) $ await t soaks $
       pick t (λ r. split t $ move t (1 ∷ []) $ pick t (λ ws. split t $ drop t $ move t (1 ∷ []) $ split t $ split t $

@@ -32,10 +32,8 @@ module _ (E : El) {M : Type 1} {𝓤 : Ura M} (𝓛 : Logic 𝓤) (b : ℕ) wher
   cut [] qs o at e = qed 𝓛 (‵ (Row o qs) ∷ []) ∵
       rewrite ! 0 (λ k. ‵ (Row k qs)) {x = at} (omega (arith, zero-mul s)) refl $ nothing ! $ done !
   cut (p ∷ ps) qs o at e =
-      let on : at ≡ length ps * s + (o + s) = let all : at ≡ suc (length ps) * s + o = e in
-      omega (arith, suc-mul (length ps) s) in
       qed 𝓛 (‵ (Row o (p ∷ ps ++ qs)) ∷ []) ∵ fsplit ! $ move ! (1 ∷ []) $
-      use1 𝓛 (‵ (Row (o + s) ps) ⊛ ‵ (Row at qs)) (cut ps qs (o + s) at on) $ split ! $ move ! (2 ∷ 0 ∷ []) $
+      use1 𝓛 (‵ (Row (o + s) ps) ⊛ ‵ (Row at qs)) (cut ps qs (o + s) at (omega (arith, suc-mul (length ps) s, e))) $ split ! $ move ! (2 ∷ 0 ∷ []) $
       fjoin ! $ done !
 
   pub glue : (ps qs : List (Place E)) (o at : ℕ) → at ≡ length ps * s + o
@@ -43,10 +41,8 @@ module _ (E : El) {M : Type 1} {𝓤 : Ura M} (𝓛 : Logic 𝓤) (b : ℕ) wher
   glue [] qs o at e = qed 𝓛 (‵ (Row o []) ∷ ‵ (Row at qs) ∷ []) ∵ drop ! $
       rewrite ! 0 (λ k. ‵ (Row k qs)) {x = o} (omega (arith, zero-mul s)) refl $ done !
   glue (p ∷ ps) qs o at e =
-      let on : at ≡ length ps * s + (o + s) = let all : at ≡ suc (length ps) * s + o = e in
-      omega (arith, suc-mul (length ps) s) in
       qed 𝓛 (‵ (Row o (p ∷ ps)) ∷ ‵ (Row at qs) ∷ []) ∵ fsplit ! $ move ! (1 ∷ 2 ∷ []) $
-      use2 𝓛 (‵ (Row (o + s) (ps ++ qs))) (glue ps qs (o + s) at on) $ move ! (1 ∷ 0 ∷ []) $ fjoin ! $ done !
+      use2 𝓛 (‵ (Row (o + s) (ps ++ qs))) (glue ps qs (o + s) at (omega (arith, suc-mul (length ps) s, e))) $ move ! (1 ∷ 0 ∷ []) $ fjoin ! $ done !
 
   -- the room of a block is that many empty places
   pub of_room : (n o : ℕ) → ent 𝓤 (H.room (ty_array (elτ E) n) b o) (sem 𝓛 (Row o (replicate n None)))

@@ -98,7 +98,7 @@ module _ (E : El) {M : Type 1} {𝓤 : Ura M} {𝓛 : Logic 𝓤} {K : Type 0} {
   slots_apart t r vs then =
       fpick t (λ x. fsplit t $ move t (1 ∷ []) $ drop t $
       let a = x.0 in
-      let same : a.places ≡ r.places = ap (λ (v : Seen E). v.places) x.1.0 in
+      let same : a.places ≡ r.places = ap (λ v. v.places) x.1.0 in
       fsplit t $ fpick t (λ vss. fsplit t $ feq_l t (λ all. fsplit t $
       feq_l t (λ pointer. fsplit t $ fsplit t $ feq_l t (λ word. flt_l t (λ fits. fsplit t $
       peeks t heap.the_row (Is heap.the_row) (shows 𝓛 heap.the_row) a.alloc vss.1.1.0 (λ is. drop t $ drop t $
@@ -108,7 +108,7 @@ module _ (E : El) {M : Type 1} {𝓤 : Ura M} {𝓛 : Logic 𝓤} {K : Type 0} {
       rewrite t 1 (λ k. ‵ (right E a.alloc k b o)) (sym long) refl $
       then a.alloc b o a.capacity (record { capacity = long; word = fits; reach = reach })
       (all ∙ ((λ i. vstruct (of_list (pointer i ++ (word i ++ (heap_Tells a.alloc vss.1.1.0 is i ++ [])))) ∷ [])
-      ∙ ap (λ (p : Ptr). words_val p a.capacity ∷ []) at)))))))))))
+      ∙ ap (λ p. words_val p a.capacity ∷ []) at)))))))))))
 
   -- takes [the places; the right]
   pub slots_made : K → (g : Global) (r : Seen E) (b o n : ℕ) → Fits E r o n

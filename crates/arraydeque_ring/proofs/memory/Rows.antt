@@ -98,7 +98,7 @@ module _ (E : El) {M : Type 1} {𝓤 : Ura M} (𝓛 : Logic 𝓤) (b : ℕ) wher
 
   same_row : (xs : List (el_x E)) (o : ℕ) → On o (map Some xs) ≡ row (R E) full_share xs b o
   same_row [] o = refl
-  same_row (x ∷ xs) o = ap (λ (F : Fml). fsep (part_at (R E) full_share x b o) F) (same_row xs (o + s))
+  same_row (x ∷ xs) o = ap (λ F. fsep (part_at (R E) full_share x b o) F) (same_row xs (o + s))
 
 -- the n places from the i-th on, as an array of values, and as room for one
 module _ (E : El) (b o i n : ℕ) where

@@ -52,7 +52,7 @@ give_back_spec 𝓤 𝓛 𝓜 𝓡 wired X L =
     let us : List Val = slots_val b o n ∷ vptr hp.0 hp.1 ∷ [] in
     let Run : List Val → SProp 𝓤 = λ ws. WpFn 𝓤 𝓛.H 𝓣.C 𝓣.Λ here ws (W.post y) in
     suffices ! (Run us)
-    (subst (λ (ws : List Val). ent 𝓤 (Run us) (Run ws)) (sym (λ k. words k ++ (at_hp k ++ []))) (id⊢ 𝓤 (Run us))) $
+    (subst (λ ws. ent 𝓤 (Run us) (Run ws)) (sym (λ k. words k ++ (at_hp k ++ []))) (id⊢ 𝓤 (Run us))) $
     enter ! _ _ _ _ _ $
     alloc_all ! (λ l. pass_all ! refl (slots_Good E b o n ok.word, ((tt, tt), tt)) $
     let En : Env 𝓤 𝓛.H = env here.locals l in

@@ -7,14 +7,14 @@ use Rattle.arraydeque_ring.proofs.{
     Kit.{and_then, first, blocks, exec, returns, alloc_all, pass_all, free_all, look_at, get, through, sets, sets_last},
     Kit.{env, yes, plain, usize, RefOf, uint_vals, uint_Tells, shr_vals, shr_Tells, Stays, walk_of, says, stay_dropped},
     Kit.{Goes-dropped, ends_at, nothing, heard, after, El, R, args, el_x, times_below, proved, slice_val},
-    Kit.{elements_shared, ◌∙◌, looks, shuts, RawPtr, Ptr, ptr_val, ty_ptr, feq_l, rewrite, cell_at},
+    Kit.{elements_shared, ◌∙◌, looks, shuts, RawPtr, Ptr, ptr_val, feq_l, rewrite, cell_at},
     Called.hears,
     Lent.slots_seen,
     Regions.{Sr, Seen, scaled, item_size, run_seen},
   },
   places.Held.length_filled,
 }
-use denote.{Copied.plain_Copied, Opens.hide, RawPtr.{coded_ptr, ptr_own, rawptr_pure}, Struct.Laws.RawPtr-laws}
+use denote.{Opens.hide, Struct.Laws.RawPtr-copy}
 use Rattle.arraydeque_ring.specs.contracts.slots.Slots.slice as f
 use Rattle.arraydeque_ring.proofs.slots.Slots.slice.Statement as stated
 use Rattle.arraydeque_ring.proofs.slots.Slots.slice.Code as code
@@ -54,12 +54,12 @@ slice_spec 𝓤 𝓛 𝓜 𝓡 wired X L =
     keep ! (1 ∷ 3 ∷ 4 ∷ 0 ∷ []) $
     enter ! _ _ _ _ _ $ alloc_all ! (λ l.
     pass_all ! refl ((tt, tt), ((tt, record { fits = i_fits }), ((tt, record { fits = len_fits }), tt))) $
-    first ! $ blocks ! $ looks ! tt RawPtr (plain_Copied 𝓛 Ptr coded_ptr (ty_ptr ∷ []) ptr_own rawptr_pure ptr_val
-    RawPtr-laws.tells).opens p rb (ro + 0) (λ q' vs. move ! (1 ∷ []) $ feq_l ! (λ word.
-    rewrite ! 0 (λ us. ‵ (cell_at q' RawPtr.mir us rb (ro + 0))) (word
-    ∙ ap (λ (r : Ptr). ptr_val r ∷ []) at) refl $ move ! (2 ∷ []) $ drop ! $
+    first ! $ blocks ! $
+    looks ! tt RawPtr (RawPtr-copy.copied _ _ 𝓛).opens p rb (ro + 0) (λ q' vs. move ! (1 ∷ []) $ feq_l ! (λ word.
+    rewrite ! 0 (λ us. ‵ (cell_at q' RawPtr.mir us rb (ro + 0))) (word ∙ ap (λ r. ptr_val r ∷ []) at) refl $
+    move ! (2 ∷ []) $ drop ! $
     sets ! (of_opd ! (load ! (through ! refl (fld ! refl (stop !))) (look ! 0 refl))) refl (tt, tt) $
-    feq_i ! (List Val) (vptr b o ∷ []) (ptr_val p ∷ []) (ap (λ (r : Ptr). ptr_val r ∷ []) (sym at)) $
+    feq_i ! _ _ _ (ap (λ (r : Ptr). ptr_val r ∷ []) (sym at)) $
     move ! (1 ∷ 0 ∷ []) $ shuts ! tt RawPtr q' p (vptr b o ∷ []) rb (ro + 0) $
     sets ! (scaled ! (get ! refl) far) refl (tt, record { fits = far }) $
     sets ! (bin ! (get ! refl) (get ! refl) tt) refl (tt, tt) $
