@@ -1,10 +1,10 @@
 -- The places of a block, taken apart and put together again. Assumes `Logic`.
 use Rattle.arraydeque_ring.{
-  proofs.memory.Kit.{◌≡◌, refl, sym, ap, subst, ◌∙◌, List, [], ◌∷◌, ◌++◌, map, ℕ, zero, suc, ◌+◌, ◌*◌, arith, zero-mul},
+  proofs.memory.Kit.{◌≡◌, refl, sym, ap, ◌∙◌, List, [], ◌∷◌, ◌++◌, map, ℕ, zero, suc, ◌+◌, ◌*◌, arith, zero-mul},
   proofs.memory.Kit.{suc-mul, length, drop_list, replicate, take-append-drop, Option, Some, None, type_size, Ura, ent},
   proofs.memory.Kit.{sep, emp, wand, via, id⊢, snd∗, mono_r, Lft, Fml, froom, ty_array, align, Logic, sem, ‵, raw, ◌⊛◌},
-  proofs.memory.Kit.{◌$◌, ◌∵◌, !, qed, by, move, keep, drop, use0, use1, use2, split, frame, fsplit, fjoin, rewrite},
-  proofs.memory.Kit.{done, nothing, El, R, el_x, elτ, elements_shared},
+  proofs.memory.Kit.{◌$◌, ◌∵◌, !, qed, by, move, keep, drop, use0, use1, split, frame, fsplit, fjoin, rewrite, done},
+  proofs.memory.Kit.{nothing, El, R, el_x, elτ, elements_shared},
   specs.{Ownership.{place_owned, places_owned, place_lent, places_lent}, Places.HoldsRun},
 }
 use prog.Align.{dv_self}
@@ -33,16 +33,16 @@ module _ (E : El) {M : Type 1} {𝓤 : Ura M} (𝓛 : Logic 𝓤) (b : ℕ) wher
       rewrite ! 0 (λ k. ‵ (Row k qs)) {x = at} (omega (arith, zero-mul s)) refl $ nothing ! $ done !
   cut (p ∷ ps) qs o at e =
       qed 𝓛 (‵ (Row o (p ∷ ps ++ qs)) ∷ []) ∵ fsplit ! $ move ! (1 ∷ []) $
-      use1 𝓛 (‵ (Row (o + s) ps) ⊛ ‵ (Row at qs)) (cut ps qs (o + s) at (omega (arith, suc-mul (length ps) s, e))) $ split ! $ move ! (2 ∷ 0 ∷ []) $
-      fjoin ! $ done !
+      use1 𝓛 (‵ (Row (o + s) ps) ⊛ ‵ (Row at qs)) (cut ps qs (o + s) at (omega (arith, suc-mul (length ps) s, e))) $
+      split ! $ move ! (2 ∷ 0 ∷ []) $ fjoin ! $ done !
 
   pub glue : (ps qs : List (Place E)) (o at : ℕ) → at ≡ length ps * s + o
       → ent 𝓤 (sep 𝓤 (sem 𝓛 (Row o ps)) (sem 𝓛 (Row at qs))) (sem 𝓛 (Row o (ps ++ qs)))
   glue [] qs o at e = qed 𝓛 (‵ (Row o []) ∷ ‵ (Row at qs) ∷ []) ∵ drop ! $
       rewrite ! 0 (λ k. ‵ (Row k qs)) {x = o} (omega (arith, zero-mul s)) refl $ done !
   glue (p ∷ ps) qs o at e =
-      qed 𝓛 (‵ (Row o (p ∷ ps)) ∷ ‵ (Row at qs) ∷ []) ∵ fsplit ! $ move ! (1 ∷ 2 ∷ []) $
-      use2 𝓛 (‵ (Row (o + s) (ps ++ qs))) (glue ps qs (o + s) at (omega (arith, suc-mul (length ps) s, e))) $ move ! (1 ∷ 0 ∷ []) $ fjoin ! $ done !
+      qed 𝓛 (‵ (Row o (p ∷ ps)) ∷ ‵ (Row at qs) ∷ []) ∵ fsplit ! $ frame ! $
+      by ! (glue ps qs (o + s) at (omega (arith, suc-mul (length ps) s, e)))
 
   -- the room of a block is that many empty places
   pub of_room : (n o : ℕ) → ent 𝓤 (H.room (ty_array (elτ E) n) b o) (sem 𝓛 (Row o (replicate n None)))
@@ -67,8 +67,8 @@ module _ (E : El) {M : Type 1} {𝓤 : Ura M} (𝓛 : Logic 𝓤) (b : ℕ) wher
 
     seen_from : (ps : List (Place E)) (i o at : ℕ) → at ≡ i * s + o
         → ent 𝓤 (sem 𝓛 (Shown o ps)) (sem 𝓛 (Shown at (drop_list i ps)))
-    seen_from ps zero o at e = let same : o ≡ at = omega (arith, zero-mul s) in
-        subst (λ k. ent 𝓤 (sem 𝓛 (Shown o ps)) (sem 𝓛 (Shown k ps))) same (id⊢ 𝓤 (sem 𝓛 (Shown o ps)))
+    seen_from ps zero o at e = let same : at ≡ o = omega (arith, zero-mul s) in
+        rw same (id⊢ 𝓤 (sem 𝓛 (Shown o ps)))
     seen_from [] (suc i) o at e = id⊢ 𝓤 (sem 𝓛 (Shown o []))
     seen_from (p ∷ ps) (suc i) o at e =
         via 𝓤 (sem 𝓛 (Shown (o + s) ps)) (snd∗ 𝓤 (sem 𝓛 (place_lent (R E) b o p κ)) (sem 𝓛 (Shown (o + s) ps)))

@@ -2,9 +2,9 @@
 -- and room for it in another region, and puts both back. Assumes `Logic`.
 use Rattle.arraydeque_ring.{
   proofs.memory.{
-    Kit.{◌≡◌, refl, List, [], ◌∷◌, ◌++◌, ℕ, ◌+◌, ◌*◌, ◌<◌, ◌^◌, arith, length, take, drop_list, id⊢, full_share, ftrue},
-    Kit.{froom, flft, Fn, inst_fn, named, w64, ty_array, vunit, vint, vptr, ◌⊑◌, tables, owns, types_at, ‵, raw, ◌⊛◌},
-    Kit.{at_ret, ◌$◌, ◌∵◌, !, qed, move, keep, use1, drop, split, join, fsplit, fsplit3, fjoin, fjoin3, feq_i},
+    Kit.{Vals, ◌≡◌, refl, List, [], ◌∷◌, ◌++◌, ℕ, ◌+◌, ◌*◌, ◌<◌, ◌^◌, arith, length, take, drop_list, id⊢, full_share},
+    Kit.{ftrue, froom, flft, Fn, inst_fn, named, w64, ty_array, vunit, vint, vptr, ◌⊑◌, tables, owns, types_at, ‵, raw},
+    Kit.{◌⊛◌, at_ret, ◌$◌, ◌∵◌, !, qed, move, keep, use1, drop, split, join, fsplit, fsplit3, fjoin, fjoin3, feq_i},
     Kit.{suffices, done, whole, sub, look_in, enter, of_opd, unit_lit, bin, load, stop, fld, no_more, and_then, first},
     Kit.{blocks, exec, returns, alloc_all, pass_all, free_all, look_at, get, through, sets, lands_last, env, yes},
     Kit.{plain, usize, uint_vals, uint_Tells, RawPtr, block_ptr, Stays, walk_of, stay_dropped, stay_ref, Goes-dropped},
@@ -47,21 +47,12 @@ copy_over_spec 𝓤 𝓛 𝓜 𝓡 wired X L =
     let sb : ℕ = a.1.1.0.ref_ptr.0 in let so : ℕ = a.1.1.0.ref_ptr.1 in let r' : Seen E = a.1.1.0.now in
     let ts : List (Place E) = r'.places in
     let from : ℕ = a.1.0 in let to : ℕ = a.1.1.1.0 in let n : ℕ = a.1.1.1.1.0 in
-    let from_fits : from < 2 ^ 64 = are.1.0.1 in let to_fits : to < 2 ^ 64 = are.1.1.1.0.1 in
-    let n_fits : n < 2 ^ 64 = are.1.1.1.1.0.1 in
-    let y : W.Ghost = (
-      (
-        κs,
-        qs,
-        bounds,
-        a,
-        (mut_vals a.0, (uint_vals w64 from, (mut_vals a.1.1.0, (uint_vals w64 to, (uint_vals w64 n, tt))))),
-      ),
-      tt,
-    ) in
-    let s : ℕ = item_size E in
+    let n_fits : n < 2 ^ 64 = are.1.1.1.1.0.1 in let s : ℕ = item_size E in
+    let vss : Vals ended.signature κs =
+    (mut_vals a.0, (uint_vals w64 from, (mut_vals a.1.1.0, (uint_vals w64 to, (uint_vals w64 n, tt))))) in
+    let y : W.Ghost = ((κs, qs, bounds, a, vss), tt) in
     qed 𝓛 (((‵ (flft κ₀ q₀) ⊛ ‵ (flft κ₁ q₁) ⊛ ‵ (flft κ₂ q₂) ⊛ ‵ ftrue)
-    ⊛ ‵ (owns (types_at ended.signature.params κs) a y.0.4))
+    ⊛ ‵ (owns (types_at ended.signature.params κs) a vss))
     ∷ raw ((c κs a).requires tt) ∷ []) ∵
     move ! (1 ∷ []) $ hears ! (λ lives. hears ! (λ filled. heard ! _ (λ empty.
     let within = filled.0 in let target = empty.0 in let xs : List (el_x E) = filled.1.0 in
@@ -74,13 +65,8 @@ copy_over_spec 𝓤 𝓛 𝓜 𝓡 wired X L =
     split ! $ split3 ! $ move ! (3 ∷ []) $ fsplit3 ! $ move ! (2 ∷ []) $ fsplit ! $ fsplit3 ! $ move ! (4 ∷ []) $
     fsplit3 ! $ keep ! (1 ∷ 2 ∷ 8 ∷ 4 ∷ 5 ∷ 9 ∷ 10 ∷ []) $
     enter ! _ _ _ _ _ $
-    alloc_all ! (λ l. pass_all ! refl (
-      (tt, tt),
-      (
-        (tt, record { fits = from_fits }),
-        ((tt, tt), ((tt, record { fits = to_fits }), ((tt, record { fits = n_fits }), tt))),
-      ),
-    ) $
+    alloc_all ! (λ l. pass_all ! refl ((tt, tt), ((tt, record { fits = are.1.0.1 }), ((tt, tt),
+    ((tt, record { fits = are.1.1.1.0.1 }), ((tt, record { fits = n_fits }), tt))))) $
     slots_open E ! tt r rb ro (λ g b o m ok. move ! (6 ∷ 7 ∷ 8 ∷ []) $ slots_open E ! tt r' sb so (λ g' b' o' m' ok'.
     let from_near = near E ok from (omega arith) in let to_near = near E ok' to (omega arith) in
     let src : ℕ = from * s + o in let dst : ℕ = to * s + o' in
@@ -126,8 +112,7 @@ copy_over_spec 𝓤 𝓛 𝓜 𝓡 wired X L =
     move ! (3 ∷ 5 ∷ []) $ room_in E ! b o ps from n within $
     move ! (0 ∷ 5 ∷ 6 ∷ 7 ∷ 8 ∷ 9 ∷ []) $ slots_close E ! tt g r new b o m rb ro ok es_long $
     returns ! (look_at ! 0 refl) $ free_all ! refl $
-    suffices ! _ (ends_at 𝓛 ended stayed c y vunit tt (new, (tt, (new', (tt, (tt, tt)))))
-    (tt, (tt, (tt, (tt, (tt, tt)))))) $ says_two ! (refl, refl) $
+    suffices ! _ (ends_at 𝓛 ended stayed c y vunit tt (new, (tt, (new', _))) _) $ says_two ! (refl, refl) $
     feq_i ! _ (vptr rb ro ∷ []) _ refl $ fjoin3 ! $ move ! (2 ∷ 3 ∷ []) $
     feq_i ! _ (vptr sb so ∷ []) _ refl $ fjoin3 ! $
     nothing ! $ nothing ! $ nothing ! $ fjoin3 ! $ move ! (1 ∷ 0 ∷ []) $ fjoin ! $ nothing ! $

@@ -59,7 +59,7 @@ give_back_spec 𝓤 𝓛 𝓜 𝓡 wired X L =
     let Gives = Deallocates 𝓛 𝓜.mem 𝓡.returns in
     let z : Gives.Ghost = to_deallocate 𝓛 𝓜.mem 𝓡.returns E n κ q hp h b o in
     let out : Sq 𝓛 (‵ (flft κ q) ∷ (‵ (flft κ₁ q₁) ⊛ ‵ ftrue) ∷ []) (prop (W.post y vunit)) =
-    suffices ! _ (ends_at 𝓛 ended stayed c y vunit tt (tt, (tt, tt)) (tt, (tt, tt))) $
+    suffices ! _ (ends_at 𝓛 ended stayed c y vunit tt _ _) $
     join ! $ feq_i ! _ (vunit ∷ []) _ refl $ nothing ! $ nothing ! $ fjoin ! $ nothing ! $ fjoin ! $
     join ! $ move ! (1 ∷ 0 ∷ []) $ join ! $ nothing ! $ keep ! (1 ∷ 0 ∷ []) $ done ! in
     sets ! (of_opd ! (get_in ! (fld ! refl (stop !)) (sub ! 0 refl (whole !)))) refl (tt, tt) $

@@ -36,7 +36,7 @@ slice_spec 𝓤 𝓛 𝓜 𝓡 wired X L =
     let κ = κs.0 in let κ₁ = κs.1.0 in let q = qs.0 in let q₁ = qs.1.0 in
     let rb : ℕ = a.0.ref_ptr.0 in let ro : ℕ = a.0.ref_ptr.1 in let r : Seen E = a.0.now in let i : ℕ = a.1.0 in
     let len : ℕ = a.1.1.0 in
-    let i_fits : i < 2 ^ 64 = are.1.0.1 in let len_fits : len < 2 ^ 64 = are.1.1.0.1 in
+    let len_fits : len < 2 ^ 64 = are.1.1.0.1 in
     let y : W.Ghost = ((κs, qs, bounds, a, (shr_vals a.0, (uint_vals w64 i, (uint_vals w64 len, tt)))), tt) in
     let s : ℕ = item_size E in
     qed 𝓛 (((‵ (flft κ q) ⊛ ‵ (flft κ₁ q₁) ⊛ ‵ ftrue) ⊛ ‵ (owns (types_at ended.signature.params κs) a y.0.4))
@@ -53,7 +53,7 @@ slice_spec 𝓤 𝓛 𝓜 𝓡 wired X L =
     -- [the values; the pointer; its token; the other tokens]
     keep ! (1 ∷ 3 ∷ 4 ∷ 0 ∷ []) $
     enter ! _ _ _ _ _ $ alloc_all ! (λ l.
-    pass_all ! refl ((tt, tt), ((tt, record { fits = i_fits }), ((tt, record { fits = len_fits }), tt))) $
+    pass_all ! refl ((tt, tt), ((tt, record { fits = are.1.0.1 }), ((tt, record { fits = len_fits }), tt))) $
     first ! $ blocks ! $
     looks ! tt RawPtr (RawPtr-copy.copied _ _ 𝓛).opens p rb (ro + 0) (λ q' vs. move ! (1 ∷ []) $ feq_l ! (λ word.
     rewrite ! 0 (λ us. ‵ (cell_at q' RawPtr.mir us rb (ro + 0))) (word ∙ ap (λ r. ptr_val r ∷ []) at) refl $
@@ -69,8 +69,8 @@ slice_spec 𝓤 𝓛 𝓜 𝓡 wired X L =
     exec ! 𝓣.C 𝓣.Λ (env here.locals l) (after 1 here.body) (at_ret _ (W.post y)) $
     sets ! (of_opd ! (get ! refl)) refl (tt, (tt, (record { fits = len_fits }, tt))) $
     returns ! (look_at ! 0 refl) $ free_all ! refl $
-    suffices ! _ (ends_at 𝓛 ended stayed c y (slice_val run len) (record { ref_ptr = run; now = xs })
-    (tt, (tt, (tt, tt))) (tt, (tt, (tt, tt)))) $ says ! held $
+    suffices ! _ (ends_at 𝓛 ended stayed c y (slice_val run len) (record { ref_ptr = run; now = xs }) _ _) $
+    says ! held $
     join ! $ move ! (1 ∷ []) $
     flt_i ! (length xs * s) (2 ^ 63) (times_below (length xs) (length r.places) s (2 ^ 63) (omega arith) all) $
     flt_i ! (length xs) (2 ^ 64) (omega arith) $ fjoin ! $

@@ -86,8 +86,7 @@ with_memory_spec 𝓤 𝓛 𝓜 𝓡 wired X L =
     slots_made E ! g r b o n (Fits-empty E o n n_fits (omega arith)) $
     use1 𝓛 (‵ (Out.own_val (Ok r) (live 0 (vcons made vnil) ∷ []))) (ok_of 𝓛 (Sr E) refusals.the_row r made) $
     returns ! (look_at ! 0 refl) $ free_all ! refl $ keep ! (0 ∷ 1 ∷ 2 ∷ []) $
-    suffices ! _ (ends_at 𝓛 ended stayed c y (live 0 (vcons made vnil)) (Ok r) (tt, (tt, (tt, tt)))
-    (tt, (tt, (tt, tt)))) $ says ! refl $
+    suffices ! _ (ends_at 𝓛 ended stayed c y (live 0 (vcons made vnil)) (Ok r) _ _) $ says ! refl $
     move ! (1 ∷ 2 ∷ []) $ join ! $ frame ! $ nothing ! $ nothing ! $ fjoin ! $ nothing ! $ fjoin ! $ nothing ! $
     fjoin ! $ done !))
     (λ e.
@@ -108,6 +107,6 @@ with_memory_spec 𝓤 𝓛 𝓜 𝓡 wired X L =
     (‵ (Out.own_val (Err (record {})) (none ∷ []))) (err_of 𝓛 (Sr E) refusals.the_row (record {}) (vstruct vnil)) $
     returns ! (look_at ! 0 refl) $ free_all ! refl $ keep ! (0 ∷ 1 ∷ 2 ∷ []) $
     suffices ! _
-    (ends_at 𝓛 ended stayed c y none (Err (record {})) (tt, (tt, (tt, tt))) (tt, (tt, (tt, tt)))) $ says ! tt $
+    (ends_at 𝓛 ended stayed c y none (Err (record {})) _ _) $ says ! tt $
     move ! (1 ∷ 2 ∷ []) $ join ! $ frame ! $ nothing ! $ nothing ! $ fjoin ! $ nothing ! $ fjoin ! $ nothing ! $
     fjoin ! $ done !)))))))

@@ -44,7 +44,7 @@ without_memory_spec 𝓤 𝓛 𝓜 𝓡 wired X L =
     sets ! (agg ! (and_then ! (get ! refl) (and_then ! (get ! refl) (and_then ! (get ! refl) (no_more !))))) refl
     (slots_Good E b 0 n n_fits) $
     returns ! (look_at ! 0 refl) $ free_all ! refl $
-    suffices ! _ (ends_at 𝓛 ended stayed c y (slots_val b 0 n) r (tt, (tt, tt)) (tt, (tt, tt))) $ says ! refl $
+    suffices ! _ (ends_at 𝓛 ended stayed c y (slots_val b 0 n) r _ _) $ says ! refl $
     -- [the token]
     use0 𝓛 (‵ (right E g n b 0)) (no_right E 𝓛 g n (block_ptr b 0) no_bytes) $
     use0 𝓛 (‵ (places E r b 0)) (of_nothing E 𝓛 b n 0 no_bytes) $

@@ -1,12 +1,12 @@
 -- `write` fills an empty place. Assumes `Logic`.
 use Rattle.arraydeque_ring.proofs.memory.{
-  Kit.{part_in, full_share, refl, sym, subst, [], ◌∷◌, ℕ, ◌+◌, ◌*◌, ◌<◌, ◌^◌, arith, length, get_or, set, length-set},
-  Kit.{Some, None, ent, ftrue, flft, Fn, inst_fn, w64, Val, vunit, vint, vptr, WpFn, tables, owns, types_at, ‵, raw},
-  Kit.{◌⊛◌, at_ret, ◌$◌, ◌∵◌, !, qed, move, keep, use1, use2, split, join, rewrite, fsplit, fsplit3, fjoin, fjoin3},
-  Kit.{feq_i, suffices, done, whole, sub, look_in, enter, of_opd, unit_lit, bin, load, init, stop, fld, assigns_last},
-  Kit.{first, blocks, exec, returns, alloc_all, pass_all, free_all, look_at, get, through, sets, env, yes, no, plain},
-  Kit.{usize, Vals, Stays, walk_of, stay_dropped, stay_ref, Goes-dropped, Goes-ref, ends_at, nothing, heard},
-  Kit.{as_written, after, says, El, R, args, el_x, elτ, lawful, one, proved_at},
+  Kit.{part_in, full_share, refl, sym, subst, [], ◌∷◌, ℕ, ◌+◌, ◌*◌, ◌<◌, arith, length, get_or, set, length-set, Some},
+  Kit.{None, ent, ftrue, flft, Fn, inst_fn, w64, Val, vunit, vint, vptr, WpFn, tables, owns, types_at, ‵, raw, ◌⊛◌},
+  Kit.{at_ret, ◌$◌, ◌∵◌, !, qed, move, keep, use1, use2, split, join, rewrite, fsplit, fsplit3, fjoin, fjoin3, feq_i},
+  Kit.{suffices, done, whole, sub, look_in, enter, of_opd, unit_lit, bin, load, init, stop, fld, assigns_last, first},
+  Kit.{blocks, exec, returns, alloc_all, pass_all, free_all, look_at, get, through, sets, env, yes, no, plain, usize},
+  Kit.{Vals, Stays, walk_of, stay_dropped, stay_ref, Goes-dropped, Goes-ref, ends_at, nothing, heard, as_written},
+  Kit.{after, says, El, R, args, el_x, elτ, lawful, one, proved_at},
   Regions.{scaled, Sr, Seen, near, places, slots_open, slots_close, item_size, Around, place_out, place_in},
   Regions.{place_owned},
   Called.hears,
@@ -36,7 +36,6 @@ write_spec 𝓤 𝓛 𝓜 𝓡 wired X L =
     let x : el_x E = a.1.1.0 in
     let given_x = one E z.0.4.1.1.0 ((lawful E 𝓛).typed x z.0.4.1.1.0 are.1.1.0) in let v : Val = given_x.0 in
     let v_fits = given_x.2 in
-    let i_fits : i < 2 ^ 64 = are.1.0.1 in
     let y : W.Ghost = ((z.0.0, z.0.1, z.0.2, a, (vptr rb ro ∷ [], (vint w64 i ∷ [], (v ∷ [], tt)))), z.1) in
     subst (λ (vss : Vals ended.signature z.0.0). Goes ((z.0.0, z.0.1, z.0.2, a, vss), z.1))
     (sym (λ k. (are.0.0 k, (are.1.0.0 k, (given_x.1 k, tt))))) (
@@ -47,7 +46,7 @@ write_spec 𝓤 𝓛 𝓜 𝓡 wired X L =
     split ! $ split ! $ move ! (2 ∷ []) $ fsplit3 ! $ fsplit3 ! $ move ! (4 ∷ []) $ fsplit ! $
     keep ! (3 ∷ 4 ∷ 6 ∷ 0 ∷ 7 ∷ []) $
     enter ! _ _ _ _ _ $
-    alloc_all ! (λ l. pass_all ! refl ((tt, tt), ((tt, record { fits = i_fits }), (v_fits, tt))) $
+    alloc_all ! (λ l. pass_all ! refl ((tt, tt), ((tt, record { fits = are.1.0.1 }), (v_fits, tt))) $
     slots_open E ! tt r rb ro (λ g b o n ok.
     let far = near E ok i (omega arith) in
     let new : Seen E = record r { places = set r.places i (Some x) } in
@@ -69,7 +68,7 @@ write_spec 𝓤 𝓛 𝓜 𝓡 wired X L =
     use2 𝓛 (‵ (places E new b o)) (place_in E 𝓛 b o r.places i within (Some x)) $
     slots_close E ! tt g r new b o n rb ro ok (sym (length-set r.places i (Some x))) $
     returns ! (look_at ! 0 refl) $ free_all ! refl $
-    suffices ! _ (ends_at 𝓛 ended stayed c y vunit tt (new, (tt, (tt, tt))) (tt, (tt, (tt, tt)))) $ says ! refl $
+    suffices ! _ (ends_at 𝓛 ended stayed c y vunit tt (new, _) _) $ says ! refl $
     feq_i ! _ (vptr rb ro ∷ []) _ refl $ fjoin3 ! $ nothing ! $ nothing ! $ fjoin ! $
     nothing ! $ fjoin ! $ move ! (1 ∷ 0 ∷ []) $ fjoin ! $
     move ! (1 ∷ 2 ∷ []) $ join ! $ feq_i ! _ (vunit ∷ []) _ refl $

@@ -22,6 +22,6 @@ size_of_item_spec 𝓤 𝓛 𝓜 𝓡 wired X L =
     split ! $ keep ! (0 ∷ []) $ enter ! _ _ _ _ _ $ alloc_all ! (λ l. pass_all ! refl tt $
     sets ! (of_opd ! (size_word !)) refl (tt, record { fits = capped_fits (size (layout X)) }) $
     returns ! (look_at ! 0 refl) $ free_all ! refl $
-    suffices ! _ (ends_at 𝓛 ended tt c y (vint w64 s) s tt tt) $ says ! refl $
+    suffices ! _ (ends_at 𝓛 ended tt c y (vint w64 s) s _ _) $ says ! refl $
     flt_i ! s (2 ^ 64) (capped_fits (size (layout X))) $ feq_i ! _ (vint w64 s ∷ []) _ refl $
     fjoin ! $ nothing ! $ join ! $ move ! (1 ∷ 0 ∷ []) $ join ! $ done !))
