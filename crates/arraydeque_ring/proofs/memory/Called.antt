@@ -16,9 +16,9 @@ module _ {M : Type 1} {𝓤 : Ura M} {K : Type 0} {Γ : List (Item 𝓤)} where
   knows {𝓛 = 𝓛} t φ x = use0 𝓛 (raw (fact 𝓤 φ)) (fact_i 𝓤 φ (emp 𝓤) x)
 
   -- the first of several facts is heard
-  pub hears : {𝓛 : Logic 𝓤} {G : Goal 𝓤 𝓛.H} → K → {φ : Type 0} {P : SProp 𝓤} → (φ → Seq K 𝓛 (raw P ∷ Γ) G)
+  pub first_fact : {𝓛 : Logic 𝓤} {G : Goal 𝓤 𝓛.H} → K → {φ : Type 0} {P : SProp 𝓤} → (φ → Seq K 𝓛 (raw P ∷ Γ) G)
       → Seq K 𝓛 (raw (sep 𝓤 (fact 𝓤 φ) P) ∷ Γ) G
-  hears {𝓛 = 𝓛} t {φ} {P} then = use1 𝓛 (raw (fact 𝓤 φ) ⊛ raw P) (id⊢ 𝓤 _) $ split t $ heard t φ then
+  first_fact {𝓛 = 𝓛} t {φ} {P} then = use1 𝓛 (raw (fact 𝓤 φ) ⊛ raw P) (id⊢ 𝓤 _) $ split t $ heard t φ then
 
   -- a call gives its result, which is typed, the tokens, and what it ensures
   pub returned : (𝓛 : Logic 𝓤) {G : Goal 𝓤 𝓛.H} → K → Soaks G → (T : Ended) (c : Clauses 𝓤 T)

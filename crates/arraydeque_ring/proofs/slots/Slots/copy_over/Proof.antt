@@ -12,7 +12,7 @@ use Rattle.arraydeque_ring.{
     Kit.{el_x, elτ, proved, common_steps, split3, Array, mut_vals, mut_Tells, pure_i},
     Regions.{Sr, Seen, near, run_fits, slots_open, slots_close, scaled, item_size, Place, array_out, array_in},
     Regions.{room_out, room_in},
-    Called.{knows, hears, returned},
+    Called.{knows, first_fact, returned},
   },
   specs.Gaps.{run_emptied},
 }
@@ -54,7 +54,7 @@ copy_over_spec 𝓤 𝓛 𝓜 𝓡 wired X L =
     qed 𝓛 (((‵ (flft κ₀ q₀) ⊛ ‵ (flft κ₁ q₁) ⊛ ‵ (flft κ₂ q₂) ⊛ ‵ ftrue)
     ⊛ ‵ (owns (types_at ended.signature.params κs) a vss))
     ∷ raw ((c κs a).requires tt) ∷ []) ∵
-    move ! (1 ∷ []) $ hears ! (λ lives. hears ! (λ filled. heard ! _ (λ empty.
+    move ! (1 ∷ []) $ first_fact ! (λ lives. first_fact ! (λ filled. heard ! _ (λ empty.
     let within = filled.0 in let target = empty.0 in let xs : List (el_x E) = filled.1.0 in
     let es : List (Place E) = run_emptied from n ps in
     let us : List (Place E) = take to ts ++ (take n (drop_list from ps) ++ drop_list (to + n) ts) in

@@ -8,7 +8,7 @@ use Rattle.arraydeque_ring.{
       Kit.{fld, assigns_last, first, blocks, exec, returns, alloc_all, pass_all, free_all, look_at, get, through, sets},
       Kit.{is, env, heard, after, says, part_at, El, R, el_x, elτ, common_steps, Args, a_type, a_number, part_in},
       Kit.{part_out, Array, layouts, number},
-      Called.hears,
+      Called.first_fact,
       Regions.{Sr, Seen, near, slots_open, slots_close, scaled, item_size, Place, Row, array_out, array_in, room_out},
       Regions.{room_in},
       Methods.{method, comes_back},
@@ -35,7 +35,7 @@ move_block_spec 𝓤 𝓛 𝓜 𝓡 wired X N L N_fits =
     let ps : List (Place E) = r.places in
     let to : ℕ = a.1.0 in let from : ℕ = a.1.1.0 in let at : ℕ = a.1.1.1.0 in let dst : ℕ = to + at in
     let src : ℕ = from + at in let s : ℕ = item_size E in
-    hears ! (λ _. hears ! (λ _. hears ! (λ filled. heard ! _ (λ target.
+    first_fact ! (λ _. first_fact ! (λ _. first_fact ! (λ filled. heard ! _ (λ target.
     let within = filled.0 in let xs : List (el_x E) = filled.1.0 in
     let es : List (Place E) = run_emptied src N ps in
     let es_long : length es ≡ length ps = grind (arith, common_steps) in

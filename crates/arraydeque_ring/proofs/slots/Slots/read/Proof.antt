@@ -8,7 +8,7 @@ use Rattle.arraydeque_ring.proofs.{
     Kit.{heard, as_raw, after, says_two, El, R, args, el_x, elτ},
     Regions.{scaled, Sr, Seen, near, places, slots_open, slots_close, item_size, Around, place_out, place_in},
     Regions.{place_owned},
-    Called.hears,
+    Called.first_fact,
     Methods.{method, comes_back},
   },
   places.Held.filled_within,
@@ -26,7 +26,7 @@ read_spec 𝓤 𝓛 𝓜 𝓡 wired X L =
     (code.unfolded 𝓤 𝓛.H 𝓜 𝓡 wired (X, tt)) (λ κs qs bounds a _ fit post ends.
     let rb : ℕ = a.0.ref_ptr.0 in let ro : ℕ = a.0.ref_ptr.1 in let r : Seen E = a.0.now in let i : ℕ = a.1.0 in
     let s : ℕ = item_size E in
-    hears ! (λ _. heard ! _ (λ asked.
+    first_fact ! (λ _. heard ! _ (λ asked.
     let x : el_x E = asked.0 in let within : i < length r.places = filled_within r.places i x asked.1 in
     alloc_all ! (λ l. pass_all ! refl ((tt, tt), fit) $
     slots_open E ! tt r rb ro (λ g b o n ok.

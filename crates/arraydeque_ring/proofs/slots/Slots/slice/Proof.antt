@@ -8,7 +8,7 @@ use Rattle.arraydeque_ring.proofs.{
     Kit.{env, yes, plain, usize, RefOf, uint_vals, uint_Tells, shr_vals, shr_Tells, Stays, walk_of, says, stay_dropped},
     Kit.{Goes-dropped, ends_at, nothing, heard, after, El, R, args, el_x, times_below, proved, slice_val},
     Kit.{elements_shared, ◌∙◌, looks, shuts, RawPtr, Ptr, ptr_val, feq_l, rewrite, cell_at},
-    Called.hears,
+    Called.first_fact,
     Lent.slots_seen,
     Regions.{Sr, Seen, scaled, item_size, run_seen},
   },
@@ -41,7 +41,7 @@ slice_spec 𝓤 𝓛 𝓜 𝓡 wired X L =
     let s : ℕ = item_size E in
     qed 𝓛 (((‵ (flft κ q) ⊛ ‵ (flft κ₁ q₁) ⊛ ‵ ftrue) ⊛ ‵ (owns (types_at ended.signature.params κs) a y.0.4))
     ∷ raw ((c κs a).requires tt) ∷ []) ∵
-    move ! (1 ∷ []) $ hears ! (λ _. heard ! _ (λ asked.
+    move ! (1 ∷ []) $ first_fact ! (λ _. heard ! _ (λ asked.
     let within = asked.0 in let xs : List (el_x E) = asked.1.0 in let held = asked.1.1 in
     let long = length_filled r.places i len asked in
     split ! $ split ! $ move ! (2 ∷ []) $ fsplit ! $ fsplit ! $ drop ! $

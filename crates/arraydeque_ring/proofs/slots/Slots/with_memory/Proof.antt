@@ -10,7 +10,7 @@ use Rattle.arraydeque_ring.proofs.memory.{
   Kit.{Goes-dropped, ends_at, heap_val, heap_Tells, as_written, Good, first_Good, after, head, arm_body, El, args, elτ},
   Kit.{proved, Struct, Global},
   Blocks.{scaled, right_at_start},
-  Called.hears,
+  Called.first_fact,
   Heap.{Allocates, to_allocate, allocate_goes, allocated},
   Regions.{Sr, Seen, places, right, heap_Good, slots_val, slots_Good, slots_made, Fits-empty, item_size, of_room},
   Regions.{empty_region},
@@ -49,7 +49,7 @@ with_memory_spec 𝓤 𝓛 𝓜 𝓡 wired X L =
     let s : ℕ = item_size E in
     qed 𝓛 (((‵ (flft κ q) ⊛ ‵ (flft κ₁ q₁) ⊛ ‵ ftrue) ⊛ ‵ (owns (types_at ended.signature.params κs) a y.0.4))
     ∷ raw ((c κs a).requires tt) ∷ []) ∵
-    move ! (1 ∷ []) $ hears ! (λ _. hears ! (λ some. heard ! _ (λ named_by.
+    move ! (1 ∷ []) $ first_fact ! (λ _. first_fact ! (λ some. heard ! _ (λ named_by.
     let bytes : n * s < 2 ^ 64 = omega arith in
     split ! $ split ! $ move ! (2 ∷ []) $ fsplit ! $ fsplit ! $ drop ! $ keep ! (0 ∷ 2 ∷ 3 ∷ []) $
     -- [the `&`; its token; the other tokens]

@@ -6,7 +6,7 @@ use Rattle.arraydeque_ring.proofs.memory.{
   Kit.{heap_Tells, Stays, walk_of, says, stay_dropped, Goes-dropped, ends_at, nothing, heard, block_ptr, El, args},
   Kit.{proved, Global},
   Blocks.no_right,
-  Called.hears,
+  Called.first_fact,
   Regions.{Seen, Fits-empty, places, right, heap_Good, slots_val, slots_Good, slots_made, item_size, of_nothing},
   Regions.{empty_region},
 }
@@ -34,7 +34,7 @@ without_memory_spec 𝓤 𝓛 𝓜 𝓡 wired X L =
     let r : Seen E = empty_region n in
     qed 𝓛 (((‵ (flft κ q) ⊛ ‵ ftrue) ⊛ ‵ (owns (types_at ended.signature.params κs) a y.0.4))
     ∷ raw ((c κs a).requires tt) ∷ []) ∵
-    move ! (1 ∷ []) $ hears ! (λ _. heard ! _ (λ no_bytes.
+    move ! (1 ∷ []) $ first_fact ! (λ _. heard ! _ (λ no_bytes.
     split ! $ keep ! (0 ∷ []) $
     enter ! _ _ _ _ _ $
     alloc_all ! (λ l. pass_all ! refl (heap_Good, ((tt, record { fits = n_fits }), tt)) $

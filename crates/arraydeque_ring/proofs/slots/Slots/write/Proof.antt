@@ -9,7 +9,7 @@ use Rattle.arraydeque_ring.proofs.memory.{
   Kit.{after, says, El, R, args, el_x, elτ, lawful, one, proved_at},
   Regions.{scaled, Sr, Seen, near, places, slots_open, slots_close, item_size, Around, place_out, place_in},
   Regions.{place_owned},
-  Called.hears,
+  Called.first_fact,
 }
 use Rattle.arraydeque_ring.specs.contracts.slots.Slots.write as f
 use Rattle.arraydeque_ring.proofs.slots.Slots.write.Statement as stated
@@ -42,7 +42,7 @@ write_spec 𝓤 𝓛 𝓜 𝓡 wired X L =
     let s : ℕ = item_size E in
     qed 𝓛 (((‵ (flft κ q) ⊛ ‵ (flft κ₁ q₁) ⊛ ‵ ftrue) ⊛ ‵ (owns (types_at ended.signature.params z.0.0) a y.0.4))
     ∷ raw ((c z.0.0 a).requires z.1) ∷ []) ∵
-    move ! (1 ∷ []) $ hears ! (λ _. heard ! _ (λ asked. let within : i < length r.places = asked.0 in
+    move ! (1 ∷ []) $ first_fact ! (λ _. heard ! _ (λ asked. let within : i < length r.places = asked.0 in
     split ! $ split ! $ move ! (2 ∷ []) $ fsplit3 ! $ fsplit3 ! $ move ! (4 ∷ []) $ fsplit ! $
     keep ! (3 ∷ 4 ∷ 6 ∷ 0 ∷ 7 ∷ []) $
     enter ! _ _ _ _ _ $
