@@ -1,8 +1,7 @@
 -- A call in a walk: what is known is handed to it, and it gives its result. Assumes `Logic`.
 use Rattle.arraydeque_ring.proofs.memory.{
-  Kit.{List, [], ◌∷◌, Ura, SProp, sep, emp, id⊢, Val, fact, fact_i, Logic, Goal, Soaks, Seq, Step, Item, ‵, raw, ◌⊛◌},
-  Kit.{some, later, ◌$◌, move, use0, use1, split, pick, drop, await, heard, peeks, Is, shows, triple_of, RattleType},
-  Kit.{Lasts, lasts},
+  Kit.{List, [], ◌∷◌, Ura, emp, id⊢, Val, fact, fact_i, Logic, Goal, Soaks, Seq, Step, Item, ‵, raw, ◌⊛◌, some, later},
+  Kit.{◌$◌, move, use0, use1, split, pick, drop, await, peeks, Is, shows, triple_of, RattleType, Lasts, lasts},
 }
 use denote.{
   Laws.{Lawful, Typed},
@@ -14,11 +13,6 @@ module _ {M : Type 1} {𝓤 : Ura M} {K : Type 0} {Γ : List (Item 𝓤)} where
   -- what is known is said
   pub knows : {𝓛 : Logic 𝓤} {G : Goal 𝓤 𝓛.H} → K → (φ : Type 0) → φ → Step K 𝓛 (raw (fact 𝓤 φ) ∷ Γ) G Γ G
   knows {𝓛 = 𝓛} t φ x = use0 𝓛 (raw (fact 𝓤 φ)) (fact_i 𝓤 φ (emp 𝓤) x)
-
-  -- the first of several facts is heard
-  pub first_fact : {𝓛 : Logic 𝓤} {G : Goal 𝓤 𝓛.H} → K → {φ : Type 0} {P : SProp 𝓤} → (φ → Seq K 𝓛 (raw P ∷ Γ) G)
-      → Seq K 𝓛 (raw (sep 𝓤 (fact 𝓤 φ) P) ∷ Γ) G
-  first_fact {𝓛 = 𝓛} t {φ} {P} then = use1 𝓛 (raw (fact 𝓤 φ) ⊛ raw P) (id⊢ 𝓤 _) $ split t $ heard t φ then
 
   -- a call gives its result, which is typed, the tokens, and what it ensures
   pub returned : (𝓛 : Logic 𝓤) {G : Goal 𝓤 𝓛.H} → K → Soaks G → (T : Ended) (c : Clauses 𝓤 T)

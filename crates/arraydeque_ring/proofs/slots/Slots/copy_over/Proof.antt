@@ -10,9 +10,10 @@ use Rattle.arraydeque_ring.{
     Kit.{plain, usize, uint_vals, uint_Tells, RawPtr, block_ptr, Stays, walk_of, stay_dropped, stay_ref, Goes-dropped},
     Kit.{Goes-ref, ends_at, nothing, heard, after, says_two, calls_at_last, framed, triple_of, part_at, El, R, args},
     Kit.{el_x, elτ, proved, common_steps, split3, Array, mut_vals, mut_Tells, pure_i},
+    Methods.first_fact,
     Regions.{Sr, Seen, near, run_fits, slots_open, slots_close, scaled, item_size, Place, array_out, array_in},
     Regions.{room_out, room_in},
-    Called.{knows, first_fact, returned},
+    Called.{knows, returned},
   },
   specs.Gaps.{run_emptied},
 }

@@ -8,8 +8,7 @@ use Rattle.arraydeque_ring.proofs.{
     Kit.{heard, as_raw, after, says_two, El, R, args, el_x, elτ},
     Regions.{scaled, Sr, Seen, near, places, slots_open, slots_close, item_size, Around, place_out, place_in},
     Regions.{place_owned},
-    Called.first_fact,
-    Methods.{method, comes_back},
+    Methods.{first_fact, method, comes_back},
   },
   places.Held.filled_within,
 }

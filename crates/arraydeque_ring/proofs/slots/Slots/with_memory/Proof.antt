@@ -10,8 +10,8 @@ use Rattle.arraydeque_ring.proofs.memory.{
   Kit.{Goes-dropped, ends_at, heap_val, heap_Tells, as_written, Good, first_Good, after, head, arm_body, El, args, elτ},
   Kit.{proved, Struct, Global},
   Blocks.{scaled, right_at_start},
-  Called.first_fact,
   Heap.{Allocates, to_allocate, allocate_goes, allocated},
+  Methods.first_fact,
   Regions.{Sr, Seen, places, right, heap_Good, slots_val, slots_Good, slots_made, Fits-empty, item_size, of_room},
   Regions.{empty_region},
 }

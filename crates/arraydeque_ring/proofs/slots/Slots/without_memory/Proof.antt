@@ -6,7 +6,7 @@ use Rattle.arraydeque_ring.proofs.memory.{
   Kit.{heap_Tells, Stays, walk_of, says, stay_dropped, Goes-dropped, ends_at, nothing, heard, block_ptr, El, args},
   Kit.{proved, Global},
   Blocks.no_right,
-  Called.first_fact,
+  Methods.first_fact,
   Regions.{Seen, Fits-empty, places, right, heap_Good, slots_val, slots_Good, slots_made, item_size, of_nothing},
   Regions.{empty_region},
 }

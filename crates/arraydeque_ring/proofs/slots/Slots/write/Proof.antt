@@ -7,9 +7,9 @@ use Rattle.arraydeque_ring.proofs.memory.{
   Kit.{blocks, exec, returns, alloc_all, pass_all, free_all, look_at, get, through, sets, env, yes, no, plain, usize},
   Kit.{Vals, Stays, walk_of, stay_dropped, stay_ref, Goes-dropped, Goes-ref, ends_at, nothing, heard, as_written},
   Kit.{after, says, El, R, args, el_x, elτ, lawful, one, proved_at},
+  Methods.first_fact,
   Regions.{scaled, Sr, Seen, near, places, slots_open, slots_close, item_size, Around, place_out, place_in},
   Regions.{place_owned},
-  Called.first_fact,
 }
 use Rattle.arraydeque_ring.specs.contracts.slots.Slots.write as f
 use Rattle.arraydeque_ring.proofs.slots.Slots.write.Statement as stated
