@@ -42,7 +42,7 @@ copy_over_spec 𝓤 𝓛 𝓜 𝓡 wired X L =
       mut_Tells (named 0) κs.0 (Sr E),
       (uint_Tells w64, (mut_Tells (named 1) κs.1.0 (Sr E), (uint_Tells w64, (uint_Tells w64, tt)))),
     )) (λ κs qs bounds a _ are.
-    let κ₀ = κs.0 in let κ₁ = κs.1.0 in let κ₂ = κs.1.1.0 in let q₀ = qs.0 in let q₁ = qs.1.0 in let q₂ = qs.1.1.0 in
+    let κ₂ = κs.1.1.0 in let q₂ = qs.1.1.0 in
     let rb : ℕ = a.0.ref_ptr.0 in let ro : ℕ = a.0.ref_ptr.1 in let r : Seen E = a.0.now in
     let ps : List (Place E) = r.places in
     let sb : ℕ = a.1.1.0.ref_ptr.0 in let so : ℕ = a.1.1.0.ref_ptr.1 in let r' : Seen E = a.1.1.0.now in
@@ -52,7 +52,7 @@ copy_over_spec 𝓤 𝓛 𝓜 𝓡 wired X L =
     let vss : Vals ended.signature κs =
     (mut_vals a.0, (uint_vals w64 from, (mut_vals a.1.1.0, (uint_vals w64 to, (uint_vals w64 n, tt))))) in
     let y : W.Ghost = ((κs, qs, bounds, a, vss), tt) in
-    qed 𝓛 (((‵ (flft κ₀ q₀) ⊛ ‵ (flft κ₁ q₁) ⊛ ‵ (flft κ₂ q₂) ⊛ ‵ ftrue)
+    qed 𝓛 (((‵ (flft κs.0 qs.0) ⊛ ‵ (flft κs.1.0 qs.1.0) ⊛ ‵ (flft κ₂ q₂) ⊛ ‵ ftrue)
     ⊛ ‵ (owns (types_at ended.signature.params κs) a vss))
     ∷ raw ((c κs a).requires tt) ∷ []) ∵
     move ! (1 ∷ []) $ first_fact ! (λ lives. first_fact ! (λ filled. heard ! _ (λ empty.

@@ -37,13 +37,12 @@ count_spec 𝓤 𝓛 𝓜 𝓡 wired X L =
     (λ κs. (mut_vals, (kind_vals, (uint_vals w64, tt))))
     (λ κs. (mut_Tells (named 0) κs.0 (Sr E), (Tells-lowered kind.enum the_laws, (uint_Tells w64, tt))))
     (λ κs qs bounds a _ are.
-    let κ = κs.0 in let κ₁ = κs.1.0 in let q = qs.0 in let q₁ = qs.1.0 in
     let rb : ℕ = a.0.ref_ptr.0 in let ro : ℕ = a.0.ref_ptr.1 in let r : Seen E = a.0.now in let k : StepKind = a.1.0 in
     let n : ℕ = a.1.1.0 in
     let y : W.Ghost = ((κs, qs, bounds, a, (mut_vals a.0, (kind_vals k, (uint_vals w64 n, tt)))), tt) in
     let new : Seen E = record r { steps = counted k n r.steps } in
-    qed 𝓛 (((‵ (flft κ q) ⊛ ‵ (flft κ₁ q₁) ⊛ ‵ ftrue) ⊛ ‵ (owns (types_at ended.signature.params κs) a y.0.4)) ∷ raw
-    ((c κs a).requires tt) ∷ []) ∵
+    qed 𝓛 (((‵ (flft κs.0 qs.0) ⊛ ‵ (flft κs.1.0 qs.1.0) ⊛ ‵ ftrue)
+    ⊛ ‵ (owns (types_at ended.signature.params κs) a y.0.4)) ∷ raw ((c κs a).requires tt) ∷ []) ∵
     split ! $ split ! $ move ! (2 ∷ []) $ fsplit3 ! $ fsplit3 ! $ keep ! (1 ∷ 2 ∷ 5 ∷ 6 ∷ []) $
     enter ! _ _ _ _ _ $ alloc_all ! (λ l. pass_all ! refl
     ((tt, tt), (((the_row_laws.lawful 𝓛).typed k (kind_vals k) are.1.0).0, ((tt, record { fits = are.1.1.0.1 }), tt))) $

@@ -33,14 +33,14 @@ slice_spec 𝓤 𝓛 𝓜 𝓡 wired X L =
     (f.Key.name (args E)) here (code.unfolded 𝓤 𝓛.H 𝓜 𝓡 wired (X, tt))
     (λ κs. (shr_vals, (uint_vals w64, (uint_vals w64, tt))))
     (λ κs. (shr_Tells (named 0) κs.0 (Sr E), (uint_Tells w64, (uint_Tells w64, tt)))) (λ κs qs bounds a _ are.
-    let κ = κs.0 in let κ₁ = κs.1.0 in let q = qs.0 in let q₁ = qs.1.0 in
+    let κ = κs.0 in
     let rb : ℕ = a.0.ref_ptr.0 in let ro : ℕ = a.0.ref_ptr.1 in let r : Seen E = a.0.now in let i : ℕ = a.1.0 in
     let len : ℕ = a.1.1.0 in
     let len_fits : len < 2 ^ 64 = are.1.1.0.1 in
     let y : W.Ghost = ((κs, qs, bounds, a, (shr_vals a.0, (uint_vals w64 i, (uint_vals w64 len, tt)))), tt) in
     let s : ℕ = item_size E in
-    qed 𝓛 (((‵ (flft κ q) ⊛ ‵ (flft κ₁ q₁) ⊛ ‵ ftrue) ⊛ ‵ (owns (types_at ended.signature.params κs) a y.0.4))
-    ∷ raw ((c κs a).requires tt) ∷ []) ∵
+    qed 𝓛 (((‵ (flft κ qs.0) ⊛ ‵ (flft κs.1.0 qs.1.0) ⊛ ‵ ftrue)
+    ⊛ ‵ (owns (types_at ended.signature.params κs) a y.0.4)) ∷ raw ((c κs a).requires tt) ∷ []) ∵
     move ! (1 ∷ []) $ first_fact ! (λ _. heard ! _ (λ asked.
     let within = asked.0 in let xs : List (el_x E) = asked.1.0 in let held = asked.1.1 in
     let long = length_filled r.places i len asked in

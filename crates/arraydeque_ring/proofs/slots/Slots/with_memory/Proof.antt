@@ -42,12 +42,12 @@ with_memory_spec 𝓤 𝓛 𝓜 𝓡 wired X L =
     (f.Key.name (args E)) here (code.unfolded 𝓤 𝓛.H 𝓜 𝓡 wired (X, tt))
     (λ κs. (shr_vals, ((λ _. heap_val ∷ []), (uint_vals w64, tt))))
     (λ κs. (shr_Tells (named 0) κs.0 heap.the_row, (heap_Tells, (uint_Tells w64, tt)))) (λ κs qs bounds a _ are.
-    let κ = κs.0 in let κ₁ = κs.1.0 in let q = qs.0 in let q₁ = qs.1.0 in
+    let κ = κs.0 in let q = qs.0 in
     let rb : ℕ = a.0.ref_ptr.0 in let ro : ℕ = a.0.ref_ptr.1 in let h : Global = a.0.now in let g : Global = a.1.0 in
     let n : ℕ = a.1.1.0 in let n_fits : n < 2 ^ 64 = are.1.1.0.1 in
     let y : W.Ghost = ((κs, qs, bounds, a, (shr_vals a.0, (heap_val ∷ [], (uint_vals w64 n, tt)))), tt) in
     let s : ℕ = item_size E in
-    qed 𝓛 (((‵ (flft κ q) ⊛ ‵ (flft κ₁ q₁) ⊛ ‵ ftrue) ⊛ ‵ (owns (types_at ended.signature.params κs) a y.0.4))
+    qed 𝓛 (((‵ (flft κ q) ⊛ ‵ (flft κs.1.0 qs.1.0) ⊛ ‵ ftrue) ⊛ ‵ (owns (types_at ended.signature.params κs) a y.0.4))
     ∷ raw ((c κs a).requires tt) ∷ []) ∵
     move ! (1 ∷ []) $ first_fact ! (λ _. first_fact ! (λ some. heard ! _ (λ named_by.
     let bytes : n * s < 2 ^ 64 = omega arith in

@@ -28,11 +28,11 @@ without_memory_spec 𝓤 𝓛 𝓜 𝓡 wired X L =
     (f.Key.name (args E)) here (code.unfolded 𝓤 𝓛.H 𝓜 𝓡 wired (X, tt))
     (λ κs. ((λ _. heap_val ∷ []), (uint_vals w64, tt))) (λ κs. (heap_Tells, (uint_Tells w64, tt)))
     (λ κs qs bounds a _ are.
-    let κ = κs.0 in let q = qs.0 in let g : Global = a.0 in let n : ℕ = a.1.0 in let n_fits : n < 2 ^ 64 = are.1.0.1 in
+    let g : Global = a.0 in let n : ℕ = a.1.0 in let n_fits : n < 2 ^ 64 = are.1.0.1 in
     let y : W.Ghost = ((κs, qs, bounds, a, (heap_val ∷ [], (uint_vals w64 n, tt))), tt) in
     let s : ℕ = item_size E in
     let r : Seen E = empty_region n in
-    qed 𝓛 (((‵ (flft κ q) ⊛ ‵ ftrue) ⊛ ‵ (owns (types_at ended.signature.params κs) a y.0.4))
+    qed 𝓛 (((‵ (flft κs.0 qs.0) ⊛ ‵ ftrue) ⊛ ‵ (owns (types_at ended.signature.params κs) a y.0.4))
     ∷ raw ((c κs a).requires tt) ∷ []) ∵
     move ! (1 ∷ []) $ first_fact ! (λ _. heard ! _ (λ no_bytes.
     split ! $ keep ! (0 ∷ []) $
