@@ -1,7 +1,7 @@
 -- A run of places is taken out of a block as an array of values, or as room for one, and put back. Assumes `Logic`.
 use Rattle.arraydeque_ring.{
   proofs.memory.{
-    Kit.{◌≡◌, refl, sym, ap, ◌∙◌, List, [], ◌∷◌, ◌++◌, map, ℕ, ◌+◌, ◌*◌, ◌≤◌, arith, length, take, drop_list},
+    Kit.{drop, ◌≡◌, refl, sym, ap, ◌∙◌, List, [], ◌∷◌, ◌++◌, map, ℕ, ◌+◌, ◌*◌, ◌≤◌, arith, length, take, drop_list},
     Kit.{take-append-drop, length-take, length-drop, Some, None, Ura, full_share, ent, sep, Fml, fsep, fat, froom},
     Kit.{ty_array, Logic, sem, ‵, ◌⊛◌, some, given, ◌$◌, ◌∵◌, !, qed, by, move, keep, use1, use2, pick, learn, split},
     Kit.{fsplit, fjoin, rewrite, done, part_at, El, R, el_x, elτ, Array, ◌<◌, get_or, set, drop-cons, part_out},
@@ -56,25 +56,6 @@ module _ (E : El) {M : Type 1} {𝓤 : Ura M} (𝓛 : Logic 𝓤) (b : ℕ) wher
         use2 𝓛 (‵ (On (i * s + o) (qs ++ rest))) (glue E 𝓛 b qs rest (i * s + o) (n * s + (i * s + o))
         (ap (λ k. k * s + (i * s + o)) (sym long))) $ move ! (1 ∷ 0 ∷ []) $
         by ! (glue E 𝓛 b (take i ps) (qs ++ rest) o (i * s + o) (at_i within))
-
-  -- one place is a run of one
-  module _ (o : ℕ) (ps : List (Place E)) (i : ℕ) (lt : i < length ps) where
-    pub place_out : ent 𝓤 (sem 𝓛 (On o ps))
-        (sep 𝓤 (sem 𝓛 (place_owned (R E) b (i * s + o) (get_or ps i None))) (sem 𝓛 (Around o ps i 1)))
-    place_out =
-        qed 𝓛 (‵ (On o ps) ∷ []) ∵ use1 𝓛 (‵ (On (i * s + o) (take 1 (drop_list i ps))) ⊛ ‵ (Around o ps i 1))
-        (run_out o ps i 1 (omega arith)) $ split ! $
-        rewrite ! 0 (λ qs. ‵ (On (i * s + o) qs)) (ap (take 1) (drop-cons ps i None lt)) refl $
-        fsplit ! $ keep ! (0 ∷ 2 ∷ []) $ done !
-
-    pub place_in : (p : Place E) → ent 𝓤 (sep 𝓤 (sem 𝓛 (place_owned (R E) b (i * s + o) p)) (sem 𝓛 (Around o ps i 1)))
-        (sem 𝓛 (On o (set ps i p)))
-    place_in p =
-        qed 𝓛 (‵ (place_owned (R E) b (i * s + o) p) ∷ ‵ (Around o ps i 1) ∷ []) ∵ nothing ! $
-        move ! (1 ∷ 0 ∷ []) $ fjoin ! $
-        use2 𝓛 (‵ (On o (take i ps ++ (p ∷ drop_list (i + 1) ps)))) (run_in o ps i 1 (omega arith) (p ∷ []) refl) $
-        rewrite ! 0 (λ qs. ‵ (On o qs)) (ap (λ k. take i ps ++ (p ∷ drop_list k ps)) {y = suc i}
-        (omega arith) ∙ sym (set_split ps i p lt)) refl $ done !
 
   -- a place is room, whether or not it holds a value, and a run of places is room for an array
   place_room : (p : Place E) (o : ℕ) → ent 𝓤 (sem 𝓛 (place_owned (R E) b o p)) (H.room (elτ E) b o)
@@ -142,3 +123,22 @@ module _ (E : El) {M : Type 1} {𝓤 : Ura M} {𝓛 : Logic 𝓤} {K : Type 0} {
   room_in within = let nones : List (Place E) = replicate n None in let at = i * item_size E + o in step (λ s.
       use1 𝓛 (‵ (Row E 𝓛 b at nones)) (of_room E 𝓛 b n at) $
       use2 𝓛 (‵ (Row E 𝓛 b o (run_emptied i n ps))) (run_in E 𝓛 b o ps i n within nones (length-replicate n None)) $ s)
+
+-- one place is a run of one
+module _ (E : El) {M : Type 1} {𝓤 : Ura M} {𝓛 : Logic 𝓤} {K : Type 0} {Γ : List (Item 𝓤)} {G : Goal 𝓤 𝓛.H} (t : K)
+    (b o : ℕ) (ps : List (Place E)) (i : ℕ) (lt : i < length ps) where
+  pub place_out : {p : Place E} → get_or ps i None ≡ p
+      → Step K 𝓛 (‵ (place_owned (R E) b (i * item_size E + o) p) ∷ ‵ (Around E 𝓛 b o ps i 1) ∷ Γ) G
+      (‵ (Row E 𝓛 b o ps) ∷ Γ) G
+  place_out is = let On = Row E 𝓛 b (i * item_size E + o) in step (λ s.
+      use1 𝓛 (‵ (On (take 1 (drop_list i ps))) ⊛ ‵ (Around E 𝓛 b o ps i 1)) (run_out E 𝓛 b o ps i 1 (omega arith)) $
+      split t $ rewrite t 0 (λ qs. ‵ (On qs)) (ap (take 1) (drop-cons ps i None lt) ∙ ap (λ q. q ∷ []) is) refl $
+      fsplit t $ move t (1 ∷ []) $ drop t $ s)
+
+  pub place_in : (p : Place E) → Step K 𝓛 (‵ (Row E 𝓛 b o (set ps i p)) ∷ Γ) G
+      (‵ (place_owned (R E) b (i * item_size E + o) p) ∷ ‵ (Around E 𝓛 b o ps i 1) ∷ Γ) G
+  place_in p = step (λ s. nothing t $ move t (1 ∷ 0 ∷ []) $ fjoin t $
+      use2 𝓛 (‵ (Row E 𝓛 b o (take i ps ++ (p ∷ drop_list (i + 1) ps))))
+      (run_in E 𝓛 b o ps i 1 (omega arith) (p ∷ []) refl) $
+      rewrite t 0 (λ qs. ‵ (Row E 𝓛 b o qs)) (ap (λ k. take i ps ++ (p ∷ drop_list k ps)) {y = suc i} (omega arith)
+      ∙ sym (set_split ps i p lt)) refl $ s)

@@ -1,13 +1,12 @@
 -- `read` empties a filled place. Assumes `Logic`.
 use Rattle.arraydeque_ring.proofs.{
   memory.{
-    Kit.{part_out, frame, refl, sym, [], ◌∷◌, ℕ, ◌+◌, ◌*◌, ◌<◌, arith, length, get_or, set, length-set, None},
-    Kit.{full_share, fat, froom, Fn, inst_fn, vptr, tables, ‵, ◌⊛◌, some, at_ret, ◌$◌, move, !, keep, use1, use2},
-    Kit.{split, join, pick, rewrite, fjoin3, feq_i, suffices, done, whole, sub, look_in, of_opd, bin, load, look, stop},
-    Kit.{fld, first, blocks, exec, returns, alloc_all, pass_all, free_all, look_at, get, through, sets, sets_last, env},
-    Kit.{heard, as_raw, after, says_two, El, R, args, el_x, elτ},
-    Regions.{scaled, Sr, Seen, near, places, slots_open, slots_close, item_size, Around, place_out, place_in},
-    Regions.{place_owned},
+    Kit.{part_out, frame, refl, sym, [], ◌∷◌, ℕ, ◌+◌, ◌*◌, ◌<◌, arith, length, set, length-set, None, full_share, fat},
+    Kit.{froom, Fn, inst_fn, vptr, tables, ‵, ◌⊛◌, some, at_ret, ◌$◌, move, !, keep, use1, split, join, pick, fjoin3},
+    Kit.{feq_i, suffices, done, whole, sub, look_in, of_opd, bin, load, look, stop, fld, first, blocks, exec, returns},
+    Kit.{alloc_all, pass_all, free_all, look_at, get, through, sets, sets_last, env, heard, as_raw, after, says_two},
+    Kit.{El, R, args, el_x, elτ},
+    Regions.{scaled, Sr, Seen, near, slots_open, slots_close, item_size, place_out, place_in},
     Methods.{first_fact, method, comes_back},
   },
   places.Held.filled_within,
@@ -31,9 +30,7 @@ read_spec 𝓤 𝓛 𝓜 𝓡 wired X L =
     slots_open E ! tt r rb ro (λ g b o n ok.
     let far = near E ok i (omega arith) in
     let new : Seen E = record r { places = set r.places i None } in
-    use1 𝓛 (‵ (place_owned (R E) b (i * s + o) (get_or r.places i None)) ⊛ ‵ (Around E 𝓛 b o r.places i 1))
-    (place_out E 𝓛 b o r.places i within) $ split ! $
-    rewrite ! 0 (λ p. ‵ (place_owned (R E) b (i * s + o) p)) asked.1 refl $
+    place_out E ! b o r.places i within asked.1 $
     use1 𝓛 (some (λ v. ‵ (fat full_share (elτ E) b (i * s + o) v) ⊛ ‵ (X.own_val x (v ∷ []))))
     (part_out 𝓛 (R E) refl full_share x b (i * s + o)) $ pick ! (λ v. split ! $ well_typed ! (λ v_fits.
     -- [the value; what x owns; the other places; the right; the words; the open borrow, in three; the other token]
@@ -47,7 +44,7 @@ read_spec 𝓤 𝓛 𝓜 𝓡 wired X L =
     sets ! (of_opd ! (get ! refl)) refl v_fits $
     use1 𝓛 (‵ (froom (elτ E) b (i * s + o))) (𝓛.laws.at_room (elτ E) b (i * s + o) v) $ as_raw ! (elτ E) b (i * s + o) $
     move ! (0 ∷ 2 ∷ 3 ∷ 4 ∷ 5 ∷ 6 ∷ 7 ∷ []) $
-    use2 𝓛 (‵ (places E new b o)) (place_in E 𝓛 b o r.places i within None) $
+    place_in E ! b o r.places i within None $
     slots_close E ! tt g r new b o n rb ro ok (sym (length-set r.places i None)) $ returns ! (look_at ! 0 refl) $
     free_all ! refl $
     suffices ! _ (ends v x new) $ feq_i ! _ (vptr rb ro ∷ []) _ refl $ fjoin3 ! $ frame ! $

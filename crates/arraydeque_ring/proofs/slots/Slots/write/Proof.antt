@@ -1,15 +1,14 @@
 -- `write` fills an empty place. Assumes `Logic`.
 use Rattle.arraydeque_ring.proofs.memory.{
-  Kit.{part_in, full_share, refl, sym, subst, [], ◌∷◌, ℕ, ◌+◌, ◌*◌, ◌<◌, arith, length, get_or, set, length-set, Some},
-  Kit.{None, ent, ftrue, flft, Fn, inst_fn, w64, Val, vunit, vint, vptr, WpFn, tables, owns, types_at, ‵, raw, ◌⊛◌},
-  Kit.{at_ret, ◌$◌, ◌∵◌, !, qed, move, keep, use1, use2, split, join, rewrite, fsplit, fsplit3, fjoin, fjoin3, feq_i},
-  Kit.{suffices, done, whole, sub, look_in, enter, of_opd, unit_lit, bin, load, init, stop, fld, assigns_last, first},
-  Kit.{blocks, exec, returns, alloc_all, pass_all, free_all, look_at, get, through, sets, env, yes, no, plain, usize},
-  Kit.{Vals, Stays, walk_of, stay_dropped, stay_ref, Goes-dropped, Goes-ref, ends_at, nothing, heard, as_written},
-  Kit.{after, says, El, R, args, el_x, elτ, lawful, one, proved_at},
+  Kit.{part_in, full_share, refl, sym, subst, [], ◌∷◌, ℕ, ◌+◌, ◌*◌, ◌<◌, arith, length, set, length-set, Some, ent},
+  Kit.{ftrue, flft, Fn, inst_fn, w64, Val, vunit, vint, vptr, WpFn, tables, owns, types_at, ‵, raw, ◌⊛◌, at_ret, ◌$◌},
+  Kit.{◌∵◌, !, qed, move, keep, use2, split, join, fsplit, fsplit3, fjoin, fjoin3, feq_i, suffices, done, whole, sub},
+  Kit.{look_in, enter, of_opd, unit_lit, bin, load, init, stop, fld, assigns_last, first, blocks, exec, returns},
+  Kit.{alloc_all, pass_all, free_all, look_at, get, through, sets, env, yes, no, plain, usize, Vals, Stays, walk_of},
+  Kit.{stay_dropped, stay_ref, Goes-dropped, Goes-ref, ends_at, nothing, heard, as_written, after, says, El, R, args},
+  Kit.{el_x, elτ, lawful, one, proved_at},
   Methods.first_fact,
-  Regions.{scaled, Sr, Seen, near, places, slots_open, slots_close, item_size, Around, place_out, place_in},
-  Regions.{place_owned},
+  Regions.{scaled, Sr, Seen, near, slots_open, slots_close, item_size, place_out, place_in, place_owned},
 }
 use Rattle.arraydeque_ring.specs.contracts.slots.Slots.write as f
 use Rattle.arraydeque_ring.proofs.slots.Slots.write.Statement as stated
@@ -50,9 +49,7 @@ write_spec 𝓤 𝓛 𝓜 𝓡 wired X L =
     slots_open E ! tt r rb ro (λ g b o n ok.
     let far = near E ok i (omega arith) in
     let new : Seen E = record r { places = set r.places i (Some x) } in
-    use1 𝓛 (‵ (place_owned (R E) b (i * s + o) (get_or r.places i None)) ⊛ ‵ (Around E 𝓛 b o r.places i 1))
-    (place_out E 𝓛 b o r.places i within) $ split ! $
-    rewrite ! 0 (λ p. ‵ (place_owned (R E) b (i * s + o) p)) asked.1 refl $
+    place_out E ! b o r.places i within asked.1 $
     as_written ! (elτ E) b (i * s + o) $
     -- [the room; the other places; the right; the words; the open borrow, in three; what x owns; the other token]
     first ! $ blocks ! $
@@ -65,7 +62,7 @@ write_spec 𝓤 𝓛 𝓜 𝓡 wired X L =
     sets ! (of_opd ! (unit_lit !)) refl (tt, tt) $
     move ! (0 ∷ 7 ∷ []) $ use2 𝓛 (‵ (place_owned (R E) b (i * s + o) (Some x)))
     (part_in 𝓛 (R E) refl full_share x b (i * s + o) v) $
-    use2 𝓛 (‵ (places E new b o)) (place_in E 𝓛 b o r.places i within (Some x)) $
+    place_in E ! b o r.places i within (Some x) $
     slots_close E ! tt g r new b o n rb ro ok (sym (length-set r.places i (Some x))) $
     returns ! (look_at ! 0 refl) $ free_all ! refl $
     suffices ! _ (ends_at 𝓛 ended stayed c y vunit tt (new, _) _) $ says ! refl $
