@@ -1,14 +1,14 @@
 -- `with_memory` cuts a new block into empty places, and keeps the right to free it. Assumes `Logic`.
 use Rattle.arraydeque_ring.proofs.memory.{
   Kit.{true, false, ◌≡◌, refl, [], ◌∷◌, ℕ, ◌*◌, ◌<◌, ◌^◌, arith, lit<, Ok, Err, ftrue, flft, Fn, Body, inst_fn, named},
-  Kit.{w64, ty_array, Val, vstruct, vcons, vnil, Env, Wp, after_seq, at_return, tables, After, ‵, raw, ◌⊛◌, given},
-  Kit.{at_ret, any_q, ◌$◌, ◌∵◌, !, qed, move, keep, drop, use1, use2, split, join, learn, frame, fsplit, fjoin},
-  Kit.{suffices, done, whole, agg, live, vrt, in_variant, enter, of_opd, lit, align_word, stop, fld, no_more, and_then},
-  Kit.{first, switches_on, exec, returns, alloc_all, pass_all, free_all, look_at, get, get_in, get_tag, sets},
-  Kit.{sets_last, lands_as, env, yes, RattleType, owns, Is, layout, uint_vals, uint_Tells, shr_vals, shr_Tells, usize},
-  Kit.{RefOf, plain, types_at, heard, nothing, owned, calls_at, framed, Stays, walk_of, says, stay_dropped},
-  Kit.{Goes-dropped, ends_at, heap_val, heap_Tells, as_written, Good, first_Good, after, head, arm_body, El, args, elτ},
-  Kit.{proved, Struct, Global},
+  Kit.{w64, ty_array, Val, vstruct, vcons, vnil, Env, after_seq, at_return, tables, After, ‵, raw, ◌⊛◌, given, at_ret},
+  Kit.{any_q, ◌$◌, ◌∵◌, !, qed, move, keep, drop, use1, use2, split, join, learn, frame, fsplit, fjoin, suffices, done},
+  Kit.{whole, agg, live, vrt, in_variant, enter, of_opd, lit, align_word, stop, fld, no_more, and_then, first},
+  Kit.{switches_on, exec, returns, alloc_all, pass_all, free_all, look_at, get, get_in, get_tag, sets, sets_last},
+  Kit.{lands_as, env, yes, RattleType, owns, Is, layout, uint_vals, uint_Tells, shr_vals, shr_Tells, usize, RefOf},
+  Kit.{plain, types_at, heard, nothing, owned, calls_at, framed, Stays, walk_of, says, stay_dropped, Goes-dropped},
+  Kit.{ends_at, heap_val, heap_Tells, as_written, Good, first_Good, after, head, arm_body, El, args, elτ, proved},
+  Kit.{Struct, Global},
   Blocks.{scaled, right_at_start},
   Heap.{Allocates, to_allocate, allocate_goes, allocated},
   Methods.first_fact,
@@ -57,8 +57,7 @@ with_memory_spec 𝓤 𝓛 𝓜 𝓡 wired X L =
     alloc_all ! (λ l. pass_all ! refl ((tt, tt), (heap_Good, ((tt, record { fits = n_fits }), tt))) $
     let En : Env 𝓤 𝓛.H = env here.locals l in
     let arms : Body = head (after 2 here.body) in
-    let Then : After 𝓤 𝓛.H = any_q (after_seq 𝓤 𝓛.H
-    (Wp 𝓤 𝓛.H 𝓣.C 𝓣.Λ En (after 3 here.body) (at_return 𝓤 𝓛.H En (W.post y))) (at_return 𝓤 𝓛.H En (W.post y))) in
+    let Then : After 𝓤 𝓛.H = any_q (after_seq 𝓤 𝓛.H _ (at_return 𝓤 𝓛.H En (W.post y))) in
     let Asks = Allocates 𝓛 𝓜.mem 𝓡.returns in
     let z : Asks.Ghost = to_allocate 𝓛 𝓜.mem 𝓡.returns E n κ q (rb, ro) h in
     sets ! (scaled ! (get ! refl) bytes) refl (tt, record { fits = bytes }) $
