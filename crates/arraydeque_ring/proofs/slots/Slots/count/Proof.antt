@@ -2,11 +2,11 @@
 use Rattle.arraydeque_ring.{
   proofs.{
     memory.{
-      Kit.{refl, [], ◌∷◌, ℕ, ftrue, flft, Fn, inst_fn, named, w64, vunit, vptr, tables, owns, types_at, ‵, raw, ◌⊛◌},
-      Kit.{◌$◌, ◌∵◌, !, qed, move, keep, split, join, fsplit3, fjoin, fjoin3, feq_i, suffices, done, enter, of_opd},
-      Kit.{unit_lit, returns, alloc_all, pass_all, free_all, look_at, sets, yes, plain, usize, uint_vals, uint_Tells},
-      Kit.{Stays, walk_of, says, stay_dropped, stay_ref, Goes-dropped, Goes-ref, ends_at, nothing, El, args, proved},
-      Kit.{mut_vals, mut_Tells},
+      Kit.{refl, [], ◌∷◌, ℕ, ftrue, flft, Fn, inst_fn, named, w64, vunit, vptr, owns, types_at, ‵, raw, ◌⊛◌, ◌$◌, ◌∵◌},
+      Kit.{!, qed, move, keep, split, join, fsplit3, fjoin, fjoin3, feq_i, suffices, done, enter, of_opd, unit_lit},
+      Kit.{returns, alloc_all, pass_all, free_all, look_at, sets, yes, plain, usize, uint_vals, uint_Tells, Stays},
+      Kit.{walk_of, says, stay_dropped, stay_ref, Goes-dropped, Goes-ref, ends_at, nothing, El, args, proved, mut_vals},
+      Kit.{mut_Tells},
       Regions.{Sr, Seen, slots_open, slots_close},
     },
     slots.StepKind.TheLaws.{the_laws, the_row_laws},
@@ -24,7 +24,7 @@ count_spec 𝓤 𝓛 𝓜 𝓡 wired X L =
     let E : El = record { row = X; laws = L } in let here : Fn = inst_fn (args E) code.function in
     let ended = f.ended X in let stayed : Stays ended.signature.params ended.kept =
     (stay_ref (0 ∷ []) tt (plain (λ _. Sr E)), (stay_dropped _ yes, (stay_dropped _ yes, tt))) in
-    let c = f.clauses X 𝓛 𝓜.mem 𝓡.returns in let W = walk_of 𝓛 ended stayed c in let 𝓣 = tables 𝓤 𝓛.H 𝓜 𝓡 𝓡.env in
+    let c = f.clauses X 𝓛 𝓜.mem 𝓡.returns in let W = walk_of 𝓛 ended stayed c in
     let kind_vals = low_vals kind.enum the_laws in
     proved 𝓛 ended stayed c 𝓜 𝓡 (
       Goes-ref 𝓛 2 0 tt (plain (λ _. Sr E)),

@@ -1,14 +1,13 @@
 -- `without_memory` makes places that take no bytes out of nothing. Assumes `Logic`.
 use Rattle.arraydeque_ring.proofs.memory.{
-  Kit.{arith, refl, [], ◌∷◌, ℕ, ◌<◌, ◌^◌, ftrue, flft, Fn, inst_fn, w64, tables, owns, types_at, ‵, raw, ◌⊛◌, ◌$◌, ◌∵◌},
-  Kit.{!, qed, move, keep, use0, split, fjoin, suffices, done, agg, enter, addr, from, stop, no_more, and_then},
-  Kit.{returns, alloc_all, pass_all, free_all, look_at, get, sets, yes, plain, usize, uint_vals, uint_Tells, heap_val},
+  Kit.{arith, refl, [], ◌∷◌, ℕ, ◌<◌, ◌^◌, ftrue, flft, Fn, inst_fn, w64, owns, types_at, ‵, raw, ◌⊛◌, ◌$◌, ◌∵◌, !, qed},
+  Kit.{move, keep, use0, split, fjoin, suffices, done, agg, enter, addr, from, stop, no_more, and_then, returns},
+  Kit.{alloc_all, pass_all, free_all, look_at, get, sets, yes, plain, usize, uint_vals, uint_Tells, heap_val},
   Kit.{heap_Tells, Stays, walk_of, says, stay_dropped, Goes-dropped, ends_at, nothing, heard, block_ptr, El, args},
   Kit.{proved, Global},
   Blocks.no_right,
   Methods.first_fact,
-  Regions.{Seen, Fits-empty, places, right, heap_Good, slots_val, slots_Good, slots_made, item_size, of_nothing},
-  Regions.{empty_region},
+  Regions.{Seen, Fits-empty, places, right, heap_Good, slots_val, slots_Good, slots_made, of_nothing, empty_region},
 }
 use Rattle.std.specs.contracts.alloc.Global as heap
 use Rattle.arraydeque_ring.specs.contracts.slots.Slots.without_memory as f
@@ -20,7 +19,7 @@ without_memory_spec 𝓤 𝓛 𝓜 𝓡 wired X L =
     let E : El = record { row = X; laws = L } in let here : Fn = inst_fn (args E) code.function in
     let ended = f.ended X in
     let stayed : Stays ended.signature.params ended.kept = (stay_dropped _ yes, (stay_dropped _ yes, tt)) in
-    let c = f.clauses X 𝓛 𝓜.mem 𝓡.returns in let W = walk_of 𝓛 ended stayed c in let 𝓣 = tables 𝓤 𝓛.H 𝓜 𝓡 𝓡.env in
+    let c = f.clauses X 𝓛 𝓜.mem 𝓡.returns in let W = walk_of 𝓛 ended stayed c in
     proved 𝓛 ended stayed c 𝓜 𝓡 (
       Goes-dropped 𝓛 1 (plain (λ _. heap.the_row)) yes (λ κs x w. refl),
       (Goes-dropped 𝓛 1 (plain (λ _. usize)) yes (λ κs x w. refl), tt),
@@ -30,7 +29,6 @@ without_memory_spec 𝓤 𝓛 𝓜 𝓡 wired X L =
     (λ κs qs bounds a _ are.
     let g : Global = a.0 in let n : ℕ = a.1.0 in let n_fits : n < 2 ^ 64 = are.1.0.1 in
     let y : W.Ghost = ((κs, qs, bounds, a, (heap_val ∷ [], (uint_vals w64 n, tt))), tt) in
-    let s : ℕ = item_size E in
     let r : Seen E = empty_region n in
     qed 𝓛 (((‵ (flft κs.0 qs.0) ⊛ ‵ ftrue) ⊛ ‵ (owns (types_at ended.signature.params κs) a y.0.4))
     ∷ raw ((c κs a).requires tt) ∷ []) ∵
