@@ -146,15 +146,13 @@ module _ (m n : ℕ) (S : RattleType) {M : Type 1} {𝓤 : Ura M} (𝓛 : Logic 
         proved 𝓛 Method stayed c 𝓜 𝓡 (fate.goes, all_go m 𝓛 n) k e closed (λ κs. (mut_vals, spelled m κs n))
         (λ κs. (mut_Tells (named 0) κs.0 S, told m κs n)) (λ κs qs bounds a g are.
         let vss = values m κs n a in let y : W.Ghost = ((κs, qs, bounds, a, vss), g) in
-        let ends = λ (v : Val) (r : Res Method.signature κs) (w : Last (((Self m S).row κs).exit fate.kept) a.0).
+        qed 𝓛 (raw (on_entry 𝓛 Method.signature κs qs a vss) ∷ raw ((c κs a).requires g) ∷ []) ∵
+        enter ! _ _ _ _ _ $ walk κs qs bounds a g (typed m κs n a.1 are.1) (W.post y) (λ v r w.
         qed 𝓛 (‵ (fate.stay.has κs a.0 w vss.0) ∷ ‵ ((type_at res κs).own_val r (v ∷ [])) ∷ raw (toks 𝓛 (suc m) κs qs)
-        ∷ raw ((c κs a).ensures g r (at_exit Method κs a (w, last m κs n a.1))) ∷ []) ∵
-        suffices ! (W.post y v) (id⊢ 𝓤 _) $ suffices ! _
+        ∷ raw ((c κs a).ensures g r (at_exit Method κs a (w, last m κs n a.1))) ∷ []) ∵ suffices ! _
         (ends_at 𝓛 Method stayed c y v r (w, last m κs n a.1) (fate.fit κs a.0 w, all_fit m κs n a.1)) $
         use0 𝓛 (‵ (Left m κs n a.1 vss.1)) (nothing_left m κs 𝓛 n a.1 vss.1) $ move ! (1 ∷ 0 ∷ []) $ fjoin ! $
-        join ! $ move ! (1 ∷ []) $ join ! $ done ! in
-        qed 𝓛 (raw (on_entry 𝓛 Method.signature κs qs a vss) ∷ raw ((c κs a).requires g) ∷ []) ∵
-        enter ! 𝓣.C 𝓣.Λ e _ (W.post y) $ walk κs qs bounds a g (typed m κs n a.1 are.1) (W.post y) ends)
+        join ! $ move ! (1 ∷ []) $ join ! $ done !))
 
     -- [what is required; obs; the borrow; its token; the others]
     pub method : Walk (λ κs qs a g. raw ((c κs a).requires g) ∷ ‵ (fobs a.0.ghost_name (S.coded.code a.0.now))
