@@ -5,7 +5,7 @@ pub use mathlib.Core.List.{List, [], ◌∷◌, ◌++◌, map}
 pub use Prim.Native.Nat.{ℕ, zero, suc, ◌+◌, ◌*◌, ◌<◌, ◌≤◌, ◌^◌}
 pub use native.Mathlib.Omega.{arith}
 pub use native.Mathlib.Nat.{zero-mul, suc-mul}
-pub use lib.Dec.{T, lit<}
+pub use lib.Dec.{lit<}
 pub use lib.{
   ListN.{length, take, drop as drop_list, set, get_or, replicate, take-append-drop, length-take, length-drop},
   ListN.{length-map, length-set, length-replicate},
@@ -25,12 +25,12 @@ pub use base.{
   Fml.{Lft, Share, GName, Fml, ftrue, fsep, fat, froom, flft, fobs, fauth, fbor, fobor, fhide, fdead, fex, flent, fres},
   Fml.{fupd, fwand},
 }
-pub use mir.Syntax.{Fn, Body, Ty, named, w64, ty_array, ty_ptr, ty_unit, Args, a_number, a_type}
+pub use mir.Syntax.{Fn, Body, Ty, named, w64, ty_array, Args, a_number, a_type}
 pub use mir.MapTy.{inst_fn}
-pub use mir.Val.{Val, vunit, vint, vptr, vstruct, vcons, vnil, of_list, has_ty, WT}
+pub use mir.Val.{Val, vunit, vint, vptr, vstruct, vcons, vnil, of_list}
 pub use prog.Memory.{Memory, size, align, capped}
 pub use prog.Routine.{Routine}
-pub use prog.Capped.{capped_is, capped_fits}
+pub use prog.Capped.{capped_fits}
 pub use prog.Wp.{Env, WpFn, Wp, after_seq, at_return}
 pub use contract.BorrowLft.{◌⊑◌}
 pub use contract.Monad.{Fun, fact, fact_i, fact_use}
@@ -39,9 +39,9 @@ pub use types.Logic.{Logic, sem}
 pub use types.SemTy.{Body as Borrowed, SemTy, cells}
 pub use types.{
   Kit.{Goal, Soaks, Step, step, Seq, Item, Post as After, ‵, raw, ◌⊛◌, some, given, later, at_ret, any_q, ◌$◌, ◌∵◌, ! },
-  Kit.{qed, by, move, keep, drop, use0, use1, use2, use3, split, join, pick, learn, check, show, frame, fsplit},
+  Kit.{qed, by, move, keep, drop, use0, use1, use2, use3, split, join, pick, learn, show, frame, fsplit},
   Kit.{fsplit3, fjoin, fjoin3, fpick, fpack, feq_i, feq_l, flt_i, flt_l, rewrite, suffices, await, updating},
-  Kit.{now as at_once, done, assume, each, group, split3},
+  Kit.{done, assume, each, group, split3},
 }
 pub use types.Part.{whole, sub, look_in, agg}
 pub use types.Match.{live, vrt, in_variant}
@@ -57,13 +57,13 @@ pub use denote.Exit.{yes, no}
 pub use denote.RattleType.{RattleType, Valss, owns}
 pub use denote.Laws.{Is, shows}
 pub use denote.Param.{param, layout, layouts, number}
-pub use denote.Param.Laws.{Laws, param_laws}
+pub use denote.Param.Laws.{param_laws}
 unfoldable pub use denote.Memory.{part_of}
 pub use denote.Memory.{part_at, cell_at, hidden_shr, mem, lone}
 pub use denote.Plain.{uint_vals, uint_Tells}
 pub use denote.RawPtr.{Ptr, RawPtr, block_ptr, null_ptr, ptr_val, in_a_block}
 pub use denote.Ref.{shr_vals, shr_Tells, MutBor, NamedLft, mut_Tells, mut_vals}
-pub use denote.Builtin.{usize, unit, RefOf}
+pub use denote.Builtin.{usize, RefOf}
 pub use denote.Signature.{plain, types_at, named_lft}
 pub use denote.Steps.{heard, nothing, owned, opens, closes, peeks, looks, shuts, only}
 pub use denote.Triple.Call.{calls_at, calls_at_last}

@@ -1,11 +1,11 @@
--- A method of a `&mut` and n words, with m lifetimes besides that of the `&mut`: how a walk of it begins and ends.
--- Assumes `Logic`.
+-- How a walk begins and ends: what is required is heard; and all of it for a method of a `&mut` and n words, with m
+-- lifetimes besides that of the `&mut`. Assumes `Logic`.
 use Rattle.arraydeque_ring.proofs.memory.{
   Kit.{stay_ref, Goes-ref, Fml, MutBor, List, [], ◌∷◌, ℕ, zero, refl, suc, Ura, SProp, ent, emp, id⊢, Logic, Fn, Val},
   Kit.{named, w64, sem, sep, ‵, raw, ◌⊛◌, at_ret, ◌$◌, ◌∵◌, !, qed, move, keep, use0, split, join, fsplit, fsplit3},
   Kit.{fjoin, suffices, done, enter, flft, fobs, fbor, Borrowed, mem, RattleType, owns, types_at, plain, usize},
   Kit.{uint_vals, uint_Tells, mut_vals, mut_Tells, yes, no, nothing, Stays, stay_dropped, Goes-dropped, Goes-spent_ref},
-  Kit.{ends_at, tables, proved, walk_of, use1, Item},
+  Kit.{ends_at, tables, proved, walk_of, use1, Item, Goal, Seq, fact, heard},
 }
 use prog.{Model.Model, Wp.Closed}
 use mir.Syntax.{Callee}
@@ -24,6 +24,12 @@ use denote.{
     Walked.{Stay, Goes, AllGo, fits_of, has_of},
   },
 }
+
+module _ {M : Type 1} {𝓤 : Ura M} {𝓛 : Logic 𝓤} {K : Type 0} {Γ : List (Item 𝓤)} {G : Goal 𝓤 𝓛.H} where
+  -- of several facts, as of what is required, the first is heard
+  pub first_fact : K → {φ : Type 0} {P : SProp 𝓤} → (φ → Seq K 𝓛 (raw P ∷ Γ) G)
+      → Seq K 𝓛 (raw (sep 𝓤 (fact 𝓤 φ) P) ∷ Γ) G
+  first_fact t {φ} {P} then = use1 𝓛 (raw (fact 𝓤 φ) ⊛ raw P) (id⊢ 𝓤 _) $ split t $ heard t φ then
 
 module _ (m : ℕ) where
   abbrev Self : RattleType → Slot (suc m)
@@ -140,15 +146,13 @@ module _ (m n : ℕ) (S : RattleType) {M : Type 1} {𝓤 : Ura M} (𝓛 : Logic 
         proved 𝓛 Method stayed c 𝓜 𝓡 (fate.goes, all_go m 𝓛 n) k e closed (λ κs. (mut_vals, spelled m κs n))
         (λ κs. (mut_Tells (named 0) κs.0 S, told m κs n)) (λ κs qs bounds a g are.
         let vss = values m κs n a in let y : W.Ghost = ((κs, qs, bounds, a, vss), g) in
-        let ends = λ (v : Val) (r : Res Method.signature κs) (w : Last (((Self m S).row κs).exit fate.kept) a.0).
+        qed 𝓛 (raw (on_entry 𝓛 Method.signature κs qs a vss) ∷ raw ((c κs a).requires g) ∷ []) ∵
+        enter ! _ _ _ _ _ $ walk κs qs bounds a g (typed m κs n a.1 are.1) (W.post y) (λ v r w.
         qed 𝓛 (‵ (fate.stay.has κs a.0 w vss.0) ∷ ‵ ((type_at res κs).own_val r (v ∷ [])) ∷ raw (toks 𝓛 (suc m) κs qs)
-        ∷ raw ((c κs a).ensures g r (at_exit Method κs a (w, last m κs n a.1))) ∷ []) ∵
-        suffices ! (W.post y v) (id⊢ 𝓤 _) $ suffices ! _
+        ∷ raw ((c κs a).ensures g r (at_exit Method κs a (w, last m κs n a.1))) ∷ []) ∵ suffices ! _
         (ends_at 𝓛 Method stayed c y v r (w, last m κs n a.1) (fate.fit κs a.0 w, all_fit m κs n a.1)) $
         use0 𝓛 (‵ (Left m κs n a.1 vss.1)) (nothing_left m κs 𝓛 n a.1 vss.1) $ move ! (1 ∷ 0 ∷ []) $ fjoin ! $
-        join ! $ move ! (1 ∷ []) $ join ! $ done ! in
-        qed 𝓛 (raw (on_entry 𝓛 Method.signature κs qs a vss) ∷ raw ((c κs a).requires g) ∷ []) ∵
-        enter ! 𝓣.C 𝓣.Λ e _ (W.post y) $ walk κs qs bounds a g (typed m κs n a.1 are.1) (W.post y) ends)
+        join ! $ move ! (1 ∷ []) $ join ! $ done !))
 
     -- [what is required; obs; the borrow; its token; the others]
     pub method : Walk (λ κs qs a g. raw ((c κs a).requires g) ∷ ‵ (fobs a.0.ghost_name (S.coded.code a.0.now))

@@ -1,12 +1,10 @@
 -- The places of a block, taken apart and put together again. Assumes `Logic`.
 use Rattle.arraydeque_ring.{
-  proofs.memory.Kit.{◌≡◌, refl, sym, ap, subst, ◌∙◌, List, [], ◌∷◌, ◌++◌, map, ℕ, zero, suc, ◌+◌, ◌*◌, ◌≤◌, arith},
-  proofs.memory.Kit.{zero-mul, suc-mul, length, drop_list, replicate, take-append-drop, Option, Some, None, type_size},
-  proofs.memory.Kit.{Ura, full_share, SProp, ent, sep, emp, ex, guard, wand, via, id⊢, snd∗, mono_r, Lft, Fml, fat},
-  proofs.memory.Kit.{froom, ty_array, Val, align, Logic, sem, ‵, raw, ◌⊛◌, some, ◌$◌, ◌∵◌, !, qed, by, move, keep},
-  proofs.memory.Kit.{drop, use0, use1, use2, pick, split, check, show, frame, fsplit, fjoin, rewrite, done, RattleType},
-  proofs.memory.Kit.{Is, shows, param, layout, Laws, param_laws, part_at, nothing, peeks, Good, El, R, el_x, elτ},
-  proofs.memory.Kit.{part_in, part_out, elements_shared},
+  proofs.memory.Kit.{◌≡◌, refl, sym, ap, ◌∙◌, List, [], ◌∷◌, ◌++◌, map, ℕ, zero, suc, ◌+◌, ◌*◌, arith, zero-mul},
+  proofs.memory.Kit.{suc-mul, length, drop_list, replicate, take-append-drop, Option, Some, None, type_size, Ura, ent},
+  proofs.memory.Kit.{sep, emp, wand, via, id⊢, snd∗, mono_r, Lft, Fml, froom, ty_array, align, Logic, sem, ‵, raw, ◌⊛◌},
+  proofs.memory.Kit.{◌$◌, ◌∵◌, !, qed, by, move, keep, drop, use0, use1, split, frame, fsplit, fjoin, rewrite, done},
+  proofs.memory.Kit.{nothing, El, R, el_x, elτ, elements_shared},
   specs.{Ownership.{place_owned, places_owned, place_lent, places_lent}, Places.HoldsRun},
 }
 use prog.Align.{dv_self}
@@ -18,25 +16,6 @@ module _ (E : El) where
 
   abbrev pub Place : Type 0
   Place = Option (el_x E)
-
--- a value in a block is one machine value of its type, with what the value owns
-module _ (i : ℕ) (Y : RattleType) (L : Laws Y) {M : Type 1} {𝓤 : Ura M} (𝓛 : Logic 𝓤) where
-  open 𝓛 use {H}
-
-  pub value_out : (x : Y.Denot) (b o : ℕ) → ent 𝓤 (sem 𝓛 (part_at (param i Y) full_share x b o)) (ex 𝓤 (λ (v : Val).
-      guard 𝓤 (Good (layout Y) v) (sep 𝓤 (H.at full_share (layout Y) b o v) (sem 𝓛 (Y.own_val x (v ∷ []))))))
-  value_out x b o =
-      let Out : Val → SProp 𝓤 =
-      λ v. guard 𝓤 (Good (layout Y) v) (sep 𝓤 (H.at full_share (layout Y) b o v) (sem 𝓛 (Y.own_val x (v ∷ [])))) in
-      qed 𝓛 (‵ (part_at (param i Y) full_share x b o) ∷ []) ∵
-      use1 𝓛 (some (λ (v : Val). ‵ (fat full_share (layout Y) b o v) ⊛ ‵ (Y.own_val x (v ∷ []))))
-      (part_out 𝓛 (param i Y) refl full_share x b o) $ pick ! (λ v. split ! $ move ! (1 ∷ []) $
-      peeks ! (param i Y) (Is (param i Y)) (shows 𝓛 (param i Y)) x (v ∷ []) (λ is. show ! Out v $
-      check ! (((param_laws i Y L).lawful 𝓛).typed x (v ∷ []) is).0 $ move ! (1 ∷ 0 ∷ []) $ done !))
-
-  pub value_in : (x : Y.Denot) (b o : ℕ) (v : Val) → ent 𝓤 (sep 𝓤 (H.at full_share (layout Y) b o v)
-      (sem 𝓛 (Y.own_val x (v ∷ [])))) (sem 𝓛 (part_at (param i Y) full_share x b o))
-  value_in x b o v = part_in 𝓛 (param i Y) refl full_share x b o v
 
 module _ (E : El) {M : Type 1} {𝓤 : Ura M} (𝓛 : Logic 𝓤) (b : ℕ) where
   open 𝓛 use {H}
@@ -51,38 +30,27 @@ module _ (E : El) {M : Type 1} {𝓤 : Ura M} (𝓛 : Logic 𝓤) (b : ℕ) wher
   pub cut : (ps qs : List (Place E)) (o at : ℕ) → at ≡ length ps * s + o
       → ent 𝓤 (sem 𝓛 (Row o (ps ++ qs))) (sep 𝓤 (sem 𝓛 (Row o ps)) (sem 𝓛 (Row at qs)))
   cut [] qs o at e = qed 𝓛 (‵ (Row o qs) ∷ []) ∵
-      rewrite ! 0 (λ (k : ℕ). ‵ (Row k qs)) {x = at} (omega (arith, zero-mul s)) refl $ nothing ! $ done !
+      rewrite ! 0 (λ k. ‵ (Row k qs)) {x = at} (omega (arith, zero-mul s)) refl $ nothing ! $ done !
   cut (p ∷ ps) qs o at e =
-      let on : at ≡ length ps * s + (o + s) = let all : at ≡ suc (length ps) * s + o = e in
-      omega (arith, suc-mul (length ps) s) in
       qed 𝓛 (‵ (Row o (p ∷ ps ++ qs)) ∷ []) ∵ fsplit ! $ move ! (1 ∷ []) $
-      use1 𝓛 (‵ (Row (o + s) ps) ⊛ ‵ (Row at qs)) (cut ps qs (o + s) at on) $ split ! $ move ! (2 ∷ 0 ∷ []) $
-      fjoin ! $ done !
+      use1 𝓛 (‵ (Row (o + s) ps) ⊛ ‵ (Row at qs)) (cut ps qs (o + s) at (omega (arith, suc-mul (length ps) s, e))) $
+      split ! $ move ! (2 ∷ 0 ∷ []) $ fjoin ! $ done !
 
   pub glue : (ps qs : List (Place E)) (o at : ℕ) → at ≡ length ps * s + o
       → ent 𝓤 (sep 𝓤 (sem 𝓛 (Row o ps)) (sem 𝓛 (Row at qs))) (sem 𝓛 (Row o (ps ++ qs)))
   glue [] qs o at e = qed 𝓛 (‵ (Row o []) ∷ ‵ (Row at qs) ∷ []) ∵ drop ! $
-      rewrite ! 0 (λ (k : ℕ). ‵ (Row k qs)) {x = o} (omega (arith, zero-mul s)) refl $ done !
+      rewrite ! 0 (λ k. ‵ (Row k qs)) {x = o} (omega (arith, zero-mul s)) refl $ done !
   glue (p ∷ ps) qs o at e =
-      let on : at ≡ length ps * s + (o + s) = let all : at ≡ suc (length ps) * s + o = e in
-      omega (arith, suc-mul (length ps) s) in
-      qed 𝓛 (‵ (Row o (p ∷ ps)) ∷ ‵ (Row at qs) ∷ []) ∵ fsplit ! $ move ! (1 ∷ 2 ∷ []) $
-      use2 𝓛 (‵ (Row (o + s) (ps ++ qs))) (glue ps qs (o + s) at on) $ move ! (1 ∷ 0 ∷ []) $ fjoin ! $ done !
+      qed 𝓛 (‵ (Row o (p ∷ ps)) ∷ ‵ (Row at qs) ∷ []) ∵ fsplit ! $ frame ! $
+      by ! (glue ps qs (o + s) at (omega (arith, suc-mul (length ps) s, e)))
 
-  -- the room of a block is that many empty places, and back
+  -- the room of a block is that many empty places
   pub of_room : (n o : ℕ) → ent 𝓤 (H.room (ty_array (elτ E) n) b o) (sem 𝓛 (Row o (replicate n None)))
   of_room zero o = qed 𝓛 (‵ (froom (ty_array (elτ E) 0) b o) ∷ []) ∵ keep ! [] $ done !
   of_room (suc n) o = qed 𝓛 (‵ (froom (ty_array (elτ E) (suc n)) b o) ∷ []) ∵
       use1 𝓛 (‵ (froom (elτ E) b o) ⊛ ‵ (froom (ty_array (elτ E) n) b (o + s))) (𝓛.laws.room_uncons (elτ E) n b o) $
       split ! $
       use1 𝓛 (‵ (place_owned (R E) b o None)) (𝓛.laws.room-raw (elτ E) b o) $ frame ! $ by ! (of_room n (o + s))
-
-  pub to_room : (n o : ℕ) → ent 𝓤 (sem 𝓛 (Row o (replicate n None))) (H.room (ty_array (elτ E) n) b o)
-  to_room zero o = 𝓛.laws.room_nil (elτ E) b o
-  to_room (suc n) o = qed 𝓛 (‵ (place_owned (R E) b o None) ∷ ‵ (Row (o + s) (replicate n None)) ∷ []) ∵
-      use1 𝓛 (‵ (froom (elτ E) b o)) (𝓛.laws.raw-room (elτ E) b o) $ move ! (1 ∷ []) $
-      use1 𝓛 (‵ (froom (ty_array (elτ E) n) b (o + s))) (to_room n (o + s)) $ move ! (1 ∷ []) $
-      by ! (𝓛.laws.room_cons (elτ E) n b o)
 
   -- places that take no bytes need no block
   pub of_nothing : (n o : ℕ) → n * s ≡ 0 → ent 𝓤 (emp 𝓤) (sem 𝓛 (Row o (replicate n None)))
@@ -97,14 +65,14 @@ module _ (E : El) {M : Type 1} {𝓤 : Ura M} (𝓛 : Logic 𝓤) (b : ℕ) wher
     abbrev Shown : ℕ → List (Place E) → Fml
     Shown o ps = places_lent (R E) b o ps κ
 
-    seen_from : (ps : List (Place E)) (i o at : ℕ) → i ≤ length ps → at ≡ i * s + o
+    seen_from : (ps : List (Place E)) (i o at : ℕ) → at ≡ i * s + o
         → ent 𝓤 (sem 𝓛 (Shown o ps)) (sem 𝓛 (Shown at (drop_list i ps)))
-    seen_from ps zero o at le e = let same : o ≡ at = omega (arith, zero-mul s) in
-        subst (λ k. ent 𝓤 (sem 𝓛 (Shown o ps)) (sem 𝓛 (Shown k ps))) same (id⊢ 𝓤 (sem 𝓛 (Shown o ps)))
-    seen_from [] (suc i) o at le e = absurd (omega arith)
-    seen_from (p ∷ ps) (suc i) o at le e =
+    seen_from ps zero o at e = let same : at ≡ o = omega (arith, zero-mul s) in
+        rw same (id⊢ 𝓤 (sem 𝓛 (Shown o ps)))
+    seen_from [] (suc i) o at e = id⊢ 𝓤 (sem 𝓛 (Shown o []))
+    seen_from (p ∷ ps) (suc i) o at e =
         via 𝓤 (sem 𝓛 (Shown (o + s) ps)) (snd∗ 𝓤 (sem 𝓛 (place_lent (R E) b o p κ)) (sem 𝓛 (Shown (o + s) ps)))
-        (seen_from ps i (o + s) at (omega arith) (omega (arith, suc-mul i s)))
+        (seen_from ps i (o + s) at (omega (arith, suc-mul i s)))
 
     seen_values : (xs : List (el_x E)) (rest : List (Place E)) (o : ℕ)
         → ent 𝓤 (sem 𝓛 (Shown o (map Some xs ++ rest))) (sem 𝓛 (elements_shared (R E) xs b o κ))
@@ -112,11 +80,11 @@ module _ (E : El) {M : Type 1} {𝓤 : Ura M} (𝓛 : Logic 𝓤) (b : ℕ) wher
     seen_values (x ∷ xs) rest o = mono_r 𝓤 (sem 𝓛 (place_lent (R E) b o (Some x) κ)) (seen_values xs rest (o + s))
 
     -- the values of a filled run are seen through a `&`
-    pub run_seen : (o : ℕ) (ps : List (Place E)) (i n : ℕ) (xs : List (el_x E)) → i ≤ length ps → HoldsRun ps i n xs
+    pub run_seen : (o : ℕ) (ps : List (Place E)) (i n : ℕ) (xs : List (el_x E)) → HoldsRun ps i n xs
         → ent 𝓤 (sem 𝓛 (Shown o ps)) (sem 𝓛 (elements_shared (R E) xs b (i * s + o) κ))
-    run_seen o ps i n xs le held =
+    run_seen o ps i n xs held =
         let rest = drop_list n (drop_list i ps) in
         qed 𝓛 (‵ (Shown o ps) ∷ []) ∵
-        use1 𝓛 (‵ (Shown (i * s + o) (drop_list i ps))) (seen_from ps i o (i * s + o) le refl) $
-        rewrite ! 0 (λ (l : List (Place E)). ‵ (Shown (i * s + o) l)) (sym (take-append-drop n (drop_list i ps))
+        use1 𝓛 (‵ (Shown (i * s + o) (drop_list i ps))) (seen_from ps i o (i * s + o) refl) $
+        rewrite ! 0 (λ l. ‵ (Shown (i * s + o) l)) (sym (take-append-drop n (drop_list i ps))
         ∙ ap (λ l. l ++ rest) held) refl $ by ! (seen_values xs rest (i * s + o))

@@ -1,14 +1,15 @@
 -- A run of places is taken out of a block as an array of values, or as room for one, and put back. Assumes `Logic`.
 use Rattle.arraydeque_ring.{
   proofs.memory.{
-    Kit.{◌≡◌, refl, sym, ap, ◌∙◌, List, [], ◌∷◌, ◌++◌, map, ℕ, ◌+◌, ◌*◌, ◌≤◌, arith, length, take, drop_list},
+    Kit.{drop, ◌≡◌, refl, sym, ap, ◌∙◌, List, [], ◌∷◌, ◌++◌, map, ℕ, ◌+◌, ◌*◌, ◌≤◌, arith, length, take, drop_list},
     Kit.{take-append-drop, length-take, length-drop, Some, None, Ura, full_share, ent, sep, Fml, fsep, fat, froom},
-    Kit.{ty_array, Val, Logic, sem, ‵, ◌⊛◌, some, given, ◌$◌, ◌∵◌, !, qed, by, move, keep, use1, use2, pick, learn},
-    Kit.{split, fsplit, fjoin, rewrite, done, part_at, Good, El, R, el_x, elτ, Array, ◌<◌, get_or, set, drop-cons},
-    Kit.{set_split, nothing, suc},
-    Owned.{item_size, Place, Row, cut, glue, value_out},
+    Kit.{ty_array, Logic, sem, ‵, ◌⊛◌, some, given, ◌$◌, ◌∵◌, !, qed, by, move, keep, use1, use2, pick, learn, split},
+    Kit.{fsplit, fjoin, rewrite, done, part_at, El, R, el_x, elτ, Array, ◌<◌, get_or, set, drop-cons, part_out},
+    Kit.{set_split, nothing, suc, Item, Goal, Step, step, length-map, length-replicate, replicate},
+    Owned.{item_size, Place, Row, cut, glue, of_room},
   },
-  specs.Ownership.place_owned,
+  proofs.places.Held.length_filled,
+  specs.{Gaps.run_emptied, Ownership.place_owned, Places.IsFilledRun},
 }
 use lib.Seq.{drop-drop}
 use denote.Index.{row}
@@ -39,7 +40,7 @@ module _ (E : El) {M : Type 1} {𝓤 : Ura M} (𝓛 : Logic 𝓤) (b : ℕ) wher
         let rest = drop_list (i + n) ps in
         let long : n ≡ length run = omega (arith, length-take n (drop_list i ps), length-drop i ps) in
         qed 𝓛 (‵ (On o ps) ∷ []) ∵
-        rewrite ! 0 (λ (l : List (Place E)). ‵ (On o l)) (sym (take-append-drop i ps) ∙ ap (λ l. take i ps ++ l)
+        rewrite ! 0 (λ l. ‵ (On o l)) (sym (take-append-drop i ps) ∙ ap (λ l. take i ps ++ l)
         (sym (take-append-drop n (drop_list i ps)) ∙ ap (λ l. run ++ l) (drop-drop n i ps))) refl $
         use1 𝓛 (‵ (On o (take i ps)) ⊛ ‵ (On (i * s + o) (run ++ rest)))
         (cut E 𝓛 b (take i ps) (run ++ rest) o (i * s + o) (at_i within)) $ split ! $ move ! (1 ∷ []) $
@@ -56,32 +57,13 @@ module _ (E : El) {M : Type 1} {𝓤 : Ura M} (𝓛 : Logic 𝓤) (b : ℕ) wher
         (ap (λ k. k * s + (i * s + o)) (sym long))) $ move ! (1 ∷ 0 ∷ []) $
         by ! (glue E 𝓛 b (take i ps) (qs ++ rest) o (i * s + o) (at_i within))
 
-  -- one place is a run of one
-  module _ (o : ℕ) (ps : List (Place E)) (i : ℕ) (lt : i < length ps) where
-    pub place_out : ent 𝓤 (sem 𝓛 (On o ps))
-        (sep 𝓤 (sem 𝓛 (place_owned (R E) b (i * s + o) (get_or ps i None))) (sem 𝓛 (Around o ps i 1)))
-    place_out =
-        qed 𝓛 (‵ (On o ps) ∷ []) ∵ use1 𝓛 (‵ (On (i * s + o) (take 1 (drop_list i ps))) ⊛ ‵ (Around o ps i 1))
-        (run_out o ps i 1 (omega arith)) $ split ! $
-        rewrite ! 0 (λ (qs : List (Place E)). ‵ (On (i * s + o) qs)) (ap (take 1) (drop-cons ps i None lt)) refl $
-        fsplit ! $ keep ! (0 ∷ 2 ∷ []) $ done !
-
-    pub place_in : (p : Place E) → ent 𝓤 (sep 𝓤 (sem 𝓛 (place_owned (R E) b (i * s + o) p)) (sem 𝓛 (Around o ps i 1)))
-        (sem 𝓛 (On o (set ps i p)))
-    place_in p =
-        qed 𝓛 (‵ (place_owned (R E) b (i * s + o) p) ∷ ‵ (Around o ps i 1) ∷ []) ∵ nothing ! $
-        move ! (1 ∷ 0 ∷ []) $ fjoin ! $
-        use2 𝓛 (‵ (On o (take i ps ++ (p ∷ drop_list (i + 1) ps)))) (run_in o ps i 1 (omega arith) (p ∷ []) refl) $
-        rewrite ! 0 (λ (qs : List (Place E)). ‵ (On o qs)) (ap (λ k. take i ps ++ (p ∷ drop_list k ps)) {y = suc i}
-        (omega arith) ∙ sym (set_split ps i p lt)) refl $ done !
-
   -- a place is room, whether or not it holds a value, and a run of places is room for an array
   place_room : (p : Place E) (o : ℕ) → ent 𝓤 (sem 𝓛 (place_owned (R E) b o p)) (H.room (elτ E) b o)
   place_room None o = 𝓛.laws.raw-room (elτ E) b o
   place_room (Some x) o = qed 𝓛 (‵ (part_at (R E) full_share x b o) ∷ []) ∵
-      use1 𝓛 (some (λ (v : Val). given (Good (elτ E) v)
-      (‵ (fat full_share (elτ E) b o v) ⊛ ‵ (E.row.own_val x (v ∷ []))))) (value_out 0 E.row E.laws 𝓛 x b o) $
-      pick ! (λ v. learn ! (λ v_fits. split ! $ keep ! (0 ∷ []) $ by ! (𝓛.laws.at_room (elτ E) b o v)))
+      use1 𝓛 (some (λ v. ‵ (fat full_share (elτ E) b o v) ⊛ ‵ (E.row.own_val x (v ∷ []))))
+      (part_out 𝓛 (R E) refl full_share x b o) $
+      pick ! (λ v. split ! $ keep ! (0 ∷ []) $ by ! (𝓛.laws.at_room (elτ E) b o v))
 
   pub row_room : (ps : List (Place E)) (n o : ℕ) → length ps ≡ n
       → ent 𝓤 (sem 𝓛 (On o ps)) (H.room (ty_array (elτ E) n) b o)
@@ -91,21 +73,72 @@ module _ (E : El) {M : Type 1} {𝓤 : Ura M} (𝓛 : Logic 𝓤) (b : ℕ) wher
       use1 𝓛 (‵ (froom (ty_array (elτ E) (length ps)) b (o + s))) (row_room ps (length ps) (o + s) refl) $
       move ! (1 ∷ []) $ by ! (𝓛.laws.room_cons (elτ E) (length ps) b o))
 
-  -- a filled run is an array, and back
+  -- a filled run is an array
   abbrev Cells : arrays.El
   Cells = record { row = E.row; laws = E.laws }
 
   same_row : (xs : List (el_x E)) (o : ℕ) → On o (map Some xs) ≡ row (R E) full_share xs b o
   same_row [] o = refl
-  same_row (x ∷ xs) o = ap (λ (F : Fml). fsep (part_at (R E) full_share x b o) F) (same_row xs (o + s))
+  same_row (x ∷ xs) o = ap (λ F. fsep (part_at (R E) full_share x b o) F) (same_row xs (o + s))
 
-  pub to_array : (n : ℕ) (xs : List (el_x E)) (o : ℕ) → length xs ≡ n
-      → ent 𝓤 (sem 𝓛 (On o (map Some xs))) (sem 𝓛 (part_at (Array (R E) n) full_share xs b o))
-  to_array n xs o long = qed 𝓛 (‵ (On o (map Some xs)) ∷ []) ∵ rewrite ! 0 (λ (F : Fml). ‵ F) (same_row xs o) refl $
-      by ! (arrays.whole Cells 𝓛 full_share n xs b o long)
+-- the n places from the i-th on, as an array of values, and as room for one
+module _ (E : El) (b o i n : ℕ) where
+  abbrev Values : List (el_x E) → Fml
+  Values xs = part_at (Array (R E) n) full_share xs b (i * item_size E + o)
 
-  pub of_array : (n : ℕ) (xs : List (el_x E)) (o : ℕ)
-      → ent 𝓤 (sem 𝓛 (part_at (Array (R E) n) full_share xs b o)) (sem 𝓛 (On o (map Some xs)))
-  of_array n xs o = qed 𝓛 (‵ (part_at (Array (R E) n) full_share xs b o) ∷ []) ∵
-      use1 𝓛 (given (length xs ≡ n) (‵ (row (R E) full_share xs b o))) (arrays.apart Cells 𝓛 full_share n xs b o) $
-      learn ! (λ _. rewrite ! 0 (λ (F : Fml). ‵ F) (sym (same_row xs o)) refl $ done !)
+  abbrev Room : Fml
+  Room = froom (ty_array (elτ E) n) b (i * item_size E + o)
+
+-- they are taken from the others, and put back
+module _ (E : El) {M : Type 1} {𝓤 : Ura M} {𝓛 : Logic 𝓤} {K : Type 0} {Γ : List (Item 𝓤)} {G : Goal 𝓤 𝓛.H} (t : K)
+    (b o : ℕ) (ps : List (Place E)) (i n : ℕ) where
+  pub array_out : (filled : IsFilledRun ps i n)
+      → Step K 𝓛 (‵ (Values E b o i n filled.1.0) ∷ ‵ (Around E 𝓛 b o ps i n) ∷ Γ) G (‵ (Row E 𝓛 b o ps) ∷ Γ) G
+  array_out filled = let xs = filled.1.0 in let at = i * item_size E + o in step (λ s.
+      use1 𝓛 (‵ (Row E 𝓛 b at (take n (drop_list i ps))) ⊛ ‵ (Around E 𝓛 b o ps i n))
+      (run_out E 𝓛 b o ps i n filled.0) $ split t $
+      rewrite t 0 (λ F. ‵ F) (ap (Row E 𝓛 b at) filled.1.1 ∙ same_row E 𝓛 b xs at) refl $
+      use1 𝓛 (‵ (Values E b o i n xs))
+      (arrays.whole (Cells E 𝓛 b) 𝓛 full_share n xs b at (length_filled ps i n filled)) $ s)
+
+  pub array_in : i + n ≤ length ps → (xs : List (el_x E)) {qs : List (Place E)} → qs ≡ map Some xs
+      → Step K 𝓛 (‵ (Row E 𝓛 b o (take i ps ++ (qs ++ drop_list (i + n) ps))) ∷ Γ) G
+      (‵ (Values E b o i n xs) ∷ ‵ (Around E 𝓛 b o ps i n) ∷ Γ) G
+  array_in within xs {qs} e = let at = i * item_size E + o in step (λ s.
+      use1 𝓛 (given (length xs ≡ n) (‵ (row (R E) full_share xs b at)))
+      (arrays.apart (Cells E 𝓛 b) 𝓛 full_share n xs b at) $ learn t (λ long.
+      rewrite t 0 (λ F. ‵ F) (sym (ap (Row E 𝓛 b at) e ∙ same_row E 𝓛 b xs at)) refl $
+      use2 𝓛 (‵ (Row E 𝓛 b o (take i ps ++ (qs ++ drop_list (i + n) ps))))
+      (run_in E 𝓛 b o ps i n within qs (ap length e ∙ length-map xs Some ∙ long)) $ s))
+
+  pub room_out : i + n ≤ length ps
+      → Step K 𝓛 (‵ (Room E b o i n) ∷ ‵ (Around E 𝓛 b o ps i n) ∷ Γ) G (‵ (Row E 𝓛 b o ps) ∷ Γ) G
+  room_out within = let run = take n (drop_list i ps) in let at = i * item_size E + o in step (λ s.
+      use1 𝓛 (‵ (Row E 𝓛 b at run) ⊛ ‵ (Around E 𝓛 b o ps i n)) (run_out E 𝓛 b o ps i n within) $ split t $
+      use1 𝓛 (‵ (Room E b o i n))
+      (row_room E 𝓛 b run n at (omega (arith, length-take n (drop_list i ps), length-drop i ps))) $ s)
+
+  pub room_in : i + n ≤ length ps
+      → Step K 𝓛 (‵ (Row E 𝓛 b o (run_emptied i n ps)) ∷ Γ) G (‵ (Room E b o i n) ∷ ‵ (Around E 𝓛 b o ps i n) ∷ Γ) G
+  room_in within = let nones : List (Place E) = replicate n None in let at = i * item_size E + o in step (λ s.
+      use1 𝓛 (‵ (Row E 𝓛 b at nones)) (of_room E 𝓛 b n at) $
+      use2 𝓛 (‵ (Row E 𝓛 b o (run_emptied i n ps))) (run_in E 𝓛 b o ps i n within nones (length-replicate n None)) $ s)
+
+-- one place is a run of one
+module _ (E : El) {M : Type 1} {𝓤 : Ura M} {𝓛 : Logic 𝓤} {K : Type 0} {Γ : List (Item 𝓤)} {G : Goal 𝓤 𝓛.H} (t : K)
+    (b o : ℕ) (ps : List (Place E)) (i : ℕ) (lt : i < length ps) where
+  pub place_out : {p : Place E} → get_or ps i None ≡ p
+      → Step K 𝓛 (‵ (place_owned (R E) b (i * item_size E + o) p) ∷ ‵ (Around E 𝓛 b o ps i 1) ∷ Γ) G
+      (‵ (Row E 𝓛 b o ps) ∷ Γ) G
+  place_out is = let On = Row E 𝓛 b (i * item_size E + o) in step (λ s.
+      use1 𝓛 (‵ (On (take 1 (drop_list i ps))) ⊛ ‵ (Around E 𝓛 b o ps i 1)) (run_out E 𝓛 b o ps i 1 (omega arith)) $
+      split t $ rewrite t 0 (λ qs. ‵ (On qs)) (ap (take 1) (drop-cons ps i None lt) ∙ ap (λ q. q ∷ []) is) refl $
+      fsplit t $ move t (1 ∷ []) $ drop t $ s)
+
+  pub place_in : (p : Place E) → Step K 𝓛 (‵ (Row E 𝓛 b o (set ps i p)) ∷ Γ) G
+      (‵ (place_owned (R E) b (i * item_size E + o) p) ∷ ‵ (Around E 𝓛 b o ps i 1) ∷ Γ) G
+  place_in p = step (λ s. nothing t $ move t (1 ∷ 0 ∷ []) $ fjoin t $
+      use2 𝓛 (‵ (Row E 𝓛 b o (take i ps ++ (p ∷ drop_list (i + 1) ps))))
+      (run_in E 𝓛 b o ps i 1 (omega arith) (p ∷ []) refl) $
+      rewrite t 0 (λ qs. ‵ (Row E 𝓛 b o qs)) (ap (λ k. take i ps ++ (p ∷ drop_list k ps)) {y = suc i} (omega arith)
+      ∙ sym (set_split ps i p lt)) refl $ s)

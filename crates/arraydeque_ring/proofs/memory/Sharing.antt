@@ -18,13 +18,10 @@ use Rattle.arraydeque_ring.specs.{
 }
 
 module _ (R : RattleType) (L : RowLaws R) where
-  place_shr_laws : (b o : ℕ) (p : Option R.Denot) → ShrLaws (place_lent R b o p)
-  place_shr_laws b o (Some x) = L x b o
-  place_shr_laws b o None = nothing_shr_laws
-
   places_shr_laws : (b o : ℕ) (ps : List (Option R.Denot)) → ShrLaws (places_lent R b o ps)
   places_shr_laws b o [] = nothing_shr_laws
-  places_shr_laws b o (p ∷ ps) = beside_shr_laws _ _ (place_shr_laws b o p) (places_shr_laws b (o + type_size R) ps)
+  places_shr_laws b o (Some x ∷ ps) = beside_shr_laws _ _ (L x b o) (places_shr_laws b (o + type_size R) ps)
+  places_shr_laws b o (None ∷ ps) = beside_shr_laws _ _ nothing_shr_laws (places_shr_laws b (o + type_size R) ps)
 
   pub slots_shr_laws : (at : Ptr) (ps : List (Option R.Denot)) → ShrLaws (slots_lent R at ps)
   slots_shr_laws (block_ptr b o) ps =

@@ -17,7 +17,7 @@ use denote.{
   Param.Send.{IsSend, IsSync, Quiet, Common, AllSend, AllSync, part_keyless, owning_send, struct_send, struct_sync},
   Param.Send.{sendable},
 }
-use Rattle.arraydeque_ring.specs.Ownership.{owned_if, places_owned, places_lent, right_to_free, slots_owned, slots_lent}
+use Rattle.arraydeque_ring.specs.Ownership.{owned_if, places_owned, places_lent, slots_owned, slots_lent}
 use Rattle.arraydeque_ring.specs.contracts.slots.loan.LoanName as loan_name
 use Rattle.arraydeque_ring.specs.contracts.slots.Slots.TheInside as inside
 
@@ -38,15 +38,11 @@ module _ (R : RattleType) where
   places-Keyless s b o (Some x ∷ ps) = (part_keyless R s full_share x b o, places-Keyless s b (o + type_size R) ps)
   places-Keyless s b o (None ∷ ps) = (tt, places-Keyless s b (o + type_size R) ps)
 
-  -- any thread may free the block
-  right-Keyless : (alloc : Global) (n : ℕ) (p : Ptr) → Keyless (right_to_free R alloc n p)
-  right-Keyless alloc n p = owned_if-Keyless (nat_lt 0 (n * type_size R)) _ (frees.frees alloc _ p)
-
-  -- a region owns what its values own, and what any thread may use
+  -- a region owns what its values own, and any thread may free the block
   slots-Keyless : IsSend R → (alloc : Global) (p : Ptr) (ps : List (Option R.Denot))
       → Keyless (slots_owned R alloc p ps)
   slots-Keyless s alloc (block_ptr b o) ps =
-      (tt, (places-Keyless s b o ps, right-Keyless alloc (length ps) (block_ptr b o)))
+      (tt, (places-Keyless s b o ps, owned_if-Keyless (nat_lt 0 (length ps * type_size R)) _ (frees.frees alloc _ _)))
   slots-Keyless s alloc null_ptr ps = tt
 
   -- what is shown of the places is what is shown of their values

@@ -2,20 +2,20 @@
 -- and room for it in another region, and puts both back. Assumes `Logic`.
 use Rattle.arraydeque_ring.{
   proofs.memory.{
-    Kit.{◌≡◌, refl, sym, ap, List, [], ◌∷◌, ◌++◌, map, ℕ, ◌+◌, ◌*◌, ◌<◌, ◌^◌, arith, length, take, drop_list},
-    Kit.{replicate, length-take, length-drop, length-map, length-replicate, Some, None, id⊢, full_share, ftrue, froom},
-    Kit.{flft, Fn, inst_fn, named, w64, ty_array, Val, vunit, vint, vptr, Env, ◌⊑◌, fact, tables, owns, types_at, ‵},
-    Kit.{raw, ◌⊛◌, at_ret, ◌$◌, ◌∵◌, !, qed, move, keep, use1, use2, drop, split, join, rewrite, fsplit, fsplit3},
-    Kit.{fjoin, fjoin3, feq_i, suffices, done, whole, sub, look_in, enter, of_opd, unit_lit, bin, load, stop, fld},
-    Kit.{no_more, and_then, first, blocks, exec, returns, alloc_all, pass_all, free_all, look_at, get, through, sets},
-    Kit.{lands_last, env, yes, plain, usize, uint_vals, uint_Tells, RawPtr, block_ptr, Stays, walk_of, stay_dropped},
-    Kit.{stay_ref, Goes-dropped, Goes-ref, ends_at, nothing, heard, after, says_two, calls_at_last, framed, triple_of},
-    Kit.{part_at, El, R, args, el_x, elτ, proved, common_steps, split3, Array, mut_vals, mut_Tells, pure_i},
-    Regions.{Sr, Seen, near, run_fits, slots_open, slots_close, scaled, item_size, Place, Row, of_room, IsFilledRun},
-    Regions.{Around, run_out, run_in, row_room, to_array, of_array},
+    Kit.{Vals, ◌≡◌, refl, List, [], ◌∷◌, ◌++◌, ℕ, ◌+◌, ◌*◌, ◌<◌, ◌^◌, arith, length, take, drop_list, id⊢, full_share},
+    Kit.{ftrue, froom, flft, Fn, inst_fn, named, w64, ty_array, vunit, vint, vptr, ◌⊑◌, tables, owns, types_at, ‵, raw},
+    Kit.{◌⊛◌, at_ret, ◌$◌, ◌∵◌, !, qed, move, keep, use1, drop, split, join, fsplit, fsplit3, fjoin, fjoin3, feq_i},
+    Kit.{suffices, done, whole, sub, look_in, enter, of_opd, unit_lit, bin, load, stop, fld, no_more, and_then, first},
+    Kit.{blocks, exec, returns, alloc_all, pass_all, free_all, look_at, get, through, sets, lands_last, env, yes},
+    Kit.{plain, usize, uint_vals, uint_Tells, RawPtr, block_ptr, Stays, walk_of, stay_dropped, stay_ref, Goes-dropped},
+    Kit.{Goes-ref, ends_at, nothing, heard, after, says_two, calls_at_last, framed, triple_of, part_at, El, R, args},
+    Kit.{el_x, elτ, proved, common_steps, split3, Array, mut_vals, mut_Tells, pure_i},
+    Methods.first_fact,
+    Regions.{Sr, Seen, near, run_fits, slots_open, slots_close, scaled, item_size, Place, array_out, array_in},
+    Regions.{room_out, room_in},
     Called.{knows, returned},
   },
-  specs.Gaps.{IsEmptyRun, run_emptied},
+  specs.Gaps.{run_emptied},
 }
 use denote.{Plain.Nothing-Lawful, RawPtr.rawptr_vals}
 use Rattle.std.specs.contracts.ptr.copy_nonoverlapping as copy
@@ -42,51 +42,32 @@ copy_over_spec 𝓤 𝓛 𝓜 𝓡 wired X L =
       mut_Tells (named 0) κs.0 (Sr E),
       (uint_Tells w64, (mut_Tells (named 1) κs.1.0 (Sr E), (uint_Tells w64, (uint_Tells w64, tt)))),
     )) (λ κs qs bounds a _ are.
-    let κ₀ = κs.0 in let κ₁ = κs.1.0 in let κ₂ = κs.1.1.0 in let q₀ = qs.0 in let q₁ = qs.1.0 in let q₂ = qs.1.1.0 in
+    let κ₂ = κs.1.1.0 in let q₂ = qs.1.1.0 in
     let rb : ℕ = a.0.ref_ptr.0 in let ro : ℕ = a.0.ref_ptr.1 in let r : Seen E = a.0.now in
     let ps : List (Place E) = r.places in
     let sb : ℕ = a.1.1.0.ref_ptr.0 in let so : ℕ = a.1.1.0.ref_ptr.1 in let r' : Seen E = a.1.1.0.now in
     let ts : List (Place E) = r'.places in
     let from : ℕ = a.1.0 in let to : ℕ = a.1.1.1.0 in let n : ℕ = a.1.1.1.1.0 in
-    let from_fits : from < 2 ^ 64 = are.1.0.1 in let to_fits : to < 2 ^ 64 = are.1.1.1.0.1 in
-    let n_fits : n < 2 ^ 64 = are.1.1.1.1.0.1 in
-    let y : W.Ghost = (
-      (
-        κs,
-        qs,
-        bounds,
-        a,
-        (mut_vals a.0, (uint_vals w64 from, (mut_vals a.1.1.0, (uint_vals w64 to, (uint_vals w64 n, tt))))),
-      ),
-      tt,
-    ) in
-    let s : ℕ = item_size E in let Filled : Type 0 = IsFilledRun ps from n in let Empty : Type 0 = IsEmptyRun ts to n in
-    qed 𝓛 (((‵ (flft κ₀ q₀) ⊛ ‵ (flft κ₁ q₁) ⊛ ‵ (flft κ₂ q₂) ⊛ ‵ ftrue)
-    ⊛ ‵ (owns (types_at ended.signature.params κs) a y.0.4))
-    ∷ (raw (fact 𝓤 (κ₂ ⊑ X.lives)) ⊛ raw (fact 𝓤 Filled) ⊛ raw (fact 𝓤 Empty)) ∷ []) ∵
-    move ! (1 ∷ []) $ split ! $ heard ! (κ₂ ⊑ X.lives) (λ lives. split ! $
-    heard ! Filled (λ filled. heard ! Empty (λ empty.
-    let within = filled.0 in let target = empty.0 in let xs : List (el_x E) = filled.1.0 in let held = filled.1.1 in
-    let es : List (Place E) = run_emptied from n ps in let run : List (Place E) = take n (drop_list from ps) in
-    let nones : List (Place E) = replicate n None in
-    let us : List (Place E) = take to ts ++ (run ++ drop_list (to + n) ts) in
-    let run_long : length run ≡ n = grind (arith, common_steps) in
-    let long : length xs ≡ n = omega (arith, run_long, ap length held, length-map xs Some) in
+    let n_fits : n < 2 ^ 64 = are.1.1.1.1.0.1 in let s : ℕ = item_size E in
+    let vss : Vals ended.signature κs =
+    (mut_vals a.0, (uint_vals w64 from, (mut_vals a.1.1.0, (uint_vals w64 to, (uint_vals w64 n, tt))))) in
+    let y : W.Ghost = ((κs, qs, bounds, a, vss), tt) in
+    qed 𝓛 (((‵ (flft κs.0 qs.0) ⊛ ‵ (flft κs.1.0 qs.1.0) ⊛ ‵ (flft κ₂ q₂) ⊛ ‵ ftrue)
+    ⊛ ‵ (owns (types_at ended.signature.params κs) a vss))
+    ∷ raw ((c κs a).requires tt) ∷ []) ∵
+    move ! (1 ∷ []) $ first_fact ! (λ lives. first_fact ! (λ filled. heard ! _ (λ empty.
+    let within = filled.0 in let target = empty.0 in let xs : List (el_x E) = filled.1.0 in
+    let es : List (Place E) = run_emptied from n ps in
+    let us : List (Place E) = take to ts ++ (take n (drop_list from ps) ++ drop_list (to + n) ts) in
     let es_long : length ps ≡ length es = grind (arith, common_steps) in
     let us_long : length ts ≡ length us = grind (arith, common_steps) in
     let new : Seen E = record { places = es; steps = r.steps } in
     let new' : Seen E = record { places = us; steps = r'.steps } in
     split ! $ split3 ! $ move ! (3 ∷ []) $ fsplit3 ! $ move ! (2 ∷ []) $ fsplit ! $ fsplit3 ! $ move ! (4 ∷ []) $
     fsplit3 ! $ keep ! (1 ∷ 2 ∷ 8 ∷ 4 ∷ 5 ∷ 9 ∷ 10 ∷ []) $
-    enter ! 𝓣.C 𝓣.Λ here (vptr rb ro ∷ vint w64 from ∷ vptr sb so ∷ vint w64 to ∷ vint w64 n ∷ []) _ $
-    alloc_all ! (λ l. pass_all ! refl (
-      (tt, tt),
-      (
-        (tt, record { fits = from_fits }),
-        ((tt, tt), ((tt, record { fits = to_fits }), ((tt, record { fits = n_fits }), tt))),
-      ),
-    ) $
-    let En : Env 𝓤 𝓛.H = env here.locals l in
+    enter ! _ _ _ _ _ $
+    alloc_all ! (λ l. pass_all ! refl ((tt, tt), ((tt, record { fits = are.1.0.1 }), ((tt, tt),
+    ((tt, record { fits = are.1.1.1.0.1 }), ((tt, record { fits = n_fits }), tt))))) $
     slots_open E ! tt r rb ro (λ g b o m ok. move ! (6 ∷ 7 ∷ 8 ∷ []) $ slots_open E ! tt r' sb so (λ g' b' o' m' ok'.
     let from_near = near E ok from (omega arith) in let to_near = near E ok' to (omega arith) in
     let src : ℕ = from * s + o in let dst : ℕ = to * s + o' in
@@ -99,15 +80,7 @@ copy_over_spec 𝓤 𝓛 𝓜 𝓡 wired X L =
     refl (tt, tt) $
     sets ! (scaled ! (get ! refl) to_near) refl (tt, record { fits = to_near }) $
     sets ! (bin ! (get ! refl) (get ! refl) tt) refl (tt, tt) $
-    -- the target is room
-    use1 𝓛 (‵ (Row E 𝓛 b' dst (take n (drop_list to ts))) ⊛ ‵ (Around E 𝓛 b' o' ts to n))
-    (run_out E 𝓛 b' o' ts to n target) $ split ! $
-    use1 𝓛 (‵ (froom (ty_array (elτ E) n) b' dst)) (row_room E 𝓛 b' (take n (drop_list to ts)) n dst
-    (omega (arith, length-take n (drop_list to ts), length-drop to ts))) $ move ! (7 ∷ []) $
-    -- the source is values
-    use1 𝓛 (‵ (Row E 𝓛 b src run) ⊛ ‵ (Around E 𝓛 b o ps from n)) (run_out E 𝓛 b o ps from n within) $ split ! $
-    rewrite ! 0 (λ (l : List (Place E)). ‵ (Row E 𝓛 b src l)) held refl $
-    use1 𝓛 (‵ (part_at (Array (R E) n) full_share xs b src)) (to_array E 𝓛 b n xs src long) $
+    room_out E ! b' o' ts to n target $ move ! (7 ∷ []) $ array_out E ! b o ps from n filled $
     move ! (0 ∷ 2 ∷ []) $ fjoin ! $
     -- [the two runs; the others here;
     -- the others there; there: the right, the words, the borrow in three; here, likewise; the token]
@@ -132,22 +105,19 @@ copy_over_spec 𝓤 𝓛 𝓜 𝓡 wired X L =
     lands_last ! refl v_typed.0 $ move ! (1 ∷ []) $
     use1 𝓛 (‵ (part_at (Array (R E) n) full_share xs b' dst) ⊛ ‵ (froom (ty_array (elτ E) n) b src)) (id⊢ 𝓤 _) $
     split ! $
-    exec ! 𝓣.C 𝓣.Λ En (after 1 here.body) (at_ret En (W.post y)) $ sets ! (of_opd ! (unit_lit !)) refl (tt, tt) $
+    exec ! 𝓣.C 𝓣.Λ (env here.locals l) (after 1 here.body) (at_ret _ (W.post y)) $
+    sets ! (of_opd ! (unit_lit !)) refl (tt, tt) $
     -- [the values; the room; the token; the others here; the others there; ..]
-    use1 𝓛 (‵ (Row E 𝓛 b' dst (map Some xs))) (of_array E 𝓛 b' n xs dst) $
-    rewrite ! 0 (λ (l : List (Place E)). ‵ (Row E 𝓛 b' dst l)) (sym held) refl $ move ! (0 ∷ 4 ∷ []) $
-    use2 𝓛 (‵ (Row E 𝓛 b' o' us)) (run_in E 𝓛 b' o' ts to n target run run_long) $
+    move ! (0 ∷ 4 ∷ []) $ array_in E ! b' o' ts to n target xs filled.1.1 $
     move ! (0 ∷ 4 ∷ 5 ∷ 6 ∷ 7 ∷ 8 ∷ []) $ slots_close E ! tt g' r' new' b' o' m' sb so ok' us_long $
-    move ! (3 ∷ []) $ use1 𝓛 (‵ (Row E 𝓛 b src nones)) (of_room E 𝓛 b n src) $ move ! (0 ∷ 5 ∷ []) $
-    use2 𝓛 (‵ (Row E 𝓛 b o es)) (run_in E 𝓛 b o ps from n within nones (length-replicate n None)) $
+    move ! (3 ∷ 5 ∷ []) $ room_in E ! b o ps from n within $
     move ! (0 ∷ 5 ∷ 6 ∷ 7 ∷ 8 ∷ 9 ∷ []) $ slots_close E ! tt g r new b o m rb ro ok es_long $
     returns ! (look_at ! 0 refl) $ free_all ! refl $
-    suffices ! _ (ends_at 𝓛 ended stayed c y vunit tt (new, (tt, (new', (tt, (tt, tt)))))
-    (tt, (tt, (tt, (tt, (tt, tt)))))) $ says_two ! (refl, refl) $
-    feq_i ! (List Val) (vptr rb ro ∷ []) (vptr rb ro ∷ []) refl $ fjoin3 ! $ move ! (2 ∷ 3 ∷ []) $
-    feq_i ! (List Val) (vptr sb so ∷ []) (vptr sb so ∷ []) refl $ fjoin3 ! $
+    suffices ! _ (ends_at 𝓛 ended stayed c y vunit tt (new, (tt, (new', _))) _) $ says_two ! (refl, refl) $
+    feq_i ! _ (vptr rb ro ∷ []) _ refl $ fjoin3 ! $ move ! (2 ∷ 3 ∷ []) $
+    feq_i ! _ (vptr sb so ∷ []) _ refl $ fjoin3 ! $
     nothing ! $ nothing ! $ nothing ! $ fjoin3 ! $ move ! (1 ∷ 0 ∷ []) $ fjoin ! $ nothing ! $
     move ! (2 ∷ 0 ∷ 1 ∷ []) $ fjoin3 ! $
-    move ! (2 ∷ 3 ∷ []) $ join ! $ move ! (2 ∷ 0 ∷ []) $ join ! $ feq_i ! (List Val) (vunit ∷ []) (vunit ∷ []) refl $
+    move ! (2 ∷ 3 ∷ []) $ join ! $ move ! (2 ∷ 0 ∷ []) $ join ! $ feq_i ! _ (vunit ∷ []) _ refl $
     move ! (2 ∷ 0 ∷ []) $ join ! $ move ! (1 ∷ 0 ∷ []) $ join ! $
     keep ! (0 ∷ []) $ done !)))))))))

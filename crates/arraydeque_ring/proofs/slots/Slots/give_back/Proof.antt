@@ -1,21 +1,22 @@
 -- `give_back` makes the empty places one block again, and frees it. Assumes `Logic`.
 use Rattle.arraydeque_ring.proofs.memory.{
-  Kit.{◌≡◌, refl, sym, subst, Bool, List, [], ◌∷◌, ◌++◌, ℕ, ◌*◌, ◌<◌, ◌^◌, arith, T, length, SProp, ent, id⊢, ftrue},
-  Kit.{froom, flft, Fn, inst_fn, ty_array, ty_unit, Val, vunit, vptr, has_ty, WT, align, capped, capped_fits, Env},
-  Kit.{WpFn, ◌⊑◌, fact, tables, owns, types_at, ‵, raw, ◌⊛◌, given, later, at_ret, ◌$◌, ◌∵◌, !, qed, move, keep, drop},
-  Kit.{use1, use3, split, join, learn, rewrite, fsplit, fjoin, feq_i, suffices, await, done, whole, sub, enter, of_opd},
-  Kit.{lit, unit_lit, align_word, bin, stop, fld, no_more, and_then, first, blocks, branches, skips, exec, returns},
-  Kit.{alloc_all, pass_all, free_all, look_at, get, get_in, sets, lands_last, env, yes, no, plain, RefOf, Stays},
-  Kit.{walk_of, stay_dropped, Goes-dropped, ends_at, heard, nothing, calls_at_last, framed, block_ptr, after, El, R},
-  Kit.{args, elτ, proved_at, Global},
-  Blocks.{scaled, block_ty, block_size, block_align, token},
-  Heap.{Deallocates, Asks, to_deallocate, deallocate_goes, deallocate_gives},
-  Regions.{Sr, Seen, slots_val, slots_Good, slots_apart, item_size, Place, to_room, owned_if, places_owned},
-  Regions.{right_to_free, AreAllEmpty},
+  Kit.{◌≡◌, refl, sym, subst, List, [], ◌∷◌, ◌++◌, ℕ, ◌*◌, ◌<◌, ◌^◌, arith, length, SProp, ent, id⊢, ftrue, froom},
+  Kit.{flft, Fn, inst_fn, ty_array, Val, vunit, vptr, Env, WpFn, tables, owns, types_at, ‵, raw, ◌⊛◌, at_ret, ◌$◌, ◌∵◌},
+  Kit.{!, qed, move, keep, drop, use1, use3, split, join, rewrite, fsplit, fjoin, feq_i, suffices, done, whole, sub},
+  Kit.{enter, of_opd, lit, unit_lit, align_word, bin, stop, fld, no_more, and_then, first, blocks, branches, skips},
+  Kit.{exec, returns, alloc_all, pass_all, free_all, look_at, get, get_in, sets, lands_last, env, yes, no, plain},
+  Kit.{RefOf, Stays, walk_of, stay_dropped, Goes-dropped, ends_at, nothing, calls_at_last, framed, block_ptr, after},
+  Kit.{El, args, elτ, proved_at, Global},
+  Blocks.{scaled, block_ty, token},
+  Called.{returned},
+  Heap.{Deallocates, to_deallocate, deallocate_goes},
+  Regions.{Sr, Seen, slots_val, slots_Good, slots_apart, item_size, row_room, owned_if},
 }
 use types.Kit.{Sq, prop}
+use denote.Plain.{Nothing-Lawful}
 use Rattle.std.{specs.Prelude.nat_lt, proofs.{Flags.T_true, impls.GlobalAllocator.deallocate.Met.met}}
 use Rattle.std.specs.contracts.alloc.Global as heap
+use Rattle.std.specs.contracts.impls.GlobalAllocator.deallocate as gives
 use Rattle.arraydeque_ring.specs.contracts.slots.Slots.give_back as f
 use Rattle.arraydeque_ring.proofs.slots.Slots.give_back.Statement as stated
 use Rattle.arraydeque_ring.proofs.slots.Slots.give_back.Code as code
@@ -35,63 +36,53 @@ give_back_spec 𝓤 𝓛 𝓜 𝓡 wired X L =
     let κ = y.0.0.0 in let κ₁ = y.0.0.1.0 in let q = y.0.1.0 in let q₁ = y.0.1.1.0 in let a = y.0.3 in
     let vss = y.0.4 in
     let r : Seen E = a.0 in let hp : ℕ × ℕ = a.1.0.ref_ptr in let h : Global = a.1.0.now in
-    let s : ℕ = item_size E in let al : ℕ = capped (align (elτ E)) in let Asked : Type 0 = AreAllEmpty r.places in
+    let s : ℕ = item_size E in
     qed 𝓛 (((‵ (flft κ q) ⊛ ‵ (flft κ₁ q₁) ⊛ ‵ ftrue) ⊛ ‵ (owns (types_at ended.signature.params y.0.0) a vss))
-    ∷ (raw (fact 𝓤 (κ₁ ⊑ X.lives)) ⊛ raw (fact 𝓤 Asked)) ∷ []) ∵
-    move ! (1 ∷ []) $ split ! $ drop ! $ heard ! Asked (λ all_empty.
+    ∷ raw ((c y.0.0 a).requires y.1) ∷ []) ∵
+    move ! (1 ∷ []) $ drop ! $
     split ! $ split ! $ move ! (2 ∷ []) $ fsplit ! $ slots_apart E ! r vss.0 (λ g b o n ok words.
     let reach : length r.places * s < 2 ^ 63 = let all = ok.reach in omega arith in
     let bytes : n * s < 2 ^ 64 = let small : n * s < 2 ^ 63 = subst (λ k. k * s < 2 ^ 63) (sym ok.capacity) reach in
     omega arith in
-    let τ = block_ty E n in
-    rewrite ! 0 (λ (ps : List (Place E)). ‵ (places_owned (R E) b o ps)) all_empty refl $
-    use1 𝓛 (‵ (froom (ty_array (elτ E) (length r.places)) b o)) (to_room E 𝓛 b (length r.places) o) $
-    rewrite ! 0 (λ (k : ℕ). ‵ (froom (ty_array (elτ E) k) b o)) (sym ok.capacity) refl $
-    use1 𝓛 (‵ (froom τ b o)) (𝓛.laws.room-raw (ty_array (elτ E) n) b o) $
-    move ! (1 ∷ []) $ rewrite ! 0 (λ (k : ℕ). ‵ (right_to_free (R E) g k (block_ptr b o))) (sym ok.capacity) refl $
-    move ! (2 ∷ []) $ fsplit ! $ fsplit ! $ drop ! $ keep ! (2 ∷ 3 ∷ 0 ∷ 4 ∷ 5 ∷ []) $
+    use1 𝓛 (‵ (froom (ty_array (elτ E) n) b o)) (row_room E 𝓛 b r.places n o (sym ok.capacity)) $
+    use1 𝓛 (‵ (froom (block_ty E n) b o)) (𝓛.laws.room-raw (ty_array (elτ E) n) b o) $
+    move ! (2 ∷ []) $ fsplit ! $ fsplit ! $ drop ! $ keep ! (3 ∷ 2 ∷ 0 ∷ 4 ∷ 5 ∷ []) $
     -- [the right; the room; the handle; its token; the other tokens]
     let at_hp : vss.1.0 ≡ vptr hp.0 hp.1 ∷ [] = are.1.0.0 in
     let us : List Val = slots_val b o n ∷ vptr hp.0 hp.1 ∷ [] in
     let Run : List Val → SProp 𝓤 = λ ws. WpFn 𝓤 𝓛.H 𝓣.C 𝓣.Λ here ws (W.post y) in
     suffices ! (Run us)
-    (subst (λ (ws : List Val). ent 𝓤 (Run us) (Run ws)) (sym (λ k. words k ++ (at_hp k ++ []))) (id⊢ 𝓤 (Run us))) $
-    enter ! 𝓣.C 𝓣.Λ here us (W.post y) $
+    (subst (λ ws. ent 𝓤 (Run us) (Run ws)) (sym (λ k. words k ++ (at_hp k ++ []))) (id⊢ 𝓤 (Run us))) $
+    enter ! _ _ _ _ _ $
     alloc_all ! (λ l. pass_all ! refl (slots_Good E b o n ok.word, ((tt, tt), tt)) $
     let En : Env 𝓤 𝓛.H = env here.locals l in
-    let z : (Deallocates 𝓛 𝓜.mem 𝓡.returns).Ghost = to_deallocate 𝓛 𝓜.mem 𝓡.returns κ q hp h b o (n * s) al τ in
-    let asked : Asks 𝓛 𝓜.mem 𝓡.returns κ q hp h τ (n * s) al = record {
-      size_is = block_size E n bytes;
-      align_is = block_align E n;
-      size_fits = bytes;
-      align_fits = capped_fits (align (elτ E));
-    } in
+    let Gives = Deallocates 𝓛 𝓜.mem 𝓡.returns in
+    let z : Gives.Ghost = to_deallocate 𝓛 𝓜.mem 𝓡.returns E n κ q hp h b o in
     let out : Sq 𝓛 (‵ (flft κ q) ∷ (‵ (flft κ₁ q₁) ⊛ ‵ ftrue) ∷ []) (prop (W.post y vunit)) =
-    suffices ! _ (ends_at 𝓛 ended stayed c y vunit tt (tt, (tt, tt)) (tt, (tt, tt))) $
-    join ! $ feq_i ! (List Val) (vunit ∷ []) (vunit ∷ []) refl $ nothing ! $ nothing ! $ fjoin ! $ nothing ! $ fjoin ! $
+    suffices ! _ (ends_at 𝓛 ended stayed c y vunit tt _ _) $
+    join ! $ feq_i ! _ (vunit ∷ []) _ refl $ nothing ! $ nothing ! $ fjoin ! $ nothing ! $ fjoin ! $
     join ! $ move ! (1 ∷ 0 ∷ []) $ join ! $ nothing ! $ keep ! (1 ∷ 0 ∷ []) $ done ! in
     sets ! (of_opd ! (get_in ! (fld ! refl (stop !)) (sub ! 0 refl (whole !)))) refl (tt, tt) $
     sets ! (of_opd ! (get_in ! (fld ! refl (stop !)) (sub ! 1 refl (whole !)))) refl (tt, record { fits = ok.word }) $
     sets ! (scaled ! (get ! refl) bytes) refl (tt, record { fits = bytes }) $
     sets ! (bin ! (lit ! tt) (get ! refl) tt) refl (tt, tt) $
     first ! $ branches ! (get ! refl)
-    (λ some. rewrite ! 0 (λ (w : Bool). ‵ (owned_if w (token E g n (block_ptr b o))))
+    (λ some. rewrite ! 0 (λ w. ‵ (owned_if w (token E g n (block_ptr b o))))
     (T_true (nat_lt 0 (n * s)) some) refl $
     blocks ! $ sets ! (of_opd ! (get ! refl)) refl (tt, tt) $
     sets ! (scaled ! (get ! refl) bytes) refl (tt, record { fits = bytes }) $
-    move ! (2 ∷ 3 ∷ []) $ join ! $ move ! (2 ∷ 1 ∷ 0 ∷ []) $ use3 𝓛 (raw ((Deallocates 𝓛 𝓜.mem 𝓡.returns).pre z))
-    (deallocate_goes 𝓛 𝓜.mem 𝓡.returns κ q hp h b o (n * s) al τ asked) $
-    calls_at_last ! (framed 𝓤 𝓛.H 𝓜 𝓣) (Deallocates 𝓛 𝓜.mem 𝓡.returns)
+    move ! (2 ∷ 3 ∷ []) $ join ! $ move ! (2 ∷ 1 ∷ 0 ∷ []) $
+    use3 𝓛 (raw (Gives.pre z)) (deallocate_goes 𝓛 𝓜.mem 𝓡.returns E n κ q hp h b o bytes) $
+    calls_at_last ! (framed 𝓤 𝓛.H 𝓜 𝓣) Gives
     (met 𝓤 𝓛 𝓜 𝓡 (code.calls-std_heap::GlobalAllocator::deallocate 𝓡.env wired)) z (and_then ! (get ! refl)
     (and_then ! (get ! refl) (and_then ! (get ! refl) (and_then ! (align_word !) (no_more !))))) (λ v.
-    use1 𝓛 (later (given (v ≡ vunit) (‵ (flft κ q)))) (deallocate_gives 𝓛 𝓜.mem 𝓡.returns κ q hp h b o (n * s) al τ v) $
-    await ! tt $ learn ! (λ is_unit.
-    lands_last ! refl (subst (λ (u : Val). T (has_ty ty_unit u) × WT u) (sym is_unit) (tt, tt)) $
-    exec ! 𝓣.C 𝓣.Λ En (after 5 here.body) (at_ret En (W.post y)) $
+    returned 𝓛 ! tt gives.ended (gives.clauses 𝓛 𝓜.mem 𝓡.returns) z v (Nothing-Lawful 𝓛) (λ u ws v_typed. drop ! $
+    lands_last ! refl v_typed.0 $
+    exec ! 𝓣.C 𝓣.Λ En (after 5 here.body) (at_ret _ (W.post y)) $
     sets ! (of_opd ! (unit_lit !)) refl (tt, tt) $ returns ! (look_at ! 0 refl) $ free_all ! refl $
-    keep ! (0 ∷ 1 ∷ []) $
+    use1 𝓛 (‵ (flft κ q) ⊛ ‵ ftrue) (id⊢ 𝓤 _) $ split ! $ keep ! (0 ∷ 3 ∷ []) $
     out)))
-    (λ none. skips ! $ exec ! 𝓣.C 𝓣.Λ En (after 5 here.body) (at_ret En (W.post y)) $
+    (λ none. skips ! $ exec ! 𝓣.C 𝓣.Λ En (after 5 here.body) (at_ret _ (W.post y)) $
     sets ! (of_opd ! (unit_lit !)) refl (tt, tt) $ returns ! (look_at ! 0 refl) $ free_all ! refl $
     keep ! (3 ∷ 4 ∷ []) $
-    out)))))
+    out))))

@@ -34,7 +34,7 @@ module _ (E : El) {M : Type 1} {𝓤 : Ura M} (𝓛 : Logic 𝓤) (rb ro : ℕ) 
   back ok within w =
       qed 𝓛 (‵ (place_owned (R E) b (i * item_size E + o) (Some w)) ∷ ‵ Rest ∷ []) ∵ move ! (1 ∷ []) $ fsplit ! $
       move ! (2 ∷ 0 ∷ []) $
-      use2 𝓛 (‵ (places E (Written E r i w) b o)) (place_in E 𝓛 b o r.places i within (Some w)) $
+      place_in E ! b o r.places i within (Some w) $
       by ! (slots_whole E 𝓛 rb ro g r b o n ok (Written E r i w) (sym (length-set r.places i (Some w))))
 
 pub lend_spec : {M : Type 1} → stated.statement M
@@ -62,9 +62,7 @@ lend_spec 𝓤 𝓛 𝓜 𝓡 wired X L =
     exec ! 𝓣.C 𝓣.Λ En (after 1 here.body) (at_ret En post) $ sets ! (of_opd ! (get ! refl)) refl (tt, tt) $
     let at = i * s + o in let way = back E 𝓛 rb ro r i g b o n ok within in let new = Written E r i in
     let Rest₀ = sem 𝓛 (Rest E 𝓛 rb ro r i g b o n) in
-    use1 𝓛 (‵ (place_owned (R E) b at (get_or r.places i None)) ⊛ ‵ (Around E 𝓛 b o r.places i 1))
-    (place_out E 𝓛 b o r.places i within) $ split ! $
-    rewrite ! 0 (λ (p : Place E). ‵ (place_owned (R E) b at p)) asked.1 refl $
+    place_out E ! b o r.places i within asked.1 $
     -- [the value; the others; the right; the words; the open borrow, in three; the other token]
     move ! (2 ∷ 3 ∷ []) $ fjoin ! $ move ! (2 ∷ 0 ∷ []) $ fjoin ! $ move ! (2 ∷ 3 ∷ 4 ∷ 1 ∷ 0 ∷ []) $ group ! 5 $
     use1 𝓛 (later (some (λ (δ : GName). raw (Part 𝓛 (Sr E) (R E) new (named 0) κ q rb ro b at γ Rest₀ way x δ))))

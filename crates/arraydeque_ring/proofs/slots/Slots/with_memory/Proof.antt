@@ -1,18 +1,19 @@
 -- `with_memory` cuts a new block into empty places, and keeps the right to free it. Assumes `Logic`.
 use Rattle.arraydeque_ring.proofs.memory.{
-  Kit.{true, false, ◌≡◌, refl, sym, subst, [], ◌∷◌, ℕ, ◌+◌, ◌*◌, ◌<◌, ◌^◌, arith, lit<, length, length-replicate, None},
-  Kit.{Ok, Err, Fml, ftrue, flft, Fn, Body, inst_fn, named, w64, ty_array, Val, vint, vptr, vstruct, vcons, vnil},
-  Kit.{align, capped, capped_fits, Env, Wp, after_seq, at_return, ◌⊑◌, fact, tables, After, ‵, raw, ◌⊛◌, given, later},
-  Kit.{at_ret, any_q, ◌$◌, ◌∵◌, !, qed, move, keep, drop, use1, use2, split, join, learn, frame, fsplit, fjoin},
-  Kit.{rewrite, suffices, await, done, whole, agg, live, vrt, in_variant, enter, of_opd, lit, align_word, stop, fld},
-  Kit.{no_more, and_then, first, switches_on, exec, returns, alloc_all, pass_all, free_all, look_at, get, get_in},
-  Kit.{get_tag, sets, sets_last, lands_as, env, yes, RattleType, owns, Is, layout, uint_vals, uint_Tells, block_ptr},
-  Kit.{shr_vals, shr_Tells, usize, RefOf, plain, types_at, heard, nothing, owned, calls_at, framed, Stays, walk_of},
-  Kit.{says, stay_dropped, Goes-dropped, ends_at, heap_val, heap_Tells, as_written, Good, first_Good, after, head},
-  Kit.{arm_body, El, args, elτ, proved, Struct, Global},
-  Blocks.{scaled, block_ty, block_size, block_align, token, token_at_start, right_is},
-  Heap.{Allocates, Answered, Asks, to_allocate, allocate_goes, allocate_gives, answers},
-  Regions.{Sr, Seen, places, heap_Good, slots_val, slots_Good, slots_made, item_size, of_room, empty_region},
+  Kit.{true, false, ◌≡◌, refl, [], ◌∷◌, ℕ, ◌*◌, ◌<◌, ◌^◌, arith, lit<, Ok, Err, ftrue, flft, Fn, Body, inst_fn, named},
+  Kit.{w64, ty_array, Val, vstruct, vcons, vnil, Env, after_seq, at_return, tables, After, ‵, raw, ◌⊛◌, given, at_ret},
+  Kit.{any_q, ◌$◌, ◌∵◌, !, qed, move, keep, drop, use1, use2, split, join, learn, frame, fsplit, fjoin, suffices, done},
+  Kit.{whole, agg, live, vrt, in_variant, enter, of_opd, lit, align_word, stop, fld, no_more, and_then, first},
+  Kit.{switches_on, exec, returns, alloc_all, pass_all, free_all, look_at, get, get_in, get_tag, sets, sets_last},
+  Kit.{lands_as, env, yes, RattleType, owns, Is, layout, uint_vals, uint_Tells, shr_vals, shr_Tells, usize, RefOf},
+  Kit.{plain, types_at, heard, nothing, owned, calls_at, framed, Stays, walk_of, says, stay_dropped, Goes-dropped},
+  Kit.{ends_at, heap_val, heap_Tells, as_written, Good, first_Good, after, head, arm_body, El, args, elτ, proved},
+  Kit.{Struct, Global},
+  Blocks.{scaled, right_at_start},
+  Heap.{Allocates, to_allocate, allocate_goes, allocated},
+  Methods.first_fact,
+  Regions.{Sr, Seen, places, right, heap_Good, slots_val, slots_Good, slots_made, Fits-empty, item_size, of_room},
+  Regions.{empty_region},
 }
 use denote.Struct.Struct.{Struct-Makes}
 use denote.Struct.Declared as Declared
@@ -41,42 +42,32 @@ with_memory_spec 𝓤 𝓛 𝓜 𝓡 wired X L =
     (f.Key.name (args E)) here (code.unfolded 𝓤 𝓛.H 𝓜 𝓡 wired (X, tt))
     (λ κs. (shr_vals, ((λ _. heap_val ∷ []), (uint_vals w64, tt))))
     (λ κs. (shr_Tells (named 0) κs.0 heap.the_row, (heap_Tells, (uint_Tells w64, tt)))) (λ κs qs bounds a _ are.
-    let κ = κs.0 in let κ₁ = κs.1.0 in let q = qs.0 in let q₁ = qs.1.0 in
+    let κ = κs.0 in let q = qs.0 in
     let rb : ℕ = a.0.ref_ptr.0 in let ro : ℕ = a.0.ref_ptr.1 in let h : Global = a.0.now in let g : Global = a.1.0 in
     let n : ℕ = a.1.1.0 in let n_fits : n < 2 ^ 64 = are.1.1.0.1 in
     let y : W.Ghost = ((κs, qs, bounds, a, (shr_vals a.0, (heap_val ∷ [], (uint_vals w64 n, tt)))), tt) in
     let s : ℕ = item_size E in
-    qed 𝓛 (((‵ (flft κ q) ⊛ ‵ (flft κ₁ q₁) ⊛ ‵ ftrue) ⊛ ‵ (owns (types_at ended.signature.params κs) a y.0.4))
-    ∷ (raw (fact 𝓤 (κ₁ ⊑ X.lives)) ⊛ raw (fact 𝓤 (0 < n * s)) ⊛ raw (fact 𝓤 (n * s < 2 ^ 63))) ∷ []) ∵
-    move ! (1 ∷ []) $ split ! $ drop ! $ split ! $ heard ! (0 < n * s) (λ some. heard ! (n * s < 2 ^ 63) (λ named_by.
+    qed 𝓛 (((‵ (flft κ q) ⊛ ‵ (flft κs.1.0 qs.1.0) ⊛ ‵ ftrue) ⊛ ‵ (owns (types_at ended.signature.params κs) a y.0.4))
+    ∷ raw ((c κs a).requires tt) ∷ []) ∵
+    move ! (1 ∷ []) $ first_fact ! (λ _. first_fact ! (λ some. heard ! _ (λ named_by.
     let bytes : n * s < 2 ^ 64 = omega arith in
     split ! $ split ! $ move ! (2 ∷ []) $ fsplit ! $ fsplit ! $ drop ! $ keep ! (0 ∷ 2 ∷ 3 ∷ []) $
     -- [the `&`; its token; the other tokens]
-    enter ! 𝓣.C 𝓣.Λ here (vptr rb ro ∷ heap_val ∷ vint w64 n ∷ []) _ $
+    enter ! _ _ _ _ _ $
     alloc_all ! (λ l. pass_all ! refl ((tt, tt), (heap_Good, ((tt, record { fits = n_fits }), tt))) $
     let En : Env 𝓤 𝓛.H = env here.locals l in
     let arms : Body = head (after 2 here.body) in
-    let Then : After 𝓤 𝓛.H = any_q (after_seq 𝓤 𝓛.H
-    (Wp 𝓤 𝓛.H 𝓣.C 𝓣.Λ En (after 3 here.body) (at_return 𝓤 𝓛.H En (W.post y))) (at_return 𝓤 𝓛.H En (W.post y))) in
-    let al : ℕ = capped (align (elτ E)) in let τ = block_ty E n in
-    let z : (Allocates 𝓛 𝓜.mem 𝓡.returns).Ghost = to_allocate 𝓛 𝓜.mem 𝓡.returns κ q (rb, ro) h (n * s) al τ in
-    let asked : Asks 𝓛 𝓜.mem 𝓡.returns κ q (rb, ro) h τ (n * s) al = record {
-      size_is = block_size E n bytes;
-      align_is = block_align E n;
-      size_fits = bytes;
-      align_fits = capped_fits (align (elτ E));
-    } in
+    let Then : After 𝓤 𝓛.H = any_q (after_seq 𝓤 𝓛.H _ (at_return 𝓤 𝓛.H En (W.post y))) in
+    let Asks = Allocates 𝓛 𝓜.mem 𝓡.returns in
+    let z : Asks.Ghost = to_allocate 𝓛 𝓜.mem 𝓡.returns E n κ q (rb, ro) h in
     sets ! (scaled ! (get ! refl) bytes) refl (tt, record { fits = bytes }) $
-    use2 𝓛 (raw ((Allocates 𝓛 𝓜.mem 𝓡.returns).pre z))
-    (allocate_goes 𝓛 𝓜.mem 𝓡.returns κ q (rb, ro) h (n * s) al τ asked) $
-    calls_at ! (framed 𝓤 𝓛.H 𝓜 𝓣) (Allocates 𝓛 𝓜.mem 𝓡.returns)
+    use2 𝓛 (raw (Asks.pre z)) (allocate_goes 𝓛 𝓜.mem 𝓡.returns E n κ q (rb, ro) h bytes) $
+    calls_at ! (framed 𝓤 𝓛.H 𝓜 𝓣) Asks
     (met 𝓤 𝓛 𝓜 𝓡 (code.calls-std_heap::GlobalAllocator::allocate 𝓡.env wired)) z
     (and_then ! (get ! refl) (and_then ! (get ! refl) (and_then ! (align_word !) (no_more !)))) (λ v.
-    use1 𝓛 (later (raw (Answered 𝓛 𝓜.mem 𝓡.returns h τ v) ⊛ ‵ (flft κ q)))
-    (allocate_gives 𝓛 𝓜.mem 𝓡.returns κ q (rb, ro) h (n * s) al τ v) $ await ! tt $ split ! $
-    answers ! 𝓜.mem 𝓡.returns h τ v
+    allocated ! tt 𝓜.mem 𝓡.returns E n κ q (rb, ro) h v
     (λ b o e.
-    let r : Seen E = empty_region n in let long : n ≡ length r.places = sym (length-replicate n None) in
+    let r : Seen E = empty_region n in
     let made : Val = slots_val b o n in let typed : Good (layout (Sr E)) made = slots_Good E b o n n_fits in
     let ok = first_Good (layout (Sr E)) made typed in
     lands_as ! e refl (Answer-typed true b o) $ first ! $
@@ -87,22 +78,14 @@ with_memory_spec 𝓤 𝓛 𝓜 𝓡 wired X L =
     sets ! (agg ! (and_then ! (get ! refl) (and_then ! (get ! refl) (and_then ! (get ! refl) (no_more !)))))
     refl typed $
     sets_last ! (agg ! (and_then ! (lit ! tt) (and_then ! (get ! refl) (no_more !)))) refl ok $
-    exec ! 𝓣.C 𝓣.Λ En (after 3 here.body) (at_ret En (W.post y)) $ sets ! (of_opd ! (get ! refl)) refl ok $
+    exec ! 𝓣.C 𝓣.Λ En (after 3 here.body) (at_ret _ (W.post y)) $ sets ! (of_opd ! (get ! refl)) refl ok $
     as_written ! (ty_array (elτ E) n) b o $ use1 𝓛 (‵ (places E r b o)) (of_room E 𝓛 b n o) $ move ! (1 ∷ []) $
-    use1 𝓛 (given (o ≡ 0) (‵ (token E g n (block_ptr b o)))) (token_at_start E 𝓛 g n b o) $ learn ! (λ start.
-    rewrite ! 0 (λ (m : ℕ). ‵ (token E g m (block_ptr b o))) long refl $
-    rewrite ! 0 (λ (F : Fml). ‵ F)
-    (sym (right_is E g (length r.places) (block_ptr b o) (subst (λ m. 0 < m * s) long some))) refl $
+    use1 𝓛 (given (o ≡ 0) (‵ (right E g n b o))) (right_at_start E 𝓛 g n b o some) $ learn ! (λ start.
     move ! (1 ∷ 0 ∷ []) $
-    slots_made E ! g r b o n (record {
-      capacity = long;
-      word = n_fits;
-      reach = subst (λ m. m * s + o < 2 ^ 63) long (omega arith);
-    }) $
+    slots_made E ! g r b o n (Fits-empty E o n n_fits (omega arith)) $
     use1 𝓛 (‵ (Out.own_val (Ok r) (live 0 (vcons made vnil) ∷ []))) (ok_of 𝓛 (Sr E) refusals.the_row r made) $
     returns ! (look_at ! 0 refl) $ free_all ! refl $ keep ! (0 ∷ 1 ∷ 2 ∷ []) $
-    suffices ! _ (ends_at 𝓛 ended stayed c y (live 0 (vcons made vnil)) (Ok r) (tt, (tt, (tt, tt)))
-    (tt, (tt, (tt, tt)))) $ says ! refl $
+    suffices ! _ (ends_at 𝓛 ended stayed c y (live 0 (vcons made vnil)) (Ok r) _ _) $ says ! refl $
     move ! (1 ∷ 2 ∷ []) $ join ! $ frame ! $ nothing ! $ nothing ! $ fjoin ! $ nothing ! $ fjoin ! $ nothing ! $
     fjoin ! $ done !))
     (λ e.
@@ -115,7 +98,7 @@ with_memory_spec 𝓤 𝓛 𝓜 𝓡 wired X L =
     refl (tt, tt) $
     sets_last ! (agg ! (and_then ! (lit ! tt) (and_then ! (get ! refl) (no_more !)))) refl
     (tt, (record { fits = lit< tt }, (tt, tt))) $
-    exec ! 𝓣.C 𝓣.Λ En (after 3 here.body) (at_ret En (W.post y)) $
+    exec ! 𝓣.C 𝓣.Λ En (after 3 here.body) (at_ret _ (W.post y)) $
     sets ! (of_opd ! (get ! refl)) refl (tt, (record { fits = lit< tt }, (tt, tt))) $
     owned ! Refusal (Is Refusal) (Struct-Makes 𝓛 (Declared.shape refusals.the_type) tt) tt (vstruct vnil ∷ [])
     (tt, (refl, tt)) $
@@ -123,6 +106,6 @@ with_memory_spec 𝓤 𝓛 𝓜 𝓡 wired X L =
     (‵ (Out.own_val (Err (record {})) (none ∷ []))) (err_of 𝓛 (Sr E) refusals.the_row (record {}) (vstruct vnil)) $
     returns ! (look_at ! 0 refl) $ free_all ! refl $ keep ! (0 ∷ 1 ∷ 2 ∷ []) $
     suffices ! _
-    (ends_at 𝓛 ended stayed c y none (Err (record {})) (tt, (tt, (tt, tt))) (tt, (tt, (tt, tt)))) $ says ! tt $
+    (ends_at 𝓛 ended stayed c y none (Err (record {})) _ _) $ says ! tt $
     move ! (1 ∷ 2 ∷ []) $ join ! $ frame ! $ nothing ! $ nothing ! $ fjoin ! $ nothing ! $ fjoin ! $ nothing ! $
-    fjoin ! $ done !))))))
+    fjoin ! $ done !)))))))

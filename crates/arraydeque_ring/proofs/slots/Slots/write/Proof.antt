@@ -1,14 +1,14 @@
 -- `write` fills an empty place. Assumes `Logic`.
 use Rattle.arraydeque_ring.proofs.memory.{
-  Kit.{refl, sym, subst, List, [], ◌∷◌, ℕ, ◌+◌, ◌*◌, ◌<◌, ◌^◌, arith, length, get_or, set, length-set, Some, None, ent},
-  Kit.{ftrue, flft, Fn, inst_fn, w64, Val, vunit, vint, vptr, Env, WpFn, ◌⊑◌, fact, tables, owns, types_at, ‵, raw},
-  Kit.{◌⊛◌, at_ret, ◌$◌, ◌∵◌, !, qed, move, keep, use1, use2, drop, split, join, rewrite, fsplit, fsplit3, fjoin},
-  Kit.{fjoin3, feq_i, suffices, done, whole, sub, look_in, enter, of_opd, unit_lit, bin, load, init, stop, fld},
-  Kit.{assigns_last, first, blocks, exec, returns, alloc_all, pass_all, free_all, look_at, get, through, sets, env},
-  Kit.{yes, no, plain, usize, Vals, Stays, walk_of, stay_dropped, stay_ref, Goes-dropped, Goes-ref, ends_at, nothing},
-  Kit.{heard, as_written, after, says, El, R, args, el_x, elτ, lawful, one, proved_at},
-  Regions.{scaled, Sr, Seen, near, places, slots_open, slots_close, item_size, Place, Around, place_out, place_in},
-  Regions.{value_in, place_owned, IsEmpty},
+  Kit.{part_in, full_share, refl, sym, subst, [], ◌∷◌, ℕ, ◌+◌, ◌*◌, ◌<◌, arith, length, set, length-set, Some, ent},
+  Kit.{ftrue, flft, Fn, inst_fn, w64, Val, vunit, vint, vptr, WpFn, tables, owns, types_at, ‵, raw, ◌⊛◌, at_ret, ◌$◌},
+  Kit.{◌∵◌, !, qed, move, keep, use2, split, join, fsplit, fsplit3, fjoin, fjoin3, feq_i, suffices, done, whole, sub},
+  Kit.{look_in, enter, of_opd, unit_lit, bin, load, init, stop, fld, assigns_last, first, blocks, exec, returns},
+  Kit.{alloc_all, pass_all, free_all, look_at, get, through, sets, env, yes, no, plain, usize, Vals, Stays, walk_of},
+  Kit.{stay_dropped, stay_ref, Goes-dropped, Goes-ref, ends_at, nothing, heard, as_written, after, says, El, R, args},
+  Kit.{el_x, elτ, lawful, one, proved_at},
+  Methods.first_fact,
+  Regions.{scaled, Sr, Seen, near, slots_open, slots_close, item_size, place_out, place_in, place_owned},
 }
 use Rattle.arraydeque_ring.specs.contracts.slots.Slots.write as f
 use Rattle.arraydeque_ring.proofs.slots.Slots.write.Statement as stated
@@ -35,25 +35,21 @@ write_spec 𝓤 𝓛 𝓜 𝓡 wired X L =
     let x : el_x E = a.1.1.0 in
     let given_x = one E z.0.4.1.1.0 ((lawful E 𝓛).typed x z.0.4.1.1.0 are.1.1.0) in let v : Val = given_x.0 in
     let v_fits = given_x.2 in
-    let i_fits : i < 2 ^ 64 = are.1.0.1 in
     let y : W.Ghost = ((z.0.0, z.0.1, z.0.2, a, (vptr rb ro ∷ [], (vint w64 i ∷ [], (v ∷ [], tt)))), z.1) in
     subst (λ (vss : Vals ended.signature z.0.0). Goes ((z.0.0, z.0.1, z.0.2, a, vss), z.1))
     (sym (λ k. (are.0.0 k, (are.1.0.0 k, (given_x.1 k, tt))))) (
-    let s : ℕ = item_size E in let Asked : Type 0 = IsEmpty r.places i in
+    let s : ℕ = item_size E in
     qed 𝓛 (((‵ (flft κ q) ⊛ ‵ (flft κ₁ q₁) ⊛ ‵ ftrue) ⊛ ‵ (owns (types_at ended.signature.params z.0.0) a y.0.4))
-    ∷ (raw (fact 𝓤 (κ₁ ⊑ X.lives)) ⊛ raw (fact 𝓤 Asked)) ∷ []) ∵
-    move ! (1 ∷ []) $ split ! $ drop ! $ heard ! Asked (λ asked. let within : i < length r.places = asked.0 in
+    ∷ raw ((c z.0.0 a).requires z.1) ∷ []) ∵
+    move ! (1 ∷ []) $ first_fact ! (λ _. heard ! _ (λ asked. let within : i < length r.places = asked.0 in
     split ! $ split ! $ move ! (2 ∷ []) $ fsplit3 ! $ fsplit3 ! $ move ! (4 ∷ []) $ fsplit ! $
     keep ! (3 ∷ 4 ∷ 6 ∷ 0 ∷ 7 ∷ []) $
-    enter ! 𝓣.C 𝓣.Λ here (vptr rb ro ∷ vint w64 i ∷ v ∷ []) _ $
-    alloc_all ! (λ l. pass_all ! refl ((tt, tt), ((tt, record { fits = i_fits }), (v_fits, tt))) $
-    let En : Env 𝓤 𝓛.H = env here.locals l in
+    enter ! _ _ _ _ _ $
+    alloc_all ! (λ l. pass_all ! refl ((tt, tt), ((tt, record { fits = are.1.0.1 }), (v_fits, tt))) $
     slots_open E ! tt r rb ro (λ g b o n ok.
     let far = near E ok i (omega arith) in
     let new : Seen E = record r { places = set r.places i (Some x) } in
-    use1 𝓛 (‵ (place_owned (R E) b (i * s + o) (get_or r.places i None)) ⊛ ‵ (Around E 𝓛 b o r.places i 1))
-    (place_out E 𝓛 b o r.places i within) $ split ! $
-    rewrite ! 0 (λ (p : Place E). ‵ (place_owned (R E) b (i * s + o) p)) asked.1 refl $
+    place_out E ! b o r.places i within asked.1 $
     as_written ! (elτ E) b (i * s + o) $
     -- [the room; the other places; the right; the words; the open borrow, in three; what x owns; the other token]
     first ! $ blocks ! $
@@ -62,13 +58,15 @@ write_spec 𝓤 𝓛 𝓜 𝓡 wired X L =
     sets ! (scaled ! (get ! refl) far) refl (tt, record { fits = far }) $
     sets ! (bin ! (get ! refl) (get ! refl) tt) refl (tt, tt) $ sets ! (of_opd ! (get ! refl)) refl v_fits $
     assigns_last ! (of_opd ! (get ! refl)) (through ! refl (stop !)) (init ! 0 refl v_fits) $
-    exec ! 𝓣.C 𝓣.Λ En (after 1 here.body) (at_ret En (W.post y)) $ sets ! (of_opd ! (unit_lit !)) refl (tt, tt) $
-    move ! (0 ∷ 7 ∷ []) $ use2 𝓛 (‵ (place_owned (R E) b (i * s + o) (Some x))) (value_in 0 X L 𝓛 x b (i * s + o) v) $
-    use2 𝓛 (‵ (places E new b o)) (place_in E 𝓛 b o r.places i within (Some x)) $
+    exec ! 𝓣.C 𝓣.Λ (env here.locals l) (after 1 here.body) (at_ret _ (W.post y)) $
+    sets ! (of_opd ! (unit_lit !)) refl (tt, tt) $
+    move ! (0 ∷ 7 ∷ []) $ use2 𝓛 (‵ (place_owned (R E) b (i * s + o) (Some x)))
+    (part_in 𝓛 (R E) refl full_share x b (i * s + o) v) $
+    place_in E ! b o r.places i within (Some x) $
     slots_close E ! tt g r new b o n rb ro ok (sym (length-set r.places i (Some x))) $
     returns ! (look_at ! 0 refl) $ free_all ! refl $
-    suffices ! _ (ends_at 𝓛 ended stayed c y vunit tt (new, (tt, (tt, tt))) (tt, (tt, (tt, tt)))) $ says ! refl $
-    feq_i ! (List Val) (vptr rb ro ∷ []) (vptr rb ro ∷ []) refl $ fjoin3 ! $ nothing ! $ nothing ! $ fjoin ! $
+    suffices ! _ (ends_at 𝓛 ended stayed c y vunit tt (new, _) _) $ says ! refl $
+    feq_i ! _ (vptr rb ro ∷ []) _ refl $ fjoin3 ! $ nothing ! $ nothing ! $ fjoin ! $
     nothing ! $ fjoin ! $ move ! (1 ∷ 0 ∷ []) $ fjoin ! $
-    move ! (1 ∷ 2 ∷ []) $ join ! $ feq_i ! (List Val) (vunit ∷ []) (vunit ∷ []) refl $
-    keep ! (1 ∷ 2 ∷ 0 ∷ []) $ done !)))))
+    move ! (1 ∷ 2 ∷ []) $ join ! $ feq_i ! _ (vunit ∷ []) _ refl $
+    keep ! (1 ∷ 2 ∷ 0 ∷ []) $ done !))))))
