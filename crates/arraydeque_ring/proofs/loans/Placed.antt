@@ -1,31 +1,27 @@
--- Values that are written into runs of places: as many places are filled as before, and the same.
+-- What is written in the stead of as many items of a list, or of as many places, and runs that lie apart.
 use Rattle.std.{
   proofs.{
-    Common.{◌≡◌, ℕ, zero, suc, ◌+◌, ◌-◌, ◌≤◌, ◌⊎◌, inl, inr, List, [], ◌∷◌, ◌++◌, map, length, take, drop, replicate},
-    Common.{Option, Some, is_some, true, refl, sym, ap, ap₂, ◌∙◌, arith},
+    Common.{◌≡◌, ℕ, zero, suc, ◌+◌, ◌-◌, ◌≤◌, ◌⊎◌, inl, inr, List, ◌++◌, map, length, take, drop, Option, Some, refl},
+    Common.{sym, ap, ap₂, ◌∙◌, arith},
     lemmas.{
       Bool.cases_lt,
       Grind.common_steps,
-      List.{length-map, nil_from_length, length-take, map-append, append_assoc, take_at, drop_at, drop-take, take-take},
+      List.{length-map, nil_from_length, length-take, append_assoc, take_at, drop_at, drop-take, take-take},
       List.{take-append-drop, take-append-le, drop-append-le, drop-drop},
     },
   },
-  specs.List.{length_refill, splice, take-map, drop-map},
+  specs.List.{length_refill, splice},
 }
-use Rattle.arraydeque_ring.specs.{Loans.{as_many, with_run, AreApart}, Places.HoldsRun, Ring.filled}
+use Rattle.arraydeque_ring.specs.Loans.{as_many, with_run, AreApart}
 
 module _ {Y : Type 0} where
   -- the list, with ws in the stead of the n items from the index i on
   abbrev pub placed : ℕ → ℕ → List Y → List Y → List Y
   placed i n ws ps = splice ps i (i + n) ws
 
-  -- the items that are there already
-  placed_same : (i n : ℕ) (ps : List Y) → placed i n (take n (drop i ps)) ps ≡ ps
-  placed_same i n ps = rw (sym (drop-drop n i ps), take-append-drop n (drop i ps), take-append-drop i ps)
-
   -- no item changes nothing
   pub placed_nothing : (i : ℕ) (ws ps : List Y) → length ws ≡ 0 → placed i 0 ws ps ≡ ps
-  placed_nothing i ws ps e = rw (nil_from_length ws e) (placed_same i 0 ps)
+  placed_nothing i ws ps e = rw (nil_from_length ws e, sym (drop-drop 0 i ps)) (take-append-drop i ps)
 
   pub length-placed : (i n : ℕ) (ws ps : List Y) → i + n ≤ length ps → length ws ≡ n
       → length (placed i n ws ps) ≡ length ps
@@ -90,57 +86,8 @@ module _ {X : Type 0} where
       → length (with_run from ws ps) ≡ length ps
   length-with_run from ws ps within = length-placed from (length ws) (map Some ws) ps within (length-map ws Some)
 
-  filled-map_Some : (ws : List X) → filled (map Some ws) ≡ replicate (length ws) true
-  unfolding filled
-  filled-map_Some [] = refl
-  filled-map_Some (w ∷ ws) = ap (λ l. true ∷ l) (filled-map_Some ws)
-
-  filled-with_run : (from : ℕ) (ws : List X) (ps : List (Option X))
-      → filled (with_run from ws ps) ≡ placed from (length ws) (replicate (length ws) true) (filled ps)
-  unfolding filled
-  filled-with_run from ws ps = rw (
-    map-append is_some (take from ps) (map Some ws ++ drop (from + length ws) ps),
-    map-append is_some (map Some ws) (drop (from + length ws) ps),
-    take-map is_some from ps,
-    drop-map is_some (from + length ws) ps,
-  ) (ap (λ l. filled (take from ps) ++ (l ++ filled (drop (from + length ws) ps))) (filled-map_Some ws))
-
-  -- as many values in the stead of a run of values fill no place and empty none
-  written_filled : (from : ℕ) (xs ws : List X) (ps qs : List (Option X)) → HoldsRun ps from (length xs) xs
-      → length ws ≡ length xs → filled qs ≡ filled ps → filled (with_run from ws qs) ≡ filled ps
-  unfolding filled
-  written_filled from xs ws ps qs run e same =
-      let n = length xs in
-      let held : replicate n true ≡ take n (drop from (filled ps)) = sym (ap (take n) (drop-map is_some from ps)
-      ∙ take-map is_some n (drop from ps) ∙ ap filled run ∙ filled-map_Some xs) in
-      filled-with_run from ws qs ∙ ap (λ k. placed from k (replicate k true) (filled qs)) e
-      ∙ ap₂ (placed from n) held same ∙ placed_same from n (filled ps)
-
 -- a run that ends before the j-th item
 pub run_before : {Y : Type 0} (ps : List Y) (i m j : ℕ) → i + m ≤ j → take m (drop i (take j ps)) ≡ take m (drop i ps)
 run_before ps i m j le =
     let e : j ≡ i + (j - i) = omega arith in
     rw (e, drop-take i (j - i) ps, take-take m (j - i) (drop i ps) (omega arith))
-
-module _ {X : Type 0} (ps : List (Option X)) where
-  -- a run has as many values as places
-  pub run_length : (from len : ℕ) (xs : List X) → from + len ≤ length ps → HoldsRun ps from len xs → length xs ≡ len
-  run_length from len xs within run =
-      grind (arith, common_steps, ap length run)
-
-  -- what is written into two runs of values fills no place and empties none
-  module _ (a la : ℕ) (xs : List X) (in_a : a + la ≤ length ps) (run : HoldsRun ps a la xs) (b lb : ℕ) (ys : List X)
-      (in_b : b + lb ≤ length ps) (run' : HoldsRun ps b lb ys) (us vs : List X) where
-    abbrev written : List (Option X)
-    written = with_run b (as_many ys vs) (with_run a (as_many xs us) ps)
-
-    pub two_filled : filled written ≡ filled ps
-    two_filled =
-        let held : HoldsRun ps a (length xs) xs = rw (run_length a la xs in_a run) run in
-        let held' : HoldsRun ps b (length ys) ys = rw (run_length b lb ys in_b run') run' in
-        written_filled b ys (as_many ys vs) ps (with_run a (as_many xs us) ps) held' (length-as_many ys vs)
-        (written_filled a xs (as_many xs us) ps ps held (length-as_many xs us) refl)
-
-    pub length-two_written : length written ≡ length ps
-    unfolding filled
-    length-two_written = sym (length-map written is_some) ∙ ap length two_filled ∙ length-map ps is_some

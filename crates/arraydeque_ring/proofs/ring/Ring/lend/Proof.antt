@@ -14,13 +14,12 @@ use Rattle.arraydeque_ring.{
       Called.{knows, returned},
     },
     loans.{
-      Lending.{Cut, cut_at_end, kept_after, seen_after, both_written, lent_items, first_run_filled, second_run_filled},
+      Lending.{Cut, cut_at_end, open_after, both_written, lent_items, first_run_filled, second_run_filled},
       Made.loan_renamed,
-      Placed.run_length,
       Names.{hands_on, followed_both},
       Rings.{Rr, Fields, Others, Way, fields_out, slots_out, ring_whole},
     },
-    places.{LaidOut.length_within, Opened.{opened, view, Kept}},
+    places.{Held.length_filled, LaidOut.length_within, Opened.{opened, view, Kept}},
     slots.Slots.lend_round.Met.met,
   },
   specs.{Loans.{LoanState, as_many}, Ring.RingState, RingLends.rewritten},
@@ -75,7 +74,7 @@ lend_spec 𝓤 𝓛 𝓜 𝓡 wired X L =
     -- [the length; the start; nothing; the slots; ..]
     move ! (0 ∷ 2 ∷ []) $ fjoin ! $ move ! (1 ∷ 0 ∷ []) $ fjoin ! $ move ! (1 ∷ []) $
     let room : ℕ = length x.slots.places - x.start in let first : ℕ = min x.len room in let rest : ℕ = x.len - first in
-    let cut : Cut x first rest = cut_at_end x kept first refl in let open_ring = opened x kept seen in
+    let cut : Cut x first = cut_at_end x kept first refl in let open_ring = opened x kept seen in
     sets ! (addr ! (through ! refl (fld ! refl (stop !)))) refl (tt, tt) $
     -- [the slots; the other fields; the way back; the open borrow, in three; half its token; the others]
     move ! (3 ∷ []) $ ages ! (λ age. name_new ! tt ((Sr E).coded.code x.slots) (λ δ.
@@ -116,7 +115,7 @@ lend_spec 𝓤 𝓛 𝓜 𝓡 wired X L =
     -- [what δ follows; what the loan's name follows;
     -- the loan; the tokens; the right; the open borrow; the other fields; the way back; obs γ; auth γ]
     let Lists = mem (two_lists (R E)) in let Put : List (el_x E) × List (el_x E) → Seen E =
-    λ w. both_written x seen kept cut it.first.now it.second.now held held' w.0 w.1 in
+    λ w. both_written x it.first.now it.second.now w.0 w.1 in
     let V : List (el_x E) × List (el_x E) → RingState (el_x E) = λ w.
     rewritten d (as_many it.first.now w.0 ++ as_many it.second.now w.1) in
     let Rest = sep 𝓤 (sem 𝓛 (Others E 𝓛 rb ro x)) (Way E 𝓛 rb ro) in
@@ -124,9 +123,8 @@ lend_spec 𝓤 𝓛 𝓜 𝓡 wired X L =
     use1 𝓛 (later (some (λ (ν : GName). ‵ (flft κ l) ⊛ ‵ (after (mem (Rr E))
     (mem (Rr E)) γ ν (λ u. rewritten d u.items)) ⊛ ‵ (after (mem (Rr E)) Lists ν it.name V))))
     (hands_on 𝓛 (mem (Rr E)) (mem (Sr E)) Lists (λ u. rewritten d u.items) V Put κ l rb ro rb (ro + 0) γ δ it.name Rest
-    (λ w. ring_whole E 𝓛 rb ro (rewritten d (V w).items) x (Put w) (seen_after x seen kept cut it.first.now
-    it.second.now held held' w.0 w.1)
-    (kept_after x seen kept cut it.first.now it.second.now held held' w.0 w.1)) age coded coded d) $
+    (λ w. ring_whole E 𝓛 rb ro (rewritten d (V w).items) x (Put w) (open_after open_ring cut it.first.now it.second.now
+    held held' w.0 w.1)) age coded coded d) $
     await ! tt $ pick ! (λ ν. split3 ! $
     -- [half the token; what γ follows; what ν follows; what the loan's name follows; the loan; the tokens]
     let Rows = mem (Array (R E) 0) in move ! (2 ∷ 3 ∷ []) $
@@ -145,7 +143,7 @@ lend_spec 𝓤 𝓛 𝓜 𝓡 wired X L =
     let none : d.start + length d.items ≤ d.capacity → it.second.now ≡ [] =
     λ in_one_piece. nil_from_length it.second.now (omega (
       arith,
-      run_length x.slots.places 0 rest it.second.now (second_run_filled open_ring cut).0 held',
+      length_filled x.slots.places 0 rest ((second_run_filled open_ring cut).0, (it.second.now, held')),
       open_ring.len,
       open_ring.start,
       open_ring.laid.length_is,

@@ -8,7 +8,8 @@ use Rattle.arraydeque_ring.{
       Kit.{frame, rewrite, await, fsplit, fjoin, feq_i, feq_l, suffices, done, whole, sub, look_in, agg, of_opd, bin},
       Kit.{load, stop, fld, no_more, and_then, first, blocks, exec, returns, alloc_all, pass_all, free_all, look_at},
       Kit.{get, through, sets, sets_last, env, mem, says_two, heard, after, El, R, args, el_x, after₂, split3, group},
-      Kit.{SemTy, all, all_e, apply∗, follows, both_by, MutBor, NamedLft, named_lft, MutSlice, slice_val, Global, Fml},
+      Kit.{common_steps, SemTy, all, all_e, apply∗, follows, both_by, MutBor, NamedLft, named_lft, MutSlice, slice_val},
+      Kit.{Global, Fml},
       Regions.{Sr, Seen, Fits, near, run_fits, Frame, slots_whole, slots_open, scaled, item_size, Place, places_owned},
       Regions.{IsFilledRun, HoldsRun},
       Methods.{method, spent},
@@ -16,7 +17,7 @@ use Rattle.arraydeque_ring.{
     loans.{
       Made.{loan_val, loan_made},
       Names.takes_named,
-      Placed.{placed, apart_within, as_many-same, length-two_written},
+      Placed.{placed, apart_within, as_many-same, length-as_many},
       Runs.{run, News, Filling, two_out, same_cells},
     },
     places.Held.length_filled,
@@ -54,12 +55,11 @@ module _ (E : El) {M : Type 1} {𝓤 : Ura M} (𝓛 : Logic 𝓤) (rb ro : ℕ) 
   abbrev Rest : SProp 𝓤
   Rest = sep 𝓤 (all 𝓤 Way) (sem 𝓛 (Frame E 𝓛 rb ro g r p o n))
 
-  back : Fits E r o n → a + length xs ≤ length r.places → HoldsRun r.places a (length xs) xs
-      → b + length ys ≤ length r.places → HoldsRun r.places b (length ys) ys → (us vs : List (el_x E))
+  back : Fits E r o n → a + length xs ≤ length r.places → b + length ys ≤ length r.places → (us vs : List (el_x E))
       → ent 𝓤 (sep 𝓤 (sem 𝓛 ((Lin E (length xs)).own_at us p (a * s + o)))
       (sep 𝓤 (sem 𝓛 ((Lin E (length ys)).own_at vs p (b * s + o))) Rest))
       (sem 𝓛 ((mem (Sr E)).own_at (Written E r a b xs ys us vs) rb ro))
-  back ok in_a held in_b held' us vs =
+  back ok in_a in_b us vs =
       qed 𝓛 (‵ ((Lin E (length xs)).own_at us p (a * s + o)) ∷ ‵ ((Lin E (length ys)).own_at vs p (b * s + o))
       ∷ (raw (all 𝓤 Way) ⊛ ‵ (Frame E 𝓛 rb ro g r p o n)) ∷ []) ∵
       fsplit ! $ feq_l ! (λ same. move ! (1 ∷ []) $ fsplit ! $ feq_l ! (λ same'.
@@ -76,7 +76,7 @@ module _ (E : El) {M : Type 1} {𝓤 : Ura M} (𝓛 : Logic 𝓤) (rb ro : ℕ) 
       use2 𝓛 (‵ (places_owned (R E) p o put)) (apply∗ 𝓤 (sep 𝓤 (sem 𝓛 (places_owned (R E) p (a * s + o) w.0))
       (sem 𝓛 (places_owned (R E) p (b * s + o) w.1))) (sem 𝓛 (places_owned (R E) p o put))) $
       rewrite ! 0 (λ (ps : List (Place E)). ‵ (places_owned (R E) p o ps)) alike refl $ by ! (slots_whole E 𝓛 rb ro g r
-      p o n ok new (sym (length-two_written r.places a (length xs) xs in_a held b (length ys) ys in_b held' us vs)))))
+      p o n ok new (sym (grind (arith, common_steps, in_a, in_b, length-as_many xs us, length-as_many ys vs))))))
 
 pub lend_two_spec : {M : Type 1} → stated.statement M
 unfolding both_by
@@ -124,7 +124,7 @@ lend_two_spec 𝓤 𝓛 𝓜 𝓡 wired X L =
     exec ! 𝓣.C 𝓣.Λ En (after 1 here.body) (at_ret En post) $ sets ! (of_opd ! (get ! refl)) refl
     (tt, ((tt, (la_ok, tt)), ((tt, (lb_ok, tt)), ((tt, tt), tt)))) $
     let pa = a * s + o in let pb = b * s + o in let Rest₀ = Rest E 𝓛 rb ro r a b xs ys g p o n in
-    let way = back E 𝓛 rb ro r a b xs ys g p o n ok in_a held in_b held' in
+    let way = back E 𝓛 rb ro r a b xs ys g p o n ok in_a in_b in
     use1 𝓛 (‵ (places_owned (R E) p pa (run E 𝓛 p o r.places a (length xs))) ⊛ ‵ (places_owned (R E) p pb
     (run E 𝓛 p o r.places b (length ys))) ⊛ raw (all 𝓤 (Way E 𝓛 rb ro r a b xs ys g p o n)))
     (two_out E 𝓛 p o r.places a (length xs) b (length ys) in_a in_b clear) $ split3 ! $
