@@ -9,7 +9,7 @@ use Rattle.arraydeque_ring.{
       Kit.{load, stop, fld, no_more, and_then, first, blocks, exec, returns, alloc_all, pass_all, free_all, look_at},
       Kit.{get, through, sets, sets_last, env, mem, says_two, heard, after, El, R, args, el_x, after₂, split3, group},
       Kit.{common_steps, SemTy, all, all_e, apply∗, follows, both_by, MutBor, NamedLft, named_lft, MutSlice, slice_val},
-      Kit.{Global, Fml},
+      Kit.{Global, Fml, fsep},
       Regions.{Sr, Seen, Fits, near, run_fits, Frame, slots_whole, slots_open, scaled, item_size, Place, places_owned},
       Regions.{IsFilledRun, HoldsRun},
       Methods.{method, spent},
@@ -55,14 +55,15 @@ module _ (E : El) {M : Type 1} {𝓤 : Ura M} (𝓛 : Logic 𝓤) (rb ro : ℕ) 
   abbrev Rest : SProp 𝓤
   Rest = sep 𝓤 (all 𝓤 Way) (sem 𝓛 (Frame E 𝓛 rb ro g r p o n))
 
-  back : Fits E r o n → a + length xs ≤ length r.places → b + length ys ≤ length r.places → (us vs : List (el_x E))
-      → ent 𝓤 (sep 𝓤 (sem 𝓛 ((Lin E (length xs)).own_at us p (a * s + o)))
-      (sep 𝓤 (sem 𝓛 ((Lin E (length ys)).own_at vs p (b * s + o))) Rest))
-      (sem 𝓛 ((mem (Sr E)).own_at (Written E r a b xs ys us vs) rb ro))
-  back ok in_a in_b us vs =
-      qed 𝓛 (‵ ((Lin E (length xs)).own_at us p (a * s + o)) ∷ ‵ ((Lin E (length ys)).own_at vs p (b * s + o))
+  back : Fits E r o n → a + length xs ≤ length r.places → b + length ys ≤ length r.places
+      → (w : List (el_x E) × List (el_x E)) → ent 𝓤 (sep 𝓤 (sem 𝓛 (fsep ((Lin E (length xs)).own_at w.0 p (a * s + o))
+      ((Lin E (length ys)).own_at w.1 p (b * s + o)))) Rest)
+      (sem 𝓛 ((mem (Sr E)).own_at (Written E r a b xs ys w.0 w.1) rb ro))
+  back ok in_a in_b w =
+      let us = w.0 in let vs = w.1 in
+      qed 𝓛 (‵ (fsep ((Lin E (length xs)).own_at us p (a * s + o)) ((Lin E (length ys)).own_at vs p (b * s + o)))
       ∷ (raw (all 𝓤 Way) ⊛ ‵ (Frame E 𝓛 rb ro g r p o n)) ∷ []) ∵
-      fsplit ! $ feq_l ! (λ same. move ! (1 ∷ []) $ fsplit ! $ feq_l ! (λ same'.
+      fsplit ! $ fsplit ! $ feq_l ! (λ same. move ! (1 ∷ []) $ fsplit ! $ feq_l ! (λ same'.
       let put = placed b (length ys) (map Some vs) (placed a (length xs) (map Some us) r.places) in
       let new : Seen E = Written E r a b xs ys us vs in
       let alike : put ≡ new.places = rw (as_many-same xs us same, as_many-same ys vs same', sym same, sym same') in
@@ -134,17 +135,17 @@ lend_two_spec 𝓤 𝓛 𝓜 𝓡 wired X L =
     rewrite ! 0 (λ (F : Fml). ‵ F) (same_cells E 𝓛 p ys pb) refl $
     -- [the second's values; the first's; the way; the right; the words; the open borrow, in three; the other token]
     move ! (3 ∷ 4 ∷ []) $ fjoin ! $ move ! (3 ∷ 0 ∷ []) $ join ! $ move ! (1 ∷ []) $ feq_i ! ℕ (length ys)
-    (length ys) refl $ fjoin ! $ move ! (2 ∷ []) $ feq_i ! ℕ (length xs) (length xs) refl $ fjoin ! $
-    -- [the first; the second; the rest; the open borrow, in three; ..]
-    move ! (3 ∷ 4 ∷ 5 ∷ 0 ∷ 1 ∷ 2 ∷ []) $ group ! 6 $
+    (length ys) refl $ fjoin ! $ move ! (2 ∷ []) $ feq_i ! ℕ (length xs) (length xs) refl $ fjoin ! $ fjoin ! $
+    -- [both; the rest; the open borrow, in three; ..]
+    move ! (2 ∷ 3 ∷ 4 ∷ 0 ∷ 1 ∷ []) $ group ! 5 $
     let Both = mem (two_lists (R E)) in
     use1 𝓛 (later (some (λ (νs : GName × (GName × GName)).
     (‵ (fobs νs.1.0 ((coded_list (R E).coded).code xs)) ⊛ ‵ (fbor κ (Borrowed (Lin E (length xs)) p pa νs.1.0)))
     ⊛ (‵ (fobs νs.1.1 ((coded_list (R E).coded).code ys)) ⊛ ‵ (fbor κ (Borrowed (Lin E (length ys)) p pb νs.1.1)))
-    ⊛ ‵ (flft κ q) ⊛ ‵ (follows (Sr E) (two_lists (R E)) γ νs.0 (λ w. Written E r a b xs ys w.0 w.1))
-    ⊛ ‵ (after₂ Both (Lin E (length xs)) (Lin E (length ys)) νs.0 νs.1.0 νs.1.1 (λ us vs. (us, vs))))))
-    (takes_named 𝓛 (mem (Sr E)) Both (Lin E (length xs)) (Lin E (length ys)) (λ w. Written E r a b xs ys w.0 w.1)
-    (λ us vs. (us, vs)) κ q rb ro p pa p pb γ Rest₀ way coded coded (xs, ys) xs ys) $ await ! tt $
+    ⊛ ‵ (flft κ q) ⊛ ‵ (after₂ Both (Lin E (length xs)) (Lin E (length ys)) νs.0 νs.1.0 νs.1.1 (λ us vs. (us, vs)))
+    ⊛ ‵ (follows (Sr E) (two_lists (R E)) γ νs.0 (λ w. Written E r a b xs ys w.0 w.1)))))
+    (takes_named 𝓛 (mem (Sr E)) (Lin E (length xs)) (Lin E (length ys)) Both.coded (λ w. Written E r a b xs ys w.0 w.1)
+    κ q rb ro p pa p pb γ Rest₀ way coded coded xs ys) $ await ! tt $
     pick ! (λ νs. split3 ! $
     let first_slice : MutBor (List (el_x E)) = record { ref_ptr = (p, pa); ghost_name = νs.1.0; now = xs } in
     let second_slice : MutBor (List (el_x E)) = record { ref_ptr = (p, pb); ghost_name = νs.1.1; now = ys } in
@@ -162,6 +163,6 @@ lend_two_spec 𝓤 𝓛 𝓜 𝓡 wired X L =
     use2 𝓛 (‵ ((loan.the_row α (R E)).own_val seen (v ∷ [])))
     (loan_made α (R E) 𝓛 seen (slice_val (p, pa) la) (slice_val (p, pb) lb) bounded) $ move ! (1 ∷ []) $ split3 ! $
     returns ! (look_at ! 0 refl) $ free_all ! refl $
-    -- [the token; what the region follows; what its name follows; the iterator; the other token]
-    suffices ! _ (ends v seen tt) $ nothing ! $ frame ! $ move ! (3 ∷ 0 ∷ 4 ∷ []) $ frame ! $ join ! $ frame ! $
-    fjoin ! $ says_two ! (one.1.1, two.1.1) $ done !)))))))
+    -- [the token; what the loan's name follows; what the region follows; the loan; the other token]
+    suffices ! _ (ends v seen tt) $ nothing ! $ frame ! $ move ! (3 ∷ 0 ∷ 4 ∷ 2 ∷ []) $ frame ! $ join ! $
+    frame ! $ fjoin ! $ says_two ! (one.1.1, two.1.1) $ done !)))))))
