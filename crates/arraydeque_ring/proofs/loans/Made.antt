@@ -2,13 +2,18 @@
 use Rattle.arraydeque_ring.{
   proofs.memory.Kit.{◌≡◌, refl, ap, List, [], ◌∷◌, ◌+◌, ◌<◌, ◌^◌, length, Ura, ent, sep, emp, GName, Fml, fsep, ftrue},
   proofs.memory.Kit.{Val, vstruct, vcons, vnil, Logic, sem, ‵, ◌$◌, ◌∵◌, !, qed, move, use0, fjoin, fpick, fpack},
-  proofs.memory.Kit.{feq_i, done, RattleType, Valss, nothing, NamedLft, MutSlice, makes_shadow, Struct},
+  proofs.memory.Kit.{feq_i, done, El, R, param_laws, RattleType, Valss, nothing, NamedLft, MutSlice, makes_shadow},
+  proofs.memory.Kit.{Struct},
   specs.{Loans.LoanState, declared.slots.loan.Loan.TheInside.Inside},
 }
-use denote.Struct.{Declared.shape, Owning.shape as owned_shape, Struct.within}
+use denote.{Laws.Lawful, Struct.{Declared.shape, Owning.shape as owned_shape, Struct.within}}
 use Rattle.arraydeque_ring.specs.contracts.slots.loan.Loan as loan
 use Rattle.arraydeque_ring.specs.contracts.slots.loan.Loan.TheInside as inside
 use Rattle.arraydeque_ring.specs.contracts.slots.loan.LoanName as loan_name
+use Rattle.arraydeque_ring.proofs.slots.loan.Loan.TheLaws as loan_laws
+
+pub loan_lawful : {α : NamedLft} {M : Type 1} {𝓤 : Ura M} {𝓛 : Logic 𝓤} (E : El) → Lawful 𝓛 (loan.the_row α (R E))
+loan_lawful {α} {𝓛 = 𝓛} E = (loan_laws.the_row_laws α (R E) (param_laws 0 E.row E.laws)).lawful 𝓛
 
 -- the machine value: two slices, and nothing
 abbrev pub mark : Val

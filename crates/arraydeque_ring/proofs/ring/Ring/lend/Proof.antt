@@ -7,15 +7,14 @@ use Rattle.arraydeque_ring.{
       Kit.{‵, raw, ◌⊛◌, some, later, ◌$◌, !, move, use1, use2, drop, split, join, pick, frame, await, fsplit, fjoin},
       Kit.{fjoin3, fpack, feq_i, suffices, done, of_opd, addr, load, look, stop, fld, no_more, and_then, returns},
       Kit.{alloc_all, pass_all, free_all, look_at, get, through, sets, lands_as, usize, mem, part_at, says_two, heard},
-      Kit.{calls_at, framed, triple_of, param_laws, El, R, args, el_x, after₂, split3, group, name_new, Array, both_by},
-      Kit.{MutBor, NamedLft, named_lft, pure_i},
+      Kit.{El, R, args, el_x, after₂, split3, group, name_new, Array, both_by, MutBor, NamedLft, named_lft, pure_i},
       Regions.{Sr, Seen, HoldsRun, IsFilledRun},
       Methods.{method, spent, values},
-      Called.{knows, returned},
+      Called.{Called, calls_met, facts, hears, knows},
     },
     loans.{
       Lending.{Cut, cut_at_end, open_after, both_written, lent_items, first_run_filled, second_run_filled},
-      Made.loan_renamed,
+      Made.{loan_lawful, loan_renamed},
       Names.{hands_on, followed_both},
       Rings.{Rr, Fields, Others, Way, fields_out, slots_out, ring_whole},
     },
@@ -34,7 +33,6 @@ use Rattle.arraydeque_ring.specs.Lends as Lends
 use Rattle.arraydeque_ring.specs.Lends.{two_lists}
 use Rattle.arraydeque_ring.specs.contracts.slots.loan.Loan as loan
 use Rattle.arraydeque_ring.specs.contracts.ring.Ring.TheInside as inside
-use Rattle.arraydeque_ring.proofs.slots.loan.Loan.TheLaws as loan_laws
 use Rattle.arraydeque_ring.specs.contracts.slots.Slots.lend_round as g
 use Rattle.arraydeque_ring.specs.contracts.ring.Ring.lend as f
 use Rattle.arraydeque_ring.proofs.ring.Ring.lend.Statement as stated
@@ -88,9 +86,9 @@ lend_spec 𝓤 𝓛 𝓜 𝓡 wired X L =
     -- obs δ; the open borrow; the other fields; the way back; obs γ; auth γ; half its token; the others]
     move ! (2 ∷ 0 ∷ []) $ feq_i ! (List Val) (vptr rb (ro + 0) ∷ []) (vptr rb (ro + 0) ∷ []) refl $ fjoin3 ! $
     let lent : MutBor (Seen E) = record { ref_ptr = (rb, ro + 0); ghost_name = δ; now = x.slots } in
-    let G = triple_of 𝓛 (g.signature X) (g.spec X 𝓛 𝓜.mem 𝓡.returns) in
     let words : ℕ × (ℕ × Unit {0}) = (x.start, (x.len, tt)) in
-    let z : G.Ghost = ((κs, (r, qs.1), bounds, (lent, words), values 1 κs 2 (lent, words)), tt) in
+    let z : (Called 𝓛 (g.ended X) (g.clauses X 𝓛 𝓜.mem 𝓡.returns)).Ghost =
+    ((κs, (r, qs.1), bounds, (lent, words), values 1 κs 2 (lent, words)), tt) in
     pure_i ! (owns (usize ∷ usize ∷ []) z.0.3.1 z.0.4.1) ((tt, tt), ((tt, tt), tt)) ((refl, fs), ((refl, fl), tt)) $
     -- [the words; the lent slots;
     -- the right; the open borrow; the other fields; the way back; obs γ; auth γ; half its token; the others]
@@ -100,18 +98,16 @@ lend_spec 𝓤 𝓛 𝓜 𝓡 wired X L =
     knows ! Two (second_run_filled open_ring cut) $ knows ! One (first_run_filled open_ring cut) $ join ! $
     knows ! Within (omega (arith, open_ring.len, length_within open_ring.laid)) $ join ! $
     knows ! In (let inside = kept.0 in omega (arith, inside)) $ join ! $
-    knows ! (κ₁ ⊑ X.lives) lives $ join ! $ move ! (1 ∷ 0 ∷ []) $
-    use2 𝓛 (raw (G.pre z)) (id⊢ 𝓤 _) $
-    calls_at ! (framed 𝓤 𝓛.H 𝓜 𝓣) G (met 𝓤 𝓛 𝓜 𝓡 (code.calls-arraydeque_ring::slots::Slots::lend_round 𝓡.env wired) X L)
-    z (and_then ! (get ! refl) (and_then ! (get ! refl) (and_then ! (get ! refl) (no_more !)))) (λ v.
+    knows ! (κ₁ ⊑ X.lives) lives $ join ! $
+    calls_met 𝓛 ! 𝓜 𝓣 (g.ended X) (g.clauses X 𝓛 𝓜.mem 𝓡.returns)
+    (met 𝓤 𝓛 𝓜 𝓡 (code.calls-arraydeque_ring::slots::Slots::lend_round 𝓡.env wired) X L) z (id⊢ 𝓤 _)
+    (and_then ! (get ! refl) (and_then ! (get ! refl) (and_then ! (get ! refl) (no_more !)))) (loan_lawful E)
+    (λ v it ws it_typed. lands_as ! refl refl it_typed.0 $
     let α : NamedLft = named_lft 2 0 tt κs in
-    let First : LoanState (el_x E) → Type 0 = λ it. HoldsRun x.slots.places x.start first it.first.now in
-    let Second : LoanState (el_x E) → Type 0 = λ it. HoldsRun x.slots.places 0 rest it.second.now in
-    returned 𝓛 ! tt (g.ended X) (g.clauses X 𝓛 𝓜.mem 𝓡.returns) z v
-    ((loan_laws.the_row_laws α (R E) (param_laws 0 X L)).lawful 𝓛) (λ it ws it_typed. lands_as ! refl refl it_typed.0 $
-    move ! (2 ∷ []) $ use1 𝓛 (‵ (Lends.lends_loan (R E) lent x.start 0 it) ⊛ raw (fact 𝓤 (First it))
-    ⊛ raw (fact 𝓤 (Second it))) (id⊢ 𝓤 _) $ split3 ! $ move ! (1 ∷ 2 ∷ []) $
-    heard ! (First it) (λ held. heard ! (Second it) (λ held'. fsplit ! $
+    let First : Type 0 = HoldsRun x.slots.places x.start first it.first.now in
+    let Second : Type 0 = HoldsRun x.slots.places 0 rest it.second.now in
+    move ! (2 ∷ []) $ use1 𝓛 (‵ (Lends.lends_loan (R E) lent x.start 0 it) ⊛ raw (facts 𝓤 (First ∷ Second ∷ [])))
+    (id⊢ 𝓤 _) $ split ! $ move ! (1 ∷ []) $ hears ! (First ∷ Second ∷ []) (λ held held'. fsplit ! $
     -- [what δ follows; what the loan's name follows;
     -- the loan; the tokens; the right; the open borrow; the other fields; the way back; obs γ; auth γ]
     let Lists = mem (two_lists (R E)) in let Put : List (el_x E) × List (el_x E) → Seen E =
@@ -148,4 +144,4 @@ lend_spec 𝓤 𝓛 𝓜 𝓡 wired X L =
       open_ring.start,
       open_ring.laid.length_is,
     )) in
-    says_two ! (lent_items open_ring cut it.first.now it.second.now held held', none) $ done !)))))))))))))
+    says_two ! (lent_items open_ring cut it.first.now it.second.now held held', none) $ done !)))))))))))

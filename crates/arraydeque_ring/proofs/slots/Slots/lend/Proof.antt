@@ -1,15 +1,16 @@
 -- `lend` lends the value in a filled place, and that place follows it. Assumes `Logic`.
 use Rattle.arraydeque_ring.proofs.{
   memory.{
-    Kit.{nothing, join, refl, sym, [], ◌∷◌, ℕ, ◌+◌, ◌*◌, ◌<◌, arith, length, get_or, set, length-set, Some, None},
-    Kit.{Ura, ent, sep, id⊢, GName, Fml, fsep, flft, Fn, inst_fn, named, vptr, Env, ◌⊑◌, fact, tables, Logic, sem, ‵},
-    Kit.{raw, ◌⊛◌, some, later, at_ret, ◌$◌, ◌∵◌, !, qed, by, move, use1, use2, drop, split, pick, frame, rewrite},
-    Kit.{await, fsplit, fjoin, suffices, done, whole, sub, look_in, of_opd, bin, load, addr, stop, fld, first},
-    Kit.{blocks, exec, returns, alloc_all, pass_all, free_all, look_at, get, through, sets, sets_last, env, mem},
-    Kit.{says, heard, after, El, R, args, el_x, split3, group, follows, MutBor, Global},
-    Regions.{scaled, Sr, Seen, Fits, near, places, Frame, slots_whole, slots_open, item_size, Place, Around},
-    Regions.{place_out, place_in, place_owned, IsFilled},
+    Kit.{nothing, join, refl, sym, [], ◌∷◌, ℕ, ◌+◌, ◌*◌, ◌<◌, arith, length, get_or, set, length-set, Some, None, Ura},
+    Kit.{ent, sep, id⊢, GName, Fml, fsep, flft, Fn, inst_fn, named, vptr, Env, ◌⊑◌, tables, Logic, sem, ‵, raw, ◌⊛◌},
+    Kit.{some, later, at_ret, ◌$◌, ◌∵◌, !, qed, by, move, use1, use2, split, pick, frame, rewrite, await, fsplit},
+    Kit.{fjoin, suffices, done, whole, sub, look_in, of_opd, bin, load, addr, stop, fld, first, blocks, exec, returns},
+    Kit.{alloc_all, pass_all, free_all, look_at, get, through, sets, sets_last, env, mem, says, after, El, R, args},
+    Kit.{el_x, split3, group, follows, MutBor, Global},
+    Regions.{scaled, Sr, Seen, Fits, near, places, Frame, slots_whole, slots_open, item_size, Place, Around, place_out},
+    Regions.{place_in, place_owned, IsFilled},
     Methods.{method, spent},
+    Called.{hears},
   },
   places.Held.filled_within,
 }
@@ -45,9 +46,8 @@ lend_spec 𝓤 𝓛 𝓜 𝓡 wired X L =
     (code.unfolded 𝓤 𝓛.H 𝓜 𝓡 wired (X, tt)) (λ κs qs bounds a _ typed post ends.
     let κ = κs.0 in let q = qs.0 in let rb : ℕ = a.0.ref_ptr.0 in let ro : ℕ = a.0.ref_ptr.1 in
     let γ = a.0.ghost_name in let r : Seen E = a.0.now in let i : ℕ = a.1.0 in
-    let s : ℕ = item_size E in let Asked : Type 0 = IsFilled r.places i in let coded = (Sr E).coded.code r in
-    use1 𝓛 (raw (fact 𝓤 (κs.1.0 ⊑ X.lives)) ⊛ raw (fact 𝓤 Asked)) (id⊢ 𝓤 _) $ split ! $ drop ! $
-    heard ! Asked (λ asked.
+    let s : ℕ = item_size E in let coded = (Sr E).coded.code r in
+    hears ! ((κs.1.0 ⊑ X.lives) ∷ IsFilled r.places i ∷ []) (λ _ asked.
     let x : el_x E = asked.0 in let within : i < length r.places = filled_within r.places i x asked.1 in
     alloc_all ! (λ l. pass_all ! refl ((tt, tt), typed) $
     let En : Env 𝓤 𝓛.H = env here.locals l in

@@ -3,15 +3,16 @@ use Rattle.arraydeque_ring.{
   proofs.{
     memory.{
       Kit.{nothing, join, ◌≡◌, refl, sym, ap, ◌∙◌, List, [], ◌∷◌, map, ℕ, ◌+◌, ◌*◌, ◌≤◌, arith, length, length-map},
-      Kit.{Some, Ura, ent, sep, id⊢, GName, Fml, fsep, flft, Fn, inst_fn, named, Env, ◌⊑◌, fact, tables, Logic, sem, ‵},
-      Kit.{raw, ◌⊛◌, some, later, at_ret, ◌$◌, ◌∵◌, !, qed, by, move, use1, use2, drop, split, pick, frame, rewrite},
-      Kit.{await, fsplit, fjoin, suffices, done, whole, sub, look_in, agg, of_opd, bin, load, stop, fld, no_more},
-      Kit.{and_then, first, blocks, exec, returns, alloc_all, pass_all, free_all, look_at, get, through, sets},
-      Kit.{sets_last, env, mem, says, heard, after, El, R, args, el_x, split3, group, cells, Array, follows, MutBor},
-      Kit.{MutSlice, slice_val, Global},
+      Kit.{Some, Ura, ent, sep, id⊢, GName, Fml, fsep, flft, Fn, inst_fn, named, Env, ◌⊑◌, tables, Logic, sem, ‵, raw},
+      Kit.{◌⊛◌, some, later, at_ret, ◌$◌, ◌∵◌, !, qed, by, move, use1, use2, split, pick, frame, rewrite, await},
+      Kit.{fsplit, fjoin, suffices, done, whole, sub, look_in, agg, of_opd, bin, load, stop, fld, no_more, and_then},
+      Kit.{first, blocks, exec, returns, alloc_all, pass_all, free_all, look_at, get, through, sets, sets_last, env},
+      Kit.{mem, says, after, El, R, args, el_x, split3, group, cells, Array, follows, MutBor, MutSlice, slice_val},
+      Kit.{Global},
       Regions.{Sr, Seen, Fits, near, run_fits, Frame, slots_whole, slots_open, scaled, item_size, Place, places_owned},
       Regions.{IsFilledRun, Around, run_out, run_in},
       Methods.{method, spent},
+      Called.{hears},
     },
     loans.{Placed.{placed, as_many-same, length-placed}, Runs.{run, same_cells}},
     places.Held.length_filled,
@@ -58,10 +59,8 @@ lend_run_spec 𝓤 𝓛 𝓜 𝓡 wired X L =
     (code.unfolded 𝓤 𝓛.H 𝓜 𝓡 wired (X, tt)) (λ κs qs bounds a _ typed post ends.
     let κ = κs.0 in let q = qs.0 in let rb : ℕ = a.0.ref_ptr.0 in let ro : ℕ = a.0.ref_ptr.1 in
     let γ = a.0.ghost_name in let r : Seen E = a.0.now in let from : ℕ = a.1.0 in let len : ℕ = a.1.1.0 in
-    let s : ℕ = item_size E in let Asked : Type 0 = IsFilledRun r.places from len in
-    let coded = (Sr E).coded.code r in let len_ok = typed.1.0.1 in
-    use1 𝓛 (raw (fact 𝓤 (κs.1.0 ⊑ X.lives)) ⊛ raw (fact 𝓤 Asked)) (id⊢ 𝓤 _) $ split ! $ drop ! $
-    heard ! Asked (λ asked.
+    let s : ℕ = item_size E in let coded = (Sr E).coded.code r in let len_ok = typed.1.0.1 in
+    hears ! ((κs.1.0 ⊑ X.lives) ∷ IsFilledRun r.places from len ∷ []) (λ _ asked.
     let xs : List (el_x E) = asked.1.0 in let held = asked.1.1 in
     let long = length_filled r.places from len asked in
     let within : from + length xs ≤ length r.places = omega (arith, asked.0) in
