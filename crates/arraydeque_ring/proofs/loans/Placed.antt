@@ -1,13 +1,11 @@
 -- What is written in the stead of as many items of a list, or of as many places, and runs that lie apart.
 use Rattle.std.{
   proofs.{
-    Common.{◌≡◌, ℕ, zero, suc, ◌+◌, ◌-◌, ◌≤◌, ◌⊎◌, inl, inr, List, ◌++◌, map, length, take, drop, Option, Some, refl},
-    Common.{sym, ap, ap₂, ◌∙◌, arith},
+    Common.{◌≡◌, ℕ, zero, suc, ◌+◌, ◌≤◌, ◌⊎◌, inl, inr, List, map, length, take, drop, Option, Some, refl, sym, arith},
     lemmas.{
       Bool.cases_lt,
       Grind.common_steps,
-      List.{length-map, nil_from_length, length-take, append_assoc, take_at, drop_at, drop-take, take-take},
-      List.{take-append-drop, take-append-le, drop-append-le, drop-drop},
+      List.{places, same_lists, length-map, nil_from_length, take_at, take-append-drop, drop-drop},
     },
   },
   specs.List.{length_refill, splice},
@@ -19,6 +17,10 @@ module _ {Y : Type 0} where
   abbrev pub placed : ℕ → ℕ → List Y → List Y → List Y
   placed i n ws ps = splice ps i (i + n) ws
 
+  -- those n items
+  abbrev pub run : List Y → ℕ → ℕ → List Y
+  run ps i n = take n (drop i ps)
+
   -- no item changes nothing
   pub placed_nothing : (i : ℕ) (ws ps : List Y) → length ws ≡ 0 → placed i 0 ws ps ≡ ps
   placed_nothing i ws ps e = rw (nil_from_length ws e, sym (drop-drop 0 i ps)) (take-append-drop i ps)
@@ -27,27 +29,21 @@ module _ {Y : Type 0} where
       → length (placed i n ws ps) ≡ length ps
   length-placed i n ws ps le e = grind (arith, common_steps, e, le)
 
-  -- what is placed in the first part of a list leaves the second
-  pub placed-append : (i n : ℕ) (ws xs ys : List Y) → i + n ≤ length xs
-      → placed i n ws (xs ++ ys) ≡ placed i n ws xs ++ ys
-  placed-append i n ws xs ys le = rw (
-    take-append-le i xs ys (omega arith),
-    drop-append-le (i + n) xs ys le,
-    append_assoc (take i xs) (ws ++ drop (i + n) xs) ys,
-    append_assoc ws (drop (i + n) xs) ys,
-  )
+-- of two runs that lie in order the first leaves what is behind it, and either may be written first
+module _ {Y : Type 0} (i m j n : ℕ) (ps : List Y) (apart : i + m ≤ j) (within : j + n ≤ length ps) where
+  pub run-take : run (take j ps) i m ≡ run ps i m
+  run-take = same_lists _ _ (grind (arith, places)) (λ k d lt. grind (arith, places))
 
-  -- what is placed behind a run can be placed after it
-  pub placed_behind : (a m b n : ℕ) (us vs ps : List Y) → a + m ≤ b → b + n ≤ length ps → length us ≡ m
-      → placed b n vs (placed a m us ps) ≡ placed a m us (take b ps) ++ (vs ++ drop (b + n) ps)
-  placed_behind a m b n us vs ps apart within e =
-      let front = placed a m us (take b ps) in
-      let below : a + m ≤ length (take b ps) = omega (arith, length-take b ps) in
-      let long : length front ≡ b = length-placed a m us (take b ps) below e ∙ omega (arith, length-take b ps) in
-      ap (placed b n vs)
-      (ap (placed a m us) (sym (take-append-drop b ps)) ∙ placed-append a m us (take b ps) (drop b ps) below)
-      ∙ ap₂ (λ l r. l ++ (vs ++ r)) (take_at front (drop b ps) b long)
-      (sym (drop-drop n b (front ++ drop b ps)) ∙ ap (drop n) (drop_at front (drop b ps) b long) ∙ drop-drop n b ps)
+  module _ (us : List Y) (many : length us ≡ m) where
+    pub take-placed : take j (placed i m us ps) ≡ placed i m us (take j ps)
+    take-placed = same_lists _ _ (grind (arith, places)) (λ k d lt. grind (arith, places))
+
+    pub drop-placed : drop (j + n) (placed i m us ps) ≡ drop (j + n) ps
+    drop-placed = same_lists _ _ (grind (arith, places)) (λ k d lt. grind (arith, places))
+
+    pub placed-either : (vs : List Y) → length vs ≡ n
+        → placed i m us (placed j n vs ps) ≡ placed j n vs (placed i m us ps)
+    placed-either vs many' = same_lists _ _ (grind (arith, places)) (λ k d lt. grind (arith, places))
 
 -- two runs apart: one lies before the other, or one is empty
 pub apart_cases : (a m b n : ℕ) → AreApart a m b n → ((a + m ≤ b) ⊎ (b + n ≤ a)) ⊎ ((m ≡ 0) ⊎ (n ≡ 0))
@@ -86,8 +82,3 @@ module _ {X : Type 0} where
       → length (with_run from ws ps) ≡ length ps
   length-with_run from ws ps within = length-placed from (length ws) (map Some ws) ps within (length-map ws Some)
 
--- a run that ends before the j-th item
-pub run_before : {Y : Type 0} (ps : List Y) (i m j : ℕ) → i + m ≤ j → take m (drop i (take j ps)) ≡ take m (drop i ps)
-run_before ps i m j le =
-    let e : j ≡ i + (j - i) = omega arith in
-    rw (e, drop-take i (j - i) ps, take-take m (j - i) (drop i ps) (omega arith))

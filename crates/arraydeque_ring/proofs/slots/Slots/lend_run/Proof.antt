@@ -14,7 +14,7 @@ use Rattle.arraydeque_ring.{
       Methods.{method, spent},
       Called.{hears},
     },
-    loans.{Placed.{placed, as_many-same, length-placed}, Runs.{run, same_cells}},
+    loans.{Placed.{placed, run, as_many-same, length-placed}, Runs.same_cells},
     places.Held.length_filled,
   },
   specs.Loans.{as_many, with_run},
@@ -77,7 +77,7 @@ lend_run_spec 𝓤 𝓛 𝓜 𝓡 wired X L =
     let Rest₀ = sem 𝓛 (Rest E 𝓛 rb ro r from xs g b o n within) in
     let way = back E 𝓛 rb ro r from xs g b o n within ok in
     let room = run_fits E ok (length xs) (omega arith) in
-    use1 𝓛 (‵ (places_owned (R E) b at (run E 𝓛 b o r.places from (length xs)))
+    use1 𝓛 (‵ (places_owned (R E) b at (run r.places from (length xs)))
     ⊛ ‵ (Around E 𝓛 b o r.places from (length xs))) (run_out E 𝓛 b o r.places from (length xs) within) $ split ! $
     rewrite ! 0 (λ (ps : List (Place E)). ‵ (places_owned (R E) b at ps))
     (rw long held) refl $

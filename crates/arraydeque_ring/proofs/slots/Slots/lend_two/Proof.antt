@@ -17,8 +17,8 @@ use Rattle.arraydeque_ring.{
     loans.{
       Made.{loan_val, loan_made},
       Names.takes_named,
-      Placed.{placed, apart_within, as_many-same, length-as_many},
-      Runs.{run, News, Filling, two_out, same_cells},
+      Placed.{placed, run, apart_within, as_many-same, length-as_many},
+      Runs.{News, Filling, two_out, same_cells},
     },
     places.Held.length_filled,
   },
@@ -124,8 +124,8 @@ lend_two_spec 𝓤 𝓛 𝓜 𝓡 wired X L =
     (tt, ((tt, (la_ok, tt)), ((tt, (lb_ok, tt)), ((tt, tt), tt)))) $
     let pa = a * s + o in let pb = b * s + o in let Rest₀ = Rest E 𝓛 rb ro r a b xs ys g p o n in
     let way = back E 𝓛 rb ro r a b xs ys g p o n ok in_a in_b in
-    use1 𝓛 (‵ (places_owned (R E) p pa (run E 𝓛 p o r.places a (length xs))) ⊛ ‵ (places_owned (R E) p pb
-    (run E 𝓛 p o r.places b (length ys))) ⊛ raw (all 𝓤 (Way E 𝓛 rb ro r a b xs ys g p o n)))
+    use1 𝓛 (‵ (places_owned (R E) p pa (run r.places a (length xs))) ⊛ ‵ (places_owned (R E) p pb
+    (run r.places b (length ys))) ⊛ raw (all 𝓤 (Way E 𝓛 rb ro r a b xs ys g p o n)))
     (two_out E 𝓛 p o r.places a (length xs) b (length ys) in_a in_b clear) $ split3 ! $
     rewrite ! 0 (λ (ps : List (Place E)). ‵ (places_owned (R E) p pa ps)) held refl $
     rewrite ! 0 (λ (F : Fml). ‵ F) (same_cells E 𝓛 p xs pa) refl $ move ! (1 ∷ []) $
