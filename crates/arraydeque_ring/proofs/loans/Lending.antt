@@ -2,10 +2,7 @@
 use Rattle.std.{
   proofs.{
     Common.{◌≡◌, ℕ, ◌+◌, ◌-◌, ◌≤◌, ◌⊎◌, inl, inr, List, [], ◌++◌, length, take, drop, Option, sym, ap, ap₂, ◌∙◌, arith},
-    lemmas.{
-      Bool.cases_lt,
-      List.{nil_from_length, length-append, drop_all, take-append-drop},
-    },
+    lemmas.List.{nil_from_length, length-append, drop_all, take-append-drop},
   },
   specs.Prelude.min,
 }
@@ -23,28 +20,12 @@ use Rattle.arraydeque_ring.{
     places.{
       Appended.LaidOut-round,
       Held.length_filled,
-      Opened.{Opened, Kept, view, kept, closed, piece_filled, piece_held, rest_filled, rest_held},
+      Opened.{Opened, view, kept, closed, piece_filled, piece_held, rest_filled, rest_held},
     },
   },
 }
 
 module _ {X : Type 0} where
-  -- the first items end at the region's end, or are all; the others go on from the first place
-  pub record Cut (r : Inside X) (first : ℕ) : Type 0 where
-    pub some : first ≤ r.len
-    pub fits : r.start + first ≤ length r.slots.places
-    pub to_end : (r.len - first ≡ 0) ⊎ (r.start + first ≡ length r.slots.places)
-
-  -- as many items as fit come before the region's end
-  pub cut_at_end : (r : Inside X) → Kept r → (first : ℕ) → first ≡ min r.len (length r.slots.places - r.start)
-      → Cut r first
-  cut_at_end r kept first is =
-      let n = length r.slots.places in let inside = kept.0 in record {
-        some = omega arith;
-        fits = omega arith;
-        to_end = elim (cases_lt r.len (n - r.start)) [ inl fit ↦ inl (omega arith) | inr past ↦ inr (omega arith) ];
-      }
-
   abbrev pub with_slots : Inside X → Region X → Inside X
   with_slots r w = record { slots = w; start = r.start; len = r.len }
 
@@ -55,26 +36,36 @@ module _ {X : Type 0} where
     steps = more_lends 2 r.slots.steps;
   }
 
-  module _ {r : Inside X} {v : RingState X} {first : ℕ} (o : Opened r v) (c : Cut r first) where
+  module _ {r : Inside X} {v : RingState X} (o : Opened r v) where
     abbrev ps : List (Option X)
     ps = r.slots.places
+
+    -- the first items end at the region's end, or are all; the others go on from the first place
+    abbrev first : ℕ
+    first = min r.len (length ps - r.start)
 
     abbrev rest : ℕ
     rest = r.len - first
 
+    fits : r.start + first ≤ length ps
+    fits = let inside = (kept o).0 in omega arith
+
+    to_end : (rest ≡ 0) ⊎ (r.start + first ≡ length ps)
+    to_end = let inside = (kept o).0 in grind (arith, inside)
+
     -- the two runs are filled
     pub first_run_filled : IsFilledRun ps r.start first
-    first_run_filled = piece_filled r (kept o) first c.some c.fits
+    first_run_filled = piece_filled r (kept o) first (omega arith) fits
 
     pub second_run_filled : IsFilledRun ps 0 rest
-    second_run_filled = elim c.to_end [
+    second_run_filled = elim to_end [
       | inl none ↦ (omega arith, ([], ap (λ k. take k (drop 0 ps)) none))
-      | inr end ↦ rest_filled r (kept o) first c.some end
+      | inr end ↦ rest_filled r (kept o) first (omega arith) end
     ]
 
     module _ (xs ys : List X) (held : HoldsRun ps r.start first xs) (held' : HoldsRun ps 0 rest ys) where
       many : length xs ≡ first
-      many = length_filled ps r.start first (c.fits, (xs, held))
+      many = length_filled ps r.start first (fits, (xs, held))
 
       many' : length ys ≡ rest
       many' = length_filled ps 0 rest (second_run_filled.0, (ys, held'))
@@ -84,11 +75,11 @@ module _ {X : Type 0} where
       lent_items =
           let items = (view r).items in
           let long : length items ≡ r.len = ap (λ (w : RingState X). length w.items) (closed o) ∙ o.len in
-          let behind : ys ≡ drop first items = elim c.to_end [
+          let behind : ys ≡ drop first items = elim to_end [
             | inl none ↦ nil_from_length ys (many' ∙ none) ∙ sym (drop_all first items (omega (arith, long, none)))
-            | inr end ↦ (rest_held r (kept o) first ys c.some end held').1
+            | inr end ↦ (rest_held r (kept o) first ys (omega arith) end held').1
           ] in
-          ap₂ (λ l m. l ++ m) (piece_held r (kept o) first xs c.some c.fits held).1 behind
+          ap₂ (λ l m. l ++ m) (piece_held r (kept o) first xs (omega arith) fits held).1 behind
           ∙ take-append-drop first items ∙ ap (λ (w : RingState X). w.items) (closed o)
 
       -- once both were written the ring is whole, and its items are those that were written
@@ -99,14 +90,12 @@ module _ {X : Type 0} where
           let front : length us' ≡ first = length-as_many xs us ∙ many in
           let behind : length vs' ≡ rest = length-as_many ys vs ∙ many' in
           let same : length (us' ++ vs') ≡ length v.items =
-          omega (arith, length-append us' vs', front, behind, c.some, o.len) in
+          omega (arith, length-append us' vs', front, behind, o.len) in
           let whole = as_many-same v.items (us' ++ vs') same in
           rw (whole, whole) (record {
             laid = LaidOut-round o.laid us' vs' (omega (arith, same, length-append us' vs'))
-                (omega (arith, front, c.fits, o.laid.length_is)) (elim c.to_end [
-                  | inl none ↦ inl (behind ∙ none)
-                  | inr end ↦ inr (omega (arith, end, front, o.laid.length_is))
-                ]);
+                (omega (arith, front, fits, o.laid.length_is))
+                (grind (arith, to_end, front, behind, o.laid.length_is));
             len = same ∙ o.len;
             start = o.start;
             steps = ap (more_lends 2) o.steps;

@@ -1,9 +1,8 @@
 -- What is written in the stead of as many items of a list, or of as many places, and runs that lie apart.
 use Rattle.std.{
   proofs.{
-    Common.{◌≡◌, ℕ, zero, suc, ◌+◌, ◌≤◌, ◌⊎◌, inl, inr, List, map, length, take, drop, Option, Some, refl, sym, arith},
+    Common.{◌≡◌, ℕ, ◌+◌, ◌≤◌, ◌⊎◌, List, map, length, take, drop, Option, Some, refl, sym, arith},
     lemmas.{
-      Bool.cases_lt,
       Grind.common_steps,
       List.{places, same_lists, length-map, nil_from_length, take_at, take-append-drop, drop-drop},
     },
@@ -47,25 +46,11 @@ module _ {Y : Type 0} (i m j n : ℕ) (ps : List Y) (apart : i + m ≤ j) (withi
 
 -- two runs apart: one lies before the other, or one is empty
 pub apart_cases : (a m b n : ℕ) → AreApart a m b n → ((a + m ≤ b) ⊎ (b + n ≤ a)) ⊎ ((m ≡ 0) ⊎ (n ≡ 0))
-apart_cases a zero b n apart = inr (inl refl)
-apart_cases a (suc m) b zero apart = inr (inr refl)
-apart_cases a (suc m) b (suc n) apart = elim (cases_lt b (a + suc m)) [
-  | inr before ↦ inl (inl before)
-  | inl over ↦ elim (cases_lt a (b + suc n)) [
-    | inr behind ↦ inl (inr behind)
-    | inl meets ↦ elim (cases_lt a b) [
-      | inl below ↦ absurd (apart b (omega arith) over (omega arith) (omega arith))
-      | inr above ↦ absurd (apart a (omega arith) (omega arith) above meets)
-    ]
-  ]
-]
+apart_cases a m b n apart = grind (arith, apart a, apart b)
 
 -- so they have no more items together than there are
 pub apart_within : (a m b n k : ℕ) → AreApart a m b n → a + m ≤ k → b + n ≤ k → m + n ≤ k
-apart_within a m b n k apart in_a in_b = elim (apart_cases a m b n apart) [
-  | inl in_order ↦ elim in_order [ inl low ↦ omega arith | inr low ↦ omega arith ]
-  | inr one ↦ elim one [ inl none ↦ omega arith | inr none ↦ omega arith ]
-]
+apart_within a m b n k apart in_a in_b = grind (arith, apart_cases a m b n apart)
 
 module _ {X : Type 0} where
   pub length-as_many : (xs ws : List X) → length (as_many xs ws) ≡ length xs

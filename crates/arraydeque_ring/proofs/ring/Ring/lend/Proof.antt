@@ -13,7 +13,7 @@ use Rattle.arraydeque_ring.{
       Called.{Called, calls_met, facts, hears, knows},
     },
     loans.{
-      Lending.{Cut, cut_at_end, open_after, both_written, lent_items, first_run_filled, second_run_filled},
+      Lending.{open_after, both_written, lent_items, first_run_filled, second_run_filled},
       Made.{loan_lawful, loan_renamed},
       Names.{hands_on, followed_both},
       Rings.{Rr, Fields, Others, Way, fields_out, slots_out, ring_whole},
@@ -72,7 +72,7 @@ lend_spec 𝓤 𝓛 𝓜 𝓡 wired X L =
     -- [the length; the start; nothing; the slots; ..]
     move ! (0 ∷ 2 ∷ []) $ fjoin ! $ move ! (1 ∷ 0 ∷ []) $ fjoin ! $ move ! (1 ∷ []) $
     let room : ℕ = length x.slots.places - x.start in let first : ℕ = min x.len room in let rest : ℕ = x.len - first in
-    let cut : Cut x first = cut_at_end x kept first refl in let open_ring = opened x kept seen in
+    let open_ring = opened x kept seen in
     sets ! (addr ! (through ! refl (fld ! refl (stop !)))) refl (tt, tt) $
     -- [the slots; the other fields; the way back; the open borrow, in three; half its token; the others]
     move ! (3 ∷ []) $ ages ! (λ age. name_new ! tt ((Sr E).coded.code x.slots) (λ δ.
@@ -95,7 +95,7 @@ lend_spec 𝓤 𝓛 𝓜 𝓡 wired X L =
     move ! (1 ∷ 0 ∷ []) $ fjoin ! $ move ! (7 ∷ 8 ∷ []) $ join ! $ join ! $
     let In = x.start ≤ length x.slots.places in let Within = x.len ≤ length x.slots.places in
     let One = IsFilledRun x.slots.places x.start first in let Two = IsFilledRun x.slots.places 0 rest in
-    knows ! Two (second_run_filled open_ring cut) $ knows ! One (first_run_filled open_ring cut) $ join ! $
+    knows ! Two (second_run_filled open_ring) $ knows ! One (first_run_filled open_ring) $ join ! $
     knows ! Within (omega (arith, open_ring.len, length_within open_ring.laid)) $ join ! $
     knows ! In (let inside = kept.0 in omega (arith, inside)) $ join ! $
     knows ! (κ₁ ⊑ X.lives) lives $ join ! $
@@ -119,7 +119,7 @@ lend_spec 𝓤 𝓛 𝓜 𝓡 wired X L =
     use1 𝓛 (later (some (λ (ν : GName). ‵ (flft κ l) ⊛ ‵ (after (mem (Rr E))
     (mem (Rr E)) γ ν (λ u. rewritten d u.items)) ⊛ ‵ (after (mem (Rr E)) Lists ν it.name V))))
     (hands_on 𝓛 (mem (Rr E)) (mem (Sr E)) Lists (λ u. rewritten d u.items) V Put κ l rb ro rb (ro + 0) γ δ it.name Rest
-    (λ w. ring_whole E 𝓛 rb ro (rewritten d (V w).items) x (Put w) (open_after open_ring cut it.first.now it.second.now
+    (λ w. ring_whole E 𝓛 rb ro (rewritten d (V w).items) x (Put w) (open_after open_ring it.first.now it.second.now
     held held' w.0 w.1)) age coded coded d) $
     await ! tt $ pick ! (λ ν. split3 ! $
     -- [half the token; what γ follows; what ν follows; what the loan's name follows; the loan; the tokens]
@@ -139,9 +139,9 @@ lend_spec 𝓤 𝓛 𝓜 𝓡 wired X L =
     let none : d.start + length d.items ≤ d.capacity → it.second.now ≡ [] =
     λ in_one_piece. nil_from_length it.second.now (omega (
       arith,
-      length_filled x.slots.places 0 rest ((second_run_filled open_ring cut).0, (it.second.now, held')),
+      length_filled x.slots.places 0 rest ((second_run_filled open_ring).0, (it.second.now, held')),
       open_ring.len,
       open_ring.start,
       open_ring.laid.length_is,
     )) in
-    says_two ! (lent_items open_ring cut it.first.now it.second.now held held', none) $ done !)))))))))))
+    says_two ! (lent_items open_ring it.first.now it.second.now held held', none) $ done !)))))))))))
