@@ -11,7 +11,7 @@ use types.{
   Kit.now,
   Late.{deep, close_deep},
   SemTy.Body,
-  Follow.{after, follows_anew, came, Came, followed, takes_part, takes_two},
+  Follow.{after, follows_anew, came, Came, followed, followed₂, takes_part, takes_two},
   Mut.{open_ref},
 }
 use ghost.Rules.{aged}
@@ -43,11 +43,9 @@ module _ {M : Type 1} {𝓤 : Ura M} (𝓛 : Logic 𝓤) (R S T U : SemTy) (F : 
       (sem 𝓛 (after₂ R T U γ γ₁ γ₂ (λ t u. F (P t u))))
   followed_both =
       qed 𝓛 (‵ (after R S γ ν F) ∷ ‵ (after₂ S T U ν γ₁ γ₂ P) ∷ []) ∵ each ! (λ (w : T.rep × U.rep).
-      wand 𝓤 (Ends w) (A.res γ (R.coded.code (F (P w.0 w.1))))) (λ w. assume ! (raw (Ends w)) $ move ! (2 ∷ []) $
-      use1 𝓛 (raw (wand 𝓤 (Ends w) (A.res ν (S.coded.code (P w.0 w.1)))))
-      (all_e 𝓤 (λ (z : T.rep × U.rep). wand 𝓤 (Ends z) (A.res ν (S.coded.code (P z.0 z.1)))) w) $
-      move ! (1 ∷ 0 ∷ []) $ use2 𝓛 (‵ (fres ν (S.coded.code (P w.0 w.1)))) (apply∗ 𝓤 (Ends w)
-      (A.res ν (S.coded.code (P w.0 w.1)))) $ move ! (1 ∷ 0 ∷ []) $ by ! (followed 𝓛 R S F γ ν (P w.0 w.1)))
+      wand 𝓤 (Ends w) (A.res γ (R.coded.code (F (P w.0 w.1))))) (λ w. assume ! (raw (Ends w)) $ move ! (0 ∷ 2 ∷ []) $
+      use2 𝓛 (‵ (fres ν (S.coded.code (P w.0 w.1)))) (followed₂ 𝓛 S T U P ν γ₁ γ₂ w.0 w.1) $ move ! (1 ∷ 0 ∷ []) $
+      by ! (followed 𝓛 R S F γ ν (P w.0 w.1)))
 
 -- An open borrow is cut into borrows of two parts.
 -- The whole's name follows a new name, that of a pair, and that one follows the parts'.

@@ -2,11 +2,11 @@
 use Rattle.arraydeque_ring.proofs.{
   memory.{
     Kit.{nothing, join, refl, sym, [], ◌∷◌, ℕ, ◌+◌, ◌*◌, ◌<◌, arith, length, get_or, set, length-set, Some, None, Ura},
-    Kit.{ent, sep, id⊢, GName, Fml, fsep, flft, Fn, inst_fn, named, vptr, Env, ◌⊑◌, tables, Logic, sem, ‵, raw, ◌⊛◌},
-    Kit.{some, later, at_ret, ◌$◌, ◌∵◌, !, qed, by, move, use1, use2, split, pick, frame, rewrite, await, fsplit},
-    Kit.{fjoin, suffices, done, whole, sub, look_in, of_opd, bin, load, addr, stop, fld, first, blocks, exec, returns},
-    Kit.{alloc_all, pass_all, free_all, look_at, get, through, sets, sets_last, env, mem, says, after, El, R, args},
-    Kit.{el_x, split3, group, follows, MutBor, Global},
+    Kit.{ent, sep, GName, Fml, fsep, flft, Fn, inst_fn, named, vptr, Env, ◌⊑◌, tables, Logic, sem, ‵, ◌⊛◌, some, later},
+    Kit.{at_ret, ◌$◌, ◌∵◌, !, qed, by, move, use1, use2, split, pick, frame, rewrite, await, fsplit, fjoin, suffices},
+    Kit.{done, whole, sub, look_in, of_opd, bin, load, addr, stop, fld, first, blocks, exec, returns, alloc_all},
+    Kit.{pass_all, free_all, look_at, get, through, sets, sets_last, env, mem, says, after, El, R, args, el_x, split3},
+    Kit.{group, follows, MutBor, Global},
     Regions.{scaled, Sr, Seen, Fits, near, places, Frame, slots_whole, slots_open, item_size, Place, Around, place_out},
     Regions.{place_in, place_owned, IsFilled},
     Methods.{method, spent},
@@ -14,7 +14,7 @@ use Rattle.arraydeque_ring.proofs.{
   },
   places.Held.filled_within,
 }
-use denote.{Follow.{Part, lends_Part}, Ref.MutRef}
+use denote.{Follow.{lends_Part}, Ref.MutRef}
 use Rattle.arraydeque_ring.specs.contracts.slots.Slots.lend as f
 use Rattle.arraydeque_ring.proofs.slots.Slots.lend.Statement as stated
 use Rattle.arraydeque_ring.proofs.slots.Slots.lend.Code as code
@@ -67,11 +67,10 @@ lend_spec 𝓤 𝓛 𝓜 𝓡 wired X L =
     rewrite ! 0 (λ (p : Place E). ‵ (place_owned (R E) b at p)) asked.1 refl $
     -- [the value; the others; the right; the words; the open borrow, in three; the other token]
     move ! (2 ∷ 3 ∷ []) $ fjoin ! $ move ! (2 ∷ 0 ∷ []) $ fjoin ! $ move ! (2 ∷ 3 ∷ 4 ∷ 1 ∷ 0 ∷ []) $ group ! 5 $
-    use1 𝓛 (later (some (λ (δ : GName). raw (Part 𝓛 (Sr E) (R E) new (named 0) κ q rb ro b at γ Rest₀ way x δ))))
-    (lends_Part 𝓛 (Sr E) (R E) new (named 0) κ q rb ro b at γ Rest₀ way coded coded x) $ await ! tt $ pick ! (λ δ.
-    let lent : MutBor (el_x E) = record { ref_ptr = (b, at); ghost_name = δ; now = x } in
-    returns ! (look_at ! 0 refl) $ free_all ! refl $
-    use1 𝓛 (‵ ((MutRef (named 0) κ (R E)).own_val lent (vptr b at ∷ [])) ⊛ ‵ (flft κ q)
-    ⊛ ‵ (follows (Sr E) (R E) γ δ new)) (id⊢ 𝓤 _) $ split3 ! $
-    suffices ! _ (ends (vptr b at) lent tt) $ nothing ! $ frame ! $ frame ! $ move ! (0 ∷ 2 ∷ []) $ join ! $ frame ! $
-    says ! asked.1 $ done !)))))
+    let lent : GName → MutBor (el_x E) = λ δ. record { ref_ptr = (b, at); ghost_name = δ; now = x } in
+    use1 𝓛 (later (some (λ (δ : GName). ‵ ((MutRef (named 0) κ (R E)).own_val (lent δ) (vptr b at ∷ []))
+    ⊛ ‵ (flft κ q) ⊛ ‵ (follows (Sr E) (R E) γ δ new))))
+    (lends_Part 𝓛 (Sr E) (R E) new (named 0) κ q rb ro b at γ Rest₀ way coded coded x) $ await ! tt $
+    pick ! (λ δ. split3 ! $ returns ! (look_at ! 0 refl) $ free_all ! refl $
+    suffices ! _ (ends (vptr b at) (lent δ) tt) $ nothing ! $ frame ! $ frame ! $ move ! (0 ∷ 2 ∷ []) $ join ! $
+    frame ! $ says ! asked.1 $ done !)))))

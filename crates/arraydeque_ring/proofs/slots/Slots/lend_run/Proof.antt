@@ -3,12 +3,11 @@ use Rattle.arraydeque_ring.{
   proofs.{
     memory.{
       Kit.{nothing, join, ◌≡◌, refl, sym, ap, ◌∙◌, List, [], ◌∷◌, map, ℕ, ◌+◌, ◌*◌, ◌≤◌, arith, length, length-map},
-      Kit.{Some, Ura, ent, sep, id⊢, GName, Fml, fsep, flft, Fn, inst_fn, named, Env, ◌⊑◌, tables, Logic, sem, ‵, raw},
-      Kit.{◌⊛◌, some, later, at_ret, ◌$◌, ◌∵◌, !, qed, by, move, use1, use2, split, pick, frame, rewrite, await},
-      Kit.{fsplit, fjoin, suffices, done, whole, sub, look_in, agg, of_opd, bin, load, stop, fld, no_more, and_then},
-      Kit.{first, blocks, exec, returns, alloc_all, pass_all, free_all, look_at, get, through, sets, sets_last, env},
-      Kit.{mem, says, after, El, R, args, el_x, split3, group, cells, Array, follows, MutBor, MutSlice, slice_val},
-      Kit.{Global},
+      Kit.{Some, Ura, ent, sep, GName, Fml, fsep, flft, Fn, inst_fn, named, Env, ◌⊑◌, tables, Logic, sem, ‵, ◌⊛◌, some},
+      Kit.{later, at_ret, ◌$◌, ◌∵◌, !, qed, by, move, use1, use2, split, pick, frame, rewrite, await, fsplit, fjoin},
+      Kit.{suffices, done, whole, sub, look_in, agg, of_opd, bin, load, stop, fld, no_more, and_then, first, blocks},
+      Kit.{exec, returns, alloc_all, pass_all, free_all, look_at, get, through, sets, sets_last, env, mem, says, after},
+      Kit.{El, R, args, el_x, split3, group, cells, Array, follows, MutBor, MutSlice, slice_val, Global},
       Regions.{Sr, Seen, Fits, near, run_fits, Frame, slots_whole, slots_open, scaled, item_size, Place, places_owned},
       Regions.{IsFilledRun, Around, run_out, run_in},
       Methods.{method, spent},
@@ -19,7 +18,7 @@ use Rattle.arraydeque_ring.{
   },
   specs.Loans.{as_many, with_run},
 }
-use denote.FollowSlice.{Elements, lends_Elements}
+use denote.FollowSlice.{lends_Elements}
 use Rattle.arraydeque_ring.specs.contracts.slots.Slots.lend_run as f
 use Rattle.arraydeque_ring.proofs.slots.Slots.lend_run.Statement as stated
 use Rattle.arraydeque_ring.proofs.slots.Slots.lend_run.Code as code
@@ -88,14 +87,12 @@ lend_run_spec 𝓤 𝓛 𝓜 𝓡 wired X L =
     sets ! (of_opd ! (get ! refl)) refl (tt, (tt, (len_ok, tt))) $
     -- [the values; the others; the right; the words; the open borrow, in three; the other token]
     move ! (2 ∷ 3 ∷ []) $ fjoin ! $ move ! (2 ∷ 0 ∷ []) $ fjoin ! $ move ! (2 ∷ 3 ∷ 4 ∷ 1 ∷ 0 ∷ []) $ group ! 5 $
-    use1 𝓛
-    (later (some (λ (δ : GName). raw (Elements 𝓛 (Sr E) (R E) new (named 0) κ q rb ro b at γ xs room Rest₀ way δ))))
+    let lent : GName → MutBor (List (el_x E)) = λ δ. record { ref_ptr = (b, at); ghost_name = δ; now = xs } in
+    let Slice : GName → ℕ → Fml = λ δ k. (MutSlice (named 0) κ (R E)).own_val (lent δ) (slice_val (b, at) k ∷ []) in
+    use1 𝓛 (later (some (λ (δ : GName). ‵ (Slice δ (length xs)) ⊛ ‵ (flft κ q)
+    ⊛ ‵ (follows (Sr E) (Array (R E) 0) γ δ new))))
     (lends_Elements 𝓛 (Sr E) (R E) new (named 0) κ q rb ro b at γ xs room Rest₀ way coded coded) $ await ! tt $
-    pick ! (λ δ.
-    let lent : MutBor (List (el_x E)) = record { ref_ptr = (b, at); ghost_name = δ; now = xs } in
+    pick ! (λ δ. split3 ! $ rewrite ! 0 (λ (k : ℕ). ‵ (Slice δ k)) long refl $
     returns ! (look_at ! 0 refl) $ free_all ! refl $
-    use1 𝓛 (‵ ((MutSlice (named 0) κ (R E)).own_val lent (slice_val (b, at) (length xs) ∷ [])) ⊛ ‵ (flft κ q)
-    ⊛ ‵ (follows (Sr E) (Array (R E) 0) γ δ new)) (id⊢ 𝓤 _) $ split3 ! $
-    rewrite ! 0 (λ (k : ℕ). ‵ ((MutSlice (named 0) κ (R E)).own_val lent (slice_val (b, at) k ∷ []))) long refl $
-    suffices ! _ (ends (slice_val (b, at) len) lent tt) $ nothing ! $ frame ! $ frame ! $ move ! (0 ∷ 2 ∷ []) $
+    suffices ! _ (ends (slice_val (b, at) len) (lent δ) tt) $ nothing ! $ frame ! $ frame ! $ move ! (0 ∷ 2 ∷ []) $
     join ! $ frame ! $ says ! held $ done !)))))

@@ -2,9 +2,9 @@
 use Rattle.arraydeque_ring.{
   proofs.{
     memory.{
-      Kit.{nothing, ◌≡◌, refl, sym, ◌∙◌, List, [], ◌∷◌, map, ℕ, ◌+◌, ◌*◌, ◌≤◌, arith, length, length-map, Some, Ura},
-      Kit.{SProp, ent, sep, GName, flft, fobs, fbor, Fn, inst_fn, named, Env, ◌⊑◌, tables, Logic, sem, Borrowed, ‵},
-      Kit.{raw, ◌⊛◌, some, later, at_ret, ◌$◌, ◌∵◌, !, qed, by, move, use1, use2, split, join, pick, frame, rewrite},
+      Kit.{ap, nothing, ◌≡◌, refl, sym, ◌∙◌, List, [], ◌∷◌, map, ℕ, ◌+◌, ◌*◌, ◌≤◌, arith, length, length-map, Some},
+      Kit.{Ura, SProp, ent, sep, GName, flft, fobs, fbor, Fn, inst_fn, named, Env, ◌⊑◌, tables, Logic, sem, Borrowed},
+      Kit.{‵, raw, ◌⊛◌, some, later, at_ret, ◌$◌, ◌∵◌, !, qed, by, move, use1, use2, split, join, pick, frame, rewrite},
       Kit.{await, fsplit, fjoin, feq_i, feq_l, suffices, done, whole, sub, look_in, agg, of_opd, bin, load, stop, fld},
       Kit.{no_more, and_then, first, blocks, exec, returns, alloc_all, pass_all, free_all, look_at, get, through, sets},
       Kit.{sets_last, env, mem, says_two, after, El, R, args, el_x, after₂, split3, group, common_steps, SemTy, all},
@@ -22,7 +22,7 @@ use Rattle.arraydeque_ring.{
     },
     places.Held.length_filled,
   },
-  specs.{Lends.two_lists, Loans.{LoanState, as_many, with_run, AreApart}, Steps.more_lends},
+  specs.{Lends.{two_lists, two_written}, Loans.{LoanState, AreApart}},
 }
 use types.SemTy.{Arr}
 use base.Stored.{coded_list}
@@ -32,19 +32,14 @@ use Rattle.arraydeque_ring.specs.contracts.slots.Slots.lend_two as f
 use Rattle.arraydeque_ring.proofs.slots.Slots.lend_two.Statement as stated
 use Rattle.arraydeque_ring.proofs.slots.Slots.lend_two.Code as code
 
-module _ (E : El) where
-  abbrev Lin : ℕ → SemTy
-  Lin n = Arr (mem (R E)) n
+abbrev Lin : El → ℕ → SemTy
+Lin E n = Arr (mem (R E)) n
 
-  -- the region with us in the stead of xs and vs in that of ys
-  abbrev Written : Seen E → ℕ → ℕ → List (el_x E) → List (el_x E) → List (el_x E) → List (el_x E) → Seen E
-  Written r a b xs ys us vs = record {
-    places = with_run b (as_many ys vs) (with_run a (as_many xs us) r.places);
-    steps = more_lends 2 r.steps;
-  }
-
-module _ (E : El) {M : Type 1} {𝓤 : Ura M} (𝓛 : Logic 𝓤) (rb ro : ℕ) (r : Seen E) (a b : ℕ) (xs ys : List (el_x E))
+module _ (E : El) {M : Type 1} {𝓤 : Ura M} (𝓛 : Logic 𝓤) (lender : MutBor (Seen E)) (a b : ℕ) (xs ys : List (el_x E))
     (g : Global) (p o n : ℕ) where
+  abbrev r : Seen E
+  r = lender.now
+
   abbrev s : ℕ
   s = item_size E
 
@@ -53,19 +48,19 @@ module _ (E : El) {M : Type 1} {𝓤 : Ura M} (𝓛 : Logic 𝓤) (rb ro : ℕ) 
 
   -- all but the two runs
   abbrev Rest : SProp 𝓤
-  Rest = sep 𝓤 (all 𝓤 Way) (sem 𝓛 (Frame E 𝓛 rb ro g r p o n))
+  Rest = sep 𝓤 (all 𝓤 Way) (sem 𝓛 (Frame E 𝓛 lender.ref_ptr.0 lender.ref_ptr.1 g r p o n))
 
   back : Fits E r o n → a + length xs ≤ length r.places → b + length ys ≤ length r.places
       → (w : List (el_x E) × List (el_x E)) → ent 𝓤 (sep 𝓤 (sem 𝓛 (fsep ((Lin E (length xs)).own_at w.0 p (a * s + o))
       ((Lin E (length ys)).own_at w.1 p (b * s + o)))) Rest)
-      (sem 𝓛 ((mem (Sr E)).own_at (Written E r a b xs ys w.0 w.1) rb ro))
+      (sem 𝓛 ((mem (Sr E)).own_at (two_written (R E) lender a b xs ys w.0 w.1) lender.ref_ptr.0 lender.ref_ptr.1))
   back ok in_a in_b w =
-      let us = w.0 in let vs = w.1 in
+      let us = w.0 in let vs = w.1 in let rb = lender.ref_ptr.0 in let ro = lender.ref_ptr.1 in
       qed 𝓛 (‵ (fsep ((Lin E (length xs)).own_at us p (a * s + o)) ((Lin E (length ys)).own_at vs p (b * s + o)))
       ∷ (raw (all 𝓤 Way) ⊛ ‵ (Frame E 𝓛 rb ro g r p o n)) ∷ []) ∵
       fsplit ! $ fsplit ! $ feq_l ! (λ same. move ! (1 ∷ []) $ fsplit ! $ feq_l ! (λ same'.
       let put = placed b (length ys) (map Some vs) (placed a (length xs) (map Some us) r.places) in
-      let new : Seen E = Written E r a b xs ys us vs in
+      let new : Seen E = two_written (R E) lender a b xs ys us vs in
       let alike : put ≡ new.places = rw (as_many-same xs us same, as_many-same ys vs same', sym same, sym same') in
       let w : News E 𝓛 p o r.places a (length xs) b (length ys) =
       (map Some us, map Some vs, sym (length-map us Some ∙ same), sym (length-map vs Some ∙ same')) in
@@ -122,15 +117,15 @@ lend_two_spec 𝓤 𝓛 𝓜 𝓡 wired X L =
     (tt, ((tt, (la_ok, tt)), ((tt, (lb_ok, tt)), ((tt, tt), tt)))) $
     exec ! 𝓣.C 𝓣.Λ En (after 1 here.body) (at_ret En post) $ sets ! (of_opd ! (get ! refl)) refl
     (tt, ((tt, (la_ok, tt)), ((tt, (lb_ok, tt)), ((tt, tt), tt)))) $
-    let pa = a * s + o in let pb = b * s + o in let Rest₀ = Rest E 𝓛 rb ro r a b xs ys g p o n in
-    let way = back E 𝓛 rb ro r a b xs ys g p o n ok in_a in_b in
+    let pa = a * s + o in let pb = b * s + o in let Rest₀ = Rest E 𝓛 arg.0 a b xs ys g p o n in
+    let way = back E 𝓛 arg.0 a b xs ys g p o n ok in_a in_b in let Ways = all 𝓤 (Way E 𝓛 arg.0 a b xs ys g p o n) in
+    let new : List (el_x E) × List (el_x E) → Seen E = λ w. two_written (R E) arg.0 a b xs ys w.0 w.1 in
     use1 𝓛 (‵ (places_owned (R E) p pa (run r.places a (length xs))) ⊛ ‵ (places_owned (R E) p pb
-    (run r.places b (length ys))) ⊛ raw (all 𝓤 (Way E 𝓛 rb ro r a b xs ys g p o n)))
+    (run r.places b (length ys))) ⊛ raw Ways)
     (two_out E 𝓛 p o r.places a (length xs) b (length ys) in_a in_b clear) $ split3 ! $
-    rewrite ! 0 (λ (ps : List (Place E)). ‵ (places_owned (R E) p pa ps)) held refl $
-    rewrite ! 0 (λ (F : Fml). ‵ F) (same_cells E 𝓛 p xs pa) refl $ move ! (1 ∷ []) $
-    rewrite ! 0 (λ (ps : List (Place E)). ‵ (places_owned (R E) p pb ps)) held' refl $
-    rewrite ! 0 (λ (F : Fml). ‵ F) (same_cells E 𝓛 p ys pb) refl $
+    rewrite ! 0 (λ (F : Fml). ‵ F) (ap (places_owned (R E) p pa) held ∙ same_cells E 𝓛 p xs pa) refl $
+    rewrite ! 1 (λ (F : Fml). ‵ F) (ap (places_owned (R E) p pb) held' ∙ same_cells E 𝓛 p ys pb) refl $
+    move ! (1 ∷ []) $
     -- [the second's values; the first's; the way; the right; the words; the open borrow, in three; the other token]
     move ! (3 ∷ 4 ∷ []) $ fjoin ! $ move ! (3 ∷ 0 ∷ []) $ join ! $ move ! (1 ∷ []) $ feq_i ! ℕ (length ys)
     (length ys) refl $ fjoin ! $ move ! (2 ∷ []) $ feq_i ! ℕ (length xs) (length xs) refl $ fjoin ! $ fjoin ! $
@@ -141,9 +136,9 @@ lend_two_spec 𝓤 𝓛 𝓜 𝓡 wired X L =
     (‵ (fobs νs.1.0 ((coded_list (R E).coded).code xs)) ⊛ ‵ (fbor κ (Borrowed (Lin E (length xs)) p pa νs.1.0)))
     ⊛ (‵ (fobs νs.1.1 ((coded_list (R E).coded).code ys)) ⊛ ‵ (fbor κ (Borrowed (Lin E (length ys)) p pb νs.1.1)))
     ⊛ ‵ (flft κ q) ⊛ ‵ (after₂ Both (Lin E (length xs)) (Lin E (length ys)) νs.0 νs.1.0 νs.1.1 (λ us vs. (us, vs)))
-    ⊛ ‵ (follows (Sr E) (two_lists (R E)) γ νs.0 (λ w. Written E r a b xs ys w.0 w.1)))))
-    (takes_named 𝓛 (mem (Sr E)) (Lin E (length xs)) (Lin E (length ys)) Both.coded (λ w. Written E r a b xs ys w.0 w.1)
-    κ q rb ro p pa p pb γ Rest₀ way coded coded xs ys) $ await ! tt $
+    ⊛ ‵ (follows (Sr E) (two_lists (R E)) γ νs.0 new))))
+    (takes_named 𝓛 (mem (Sr E)) (Lin E (length xs)) (Lin E (length ys)) Both.coded new κ q rb ro p pa p pb γ Rest₀ way
+    coded coded xs ys) $ await ! tt $
     pick ! (λ νs. split3 ! $
     let first_slice : MutBor (List (el_x E)) = record { ref_ptr = (p, pa); ghost_name = νs.1.0; now = xs } in
     let second_slice : MutBor (List (el_x E)) = record { ref_ptr = (p, pb); ghost_name = νs.1.1; now = ys } in
@@ -151,13 +146,14 @@ lend_two_spec 𝓤 𝓛 𝓜 𝓡 wired X L =
     (room (length xs + length ys) (apart_within a (length xs) b (length ys) (length r.places) clear in_a in_b)).0 in
     let α : NamedLft = named_lft 2 0 tt κs in let v = loan_val (slice_val (p, pa) la) (slice_val (p, pb) lb) in
     let seen : LoanState (el_x E) = record { first = first_slice; second = second_slice; name = νs.0 } in
-    use1 𝓛 (‵ ((MutSlice (named 0) κ (R E)).own_val first_slice (slice_val (p, pa) (length xs) ∷ [])))
+    let Slice : MutBor (List (el_x E)) → ℕ → Fml =
+    λ x k. (MutSlice (named 0) κ (R E)).own_val x (slice_val x.ref_ptr k ∷ []) in
+    use1 𝓛 (‵ (Slice first_slice (length xs)))
     (slice_of 𝓛 (R E) (named 0) κ p pa νs.1.0 xs (room (length xs) (omega arith))) $ move ! (1 ∷ []) $
-    use1 𝓛 (‵ ((MutSlice (named 0) κ (R E)).own_val second_slice (slice_val (p, pb) (length ys) ∷ [])))
+    use1 𝓛 (‵ (Slice second_slice (length ys)))
     (slice_of 𝓛 (R E) (named 0) κ p pb νs.1.1 ys (room (length ys) (omega arith))) $ move ! (1 ∷ 0 ∷ []) $
-    rewrite ! 0 (λ (k : ℕ). ‵ ((MutSlice (named 0) κ (R E)).own_val first_slice (slice_val (p, pa) k ∷ []))) long refl $
-    rewrite ! 1 (λ (k : ℕ). ‵ ((MutSlice (named 0) κ (R E)).own_val second_slice (slice_val (p, pb) k ∷ [])))
-    long' refl $
+    rewrite ! 0 (λ (k : ℕ). ‵ (Slice first_slice k)) long refl $
+    rewrite ! 1 (λ (k : ℕ). ‵ (Slice second_slice k)) long' refl $
     use2 𝓛 (‵ ((loan.the_row α (R E)).own_val seen (v ∷ [])))
     (loan_made α (R E) 𝓛 seen (slice_val (p, pa) la) (slice_val (p, pb) lb) bounded) $ move ! (1 ∷ []) $ split3 ! $
     returns ! (look_at ! 0 refl) $ free_all ! refl $
