@@ -29,13 +29,6 @@ module _ {X : Type 0} where
   abbrev pub with_slots : Inside X → Region X → Inside X
   with_slots r w = record { slots = w; start = r.start; len = r.len }
 
-  -- the slots once both slices were written
-  abbrev pub both_written : Inside X → (xs ys us vs : List X) → Region X
-  both_written r xs ys us vs = record {
-    places = with_run 0 (as_many ys vs) (with_run r.start (as_many xs us) r.slots.places);
-    steps = more_lends 2 r.slots.steps;
-  }
-
   module _ {r : Inside X} {v : RingState X} (o : Opened r v) where
     abbrev ps : List (Option X)
     ps = r.slots.places
@@ -83,8 +76,10 @@ module _ {X : Type 0} where
           ∙ take-append-drop first items ∙ ap (λ (w : RingState X). w.items) (closed o)
 
       -- once both were written the ring is whole, and its items are those that were written
-      pub open_after : (us vs : List X) → Opened (with_slots r (both_written r xs ys us vs))
-          (rewritten v (rewritten v (as_many xs us ++ as_many ys vs)).items)
+      pub open_after : (us vs : List X) → Opened (with_slots r (record {
+        places = with_run 0 (as_many ys vs) (with_run r.start (as_many xs us) ps);
+        steps = more_lends 2 r.slots.steps;
+      })) (rewritten v (rewritten v (as_many xs us ++ as_many ys vs)).items)
       open_after us vs =
           let us' = as_many xs us in let vs' = as_many ys vs in
           let front : length us' ≡ first = length-as_many xs us ∙ many in

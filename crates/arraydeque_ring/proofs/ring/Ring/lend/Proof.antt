@@ -13,7 +13,7 @@ use Rattle.arraydeque_ring.{
       Called.{Called, calls_met, facts, hears, knows},
     },
     loans.{
-      Lending.{open_after, both_written, lent_items, first_run_filled, second_run_filled},
+      Lending.{open_after, lent_items, first_run_filled, second_run_filled},
       Made.{loan_lawful, loan_renamed},
       Names.{hands_on, followed_both},
       Rings.{Rr, Fields, Others, Way, fields_out, slots_out, ring_whole},
@@ -111,7 +111,7 @@ lend_spec 𝓤 𝓛 𝓜 𝓡 wired X L =
     -- [what δ follows; what the loan's name follows;
     -- the loan; the tokens; the right; the open borrow; the other fields; the way back; obs γ; auth γ]
     let Lists = mem (two_lists (R E)) in let Put : List (el_x E) × List (el_x E) → Seen E =
-    λ w. both_written x it.first.now it.second.now w.0 w.1 in
+    λ w. Lends.two_written (R E) lent x.start 0 it.first.now it.second.now w.0 w.1 in
     let V : List (el_x E) × List (el_x E) → RingState (el_x E) = λ w.
     rewritten d (as_many it.first.now w.0 ++ as_many it.second.now w.1) in
     let Rest = sep 𝓤 (sem 𝓛 (Others E 𝓛 rb ro x)) (Way E 𝓛 rb ro) in
