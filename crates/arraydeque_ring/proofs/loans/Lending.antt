@@ -1,8 +1,8 @@
 -- All items of a ring are lent in two runs of its places: what the runs hold, and what the ring is after any writing.
 use Rattle.std.{
   proofs.{
-    Common.{◌≡◌, ℕ, ◌+◌, ◌-◌, ◌≤◌, ◌⊎◌, inl, inr, List, [], ◌++◌, length, take, drop, Option, sym, ap, ap₂, ◌∙◌, arith},
-    lemmas.List.{nil_from_length, length-append, drop_all, take-append-drop},
+    Common.{◌≡◌, ℕ, ◌+◌, ◌-◌, ◌≤◌, ◌⊎◌, inl, inr, List, [], ◌++◌, length, take, drop, Option, ap, ◌∙◌, arith},
+    lemmas.List.{nil_from_length, length-append, take_all, append-nil, take-append-drop},
   },
   specs.Prelude.min,
 }
@@ -68,12 +68,12 @@ module _ {X : Type 0} where
       lent_items =
           let items = (view r).items in
           let long : length items ≡ r.len = ap (λ (w : RingState X). length w.items) (closed o) ∙ o.len in
-          let behind : ys ≡ drop first items = elim to_end [
-            | inl none ↦ nil_from_length ys (many' ∙ none) ∙ sym (drop_all first items (omega (arith, long, none)))
-            | inr end ↦ (rest_held r (kept o) first ys (omega arith) end held').1
-          ] in
-          ap₂ (λ l m. l ++ m) (piece_held r (kept o) first xs (omega arith) fits held).1 behind
-          ∙ take-append-drop first items ∙ ap (λ (w : RingState X). w.items) (closed o)
+          let front = (piece_held r (kept o) first xs (omega arith) fits held).1 in
+          elim to_end [
+            | inl none ↦ grind (arith, front, long, none, nil_from_length ys (many' ∙ none), take_all, append-nil)
+            | inr end ↦ rw (front, (rest_held r (kept o) first ys (omega arith) end held').1)
+                (take-append-drop first items)
+          ] ∙ ap (λ (w : RingState X). w.items) (closed o)
 
       -- once both were written the ring is whole, and its items are those that were written
       pub open_after : (us vs : List X) → Opened (with_slots r (record {

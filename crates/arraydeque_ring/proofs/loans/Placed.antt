@@ -66,4 +66,3 @@ module _ {X : Type 0} where
   pub length-with_run : (from : ℕ) (ws : List X) (ps : List (Option X)) → from + length ws ≤ length ps
       → length (with_run from ws ps) ≡ length ps
   length-with_run from ws ps within = length-placed from (length ws) (map Some ws) ps within (length-map ws Some)
-

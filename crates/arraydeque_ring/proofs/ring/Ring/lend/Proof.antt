@@ -10,7 +10,7 @@ use Rattle.arraydeque_ring.{
       Kit.{El, R, args, el_x, after₂, split3, group, name_new, Array, both_by, MutBor, NamedLft, named_lft, pure_i},
       Regions.{Sr, Seen, HoldsRun, IsFilledRun},
       Methods.{method, spent, values},
-      Called.{Called, calls_met, facts, hears, knows},
+      Called.{calls_met, facts, hears, knows},
     },
     loans.{
       Lending.{open_after, lent_items, first_run_filled, second_run_filled},
@@ -87,9 +87,8 @@ lend_spec 𝓤 𝓛 𝓜 𝓡 wired X L =
     move ! (2 ∷ 0 ∷ []) $ feq_i ! (List Val) (vptr rb (ro + 0) ∷ []) (vptr rb (ro + 0) ∷ []) refl $ fjoin3 ! $
     let lent : MutBor (Seen E) = record { ref_ptr = (rb, ro + 0); ghost_name = δ; now = x.slots } in
     let words : ℕ × (ℕ × Unit {0}) = (x.start, (x.len, tt)) in
-    let z : (Called 𝓛 (g.ended X) (g.clauses X 𝓛 𝓜.mem 𝓡.returns)).Ghost =
-    ((κs, (r, qs.1), bounds, (lent, words), values 1 κs 2 (lent, words)), tt) in
-    pure_i ! (owns (usize ∷ usize ∷ []) z.0.3.1 z.0.4.1) ((tt, tt), ((tt, tt), tt)) ((refl, fs), ((refl, fl), tt)) $
+    let vals = values 1 κs 2 (lent, words) in
+    pure_i ! (owns (usize ∷ usize ∷ []) words vals.1) ((tt, tt), ((tt, tt), tt)) ((refl, fs), ((refl, fl), tt)) $
     -- [the words; the lent slots;
     -- the right; the open borrow; the other fields; the way back; obs γ; auth γ; half its token; the others]
     move ! (1 ∷ 0 ∷ []) $ fjoin ! $ move ! (7 ∷ 8 ∷ []) $ join ! $ join ! $
@@ -100,7 +99,8 @@ lend_spec 𝓤 𝓛 𝓜 𝓡 wired X L =
     knows ! In (let inside = kept.0 in omega (arith, inside)) $ join ! $
     knows ! (κ₁ ⊑ X.lives) lives $ join ! $
     calls_met 𝓛 ! 𝓜 𝓣 (g.ended X) (g.clauses X 𝓛 𝓜.mem 𝓡.returns)
-    (met 𝓤 𝓛 𝓜 𝓡 (code.calls-arraydeque_ring::slots::Slots::lend_round 𝓡.env wired) X L) z (id⊢ 𝓤 _)
+    (met 𝓤 𝓛 𝓜 𝓡 (code.calls-arraydeque_ring::slots::Slots::lend_round 𝓡.env wired) X L)
+    ((κs, (r, qs.1), bounds, (lent, words), vals), tt) (id⊢ 𝓤 _)
     (and_then ! (get ! refl) (and_then ! (get ! refl) (and_then ! (get ! refl) (no_more !)))) (loan_lawful E)
     (λ v it ws it_typed. lands_as ! refl refl it_typed.0 $
     let α : NamedLft = named_lft 2 0 tt κs in

@@ -62,9 +62,8 @@ lend_round_spec 𝓤 𝓛 𝓜 𝓡 wired X L =
     sets ! (bin ! (get ! refl) (get ! refl) (omega arith)) refl (tt, record { fits = fr }) $
     feq_i ! (List Val) (vptr rb ro ∷ []) (vptr rb ro ∷ []) refl $ fjoin3 ! $
     let words : ℕ × (ℕ × (ℕ × (ℕ × Unit {0}))) = (start, (first, (0, (rest, tt)))) in
-    let z : (Called 𝓛 (g.ended X) (g.clauses X 𝓛 𝓜.mem 𝓡.returns)).Ghost =
-    ((κs, qs, bounds, (a.0, words), values 1 κs 4 (a.0, words)), tt) in
-    pure_i ! (owns (usize ∷ usize ∷ usize ∷ usize ∷ []) z.0.3.1 z.0.4.1)
+    let vals = values 1 κs 4 (a.0, words) in
+    pure_i ! (owns (usize ∷ usize ∷ usize ∷ usize ∷ []) words vals.1)
     ((tt, tt), ((tt, tt), ((tt, tt), ((tt, tt), tt))))
     ((refl, fs), ((refl, ff), ((refl, lit< tt), ((refl, fr), tt)))) $
     -- [the words; the borrow; its token; the others]
@@ -74,7 +73,8 @@ lend_round_spec 𝓤 𝓛 𝓜 𝓡 wired X L =
     knows ! Apart apart $ knows ! (Two first) (subst Two same two) $ join ! $
     knows ! (One first) (subst One same one) $ join ! $ knows ! (κ₁ ⊑ X.lives) lives $ join ! $
     calls_met 𝓛 ! 𝓜 𝓣 (g.ended X) (g.clauses X 𝓛 𝓜.mem 𝓡.returns)
-    (met 𝓤 𝓛 𝓜 𝓡 (code.calls-arraydeque_ring::slots::Slots::lend_two 𝓡.env wired) X L) z (id⊢ 𝓤 _)
+    (met 𝓤 𝓛 𝓜 𝓡 (code.calls-arraydeque_ring::slots::Slots::lend_two 𝓡.env wired) X L)
+    ((κs, qs, bounds, (a.0, words), vals), tt) (id⊢ 𝓤 _)
     (and_then ! (get ! refl) (and_then ! (get ! refl)
     (and_then ! (get ! refl) (and_then ! (lit ! tt) (and_then ! (get ! refl) (no_more !)))))) (loan_lawful E)
     (λ v it ws it_typed. lands_as ! refl refl it_typed.0 $
