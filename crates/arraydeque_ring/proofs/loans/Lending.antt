@@ -2,7 +2,10 @@
 use Rattle.std.{
   proofs.{
     Common.{◌≡◌, ℕ, ◌+◌, ◌-◌, ◌≤◌, ◌⊎◌, inl, inr, List, [], ◌++◌, length, take, drop, Option, ap, ◌∙◌, arith},
-    lemmas.List.{nil_from_length, length-append, take_all, append-nil, take-append-drop},
+    lemmas.{
+      Bool.Decides.nat_tests,
+      List.{nil_from_length, length-append, take_all, append-nil, take-append-drop},
+    },
   },
   specs.Prelude.min,
 }
@@ -18,12 +21,29 @@ use Rattle.arraydeque_ring.{
   proofs.{
     loans.Placed.{as_many-same, length-as_many},
     places.{
-      Appended.LaidOut-round,
+      Appended.{Holds-run, LaidOut-written},
       Held.length_filled,
+      Holds.Holds-same,
+      Items.items,
+      LaidOut.{LaidOut, LaidOut-by, holds},
       Opened.{Opened, view, kept, closed, piece_filled, piece_held, rest_filled, rest_held},
     },
   },
 }
+
+-- as many items as there are, written in two runs, of which the second goes on from the first place where the first
+-- comes to the region's end
+LaidOut-round : {X : Type 0} {n t : ℕ} {xs : List X} {ps : List (Option X)} → LaidOut n t xs ps → (us vs : List X)
+    → length us + length vs ≡ length xs → t + length us ≤ n → (length vs ≡ 0) ⊎ (t + length us ≡ n)
+    → LaidOut n t (us ++ vs) (with_run 0 vs (with_run t us ps))
+LaidOut-round {t = t} l us vs many fits to_end = elim to_end [
+  | inl none ↦ rw (nil_from_length vs none, append-nil us) (LaidOut-written l us (omega arith) fits)
+  | inr end ↦
+      let within = l.within in
+      LaidOut-by (omega (arith, length-append us vs))
+      (Holds-same (Holds-run (Holds-run (holds l) 0 t us (inl (omega arith)) fits (omega arith)) (length us) 0 vs
+      (inr (omega arith)) (omega arith) (omega arith)) (λ k lt. grind (arith, nat_tests, items)))
+]
 
 module _ {X : Type 0} where
   abbrev pub with_slots : Inside X → Region X → Inside X

@@ -1,11 +1,11 @@
 -- Items that are laid behind a list, in one run of places.
 use Rattle.std.proofs.{
   Common.{◌≡◌, ℕ, ◌+◌, ◌-◌, ◌≤◌, List, ◌++◌, length, take, drop, get_or, slice_get, nat_lt, if◌then◌else◌, Option},
-  Common.{Some, None, replicate, refl, ◌⊎◌, inl, inr, sym, ap, ◌∙◌, arith},
+  Common.{Some, None, replicate, refl, inl, sym, ap, ◌∙◌, arith},
   lemmas.{
     Bool.Decides.nat_tests,
     Grind.common_steps,
-    List.{length-append, length-map, append_assoc, append-nil, drop-drop, nil_from_length},
+    List.{length-append, length-map, append_assoc, drop-drop},
     Option.slice_get_past,
   },
   Math.Seq.take-add,
@@ -60,18 +60,6 @@ module _ {X : Type 0} where
     LaidOut-written ys many fits =
         LaidOut-by (omega (arith, fits)) (Holds-same (Holds-run (holds l) 0 t ys (inl (omega arith)) fits (omega arith))
         (λ k lt. grind (arith, nat_tests, items)))
-
-    -- or in two, of which the second goes on from the first place, where the first comes to the region's end
-    pub LaidOut-round : (us vs : List X) → length us + length vs ≡ length xs → t + length us ≤ n
-        → (length vs ≡ 0) ⊎ (t + length us ≡ n) → LaidOut n t (us ++ vs) (with_run 0 vs (with_run t us ps))
-    LaidOut-round us vs many fits to_end = elim to_end [
-      | inl none ↦ rw (nil_from_length vs none, append-nil us) (LaidOut-written us (omega arith) fits)
-      | inr end ↦
-          let within = l.within in
-          LaidOut-by (omega (arith, length-append us vs))
-          (Holds-same (Holds-run (Holds-run (holds l) 0 t us (inl (omega arith)) fits (omega arith)) (length us) 0 vs
-          (inr (omega arith)) (omega arith) (omega arith)) (λ k lt. grind (arith, nat_tests, items)))
-    ]
 
     -- the places behind the list are empty
     pub IsEmptyRun-from : (i place run : ℕ) → length xs ≤ i → MayStartAt t i n place → place + run ≤ n → i + run ≤ n

@@ -1,15 +1,14 @@
 -- `read` empties a filled place. Assumes `Logic`.
 use Rattle.arraydeque_ring.proofs.{
   memory.{
-    Kit.{frame, refl, sym, List, [], ◌∷◌, ℕ, ◌+◌, ◌*◌, ◌<◌, arith, length, get_or, set, length-set, None, full_share},
-    Kit.{fat, froom, Fn, inst_fn, Val, vptr, Env, ◌⊑◌, tables, ‵, ◌⊛◌, some, given, at_ret, ◌$◌, move, !, keep, use1},
-    Kit.{use2, split, join, pick, learn, rewrite, fjoin3, feq_i, suffices, done, whole, sub, look_in, of_opd, bin},
-    Kit.{load, look, stop, fld, first, blocks, exec, returns, alloc_all, pass_all, free_all, look_at, get, through},
-    Kit.{sets, sets_last, env, as_raw, after, says_two, Good, El, R, args, el_x, elτ},
+    Kit.{frame, id⊢, refl, sym, List, [], ◌∷◌, ℕ, ◌+◌, ◌*◌, ◌<◌, arith, length, get_or, set, length-set, None},
+    Kit.{full_share, fat, froom, Fn, inst_fn, Val, vptr, Env, ◌⊑◌, fact, tables, ‵, raw, ◌⊛◌, some, given, at_ret, ◌$◌},
+    Kit.{move, !, keep, use1, use2, drop, split, join, pick, learn, rewrite, fjoin3, feq_i, suffices, done, whole, sub},
+    Kit.{look_in, of_opd, bin, load, look, stop, fld, first, blocks, exec, returns, alloc_all, pass_all, free_all},
+    Kit.{look_at, get, through, sets, sets_last, env, heard, as_raw, after, says_two, Good, El, R, args, el_x, elτ},
     Regions.{scaled, Sr, Seen, near, places, slots_open, slots_close, item_size, Place, Around, place_out, place_in},
     Regions.{value_out, place_owned, IsFilled},
     Methods.{method, comes_back},
-    Called.{hears},
   },
   places.Held.filled_within,
 }
@@ -24,8 +23,9 @@ read_spec 𝓤 𝓛 𝓜 𝓡 wired X L =
     method 1 1 (Sr E) 𝓛 (comes_back 1 𝓛 _) 𝓜 𝓡 _ _ (f.clauses X 𝓛 𝓜.mem 𝓡.returns) (f.Key.name (args E)) here
     (code.unfolded 𝓤 𝓛.H 𝓜 𝓡 wired (X, tt)) (λ κs qs bounds a _ fit post ends.
     let rb : ℕ = a.0.ref_ptr.0 in let ro : ℕ = a.0.ref_ptr.1 in let r : Seen E = a.0.now in let i : ℕ = a.1.0 in
-    let s : ℕ = item_size E in
-    hears ! ((κs.1.0 ⊑ X.lives) ∷ IsFilled r.places i ∷ []) (λ _ asked.
+    let s : ℕ = item_size E in let Asked : Type 0 = IsFilled r.places i in
+    use1 𝓛 (raw (fact 𝓤 (κs.1.0 ⊑ X.lives)) ⊛ raw (fact 𝓤 Asked)) (id⊢ 𝓤 _) $ split ! $ drop ! $
+    heard ! Asked (λ asked.
     let x : el_x E = asked.0 in let within : i < length r.places = filled_within r.places i x asked.1 in
     alloc_all ! (λ l. pass_all ! refl ((tt, tt), fit) $
     let En : Env 𝓤 𝓛.H = env here.locals l in
