@@ -61,7 +61,7 @@ module _ (α : NamedLft) (T : RattleType) {M : Type 1} {𝓤 : Ura M} (𝓛 : Lo
       ∷ ‵ ((MutSlice α.mir α.lft T).own_val d.second (w ∷ [])) ∷ []) ∵
       nothing ! $ use0 𝓛 (‵ Mark) mark_made $ fjoin ! $
       nothing ! $ move ! (1 ∷ 0 ∷ []) $ fjoin ! $ move ! (2 ∷ 0 ∷ []) $ fjoin ! $ move ! (1 ∷ 0 ∷ []) $ fjoin ! $
-      feq_i ! (List Val) (loan_val v w ∷ []) (loan_val v w ∷ []) refl $ fjoin ! $
+      feq_i ! _ (loan_val v w ∷ []) _ refl $ fjoin ! $
       fpack ! (Valss sh.fields) (within sh (it.first, (it.second, (it.name, tt))) (loan_val v w ∷ []))
       (v ∷ [], (w ∷ [], (mark ∷ [], tt))) $
       nothing ! $ move ! (1 ∷ 0 ∷ []) $ fjoin ! $

@@ -3,8 +3,8 @@ use Rattle.arraydeque_ring.{
   proofs.{
     memory.{
       Kit.{◌++◌, nothing, ◌≡◌, refl, List, [], ◌∷◌, ℕ, ◌+◌, ◌<◌, ◌≤◌, ◌^◌, arith, length, full_share, id⊢, Share},
-      Kit.{GName, ftrue, fsep, fat, flft, fauth, Fn, inst_fn, w64, Val, vptr, ◌⊑◌, fact, tables, sem, Borrowed, owns},
-      Kit.{‵, raw, ◌⊛◌, some, later, ◌$◌, !, move, use1, use2, drop, split, join, pick, frame, await, fsplit, fjoin},
+      Kit.{GName, ftrue, fsep, fat, flft, fauth, Fn, inst_fn, w64, vptr, ◌⊑◌, fact, tables, sem, Borrowed, owns, ‵},
+      Kit.{raw, ◌⊛◌, some, later, ◌$◌, !, move, use1, use2, drop, split, join, pick, frame, await, fsplit, fjoin},
       Kit.{fjoin3, fpack, feq_i, suffices, done, of_opd, addr, load, look, stop, fld, no_more, and_then, returns},
       Kit.{alloc_all, pass_all, free_all, look_at, get, through, sets, lands_as, usize, mem, part_at, says_two, heard},
       Kit.{El, R, args, el_x, after₂, split3, group, name_new, Array, both_by, MutBor, NamedLft, named_lft, pure_i},
@@ -84,11 +84,11 @@ lend_spec 𝓤 𝓛 𝓜 𝓡 wired X L =
     bor_new_deep ! tt age κ {P = Borrowed (mem (Sr E)) rb (ro + 0) δ} $
     -- [the slots' borrow; the right to its end;
     -- obs δ; the open borrow; the other fields; the way back; obs γ; auth γ; half its token; the others]
-    move ! (2 ∷ 0 ∷ []) $ feq_i ! (List Val) (vptr rb (ro + 0) ∷ []) (vptr rb (ro + 0) ∷ []) refl $ fjoin3 ! $
+    move ! (2 ∷ 0 ∷ []) $ feq_i ! _ (vptr rb (ro + 0) ∷ []) _ refl $ fjoin3 ! $
     let lent : MutBor (Seen E) = record { ref_ptr = (rb, ro + 0); ghost_name = δ; now = x.slots } in
     let words : ℕ × (ℕ × Unit {0}) = (x.start, (x.len, tt)) in
     let vals = values 1 κs 2 (lent, words) in
-    pure_i ! (owns (usize ∷ usize ∷ []) words vals.1) ((tt, tt), ((tt, tt), tt)) ((refl, fs), ((refl, fl), tt)) $
+    pure_i ! (owns (usize ∷ usize ∷ []) words vals.1) _ ((refl, fs), ((refl, fl), tt)) $
     -- [the words; the lent slots;
     -- the right; the open borrow; the other fields; the way back; obs γ; auth γ; half its token; the others]
     move ! (1 ∷ 0 ∷ []) $ fjoin ! $ move ! (7 ∷ 8 ∷ []) $ join ! $ join ! $

@@ -2,7 +2,7 @@
 use Rattle.arraydeque_ring.proofs.{
   memory.{
     Kit.{nothing, join, refl, sym, [], ◌∷◌, ℕ, ◌+◌, ◌*◌, ◌<◌, arith, length, get_or, set, length-set, Some, None, Ura},
-    Kit.{ent, sep, GName, Fml, fsep, flft, Fn, inst_fn, named, vptr, Env, ◌⊑◌, tables, Logic, sem, ‵, ◌⊛◌, some, later},
+    Kit.{ent, sep, GName, Fml, fsep, flft, Fn, inst_fn, named, vptr, ◌⊑◌, tables, Logic, sem, ‵, ◌⊛◌, some, later},
     Kit.{at_ret, ◌$◌, ◌∵◌, !, qed, by, move, use1, use2, split, pick, frame, rewrite, await, fsplit, fjoin, suffices},
     Kit.{done, whole, sub, look_in, of_opd, bin, load, addr, stop, fld, first, blocks, exec, returns, alloc_all},
     Kit.{pass_all, free_all, look_at, get, through, sets, sets_last, env, mem, says, after, El, R, args, el_x, split3},
@@ -50,7 +50,6 @@ lend_spec 𝓤 𝓛 𝓜 𝓡 wired X L =
     hears ! ((κs.1.0 ⊑ X.lives) ∷ IsFilled r.places i ∷ []) (λ _ asked.
     let x : el_x E = asked.0 in let within : i < length r.places = filled_within r.places i x asked.1 in
     alloc_all ! (λ l. pass_all ! refl ((tt, tt), typed) $
-    let En : Env 𝓤 𝓛.H = env here.locals l in
     slots_open E ! tt r rb ro (λ g b o n ok.
     let far = near E ok i (omega arith) in
     first ! $ blocks ! $
@@ -59,7 +58,7 @@ lend_spec 𝓤 𝓛 𝓜 𝓡 wired X L =
     sets ! (scaled ! (get ! refl) far) refl (tt, record { fits = far }) $
     sets ! (bin ! (get ! refl) (get ! refl) tt) refl (tt, tt) $
     sets_last ! (addr ! (through ! refl (stop !))) refl (tt, tt) $
-    exec ! 𝓣.C 𝓣.Λ En (after 1 here.body) (at_ret En post) $ sets ! (of_opd ! (get ! refl)) refl (tt, tt) $
+    exec ! 𝓣.C 𝓣.Λ (env here.locals l) (after 1 here.body) (at_ret _ post) $ sets ! (of_opd ! (get ! refl)) refl (tt, tt) $
     let at = i * s + o in let way = back E 𝓛 rb ro r i g b o n ok within in let new = Written E r i in
     let Rest₀ = sem 𝓛 (Rest E 𝓛 rb ro r i g b o n) in
     use1 𝓛 (‵ (place_owned (R E) b at (get_or r.places i None)) ⊛ ‵ (Around E 𝓛 b o r.places i 1))

@@ -2,11 +2,11 @@
 use Rattle.arraydeque_ring.{
   proofs.{
     memory.{
-      Kit.{◌≡◌, refl, sym, ap, subst, ◌∙◌, List, [], ◌∷◌, ℕ, ◌<◌, ◌≤◌, ◌^◌, lit<, arith, length, id⊢, Fn, inst_fn, w64},
-      Kit.{Val, vptr, ◌⊑◌, tables, owns, ‵, raw, ◌⊛◌, ◌$◌, !, move, use1, drop, split, join, frame, fsplit, fjoin},
-      Kit.{fjoin3, feq_i, feq_l, flt_l, suffices, done, of_opd, lit, bin, addr, load, stop, fld, no_more, whole, sub},
-      Kit.{look_in, only, and_then, returns, alloc_all, pass_all, free_all, look_at, get, through, sets, lands_as},
-      Kit.{usize, uint_vals, says_two, nothing, heard, El, R, args, both_by, pure_i},
+      Kit.{◌≡◌, refl, sym, ap, subst, ◌∙◌, [], ◌∷◌, ℕ, ◌<◌, ◌≤◌, ◌^◌, lit<, arith, length, id⊢, Fn, inst_fn, w64, vptr},
+      Kit.{◌⊑◌, tables, owns, ‵, raw, ◌⊛◌, ◌$◌, !, move, use1, drop, split, join, frame, fsplit, fjoin, fjoin3, feq_i},
+      Kit.{feq_l, flt_l, suffices, done, of_opd, lit, bin, addr, load, stop, fld, no_more, whole, sub, look_in, only},
+      Kit.{and_then, returns, alloc_all, pass_all, free_all, look_at, get, through, sets, lands_as, usize, uint_vals},
+      Kit.{says_two, nothing, heard, El, R, args, both_by, pure_i},
       Regions.{Sr, Seen, slots_open, slots_close, HoldsRun, IsFilledRun},
       Methods.{method, spent, values},
       Called.{Called, calls_met, facts, hears, knows},
@@ -49,7 +49,7 @@ lend_round_spec 𝓤 𝓛 𝓜 𝓡 wired X L =
     (tt, record { fits = room_fits }) $
     let zₑ : (Called 𝓛 e.ended (e.clauses 𝓛 𝓜.mem 𝓡.returns)).Ghost =
     ((tt, tt, tt, (len, (room, tt)), (uint_vals w64 len, (uint_vals w64 room, tt))), tt) in
-    pure_i ! (owns (usize ∷ usize ∷ []) zₑ.0.3 zₑ.0.4) ((tt, tt), ((tt, tt), tt))
+    pure_i ! (owns (usize ∷ usize ∷ []) zₑ.0.3 zₑ.0.4) _
     ((refl, fl), ((refl, room_fits), tt)) $ nothing ! $ join ! $ nothing ! $
     calls_met 𝓛 ! 𝓜 𝓣 e.ended (e.clauses 𝓛 𝓜.mem 𝓡.returns)
     (e_met 𝓤 𝓛 𝓜 𝓡 (code.calls-core::int::usize::min 𝓡.env wired)) zₑ (id⊢ 𝓤 _)
@@ -60,11 +60,10 @@ lend_round_spec 𝓤 𝓛 𝓜 𝓡 wired X L =
     let fr : rest < 2 ^ 64 = omega arith in
     sets ! (addr ! (through ! refl (stop !))) refl (tt, tt) $
     sets ! (bin ! (get ! refl) (get ! refl) (omega arith)) refl (tt, record { fits = fr }) $
-    feq_i ! (List Val) (vptr rb ro ∷ []) (vptr rb ro ∷ []) refl $ fjoin3 ! $
+    feq_i ! _ (vptr rb ro ∷ []) _ refl $ fjoin3 ! $
     let words : ℕ × (ℕ × (ℕ × (ℕ × Unit {0}))) = (start, (first, (0, (rest, tt)))) in
     let vals = values 1 κs 4 (a.0, words) in
-    pure_i ! (owns (usize ∷ usize ∷ usize ∷ usize ∷ []) words vals.1)
-    ((tt, tt), ((tt, tt), ((tt, tt), ((tt, tt), tt))))
+    pure_i ! (owns (usize ∷ usize ∷ usize ∷ usize ∷ []) words vals.1) _
     ((refl, fs), ((refl, ff), ((refl, lit< tt), ((refl, fr), tt)))) $
     -- [the words; the borrow; its token; the others]
     move ! (1 ∷ 0 ∷ []) $ fjoin ! $ move ! (1 ∷ 2 ∷ []) $ join ! $ join ! $

@@ -3,7 +3,7 @@ use Rattle.arraydeque_ring.{
   proofs.{
     memory.{
       Kit.{nothing, join, ◌≡◌, refl, sym, ap, ◌∙◌, List, [], ◌∷◌, map, ℕ, ◌+◌, ◌*◌, ◌≤◌, arith, length, length-map},
-      Kit.{Some, Ura, ent, sep, GName, Fml, fsep, flft, Fn, inst_fn, named, Env, ◌⊑◌, tables, Logic, sem, ‵, ◌⊛◌, some},
+      Kit.{Some, Ura, ent, sep, GName, Fml, fsep, flft, Fn, inst_fn, named, ◌⊑◌, tables, Logic, sem, ‵, ◌⊛◌, some},
       Kit.{later, at_ret, ◌$◌, ◌∵◌, !, qed, by, move, use1, use2, split, pick, frame, rewrite, await, fsplit, fjoin},
       Kit.{suffices, done, whole, sub, look_in, agg, of_opd, bin, load, stop, fld, no_more, and_then, first, blocks},
       Kit.{exec, returns, alloc_all, pass_all, free_all, look_at, get, through, sets, sets_last, env, mem, says, after},
@@ -64,7 +64,6 @@ lend_run_spec 𝓤 𝓛 𝓜 𝓡 wired X L =
     let long = length_filled r.places from len asked in
     let within : from + length xs ≤ length r.places = omega (arith, asked.0) in
     alloc_all ! (λ l. pass_all ! refl ((tt, tt), typed) $
-    let En : Env 𝓤 𝓛.H = env here.locals l in
     slots_open E ! tt r rb ro (λ g b o n ok.
     let far = near E ok from (omega arith) in
     first ! $ blocks ! $
@@ -83,7 +82,7 @@ lend_run_spec 𝓤 𝓛 𝓜 𝓡 wired X L =
     rewrite ! 0 (λ (F : Fml). ‵ F) (same_cells E 𝓛 b xs at) refl $
     sets_last ! (agg ! (and_then ! (get ! refl) (and_then ! (get ! refl) (no_more !)))) refl
     (tt, (tt, (len_ok, tt))) $
-    exec ! 𝓣.C 𝓣.Λ En (after 1 here.body) (at_ret En post) $
+    exec ! 𝓣.C 𝓣.Λ (env here.locals l) (after 1 here.body) (at_ret _ post) $
     sets ! (of_opd ! (get ! refl)) refl (tt, (tt, (len_ok, tt))) $
     -- [the values; the others; the right; the words; the open borrow, in three; the other token]
     move ! (2 ∷ 3 ∷ []) $ fjoin ! $ move ! (2 ∷ 0 ∷ []) $ fjoin ! $ move ! (2 ∷ 3 ∷ 4 ∷ 1 ∷ 0 ∷ []) $ group ! 5 $

@@ -3,8 +3,8 @@ use Rattle.arraydeque_ring.{
   proofs.{
     memory.{
       Kit.{ap, nothing, ◌≡◌, refl, sym, ◌∙◌, List, [], ◌∷◌, map, ℕ, ◌+◌, ◌*◌, ◌≤◌, arith, length, length-map, Some},
-      Kit.{Ura, SProp, ent, sep, GName, flft, fobs, fbor, Fn, inst_fn, named, Env, ◌⊑◌, tables, Logic, sem, Borrowed},
-      Kit.{‵, raw, ◌⊛◌, some, later, at_ret, ◌$◌, ◌∵◌, !, qed, by, move, use1, use2, split, join, pick, frame, rewrite},
+      Kit.{Ura, SProp, ent, sep, GName, flft, fobs, fbor, Fn, inst_fn, named, ◌⊑◌, tables, Logic, sem, Borrowed, ‵},
+      Kit.{raw, ◌⊛◌, some, later, at_ret, ◌$◌, ◌∵◌, !, qed, by, move, use1, use2, split, join, pick, frame, rewrite},
       Kit.{await, fsplit, fjoin, feq_i, feq_l, suffices, done, whole, sub, look_in, agg, of_opd, bin, load, stop, fld},
       Kit.{no_more, and_then, first, blocks, exec, returns, alloc_all, pass_all, free_all, look_at, get, through, sets},
       Kit.{sets_last, env, mem, says_two, after, El, R, args, el_x, after₂, split3, group, common_steps, SemTy, all},
@@ -95,7 +95,6 @@ lend_two_spec 𝓤 𝓛 𝓜 𝓡 wired X L =
     let in_b : b + length ys ≤ length r.places = omega (arith, two.0) in
     let clear : AreApart a (length xs) b (length ys) = rw (long, long') apart in
     alloc_all ! (λ l. pass_all ! refl ((tt, tt), typed) $
-    let En : Env 𝓤 𝓛.H = env here.locals l in
     slots_open E ! tt r rb ro (λ g p o n ok.
     let far = near E ok a (omega arith) in let far' = near E ok b (omega arith) in
     first ! $ blocks ! $
@@ -115,7 +114,7 @@ lend_two_spec 𝓤 𝓛 𝓜 𝓡 wired X L =
     sets ! (agg ! (and_then ! (get ! refl) (no_more !))) refl (tt, (tt, tt)) $
     sets_last ! (agg ! (and_then ! (get ! refl) (and_then ! (get ! refl) (and_then ! (get ! refl) (no_more !))))) refl
     (tt, ((tt, (la_ok, tt)), ((tt, (lb_ok, tt)), ((tt, tt), tt)))) $
-    exec ! 𝓣.C 𝓣.Λ En (after 1 here.body) (at_ret En post) $ sets ! (of_opd ! (get ! refl)) refl
+    exec ! 𝓣.C 𝓣.Λ (env here.locals l) (after 1 here.body) (at_ret _ post) $ sets ! (of_opd ! (get ! refl)) refl
     (tt, ((tt, (la_ok, tt)), ((tt, (lb_ok, tt)), ((tt, tt), tt)))) $
     let pa = a * s + o in let pb = b * s + o in let Rest₀ = Rest E 𝓛 arg.0 a b xs ys g p o n in
     let way = back E 𝓛 arg.0 a b xs ys g p o n ok in_a in_b in let Ways = all 𝓤 (Way E 𝓛 arg.0 a b xs ys g p o n) in
@@ -127,8 +126,8 @@ lend_two_spec 𝓤 𝓛 𝓜 𝓡 wired X L =
     rewrite ! 1 (λ (F : Fml). ‵ F) (ap (places_owned (R E) p pb) held' ∙ same_cells E 𝓛 p ys pb) refl $
     move ! (1 ∷ []) $
     -- [the second's values; the first's; the way; the right; the words; the open borrow, in three; the other token]
-    move ! (3 ∷ 4 ∷ []) $ fjoin ! $ move ! (3 ∷ 0 ∷ []) $ join ! $ move ! (1 ∷ []) $ feq_i ! ℕ (length ys)
-    (length ys) refl $ fjoin ! $ move ! (2 ∷ []) $ feq_i ! ℕ (length xs) (length xs) refl $ fjoin ! $ fjoin ! $
+    move ! (3 ∷ 4 ∷ []) $ fjoin ! $ move ! (3 ∷ 0 ∷ []) $ join ! $ move ! (1 ∷ []) $
+    feq_i ! _ (length ys) _ refl $ fjoin ! $ move ! (2 ∷ []) $ feq_i ! _ (length xs) _ refl $ fjoin ! $ fjoin ! $
     -- [both; the rest; the open borrow, in three; ..]
     move ! (2 ∷ 3 ∷ 4 ∷ 0 ∷ 1 ∷ []) $ group ! 5 $
     let Both = mem (two_lists (R E)) in
