@@ -2,10 +2,7 @@
 use Rattle.std.{
   proofs.{
     Common.{◌≡◌, ℕ, ◌+◌, ◌-◌, ◌≤◌, ◌⊎◌, inl, inr, List, [], ◌++◌, length, take, drop, Option, ap, ◌∙◌, arith},
-    lemmas.{
-      Bool.Decides.nat_tests,
-      List.{nil_from_length, length-append, take_all, append-nil, take-append-drop},
-    },
+    lemmas.{List.{nil_from_length, length-append, take_all, append-nil, take-append-drop}},
   },
   specs.Prelude.min,
 }
@@ -39,10 +36,9 @@ LaidOut-round : {X : Type 0} {n t : ℕ} {xs : List X} {ps : List (Option X)} �
 LaidOut-round {t = t} l us vs many fits to_end = elim to_end [
   | inl none ↦ rw (nil_from_length vs none, append-nil us) (LaidOut-written l us (omega arith) fits)
   | inr end ↦
-      let within = l.within in
       LaidOut-by (omega (arith, length-append us vs))
       (Holds-same (Holds-run (Holds-run (holds l) 0 t us (inl (omega arith)) fits (omega arith)) (length us) 0 vs
-      (inr (omega arith)) (omega arith) (omega arith)) (λ k lt. grind (arith, nat_tests, items)))
+      (inr (omega arith)) (omega arith) (omega arith)) (λ k lt. grind (arith, items)))
 ]
 
 module _ {X : Type 0} where
@@ -64,7 +60,7 @@ module _ {X : Type 0} where
     fits = let inside = (kept o).0 in omega arith
 
     to_end : (rest ≡ 0) ⊎ (r.start + first ≡ length ps)
-    to_end = let inside = (kept o).0 in grind (arith, inside)
+    to_end = let inside = (kept o).0 in grind arith
 
     -- the two runs are filled
     pub first_run_filled : IsFilledRun ps r.start first
@@ -90,7 +86,7 @@ module _ {X : Type 0} where
           let long : length items ≡ r.len = ap (λ (w : RingState X). length w.items) (closed o) ∙ o.len in
           let front = (piece_held r (kept o) first xs (omega arith) fits held).1 in
           elim to_end [
-            | inl none ↦ grind (arith, front, long, none, nil_from_length ys (many' ∙ none), take_all, append-nil)
+            | inl none ↦ grind (arith, nil_from_length ys (many' ∙ none), take_all, append-nil)
             | inr end ↦ rw (front, (rest_held r (kept o) first ys (omega arith) end held').1)
                 (take-append-drop first items)
           ] ∙ ap (λ (w : RingState X). w.items) (closed o)
@@ -104,13 +100,11 @@ module _ {X : Type 0} where
           let us' = as_many xs us in let vs' = as_many ys vs in
           let front : length us' ≡ first = length-as_many xs us ∙ many in
           let behind : length vs' ≡ rest = length-as_many ys vs ∙ many' in
-          let same : length (us' ++ vs') ≡ length v.items =
-          omega (arith, length-append us' vs', front, behind, o.len) in
+          let same : length (us' ++ vs') ≡ length v.items = omega (arith, length-append us' vs') in
           let whole = as_many-same v.items (us' ++ vs') same in
           rw (whole, whole) (record {
-            laid = LaidOut-round o.laid us' vs' (omega (arith, same, length-append us' vs'))
-                (omega (arith, front, fits, o.laid.length_is))
-                (grind (arith, to_end, front, behind, o.laid.length_is));
+            laid = LaidOut-round o.laid us' vs' (omega (arith, length-append us' vs')) (omega (arith, fits))
+                (grind (arith, to_end));
             len = same ∙ o.len;
             start = o.start;
             steps = ap (more_lends 2) o.steps;

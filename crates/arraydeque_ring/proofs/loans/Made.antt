@@ -2,8 +2,7 @@
 use Rattle.arraydeque_ring.{
   proofs.memory.Kit.{◌≡◌, refl, ap, List, [], ◌∷◌, ◌+◌, ◌<◌, ◌^◌, length, Ura, ent, sep, emp, GName, Fml, fsep, ftrue},
   proofs.memory.Kit.{Val, vstruct, vcons, vnil, Logic, sem, ‵, ◌$◌, ◌∵◌, !, qed, move, use0, fjoin, fpick, fpack},
-  proofs.memory.Kit.{feq_i, done, El, R, param_laws, RattleType, Valss, nothing, NamedLft, MutSlice, makes_shadow},
-  proofs.memory.Kit.{Struct},
+  proofs.memory.Kit.{feq_i, done, El, R, param_laws, RattleType, nothing, NamedLft, MutSlice, makes_shadow, Struct},
   specs.{Loans.LoanState, declared.slots.loan.Loan.TheInside.Inside},
 }
 use denote.{Laws.Lawful, Struct.{Declared.shape, Owning.shape as owned_shape, Struct.within}}
@@ -62,7 +61,7 @@ module _ (α : NamedLft) (T : RattleType) {M : Type 1} {𝓤 : Ura M} (𝓛 : Lo
       nothing ! $ use0 𝓛 (‵ Mark) mark_made $ fjoin ! $
       nothing ! $ move ! (1 ∷ 0 ∷ []) $ fjoin ! $ move ! (2 ∷ 0 ∷ []) $ fjoin ! $ move ! (1 ∷ 0 ∷ []) $ fjoin ! $
       feq_i ! _ (loan_val v w ∷ []) _ refl $ fjoin ! $
-      fpack ! (Valss sh.fields) (within sh (it.first, (it.second, (it.name, tt))) (loan_val v w ∷ []))
+      fpack ! _ (within sh (it.first, (it.second, (it.name, tt))) (loan_val v w ∷ []))
       (v ∷ [], (w ∷ [], (mark ∷ [], tt))) $
       nothing ! $ move ! (1 ∷ 0 ∷ []) $ fjoin ! $
       fpack ! ((z : Inside T.Denot) × Fits d z) (λ z. owned (loan_val v w ∷ []) z.0) (it, (refl, bounded)) $ done !

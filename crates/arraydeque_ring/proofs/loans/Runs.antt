@@ -98,7 +98,7 @@ module _ (E : El) {M : Type 1} {𝓤 : Ura M} (𝓛 : Logic 𝓤) (b : ℕ) wher
           (sym (take-placed i m j n ps apart in_j w.0 (sym w.2))) refl $
           rewrite ! 2 (λ (qs : List (Place E)). ‵ (Row (n * s + at o j) qs))
           (sym (drop-placed i m j n ps apart in_j w.0 (sym w.2))) refl $ move ! (0 ∷ 2 ∷ []) $ fjoin ! $
-          move ! (1 ∷ 0 ∷ []) $ by ! (run_in E 𝓛 b o new j n (omega (arith, in_j, long)) w.1 (sym w.3)))) $
+          move ! (1 ∷ 0 ∷ []) $ by ! (run_in E 𝓛 b o new j n (omega arith) w.1 (sym w.3)))) $
           move ! (1 ∷ 2 ∷ []) $ done !
 
     pub two_out : (i m j n : ℕ) (in_i : i + m ≤ length ps) (in_j : j + n ≤ length ps) → AreApart i m j n

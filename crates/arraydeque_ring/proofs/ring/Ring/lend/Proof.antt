@@ -80,7 +80,7 @@ lend_spec 𝓤 𝓛 𝓜 𝓡 wired X L =
     -- [obs δ; auth δ; the open borrow;
     -- the slots; the other fields; the way back; obs γ; auth γ; half its token; the others]
     move ! (3 ∷ 1 ∷ []) $ fjoin ! $
-    fpack ! (Seen E) (λ v. fsep ((mem (Sr E)).own_at v rb (ro + 0)) (fauth δ ((Sr E).coded.code v))) x.slots $
+    fpack ! _ (λ (v : Seen E). fsep ((mem (Sr E)).own_at v rb (ro + 0)) (fauth δ ((Sr E).coded.code v))) x.slots $
     bor_new_deep ! tt age κ {P = Borrowed (mem (Sr E)) rb (ro + 0) δ} $
     -- [the slots' borrow; the right to its end;
     -- obs δ; the open borrow; the other fields; the way back; obs γ; auth γ; half its token; the others]
@@ -95,8 +95,8 @@ lend_spec 𝓤 𝓛 𝓜 𝓡 wired X L =
     let In = x.start ≤ length x.slots.places in let Within = x.len ≤ length x.slots.places in
     let One = IsFilledRun x.slots.places x.start first in let Two = IsFilledRun x.slots.places 0 rest in
     knows ! Two (second_run_filled open_ring) $ knows ! One (first_run_filled open_ring) $ join ! $
-    knows ! Within (omega (arith, open_ring.len, length_within open_ring.laid)) $ join ! $
-    knows ! In (let inside = kept.0 in omega (arith, inside)) $ join ! $
+    knows ! Within (omega (arith, length_within open_ring.laid)) $ join ! $
+    knows ! In (omega arith) $ join ! $
     knows ! (κ₁ ⊑ X.lives) lives $ join ! $
     calls_met 𝓛 ! 𝓜 𝓣 (g.ended X) (g.clauses X 𝓛 𝓜.mem 𝓡.returns)
     (met 𝓤 𝓛 𝓜 𝓡 (code.calls-arraydeque_ring::slots::Slots::lend_round 𝓡.env wired) X L)
@@ -137,11 +137,6 @@ lend_spec 𝓤 𝓛 𝓜 𝓡 wired X L =
     returns ! (look_at ! 0 refl) $ free_all ! refl $
     suffices ! _ (ends v out tt) $ nothing ! $ frame ! $ move ! (1 ∷ []) $ frame ! $ frame ! $
     let none : d.start + length d.items ≤ d.capacity → it.second.now ≡ [] =
-    λ in_one_piece. nil_from_length it.second.now (omega (
-      arith,
-      length_filled x.slots.places 0 rest ((second_run_filled open_ring).0, (it.second.now, held')),
-      open_ring.len,
-      open_ring.start,
-      open_ring.laid.length_is,
-    )) in
+    λ in_one_piece. nil_from_length it.second.now
+    (omega (arith, length_filled x.slots.places 0 rest ((second_run_filled open_ring).0, (it.second.now, held')))) in
     says_two ! (lent_items open_ring it.first.now it.second.now held held', none) $ done !)))))))))))

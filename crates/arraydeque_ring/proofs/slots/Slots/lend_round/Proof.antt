@@ -44,8 +44,8 @@ lend_round_spec 𝓤 𝓛 𝓜 𝓡 wired X L =
     (tt, record { fits = ok.word }) $
     slots_close E ! tt heap r r b o n rb ro ok refl $
     -- [obs; the borrow; its token; the others]
-    let room : ℕ = n - start in let room_fits : room < 2 ^ 64 = omega (arith, ok.word) in
-    sets ! (bin ! (get ! refl) (get ! refl) (omega (arith, inside, ok.capacity))) refl
+    let room : ℕ = n - start in let room_fits : room < 2 ^ 64 = omega arith in
+    sets ! (bin ! (get ! refl) (get ! refl) (omega arith)) refl
     (tt, record { fits = room_fits }) $
     let zₑ : (Called 𝓛 e.ended (e.clauses 𝓛 𝓜.mem 𝓡.returns)).Ghost =
     ((tt, tt, tt, (len, (room, tt)), (uint_vals w64 len, (uint_vals w64 room, tt))), tt) in
@@ -68,7 +68,7 @@ lend_round_spec 𝓤 𝓛 𝓜 𝓡 wired X L =
     -- [the words; the borrow; its token; the others]
     move ! (1 ∷ 0 ∷ []) $ fjoin ! $ move ! (1 ∷ 2 ∷ []) $ join ! $ join ! $
     let Apart = AreApart start first 0 rest in
-    let apart : Apart = λ k from to from' to'. omega (arith, within, ok.capacity, cuts) in
+    let apart : Apart = λ k from to from' to'. omega arith in
     knows ! Apart apart $ knows ! (Two first) (subst Two same two) $ join ! $
     knows ! (One first) (subst One same one) $ join ! $ knows ! (κ₁ ⊑ X.lives) lives $ join ! $
     calls_met 𝓛 ! 𝓜 𝓣 (g.ended X) (g.clauses X 𝓛 𝓜.mem 𝓡.returns)

@@ -62,7 +62,7 @@ lend_run_spec 𝓤 𝓛 𝓜 𝓡 wired X L =
     hears ! ((κs.1.0 ⊑ X.lives) ∷ IsFilledRun r.places from len ∷ []) (λ _ asked.
     let xs : List (el_x E) = asked.1.0 in let held = asked.1.1 in
     let long = length_filled r.places from len asked in
-    let within : from + length xs ≤ length r.places = omega (arith, asked.0) in
+    let within : from + length xs ≤ length r.places = omega arith in
     alloc_all ! (λ l. pass_all ! refl ((tt, tt), typed) $
     slots_open E ! tt r rb ro (λ g b o n ok.
     let far = near E ok from (omega arith) in

@@ -91,8 +91,8 @@ lend_two_spec 𝓤 𝓛 𝓜 𝓡 wired X L =
     let long = length_filled r.places a la one in let long' = length_filled r.places b lb two in
     let held : HoldsRun r.places a (length xs) xs = rw long one.1.1 in
     let held' : HoldsRun r.places b (length ys) ys = rw long' two.1.1 in
-    let in_a : a + length xs ≤ length r.places = omega (arith, one.0) in
-    let in_b : b + length ys ≤ length r.places = omega (arith, two.0) in
+    let in_a : a + length xs ≤ length r.places = omega arith in
+    let in_b : b + length ys ≤ length r.places = omega arith in
     let clear : AreApart a (length xs) b (length ys) = rw (long, long') apart in
     alloc_all ! (λ l. pass_all ! refl ((tt, tt), typed) $
     slots_open E ! tt r rb ro (λ g p o n ok.
