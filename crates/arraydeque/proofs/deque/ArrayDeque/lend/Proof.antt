@@ -3,8 +3,8 @@ use Rattle.arraydeque_ring.{
   proofs.{
     memory.Called.{calls_met, facts, hears, knows},
     memory.Kit.{◌≡◌, refl, ap, ◌∙◌, List, [], ◌∷◌, ◌++◌, ℕ, ◌+◌, ◌≤◌, arith, length, full_share, id⊢, sep, Share},
-    memory.Kit.{GName, fsep, flft, fauth, Fn, inst_fn, named, Val, vptr, ◌⊑◌, fact, tables, Borrowed, owns, types_at},
-    memory.Kit.{‵, raw, ◌⊛◌, some, later, ◌$◌, ◌∵◌, !, qed, move, keep, use1, use2, split, split3, group, join, pick},
+    memory.Kit.{GName, fsep, flft, fauth, Fn, inst_fn, named, vptr, ◌⊑◌, fact, tables, Borrowed, owns, types_at, ‵},
+    memory.Kit.{raw, ◌⊛◌, some, later, ◌$◌, ◌∵◌, !, qed, move, keep, use1, use2, split, split3, group, join, pick},
     memory.Kit.{frame, rewrite, await, fsplit, fsplit3, fjoin, fjoin3, fpack, feq_i, suffices, done, enter, addr, stop},
     memory.Kit.{fld, no_more, and_then, returns, alloc_all, pass_all, free_all, look_at, get, through, sets, lands_as},
     memory.Kit.{no, plain, mem, part_at, Stays, walk_of, says_two, stay_dropped, ends_at, nothing, RattleType, El, R},
@@ -73,7 +73,7 @@ lend_spec 𝓤 𝓛 𝓜 𝓡 wired X N B L fits LB members dict dict_met =
     (fauth δ ((Rr E).coded.code v))) x.ring $ bor_new_deep ! tt age κ {P = Borrowed (mem (Rr E)) rb (ro + 0) δ} $
     -- [the ring's borrow; the right to its end;
     -- obs δ; the open borrow; the other field; the way back; obs γ; auth γ; half the token; that of T; the others]
-    move ! (2 ∷ 0 ∷ []) $ feq_i ! (List Val) (vptr rb (ro + 0) ∷ []) (vptr rb (ro + 0) ∷ []) refl $ fjoin3 ! $
+    move ! (2 ∷ 0 ∷ []) $ feq_i ! _ (vptr rb (ro + 0) ∷ []) _ refl $ fjoin3 ! $
     let lent : MutBor (RingState (el_x E)) = record { ref_ptr = (rb, ro + 0); ghost_name = δ; now = x.ring } in
     let κs' : Lfts 2 = (κ, (κ₁, tt)) in
     nothing ! $ move ! (1 ∷ 0 ∷ []) $ fjoin ! $
@@ -126,8 +126,6 @@ lend_spec 𝓤 𝓛 𝓜 𝓡 wired X N B L fits LB members dict dict_met =
     move ! (1 ∷ []) $ nothing ! $ nothing ! $ fjoin ! $ join ! $ move ! (1 ∷ 0 ∷ []) $ join ! $ frame ! $
     let none : d.start + length d.items ≤ N → it.second.now ≡ [] = λ in_one_piece. piece (omega (
       arith,
-      in_one_piece,
-      kept.0,
       ap (λ (u : DequeState (el_x E)). u.start) seen,
       ap (λ (u : DequeState (el_x E)). length u.items) seen,
     )) in
