@@ -1,10 +1,8 @@
--- A call in a walk: what `lend` requires, and how a value and the tokens of two lifetimes go on to the next call.
+-- A call in a walk: what `lend` requires, and how the tokens of two lifetimes go on to the next call.
 -- Assumes `Logic`.
 use Rattle.arraydeque_ring.proofs.memory.{
-  Kit.{[], ◌∷◌, Ura, SProp, ent, sep, emp, via, snd∗, fact, fact_i, fact_use, Logic, sem},
-  Kit.{‵, raw, ◌⊛◌, ◌$◌, ◌∵◌, !, qed, move, keep, use0, split3, join},
-  Kit.{done, RattleType, Fml, ftrue, fsep, fjoin, nothing, ◌⊑◌, ◌<◌},
-  Kit.{Lft},
+  Kit.{[], ◌∷◌, Ura, SProp, ent, sep, emp, via, snd∗, fact, fact_use, Logic, ‵, raw, ◌⊛◌, ◌$◌, ◌∵◌, !, qed, move, keep},
+  Kit.{split3, join, done, RattleType, ftrue, nothing, ◌⊑◌, ◌<◌, Lft},
 }
 use base.Logic.{fst∗}
 
@@ -21,15 +19,10 @@ module _ {M : Type 1} (𝓤 : Ura M) (κ₁ κ₂ κ₃ : Lft) (X B : RattleType
 
 module _ {M : Type 1} {𝓤 : Ura M} (𝓛 : Logic 𝓤) where
   module _ (A B O : SProp 𝓤) where
-    -- two tokens are handed on with a value, and others stay
-    pub handed : (φ : Type 0) → φ → (P : Fml)
-        → ent 𝓤 (sep 𝓤 (sem 𝓛 P) (sep 𝓤 A (sep 𝓤 B O)))
-        (sep 𝓤 (sep 𝓤 (sep 𝓤 (sep 𝓤 A (sep 𝓤 B (emp 𝓤))) (sem 𝓛 (fsep P ftrue))) (sep 𝓤 (fact 𝓤 φ) (emp 𝓤))) O)
-    handed φ known P =
-        qed 𝓛 (‵ P ∷ (raw A ⊛ raw B ⊛ raw O) ∷ []) ∵ nothing ! $ move ! (1 ∷ 0 ∷ []) $ fjoin ! $
-        move ! (1 ∷ []) $ split3 ! $ nothing ! $ move ! (2 ∷ 0 ∷ []) $ join ! $ move ! (1 ∷ 0 ∷ []) $ join ! $
-        move ! (0 ∷ 2 ∷ []) $ join ! $ nothing ! $ use0 𝓛 (raw (fact 𝓤 φ)) (fact_i 𝓤 φ (emp 𝓤) known) $ join ! $
-        move ! (1 ∷ 0 ∷ []) $ join ! $ done !
+    -- two tokens are set apart from others
+    pub set_apart : ent 𝓤 (sep 𝓤 A (sep 𝓤 B O)) (sep 𝓤 (sep 𝓤 A (sep 𝓤 B (emp 𝓤))) O)
+    set_apart = qed 𝓛 ((raw A ⊛ raw B ⊛ raw O) ∷ []) ∵ split3 ! $ nothing ! $ move ! (2 ∷ 0 ∷ []) $ join ! $
+        move ! (1 ∷ 0 ∷ []) $ join ! $ move ! (0 ∷ 1 ∷ []) $ join ! $ done !
 
     -- and come back to them
     pub come_back : ent 𝓤 (sep 𝓤 (sep 𝓤 A (sep 𝓤 B (emp 𝓤))) O) (sep 𝓤 A (sep 𝓤 B O))

@@ -3,8 +3,7 @@
 use Rattle.arraydeque_ring.{
   proofs.{
     memory.Kit.{◌≡◌, sym, ap, subst, ◌∙◌, List, [], ◌∷◌, ℕ, ◌+◌, ◌≤◌, length, Ura, full_share, SProp, ent, sep, ex},
-    memory.Kit.{Logic, sem, ‵, raw, ◌⊛◌, ◌$◌, ◌∵◌, !, qed, by, use2, RattleType, part_at, param, param_laws, Fml, El},
-    memory.Kit.{R, el_x},
+    memory.Kit.{Logic, sem, RattleType, part_at, param, param_laws, Fml, El, R, el_x, via},
     loans.{Placed.{as_many-same, as_many-twice, length-as_many}, Rings.Rr},
   },
   specs.{Loans.as_many, Ring.RingState},
@@ -83,10 +82,9 @@ module _ (E : El) (N : ℕ) (B : RattleType) (LB : Laws B) {M : Type 1} {𝓤 : 
   unfolding part_of
   deque_whole d x r seen kept =
       let y = with_ring E N B x r in
-      qed 𝓛 (‵ (part_at (Rr E) full_share r b (o + 0)) ∷ (‵ (Other x) ⊛ raw Way) ∷ []) ∵
-      use2 𝓛 (‵ (part_at (FieldsRow E N B) full_share y b o))
-      (field_back 𝓛 full_share [] (members E N B) (y.ring, (y.behavior, tt)) b o 0) $
-      by ! (Plain-in (Dr E N B) (FieldsRow E N B)
+      via 𝓤 (sem 𝓛 (part_at (FieldsRow E N B) full_share y b o))
+      (field_back 𝓛 full_share [] (members E N B) (y.ring, (y.behavior, tt)) b o 0)
+      (Plain-in (Dr E N B) (FieldsRow E N B)
       (deque_laws.the_opens (R E) (param 1 (number N)) (param 2 B)) 𝓛 full_share d y (view_made (FieldsRow E N B)
       (DequeState (el_x E)) (Dr E N B).coded (view E N B) (Kept E N B) 𝓛 d y (seen, kept)) b o)
 

@@ -2,13 +2,17 @@
 use Rattle.arraydeque_ring.{
   proofs.memory.Kit.{◌≡◌, refl, ap, List, [], ◌∷◌, ◌+◌, ◌<◌, ◌^◌, length, Ura, ent, sep, emp, GName, Fml, fsep, ftrue},
   proofs.memory.Kit.{Val, vstruct, vcons, vnil, Logic, sem, ‵, ◌$◌, ◌∵◌, !, qed, move, use0, fjoin, fpick, fpack},
-  proofs.memory.Kit.{feq_i, done, RattleType, Valss, nothing, NamedLft, MutSlice, makes_shadow, Struct},
+  proofs.memory.Kit.{feq_i, done, El, R, param_laws, RattleType, nothing, NamedLft, MutSlice, makes_shadow, Struct},
   specs.{Loans.LoanState, declared.slots.loan.Loan.TheInside.Inside},
 }
-use denote.Struct.{Declared.shape, Owning.shape as owned_shape, Struct.within}
+use denote.{Laws.Lawful, Struct.{Declared.shape, Owning.shape as owned_shape, Struct.within}}
 use Rattle.arraydeque_ring.specs.contracts.slots.loan.Loan as loan
 use Rattle.arraydeque_ring.specs.contracts.slots.loan.Loan.TheInside as inside
 use Rattle.arraydeque_ring.specs.contracts.slots.loan.LoanName as loan_name
+use Rattle.arraydeque_ring.proofs.slots.loan.Loan.TheLaws as loan_laws
+
+pub loan_lawful : {α : NamedLft} {M : Type 1} {𝓤 : Ura M} {𝓛 : Logic 𝓤} (E : El) → Lawful 𝓛 (loan.the_row α (R E))
+loan_lawful {α} {𝓛 = 𝓛} E = (loan_laws.the_row_laws α (R E) (param_laws 0 E.row E.laws)).lawful 𝓛
 
 -- the machine value: two slices, and nothing
 abbrev pub mark : Val
@@ -18,9 +22,12 @@ abbrev pub loan_val : Val → Val → Val
 loan_val first second = vstruct (vcons first (vcons second (vcons mark vnil)))
 
 module _ (α : NamedLft) (T : RattleType) {M : Type 1} {𝓤 : Ura M} (𝓛 : Logic 𝓤) where
-  mark_made : ent 𝓤 (emp 𝓤) (sem 𝓛 ((Struct (owned_shape (loan_name.the_type α T))).own_val (tt, tt) (mark ∷ [])))
-  mark_made = makes_shadow 𝓛 ((Struct (owned_shape (loan_name.the_type α T))).own_val (tt, tt) (mark ∷ []))
-      (λ vss. (tt, ((λ uss. (tt, tt)), tt))) ((vstruct vnil ∷ [], tt), (refl, ((tt, (refl, tt)), tt)))
+  abbrev Mark : Fml
+  Mark = (Struct (owned_shape (loan_name.the_type α T))).own_val (tt, tt) (mark ∷ [])
+
+  mark_made : ent 𝓤 (emp 𝓤) (sem 𝓛 Mark)
+  mark_made = makes_shadow 𝓛 Mark (λ vss. (tt, ((λ uss. (tt, tt)), tt)))
+      ((vstruct vnil ∷ [], tt), (refl, ((tt, (refl, tt)), tt)))
 
   abbrev Fits : LoanState T.Denot → Inside T.Denot → Type 0
   Fits d x = (record { first = x.first; second = x.second; name = x.name.name } ≡ d)
@@ -34,11 +41,7 @@ module _ (α : NamedLft) (T : RattleType) {M : Type 1} {𝓤 : Ura M} (𝓛 : Lo
       → ent 𝓤 (sem 𝓛 ((loan.the_row α T).own_val d vs)) (sem 𝓛 ((loan.the_row α T).own_val (record d { name = n }) vs))
   loan_renamed d n vs =
       qed 𝓛 (‵ ((loan.the_row α T).own_val d vs) ∷ []) ∵ fpick ! (λ x.
-      let y : Inside T.Denot = record {
-        first = x.0.first;
-        second = x.0.second;
-        name = record { mark = x.0.name.mark; name = n };
-      } in
+      let y : Inside T.Denot = record x.0 { name = record x.0.name { name = n } } in
       fpack ! ((z : Inside T.Denot) × Fits (record d { name = n }) z) (λ z. owned vs z.0)
       (y, (ap (λ (v : LoanState T.Denot). record v { name = n }) x.1.0, x.1.1)) $ done !)
 
@@ -55,11 +58,10 @@ module _ (α : NamedLft) (T : RattleType) {M : Type 1} {𝓤 : Ura M} (𝓛 : Lo
       } in
       qed 𝓛 (‵ ((MutSlice α.mir α.lft T).own_val d.first (v ∷ []))
       ∷ ‵ ((MutSlice α.mir α.lft T).own_val d.second (w ∷ [])) ∷ []) ∵
-      nothing ! $ use0 𝓛 (‵ ((Struct (owned_shape (loan_name.the_type α T))).own_val (tt, tt) (mark ∷ []))) mark_made $
-      fjoin ! $
+      nothing ! $ use0 𝓛 (‵ Mark) mark_made $ fjoin ! $
       nothing ! $ move ! (1 ∷ 0 ∷ []) $ fjoin ! $ move ! (2 ∷ 0 ∷ []) $ fjoin ! $ move ! (1 ∷ 0 ∷ []) $ fjoin ! $
-      feq_i ! (List Val) (loan_val v w ∷ []) (loan_val v w ∷ []) refl $ fjoin ! $
-      fpack ! (Valss sh.fields) (within sh (it.first, (it.second, (it.name, tt))) (loan_val v w ∷ []))
+      feq_i ! _ (loan_val v w ∷ []) _ refl $ fjoin ! $
+      fpack ! _ (within sh (it.first, (it.second, (it.name, tt))) (loan_val v w ∷ []))
       (v ∷ [], (w ∷ [], (mark ∷ [], tt))) $
       nothing ! $ move ! (1 ∷ 0 ∷ []) $ fjoin ! $
       fpack ! ((z : Inside T.Denot) × Fits d z) (λ z. owned (loan_val v w ∷ []) z.0) (it, (refl, bounded)) $ done !

@@ -2,12 +2,12 @@
 use Rattle.arraydeque_ring.{
   proofs.{
     memory.{
-      Kit.{◌≡◌, List, [], ◌∷◌, ℕ, ◌+◌, Ura, full_share, SProp, ent, sep, ex, w64, Logic, sem, ‵, raw, ◌⊛◌, ◌$◌, !, ◌∵◌},
-      Kit.{qed, by, use2, RattleType, part_at, usize, param_laws, Fml, El, R, el_x, part_of, lone},
+      Kit.{via, ◌≡◌, List, [], ◌∷◌, ℕ, ◌+◌, Ura, full_share, SProp, ent, sep, ex, w64, Logic, sem, RattleType, part_at},
+      Kit.{usize, param_laws, Fml, El, R, el_x, part_of, lone},
       Regions.Sr,
     },
     loans.Lending.with_slots,
-    places.Opened.{view, Kept},
+    places.Opened.{Opened, view, Kept, closed, kept},
   },
   specs.{Places.Region, Ring.RingState, declared.ring.Ring.TheInside.Inside},
 }
@@ -56,16 +56,14 @@ module _ (E : El) {M : Type 1} {𝓤 : Ura M} (𝓛 : Logic 𝓤) (rb ro : ℕ) 
   unfolding part_of
   slots_out x = field_out 𝓛 full_share [] (members E) lawful (x.slots, (x.start, (x.len, tt))) rb ro 0
 
-  -- whatever the slots are, with which the other fields keep the invariant, the ring is whole again
-  pub ring_whole : (d : RingState (el_x E)) (x : Fields E) (w : Region (el_x E)) → view (with_slots x w) ≡ d
-      → Kept (with_slots x w)
+  -- whatever the slots are, with which the fields hold a ring, it is whole again
+  pub ring_whole : (d : RingState (el_x E)) (x : Fields E) (w : Region (el_x E)) → Opened (with_slots x w) d
       → ent 𝓤 (sep 𝓤 (sem 𝓛 (part_at (Sr E) full_share w rb (ro + 0))) (sep 𝓤 (sem 𝓛 (Others x)) Way))
       (sem 𝓛 (part_at (Rr E) full_share d rb ro))
   unfolding part_of
-  ring_whole d x w seen kept =
+  ring_whole d x w o =
       let y = with_slots x w in
-      qed 𝓛 (‵ (part_at (Sr E) full_share w rb (ro + 0)) ∷ (‵ (Others x) ⊛ raw Way) ∷ []) ∵
-      use2 𝓛 (‵ (part_at (inside.the_row (R E)) full_share y rb ro))
-      (field_back 𝓛 full_share [] (members E) (y.slots, (y.start, (y.len, tt))) rb ro 0) $
-      by ! (Plain-in (Rr E) (inside.the_row (R E)) (ring_laws.the_opens (R E)) 𝓛 full_share d y
-      (view_made (inside.the_row (R E)) (RingState (el_x E)) (Rr E).coded view Kept 𝓛 d y (seen, kept)) rb ro)
+      via 𝓤 (sem 𝓛 (part_at (inside.the_row (R E)) full_share y rb ro))
+      (field_back 𝓛 full_share [] (members E) (y.slots, (y.start, (y.len, tt))) rb ro 0)
+      (Plain-in (Rr E) (inside.the_row (R E)) (ring_laws.the_opens (R E)) 𝓛 full_share d y
+      (view_made (inside.the_row (R E)) (RingState (el_x E)) (Rr E).coded view Kept 𝓛 d y (closed o, kept o)) rb ro)

@@ -2,14 +2,15 @@
 use Rattle.arraydeque_ring.{
   proofs.{
     memory.{
-      Kit.{◌≡◌, refl, sym, ap, subst, ◌∙◌, via, List, [], ◌∷◌, ◌++◌, map, ℕ, ◌+◌, ◌*◌, ◌≤◌, arith, length, take},
-      Kit.{drop_list, length-take, Some, Ura, full_share, SProp, ent, sep, wand, Fml, part_at, mem, Logic, sem, ‵, raw},
-      Kit.{◌⊛◌, ◌$◌, ◌∵◌, !, qed, by, move, keep, use1, use2, split, join, fsplit, rewrite, done, nothing, El, R, el_x},
-      Kit.{inl, inr, all, all_e, apply∗, each, assume, group, cells, fsep},
-      Owned.{item_size, Place, glue},
+      Kit.{◌≡◌, refl, sym, ap, subst, ◌∙◌, via, List, [], ◌∷◌, map, ℕ, ◌+◌, ◌*◌, ◌≤◌, arith, length, take, drop_list},
+      Kit.{length-take, Some, Ura, full_share, SProp, ent, sep, wand, Fml, part_at, mem, Logic, sem, ‵, raw, ◌⊛◌, ◌$◌},
+      Kit.{◌∵◌, !, qed, by, move, keep, use1, use2, split, join, fsplit, rewrite, done, nothing, El, R, el_x, inl, inr},
+      Kit.{all, all_e, apply∗, each, assume, cells, fsep, fjoin},
+      Owned.{item_size, Place},
       Rows.{Around, run_out, run_in},
     },
-    loans.Placed.{placed, placed_nothing, placed_behind, placed-append, length-placed, run_before, apart_cases},
+    loans.Placed.{placed, run, placed_nothing, length-placed, take-placed, drop-placed, placed-either, run-take},
+    loans.Placed.{apart_cases},
   },
   specs.{Loans.AreApart, Ownership.places_owned},
 }
@@ -26,24 +27,8 @@ module _ (E : El) {M : Type 1} {𝓤 : Ura M} (𝓛 : Logic 𝓤) (b : ℕ) wher
   same_cells [] o = refl
   same_cells (x ∷ xs) o = ap (λ (F : Fml). fsep (part_at (R E) full_share x b o) F) (same_cells xs (o + s))
 
-  module _ (o : ℕ) (ps : List (Place E)) where
-    abbrev pub at : ℕ → ℕ
-    at i = i * s + o
-
-    abbrev pub run : ℕ → ℕ → List (Place E)
-    run i n = take n (drop_list i ps)
-
-    -- as many are put back, and the places before may have changed
-    run_behind : (i n : ℕ) (front ws : List (Place E)) → length front ≡ i → n ≡ length ws
-        → ent 𝓤 (sep 𝓤 (sem 𝓛 (Row (at i) ws))
-        (sep 𝓤 (sem 𝓛 (Row o front)) (sem 𝓛 (Row (n * s + at i) (drop_list (i + n) ps)))))
-        (sem 𝓛 (Row o (front ++ (ws ++ drop_list (i + n) ps))))
-    run_behind i n front ws e long =
-        let rest = drop_list (i + n) ps in
-        qed 𝓛 (‵ (Row (at i) ws) ∷ ‵ (Row o front) ∷ ‵ (Row (n * s + at i) rest) ∷ []) ∵ move ! (0 ∷ 2 ∷ []) $
-        use2 𝓛 (‵ (Row (at i) (ws ++ rest))) (glue E 𝓛 b ws rest (at i) (n * s + at i) (ap (λ k. k * s + at i) long)) $
-        move ! (1 ∷ 0 ∷ []) $
-        by ! (glue E 𝓛 b front (ws ++ rest) o (at i) (ap (λ k. k * s + o) (sym e)))
+  abbrev at : ℕ → ℕ → ℕ
+  at o i = i * s + o
 
   -- two runs apart: with as many in the stead of both, the places again
   module _ (o : ℕ) (ps : List (Place E)) (i m j n : ℕ) where
@@ -51,22 +36,22 @@ module _ (E : El) {M : Type 1} {𝓤 : Ura M} (𝓛 : Logic 𝓤) (b : ℕ) wher
     News = (us : List (Place E)) × (vs : List (Place E)) × (m ≡ length us) × (n ≡ length vs)
 
     abbrev pub Filling : News → SProp 𝓤
-    Filling w = wand 𝓤 (sep 𝓤 (sem 𝓛 (Row (at o ps i) w.0)) (sem 𝓛 (Row (at o ps j) w.1)))
+    Filling w = wand 𝓤 (sep 𝓤 (sem 𝓛 (Row (at o i) w.0)) (sem 𝓛 (Row (at o j) w.1)))
         (sem 𝓛 (Row o (placed j n w.1 (placed i m w.0 ps))))
 
     abbrev pub Apart : SProp 𝓤
     Apart =
-        sep 𝓤 (sem 𝓛 (Row (at o ps i) (run o ps i m))) (sep 𝓤 (sem 𝓛 (Row (at o ps j) (run o ps j n))) (all 𝓤 Filling))
+        sep 𝓤 (sem 𝓛 (Row (at o i) (run ps i m))) (sep 𝓤 (sem 𝓛 (Row (at o j) (run ps j n))) (all 𝓤 Filling))
 
   module _ (o : ℕ) (ps : List (Place E)) where
     -- one of the two is empty
     first_none : (i j n : ℕ) (in_j : j + n ≤ length ps) → ent 𝓤 (sem 𝓛 (Row o ps)) (Apart o ps i 0 j n)
     first_none i j n in_j =
-        qed 𝓛 (‵ (Row o ps) ∷ []) ∵ use1 𝓛 (‵ (Row (at o ps j) (run o ps j n)) ⊛ ‵ (Around E 𝓛 b o ps j n))
+        qed 𝓛 (‵ (Row o ps) ∷ []) ∵ use1 𝓛 (‵ (Row (at o j) (run ps j n)) ⊛ ‵ (Around E 𝓛 b o ps j n))
         (run_out E 𝓛 b o ps j n in_j) $ split ! $ move ! (1 ∷ []) $
         use1 𝓛 (raw (all 𝓤 (Filling o ps i 0 j n))) (qed 𝓛 (‵ (Around E 𝓛 b o ps j n) ∷ []) ∵
         each ! (Filling o ps i 0 j n) (λ w.
-        assume ! (‵ (Row (at o ps i) w.0) ⊛ ‵ (Row (at o ps j) w.1)) $ split ! $ keep ! (1 ∷ 2 ∷ []) $
+        assume ! (‵ (Row (at o i) w.0) ⊛ ‵ (Row (at o j) w.1)) $ split ! $ keep ! (1 ∷ 2 ∷ []) $
         use2 𝓛 (‵ (Row o (placed j n w.1 ps))) (run_in E 𝓛 b o ps j n in_j w.1 (sym w.3)) $
         rewrite ! 0 (λ (qs : List (Place E)). ‵ (Row o (placed j n w.1 qs)))
         (sym (placed_nothing i w.0 ps (sym w.2))) refl $ done !)) $
@@ -77,16 +62,16 @@ module _ (E : El) {M : Type 1} {𝓤 : Ura M} (𝓛 : Logic 𝓤) (b : ℕ) wher
         → placed i m us (placed j n vs ps) ≡ placed j n vs (placed i m us ps))
         → ent 𝓤 (Apart o ps j n i m) (Apart o ps i m j n)
     other_way i m j n same =
-        qed 𝓛 (‵ (Row (at o ps j) (run o ps j n)) ∷ ‵ (Row (at o ps i) (run o ps i m)) ∷ raw
+        qed 𝓛 (‵ (Row (at o j) (run ps j n)) ∷ ‵ (Row (at o i) (run ps i m)) ∷ raw
         (all 𝓤 (Filling o ps j n i m)) ∷ []) ∵ move ! (2 ∷ []) $
         use1 𝓛 (raw (all 𝓤 (Filling o ps i m j n))) (qed 𝓛 (raw (all 𝓤 (Filling o ps j n i m)) ∷ []) ∵
         each ! (Filling o ps i m j n) (λ w.
-        assume ! (‵ (Row (at o ps i) w.0) ⊛ ‵ (Row (at o ps j) w.1)) $ split ! $ move ! (1 ∷ 0 ∷ []) $ join ! $
+        assume ! (‵ (Row (at o i) w.0) ⊛ ‵ (Row (at o j) w.1)) $ split ! $ move ! (1 ∷ 0 ∷ []) $ join ! $
         move ! (1 ∷ []) $
         use1 𝓛 (raw (Filling o ps j n i m (w.1, w.0, w.3, w.2))) (all_e 𝓤 (Filling o ps j n i m) (w.1, w.0, w.3, w.2)) $
         move ! (1 ∷ 0 ∷ []) $
-        use2 𝓛 (‵ (Row o (placed i m w.0 (placed j n w.1 ps)))) (apply∗ 𝓤 (sep 𝓤 (sem 𝓛 (Row (at o ps j) w.1))
-        (sem 𝓛 (Row (at o ps i) w.0))) (sem 𝓛 (Row o (placed i m w.0 (placed j n w.1 ps))))) $
+        use2 𝓛 (‵ (Row o (placed i m w.0 (placed j n w.1 ps)))) (apply∗ 𝓤 (sep 𝓤 (sem 𝓛 (Row (at o j) w.1))
+        (sem 𝓛 (Row (at o i) w.0))) (sem 𝓛 (Row o (placed i m w.0 (placed j n w.1 ps))))) $
         rewrite ! 0 (λ (qs : List (Place E)). ‵ (Row o qs)) (same w.0 w.1 (sym w.2) (sym w.3)) refl $ done !)) $
         move ! (2 ∷ 1 ∷ 0 ∷ []) $ done !
 
@@ -96,23 +81,24 @@ module _ (E : El) {M : Type 1} {𝓤 : Ura M} (𝓛 : Logic 𝓤) (b : ℕ) wher
       first_low apart =
           let front = take j ps in
           let below : i + m ≤ length front = omega (arith, length-take j ps) in
-          let here : run o front i m ≡ run o ps i m = run_before ps i m j apart in
-          qed 𝓛 (‵ (Row o ps) ∷ []) ∵ use1 𝓛 (‵ (Row (at o ps j) (run o ps j n)) ⊛ ‵ (Around E 𝓛 b o ps j n))
+          qed 𝓛 (‵ (Row o ps) ∷ []) ∵ use1 𝓛 (‵ (Row (at o j) (run ps j n)) ⊛ ‵ (Around E 𝓛 b o ps j n))
           (run_out E 𝓛 b o ps j n in_j) $ split ! $ move ! (1 ∷ []) $ fsplit ! $
-          use1 𝓛 (‵ (Row (at o ps i) (run o front i m)) ⊛ ‵ (Around E 𝓛 b o front i m))
+          use1 𝓛 (‵ (Row (at o i) (run front i m)) ⊛ ‵ (Around E 𝓛 b o front i m))
           (run_out E 𝓛 b o front i m below) $ split ! $
-          rewrite ! 0 (λ (qs : List (Place E)). ‵ (Row (at o ps i) qs)) here refl $
+          rewrite ! 0 (λ (qs : List (Place E)). ‵ (Row (at o i) qs)) (run-take i m j n ps apart in_j) refl $
           -- [the first; around it; what is behind the second; the second]
           move ! (1 ∷ 2 ∷ []) $ join ! $ use1 𝓛 (raw (all 𝓤 (Filling o ps i m j n)))
-          (qed 𝓛 (‵ (Around E 𝓛 b o front i m) ∷ ‵ (Row (n * s + at o ps j) (drop_list (j + n) ps)) ∷ []) ∵
+          (qed 𝓛 (‵ (Around E 𝓛 b o front i m) ∷ ‵ (Row (n * s + at o j) (drop_list (j + n) ps)) ∷ []) ∵
           each ! (Filling o ps i m j n) (λ w.
-          assume ! (‵ (Row (at o ps i) w.0) ⊛ ‵ (Row (at o ps j) w.1)) $ split ! $ move ! (0 ∷ 2 ∷ []) $
+          let new = placed i m w.0 ps in let long = length-placed i m w.0 ps in_i (sym w.2) in
+          assume ! (‵ (Row (at o i) w.0) ⊛ ‵ (Row (at o j) w.1)) $ split ! $ move ! (0 ∷ 2 ∷ []) $
           use2 𝓛 (‵ (Row o (placed i m w.0 front))) (run_in E 𝓛 b o front i m below w.0 (sym w.2)) $
-          move ! (1 ∷ 0 ∷ 2 ∷ []) $ group ! 3 $
-          use1 𝓛 (‵ (Row o (placed i m w.0 front ++ (w.1 ++ drop_list (j + n) ps)))) (run_behind o ps j n (placed i m
-          w.0 front) w.1 (omega (arith, length-take j ps, length-placed i m w.0 front below (sym w.2))) w.3) $
+          -- [what is before the second; the second; what is behind it]
           rewrite ! 0 (λ (qs : List (Place E)). ‵ (Row o qs))
-          (sym (placed_behind i m j n w.0 w.1 ps apart in_j (sym w.2))) refl $ done !)) $
+          (sym (take-placed i m j n ps apart in_j w.0 (sym w.2))) refl $
+          rewrite ! 2 (λ (qs : List (Place E)). ‵ (Row (n * s + at o j) qs))
+          (sym (drop-placed i m j n ps apart in_j w.0 (sym w.2))) refl $ move ! (0 ∷ 2 ∷ []) $ fjoin ! $
+          move ! (1 ∷ 0 ∷ []) $ by ! (run_in E 𝓛 b o new j n (omega arith) w.1 (sym w.3)))) $
           move ! (1 ∷ 2 ∷ []) $ done !
 
     pub two_out : (i m j n : ℕ) (in_i : i + m ≤ length ps) (in_j : j + n ≤ length ps) → AreApart i m j n
@@ -121,8 +107,7 @@ module _ (E : El) {M : Type 1} {𝓤 : Ura M} (𝓛 : Logic 𝓤) (b : ℕ) wher
       | inl in_order ↦ elim in_order [
         | inl low ↦ first_low i m j n in_i in_j low
         | inr low ↦ via 𝓤 (Apart o ps j n i m) (first_low j n i m in_j in_i low)
-            (other_way i m j n (λ us vs e e'. placed_behind j n i m vs us ps low in_i e'
-            ∙ sym (placed-append j n vs (take i ps) (us ++ drop_list (i + m) ps) (omega (arith, length-take i ps)))))
+            (other_way i m j n (λ us vs e e'. sym (placed-either j n i m ps low in_i vs e' us e)))
       ]
       | inr one ↦ elim one [
         | inl none ↦ subst (λ k. ent 𝓤 (sem 𝓛 (Row o ps)) (Apart o ps i k j n)) (sym none) (first_none i j n in_j)

@@ -1,5 +1,5 @@
 -- The names that the proofs by hand of this crate cite, under one roof. Assumes `Logic`.
-pub use mathlib.Core.Path.{◌≡◌, refl, sym, ap, subst, ◌∙◌, ap₂}
+pub use mathlib.Core.Path.{◌≡◌, refl, sym, ap, subst, ◌∙◌}
 pub use mathlib.Core.Bool.{Bool, true, false}
 pub use mathlib.Core.List.{List, [], ◌∷◌, ◌++◌, map}
 pub use Prim.Native.Nat.{ℕ, zero, suc, ◌+◌, ◌*◌, ◌<◌, ◌≤◌, ◌^◌}

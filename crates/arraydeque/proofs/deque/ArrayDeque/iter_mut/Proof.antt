@@ -1,23 +1,22 @@
 -- `iter_mut` goes over what `lend` lends, and the deque follows the loan's name. Assumes `Logic`.
 use Rattle.arraydeque_ring.{
-  proofs.memory.Called.returned,
+  proofs.memory.Called.{calls_met, knows, returned},
+  proofs.loans.Made.loan_lawful,
   proofs.memory.Kit.{◌≡◌, ◌≤◌, ◌+◌, length, refl, sym, ap, ◌∙◌, [], ◌∷◌, id⊢, flft, Fn, inst_fn, named, ◌⊑◌, fact},
   proofs.memory.Kit.{tables, ‵, raw, ◌⊛◌, ◌$◌, ◌∵◌, !, qed, move, keep, use1, use2, split, split3, join, frame},
   proofs.memory.Kit.{rewrite, fsplit, fjoin, suffices, done, enter, addr, stop, no_more, and_then, returns, alloc_all},
   proofs.memory.Kit.{pass_all, free_all, look_at, get, through, sets, lands_as, no, plain, Stays, walk_of, says},
   proofs.memory.Kit.{stay_dropped, ends_at, nothing, heard, calls_at, framed, triple_of, param_laws, RattleType, El, R},
-  proofs.memory.Kit.{el_x, proved, number, NamedLft, mut_vals, mut_Tells, named_lft, on_entry, Goes-spent_ref, a_type},
-  proofs.memory.Kit.{a_number, sem},
+  proofs.memory.Kit.{el_x, proved, number, mut_vals, mut_Tells, named_lft, on_entry, Goes-spent_ref, a_type, a_number},
+  proofs.memory.Kit.{sem},
   specs.Loans.{LoanState, remaining},
 }
-use contract.Lifetimes.{Lfts, AllOutlive, toks}
+use contract.Lifetimes.{Lfts, Shares, toks}
 use denote.{Param.bounded, Triple.Entry.alive}
 use mir.Syntax.{dcons, dnil}
-use Rattle.arraydeque_ring.specs.contracts.slots.loan.Loan as loan
-use Rattle.arraydeque_ring.proofs.slots.loan.Loan.TheLaws as loan_laws
 use Rattle.arraydeque.{
   specs.{Deque.DequeState, DequeLends.{lends_items, lends_loan}},
-  proofs.{Called.{known, handed, come_back}, Lent.Dr, deque.ArrayDeque.lend.Met.met},
+  proofs.{Called.{known, set_apart, come_back}, Lent.Dr, deque.ArrayDeque.lend.Met.met},
   proofs.iter.iter_mut.IterMut.of.Met.{met as of_met},
 }
 use Rattle.arraydeque.proofs.iter.iter_mut.IterMut.TheLaws as iter_laws
@@ -41,26 +40,23 @@ iter_mut_spec 𝓤 𝓛 𝓜 𝓡 wired X N B L fits LB members dict dict_met =
     let κ₁ = κs.1.0 in let d : DequeState (el_x E) = a.0.now in
     let y : W.Ghost = ((κs, qs, bounds, a, (mut_vals a.0, tt)), tt) in
     let G = triple_of 𝓛 (g.signature X C B) (g.spec X C B members dict 𝓛 𝓜.mem 𝓡.returns) in
-    let G' = triple_of 𝓛 (h.signature X) (h.spec X 𝓛 𝓜.mem 𝓡.returns) in
-    let κs' : Lfts (h.signature X).lifetimes = (κs.0, (κ₁, tt)) in
-    let bounds' : AllOutlive (h.signature X).lifetimes (h.signature X).outlives κs' = (bounds.0, tt) in
-    let α : NamedLft = named_lft 2 0 tt κs' in let It = loan.the_row α (R E) in
+    let κs' : Lfts 2 = (κs.0, (κ₁, tt)) in let qs' : Shares 2 = (qs.0, (qs.1.0, tt)) in
     let A = sem 𝓛 (flft κs.0 qs.0) in let A₁ = sem 𝓛 (flft κ₁ qs.1.0) in let Others = toks 𝓛 2 κs.1.1 qs.1.1 in
     known 𝓤 κ₁ κs.1.1.0 κs.1.1.1.0 X B (on_entry 𝓛 ended.signature κs qs a y.0.4) (λ lives. qed 𝓛 (raw (G.pre y) ∷ []) ∵
     enter ! 𝓣.C 𝓣.Λ here _ _ $ alloc_all ! (λ l. pass_all ! refl ((tt, tt), tt) $
     sets ! (addr ! (through ! refl (stop !))) refl (tt, tt) $
     calls_at ! (framed 𝓤 𝓛.H 𝓜 𝓣) G (met 𝓤 𝓛 𝓜 𝓡 (code.calls-arraydeque::deque::ArrayDeque::lend 𝓡.env wired) X N B L
     fits LB members dict dict_met) y (and_then ! (get ! refl) (no_more !)) (λ v.
-    returned 𝓛 ! tt (g.ended X C B members dict) (g.clauses X C B members dict 𝓛 𝓜.mem 𝓡.returns) y v
-    ((loan_laws.the_row_laws α (R E) (param_laws 0 X L)).lawful 𝓛) (λ it ws typed. lands_as ! refl refl typed.0 $
-    -- [the loan; the tokens; what `lend` says]
-    let z : G'.Ghost = ((κs', (qs.0, (qs.1.0, tt)), bounds', (it, tt), (v ∷ [], tt)), tt) in
-    use2 𝓛 (raw (G'.pre z) ⊛ raw Others) (handed 𝓛 A A₁ Others (κ₁ ⊑ X.lives) lives (It.own_val it (v ∷ []))) $
-    split ! $
-    calls_at ! (framed 𝓤 𝓛.H 𝓜 𝓣) G' (of_met 𝓤 𝓛 𝓜 𝓡 (code.calls-arraydeque::iter::iter_mut::IterMut::of 𝓡.env wired) X
-    L) z (and_then ! (get ! refl) (no_more !)) (λ u.
-    returned 𝓛 ! tt (h.ended X) (h.clauses X 𝓛 𝓜.mem 𝓡.returns) z u
-    ((iter_laws.the_row_laws α (R E) (param_laws 0 X L)).lawful 𝓛) (λ items ws' typed'. lands_as ! refl refl typed'.0 $
+    returned 𝓛 ! tt (g.ended X C B members dict) (g.clauses X C B members dict 𝓛 𝓜.mem 𝓡.returns) y v (loan_lawful E)
+    (λ it ws typed. lands_as ! refl refl typed.0 $ move ! (1 ∷ []) $
+    use1 𝓛 (raw (toks 𝓛 2 κs' qs') ⊛ raw Others) (set_apart 𝓛 A A₁ Others) $ split ! $ move ! (2 ∷ []) $
+    -- [the loan; two tokens; the others; what `lend` says]
+    nothing ! $ move ! (1 ∷ 0 ∷ []) $ fjoin ! $ move ! (1 ∷ 0 ∷ []) $ join ! $ nothing ! $
+    knows ! (κ₁ ⊑ X.lives) lives $ join ! $ calls_met 𝓛 ! 𝓜 𝓣 (h.ended X) (h.clauses X 𝓛 𝓜.mem 𝓡.returns)
+    (of_met 𝓤 𝓛 𝓜 𝓡 (code.calls-arraydeque::iter::iter_mut::IterMut::of 𝓡.env wired) X L)
+    ((κs', qs', (bounds.0, tt), (it, tt), (v ∷ [], tt)), tt) (id⊢ 𝓤 _) (and_then ! (get ! refl) (no_more !))
+    ((iter_laws.the_row_laws (named_lft 2 0 tt κs') (R E) (param_laws 0 X L)).lawful 𝓛)
+    (λ u items ws' typed'. lands_as ! refl refl typed'.0 $
     -- [the iterator; two tokens; what `of` says; the others; what `lend` says]
     move ! (1 ∷ 3 ∷ []) $ use2 𝓛 (raw (alive 𝓛 ended.signature κs qs)) (come_back 𝓛 A A₁ Others) $ move ! (2 ∷ []) $
     heard ! (items ≡ it) (λ e. move ! (2 ∷ []) $
@@ -73,4 +69,4 @@ iter_mut_spec 𝓤 𝓛 𝓜 𝓡 wired X N B L fits LB members dict dict_met =
     returns ! (look_at ! 0 refl) $ free_all ! refl $ keep ! (4 ∷ 3 ∷ 0 ∷ []) $
     suffices ! _ (ends_at 𝓛 ended stayed c y u items (tt, tt) (tt, tt)) $
     nothing ! $ nothing ! $ fjoin ! $ join ! $ move ! (1 ∷ 0 ∷ []) $ join ! $ frame ! $
-    says ! (ap (λ (loan : LoanState (el_x E)). remaining loan) e ∙ value) $ done !)))))))))
+    says ! (ap (λ (loan : LoanState (el_x E)). remaining loan) e ∙ value) $ done !))))))))

@@ -1,17 +1,16 @@
 -- `lend` lends all items: the ring lends its own, and the deque follows what the ring follows. Assumes `Logic`.
 use Rattle.arraydeque_ring.{
   proofs.{
-    memory.Called.returned,
-    memory.Kit.{◌≡◌, refl, ap, ◌∙◌, List, [], ◌∷◌, ◌++◌, ℕ, ◌+◌, ◌≤◌, arith, length, full_share, emp, id⊢, fact_i, sep},
-    memory.Kit.{Share, GName, fsep, flft, fauth, Fn, inst_fn, named, Val, vptr, ◌⊑◌, fact, tables, Borrowed, owns},
-    memory.Kit.{types_at, ‵, raw, ◌⊛◌, some, later, ◌$◌, ◌∵◌, !, qed, move, keep, use0, use1, use2, split, split3},
-    memory.Kit.{group, join, pick, frame, rewrite, await, fsplit, fsplit3, fjoin, fjoin3, fpack, feq_i, suffices, done},
-    memory.Kit.{enter, addr, stop, fld, no_more, and_then, returns, alloc_all, pass_all, free_all, look_at, get},
-    memory.Kit.{through, sets, lands_as, no, plain, mem, part_at, Stays, walk_of, says_two, stay_dropped, ends_at},
-    memory.Kit.{nothing, heard, calls_at, framed, triple_of, param_laws, RattleType, El, R, el_x, proved, after₂, sem},
-    memory.Kit.{name_new, Array, both_by, number, MutBor, NamedLft, mut_vals, mut_Tells, named_lft, Goes-spent_ref},
-    memory.Kit.{on_entry, a_type, a_number},
-    loans.{Made.loan_renamed, Names.{hands_on, followed_both}, Rings.Rr},
+    memory.Called.{calls_met, facts, hears, knows},
+    memory.Kit.{◌≡◌, refl, ap, ◌∙◌, List, [], ◌∷◌, ◌++◌, ℕ, ◌+◌, ◌≤◌, arith, length, full_share, id⊢, sep, Share},
+    memory.Kit.{GName, fsep, flft, fauth, Fn, inst_fn, named, vptr, ◌⊑◌, fact, tables, Borrowed, owns, types_at, ‵},
+    memory.Kit.{raw, ◌⊛◌, some, later, ◌$◌, ◌∵◌, !, qed, move, keep, use1, use2, split, split3, group, join, pick},
+    memory.Kit.{frame, rewrite, await, fsplit, fsplit3, fjoin, fjoin3, fpack, feq_i, suffices, done, enter, addr, stop},
+    memory.Kit.{fld, no_more, and_then, returns, alloc_all, pass_all, free_all, look_at, get, through, sets, lands_as},
+    memory.Kit.{no, plain, mem, part_at, Stays, walk_of, says_two, stay_dropped, ends_at, nothing, RattleType, El, R},
+    memory.Kit.{el_x, proved, after₂, sem, name_new, Array, both_by, number, MutBor, NamedLft, mut_vals, mut_Tells},
+    memory.Kit.{named_lft, Goes-spent_ref, on_entry, a_type, a_number},
+    loans.{Made.{loan_lawful, loan_renamed}, Names.{hands_on, followed_both}, Rings.Rr},
     ring.Ring.lend.Met.met,
   },
   specs.{Loans.{LoanState, remaining, as_many}, Ring.RingState},
@@ -19,12 +18,11 @@ use Rattle.arraydeque_ring.{
 use base.Share
 use types.Follow as follow
 use types.{Late.{ages, bor_new_deep}, Mut.open_ref}
-use contract.Lifetimes.{Lfts, AllOutlive, toks}
+use contract.Lifetimes.{Lfts, toks}
 use denote.Param.{bounded}
 use mir.Syntax.{dcons, dnil}
 use Rattle.arraydeque_ring.specs.RingLends as ring
 use Rattle.arraydeque_ring.specs.contracts.slots.loan.Loan as loan
-use Rattle.arraydeque_ring.proofs.slots.loan.Loan.TheLaws as loan_laws
 use Rattle.arraydeque_ring.specs.contracts.ring.Ring.lend as g
 use Rattle.arraydeque.{
   specs.{Deque.DequeState, DequeLends.rewritten},
@@ -75,27 +73,23 @@ lend_spec 𝓤 𝓛 𝓜 𝓡 wired X N B L fits LB members dict dict_met =
     (fauth δ ((Rr E).coded.code v))) x.ring $ bor_new_deep ! tt age κ {P = Borrowed (mem (Rr E)) rb (ro + 0) δ} $
     -- [the ring's borrow; the right to its end;
     -- obs δ; the open borrow; the other field; the way back; obs γ; auth γ; half the token; that of T; the others]
-    move ! (2 ∷ 0 ∷ []) $ feq_i ! (List Val) (vptr rb (ro + 0) ∷ []) (vptr rb (ro + 0) ∷ []) refl $ fjoin3 ! $
+    move ! (2 ∷ 0 ∷ []) $ feq_i ! _ (vptr rb (ro + 0) ∷ []) _ refl $ fjoin3 ! $
     let lent : MutBor (RingState (el_x E)) = record { ref_ptr = (rb, ro + 0); ghost_name = δ; now = x.ring } in
-    let G = triple_of 𝓛 (g.signature X) (g.spec X 𝓛 𝓜.mem 𝓡.returns) in
-    let κs' : Lfts (g.signature X).lifetimes = (κ, (κ₁, tt)) in
-    let bounds' : AllOutlive (g.signature X).lifetimes (g.signature X).outlives κs' = (bounds.0, tt) in
-    let z : G.Ghost = ((κs', (r, (q₁, tt)), bounds', (lent, tt), (mut_vals lent, tt)), tt) in
+    let κs' : Lfts 2 = (κ, (κ₁, tt)) in
     nothing ! $ move ! (1 ∷ 0 ∷ []) $ fjoin ! $
     -- [the lent ring; the right;
     -- the open borrow; the other field; the way back; obs γ; auth γ; half the token; that of T; the others]
     nothing ! $ move ! (9 ∷ 0 ∷ []) $ join ! $ move ! (8 ∷ 0 ∷ []) $ join ! $ join ! $
-    nothing ! $ use0 𝓛 (raw (fact 𝓤 (κ₁ ⊑ X.lives))) (fact_i 𝓤 (κ₁ ⊑ X.lives) (emp 𝓤) lives) $ join ! $
-    move ! (1 ∷ 0 ∷ []) $ use2 𝓛 (raw (G.pre z)) (id⊢ 𝓤 _) $
-    calls_at ! (framed 𝓤 𝓛.H 𝓜 𝓣) G (met 𝓤 𝓛 𝓜 𝓡 (code.calls-arraydeque_ring::ring::Ring::lend 𝓡.env wired) X L) z
-    (and_then ! (get ! refl) (no_more !)) (λ v.
+    nothing ! $ knows ! (κ₁ ⊑ X.lives) lives $ join ! $
+    calls_met 𝓛 ! 𝓜 𝓣 (g.ended X) (g.clauses X 𝓛 𝓜.mem 𝓡.returns)
+    (met 𝓤 𝓛 𝓜 𝓡 (code.calls-arraydeque_ring::ring::Ring::lend 𝓡.env wired) X L)
+    ((κs', (r, (q₁, tt)), (bounds.0, tt), (lent, tt), (mut_vals lent, tt)), tt) (id⊢ 𝓤 _)
+    (and_then ! (get ! refl) (no_more !)) (loan_lawful E) (λ v it ws typed. lands_as ! refl refl typed.0 $
     let α : NamedLft = named_lft 2 0 tt κs' in let It = loan.the_row α (R E) in
-    returned 𝓛 ! tt (g.ended X) (g.clauses X 𝓛 𝓜.mem 𝓡.returns) z v
-    ((loan_laws.the_row_laws α (R E) (param_laws 0 X L)).lawful 𝓛) (λ it ws typed. lands_as ! refl refl typed.0 $
     let Piece : Type 0 = x.ring.start + length x.ring.items ≤ x.ring.capacity → it.second.now ≡ [] in
-    move ! (2 ∷ []) $ use1 𝓛 (‵ (ring.lends_loan (R E) lent it) ⊛ raw (fact 𝓤 (remaining it ≡ x.ring.items))
-    ⊛ raw (fact 𝓤 Piece)) (id⊢ 𝓤 _) $ split3 ! $ move ! (1 ∷ 2 ∷ []) $
-    heard ! (remaining it ≡ x.ring.items) (λ value. heard ! Piece (λ piece. fsplit ! $
+    let Value : Type 0 = remaining it ≡ x.ring.items in
+    move ! (2 ∷ []) $ use1 𝓛 (‵ (ring.lends_loan (R E) lent it) ⊛ raw (facts 𝓤 (Value ∷ Piece ∷ []))) (id⊢ 𝓤 _) $
+    split ! $ move ! (1 ∷ []) $ hears ! (Value ∷ Piece ∷ []) (λ value piece. fsplit ! $
     -- [what δ follows; what the loan's name follows;
     -- the loan; the tokens; the right; the open borrow; the other field; the way back; obs γ; auth γ; the others]
     let V : RingState (el_x E) → DequeState (el_x E) = λ u. view E N B (after E N B x d seen kept u.items) in
@@ -132,9 +126,7 @@ lend_spec 𝓤 𝓛 𝓜 𝓡 wired X N B L fits LB members dict dict_met =
     move ! (1 ∷ []) $ nothing ! $ nothing ! $ fjoin ! $ join ! $ move ! (1 ∷ 0 ∷ []) $ join ! $ frame ! $
     let none : d.start + length d.items ≤ N → it.second.now ≡ [] = λ in_one_piece. piece (omega (
       arith,
-      in_one_piece,
-      kept.0,
       ap (λ (u : DequeState (el_x E)). u.start) seen,
       ap (λ (u : DequeState (el_x E)). length u.items) seen,
     )) in
-    says_two ! (value ∙ ap (λ (u : DequeState (el_x E)). u.items) seen, none) $ done !)))))))))))
+    says_two ! (value ∙ ap (λ (u : DequeState (el_x E)). u.items) seen, none) $ done !)))))))))

@@ -3,24 +3,22 @@ use Rattle.arraydeque_ring.{
   proofs.{
     memory.{
       Kit.{◌++◌, nothing, ◌≡◌, refl, List, [], ◌∷◌, ℕ, ◌+◌, ◌<◌, ◌≤◌, ◌^◌, arith, length, full_share, id⊢, Share},
-      Kit.{GName, ftrue, fsep, fat, flft, fauth, Fn, inst_fn, w64, Val, vptr, ◌⊑◌, fact, tables, sem, Borrowed, owns},
-      Kit.{‵, raw, ◌⊛◌, some, later, ◌$◌, !, move, use1, use2, drop, split, join, pick, frame, await, fsplit, fjoin},
+      Kit.{GName, ftrue, fsep, fat, flft, fauth, Fn, inst_fn, w64, vptr, ◌⊑◌, fact, tables, sem, Borrowed, owns, ‵},
+      Kit.{raw, ◌⊛◌, some, later, ◌$◌, !, move, use1, use2, drop, split, join, pick, frame, await, fsplit, fjoin},
       Kit.{fjoin3, fpack, feq_i, suffices, done, of_opd, addr, load, look, stop, fld, no_more, and_then, returns},
       Kit.{alloc_all, pass_all, free_all, look_at, get, through, sets, lands_as, usize, mem, part_at, says_two, heard},
-      Kit.{calls_at, framed, triple_of, param_laws, El, R, args, el_x, after₂, split3, group, name_new, Array, both_by},
-      Kit.{MutBor, NamedLft, named_lft, pure_i},
+      Kit.{El, R, args, el_x, after₂, split3, group, name_new, Array, both_by, MutBor, NamedLft, named_lft, pure_i},
       Regions.{Sr, Seen, HoldsRun, IsFilledRun},
       Methods.{method, spent, values},
-      Called.{knows, returned},
+      Called.{calls_met, facts, hears, knows},
     },
     loans.{
-      Lending.{Cut, cut_at_end, kept_after, seen_after, both_written, lent_items, first_run_filled, second_run_filled},
-      Made.loan_renamed,
-      Placed.run_length,
+      Lending.{open_after, lent_items, first_run_filled, second_run_filled},
+      Made.{loan_lawful, loan_renamed},
       Names.{hands_on, followed_both},
       Rings.{Rr, Fields, Others, Way, fields_out, slots_out, ring_whole},
     },
-    places.{LaidOut.length_within, Opened.{opened, view, Kept}},
+    places.{Held.length_filled, LaidOut.length_within, Opened.{opened, view, Kept}},
     slots.Slots.lend_round.Met.met,
   },
   specs.{Loans.{LoanState, as_many}, Ring.RingState, RingLends.rewritten},
@@ -35,7 +33,6 @@ use Rattle.arraydeque_ring.specs.Lends as Lends
 use Rattle.arraydeque_ring.specs.Lends.{two_lists}
 use Rattle.arraydeque_ring.specs.contracts.slots.loan.Loan as loan
 use Rattle.arraydeque_ring.specs.contracts.ring.Ring.TheInside as inside
-use Rattle.arraydeque_ring.proofs.slots.loan.Loan.TheLaws as loan_laws
 use Rattle.arraydeque_ring.specs.contracts.slots.Slots.lend_round as g
 use Rattle.arraydeque_ring.specs.contracts.ring.Ring.lend as f
 use Rattle.arraydeque_ring.proofs.ring.Ring.lend.Statement as stated
@@ -75,7 +72,7 @@ lend_spec 𝓤 𝓛 𝓜 𝓡 wired X L =
     -- [the length; the start; nothing; the slots; ..]
     move ! (0 ∷ 2 ∷ []) $ fjoin ! $ move ! (1 ∷ 0 ∷ []) $ fjoin ! $ move ! (1 ∷ []) $
     let room : ℕ = length x.slots.places - x.start in let first : ℕ = min x.len room in let rest : ℕ = x.len - first in
-    let cut : Cut x first rest = cut_at_end x kept first refl in let open_ring = opened x kept seen in
+    let open_ring = opened x kept seen in
     sets ! (addr ! (through ! refl (fld ! refl (stop !)))) refl (tt, tt) $
     -- [the slots; the other fields; the way back; the open borrow, in three; half its token; the others]
     move ! (3 ∷ []) $ ages ! (λ age. name_new ! tt ((Sr E).coded.code x.slots) (λ δ.
@@ -83,40 +80,38 @@ lend_spec 𝓤 𝓛 𝓜 𝓡 wired X L =
     -- [obs δ; auth δ; the open borrow;
     -- the slots; the other fields; the way back; obs γ; auth γ; half its token; the others]
     move ! (3 ∷ 1 ∷ []) $ fjoin ! $
-    fpack ! (Seen E) (λ v. fsep ((mem (Sr E)).own_at v rb (ro + 0)) (fauth δ ((Sr E).coded.code v))) x.slots $
+    fpack ! _ (λ (v : Seen E). fsep ((mem (Sr E)).own_at v rb (ro + 0)) (fauth δ ((Sr E).coded.code v))) x.slots $
     bor_new_deep ! tt age κ {P = Borrowed (mem (Sr E)) rb (ro + 0) δ} $
     -- [the slots' borrow; the right to its end;
     -- obs δ; the open borrow; the other fields; the way back; obs γ; auth γ; half its token; the others]
-    move ! (2 ∷ 0 ∷ []) $ feq_i ! (List Val) (vptr rb (ro + 0) ∷ []) (vptr rb (ro + 0) ∷ []) refl $ fjoin3 ! $
+    move ! (2 ∷ 0 ∷ []) $ feq_i ! _ (vptr rb (ro + 0) ∷ []) _ refl $ fjoin3 ! $
     let lent : MutBor (Seen E) = record { ref_ptr = (rb, ro + 0); ghost_name = δ; now = x.slots } in
-    let G = triple_of 𝓛 (g.signature X) (g.spec X 𝓛 𝓜.mem 𝓡.returns) in
     let words : ℕ × (ℕ × Unit {0}) = (x.start, (x.len, tt)) in
-    let z : G.Ghost = ((κs, (r, qs.1), bounds, (lent, words), values 1 κs 2 (lent, words)), tt) in
-    pure_i ! (owns (usize ∷ usize ∷ []) z.0.3.1 z.0.4.1) ((tt, tt), ((tt, tt), tt)) ((refl, fs), ((refl, fl), tt)) $
+    let vals = values 1 κs 2 (lent, words) in
+    pure_i ! (owns (usize ∷ usize ∷ []) words vals.1) _ ((refl, fs), ((refl, fl), tt)) $
     -- [the words; the lent slots;
     -- the right; the open borrow; the other fields; the way back; obs γ; auth γ; half its token; the others]
     move ! (1 ∷ 0 ∷ []) $ fjoin ! $ move ! (7 ∷ 8 ∷ []) $ join ! $ join ! $
     let In = x.start ≤ length x.slots.places in let Within = x.len ≤ length x.slots.places in
     let One = IsFilledRun x.slots.places x.start first in let Two = IsFilledRun x.slots.places 0 rest in
-    knows ! Two (second_run_filled open_ring cut) $ knows ! One (first_run_filled open_ring cut) $ join ! $
-    knows ! Within (omega (arith, open_ring.len, length_within open_ring.laid)) $ join ! $
-    knows ! In (let inside = kept.0 in omega (arith, inside)) $ join ! $
-    knows ! (κ₁ ⊑ X.lives) lives $ join ! $ move ! (1 ∷ 0 ∷ []) $
-    use2 𝓛 (raw (G.pre z)) (id⊢ 𝓤 _) $
-    calls_at ! (framed 𝓤 𝓛.H 𝓜 𝓣) G (met 𝓤 𝓛 𝓜 𝓡 (code.calls-arraydeque_ring::slots::Slots::lend_round 𝓡.env wired) X L)
-    z (and_then ! (get ! refl) (and_then ! (get ! refl) (and_then ! (get ! refl) (no_more !)))) (λ v.
+    knows ! Two (second_run_filled open_ring) $ knows ! One (first_run_filled open_ring) $ join ! $
+    knows ! Within (omega (arith, length_within open_ring.laid)) $ join ! $
+    knows ! In (omega arith) $ join ! $
+    knows ! (κ₁ ⊑ X.lives) lives $ join ! $
+    calls_met 𝓛 ! 𝓜 𝓣 (g.ended X) (g.clauses X 𝓛 𝓜.mem 𝓡.returns)
+    (met 𝓤 𝓛 𝓜 𝓡 (code.calls-arraydeque_ring::slots::Slots::lend_round 𝓡.env wired) X L)
+    ((κs, (r, qs.1), bounds, (lent, words), vals), tt) (id⊢ 𝓤 _)
+    (and_then ! (get ! refl) (and_then ! (get ! refl) (and_then ! (get ! refl) (no_more !)))) (loan_lawful E)
+    (λ v it ws it_typed. lands_as ! refl refl it_typed.0 $
     let α : NamedLft = named_lft 2 0 tt κs in
-    let First : LoanState (el_x E) → Type 0 = λ it. HoldsRun x.slots.places x.start first it.first.now in
-    let Second : LoanState (el_x E) → Type 0 = λ it. HoldsRun x.slots.places 0 rest it.second.now in
-    returned 𝓛 ! tt (g.ended X) (g.clauses X 𝓛 𝓜.mem 𝓡.returns) z v
-    ((loan_laws.the_row_laws α (R E) (param_laws 0 X L)).lawful 𝓛) (λ it ws it_typed. lands_as ! refl refl it_typed.0 $
-    move ! (2 ∷ []) $ use1 𝓛 (‵ (Lends.lends_loan (R E) lent x.start 0 it) ⊛ raw (fact 𝓤 (First it))
-    ⊛ raw (fact 𝓤 (Second it))) (id⊢ 𝓤 _) $ split3 ! $ move ! (1 ∷ 2 ∷ []) $
-    heard ! (First it) (λ held. heard ! (Second it) (λ held'. fsplit ! $
+    let First : Type 0 = HoldsRun x.slots.places x.start first it.first.now in
+    let Second : Type 0 = HoldsRun x.slots.places 0 rest it.second.now in
+    move ! (2 ∷ []) $ use1 𝓛 (‵ (Lends.lends_loan (R E) lent x.start 0 it) ⊛ raw (facts 𝓤 (First ∷ Second ∷ [])))
+    (id⊢ 𝓤 _) $ split ! $ move ! (1 ∷ []) $ hears ! (First ∷ Second ∷ []) (λ held held'. fsplit ! $
     -- [what δ follows; what the loan's name follows;
     -- the loan; the tokens; the right; the open borrow; the other fields; the way back; obs γ; auth γ]
     let Lists = mem (two_lists (R E)) in let Put : List (el_x E) × List (el_x E) → Seen E =
-    λ w. both_written x seen kept cut it.first.now it.second.now held held' w.0 w.1 in
+    λ w. Lends.two_written (R E) lent x.start 0 it.first.now it.second.now w.0 w.1 in
     let V : List (el_x E) × List (el_x E) → RingState (el_x E) = λ w.
     rewritten d (as_many it.first.now w.0 ++ as_many it.second.now w.1) in
     let Rest = sep 𝓤 (sem 𝓛 (Others E 𝓛 rb ro x)) (Way E 𝓛 rb ro) in
@@ -124,9 +119,8 @@ lend_spec 𝓤 𝓛 𝓜 𝓡 wired X L =
     use1 𝓛 (later (some (λ (ν : GName). ‵ (flft κ l) ⊛ ‵ (after (mem (Rr E))
     (mem (Rr E)) γ ν (λ u. rewritten d u.items)) ⊛ ‵ (after (mem (Rr E)) Lists ν it.name V))))
     (hands_on 𝓛 (mem (Rr E)) (mem (Sr E)) Lists (λ u. rewritten d u.items) V Put κ l rb ro rb (ro + 0) γ δ it.name Rest
-    (λ w. ring_whole E 𝓛 rb ro (rewritten d (V w).items) x (Put w) (seen_after x seen kept cut it.first.now
-    it.second.now held held' w.0 w.1)
-    (kept_after x seen kept cut it.first.now it.second.now held held' w.0 w.1)) age coded coded d) $
+    (λ w. ring_whole E 𝓛 rb ro (rewritten d (V w).items) x (Put w) (open_after open_ring it.first.now it.second.now
+    held held' w.0 w.1)) age coded coded d) $
     await ! tt $ pick ! (λ ν. split3 ! $
     -- [half the token; what γ follows; what ν follows; what the loan's name follows; the loan; the tokens]
     let Rows = mem (Array (R E) 0) in move ! (2 ∷ 3 ∷ []) $
@@ -143,11 +137,6 @@ lend_spec 𝓤 𝓛 𝓜 𝓡 wired X L =
     returns ! (look_at ! 0 refl) $ free_all ! refl $
     suffices ! _ (ends v out tt) $ nothing ! $ frame ! $ move ! (1 ∷ []) $ frame ! $ frame ! $
     let none : d.start + length d.items ≤ d.capacity → it.second.now ≡ [] =
-    λ in_one_piece. nil_from_length it.second.now (omega (
-      arith,
-      run_length x.slots.places 0 rest it.second.now (second_run_filled open_ring cut).0 held',
-      open_ring.len,
-      open_ring.start,
-      open_ring.laid.length_is,
-    )) in
-    says_two ! (lent_items open_ring cut it.first.now it.second.now held held', none) $ done !)))))))))))))
+    λ in_one_piece. nil_from_length it.second.now
+    (omega (arith, length_filled x.slots.places 0 rest ((second_run_filled open_ring).0, (it.second.now, held')))) in
+    says_two ! (lent_items open_ring it.first.now it.second.now held held', none) $ done !)))))))))))

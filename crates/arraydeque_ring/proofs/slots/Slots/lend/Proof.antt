@@ -1,19 +1,20 @@
 -- `lend` lends the value in a filled place, and that place follows it. Assumes `Logic`.
 use Rattle.arraydeque_ring.proofs.{
   memory.{
-    Kit.{nothing, join, refl, sym, [], ◌∷◌, ℕ, ◌+◌, ◌*◌, ◌<◌, arith, length, get_or, set, length-set, Some, None},
-    Kit.{Ura, ent, sep, id⊢, GName, Fml, fsep, flft, Fn, inst_fn, named, vptr, Env, ◌⊑◌, fact, tables, Logic, sem, ‵},
-    Kit.{raw, ◌⊛◌, some, later, at_ret, ◌$◌, ◌∵◌, !, qed, by, move, use1, use2, drop, split, pick, frame, rewrite},
-    Kit.{await, fsplit, fjoin, suffices, done, whole, sub, look_in, of_opd, bin, load, addr, stop, fld, first},
-    Kit.{blocks, exec, returns, alloc_all, pass_all, free_all, look_at, get, through, sets, sets_last, env, mem},
-    Kit.{says, heard, after, El, R, args, el_x, split3, group, follows, MutBor, Global},
-    Regions.{scaled, Sr, Seen, Fits, near, places, Frame, slots_whole, slots_open, item_size, Place, Around},
-    Regions.{place_out, place_in, place_owned, IsFilled},
+    Kit.{nothing, join, refl, sym, [], ◌∷◌, ℕ, ◌+◌, ◌*◌, ◌<◌, arith, length, get_or, set, length-set, Some, None, Ura},
+    Kit.{ent, sep, GName, Fml, fsep, flft, Fn, inst_fn, named, vptr, ◌⊑◌, tables, Logic, sem, ‵, ◌⊛◌, some, later},
+    Kit.{at_ret, ◌$◌, ◌∵◌, !, qed, by, move, use1, use2, split, pick, frame, rewrite, await, fsplit, fjoin, suffices},
+    Kit.{done, whole, sub, look_in, of_opd, bin, load, addr, stop, fld, first, blocks, exec, returns, alloc_all},
+    Kit.{pass_all, free_all, look_at, get, through, sets, sets_last, env, mem, says, after, El, R, args, el_x, split3},
+    Kit.{group, follows, MutBor, Global},
+    Regions.{scaled, Sr, Seen, Fits, near, places, Frame, slots_whole, slots_open, item_size, Place, Around, place_out},
+    Regions.{place_in, place_owned, IsFilled},
     Methods.{method, spent},
+    Called.{hears},
   },
   places.Held.filled_within,
 }
-use denote.{Follow.{Part, lends_Part}, Ref.MutRef}
+use denote.{Follow.{lends_Part}, Ref.MutRef}
 use Rattle.arraydeque_ring.specs.contracts.slots.Slots.lend as f
 use Rattle.arraydeque_ring.proofs.slots.Slots.lend.Statement as stated
 use Rattle.arraydeque_ring.proofs.slots.Slots.lend.Code as code
@@ -45,12 +46,10 @@ lend_spec 𝓤 𝓛 𝓜 𝓡 wired X L =
     (code.unfolded 𝓤 𝓛.H 𝓜 𝓡 wired (X, tt)) (λ κs qs bounds a _ typed post ends.
     let κ = κs.0 in let q = qs.0 in let rb : ℕ = a.0.ref_ptr.0 in let ro : ℕ = a.0.ref_ptr.1 in
     let γ = a.0.ghost_name in let r : Seen E = a.0.now in let i : ℕ = a.1.0 in
-    let s : ℕ = item_size E in let Asked : Type 0 = IsFilled r.places i in let coded = (Sr E).coded.code r in
-    use1 𝓛 (raw (fact 𝓤 (κs.1.0 ⊑ X.lives)) ⊛ raw (fact 𝓤 Asked)) (id⊢ 𝓤 _) $ split ! $ drop ! $
-    heard ! Asked (λ asked.
+    let s : ℕ = item_size E in let coded = (Sr E).coded.code r in
+    hears ! ((κs.1.0 ⊑ X.lives) ∷ IsFilled r.places i ∷ []) (λ _ asked.
     let x : el_x E = asked.0 in let within : i < length r.places = filled_within r.places i x asked.1 in
     alloc_all ! (λ l. pass_all ! refl ((tt, tt), typed) $
-    let En : Env 𝓤 𝓛.H = env here.locals l in
     slots_open E ! tt r rb ro (λ g b o n ok.
     let far = near E ok i (omega arith) in
     first ! $ blocks ! $
@@ -59,17 +58,17 @@ lend_spec 𝓤 𝓛 𝓜 𝓡 wired X L =
     sets ! (scaled ! (get ! refl) far) refl (tt, record { fits = far }) $
     sets ! (bin ! (get ! refl) (get ! refl) tt) refl (tt, tt) $
     sets_last ! (addr ! (through ! refl (stop !))) refl (tt, tt) $
-    exec ! 𝓣.C 𝓣.Λ En (after 1 here.body) (at_ret En post) $ sets ! (of_opd ! (get ! refl)) refl (tt, tt) $
+    exec ! 𝓣.C 𝓣.Λ (env here.locals l) (after 1 here.body) (at_ret _ post) $
+    sets ! (of_opd ! (get ! refl)) refl (tt, tt) $
     let at = i * s + o in let way = back E 𝓛 rb ro r i g b o n ok within in let new = Written E r i in
     let Rest₀ = sem 𝓛 (Rest E 𝓛 rb ro r i g b o n) in
     place_out E ! b o r.places i within asked.1 $
     -- [the value; the others; the right; the words; the open borrow, in three; the other token]
     move ! (2 ∷ 3 ∷ []) $ fjoin ! $ move ! (2 ∷ 0 ∷ []) $ fjoin ! $ move ! (2 ∷ 3 ∷ 4 ∷ 1 ∷ 0 ∷ []) $ group ! 5 $
-    use1 𝓛 (later (some (λ (δ : GName). raw (Part 𝓛 (Sr E) (R E) new (named 0) κ q rb ro b at γ Rest₀ way x δ))))
-    (lends_Part 𝓛 (Sr E) (R E) new (named 0) κ q rb ro b at γ Rest₀ way coded coded x) $ await ! tt $ pick ! (λ δ.
-    let lent : MutBor (el_x E) = record { ref_ptr = (b, at); ghost_name = δ; now = x } in
-    returns ! (look_at ! 0 refl) $ free_all ! refl $
-    use1 𝓛 (‵ ((MutRef (named 0) κ (R E)).own_val lent (vptr b at ∷ [])) ⊛ ‵ (flft κ q)
-    ⊛ ‵ (follows (Sr E) (R E) γ δ new)) (id⊢ 𝓤 _) $ split3 ! $
-    suffices ! _ (ends (vptr b at) lent tt) $ nothing ! $ frame ! $ frame ! $ move ! (0 ∷ 2 ∷ []) $ join ! $ frame ! $
-    says ! asked.1 $ done !)))))
+    let lent : GName → MutBor (el_x E) = λ δ. record { ref_ptr = (b, at); ghost_name = δ; now = x } in
+    use1 𝓛 (later (some (λ (δ : GName). ‵ ((MutRef (named 0) κ (R E)).own_val (lent δ) (vptr b at ∷ []))
+    ⊛ ‵ (flft κ q) ⊛ ‵ (follows (Sr E) (R E) γ δ new))))
+    (lends_Part 𝓛 (Sr E) (R E) new (named 0) κ q rb ro b at γ Rest₀ way coded coded x) $ await ! tt $
+    pick ! (λ δ. split3 ! $ returns ! (look_at ! 0 refl) $ free_all ! refl $
+    suffices ! _ (ends (vptr b at) (lent δ) tt) $ nothing ! $ frame ! $ frame ! $ move ! (0 ∷ 2 ∷ []) $ join ! $
+    frame ! $ says ! asked.1 $ done !)))))

@@ -2,23 +2,21 @@
 use Rattle.arraydeque_ring.{
   proofs.{
     memory.{
-      Kit.{◌≡◌, refl, sym, ap, subst, ◌∙◌, List, [], ◌∷◌, ℕ, ◌<◌, ◌≤◌, ◌^◌, lit<, arith, length, id⊢, Fn, inst_fn, w64},
-      Kit.{Val, vptr, ◌⊑◌, fact, tables, owns, ‵, raw, ◌⊛◌, ◌$◌, !, move, use1, use2, drop, split, join, frame, fsplit},
-      Kit.{fjoin, fjoin3, feq_i, feq_l, flt_l, suffices, done, of_opd, lit, bin, addr, load, stop, fld, no_more, whole},
-      Kit.{sub, look_in, only, and_then, returns, alloc_all, pass_all, free_all, look_at, get, through, sets, lands_as},
-      Kit.{usize, uint_vals, says_two, nothing, heard, calls_at, framed, triple_of, param_laws, El, R, args, el_x},
-      Kit.{split3, both_by, NamedLft, mut_vals, named_lft, pure_i},
+      Kit.{◌≡◌, refl, sym, ap, subst, ◌∙◌, [], ◌∷◌, ℕ, ◌<◌, ◌≤◌, ◌^◌, lit<, arith, length, id⊢, Fn, inst_fn, w64, vptr},
+      Kit.{◌⊑◌, tables, owns, ‵, raw, ◌⊛◌, ◌$◌, !, move, use1, drop, split, join, frame, fsplit, fjoin, fjoin3, feq_i},
+      Kit.{feq_l, flt_l, suffices, done, of_opd, lit, bin, addr, load, stop, fld, no_more, whole, sub, look_in, only},
+      Kit.{and_then, returns, alloc_all, pass_all, free_all, look_at, get, through, sets, lands_as, usize, uint_vals},
+      Kit.{says_two, nothing, heard, El, R, args, both_by, pure_i},
       Regions.{Sr, Seen, slots_open, slots_close, HoldsRun, IsFilledRun},
-      Methods.{method, spent},
-      Called.{knows, returned},
+      Methods.{method, spent, values},
+      Called.{Called, calls_met, facts, hears, knows},
     },
+    loans.Made.loan_lawful,
     slots.Slots.lend_two.Met.met,
   },
-  specs.{Lends.lends_loan, Loans.{LoanState, AreApart}},
+  specs.{Lends.lends_loan, Loans.AreApart},
 }
 use Rattle.std.{specs.Prelude.{◌-◌, min}, below.core.proofs.int.usize.min.Met.met as e_met}
-use Rattle.arraydeque_ring.specs.contracts.slots.loan.Loan as loan
-use Rattle.arraydeque_ring.proofs.slots.loan.Loan.TheLaws as loan_laws
 use Rattle.arraydeque_ring.specs.contracts.slots.Slots.lend_two as g
 use Rattle.std.below.core.specs.contracts.int.usize.min as e
 use Rattle.arraydeque_ring.specs.contracts.slots.Slots.lend_round as f
@@ -36,68 +34,54 @@ lend_round_spec 𝓤 𝓛 𝓜 𝓡 wired X L =
     let κ₁ = κs.1.0 in let rb : ℕ = a.0.ref_ptr.0 in let ro : ℕ = a.0.ref_ptr.1 in let r : Seen E = a.0.now in
     let start : ℕ = a.1.0 in let len : ℕ = a.1.1.0 in let cut : ℕ = min len (length r.places - start) in
     let fs : start < 2 ^ 64 = typed.0.1.fits in let fl : len < 2 ^ 64 = typed.1.0.1.fits in
-    let In : Type 0 = start ≤ length r.places in let Within : Type 0 = len ≤ length r.places in
     let One : ℕ → Type 0 = λ first. IsFilledRun r.places start first in
     let Two : ℕ → Type 0 = λ first. IsFilledRun r.places 0 (len - first) in
-    use1 𝓛 (raw (fact 𝓤 (κ₁ ⊑ X.lives)) ⊛ raw (fact 𝓤 In) ⊛ raw (fact 𝓤 Within) ⊛ raw (fact 𝓤 (One cut))
-    ⊛ raw (fact 𝓤 (Two cut))) (id⊢ 𝓤 _) $ split ! $ heard ! (κ₁ ⊑ X.lives) (λ lives. split3 ! $
-    heard ! In (λ inside. heard ! Within (λ within. split ! $ heard ! (One cut) (λ one. heard ! (Two cut) (λ two.
+    hears ! ((κ₁ ⊑ X.lives) ∷ (start ≤ length r.places) ∷ (len ≤ length r.places) ∷ One cut ∷ Two cut ∷ [])
+    (λ lives inside within one two.
     alloc_all ! (λ l. pass_all ! refl ((tt, tt), typed) $
     slots_open E ! tt r rb ro (λ heap b o n ok.
     sets ! (of_opd ! (load ! (through ! refl (fld ! refl (stop !))) (look_in ! 2 (sub ! 1 refl (whole !))))) refl
     (tt, record { fits = ok.word }) $
     slots_close E ! tt heap r r b o n rb ro ok refl $
     -- [obs; the borrow; its token; the others]
-    let At = triple_of 𝓛 e.signature (e.spec 𝓛 𝓜.mem 𝓡.returns) in let room : ℕ = n - start in
-    let room_fits : room < 2 ^ 64 = omega (arith, ok.word) in
-    sets ! (bin ! (get ! refl) (get ! refl) (omega (arith, inside, ok.capacity))) refl
+    let room : ℕ = n - start in let room_fits : room < 2 ^ 64 = omega arith in
+    sets ! (bin ! (get ! refl) (get ! refl) (omega arith)) refl
     (tt, record { fits = room_fits }) $
-    let zₑ : At.Ghost = ((tt, tt, tt, (len, (room, tt)), (uint_vals w64 len, (uint_vals w64 room, tt))), tt) in
-    nothing ! $ pure_i ! (owns (usize ∷ usize ∷ []) zₑ.0.3 zₑ.0.4) ((tt, tt), ((tt, tt), tt))
-    ((refl, fl), ((refl, room_fits), tt)) $ nothing ! $ join ! $ join ! $ use1 𝓛 (raw (At.pre zₑ)) (id⊢ 𝓤 _) $
-    calls_at ! (framed 𝓤 𝓛.H 𝓜 𝓣) At (e_met 𝓤 𝓛 𝓜 𝓡 (code.calls-core::int::usize::min 𝓡.env wired)) zₑ
-    (and_then ! (get ! refl) (and_then ! (get ! refl) (no_more !))) (λ u.
-    returned 𝓛 ! tt e.ended (e.clauses 𝓛 𝓜.mem 𝓡.returns) zₑ u (uint_Lawful 𝓛 w64) (λ first ws _. fsplit ! $
+    let zₑ : (Called 𝓛 e.ended (e.clauses 𝓛 𝓜.mem 𝓡.returns)).Ghost =
+    ((tt, tt, tt, (len, (room, tt)), (uint_vals w64 len, (uint_vals w64 room, tt))), tt) in
+    pure_i ! (owns (usize ∷ usize ∷ []) zₑ.0.3 zₑ.0.4) _
+    ((refl, fl), ((refl, room_fits), tt)) $ nothing ! $ join ! $ nothing ! $
+    calls_met 𝓛 ! 𝓜 𝓣 e.ended (e.clauses 𝓛 𝓜.mem 𝓡.returns)
+    (e_met 𝓤 𝓛 𝓜 𝓡 (code.calls-core::int::usize::min 𝓡.env wired)) zₑ (id⊢ 𝓤 _)
+    (and_then ! (get ! refl) (and_then ! (get ! refl) (no_more !))) (uint_Lawful 𝓛 w64) (λ u first ws _. fsplit ! $
     feq_l ! (λ is_first. flt_l ! (λ ff. lands_as ! (ap only is_first) refl (tt, record { fits = ff }) $ drop ! $
     heard ! (first ≡ min len room) (λ cuts.
     let same : cut ≡ first = sym (cuts ∙ ap (λ k. min len (k - start)) ok.capacity) in let rest : ℕ = len - first in
     let fr : rest < 2 ^ 64 = omega arith in
     sets ! (addr ! (through ! refl (stop !))) refl (tt, tt) $
     sets ! (bin ! (get ! refl) (get ! refl) (omega arith)) refl (tt, record { fits = fr }) $
-    feq_i ! (List Val) (vptr rb ro ∷ []) (vptr rb ro ∷ []) refl $ fjoin3 ! $
-    let G = triple_of 𝓛 (g.signature X) (g.spec X 𝓛 𝓜.mem 𝓡.returns) in
-    let z : G.Ghost = (
-      (
-        κs,
-        qs,
-        bounds,
-        (a.0, (start, (first, (0, (rest, tt))))),
-        (mut_vals a.0, (uint_vals w64 start, (uint_vals w64 first, (uint_vals w64 0, (uint_vals w64 rest, tt))))),
-      ),
-      tt,
-    ) in
-    pure_i ! (owns (usize ∷ usize ∷ usize ∷ usize ∷ []) z.0.3.1 z.0.4.1)
-    ((tt, tt), ((tt, tt), ((tt, tt), ((tt, tt), tt))))
+    feq_i ! _ (vptr rb ro ∷ []) _ refl $ fjoin3 ! $
+    let words : ℕ × (ℕ × (ℕ × (ℕ × Unit {0}))) = (start, (first, (0, (rest, tt)))) in
+    let vals = values 1 κs 4 (a.0, words) in
+    pure_i ! (owns (usize ∷ usize ∷ usize ∷ usize ∷ []) words vals.1) _
     ((refl, fs), ((refl, ff), ((refl, lit< tt), ((refl, fr), tt)))) $
     -- [the words; the borrow; its token; the others]
     move ! (1 ∷ 0 ∷ []) $ fjoin ! $ move ! (1 ∷ 2 ∷ []) $ join ! $ join ! $
     let Apart = AreApart start first 0 rest in
-    let apart : Apart = λ k from to from' to'. omega (arith, within, ok.capacity, cuts) in
+    let apart : Apart = λ k from to from' to'. omega arith in
     knows ! Apart apart $ knows ! (Two first) (subst Two same two) $ join ! $
-    knows ! (One first) (subst One same one) $ join ! $ knows ! (κ₁ ⊑ X.lives) lives $ join ! $ move ! (1 ∷ 0 ∷ []) $
-    use2 𝓛 (raw (G.pre z)) (id⊢ 𝓤 _) $
-    calls_at ! (framed 𝓤 𝓛.H 𝓜 𝓣) G (met 𝓤 𝓛 𝓜 𝓡 (code.calls-arraydeque_ring::slots::Slots::lend_two 𝓡.env wired) X L) z
+    knows ! (One first) (subst One same one) $ join ! $ knows ! (κ₁ ⊑ X.lives) lives $ join ! $
+    calls_met 𝓛 ! 𝓜 𝓣 (g.ended X) (g.clauses X 𝓛 𝓜.mem 𝓡.returns)
+    (met 𝓤 𝓛 𝓜 𝓡 (code.calls-arraydeque_ring::slots::Slots::lend_two 𝓡.env wired) X L)
+    ((κs, qs, bounds, (a.0, words), vals), tt) (id⊢ 𝓤 _)
     (and_then ! (get ! refl) (and_then ! (get ! refl)
-    (and_then ! (get ! refl) (and_then ! (lit ! tt) (and_then ! (get ! refl) (no_more !)))))) (λ v.
-    let α : NamedLft = named_lft 2 0 tt κs in let It = loan.the_row α (R E) in
-    let First : LoanState (el_x E) → ℕ → Type 0 = λ it k. HoldsRun r.places start k it.first.now in
-    let Second : LoanState (el_x E) → ℕ → Type 0 = λ it k. HoldsRun r.places 0 (len - k) it.second.now in
-    returned 𝓛 ! tt (g.ended X) (g.clauses X 𝓛 𝓜.mem 𝓡.returns) z v
-    ((loan_laws.the_row_laws α (R E) (param_laws 0 X L)).lawful 𝓛) (λ it ws it_typed. lands_as ! refl refl it_typed.0 $
-    move ! (2 ∷ []) $ use1 𝓛 (‵ (lends_loan (R E) a.0 start 0 it) ⊛ raw (fact 𝓤 (First it first))
-    ⊛ raw (fact 𝓤 (Second it first))) (id⊢ 𝓤 _) $ split3 ! $ move ! (1 ∷ 2 ∷ []) $
-    heard ! (First it first) (λ held. heard ! (Second it first) (λ held'.
+    (and_then ! (get ! refl) (and_then ! (lit ! tt) (and_then ! (get ! refl) (no_more !)))))) (loan_lawful E)
+    (λ v it ws it_typed. lands_as ! refl refl it_typed.0 $
+    let First : ℕ → Type 0 = λ k. HoldsRun r.places start k it.first.now in
+    let Second : ℕ → Type 0 = λ k. HoldsRun r.places 0 (len - k) it.second.now in
+    move ! (2 ∷ []) $ use1 𝓛 (‵ (lends_loan (R E) a.0 start 0 it) ⊛ raw (facts 𝓤 (First first ∷ Second first ∷ [])))
+    (id⊢ 𝓤 _) $ split ! $ move ! (1 ∷ []) $ hears ! (First first ∷ Second first ∷ []) (λ held held'.
     -- [what the region follows; the loan; the tokens]
     returns ! (look_at ! 0 refl) $ free_all ! refl $
     suffices ! _ (ends v it tt) $ nothing ! $ frame ! $ move ! (1 ∷ 2 ∷ []) $ frame ! $ frame ! $
-    says_two ! (subst (First it) (sym same) held, subst (Second it) (sym same) held') $ done !)))))))))))))))))
+    says_two ! (subst First (sym same) held, subst Second (sym same) held') $ done !))))))))))

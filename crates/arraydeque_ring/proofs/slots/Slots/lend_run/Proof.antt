@@ -3,22 +3,22 @@ use Rattle.arraydeque_ring.{
   proofs.{
     memory.{
       Kit.{nothing, join, ◌≡◌, refl, sym, ap, ◌∙◌, List, [], ◌∷◌, map, ℕ, ◌+◌, ◌*◌, ◌≤◌, arith, length, length-map},
-      Kit.{Some, Ura, ent, sep, id⊢, GName, Fml, fsep, flft, Fn, inst_fn, named, Env, ◌⊑◌, fact, tables, Logic, sem, ‵},
-      Kit.{raw, ◌⊛◌, some, later, at_ret, ◌$◌, ◌∵◌, !, qed, by, move, use1, use2, drop, split, pick, frame, rewrite},
-      Kit.{await, fsplit, fjoin, suffices, done, whole, sub, look_in, agg, of_opd, bin, load, stop, fld, no_more},
-      Kit.{and_then, first, blocks, exec, returns, alloc_all, pass_all, free_all, look_at, get, through, sets},
-      Kit.{sets_last, env, mem, says, heard, after, El, R, args, el_x, split3, group, cells, Array, follows, MutBor},
-      Kit.{MutSlice, slice_val, Global},
+      Kit.{Some, Ura, ent, sep, GName, Fml, fsep, flft, Fn, inst_fn, named, ◌⊑◌, tables, Logic, sem, ‵, ◌⊛◌, some},
+      Kit.{later, at_ret, ◌$◌, ◌∵◌, !, qed, by, move, use1, use2, split, pick, frame, rewrite, await, fsplit, fjoin},
+      Kit.{suffices, done, whole, sub, look_in, agg, of_opd, bin, load, stop, fld, no_more, and_then, first, blocks},
+      Kit.{exec, returns, alloc_all, pass_all, free_all, look_at, get, through, sets, sets_last, env, mem, says, after},
+      Kit.{El, R, args, el_x, split3, group, cells, Array, follows, MutBor, MutSlice, slice_val, Global},
       Regions.{Sr, Seen, Fits, near, run_fits, Frame, slots_whole, slots_open, scaled, item_size, Place, places_owned},
       Regions.{IsFilledRun, Around, run_out, run_in},
       Methods.{method, spent},
+      Called.{hears},
     },
-    loans.{Placed.{placed, as_many-same, length-placed}, Runs.{run, same_cells}},
+    loans.{Placed.{placed, run, as_many-same, length-placed}, Runs.same_cells},
     places.Held.length_filled,
   },
   specs.Loans.{as_many, with_run},
 }
-use denote.FollowSlice.{Elements, lends_Elements}
+use denote.FollowSlice.{lends_Elements}
 use Rattle.arraydeque_ring.specs.contracts.slots.Slots.lend_run as f
 use Rattle.arraydeque_ring.proofs.slots.Slots.lend_run.Statement as stated
 use Rattle.arraydeque_ring.proofs.slots.Slots.lend_run.Code as code
@@ -58,15 +58,12 @@ lend_run_spec 𝓤 𝓛 𝓜 𝓡 wired X L =
     (code.unfolded 𝓤 𝓛.H 𝓜 𝓡 wired (X, tt)) (λ κs qs bounds a _ typed post ends.
     let κ = κs.0 in let q = qs.0 in let rb : ℕ = a.0.ref_ptr.0 in let ro : ℕ = a.0.ref_ptr.1 in
     let γ = a.0.ghost_name in let r : Seen E = a.0.now in let from : ℕ = a.1.0 in let len : ℕ = a.1.1.0 in
-    let s : ℕ = item_size E in let Asked : Type 0 = IsFilledRun r.places from len in
-    let coded = (Sr E).coded.code r in let len_ok = typed.1.0.1 in
-    use1 𝓛 (raw (fact 𝓤 (κs.1.0 ⊑ X.lives)) ⊛ raw (fact 𝓤 Asked)) (id⊢ 𝓤 _) $ split ! $ drop ! $
-    heard ! Asked (λ asked.
+    let s : ℕ = item_size E in let coded = (Sr E).coded.code r in let len_ok = typed.1.0.1 in
+    hears ! ((κs.1.0 ⊑ X.lives) ∷ IsFilledRun r.places from len ∷ []) (λ _ asked.
     let xs : List (el_x E) = asked.1.0 in let held = asked.1.1 in
     let long = length_filled r.places from len asked in
-    let within : from + length xs ≤ length r.places = omega (arith, asked.0) in
+    let within : from + length xs ≤ length r.places = omega arith in
     alloc_all ! (λ l. pass_all ! refl ((tt, tt), typed) $
-    let En : Env 𝓤 𝓛.H = env here.locals l in
     slots_open E ! tt r rb ro (λ g b o n ok.
     let far = near E ok from (omega arith) in
     first ! $ blocks ! $
@@ -78,25 +75,23 @@ lend_run_spec 𝓤 𝓛 𝓜 𝓡 wired X L =
     let Rest₀ = sem 𝓛 (Rest E 𝓛 rb ro r from xs g b o n within) in
     let way = back E 𝓛 rb ro r from xs g b o n within ok in
     let room = run_fits E ok (length xs) (omega arith) in
-    use1 𝓛 (‵ (places_owned (R E) b at (run E 𝓛 b o r.places from (length xs)))
+    use1 𝓛 (‵ (places_owned (R E) b at (run r.places from (length xs)))
     ⊛ ‵ (Around E 𝓛 b o r.places from (length xs))) (run_out E 𝓛 b o r.places from (length xs) within) $ split ! $
     rewrite ! 0 (λ (ps : List (Place E)). ‵ (places_owned (R E) b at ps))
     (rw long held) refl $
     rewrite ! 0 (λ (F : Fml). ‵ F) (same_cells E 𝓛 b xs at) refl $
     sets_last ! (agg ! (and_then ! (get ! refl) (and_then ! (get ! refl) (no_more !)))) refl
     (tt, (tt, (len_ok, tt))) $
-    exec ! 𝓣.C 𝓣.Λ En (after 1 here.body) (at_ret En post) $
+    exec ! 𝓣.C 𝓣.Λ (env here.locals l) (after 1 here.body) (at_ret _ post) $
     sets ! (of_opd ! (get ! refl)) refl (tt, (tt, (len_ok, tt))) $
     -- [the values; the others; the right; the words; the open borrow, in three; the other token]
     move ! (2 ∷ 3 ∷ []) $ fjoin ! $ move ! (2 ∷ 0 ∷ []) $ fjoin ! $ move ! (2 ∷ 3 ∷ 4 ∷ 1 ∷ 0 ∷ []) $ group ! 5 $
-    use1 𝓛
-    (later (some (λ (δ : GName). raw (Elements 𝓛 (Sr E) (R E) new (named 0) κ q rb ro b at γ xs room Rest₀ way δ))))
+    let lent : GName → MutBor (List (el_x E)) = λ δ. record { ref_ptr = (b, at); ghost_name = δ; now = xs } in
+    let Slice : GName → ℕ → Fml = λ δ k. (MutSlice (named 0) κ (R E)).own_val (lent δ) (slice_val (b, at) k ∷ []) in
+    use1 𝓛 (later (some (λ (δ : GName). ‵ (Slice δ (length xs)) ⊛ ‵ (flft κ q)
+    ⊛ ‵ (follows (Sr E) (Array (R E) 0) γ δ new))))
     (lends_Elements 𝓛 (Sr E) (R E) new (named 0) κ q rb ro b at γ xs room Rest₀ way coded coded) $ await ! tt $
-    pick ! (λ δ.
-    let lent : MutBor (List (el_x E)) = record { ref_ptr = (b, at); ghost_name = δ; now = xs } in
+    pick ! (λ δ. split3 ! $ rewrite ! 0 (λ (k : ℕ). ‵ (Slice δ k)) long refl $
     returns ! (look_at ! 0 refl) $ free_all ! refl $
-    use1 𝓛 (‵ ((MutSlice (named 0) κ (R E)).own_val lent (slice_val (b, at) (length xs) ∷ [])) ⊛ ‵ (flft κ q)
-    ⊛ ‵ (follows (Sr E) (Array (R E) 0) γ δ new)) (id⊢ 𝓤 _) $ split3 ! $
-    rewrite ! 0 (λ (k : ℕ). ‵ ((MutSlice (named 0) κ (R E)).own_val lent (slice_val (b, at) k ∷ []))) long refl $
-    suffices ! _ (ends (slice_val (b, at) len) lent tt) $ nothing ! $ frame ! $ frame ! $ move ! (0 ∷ 2 ∷ []) $
+    suffices ! _ (ends (slice_val (b, at) len) (lent δ) tt) $ nothing ! $ frame ! $ frame ! $ move ! (0 ∷ 2 ∷ []) $
     join ! $ frame ! $ says ! held $ done !)))))

@@ -2,26 +2,27 @@
 use Rattle.arraydeque_ring.{
   proofs.{
     memory.{
-      Kit.{nothing, id⊢, ◌≡◌, refl, sym, ◌∙◌, List, [], ◌∷◌, map, ℕ, ◌+◌, ◌*◌, ◌≤◌, arith, length, length-map, Some},
-      Kit.{Ura, SProp, ent, sep, GName, flft, fobs, fbor, Fn, inst_fn, named, Env, ◌⊑◌, fact, tables, Logic, sem},
-      Kit.{Borrowed, ‵, raw, ◌⊛◌, some, later, at_ret, ◌$◌, ◌∵◌, !, qed, by, move, use1, use2, drop, split, join, pick},
-      Kit.{frame, rewrite, await, fsplit, fjoin, feq_i, feq_l, suffices, done, whole, sub, look_in, agg, of_opd, bin},
-      Kit.{load, stop, fld, no_more, and_then, first, blocks, exec, returns, alloc_all, pass_all, free_all, look_at},
-      Kit.{get, through, sets, sets_last, env, mem, says_two, heard, after, El, R, args, el_x, after₂, split3, group},
-      Kit.{SemTy, all, all_e, apply∗, follows, both_by, MutBor, NamedLft, named_lft, MutSlice, slice_val, Global, Fml},
+      Kit.{ap, nothing, ◌≡◌, refl, sym, ◌∙◌, List, [], ◌∷◌, map, ℕ, ◌+◌, ◌*◌, ◌≤◌, arith, length, length-map, Some},
+      Kit.{Ura, SProp, ent, sep, GName, flft, fobs, fbor, Fn, inst_fn, named, ◌⊑◌, tables, Logic, sem, Borrowed, ‵},
+      Kit.{raw, ◌⊛◌, some, later, at_ret, ◌$◌, ◌∵◌, !, qed, by, move, use1, use2, split, join, pick, frame, rewrite},
+      Kit.{await, fsplit, fjoin, feq_i, feq_l, suffices, done, whole, sub, look_in, agg, of_opd, bin, load, stop, fld},
+      Kit.{no_more, and_then, first, blocks, exec, returns, alloc_all, pass_all, free_all, look_at, get, through, sets},
+      Kit.{sets_last, env, mem, says_two, after, El, R, args, el_x, after₂, split3, group, common_steps, SemTy, all},
+      Kit.{all_e, apply∗, follows, both_by, MutBor, NamedLft, named_lft, MutSlice, slice_val, Global, Fml, fsep},
       Regions.{Sr, Seen, Fits, near, run_fits, Frame, slots_whole, slots_open, scaled, item_size, Place, places_owned},
       Regions.{IsFilledRun, HoldsRun},
       Methods.{method, spent},
+      Called.{hears},
     },
     loans.{
       Made.{loan_val, loan_made},
       Names.takes_named,
-      Placed.{placed, apart_within, as_many-same, length-two_written},
-      Runs.{run, News, Filling, two_out, same_cells},
+      Placed.{placed, run, apart_within, as_many-same, length-as_many},
+      Runs.{News, Filling, two_out, same_cells},
     },
     places.Held.length_filled,
   },
-  specs.{Lends.two_lists, Loans.{LoanState, as_many, with_run, AreApart}, Steps.more_lends},
+  specs.{Lends.{two_lists, two_written}, Loans.{LoanState, AreApart}},
 }
 use types.SemTy.{Arr}
 use base.Stored.{coded_list}
@@ -31,19 +32,14 @@ use Rattle.arraydeque_ring.specs.contracts.slots.Slots.lend_two as f
 use Rattle.arraydeque_ring.proofs.slots.Slots.lend_two.Statement as stated
 use Rattle.arraydeque_ring.proofs.slots.Slots.lend_two.Code as code
 
-module _ (E : El) where
-  abbrev Lin : ℕ → SemTy
-  Lin n = Arr (mem (R E)) n
+abbrev Lin : El → ℕ → SemTy
+Lin E n = Arr (mem (R E)) n
 
-  -- the region with us in the stead of xs and vs in that of ys
-  abbrev Written : Seen E → ℕ → ℕ → List (el_x E) → List (el_x E) → List (el_x E) → List (el_x E) → Seen E
-  Written r a b xs ys us vs = record {
-    places = with_run b (as_many ys vs) (with_run a (as_many xs us) r.places);
-    steps = more_lends 2 r.steps;
-  }
-
-module _ (E : El) {M : Type 1} {𝓤 : Ura M} (𝓛 : Logic 𝓤) (rb ro : ℕ) (r : Seen E) (a b : ℕ) (xs ys : List (el_x E))
+module _ (E : El) {M : Type 1} {𝓤 : Ura M} (𝓛 : Logic 𝓤) (lender : MutBor (Seen E)) (a b : ℕ) (xs ys : List (el_x E))
     (g : Global) (p o n : ℕ) where
+  abbrev r : Seen E
+  r = lender.now
+
   abbrev s : ℕ
   s = item_size E
 
@@ -52,19 +48,19 @@ module _ (E : El) {M : Type 1} {𝓤 : Ura M} (𝓛 : Logic 𝓤) (rb ro : ℕ) 
 
   -- all but the two runs
   abbrev Rest : SProp 𝓤
-  Rest = sep 𝓤 (all 𝓤 Way) (sem 𝓛 (Frame E 𝓛 rb ro g r p o n))
+  Rest = sep 𝓤 (all 𝓤 Way) (sem 𝓛 (Frame E 𝓛 lender.ref_ptr.0 lender.ref_ptr.1 g r p o n))
 
-  back : Fits E r o n → a + length xs ≤ length r.places → HoldsRun r.places a (length xs) xs
-      → b + length ys ≤ length r.places → HoldsRun r.places b (length ys) ys → (us vs : List (el_x E))
-      → ent 𝓤 (sep 𝓤 (sem 𝓛 ((Lin E (length xs)).own_at us p (a * s + o)))
-      (sep 𝓤 (sem 𝓛 ((Lin E (length ys)).own_at vs p (b * s + o))) Rest))
-      (sem 𝓛 ((mem (Sr E)).own_at (Written E r a b xs ys us vs) rb ro))
-  back ok in_a held in_b held' us vs =
-      qed 𝓛 (‵ ((Lin E (length xs)).own_at us p (a * s + o)) ∷ ‵ ((Lin E (length ys)).own_at vs p (b * s + o))
+  back : Fits E r o n → a + length xs ≤ length r.places → b + length ys ≤ length r.places
+      → (w : List (el_x E) × List (el_x E)) → ent 𝓤 (sep 𝓤 (sem 𝓛 (fsep ((Lin E (length xs)).own_at w.0 p (a * s + o))
+      ((Lin E (length ys)).own_at w.1 p (b * s + o)))) Rest)
+      (sem 𝓛 ((mem (Sr E)).own_at (two_written (R E) lender a b xs ys w.0 w.1) lender.ref_ptr.0 lender.ref_ptr.1))
+  back ok in_a in_b w =
+      let us = w.0 in let vs = w.1 in let rb = lender.ref_ptr.0 in let ro = lender.ref_ptr.1 in
+      qed 𝓛 (‵ (fsep ((Lin E (length xs)).own_at us p (a * s + o)) ((Lin E (length ys)).own_at vs p (b * s + o)))
       ∷ (raw (all 𝓤 Way) ⊛ ‵ (Frame E 𝓛 rb ro g r p o n)) ∷ []) ∵
-      fsplit ! $ feq_l ! (λ same. move ! (1 ∷ []) $ fsplit ! $ feq_l ! (λ same'.
+      fsplit ! $ fsplit ! $ feq_l ! (λ same. move ! (1 ∷ []) $ fsplit ! $ feq_l ! (λ same'.
       let put = placed b (length ys) (map Some vs) (placed a (length xs) (map Some us) r.places) in
-      let new : Seen E = Written E r a b xs ys us vs in
+      let new : Seen E = two_written (R E) lender a b xs ys us vs in
       let alike : put ≡ new.places = rw (as_many-same xs us same, as_many-same ys vs same', sym same, sym same') in
       let w : News E 𝓛 p o r.places a (length xs) b (length ys) =
       (map Some us, map Some vs, sym (length-map us Some ∙ same), sym (length-map vs Some ∙ same')) in
@@ -76,7 +72,7 @@ module _ (E : El) {M : Type 1} {𝓤 : Ura M} (𝓛 : Logic 𝓤) (rb ro : ℕ) 
       use2 𝓛 (‵ (places_owned (R E) p o put)) (apply∗ 𝓤 (sep 𝓤 (sem 𝓛 (places_owned (R E) p (a * s + o) w.0))
       (sem 𝓛 (places_owned (R E) p (b * s + o) w.1))) (sem 𝓛 (places_owned (R E) p o put))) $
       rewrite ! 0 (λ (ps : List (Place E)). ‵ (places_owned (R E) p o ps)) alike refl $ by ! (slots_whole E 𝓛 rb ro g r
-      p o n ok new (sym (length-two_written r.places a (length xs) xs in_a held b (length ys) ys in_b held' us vs)))))
+      p o n ok new (sym (grind (arith, common_steps, in_a, in_b, length-as_many xs us, length-as_many ys vs))))))
 
 pub lend_two_spec : {M : Type 1} → stated.statement M
 unfolding both_by
@@ -89,19 +85,16 @@ lend_two_spec 𝓤 𝓛 𝓜 𝓡 wired X L =
     let γ = arg.0.ghost_name in let r : Seen E = arg.0.now in let coded = (Sr E).coded.code r in
     let a : ℕ = arg.1.0 in let la : ℕ = arg.1.1.0 in let b : ℕ = arg.1.1.1.0 in let lb : ℕ = arg.1.1.1.1.0 in
     let la_ok = typed.1.0.1 in let lb_ok = typed.1.1.1.0.1 in let s : ℕ = item_size E in
-    use1 𝓛 (raw (fact 𝓤 (κs.1.0 ⊑ X.lives)) ⊛ raw (fact 𝓤 (IsFilledRun r.places a la))
-    ⊛ raw (fact 𝓤 (IsFilledRun r.places b lb)) ⊛ raw (fact 𝓤 (AreApart a la b lb))) (id⊢ 𝓤 _) $
-    split ! $ drop ! $ split3 ! $ heard ! (IsFilledRun r.places a la) (λ one.
-    heard ! (IsFilledRun r.places b lb) (λ two. heard ! (AreApart a la b lb) (λ apart.
+    hears ! ((κs.1.0 ⊑ X.lives) ∷ IsFilledRun r.places a la ∷ IsFilledRun r.places b lb ∷ AreApart a la b lb ∷ [])
+    (λ _ one two apart.
     let xs : List (el_x E) = one.1.0 in let ys : List (el_x E) = two.1.0 in
     let long = length_filled r.places a la one in let long' = length_filled r.places b lb two in
     let held : HoldsRun r.places a (length xs) xs = rw long one.1.1 in
     let held' : HoldsRun r.places b (length ys) ys = rw long' two.1.1 in
-    let in_a : a + length xs ≤ length r.places = omega (arith, one.0) in
-    let in_b : b + length ys ≤ length r.places = omega (arith, two.0) in
+    let in_a : a + length xs ≤ length r.places = omega arith in
+    let in_b : b + length ys ≤ length r.places = omega arith in
     let clear : AreApart a (length xs) b (length ys) = rw (long, long') apart in
     alloc_all ! (λ l. pass_all ! refl ((tt, tt), typed) $
-    let En : Env 𝓤 𝓛.H = env here.locals l in
     slots_open E ! tt r rb ro (λ g p o n ok.
     let far = near E ok a (omega arith) in let far' = near E ok b (omega arith) in
     first ! $ blocks ! $
@@ -121,30 +114,30 @@ lend_two_spec 𝓤 𝓛 𝓜 𝓡 wired X L =
     sets ! (agg ! (and_then ! (get ! refl) (no_more !))) refl (tt, (tt, tt)) $
     sets_last ! (agg ! (and_then ! (get ! refl) (and_then ! (get ! refl) (and_then ! (get ! refl) (no_more !))))) refl
     (tt, ((tt, (la_ok, tt)), ((tt, (lb_ok, tt)), ((tt, tt), tt)))) $
-    exec ! 𝓣.C 𝓣.Λ En (after 1 here.body) (at_ret En post) $ sets ! (of_opd ! (get ! refl)) refl
+    exec ! 𝓣.C 𝓣.Λ (env here.locals l) (after 1 here.body) (at_ret _ post) $ sets ! (of_opd ! (get ! refl)) refl
     (tt, ((tt, (la_ok, tt)), ((tt, (lb_ok, tt)), ((tt, tt), tt)))) $
-    let pa = a * s + o in let pb = b * s + o in let Rest₀ = Rest E 𝓛 rb ro r a b xs ys g p o n in
-    let way = back E 𝓛 rb ro r a b xs ys g p o n ok in_a held in_b held' in
-    use1 𝓛 (‵ (places_owned (R E) p pa (run E 𝓛 p o r.places a (length xs))) ⊛ ‵ (places_owned (R E) p pb
-    (run E 𝓛 p o r.places b (length ys))) ⊛ raw (all 𝓤 (Way E 𝓛 rb ro r a b xs ys g p o n)))
+    let pa = a * s + o in let pb = b * s + o in let Rest₀ = Rest E 𝓛 arg.0 a b xs ys g p o n in
+    let way = back E 𝓛 arg.0 a b xs ys g p o n ok in_a in_b in let Ways = all 𝓤 (Way E 𝓛 arg.0 a b xs ys g p o n) in
+    let new : List (el_x E) × List (el_x E) → Seen E = λ w. two_written (R E) arg.0 a b xs ys w.0 w.1 in
+    use1 𝓛 (‵ (places_owned (R E) p pa (run r.places a (length xs))) ⊛ ‵ (places_owned (R E) p pb
+    (run r.places b (length ys))) ⊛ raw Ways)
     (two_out E 𝓛 p o r.places a (length xs) b (length ys) in_a in_b clear) $ split3 ! $
-    rewrite ! 0 (λ (ps : List (Place E)). ‵ (places_owned (R E) p pa ps)) held refl $
-    rewrite ! 0 (λ (F : Fml). ‵ F) (same_cells E 𝓛 p xs pa) refl $ move ! (1 ∷ []) $
-    rewrite ! 0 (λ (ps : List (Place E)). ‵ (places_owned (R E) p pb ps)) held' refl $
-    rewrite ! 0 (λ (F : Fml). ‵ F) (same_cells E 𝓛 p ys pb) refl $
+    rewrite ! 0 (λ (F : Fml). ‵ F) (ap (places_owned (R E) p pa) held ∙ same_cells E 𝓛 p xs pa) refl $
+    rewrite ! 1 (λ (F : Fml). ‵ F) (ap (places_owned (R E) p pb) held' ∙ same_cells E 𝓛 p ys pb) refl $
+    move ! (1 ∷ []) $
     -- [the second's values; the first's; the way; the right; the words; the open borrow, in three; the other token]
-    move ! (3 ∷ 4 ∷ []) $ fjoin ! $ move ! (3 ∷ 0 ∷ []) $ join ! $ move ! (1 ∷ []) $ feq_i ! ℕ (length ys)
-    (length ys) refl $ fjoin ! $ move ! (2 ∷ []) $ feq_i ! ℕ (length xs) (length xs) refl $ fjoin ! $
-    -- [the first; the second; the rest; the open borrow, in three; ..]
-    move ! (3 ∷ 4 ∷ 5 ∷ 0 ∷ 1 ∷ 2 ∷ []) $ group ! 6 $
+    move ! (3 ∷ 4 ∷ []) $ fjoin ! $ move ! (3 ∷ 0 ∷ []) $ join ! $ move ! (1 ∷ []) $
+    feq_i ! _ (length ys) _ refl $ fjoin ! $ move ! (2 ∷ []) $ feq_i ! _ (length xs) _ refl $ fjoin ! $ fjoin ! $
+    -- [both; the rest; the open borrow, in three; ..]
+    move ! (2 ∷ 3 ∷ 4 ∷ 0 ∷ 1 ∷ []) $ group ! 5 $
     let Both = mem (two_lists (R E)) in
     use1 𝓛 (later (some (λ (νs : GName × (GName × GName)).
     (‵ (fobs νs.1.0 ((coded_list (R E).coded).code xs)) ⊛ ‵ (fbor κ (Borrowed (Lin E (length xs)) p pa νs.1.0)))
     ⊛ (‵ (fobs νs.1.1 ((coded_list (R E).coded).code ys)) ⊛ ‵ (fbor κ (Borrowed (Lin E (length ys)) p pb νs.1.1)))
-    ⊛ ‵ (flft κ q) ⊛ ‵ (follows (Sr E) (two_lists (R E)) γ νs.0 (λ w. Written E r a b xs ys w.0 w.1))
-    ⊛ ‵ (after₂ Both (Lin E (length xs)) (Lin E (length ys)) νs.0 νs.1.0 νs.1.1 (λ us vs. (us, vs))))))
-    (takes_named 𝓛 (mem (Sr E)) Both (Lin E (length xs)) (Lin E (length ys)) (λ w. Written E r a b xs ys w.0 w.1)
-    (λ us vs. (us, vs)) κ q rb ro p pa p pb γ Rest₀ way coded coded (xs, ys) xs ys) $ await ! tt $
+    ⊛ ‵ (flft κ q) ⊛ ‵ (after₂ Both (Lin E (length xs)) (Lin E (length ys)) νs.0 νs.1.0 νs.1.1 (λ us vs. (us, vs)))
+    ⊛ ‵ (follows (Sr E) (two_lists (R E)) γ νs.0 new))))
+    (takes_named 𝓛 (mem (Sr E)) (Lin E (length xs)) (Lin E (length ys)) Both.coded new κ q rb ro p pa p pb γ Rest₀ way
+    coded coded xs ys) $ await ! tt $
     pick ! (λ νs. split3 ! $
     let first_slice : MutBor (List (el_x E)) = record { ref_ptr = (p, pa); ghost_name = νs.1.0; now = xs } in
     let second_slice : MutBor (List (el_x E)) = record { ref_ptr = (p, pb); ghost_name = νs.1.1; now = ys } in
@@ -152,16 +145,17 @@ lend_two_spec 𝓤 𝓛 𝓜 𝓡 wired X L =
     (room (length xs + length ys) (apart_within a (length xs) b (length ys) (length r.places) clear in_a in_b)).0 in
     let α : NamedLft = named_lft 2 0 tt κs in let v = loan_val (slice_val (p, pa) la) (slice_val (p, pb) lb) in
     let seen : LoanState (el_x E) = record { first = first_slice; second = second_slice; name = νs.0 } in
-    use1 𝓛 (‵ ((MutSlice (named 0) κ (R E)).own_val first_slice (slice_val (p, pa) (length xs) ∷ [])))
+    let Slice : MutBor (List (el_x E)) → ℕ → Fml =
+    λ x k. (MutSlice (named 0) κ (R E)).own_val x (slice_val x.ref_ptr k ∷ []) in
+    use1 𝓛 (‵ (Slice first_slice (length xs)))
     (slice_of 𝓛 (R E) (named 0) κ p pa νs.1.0 xs (room (length xs) (omega arith))) $ move ! (1 ∷ []) $
-    use1 𝓛 (‵ ((MutSlice (named 0) κ (R E)).own_val second_slice (slice_val (p, pb) (length ys) ∷ [])))
+    use1 𝓛 (‵ (Slice second_slice (length ys)))
     (slice_of 𝓛 (R E) (named 0) κ p pb νs.1.1 ys (room (length ys) (omega arith))) $ move ! (1 ∷ 0 ∷ []) $
-    rewrite ! 0 (λ (k : ℕ). ‵ ((MutSlice (named 0) κ (R E)).own_val first_slice (slice_val (p, pa) k ∷ []))) long refl $
-    rewrite ! 1 (λ (k : ℕ). ‵ ((MutSlice (named 0) κ (R E)).own_val second_slice (slice_val (p, pb) k ∷ [])))
-    long' refl $
+    rewrite ! 0 (λ (k : ℕ). ‵ (Slice first_slice k)) long refl $
+    rewrite ! 1 (λ (k : ℕ). ‵ (Slice second_slice k)) long' refl $
     use2 𝓛 (‵ ((loan.the_row α (R E)).own_val seen (v ∷ [])))
     (loan_made α (R E) 𝓛 seen (slice_val (p, pa) la) (slice_val (p, pb) lb) bounded) $ move ! (1 ∷ []) $ split3 ! $
     returns ! (look_at ! 0 refl) $ free_all ! refl $
-    -- [the token; what the region follows; what its name follows; the iterator; the other token]
-    suffices ! _ (ends v seen tt) $ nothing ! $ frame ! $ move ! (3 ∷ 0 ∷ 4 ∷ []) $ frame ! $ join ! $ frame ! $
-    fjoin ! $ says_two ! (one.1.1, two.1.1) $ done !)))))))
+    -- [the token; what the loan's name follows; what the region follows; the loan; the other token]
+    suffices ! _ (ends v seen tt) $ nothing ! $ frame ! $ move ! (3 ∷ 0 ∷ 4 ∷ 2 ∷ []) $ frame ! $ join ! $
+    frame ! $ fjoin ! $ says_two ! (one.1.1, two.1.1) $ done !)))))
