@@ -1,8 +1,8 @@
 -- A gap among the items of a ring that moves: it opens for an item, or is moved to an end of them, and so closed.
 use Rattle.std.proofs.{
-  Common.{◌≡◌, ℕ, ◌+◌, ◌-◌, ◌<◌, ◌≤◌, List, [], ◌++◌, length, drop, slice_get, max, Option, None, refl},
+  Common.{◌≡◌, ℕ, ◌+◌, ◌-◌, ◌<◌, ◌≤◌, List, [], ◌++◌, length, slice_get, max, Option, None, refl},
   Common.{sym, ap, ◌∙◌, arith},
-  lemmas.{Bool.Decides.nat_tests, List.{length-append, append-nil, get_or-take, get_or-drop}},
+  lemmas.{Bool.Decides.nat_tests, List.{length-append, append-nil}},
 }
 use Rattle.arraydeque_ring.{
   specs.{
@@ -17,9 +17,9 @@ use Rattle.arraydeque_ring.{
       Gapped.{Gapped, gapped, LaidOut-gap_first, LaidOut-gap_last},
     },
     places.{
-      Held.{filled_run_of, empty_run_of, length_filled},
+      Held.{filled_run_of, empty_run_of, held_in_run, length_filled},
       Holds.{Holds-of_rotated, Holds-rotated, Holds-same, Holds-from},
-      Items.{items, slice_get_some, get_or-map_Some},
+      Items.{items, slice_get_some},
       LaidOut.{LaidOut, holds, rotated-LaidOut},
       Rotated.{place_of_cases, place_of-lt, length-rotated},
     },
@@ -68,12 +68,6 @@ MayClose t i gap m ps = record {
   others_empty : IsEmptyRun (rotated t ps) (i + gap + m) (length ps - (i + gap + m));
 }
 
--- what the places of a run hold
-held_in_run : {X : Type 0} (ps : List (Option X)) (from len k : ℕ) (run : IsFilledRun ps from len) → k < len
-    → held_at ps (from + k) ≡ slice_get run.1.0 k
-held_in_run ps from len k run lt = sym (get_or-take len (drop from ps) k None lt ∙ get_or-drop from ps k None)
-    ∙ ap (λ l. held_at l k) run.1.1 ∙ get_or-map_Some run.1.0 k
-
 -- where there is room, there is a gap behind all items, or before them, from a start one place down
 module _ {X : Type 0} {n t : ℕ} {xs : List X} {ps : List (Option X)} (l : LaidOut n t xs ps)
     (room : length xs < n) where
@@ -99,15 +93,12 @@ module _ {X : Type 0} {n t : ℕ} {xs : List X} {gap : ℕ} {ys : List X} {ps : 
     -- a gap may move to any index
     pub gap_may_move : 0 < gap → to ≤ from + length ys → MayMove t from to gap ps
     gap_may_move some le =
-        let within = p.within in
-        let long = p.reads.length_is in
-        let in_region = p.reads.in_region in
         may_move t from to gap ps refl some (omega arith) (omega arith)
         (λ x a b. gap_at x (omega arith) ∙ grind (arith, nat_tests))
         (λ x a b. let v = slice_get_some xs x (omega arith) in
-        (v.0, gap_at x (omega arith) ∙ grind (arith, nat_tests, v.1)))
+        (v.0, gap_at x (omega arith) ∙ grind (arith, nat_tests)))
         (λ x a b. let v = slice_get_some ys (x - (from + gap)) (omega arith) in
-        (v.0, gap_at x (omega arith) ∙ grind (arith, nat_tests, v.1)))
+        (v.0, gap_at x (omega arith) ∙ grind (arith, nat_tests)))
 
     -- and then it is there, among the same items
     pub gap_moves : {us vs : List X} (s : ℕ) (qs : List (Option X)) → us ++ vs ≡ xs ++ ys → length us ≡ to → s ≤ n - 1
@@ -152,18 +143,17 @@ module _ {X : Type 0} {n t : ℕ} {xs : List X} {gap : ℕ} {ys : List X} {ps : 
   pub may_close : (i m : ℕ) → 0 < gap → length xs ≡ i → length ys ≡ m → MayClose t i gap m ps
   may_close i m some front back =
       let within = p.within in
-      let long = p.reads.length_is in
       let wide = length-rotated t ps in
       record {
         some = some;
-        in_region = omega (arith, p.reads.in_region);
+        in_region = omega arith;
         within = omega arith;
         filled_before = filled_run_of _ 0 i (omega arith) (λ x a b. let v = slice_get_some xs x (omega arith) in
-            (v.0, gap_at x (omega arith) ∙ grind (arith, nat_tests, v.1)));
+            (v.0, gap_at x (omega arith) ∙ grind (arith, nat_tests)));
         empty = empty_run_of _ i gap (omega arith) (λ x a b. gap_at x (omega arith) ∙ grind (arith, nat_tests));
         filled_behind = filled_run_of _ (i + gap) m (omega arith) (λ x a b.
             let v = slice_get_some ys (x - (length xs + gap)) (omega arith) in
-            (v.0, gap_at x (omega arith) ∙ grind (arith, nat_tests, v.1)));
+            (v.0, gap_at x (omega arith) ∙ grind (arith, nat_tests)));
         others_empty = empty_run_of _ (i + gap + m) (length ps - (i + gap + m)) (omega arith)
             (λ x a b. gap_at x (omega arith) ∙ grind (arith, nat_tests, items));
       }
@@ -173,10 +163,9 @@ module _ {X : Type 0} {n t : ℕ} {xs : List X} {gap : ℕ} {ys : List X} {ps : 
       → s ≡ start_closed i gap m (length ps) t → rotated s qs ≡ gap_moved i (i + m) gap (rotated t ps)
       → LaidOut n s (xs ++ ys) qs
   LaidOut-closed i m s qs some front back here is =
-      let within = p.within in
       let long = p.reads.length_is in
       LaidOut-gap_last (gap_moves i (i + m) front s qs (append-nil (xs ++ ys)) (omega (arith, length-append xs ys))
-      (rw (here, long) (start_closed-in i gap m n t (omega (arith, p.reads.in_region)) (omega arith))) is)
+      (rw (here, long) (start_closed-in i gap m n t (omega arith) (omega arith))) is)
 
 -- a gap between two runs
 pub Gapped-runs : {X : Type 0} (t i gap m : ℕ) (ps : List (Option X)) → t < length ps → i + gap + m ≤ length ps

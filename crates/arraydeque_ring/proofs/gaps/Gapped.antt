@@ -57,28 +57,27 @@ module _ {X : Type 0} {n t : ℕ} {xs : List X} {ps : List (Option X)} (l : Laid
 module _ {X : Type 0} {n t : ℕ} {xs : List X} {ps : List (Option X)} where
   -- a gap behind all items is none
   pub LaidOut-gap_last : {gap : ℕ} → Gapped n t xs gap [] ps → LaidOut n t xs ps
-  LaidOut-gap_last p = let within = p.within in
-      LaidOut-by (omega arith) (Holds-same p.reads (λ k lt. grind (arith, nat_tests, items)))
+  LaidOut-gap_last p = LaidOut-by (omega arith) (Holds-same p.reads (λ k lt. grind (arith, nat_tests, items)))
 
   -- before all items it puts off the start
   pub LaidOut-gap_first : (gap : ℕ) → Gapped n t [] gap xs ps → LaidOut n (place_of t gap n) xs ps
   LaidOut-gap_first zero p = rw (place_of-zero t n p.reads.in_region)
-      (LaidOut-by (omega (arith, p.within)) (Holds-same p.reads (λ k lt. grind (arith, nat_tests))))
+      (LaidOut-by (omega arith) (Holds-same p.reads (λ k lt. grind (arith, nat_tests))))
   LaidOut-gap_first (suc g) p =
-      let within = p.within in LaidOut-by (omega arith) (Holds-from p.reads (suc g) (omega arith) (omega arith)
+      LaidOut-by (omega arith) (Holds-from p.reads (suc g) (omega arith) (omega arith)
       (λ k lt. grind (arith, nat_tests, items, place_of_cases (suc g) k n)))
 
 -- a gap of no places is none
 LaidOut-no_gap : {X : Type 0} {n t : ℕ} {xs ys : List X} {ps : List (Option X)} → Gapped n t xs 0 ys ps
     → LaidOut n t (xs ++ ys) ps
-LaidOut-no_gap {xs = xs} {ys = ys} p = LaidOut-by (omega (arith, p.within, length-append xs ys))
+LaidOut-no_gap {xs = xs} {ys = ys} p = LaidOut-by (omega (arith, length-append xs ys))
     (Holds-same p.reads (λ k lt. grind (arith, nat_tests, items)))
 
 module _ {X : Type 0} {n t : ℕ} {xs ys : List X} {ps : List (Option X)} where
   -- the first place of a gap is empty
   pub IsEmpty-gap : (gap i : ℕ) → Gapped n t xs gap ys ps → length xs ≡ i → 0 < gap → IsEmpty ps (place_of t i n)
-  IsEmpty-gap gap i p front some = let within = p.within in (
-    omega (arith, p.reads.length_is, place_of-lt t i n (omega (arith, p.reads.in_region))),
+  IsEmpty-gap gap i p front some = (
+    omega (arith, place_of-lt t i n (omega arith)),
     p.reads.at i (omega arith) ∙ grind (arith, nat_tests),
   )
 
@@ -103,8 +102,7 @@ module _ {X : Type 0} {n t : ℕ} {xs : List X} {gap : ℕ} {ps : List (Option X
     (p : Gapped n t xs gap (drop j ys) ps) (here : length xs + gap ≡ i) (some : j < length ys) where
   -- the first item behind the gap, in its place
   pub held_behind : held_at ps (place_of t i n) ≡ slice_get ys j
-  held_behind = let within = p.within in
-      p.reads.at i (omega (arith, length-drop j ys)) ∙ grind (arith, nat_tests, items)
+  held_behind = p.reads.at i (omega (arith, length-drop j ys)) ∙ grind (arith, nat_tests, items)
 
   -- taken out of it
   pub Gapped-take : Gapped n t xs (suc gap) (drop (j + 1) ys) (set ps (place_of t i n) None)

@@ -69,19 +69,16 @@ module _ {X : Type 0} {capacity start len dst next : ℕ} {old ps : List (Option
 
   before : Underway dst (next - dst) (capacity - next) len ps
   before =
-      underway dst (next - dst) (capacity - next) len ps (omega (arith, t.length_is, t.in_order, t.in_region))
+      underway dst (next - dst) (capacity - next) len ps (omega arith)
       still_fills
 
   pub Rotating-fits : len ≤ capacity
-  Rotating-fits = omega (arith, before.many, before.laid.within, t.length_is)
+  Rotating-fits = omega (arith, before.many, before.laid.within)
 
   module _ (run : ℕ) (wraps : capacity - next < len - dst) (most : run ≡ min (capacity - next) (next - dst)) where
     pub Rotating-pass : (x : ℕ) → x ≡ min (len - dst - (capacity - next)) run → Pass dst next run x ps
     Rotating-pass x both =
-        let whole = before.whole in
         let all = t.length_is in
-        let in_order = t.in_order in
-        let in_region = t.in_region in
         let rs = runs_exchanged dst next x ps in
         let long = length-runs_exchanged dst next x ps (omega arith) (omega arith) in
         let stays : (y : ℕ) → exchanged_from dst next x y ≡ y → held_at rs y ≡ held_at ps y =

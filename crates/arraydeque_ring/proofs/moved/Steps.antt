@@ -9,7 +9,7 @@ use Rattle.arraydeque_ring.{
   proofs.{
     moved.Flat.{distance_is, length-moved, moved_at, same_move, same_places},
     places.Held.filled_run_of,
-    places.Rotated.{place_of_cases, place_of-lt, place_of-sum, place_of-zero},
+    places.Rotated.{MayStartAt, place_of_cases, place_of-lt, place_of-sum},
   },
 }
 
@@ -42,7 +42,12 @@ InOrder d s l n i j k m = ((i ≡ 0) × (j ≡ k) × (0 < distance s d n → l �
 
 -- the l values from t on, which go to e, are those from the index i on
 abbrev pub IsPart : ℕ → ℕ → ℕ → ℕ → ℕ → ℕ → ℕ → Type 0
-IsPart d s n i l e t = (l ≡ 0) ⊎ ((e ≡ place_of d i n) × (t ≡ place_of s i n))
+IsPart d s n i l e t = (l ≡ 0) ⊎ ((e < n) × (t < n) × MayStartAt d i n e × MayStartAt s i n t)
+
+at_places : (d s n i l e t : ℕ) → d < n → s < n → i ≤ n → IsPart d s n i l e t
+    → (l ≡ 0) ⊎ ((e ≡ place_of d i n) × (t ≡ place_of s i n))
+at_places d s n i l e t d_in s_in i_in part =
+    grind (arith, part, place_of_cases d i n (omega arith), place_of_cases s i n (omega arith))
 
 -- k values can move from t to e, and then m from u to f, which gives the places `whole`
 pub record Steps {X : Type 0} (e t k f u m : ℕ) (ps whole : List (Option X)) : Type 0 where
@@ -106,7 +111,9 @@ module _ {X : Type 0} (d s l i j k m n : ℕ) (ps : List (Option X)) (long : len
 
   pub steps : IsFilledRound s l ps → (e t f u : ℕ) → IsPart d s n i k e t → IsPart d s n j m f u
       → Steps e t k f u m ps (run_moved d s l ps)
-  steps filled e t f u one two =
+  steps filled e t f u first second =
+      let one = at_places d s n i k e t d_in s_in (omega arith) first in
+      let two = at_places d s n j m f u d_in s_in (omega arith) second in
       let now : run_moved e t k ps ≡ after_first = same_move e t _ _ k ps one in
       let at : (o x : ℕ) → o + x < l → IsFilled ps (place_of (place_of s o n) x n) =
       λ o x lt. rw (place_of-sum s o x n, ← long) (filled (o + x) lt) in
@@ -143,22 +150,16 @@ round_run ps from len le filled = filled_run_of ps from len le (λ x a b.
 module _ {X : Type 0} (i j k m l : ℕ) (ps : List (Option X)) (all : k + m ≡ l) (some : 0 < l) (can : CanCopy i j l ps)
   where
     names : IsPart i j (length ps) 0 k i j × IsPart i j (length ps) k m (i + k) (j + k)
-    names = let n = length ps in let target = can.target in let source = can.source in grind (
-      arith,
-      place_of-zero i n (omega arith),
-      place_of-zero j n (omega arith),
-      place_of_cases i k n (omega arith),
-      place_of_cases j k n (omega arith),
-    )
+    names = grind arith
 
     pub first_block_goes : i ≤ j → Steps i j k (i + k) (j + k) m ps (run_moved i j l ps)
-    first_block_goes down = let n = length ps in let target = can.target in let source = can.source in
+    first_block_goes down = let n = length ps in
         steps i j l 0 k k m n ps refl (omega arith) (omega arith) (omega arith) all
         (inl (omega arith, omega arith, λ far. grind (arith, nat_tests, distance_is j i n (omega arith) (omega arith))))
         can.filled i j (i + k) (j + k) names.0 names.1
 
     pub last_block_goes : j ≤ i → Steps (i + k) (j + k) m i j k ps (run_moved i j l ps)
-    last_block_goes up = let n = length ps in let target = can.target in let source = can.source in
+    last_block_goes up = let n = length ps in
         steps i j l k 0 m k n ps refl (omega arith) (omega arith) (omega arith) (omega arith)
         (inr (omega arith, omega arith, grind (arith, nat_tests, distance_is j i n (omega arith) (omega arith))))
         can.filled (i + k) (j + k) i j names.1 names.0
@@ -171,13 +172,16 @@ pub record Three {X : Type 0} (d₁ s₁ l₁ d₂ s₂ l₂ d₃ s₃ l₃ : �
   pub is : run_moved d₃ s₃ l₃ (run_moved d₂ s₂ l₂ (run_moved d₁ s₁ l₁ ps)) ≡ whole
 
 -- a run that moves in three parts, none of which passes the end: up to the index a, from there to b, and from there on
-module _ {X : Type 0} (d s l n a b k m d₁ s₁ d₂ s₂ d₃ s₃ : ℕ) (ps : List (Option X)) (long : length ps ≡ n)
+module _ {X : Type 0} (d s l n a b k m d₁ s₁ d₂ s₂ d₃ s₃ : ℕ) (ps : List (Option X)) (n_is : n ≡ length ps)
     (d_in : d < n) (s_in : s < n) (filled : IsFilledRound s l ps) (parts : (a + k ≡ b) × (b + m ≡ l) × (l ≤ n))
     (before : IsPart d s n 0 a d₁ s₁ × ((d₁ + a ≤ n) × (s₁ + a ≤ n)))
     (between : IsPart d s n a k d₂ s₂ × ((d₂ + k ≤ n) × (s₂ + k ≤ n)))
     (behind : IsPart d s n b m d₃ s₃ × ((d₃ + m ≤ n) × (s₃ + m ≤ n))) where
+  long : length ps ≡ n
+  long = sym n_is
+
   whole : (o : ℕ) → IsPart d s n 0 o d s
-  whole o = inr (sym (place_of-zero d n (omega arith)), sym (place_of-zero s n (omega arith)))
+  whole o = grind arith
 
   three_down : (0 < distance s d n → l ≤ distance s d n)
       → Three d₁ s₁ a d₂ s₂ k d₃ s₃ m ps (run_moved d s l ps)

@@ -58,15 +58,13 @@ module _ {X : Type 0} where
     -- as many items are written in their stead, where the list lies in one piece
     pub LaidOut-written : (ys : List X) → length ys ≡ length xs → t + length ys ≤ n → LaidOut n t ys (with_run t ys ps)
     LaidOut-written ys many fits =
-        LaidOut-by (omega (arith, fits)) (Holds-same (Holds-run (holds l) 0 t ys (inl (omega arith)) fits (omega arith))
+        LaidOut-by (omega arith) (Holds-same (Holds-run (holds l) 0 t ys (inl (omega arith)) fits (omega arith))
         (λ k lt. grind (arith, nat_tests, items)))
 
     -- the places behind the list are empty
     pub IsEmptyRun-from : (i place run : ℕ) → length xs ≤ i → MayStartAt t i n place → place + run ≤ n → i + run ≤ n
         → IsEmptyRun ps place run
     IsEmptyRun-from i place run past lies fits room =
-        let long = l.length_is in
-        let in_region = l.in_region in
         empty_run_of ps place run (omega arith) (λ x from to.
         let j = x - place in
         let on : x ≡ place + j = omega arith in

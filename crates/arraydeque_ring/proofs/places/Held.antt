@@ -22,28 +22,32 @@ module _ {X : Type 0} where
   pub length_filled : (ps : List (Option X)) (from len : ℕ) (run : IsFilledRun ps from len) → length run.1.0 ≡ len
   length_filled ps from len run = omega (
     arith,
-    run.0,
     ap length run.1.1,
     length-map run.1.0 Some,
-    length-take-le len (drop from ps) (omega (arith, run.0, length-drop from ps)),
+    length-take-le len (drop from ps) (omega (arith, length-drop from ps)),
   )
 
-  -- and each place of a filled run is filled
+  -- a place of a run holds what is read in the run
+  in_run : (ps qs : List (Option X)) (from len k : ℕ) → take len (drop from ps) ≡ qs → k < len
+      → held_at ps (from + k) ≡ held_at qs k
+  in_run ps qs from len k is lt =
+      sym (get_or-take len (drop from ps) k None lt ∙ get_or-drop from ps k None) ∙ ap (λ l. held_at l k) is
+
+  -- so each place of a filled run is filled, with its value
+  pub held_in_run : (ps : List (Option X)) (from len k : ℕ) (run : IsFilledRun ps from len) → k < len
+      → held_at ps (from + k) ≡ slice_get run.1.0 k
+  held_in_run ps from len k run lt = in_run ps _ from len k run.1.1 lt ∙ get_or-map_Some run.1.0 k
+
   pub filled_in_run : (ps : List (Option X)) (from len k : ℕ) → IsFilledRun ps from len → k < len
       → IsFilled ps (from + k)
   filled_in_run ps from len k run lt =
-      let some = slice_get_some run.1.0 k (omega (arith, length_filled ps from len run)) in (
-        some.0,
-        sym (get_or-take len (drop from ps) k None lt ∙ get_or-drop from ps k None) ∙ ap (λ l. get_or l k None) run.1.1
-            ∙ get_or-map_Some run.1.0 k ∙ some.1,
-      )
+      let some = slice_get_some run.1.0 k (omega (arith, length_filled ps from len run)) in
+      (some.0, held_in_run ps from len k run lt ∙ some.1)
 
-  -- each place of an empty run is empty
+  -- and each place of an empty run is empty
   pub empty_in_run : (ps : List (Option X)) (from len k : ℕ) → IsEmptyRun ps from len → k < len
-      → get_or ps (from + k) None ≡ None
-  empty_in_run ps from len k run lt =
-      sym (get_or-take len (drop from ps) k None lt ∙ get_or-drop from ps k None) ∙ ap (λ l. get_or l k None) run.1
-      ∙ get_or-replicate len k None None lt
+      → held_at ps (from + k) ≡ None
+  empty_in_run ps from len k run lt = in_run ps _ from len k run.1 lt ∙ get_or-replicate len k None None lt
 
   -- two values that are taken out and put into each other's place
   pub exchanged : (ps : List (Option X)) (i j : ℕ) (x y : X) → i ≢ j → get_or ps i None ≡ Some x

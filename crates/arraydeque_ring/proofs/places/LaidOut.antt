@@ -70,7 +70,6 @@ module _ {X : Type 0} {n t : ℕ} {xs : List X} {ps : List (Option X)} (l : Laid
 
   pub rotated-LaidOut : rotated t ps ≡ and_empty xs (n - length xs)
   rotated-LaidOut =
-      let within = l.within in
       same_places _ _ (length-rotated t ps ∙ l.length_is ∙ omega (arith, length-and_empty xs (n - length xs)))
       (λ k lt. Holds-rotated (holds l) k (omega (arith, length-and_empty xs (n - length xs)))
       ∙ sym (get_or-and_empty xs (n - length xs) k))
@@ -83,17 +82,17 @@ module _ {X : Type 0} {n t : ℕ} {xs : List X} {ps : List (Option X)} (l : Laid
   pub FilledFrom-LaidOut : (m : ℕ) → length xs ≡ m → FilledFrom t m (filled ps)
   unfolding filled
   FilledFrom-LaidOut m e =
-      let left : n - length xs ≡ length (filled ps) - m = omega (arith, l.length_is, length-map ps is_some) in
+      let left : n - length xs ≡ length (filled ps) - m = omega (arith, length-map ps is_some) in
       rotated-map is_some t ps ∙ ap filled rotated-LaidOut ∙ filled-and_empty xs (n - length xs)
       ∙ ap₂ (λ a b. replicate a true ++ replicate b false) e left
 
   -- the place of an item is filled, and that of an index past the last one is empty
   pub IsFilled-place_of : (k : ℕ) → k < length xs → IsFilled ps (place_of t k n)
-  IsFilled-place_of k lt = let some = slice_get_some xs k lt in (some.0, l.at k (omega (arith, l.within)) ∙ some.1)
+  IsFilled-place_of k lt = let some = slice_get_some xs k lt in (some.0, l.at k (omega arith) ∙ some.1)
 
   pub IsEmpty-place_of : (k : ℕ) → length xs ≤ k → k < n → IsEmpty ps (place_of t k n)
   IsEmpty-place_of k past lt =
-      (omega (arith, l.length_is, place_of-lt t k n (omega (arith, l.in_region))), l.at k lt ∙ grind (arith, items))
+      (omega (arith, place_of-lt t k n (omega arith)), l.at k lt ∙ grind (arith, items))
 
   -- the start holds the first item
   pub held_at-start : 0 < n → held_at ps t ≡ slice_get xs 0
@@ -105,14 +104,13 @@ module _ {X : Type 0} {n t : ℕ} {xs : List X} {ps : List (Option X)} (l : Laid
   -- read from the start on, the len items from the index i on are a run
   pub HoldsRun-rotated : (i len : ℕ) → i + len ≤ length xs → HoldsRun (rotated t ps) i len (take len (drop i xs))
   HoldsRun-rotated i len le =
-      let within = l.within in
       holds_run_of (rotated t ps) i len (take len (drop i xs))
-      (omega (arith, length-take len (drop i xs), length-drop i xs)) (omega (arith, length-rotated t ps, l.length_is))
+      (omega (arith, length-take len (drop i xs), length-drop i xs)) (omega (arith, length-rotated t ps))
       (λ k lt. Holds-rotated (holds l) (i + k) (omega arith) ∙ grind (arith, nat_tests, items))
 
   pub IsFilledRun-rotated : (i len : ℕ) → i + len ≤ length xs → IsFilledRun (rotated t ps) i len
   IsFilledRun-rotated i len le = (
-    omega (arith, l.length_is, length-rotated t ps, length_within),
+    omega (arith, length-rotated t ps),
     (take len (drop i xs), HoldsRun-rotated i len le),
   )
 
@@ -120,16 +118,15 @@ module _ {X : Type 0} {n t : ℕ} {xs : List X} {ps : List (Option X)} (l : Laid
   HoldsRun-LaidOut : (i p len : ℕ) → MayStartAt t i n p → i + len ≤ length xs → p + len ≤ n
       → HoldsRun ps p len (take len (drop i xs))
   HoldsRun-LaidOut i p len at within fits =
-      let all = l.within in
       holds_run_of ps p len (take len (drop i xs)) (omega (arith, length-take len (drop i xs), length-drop i xs))
-      (omega (arith, l.length_is))
-      (λ k lt. ap (held_at ps) (sym (place_of-run t i k n p at (omega arith) (omega (arith, l.in_region))
+      (omega arith)
+      (λ k lt. ap (held_at ps) (sym (place_of-run t i k n p at (omega arith) (omega arith)
       (omega arith))) ∙ l.at (i + k) (omega arith) ∙ grind (arith, nat_tests, items))
 
   pub IsFilledRun-LaidOut : (i p len : ℕ) → MayStartAt t i n p → i + len ≤ length xs → p + len ≤ n
       → IsFilledRun ps p len
   IsFilledRun-LaidOut i p len at within fits =
-      (omega (arith, l.length_is), (take len (drop i xs), HoldsRun-LaidOut i p len at within fits))
+      (omega arith, (take len (drop i xs), HoldsRun-LaidOut i p len at within fits))
 
   -- and a run that is read there is of those items
   pub same_run : (i p len : ℕ) (ys : List X) → MayStartAt t i n p → i + len ≤ length xs → p + len ≤ n
@@ -163,7 +160,7 @@ module _ {X : Type 0} {n t : ℕ} {xs : List X} {ps : List (Option X)} (l : Laid
       (arith, nat_tests, items, slice_get-cons)) (λ i lt other. grind (arith, nat_tests, items, slice_get-cons))
 
   pub LaidOut-take_back : (m : ℕ) → length xs ≡ m + 1 → LaidOut n t (take m xs) (set ps (place_of t m n) None)
-  LaidOut-take_back m e = let within = l.within in LaidOut-write m None (omega arith) (omega (arith, length-take m xs))
+  LaidOut-take_back m e = LaidOut-write m None (omega arith) (omega (arith, length-take m xs))
       (grind (arith, nat_tests, items)) (λ i lt other. grind (arith, nat_tests, items))
 
   pub LaidOut-put_front : (x : X) → length xs < n
@@ -177,7 +174,6 @@ module _ {X : Type 0} {n t : ℕ} {xs : List X} {ps : List (Option X)} (l : Laid
 
   pub LaidOut-take_front : 0 < length xs → LaidOut n (place_of t 1 n) (drop 1 xs) (set ps t None)
   LaidOut-take_front some =
-      let within = l.within in
       let out = Holds-set (holds l) {g = λ k. if nat_lt 0 k then slice_get xs k else None} 0 None (omega arith) refl
       (λ i lt other. grind (arith, nat_tests)) in
       rw (place_of-zero t n l.in_region) at
@@ -186,18 +182,17 @@ module _ {X : Type 0} {n t : ℕ} {xs : List X} {ps : List (Option X)} (l : Laid
 
   -- another value in the place of an item is another item
   pub LaidOut-set : (k : ℕ) (x : X) → k < length xs → LaidOut n t (set xs k x) (set ps (place_of t k n) (Some x))
-  LaidOut-set k x lt = let within = l.within in
-      LaidOut-write k (Some x) (omega arith) (omega (arith, length-set xs k x)) (grind (arith, nat_tests, items))
-      (λ i i_in other. grind (arith, nat_tests, items))
+  LaidOut-set k x lt = LaidOut-write k (Some x) (omega arith) (omega (arith, length-set xs k x))
+      (grind (arith, nat_tests, items)) (λ i i_in other. grind (arith, nat_tests, items))
 
 -- to exchange the places of two items is to exchange the items
 pub LaidOut-swap : {X : Type 0} {n t : ℕ} {xs : List X} {ps : List (Option X)} → LaidOut n t xs ps → (i j : ℕ)
     → i < length xs → j < length xs → LaidOut n t (swap xs i j) (swap ps (place_of t i n) (place_of t j n))
 LaidOut-swap {n = n} {t = t} {xs = xs} {ps = ps} l i j i_in j_in =
-    let p = place_of t i n in let q = place_of t j n in let within = l.within in
+    let p = place_of t i n in let q = place_of t j n in
     let x = slice_get_some xs i i_in in let y = slice_get_some xs j j_in in
     let in_region : (k : ℕ) → k < length xs → place_of t k n < length ps =
-    λ k lt. omega (arith, l.length_is, place_of-lt t k n (omega (arith, l.in_region))) in
+    λ k lt. omega (arith, place_of-lt t k n (omega arith)) in
     let items : set (set xs i y.0) j x.0 ≡ swap xs i j = ap₂ (λ a b. set (set xs i a) j b)
     (sym (get_or_from_slice_get xs j y.0 x.0 y.1)) (sym (get_or_from_slice_get xs i x.0 x.0 x.1))
     ∙ swap_is xs i j x.0 i_in j_in in

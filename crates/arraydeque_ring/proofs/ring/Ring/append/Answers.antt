@@ -15,12 +15,12 @@ loop-left-preserved g c =
     let m = c.args.len - c.loop-left.left in
     let run = c.min-run.result in
     let total : m + run ≡ c.args.len - (c.loop-left.left - run) =
-    omega (arith, inv.within, c.min-run.ensures, c.min.ensures)
+    omega arith
     in
     let other = opened c.other.inside c.other.invariant c.other.view_is in
-    let start = up_by-is run now.start now.capacity (omega (arith, other.laid.in_region, other.start)) in
+    let start = up_by-is run now.start now.capacity (omega arith) in
     record {
-      within = omega (arith, inv.within);
+      within = omega arith;
       here = c.append_run.ensures.here ∙ ap₂ (joined run) inv.here inv.there
           ∙ joined-both m run r o ∙ ap (λ k. joined k r o) total;
       there = c.append_run.ensures.there

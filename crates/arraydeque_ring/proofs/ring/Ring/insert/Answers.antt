@@ -29,7 +29,7 @@ move_gap-requires g c =
 pub move_gap-requires-else-index-behind : goal.move_gap-requires-else-index-behind
 move_gap-requires-else-index-behind g c =
     let ring = opened c.self.inside c.self.invariant c.self.view_is in
-    gap_may_move (Gapped-behind ring.laid c.requires.room) _ _ ring.len (omega arith) (omega (arith, ring.len))
+    gap_may_move (Gapped-behind ring.laid c.requires.room) _ _ ring.len (omega arith) (omega arith)
 
 -- with the gap open
 gap : (g : Over) (c : goal.After-put-arg-1 g) → let old = c.args.self.now in let now = c.if-index-behind.self-inside in
@@ -67,12 +67,8 @@ after g c =
     let ring = opened c.self.inside c.self.invariant c.self.view_is in
     let same : c.if-index-behind.self-inside.len ≡ c.self.inside.len = grind arith in
     shows (rw (c.put.ensures.places, place g c.before) (LaidOut-put c.args.index c.args.element (gap g c.before)
-    (front g c.before))) _ (omega (
-      arith,
-      same,
-      ring.len,
-      length-insert c.args.self.now.items c.args.index c.args.element c.requires.in_bounds,
-    ))
+    (front g c.before)))
+    _ (omega (arith, length-insert c.args.self.now.items c.args.index c.args.element c.requires.in_bounds))
 
 pub invariant_of-self : goal.invariant_of-self
 invariant_of-self g c = let now = after g c in (now.1, now.2)
@@ -90,4 +86,4 @@ pub returns-clause-fewest : goal.returns-clause-fewest
 returns-clause-fewest g c =
     let ring = opened c.self.inside c.self.invariant c.self.view_is in
     rw (returns-clause-start g c) (fewest_insert c.args.index _ _ _
-    (omega (arith, ring.laid.in_region, ring.start)) c.requires.in_bounds c.requires.room)
+    (omega arith) c.requires.in_bounds c.requires.room)

@@ -30,7 +30,7 @@ slide_up-requires g c =
     (one_on _ _ _ _ _ _ c.wrap_add-src.ensures c.capacity-capacity.ensures c.if-gap-eq1.true) in
     record {
       in_region = go.may.src_in_region;
-      room = omega (arith, c.requires.within, c.requires.some);
+      room = omega arith;
       filled = go.may.filled;
       free = go.may.free;
     }
@@ -44,7 +44,7 @@ slide_down-requires g c =
     (one_on _ _ _ _ _ _ c.wrap_add-dst.ensures c.capacity-capacity.ensures c.if-gap-eq1-2.true) in
     record {
       in_region = go.may.dst_in_region;
-      room = omega (arith, c.requires.within, c.requires.some);
+      room = omega arith;
       filled = go.may.filled;
       free = go.may.free;
     }

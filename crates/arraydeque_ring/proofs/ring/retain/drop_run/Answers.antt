@@ -13,7 +13,7 @@ take-requires g c =
     let here : from + (place - from) ≡ place = omega arith in (
       filled.0,
       ap (λ ps. held_at ps place) c.loop-place.invariant.places ∙ next_unchanged _ from (place - from) place here
-          (omega (arith, c.requires.filled.0)) ∙ ap (held_at c.args.slots.now.places) (sym here) ∙ filled.1,
+          (omega arith) ∙ ap (held_at c.args.slots.now.places) (sym here) ∙ filled.1,
     )
 
 pub loop-place-preserved : goal.loop-place-preserved
@@ -24,7 +24,7 @@ loop-place-preserved g c =
     let one_more : place - from + 1 ≡ place + 1 - from = omega arith in
     record {
       places = c.take.ensures.places ∙ ap (λ ps. set ps place None) c.loop-place.invariant.places
-          ∙ next_emptied _ from (place - from) place here (omega (arith, c.requires.filled.0))
+          ∙ next_emptied _ from (place - from) place here (omega arith)
           ∙ ap (λ k. run_emptied from k c.args.slots.now.places) one_more;
-      steps = grind (arith, c.take.ensures.steps, c.loop-place.invariant.steps);
+      steps = grind arith;
     }
