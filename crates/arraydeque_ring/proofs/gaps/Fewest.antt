@@ -19,7 +19,7 @@ use Rattle.arraydeque_ring.{
 count_sides : (p : ℕ → Bool) (f b : Bool) (s e n : ℕ) → s ≤ e
     → ((k : ℕ) → k < n → p k ≡ (if nat_lt k s then f else (if nat_lt k e then false else b)))
     → count_below p n ≡ (if f then min s n else 0) + (if b then n - e else 0)
-count_sides p f b s e zero le each = grind (arith, nat_tests)
+count_sides p f b s e zero le each = grind arith
 count_sides p f b s e (suc n) le each = let rest = count_sides p f b s e n le (λ k lt. each k (omega arith)) in
     grind (arith, nat_tests, each n, rest)
 
@@ -79,7 +79,7 @@ module _ (s e n c t : ℕ) (t_in : t ≤ c - 1) (in_order : s ≤ e) (e_in : e �
   pub fewest_drain : IsFewest (moves_to_drain s e n) c (changed_drain s e n c t)
       (start_closed s (e - s) (n - e) c t)
   fewest_drain = record {
-    least = λ u lt. grind (arith, nat_tests, drained u lt, place_of_cases t (e - s) c (omega arith));
+    least = λ u lt. grind (arith, drained u lt, place_of_cases t (e - s) c (omega arith));
     met = elim (cases_lt 0 c) [
       | inl some ↦ grind (
         arith,
@@ -96,7 +96,7 @@ pub fewest_remove : (i n c t : ℕ) → t < c → i < n → n ≤ c
     → IsFewest (moves_to_remove i n) c (changed_remove i n c t) (start_closed i 1 (n - 1 - i) c t)
 fewest_remove i n c t t_in i_in within =
     let all = fewest_drain i (i + 1) n c t (omega arith) (omega arith) (omega arith) within in
-    let count : moves_to_drain i (i + 1) n ≡ moves_to_remove i n = grind (arith, nat_tests) in
+    let count : moves_to_drain i (i + 1) n ≡ moves_to_remove i n = grind arith in
     let one : i + 1 - i ≡ 1 = omega arith in
     let behind : n - (i + 1) ≡ n - 1 - i = omega arith in
     rw (count, one, behind) at all

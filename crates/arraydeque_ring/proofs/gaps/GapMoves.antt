@@ -28,7 +28,7 @@ use Rattle.arraydeque_ring.{
 
 -- the start stays in the region
 start_closed-in : (i gap m n t : ℕ) → t < n → gap ≤ n → start_closed i gap m n t ≤ n - 1
-start_closed-in i gap m n t t_in le = grind (arith, nat_tests, place_of-lt t gap n (omega arith))
+start_closed-in i gap m n t t_in le = grind (arith, place_of-lt t gap n (omega arith))
 
 -- what `move_gap` asks: a gap, and the values between it and the index that it moves to
 abbrev pub MayMove : {X : Type 0} → ℕ → ℕ → ℕ → ℕ → List (Option X) → Type 0
@@ -74,7 +74,7 @@ module _ {X : Type 0} {n t : ℕ} {xs : List X} {ps : List (Option X)} (l : Laid
   pub Gapped-behind : Gapped n t xs 1 [] ps
   Gapped-behind = record {
     within = omega arith;
-    reads = Holds-same (holds l) (λ k lt. grind (arith, nat_tests, items));
+    reads = Holds-same (holds l) (λ k lt. grind (arith, items));
   }
 
   pub Gapped-before : Gapped n (place_of t (n - 1) n) [] 1 xs ps

@@ -57,7 +57,7 @@ module _ {X : Type 0} {n t : ℕ} {xs : List X} {ps : List (Option X)} (l : Laid
 module _ {X : Type 0} {n t : ℕ} {xs : List X} {ps : List (Option X)} where
   -- a gap behind all items is none
   pub LaidOut-gap_last : {gap : ℕ} → Gapped n t xs gap [] ps → LaidOut n t xs ps
-  LaidOut-gap_last p = LaidOut-by (omega arith) (Holds-same p.reads (λ k lt. grind (arith, nat_tests, items)))
+  LaidOut-gap_last p = LaidOut-by (omega arith) (Holds-same p.reads (λ k lt. grind (arith, items)))
 
   -- before all items it puts off the start
   pub LaidOut-gap_first : (gap : ℕ) → Gapped n t [] gap xs ps → LaidOut n (place_of t gap n) xs ps
@@ -77,7 +77,7 @@ module _ {X : Type 0} {n t : ℕ} {xs ys : List X} {ps : List (Option X)} where
   -- the first place of a gap is empty
   pub IsEmpty-gap : (gap i : ℕ) → Gapped n t xs gap ys ps → length xs ≡ i → 0 < gap → IsEmpty ps (place_of t i n)
   IsEmpty-gap gap i p front some = (
-    omega (arith, place_of-lt t i n (omega arith)),
+    omega arith,
     p.reads.at i (omega arith) ∙ grind (arith, nat_tests),
   )
 

@@ -56,7 +56,7 @@ module _ {X : Type 0} {dst gap behind len : ℕ} {ps : List (Option X)} (u : Und
   held_now : (x : ℕ) → x < length ps → held_at ps x ≡ slice_get u.list (rotated_from dst behind gap x)
   held_now x lt =
       let y = rotated_from dst behind gap x in
-      let back : rotated_from dst gap behind y ≡ x = grind (arith, nat_tests) in
+      let back : rotated_from dst gap behind y ≡ x = grind arith in
       ap (held_at ps) (sym back) ∙ sym (get_or-run_rotated dst gap behind ps (omega arith) y)
       ∙ Holds-first (holds u.laid) y (grind (arith, nat_tests))
 
@@ -75,7 +75,7 @@ module _ {X : Type 0} {dst gap behind len : ℕ} {ps : List (Option X)} (u : Und
 
   -- with no gap all are in their places
   pub none_left : gap ≡ 0 → ps ≡ run_rotated dst gap behind ps
-  none_left none = holds_all ps refl (λ x lt. held_now x lt ∙ ap (slice_get u.list) (grind (arith, nat_tests)))
+  none_left none = holds_all ps refl (λ x lt. held_now x lt ∙ ap (slice_get u.list) (grind arith))
 
   -- the values that are left may stand behind the gap, in one piece
   module _ (placed : dst ≤ len) (fits : len ≤ dst + behind) where

@@ -80,7 +80,7 @@ module _ {X : Type 0} (d s l i j k m n : ℕ) (ps : List (Option X)) (long : len
 
   still_there : (x : ℕ) → x < n → distance (place_of s j n) x n < m → held_at after_first x ≡ held_at ps x
   still_there x lt a = moved_at (place_of d i n) (place_of s i n) k ps x long lt
-      ∙ grind (arith, nat_tests, apart x lt a, either s x s_in lt)
+      ∙ grind (arith, apart x lt a, either s x s_in lt)
 
   both : run_moved (place_of d j n) (place_of s j n) m after_first ≡ run_moved d s l ps
   both =
@@ -161,7 +161,7 @@ module _ {X : Type 0} (i j k m l : ℕ) (ps : List (Option X)) (all : k + m ≡ 
     pub last_block_goes : j ≤ i → Steps (i + k) (j + k) m i j k ps (run_moved i j l ps)
     last_block_goes up = let n = length ps in
         steps i j l k 0 m k n ps refl (omega arith) (omega arith) (omega arith) (omega arith)
-        (inr (omega arith, omega arith, grind (arith, nat_tests, distance_is j i n (omega arith) (omega arith))))
+        (inr (omega arith, omega arith, grind (arith, distance_is j i n (omega arith) (omega arith))))
         can.filled (i + k) (j + k) i j names.1 names.0
 
 -- three copies can be made one after the other
@@ -187,7 +187,7 @@ module _ {X : Type 0} (d s l n a b k m d₁ s₁ d₂ s₂ d₃ s₃ : ℕ) (ps 
       → Three d₁ s₁ a d₂ s₂ k d₃ s₃ m ps (run_moved d s l ps)
   three_down far =
       let firsts = steps d s b 0 a a k n ps long d_in s_in (omega arith) (omega arith)
-      (inl (omega arith, omega arith, λ some. omega (arith, far some))) (λ x lt. filled x (omega arith)) d₁ s₁ d₂ s₂
+      (inl (omega arith, omega arith, λ some. omega arith)) (λ x lt. filled x (omega arith)) d₁ s₁ d₂ s₂
       before.0 between.0 in
       let last = steps d s l 0 b b m n ps long d_in s_in (omega arith) (omega arith)
       (inl (omega arith, omega arith, far)) filled d s d₃ s₃ (whole b) behind.0 in

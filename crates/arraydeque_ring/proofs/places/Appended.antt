@@ -32,7 +32,7 @@ module _ {X : Type 0} where
   get_or-with_run at ys ps x le =
       let made = get_or-map_Some ys (x - at) in
       let many = length-map ys Some in
-      grind (arith, nat_tests, common_steps, made, many)
+      grind (arith, common_steps, made, many)
 
   -- a run of indexes is written, from the index i on
   pub Holds-run : {n t : ℕ} {f : ℕ → Option X} {ps : List (Option X)} → Holds n t f ps → (i place : ℕ) (ys : List X)

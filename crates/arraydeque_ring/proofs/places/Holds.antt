@@ -42,7 +42,7 @@ module _ {X : Type 0} {n t : ℕ} {f : ℕ → Option X} {ps : List (Option X)} 
       → Holds n (place_of t j n) g ps
   Holds-from j some le each = record {
     length_is = h.length_is;
-    in_region = omega (arith, place_of-lt t j n (omega arith));
+    in_region = omega arith;
     at = λ k lt. ap (held_at ps) (place_of-place_of t j k n) ∙ h.at (place_of j k n) (place_of-lt j k n (omega arith))
         ∙ each k lt;
   }

@@ -12,18 +12,18 @@ module _ {X : Type 0} where
 
   pub slice_get-cons : (x : X) (xs : List X) (k : ℕ)
       → slice_get (x ∷ xs) k ≡ (if nat_lt 0 k then slice_get xs (k - 1) else Some x)
-  slice_get-cons x xs zero = grind (arith, nat_tests)
+  slice_get-cons x xs zero = grind arith
   slice_get-cons x xs (suc k) = grind (arith, nat_tests)
 
   pub slice_get-append : (xs ys : List X) (k : ℕ)
       → slice_get (xs ++ ys) k ≡ (if nat_lt k (length xs) then slice_get xs k else slice_get ys (k - length xs))
-  slice_get-append [] ys k = grind (arith, nat_tests)
+  slice_get-append [] ys k = grind arith
   slice_get-append (x ∷ xs) ys zero = grind (arith, nat_tests)
   slice_get-append (x ∷ xs) ys (suc k) = grind (arith, nat_tests, slice_get-append xs ys k)
 
   pub slice_get-take : (n : ℕ) (xs : List X) (k : ℕ)
       → slice_get (take n xs) k ≡ (if nat_lt k n then slice_get xs k else None)
-  slice_get-take zero xs k = grind (arith, nat_tests)
+  slice_get-take zero xs k = grind arith
   slice_get-take (suc n) [] k = grind (arith, nat_tests)
   slice_get-take (suc n) (x ∷ xs) zero = grind (arith, nat_tests)
   slice_get-take (suc n) (x ∷ xs) (suc k) = grind (arith, nat_tests, slice_get-take n xs k)
@@ -36,7 +36,7 @@ module _ {X : Type 0} where
   pub slice_get-set : (xs : List X) (i k : ℕ) (x : X) → i < length xs
       → slice_get (set xs i x) k ≡ (if k == i then Some x else slice_get xs k)
   slice_get-set [] i k x lt = absurd (omega arith)
-  slice_get-set (y ∷ xs) zero zero x lt = grind (arith, nat_tests)
+  slice_get-set (y ∷ xs) zero zero x lt = grind arith
   slice_get-set (y ∷ xs) zero (suc k) x lt = grind (arith, nat_tests)
   slice_get-set (y ∷ xs) (suc i) zero x lt = grind (arith, nat_tests)
   slice_get-set (y ∷ xs) (suc i) (suc k) x lt = grind (arith, nat_tests, slice_get-set xs i k x)

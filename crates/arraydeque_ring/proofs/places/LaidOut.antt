@@ -92,7 +92,7 @@ module _ {X : Type 0} {n t : ℕ} {xs : List X} {ps : List (Option X)} (l : Laid
 
   pub IsEmpty-place_of : (k : ℕ) → length xs ≤ k → k < n → IsEmpty ps (place_of t k n)
   IsEmpty-place_of k past lt =
-      (omega (arith, place_of-lt t k n (omega arith)), l.at k lt ∙ grind (arith, items))
+      (omega arith, l.at k lt ∙ grind (arith, items))
 
   -- the start holds the first item
   pub held_at-start : 0 < n → held_at ps t ≡ slice_get xs 0
@@ -175,7 +175,7 @@ module _ {X : Type 0} {n t : ℕ} {xs : List X} {ps : List (Option X)} (l : Laid
   pub LaidOut-take_front : 0 < length xs → LaidOut n (place_of t 1 n) (drop 1 xs) (set ps t None)
   LaidOut-take_front some =
       let out = Holds-set (holds l) {g = λ k. if nat_lt 0 k then slice_get xs k else None} 0 None (omega arith) refl
-      (λ i lt other. grind (arith, nat_tests)) in
+      (λ i lt other. grind arith) in
       rw (place_of-zero t n l.in_region) at
       (LaidOut-by {xs = drop 1 xs} (omega (arith, length-drop 1 xs)) (Holds-from out 1 (omega arith) (omega arith)
       (λ k lt. grind (arith, nat_tests, slice_get-drop 1 xs k, items, place_of_cases 1 k n))))
@@ -192,7 +192,7 @@ LaidOut-swap {n = n} {t = t} {xs = xs} {ps = ps} l i j i_in j_in =
     let p = place_of t i n in let q = place_of t j n in
     let x = slice_get_some xs i i_in in let y = slice_get_some xs j j_in in
     let in_region : (k : ℕ) → k < length xs → place_of t k n < length ps =
-    λ k lt. omega (arith, place_of-lt t k n (omega arith)) in
+    λ k lt. omega arith in
     let items : set (set xs i y.0) j x.0 ≡ swap xs i j = ap₂ (λ a b. set (set xs i a) j b)
     (sym (get_or_from_slice_get xs j y.0 x.0 y.1)) (sym (get_or_from_slice_get xs i x.0 x.0 x.1))
     ∙ swap_is xs i j x.0 i_in j_in in

@@ -22,7 +22,7 @@ module _ {X : Type 0} (at m k : ℕ) (ps : List (Option X)) (within : at + m + k
   length-run_rotated = grind (arith, common_steps)
 
   pub get_or-run_rotated : (x : ℕ) → get_or (run_rotated at m k ps) x None ≡ get_or ps (rotated_from at m k x) None
-  get_or-run_rotated x = grind (arith, nat_tests, places)
+  get_or-run_rotated x = grind (arith, places)
 
 -- the place whose value the place x has, once n values from a on are exchanged with those from b on
 abbrev pub exchanged_from : ℕ → ℕ → ℕ → ℕ → ℕ

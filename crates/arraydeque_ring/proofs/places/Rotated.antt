@@ -21,7 +21,7 @@ place_of_cases t k n within = elim (cases_lt (t + k) n) [
 
 -- a place lies in the region
 pub place_of-lt : (t k n : ℕ) → t + k < n + n → place_of t k n < n
-place_of-lt t k n within = grind (arith, place_of_cases t k n within)
+place_of-lt t k n within = grind arith
 
 -- the index 0 has the start itself
 pub place_of-zero : (t n : ℕ) → t ≤ n - 1 → place_of t 0 n ≡ t
@@ -60,7 +60,7 @@ MayStartAt-place_of t i n within = elim (place_of_cases t i n within) [
 
 -- and its items stand side by side, as far as the end
 pub place_of-run : (t i j n p : ℕ) → MayStartAt t i n p → p + j < n → t ≤ n → i + j < n → place_of t (i + j) n ≡ p + j
-place_of-run t i j n p at a b c = grind (arith, at, place_of_cases t (i + j) n (omega arith))
+place_of-run t i j n p at a b c = grind (arith, place_of_cases t (i + j) n (omega arith))
 
 module _ {X : Type 0} where
   pub length-rotated : (t : ℕ) (xs : List X) → length (rotated t xs) ≡ length xs

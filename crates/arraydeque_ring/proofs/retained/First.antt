@@ -19,15 +19,15 @@ use Rattle.arraydeque_ring.{
 }
 
 pub until_goes : (k n : ℕ) → k < n → answers_until k n ≡ replicate k true ++ false ∷ []
-until_goes k n lt = grind (arith, nat_tests)
+until_goes k n lt = grind arith
 
 until_all : (n : ℕ) → answers_until n n ≡ replicate n true
-until_all n = grind (arith, nat_tests, append-nil (replicate n true))
+until_all n = grind (arith, append-nil (replicate n true))
 
 -- n items that stay stand before
 until_behind : (n k m : ℕ) → answers_until (n + k) (n + m) ≡ replicate n true ++ answers_until k m
 until_behind n k m =
-    let test : (n + k == n + m) ≡ (k == m) = grind (arith, nat_tests) in
+    let test : (n + k == n + m) ≡ (k == m) = grind arith in
     ap₂ (λ bs b. bs ++ (if b then [] else false ∷ [])) (sym (replicate-append-replicate n k true)) test
     ∙ append_assoc (replicate n true) (replicate k true) (if k == m then [] else false ∷ [])
 
@@ -97,7 +97,7 @@ module _ {X F : Type 0} (t : Mut F (Bor X × Unit {0}) Bool) (f : F) (xs ys : Li
   pub asked_front : MayBeAsked t f xs
   asked_front answers g x here told =
       let lt = slice_get_within xs (length answers) x.now here in
-      may answers g x (slice_get-append xs ys (length answers) ∙ grind (arith, nat_tests, here))
+      may answers g x (slice_get-append xs ys (length answers) ∙ grind (arith, here))
       (told_longer (CalledAt t) f g answers xs ys told)
 
   pub asked_back : (g : F) (k : ℕ) → k ≡ length xs → ReturnsInTurn (CalledAt t) f (answers_until k (length xs)) xs g

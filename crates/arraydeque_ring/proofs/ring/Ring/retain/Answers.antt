@@ -48,7 +48,7 @@ pub shift-requires-clause-empty : goal.shift-requires-clause-empty
 shift-requires-clause-empty g c = rw c.wrap_add-then-keeps.ensures (room_for_next c.loop-index.invariant.so_far)
 
 pub overflow_add-kept : goal.overflow_add-kept
-overflow_add-kept g c = let within = all_within c.loop-index.invariant.so_far (omega arith) in omega arith
+overflow_add-kept g c = omega arith
 
 pub loop-index-preserved : goal.loop-index-preserved
 loop-index-preserved g c =

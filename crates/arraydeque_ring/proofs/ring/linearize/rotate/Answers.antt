@@ -72,7 +72,7 @@ returns-clause-steps g c =
     let so_far = c.loop-next.invariant.steps in (
       so_far.0 + (if c.loop-next.dst == c.loop-next.next then 0 else c.args.len - c.loop-next.dst),
       so_far.1,
-      grind (arith, nat_tests),
+      grind arith,
       rw (c.place_last.ensures.steps, so_far.3) (grind arith),
     )
 

@@ -41,7 +41,7 @@ returns-then-first-len-clause-taken g c =
     let both = both_put c.args.len c.min-first.result c.args.taken.now.places (omega arith) c.requires.empty _ _
     p.first_length ∙ ap (λ ps. ps ++ drop c.args.len c.args.taken.now.places) p.all in
     rw (c.hand_over-then-first-len.ensures.there, c.hand_over.ensures.there, c.hand_over.ensures.here)
-    (grind (arith, both))
+    (grind arith)
 
 pub returns-else-first-len-clause-places : goal.returns-else-first-len-clause-places
 returns-else-first-len-clause-places g c =
@@ -55,4 +55,4 @@ returns-else-first-len-clause-taken g c =
     let same : c.min-first.result ≡ c.args.len = omega arith in
     let all =
     rw append-nil at (rw none at (parts g (goal.at.returns-else-first-len-clause-taken g c).After-min-first).all) in
-    rw c.hand_over.ensures.there (grind (arith, all, same))
+    rw c.hand_over.ensures.there (grind (arith, same))
