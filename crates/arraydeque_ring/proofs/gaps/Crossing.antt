@@ -58,11 +58,11 @@ pub record Crosses {X : Type 0} (t d s len : ℕ) (ps after : List (Option X)) :
 
 apart_by : (t i j len n : ℕ) → t < n → i + len ≤ n → j + len ≤ n
     → MeetAtOneEndAtMost (place_of t i n) (place_of t j n) len n
-apart_by t i j len n t_in a b = grind (arith, nat_tests, distance-rotated t j i n t_in, distance_is j i n)
+apart_by t i j len n t_in a b = grind (arith, distance-rotated t j i n t_in, distance_is j i n)
 
 count_by : (t i j len n : ℕ) → t < n → i + len ≤ n → j + len ≤ n → i ≢ j
     → (if place_of t i n == place_of t j n then 0 else len) ≡ len
-count_by t i j len n t_in a b other = grind (arith, nat_tests, one_place t i j n (omega arith))
+count_by t i j len n t_in a b other = grind (arith, one_place t i j n (omega arith))
 
 -- a gap goes from one index to another where the len values between them, from the index j on, go the other way, to i
 abbrev pub Passes : ℕ → ℕ → ℕ → ℕ → ℕ → ℕ → Type 0
@@ -73,16 +73,16 @@ goes_to : (t from to gap i j len x n : ℕ) → t < n → x < n → Passes from 
     → x < i + len → (distance (place_of t j n) (place_of t x n) n < len) ⊎ ((from ≤ x) × (x < from + gap))
 goes_to t from to gap i j len x n t_in x_in ways within a b =
     rw (distance-rotated t j x n t_in (omega arith) x_in)
-    (grind (arith, nat_tests, distance_is j x n (omega arith) x_in))
+    (grind (arith, distance_is j x n (omega arith) x_in))
 
 passed : {X : Type 0} (from to gap i j len x : ℕ) (qs : List (Option X)) → from + gap ≤ length qs
     → to + gap ≤ length qs → (from ≤ x → x < from + gap → held_at qs x ≡ None) → Passes from to gap i j len
     → look (held_at qs) i j len x ≡ held_at (gap_moved from to gap qs) x
 passed from to gap i j len x qs from_in to_in none ways = elim (cases_lt x i) [
-  | inl low ↦ grind (arith, nat_tests, none)
+  | inl low ↦ grind (arith, none)
   | inr high ↦ elim ways [
-    | inl up ↦ let back : j + (x - i) ≡ x - gap = omega arith in grind (arith, nat_tests, none, back)
-    | inr down ↦ let on : j + (x - i) ≡ x + gap = omega arith in grind (arith, nat_tests, none, on)
+    | inl up ↦ let back : j + (x - i) ≡ x - gap = omega arith in grind (arith, none, back)
+    | inr down ↦ let on : j + (x - i) ≡ x + gap = omega arith in grind (arith, none, on)
   ]
 ] ∙ sym (get_or-gap_moved from to gap qs from_in to_in x)
 

@@ -81,7 +81,7 @@ module _ {X : Type 0} {n t : ℕ} {xs : List X} {ps : List (Option X)} (l : Laid
   Gapped-before = record {
     within = omega arith;
     reads = Holds-from (holds l) (n - 1) (omega arith) (omega arith)
-        (λ k lt. grind (arith, nat_tests, items, place_of_cases (n - 1) k n));
+        (λ k lt. grind (arith, items, place_of_cases (n - 1) k n));
   }
 
 module _ {X : Type 0} {n t : ℕ} {xs : List X} {gap : ℕ} {ys : List X} {ps : List (Option X)}
@@ -94,11 +94,11 @@ module _ {X : Type 0} {n t : ℕ} {xs : List X} {gap : ℕ} {ys : List X} {ps : 
     pub gap_may_move : 0 < gap → to ≤ from + length ys → MayMove t from to gap ps
     gap_may_move some le =
         may_move t from to gap ps refl some (omega arith) (omega arith)
-        (λ x a b. gap_at x (omega arith) ∙ grind (arith, nat_tests))
+        (λ x a b. gap_at x (omega arith) ∙ grind arith)
         (λ x a b. let v = slice_get_some xs x (omega arith) in
-        (v.0, gap_at x (omega arith) ∙ grind (arith, nat_tests)))
+        (v.0, gap_at x (omega arith) ∙ grind arith))
         (λ x a b. let v = slice_get_some ys (x - (from + gap)) (omega arith) in
-        (v.0, gap_at x (omega arith) ∙ grind (arith, nat_tests)))
+        (v.0, gap_at x (omega arith) ∙ grind arith))
 
     -- and then it is there, among the same items
     pub gap_moves : {us vs : List X} (s : ℕ) (qs : List (Option X)) → us ++ vs ≡ xs ++ ys → length us ≡ to → s ≤ n - 1
@@ -149,13 +149,13 @@ module _ {X : Type 0} {n t : ℕ} {xs : List X} {gap : ℕ} {ys : List X} {ps : 
         in_region = omega arith;
         within = omega arith;
         filled_before = filled_run_of _ 0 i (omega arith) (λ x a b. let v = slice_get_some xs x (omega arith) in
-            (v.0, gap_at x (omega arith) ∙ grind (arith, nat_tests)));
-        empty = empty_run_of _ i gap (omega arith) (λ x a b. gap_at x (omega arith) ∙ grind (arith, nat_tests));
+            (v.0, gap_at x (omega arith) ∙ grind arith));
+        empty = empty_run_of _ i gap (omega arith) (λ x a b. gap_at x (omega arith) ∙ grind arith);
         filled_behind = filled_run_of _ (i + gap) m (omega arith) (λ x a b.
             let v = slice_get_some ys (x - (length xs + gap)) (omega arith) in
-            (v.0, gap_at x (omega arith) ∙ grind (arith, nat_tests)));
+            (v.0, gap_at x (omega arith) ∙ grind arith));
         others_empty = empty_run_of _ (i + gap + m) (length ps - (i + gap + m)) (omega arith)
-            (λ x a b. gap_at x (omega arith) ∙ grind (arith, nat_tests, items));
+            (λ x a b. gap_at x (omega arith) ∙ grind (arith, items));
       }
 
   -- and what it leaves
@@ -180,7 +180,6 @@ Gapped-runs t i gap m ps t_in within before empty behind rest =
       within = omega arith;
       reads = Holds-of_rotated refl (omega arith) (λ k lt. grind (
         arith,
-        nat_tests,
         items,
         held_in_run _ 0 i k before,
         held_in_run _ (i + gap) m (k - (i + gap)) behind,

@@ -58,7 +58,7 @@ module _ {X : Type 0} {dst gap behind len : ℕ} {ps : List (Option X)} (u : Und
       let y = rotated_from dst behind gap x in
       let back : rotated_from dst gap behind y ≡ x = grind arith in
       ap (held_at ps) (sym back) ∙ sym (get_or-run_rotated dst gap behind ps (omega arith) y)
-      ∙ Holds-first (holds u.laid) y (grind (arith, nat_tests))
+      ∙ Holds-first (holds u.laid) y (grind arith)
 
   pub filled_now : (x : ℕ) → x < length ps → rotated_from dst behind gap x < len → IsFilled ps x
   filled_now x lt some = let v = slice_get_some u.list _ (omega arith) in (v.0, held_now x lt ∙ v.1)
@@ -87,7 +87,7 @@ module _ {X : Type 0} {dst gap behind len : ℕ} {ps : List (Option X)} (u : Und
         record {
           within = omega (arith, front, length-drop dst u.list);
           reads = Holds-of_rotated refl (omega arith)
-              (λ k lt. rw (append-nil ps) (held_now k lt ∙ grind (arith, nat_tests, items, front)));
+              (λ k lt. rw (append-nil ps) (held_now k lt ∙ grind (arith, items, front)));
         }
 
     pub last_may_move : 0 < gap → MayMove 0 dst len gap ps
@@ -107,8 +107,8 @@ module _ {X : Type 0} {dst gap behind len : ℕ} {ps : List (Option X)} (u : Und
     pub room_for_first : MayMove 0 from dst behind ps
     room_for_first =
         may_move 0 from dst behind ps (append-nil ps) (omega arith) (omega arith) (omega arith)
-        (λ x a b. empty_now x (omega arith) (grind (arith, nat_tests)))
-        (λ x a b. filled_now x (omega arith) (grind (arith, nat_tests))) (λ x a b. absurd (omega arith))
+        (λ x a b. empty_now x (omega arith) (grind arith))
+        (λ x a b. filled_now x (omega arith) (grind arith)) (λ x a b. absurd (omega arith))
 
     module _ (qs : List (Option X)) (is : rotated 0 qs ≡ gap_moved from dst behind (rotated 0 ps)) where
       same : qs ≡ gap_moved from dst behind ps

@@ -23,7 +23,7 @@ use Rattle.arraydeque_ring.{
 -- the distance between two places, of which the first may be the end
 pub distance_is : (from to n : ℕ) → from ≤ n → to < n
     → distance from to n ≡ (if nat_lt to from then to + n - from else to - from)
-distance_is from to n a b = grind (arith, nat_tests, place_of_cases to (n - from) n (omega arith))
+distance_is from to n a b = grind (arith, place_of_cases to (n - from) n (omega arith))
 
 -- to go up from src by the distance to dst is to come there
 pub up_from : (dst src n : ℕ) → dst < n → src < n → place_of src (distance src dst n) n ≡ dst

@@ -20,7 +20,6 @@ distance-by : (a b x n : ℕ) → a < n → b < n → x < n
 distance-by a b x n p q r = (
   grind (
     arith,
-    nat_tests,
     distance_is a b n (omega arith) q,
     distance_is b x n (omega arith) r,
     distance_is a x n (omega arith) r,
@@ -32,7 +31,7 @@ distance-by a b x n p q r = (
 -- the place k on is at the distance k
 distance-up : (i k n : ℕ) → i < n → k < n → distance i (place_of i k n) n ≡ k
 distance-up i k n a b = let at = place_of-lt i k n (omega arith) in
-    grind (arith, nat_tests, distance_is i (place_of i k n) n (omega arith) at, place_of_cases i k n (omega arith))
+    grind (arith, distance_is i (place_of i k n) n (omega arith) at, place_of_cases i k n (omega arith))
 
 -- of the l values of a run that moves from s to d, k from the index i on move first, and then the m others, from the
 -- index j on: the first ones first, where none of the others is in their way, or the last ones
@@ -155,7 +154,7 @@ module _ {X : Type 0} (i j k m l : ℕ) (ps : List (Option X)) (all : k + m ≡ 
     pub first_block_goes : i ≤ j → Steps i j k (i + k) (j + k) m ps (run_moved i j l ps)
     first_block_goes down = let n = length ps in
         steps i j l 0 k k m n ps refl (omega arith) (omega arith) (omega arith) all
-        (inl (omega arith, omega arith, λ far. grind (arith, nat_tests, distance_is j i n (omega arith) (omega arith))))
+        (inl (omega arith, omega arith, λ far. grind (arith, distance_is j i n (omega arith) (omega arith))))
         can.filled i j (i + k) (j + k) names.0 names.1
 
     pub last_block_goes : j ≤ i → Steps (i + k) (j + k) m i j k ps (run_moved i j l ps)

@@ -45,7 +45,7 @@ module _ {X : Type 0} where
         at = λ k lt.
             let was = h.at k lt in
             let read = get_or-with_run place ys ps in
-            grind (arith, nat_tests, read, was, place_of_cases t k n (omega arith), lies);
+            grind (arith, read, was, place_of_cases t k n (omega arith), lies);
       }
 
   module _ {n t : ℕ} {xs : List X} {ps : List (Option X)} (l : LaidOut n t xs ps) where
@@ -53,13 +53,13 @@ module _ {X : Type 0} where
         place + length ys ≤ n → length xs + length ys ≤ n → LaidOut n t (xs ++ ys) (with_run place ys ps)
     LaidOut-appended ys place lies fits room =
         LaidOut-by (omega (arith, length-append xs ys))
-        (Holds-same (Holds-run (holds l) (length xs) place ys lies fits room) (λ k lt. grind (arith, nat_tests, items)))
+        (Holds-same (Holds-run (holds l) (length xs) place ys lies fits room) (λ k lt. grind (arith, items)))
 
     -- as many items are written in their stead, where the list lies in one piece
     pub LaidOut-written : (ys : List X) → length ys ≡ length xs → t + length ys ≤ n → LaidOut n t ys (with_run t ys ps)
     LaidOut-written ys many fits =
         LaidOut-by (omega arith) (Holds-same (Holds-run (holds l) 0 t ys (inl (omega arith)) fits (omega arith))
-        (λ k lt. grind (arith, nat_tests, items)))
+        (λ k lt. grind (arith, items)))
 
     -- the places behind the list are empty
     pub IsEmptyRun-from : (i place run : ℕ) → length xs ≤ i → MayStartAt t i n place → place + run ≤ n → i + run ≤ n

@@ -1,9 +1,5 @@
 -- A run of places that is emptied, one place after another.
-use Rattle.std.proofs.{
-  Common.{◌≡◌, ℕ, ◌+◌, ◌<◌, ◌≤◌, ◌==◌, List, length, set, get_or, nat_lt, if◌then◌else◌, Option, None},
-  Common.{◌∙◌, arith, rules},
-  lemmas.{Bool.{Decides.nat_tests}, Grind.common_steps, List.{places}},
-}
+use Rattle.std.proofs.{Common.{◌≡◌, ℕ, ◌+◌, ◌<◌, ◌≤◌, ◌==◌, List, length, set, get_or, nat_lt, if◌then◌else◌, Option, None}, Common.{◌∙◌, arith, rules}, lemmas.{Grind.common_steps, List.{places}}}
 use Rattle.arraydeque_ring.{specs.Gaps.run_emptied, proofs.moved.Flat.same_places}
 
 module _ {X : Type 0} where
@@ -28,4 +24,4 @@ module _ {X : Type 0} where
     pub next_emptied : set (run_emptied at k ps) i None ≡ run_emptied at (k + 1) ps
     next_emptied = same_places _ _ (search (rules, places)) (λ x x_in.
         get_or-written (run_emptied at k ps) i x None (search (rules, places)) ∙ grind
-        (arith, nat_tests, get_or-run_emptied at k ps x, get_or-run_emptied at (k + 1) ps x))
+        (arith, get_or-run_emptied at k ps x, get_or-run_emptied at (k + 1) ps x))

@@ -1,9 +1,5 @@
 -- What places hold, read one by one from a place on, round the region's end.
-use Rattle.std.proofs.{
-  Common.{◌≡◌, ◌≢◌, ℕ, ◌+◌, ◌-◌, ◌<◌, ◌≤◌, List, length, set, get_or, Option, Some, None, sym, ap, ◌∙◌},
-  Common.{arith},
-  lemmas.{Bool.Decides.nat_tests, List.length-set},
-}
+use Rattle.std.proofs.{Common.{◌≡◌, ◌≢◌, ℕ, ◌+◌, ◌-◌, ◌<◌, ◌≤◌, List, length, set, get_or, Option, Some, None, sym, ap, ◌∙◌}, Common.{arith}, lemmas.{List.length-set}}
 use Rattle.arraydeque_ring.{
   specs.{Moved.{distance, IsFilledRound}, Places.held_at, Ring.{place_of, rotated}},
   proofs.{
@@ -56,7 +52,7 @@ module _ {X : Type 0} {n t : ℕ} {f : ℕ → Option X} {ps : List (Option X)} 
     at = λ i lt. get_or-written ps (place_of t k n) (place_of t i n) c
         (omega (arith, place_of-lt t k n (omega arith)))
         ∙ rw (one_place t i k n (omega arith) lt k_in)
-        (grind (arith, nat_tests, here, h.at i lt, others i lt));
+        (grind (arith, here, h.at i lt, others i lt));
   }
 
   -- a run of indexes that have values

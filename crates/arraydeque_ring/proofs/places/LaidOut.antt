@@ -1,31 +1,6 @@
 -- What the places of a ring hold, read from its start on: first its items, then nothing.
-use Rattle.std.proofs.{
-  Common.{◌≡◌, ◌≢◌, ℕ, ◌+◌, ◌-◌, ◌<◌, ◌≤◌, List, [], ◌∷◌, ◌++◌, length, take, drop, set, get_or, replicate, slice_get},
-  Common.{nat_lt, if◌then◌else◌, Option, Some, None, is_some, true, false, refl, sym, ap, ap₂, ◌∙◌, subst, swap, arith},
-  lemmas.{
-    Bool.Decides.nat_tests,
-    Grind.common_steps,
-    List.{length-append, length-take, length-drop, length-map, length-replicate, length-set, Edits.swap_is},
-    Option.{get_or_from_slice_get, slice_get_past},
-  },
-}
-use Rattle.arraydeque_ring.{
-  specs.{
-    Places.{held_at, IsFilled, IsEmpty, HoldsRun, IsFilledRun, AreAllEmpty},
-    Ring.{place_of, rotated, values, filled, FilledFrom},
-  },
-  proofs.{
-    moved.Flat.same_places,
-    places.{
-      AndEmpty.{and_empty, length-and_empty, get_or-and_empty, values-and_empty, values-map_Some, filled-and_empty},
-      AndEmpty.{and_empty_from},
-      Held.holds_run_of,
-      Holds.{Holds, Holds-once, Holds-of_rotated, Holds-rotated, Holds-from, Holds-set},
-      Items.{items, slice_get_some, slice_get-cons, slice_get-drop},
-      Rotated.{MayStartAt, place_of-lt, place_of-run, place_of-zero, place_of_cases, length-rotated, rotated-map},
-    },
-  },
-}
+use Rattle.std.proofs.{Common.{◌≡◌, ◌≢◌, ℕ, ◌+◌, ◌-◌, ◌<◌, ◌≤◌, List, [], ◌∷◌, ◌++◌, length, take, drop, set, get_or, replicate, slice_get}, Common.{nat_lt, if◌then◌else◌, Option, Some, None, is_some, true, false, refl, sym, ap, ap₂, ◌∙◌, subst, swap, arith}, lemmas.{Grind.common_steps, List.{length-append, length-take, length-drop, length-map, length-replicate, length-set, Edits.swap_is}, Option.{get_or_from_slice_get, slice_get_past}}}
+use Rattle.arraydeque_ring.{specs.{Places.{held_at, IsFilled, IsEmpty, HoldsRun, IsFilledRun, AreAllEmpty}, Ring.{place_of, rotated, values, filled, FilledFrom}}, proofs.{moved.Flat.same_places, places.{AndEmpty.{and_empty, length-and_empty, get_or-and_empty, values-and_empty, values-map_Some, filled-and_empty}, AndEmpty.{and_empty_from}, Held.holds_run_of, Holds.{Holds, Holds-once, Holds-of_rotated, Holds-rotated, Holds-from, Holds-set}, Items.{items, slice_get_some, slice_get-cons, slice_get-drop}, Rotated.{MayStartAt, place_of-run, place_of-zero, place_of_cases, length-rotated, rotated-map}}}}
 
 -- the n places hold the items from the place t on, round the end, and nothing else
 pub record LaidOut {X : Type 0} (n t : ℕ) (xs : List X) (ps : List (Option X)) : Type 0 where
@@ -106,7 +81,7 @@ module _ {X : Type 0} {n t : ℕ} {xs : List X} {ps : List (Option X)} (l : Laid
   HoldsRun-rotated i len le =
       holds_run_of (rotated t ps) i len (take len (drop i xs))
       (omega (arith, length-take len (drop i xs), length-drop i xs)) (omega (arith, length-rotated t ps))
-      (λ k lt. Holds-rotated (holds l) (i + k) (omega arith) ∙ grind (arith, nat_tests, items))
+      (λ k lt. Holds-rotated (holds l) (i + k) (omega arith) ∙ grind (arith, items))
 
   pub IsFilledRun-rotated : (i len : ℕ) → i + len ≤ length xs → IsFilledRun (rotated t ps) i len
   IsFilledRun-rotated i len le = (
@@ -121,7 +96,7 @@ module _ {X : Type 0} {n t : ℕ} {xs : List X} {ps : List (Option X)} (l : Laid
       holds_run_of ps p len (take len (drop i xs)) (omega (arith, length-take len (drop i xs), length-drop i xs))
       (omega arith)
       (λ k lt. ap (held_at ps) (sym (place_of-run t i k n p at (omega arith) (omega arith)
-      (omega arith))) ∙ l.at (i + k) (omega arith) ∙ grind (arith, nat_tests, items))
+      (omega arith))) ∙ l.at (i + k) (omega arith) ∙ grind (arith, items))
 
   pub IsFilledRun-LaidOut : (i p len : ℕ) → MayStartAt t i n p → i + len ≤ length xs → p + len ≤ n
       → IsFilledRun ps p len
@@ -156,21 +131,21 @@ module _ {X : Type 0} {n t : ℕ} {xs : List X} {ps : List (Option X)} (l : Laid
   pub LaidOut-put_back : (x : X) → length xs < n
       → LaidOut n t (xs ++ x ∷ []) (set ps (place_of t (length xs) n) (Some x))
   LaidOut-put_back x room =
-      LaidOut-write (length xs) (Some x) room (omega (arith, length-append xs (x ∷ []))) (grind
-      (arith, nat_tests, items, slice_get-cons)) (λ i lt other. grind (arith, nat_tests, items, slice_get-cons))
+      LaidOut-write (length xs) (Some x) room (omega (arith, length-append xs (x ∷ [])))
+      (grind (arith, items, slice_get-cons)) (λ i lt other. grind (arith, items, slice_get-cons))
 
   pub LaidOut-take_back : (m : ℕ) → length xs ≡ m + 1 → LaidOut n t (take m xs) (set ps (place_of t m n) None)
   LaidOut-take_back m e = LaidOut-write m None (omega arith) (omega (arith, length-take m xs))
-      (grind (arith, nat_tests, items)) (λ i lt other. grind (arith, nat_tests, items))
+      (grind (arith, items)) (λ i lt other. grind (arith, items))
 
   pub LaidOut-put_front : (x : X) → length xs < n
       → LaidOut n (place_of t (n - 1) n) (x ∷ xs) (set ps (place_of t (n - 1) n) (Some x))
   LaidOut-put_front x room =
       let before = place_of t (n - 1) n in
       let turned : Holds n before (λ k. if nat_lt 0 k then slice_get xs (k - 1) else None) ps = Holds-from (holds l)
-      (n - 1) (omega arith) (omega arith) (λ k lt. grind (arith, nat_tests, items, place_of_cases (n - 1) k n)) in
+      (n - 1) (omega arith) (omega arith) (λ k lt. grind (arith, items, place_of_cases (n - 1) k n)) in
       rw (place_of-zero before n turned.in_region) at (LaidOut-by {xs = x ∷ xs} (omega arith)
-      (Holds-set turned 0 (Some x) (omega arith) refl (λ i lt other. grind (arith, nat_tests, slice_get-cons))))
+      (Holds-set turned 0 (Some x) (omega arith) refl (λ i lt other. grind (arith, slice_get-cons))))
 
   pub LaidOut-take_front : 0 < length xs → LaidOut n (place_of t 1 n) (drop 1 xs) (set ps t None)
   LaidOut-take_front some =
@@ -178,12 +153,12 @@ module _ {X : Type 0} {n t : ℕ} {xs : List X} {ps : List (Option X)} (l : Laid
       (λ i lt other. grind arith) in
       rw (place_of-zero t n l.in_region) at
       (LaidOut-by {xs = drop 1 xs} (omega (arith, length-drop 1 xs)) (Holds-from out 1 (omega arith) (omega arith)
-      (λ k lt. grind (arith, nat_tests, slice_get-drop 1 xs k, items, place_of_cases 1 k n))))
+      (λ k lt. grind (arith, slice_get-drop 1 xs k, items, place_of_cases 1 k n))))
 
   -- another value in the place of an item is another item
   pub LaidOut-set : (k : ℕ) (x : X) → k < length xs → LaidOut n t (set xs k x) (set ps (place_of t k n) (Some x))
   LaidOut-set k x lt = LaidOut-write k (Some x) (omega arith) (omega (arith, length-set xs k x))
-      (grind (arith, nat_tests, items)) (λ i i_in other. grind (arith, nat_tests, items))
+      (grind (arith, items)) (λ i i_in other. grind (arith, items))
 
 -- to exchange the places of two items is to exchange the items
 pub LaidOut-swap : {X : Type 0} {n t : ℕ} {xs : List X} {ps : List (Option X)} → LaidOut n t xs ps → (i j : ℕ)

@@ -66,7 +66,6 @@ module _ {X : Type 0} (a b : ℕ) (ps : List (Option X)) where
         length-runs_exchanged a b 1 ps,
       )) (λ x lt. grind (
         arith,
-        nat_tests,
         get_or-written ones b x (held_at ps a),
         long,
         get_or-written ps a x (held_at ps b),
@@ -83,10 +82,10 @@ module _ {X : Type 0} (a b k : ℕ) (ps : List (Option X)) (before : a + (k + 1)
   )
 
   pub next_first : IsFilled ps (a + k) → IsFilled (runs_exchanged a b k ps) (a + k)
-  next_first = still_filled (a + k) (grind (arith, nat_tests))
+  next_first = still_filled (a + k) (grind arith)
 
   pub next_second : IsFilled ps (b + k) → IsFilled (runs_exchanged a b k ps) (b + k)
-  next_second = still_filled (b + k) (grind (arith, nat_tests))
+  next_second = still_filled (b + k) (grind arith)
 
   pub runs_exchanged_more : swap (runs_exchanged a b k ps) (a + k) (b + k) ≡ runs_exchanged a b (k + 1) ps
   runs_exchanged_more =

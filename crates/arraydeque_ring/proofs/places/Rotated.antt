@@ -1,13 +1,5 @@
 -- A list read from an index on, round its end.
-use Rattle.std.proofs.{
-  Common.{◌≡◌, ℕ, zero, suc, ◌+◌, ◌-◌, ◌%◌, ◌<◌, ◌≤◌, ◌⊎◌, ◌==◌, inl, inr, List, ◌++◌, map, length, take, drop, get_or},
-  Common.{sym, ap, ap₂, ◌∙◌, arith},
-  Math.Nat.{mod-eq_of_lt, mod-eq-sub-mod, add-mod-mod, mod-add-mod, add_assoc},
-  lemmas.{
-    Bool.{cases_lt, Decides.nat_tests},
-    List.{places, length-append, length-take, length-drop, map-append, drop-map, take-map},
-  },
-}
+use Rattle.std.proofs.{Common.{◌≡◌, ℕ, zero, suc, ◌+◌, ◌-◌, ◌%◌, ◌<◌, ◌≤◌, ◌⊎◌, ◌==◌, inl, inr, List, ◌++◌, map, length, take, drop, get_or}, Common.{sym, ap, ap₂, ◌∙◌, arith}, Math.Nat.{mod-eq_of_lt, mod-eq-sub-mod, add-mod-mod, mod-add-mod, add_assoc}, lemmas.{Bool.{cases_lt}, List.{places, length-append, length-take, length-drop, map-append, drop-map, take-map}}}
 use Rattle.arraydeque_ring.specs.Ring.{place_of, rotated}
 
 -- a place is the sum itself below the end, and the sum less the capacity past it
@@ -46,7 +38,7 @@ same_index t i j n a b c e =
     grind (arith, place_of_cases t i n (omega arith), place_of_cases t j n (omega arith))
 
 pub one_place : (t i j n : ℕ) → t ≤ n → i < n → j < n → (place_of t i n == place_of t j n) ≡ (i == j)
-one_place t i j n a b c = grind (arith, nat_tests, same_index t i j n a b c)
+one_place t i j n a b c = grind (arith, same_index t i j n a b c)
 
 -- a run from the index i on may start at the place p: the place of i, or the region's end in its stead
 abbrev pub MayStartAt : ℕ → ℕ → ℕ → ℕ → Type 0

@@ -1,7 +1,4 @@
-use Rattle.std.{
-  proofs.{Common.{◌≡◌, ◌-◌, length, sym, subst, arith}, lemmas.{Bool.Decides.nat_tests, Grind.common_steps}},
-  specs.List.remove_range,
-}
+use Rattle.std.{proofs.{Common.{◌≡◌, ◌-◌, length, sym, subst, arith}, lemmas.{Grind.common_steps}}, specs.List.remove_range}
 use Rattle.arraydeque_ring.{
   specs.Changed.IsFewest,
   proofs.{
@@ -23,7 +20,7 @@ returns-then-count-eq0-clause-start g c =
     let old = c.args.self.now in
     let none : c.args.to - c.args.from ≡ 0 = omega arith in
     rw (none, place_of-zero old.start old.capacity (omega arith))
-    (grind (arith, nat_tests))
+    (grind arith)
 
 pub take_run-requires-clause-empty : goal.take_run-requires-clause-empty
 take_run-requires-clause-empty g c = rw c.in_ok-slots.ensures.ok (all_empty (c.args.to - c.args.from) _ (omega arith))

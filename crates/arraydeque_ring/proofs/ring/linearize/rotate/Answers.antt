@@ -1,7 +1,4 @@
-use Rattle.std.proofs.{
-  Common.{◌≡◌, ◌+◌, ◌-◌, inl, inr, ◌==◌, refl, if◌then◌else◌, arith},
-  lemmas.{Bool.Decides.nat_tests, Grind.common_steps},
-}
+use Rattle.std.proofs.{Common.{◌≡◌, ◌+◌, ◌-◌, inl, inr, ◌==◌, refl, if◌then◌else◌, arith}, lemmas.{Grind.common_steps}}
 use Rattle.arraydeque_ring.{
   specs.{Exchanged.runs_exchanged, Steps.Rearranges},
   proofs.{

@@ -1,8 +1,4 @@
-use Rattle.std.proofs.{
-  Common.{◌+◌, ◌-◌, ◌<◌, length, ap, refl, arith},
-  Math.Nat.{mod-eq_of_lt},
-  lemmas.Bool.Decides.nat_tests,
-}
+use Rattle.std.proofs.{Common.{◌+◌, ◌-◌, ◌<◌, length, ap, refl, arith}, Math.Nat.{mod-eq_of_lt}}
 use Rattle.arraydeque_ring.{
   specs.{Ring.place_of, Moved.{run_moved}},
   proofs.{
@@ -27,7 +23,7 @@ round g c wraps =
     (three t next c.args.len n (n - 1 - t) (n - t) _ _ _ _ _ _ _ _ _ c.capacity-last.ensures (omega arith) (omega arith)
     (rw (c.capacity-last.ensures, c.moved_out-slots.ensures.region) c.requires.filled) (omega arith)
     (grind arith) (grind arith) (grind arith)
-    ).0 (λ far. grind (arith, nat_tests, distance_is next t n (omega arith) (omega arith)))
+    ).0 (λ far. grind (arith, distance_is next t n (omega arith) (omega arith)))
 
 pub move_first-requires-clause-can : goal.move_first-requires-clause-can
 move_first-requires-clause-can g c =

@@ -1,8 +1,4 @@
-use Rattle.std.proofs.{
-  Common.{◌+◌, ◌-◌, ◌≤◌, length, ap, refl, arith},
-  Math.Nat.{mod-eq_of_lt},
-  lemmas.Bool.Decides.nat_tests,
-}
+use Rattle.std.proofs.{Common.{◌+◌, ◌-◌, ◌≤◌, length, ap, refl, arith}, Math.Nat.{mod-eq_of_lt}}
 use Rattle.arraydeque_ring.{
   specs.{Ring.place_of, Moved.{run_moved}},
   proofs.{
@@ -27,7 +23,7 @@ round g c wraps =
     (three next t c.args.len n (n - t - 1) (n - t) _ _ _ _ _ _ _ _ _ c.capacity-capacity.ensures (omega arith)
     (omega arith) (rw c.moved_out-slots.ensures.region c.requires.filled) (omega arith)
     (grind arith) (grind arith) (grind arith)
-    ).1 (grind (arith, nat_tests, distance_is t next n (omega arith) (omega arith)))
+    ).1 (grind (arith, distance_is t next n (omega arith) (omega arith)))
 
 pub move_last-requires-clause-can : goal.move_last-requires-clause-can
 move_last-requires-clause-can g c = record {
