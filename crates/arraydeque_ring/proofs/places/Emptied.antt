@@ -1,5 +1,9 @@
 -- A run of places that is emptied, one place after another.
-use Rattle.std.proofs.{Common.{◌≡◌, ℕ, ◌+◌, ◌<◌, ◌≤◌, ◌==◌, List, length, set, get_or, nat_lt, if◌then◌else◌, Option, None}, Common.{◌∙◌, arith, rules}, lemmas.{Grind.common_steps, List.{places}}}
+use Rattle.std.proofs.{
+  Common.{◌≡◌, ℕ, ◌+◌, ◌<◌, ◌≤◌, ◌==◌, List, length, set, get_or, nat_lt, if◌then◌else◌, Option, None},
+  Common.{◌∙◌, arith, rules},
+  lemmas.{Grind.common_steps, List.{places}},
+}
 use Rattle.arraydeque_ring.{specs.Gaps.run_emptied, proofs.moved.Flat.same_places}
 
 module _ {X : Type 0} where

@@ -1,5 +1,9 @@
 -- What places hold, read one by one from a place on, round the region's end.
-use Rattle.std.proofs.{Common.{◌≡◌, ◌≢◌, ℕ, ◌+◌, ◌-◌, ◌<◌, ◌≤◌, List, length, set, get_or, Option, Some, None, sym, ap, ◌∙◌}, Common.{arith}, lemmas.{List.length-set}}
+use Rattle.std.proofs.{
+  Common.{◌≡◌, ◌≢◌, ℕ, ◌+◌, ◌-◌, ◌<◌, ◌≤◌, List, length, set, get_or, Option, Some, None, sym, ap, ◌∙◌},
+  Common.{arith},
+  lemmas.{List.length-set},
+}
 use Rattle.arraydeque_ring.{
   specs.{Moved.{distance, IsFilledRound}, Places.held_at, Ring.{place_of, rotated}},
   proofs.{

@@ -1,5 +1,9 @@
 -- The item at each index of a list that is made of others.
-use Rattle.std.proofs.{Common.{◌≡◌, ℕ, zero, suc, ◌+◌, ◌-◌, ◌<◌, inl, inr, List, [], ◌∷◌, ◌++◌, length, map, take, drop, set, get_or}, Common.{slice_get, nat_lt, ◌==◌, if◌then◌else◌, Some, None, refl, ap, ◌∙◌, arith}, lemmas.{Option.{slice_get_cases, slice_get_past}}}
+use Rattle.std.proofs.{
+  Common.{◌≡◌, ℕ, zero, suc, ◌+◌, ◌-◌, ◌<◌, inl, inr, List, [], ◌∷◌, ◌++◌, length, map, take, drop, set, get_or},
+  Common.{slice_get, nat_lt, ◌==◌, if◌then◌else◌, Some, None, refl, ap, ◌∙◌, arith},
+  lemmas.{Option.{slice_get_cases, slice_get_past}},
+}
 
 module _ {X : Type 0} where
   -- an index below the length has an item

@@ -1,4 +1,7 @@
-use Rattle.std.{proofs.{Common.{◌≡◌, ◌-◌, length, sym, subst, arith}, lemmas.{Grind.common_steps}}, specs.List.remove_range}
+use Rattle.std.{
+  proofs.{Common.{◌≡◌, ◌-◌, length, sym, subst, arith}, lemmas.{Grind.common_steps}},
+  specs.List.remove_range,
+}
 use Rattle.arraydeque_ring.{
   specs.Changed.IsFewest,
   proofs.{
