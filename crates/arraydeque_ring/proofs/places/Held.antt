@@ -1,11 +1,11 @@
 -- Places and runs of them: what is filled, empty, and exchanged.
 use Rattle.std.proofs.{
   Common.{◌≡◌, ◌≢◌, ℕ, zero, suc, ◌+◌, ◌<◌, ◌≤◌, List, [], ◌∷◌, ◌++◌, length, take, drop, set, get_or, slice_get, swap},
-  Common.{Option, Some, None, refl, sym, ap, ap₂, ◌∙◌, subst, add-one, arith},
+  Common.{length-set, Option, Some, None, refl, sym, ap, ap₂, ◌∙◌, subst, add-one, arith},
   lemmas.{
     Grind.common_steps,
     List.{length-map, length-take-le, length-drop, map-append, take_more, get_or-take, get_or-drop, get_or-replicate},
-    List.{get_or_past, get_or-set_other, set-set, set_comm, Edits.swap_is},
+    List.{get_or_past, get_or-set_other, Edits.swap_is},
   },
 }
 use Rattle.arraydeque_ring.{
@@ -55,10 +55,7 @@ module _ {X : Type 0} where
       → set (set (set (set ps i None) j None) i (Some y)) j (Some x) ≡ swap ps i j
   exchanged ps i j x y apart at_i at_j =
       let y_was : get_or ps j None ≡ Some y = sym (get_or-set_other ps i j None None (λ e. apart (sym e))) ∙ at_j in
-      ap (λ l. set l j (Some x)) (ap (λ l. set l i (Some y)) (set_comm ps i j None None apart)
-      ∙ set-set (set ps j None) i None (Some y) ∙ set_comm ps j i None (Some y) (λ e. apart (sym e)))
-      ∙ set-set (set ps i (Some y)) j None (Some x)
-      ∙ ap (λ p. set (set ps i p) j (Some x)) (sym y_was) ∙ ap (λ p. set (set ps i (get_or ps j None)) j p) (sym at_i)
+      same_places _ _ (simp length-set) (λ k lt. grind (arith, common_steps, at_i, y_was))
       ∙ swap_is ps i j None (filled_within ps i x at_i) (filled_within ps j y y_was)
 
   -- a run is filled, or empty, where each of its places is
