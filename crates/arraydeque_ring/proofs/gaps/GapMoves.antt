@@ -28,7 +28,7 @@ use Rattle.arraydeque_ring.{
 
 -- the start stays in the region
 start_closed-in : (i gap m n t : ℕ) → t < n → gap ≤ n → start_closed i gap m n t ≤ n - 1
-start_closed-in i gap m n t t_in le = grind (arith, place_of-lt t gap n (omega arith))
+start_closed-in i gap m n t t_in le = grind arith
 
 -- what `move_gap` asks: a gap, and the values between it and the index that it moves to
 abbrev pub MayMove : {X : Type 0} → ℕ → ℕ → ℕ → ℕ → List (Option X) → Type 0

@@ -29,7 +29,7 @@ distance_is from to n a b = grind (arith, place_of_cases to (n - from) n (omega 
 pub up_from : (dst src n : ℕ) → dst < n → src < n → place_of src (distance src dst n) n ≡ dst
 up_from dst src n a b =
     let d = place_of-lt dst (n - src) n (omega arith) in
-    grind (arith, place_of_cases dst (n - src) n (omega arith), place_of_cases src (distance src dst n) n (omega arith))
+    grind (arith, place_of_cases src (distance src dst n) n (omega arith))
 
 module _ {X : Type 0} where
   pub length-moved : (dst src len : ℕ) (ps : List (Option X)) → length (run_moved dst src len ps) ≡ length ps

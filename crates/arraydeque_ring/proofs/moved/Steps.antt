@@ -31,7 +31,7 @@ distance-by a b x n p q r = (
 -- the place k on is at the distance k
 distance-up : (i k n : ℕ) → i < n → k < n → distance i (place_of i k n) n ≡ k
 distance-up i k n a b = let at = place_of-lt i k n (omega arith) in
-    grind (arith, distance_is i (place_of i k n) n (omega arith) at, place_of_cases i k n (omega arith))
+    grind (arith, place_of_cases i k n (omega arith))
 
 -- of the l values of a run that moves from s to d, k from the index i on move first, and then the m others, from the
 -- index j on: the first ones first, where none of the others is in their way, or the last ones
@@ -46,7 +46,7 @@ IsPart d s n i l e t = (l ≡ 0) ⊎ ((e < n) × (t < n) × MayStartAt d i n e �
 at_places : (d s n i l e t : ℕ) → d < n → s < n → i ≤ n → IsPart d s n i l e t
     → (l ≡ 0) ⊎ ((e ≡ place_of d i n) × (t ≡ place_of s i n))
 at_places d s n i l e t d_in s_in i_in part =
-    grind (arith, part, place_of_cases d i n (omega arith), place_of_cases s i n (omega arith))
+    grind (arith, place_of_cases d i n (omega arith), place_of_cases s i n (omega arith))
 
 -- k values can move from t to e, and then m from u to f, which gives the places `whole`
 pub record Steps {X : Type 0} (e t k f u m : ℕ) (ps whole : List (Option X)) : Type 0 where
@@ -154,13 +154,13 @@ module _ {X : Type 0} (i j k m l : ℕ) (ps : List (Option X)) (all : k + m ≡ 
     pub first_block_goes : i ≤ j → Steps i j k (i + k) (j + k) m ps (run_moved i j l ps)
     first_block_goes down = let n = length ps in
         steps i j l 0 k k m n ps refl (omega arith) (omega arith) (omega arith) all
-        (inl (omega arith, omega arith, λ far. grind (arith, distance_is j i n (omega arith) (omega arith))))
+        (inl (omega arith, omega arith, λ far. grind arith))
         can.filled i j (i + k) (j + k) names.0 names.1
 
     pub last_block_goes : j ≤ i → Steps (i + k) (j + k) m i j k ps (run_moved i j l ps)
     last_block_goes up = let n = length ps in
         steps i j l k 0 m k n ps refl (omega arith) (omega arith) (omega arith) (omega arith)
-        (inr (omega arith, omega arith, grind (arith, distance_is j i n (omega arith) (omega arith))))
+        (inr (omega arith, omega arith, grind arith))
         can.filled (i + k) (j + k) i j names.1 names.0
 
 -- three copies can be made one after the other

@@ -177,7 +177,7 @@ module _ {X : Type 0} {n t : ℕ} {xs : List X} {ps : List (Option X)} (l : Laid
       (λ i lt other. grind arith) in
       rw (place_of-zero t n l.in_region) at
       (LaidOut-by {xs = drop 1 xs} (omega (arith, length-drop 1 xs)) (Holds-from out 1 (omega arith) (omega arith)
-      (λ k lt. grind (arith, slice_get-drop 1 xs k, items, place_of_cases 1 k n))))
+      (λ k lt. grind (arith, items, place_of_cases 1 k n))))
 
   -- another value in the place of an item is another item
   pub LaidOut-set : (k : ℕ) (x : X) → k < length xs → LaidOut n t (set xs k x) (set ps (place_of t k n) (Some x))

@@ -40,7 +40,7 @@ place_of-place_of t i x n = place_of-sum t i x n ∙ sym (add-mod-mod t (i + x) 
 -- two indexes have two places
 pub same_index : (t i j n : ℕ) → t ≤ n → i < n → j < n → place_of t i n ≡ place_of t j n → i ≡ j
 same_index t i j n a b c e =
-    grind (arith, place_of_cases t i n (omega arith), place_of_cases t j n (omega arith))
+    grind (arith, place_of_cases t j n (omega arith))
 
 pub one_place : (t i j n : ℕ) → t ≤ n → i < n → j < n → (place_of t i n == place_of t j n) ≡ (i == j)
 one_place t i j n a b c = grind (arith, same_index t i j n a b c)
@@ -66,7 +66,7 @@ module _ {X : Type 0} where
   -- the item at the index k stands at the place of k
   pub get_or-rotated : (t k n : ℕ) (xs : List X) (d : X) → length xs ≡ n → t ≤ n → k < n
       → get_or (rotated t xs) k d ≡ get_or xs (place_of t k n) d
-  get_or-rotated t k n xs d long a b = grind (arith, places, place_of_cases t k n (omega arith))
+  get_or-rotated t k n xs d long a b = grind (arith, places)
 
 pub rotated-map : {X Y : Type 0} (f : X → Y) (t : ℕ) (xs : List X) → rotated t (map f xs) ≡ map f (rotated t xs)
 rotated-map f t xs = ap₂ (λ l r. l ++ r) (drop-map f t xs) (take-map f t xs)

@@ -154,5 +154,5 @@ module _ {F X : Type 0} {R : F → X → Bool → F → Type 0} {f : F} {items :
             stay = ap length (picked_push_false bs items) ∙ s.stay;
             some_gone = omega arith;
             places = rw (picked_push_false, ← gone) (Gapped-take items index index s.places here lt);
-            cost = grind (arith, gone, moved-push_false bs);
+            cost = grind (arith, moved-push_false bs);
           }

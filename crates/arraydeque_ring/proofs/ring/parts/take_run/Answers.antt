@@ -55,4 +55,4 @@ returns-else-first-len-clause-taken g c =
     let same : c.min-first.result ≡ c.args.len = omega arith in
     let all =
     rw append-nil at (rw none at (parts g (goal.at.returns-else-first-len-clause-taken g c).After-min-first).all) in
-    rw c.hand_over.ensures.there (grind (arith, same))
+    rw c.hand_over.ensures.there (grind arith)
