@@ -21,7 +21,7 @@ use Rattle.arraydeque_ring.{
       Holds.{Holds-of_rotated, Holds-rotated, Holds-same, Holds-from},
       Items.{items, slice_get_some},
       LaidOut.{LaidOut, holds, rotated-LaidOut},
-      Rotated.{place_of_cases, place_of-lt, length-rotated},
+      Rotated.{place_of_cases, length-rotated},
     },
   },
 }

@@ -182,36 +182,32 @@ module _ {X : Type 0} (d s l n a b k m d₁ s₁ d₂ s₂ d₃ s₃ : ℕ) (ps 
   whole : (o : ℕ) → IsPart d s n 0 o d s
   whole o = grind arith
 
-  three_down : (0 < distance s d n → l ≤ distance s d n)
-      → Three d₁ s₁ a d₂ s₂ k d₃ s₃ m ps (run_moved d s l ps)
-  three_down far =
-      let firsts = steps d s b 0 a a k n ps long d_in s_in (omega arith) (omega arith)
-      (inl (omega arith, omega arith, λ some. omega arith)) (λ x lt. filled x (omega arith)) d₁ s₁ d₂ s₂
-      before.0 between.0 in
-      let last = steps d s l 0 b b m n ps long d_in s_in (omega arith) (omega arith)
-      (inl (omega arith, omega arith, far)) filled d s d₃ s₃ (whole b) behind.0 in
-      let same = length-moved d₁ s₁ a ps ∙ long in
-      record {
-        one = can_copy long before.1 firsts.first;
-        two = can_copy same between.1 firsts.second;
-        three = can_copy (length-moved d₂ s₂ k _ ∙ same) behind.1 (rw firsts.is last.second);
-        is = ap (run_moved d₃ s₃ m) firsts.is ∙ last.is;
-      }
-
-  three_up : distance s d n + l ≤ n → Three d₃ s₃ m d₂ s₂ k d₁ s₁ a ps (run_moved d s l ps)
-  three_up near =
-      let same = length-moved d₃ s₃ m ps ∙ long in
-      let last = steps d s l b 0 m b n ps long d_in s_in (omega arith) (omega arith)
-      (inr (omega arith, omega arith, near)) filled d₃ s₃ d s behind.0 (whole b) in
-      let firsts = steps d s b a 0 k a n (run_moved d₃ s₃ m ps) same d_in s_in (omega arith) (omega arith)
-      (inr (omega arith, omega arith, omega arith)) last.second d₂ s₂ d₁ s₁ between.0 before.0 in
-      record {
-        one = can_copy long behind.1 last.first;
-        two = can_copy same between.1 firsts.first;
-        three = can_copy (length-moved d₂ s₂ k _ ∙ same) before.1 firsts.second;
-        is = firsts.is ∙ last.is;
-      }
-
   pub three : ((0 < distance s d n → l ≤ distance s d n) → Three d₁ s₁ a d₂ s₂ k d₃ s₃ m ps (run_moved d s l ps))
       × (distance s d n + l ≤ n → Three d₃ s₃ m d₂ s₂ k d₁ s₁ a ps (run_moved d s l ps))
-  three = (three_down, three_up)
+  three = (
+    λ far.
+        let firsts = steps d s b 0 a a k n ps long d_in s_in (omega arith) (omega arith)
+        (inl (omega arith, omega arith, λ some. omega arith)) (λ x lt. filled x (omega arith)) d₁ s₁ d₂ s₂
+        before.0 between.0 in
+        let last = steps d s l 0 b b m n ps long d_in s_in (omega arith) (omega arith)
+        (inl (omega arith, omega arith, far)) filled d s d₃ s₃ (whole b) behind.0 in
+        let same = length-moved d₁ s₁ a ps ∙ long in
+        record {
+          one = can_copy long before.1 firsts.first;
+          two = can_copy same between.1 firsts.second;
+          three = can_copy (length-moved d₂ s₂ k _ ∙ same) behind.1 (rw firsts.is last.second);
+          is = ap (run_moved d₃ s₃ m) firsts.is ∙ last.is;
+        },
+    λ near.
+        let last = steps d s l b 0 m b n ps long d_in s_in (omega arith) (omega arith)
+        (inr (omega arith, omega arith, near)) filled d₃ s₃ d s behind.0 (whole b) in
+        let same = length-moved d₃ s₃ m ps ∙ long in
+        let firsts = steps d s b a 0 k a n (run_moved d₃ s₃ m ps) same d_in s_in (omega arith) (omega arith)
+        (inr (omega arith, omega arith, omega arith)) last.second d₂ s₂ d₁ s₁ between.0 before.0 in
+        record {
+          one = can_copy long behind.1 last.first;
+          two = can_copy same between.1 firsts.first;
+          three = can_copy (length-moved d₂ s₂ k _ ∙ same) before.1 firsts.second;
+          is = firsts.is ∙ last.is;
+        },
+  )

@@ -93,19 +93,7 @@ module _ {X : Type 0} where
   shed m o = record o { items = drop m o.items; start = up_by m o.start o.capacity; steps = more_takes m o.steps }
 
   pub joined-both : (j k : ℕ) (r o : RingState X) → joined k (joined j r o) (shed j o) ≡ joined (j + k) r o
-  joined-both j k r o =
-      let items : (r.items ++ take j o.items) ++ take k (drop j o.items) ≡ r.items ++ take (j + k) o.items =
-      append_assoc r.items (take j o.items) (take k (drop j o.items))
-      ∙ ap (λ l. r.items ++ l) (sym (take-add j k o.items))
-      in
-      let puts : r.steps.puts + j + k ≡ r.steps.puts + (j + k) = omega arith in
-      λ i. record r { items = items i; steps = record r.steps { puts = puts i } }
+  joined-both j k r o = grind (arith, append_assoc, take-add j k o.items)
 
   pub shed-both : (j k : ℕ) (o : RingState X) → shed k (shed j o) ≡ shed (j + k) o
-  shed-both j k o =
-      let takes : o.steps.takes + j + k ≡ o.steps.takes + (j + k) = omega arith in
-      λ i. record o {
-        items = drop-drop k j o.items i;
-        start = up_by-both j k o.start o.capacity i;
-        steps = record o.steps { takes = takes i };
-      }
+  shed-both j k o = grind (arith, drop-drop, up_by-both)

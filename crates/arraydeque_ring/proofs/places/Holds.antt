@@ -7,7 +7,7 @@ use Rattle.std.proofs.{
 use Rattle.arraydeque_ring.{
   specs.{Moved.{distance, IsFilledRound}, Places.held_at, Ring.{place_of, rotated}},
   proofs.{
-    moved.Flat.{same_places, up_from},
+    moved.Flat.up_from,
     places.{
       Emptied.get_or-written,
       Rotated.{place_of-first, place_of-lt, place_of-sum, place_of-place_of, one_place, get_or-rotated},
@@ -59,20 +59,16 @@ module _ {X : Type 0} {n t : ℕ} {f : ℕ → Option X} {ps : List (Option X)} 
         (grind (arith, here, h.at i lt, others i lt));
   }
 
+  -- each place has an index
+  pub Holds-each : (x : ℕ) → x < n → held_at ps x ≡ f (distance t x n)
+  Holds-each x lt = ap (held_at ps) (sym (up_from x t n lt (omega arith)))
+      ∙ h.at (distance t x n) (place_of-lt x (n - t) n (omega arith))
+
   -- a run of indexes that have values
   pub Holds-filled : (i len : ℕ) → i + len ≤ n → ((k : ℕ) → k < len → (x : X) × (f (i + k) ≡ Some x))
       → IsFilledRound (place_of t i (length ps)) len ps
   Holds-filled i len within each k lt = let some = each k lt in
       (some.0, rw (h.length_is, place_of-sum t i k n) (h.at (i + k) (omega arith) ∙ some.1))
-
--- what is read says what the places are
-pub Holds-once : {X : Type 0} {n t : ℕ} {f : ℕ → Option X} {ps qs : List (Option X)} → Holds n t f ps
-    → Holds n t f qs → ps ≡ qs
-Holds-once {n = n} {t = t} {ps = ps} {qs = qs} h k = same_places ps qs (h.length_is ∙ sym k.length_is) (λ x lt.
-    let here = up_from x t n (omega arith) (omega arith) in
-    let within : distance t x n < n = place_of-lt x (n - t) n (omega arith) in
-    ap (held_at ps) (sym here) ∙ h.at (distance t x n) within
-    ∙ sym (ap (held_at qs) (sym here) ∙ k.at (distance t x n) within))
 
 -- from the first place on an index is its own place
 pub Holds-first : {X : Type 0} {n : ℕ} {f : ℕ → Option X} {ps : List (Option X)} → Holds n 0 f ps → (k : ℕ) → k < n

@@ -10,6 +10,7 @@ use Rattle.std.proofs.{
 }
 use Rattle.arraydeque_ring.{
   specs.{
+    Moved.distance,
     Places.{held_at, IsFilled, IsEmpty, HoldsRun, IsFilledRun, AreAllEmpty},
     Ring.{place_of, rotated, values, filled, FilledFrom},
   },
@@ -19,9 +20,9 @@ use Rattle.arraydeque_ring.{
       AndEmpty.{and_empty, length-and_empty, get_or-and_empty, values-and_empty, values-map_Some, filled-and_empty},
       AndEmpty.{and_empty_from},
       Held.holds_run_of,
-      Holds.{Holds, Holds-once, Holds-of_rotated, Holds-rotated, Holds-from, Holds-set},
-      Items.{items, slice_get_some, slice_get-cons, slice_get-drop},
-      Rotated.{MayStartAt, place_of-run, place_of-zero, place_of_cases, length-rotated, rotated-map},
+      Holds.{Holds, Holds-each, Holds-of_rotated, Holds-rotated, Holds-from, Holds-set},
+      Items.{items, slice_get_some, slice_get-cons},
+      Rotated.{MayStartAt, place_of-lt, place_of-run, place_of-zero, place_of_cases, length-rotated, rotated-map},
     },
   },
 }
@@ -136,11 +137,10 @@ module _ {X : Type 0} {n t : ℕ} {xs : List X} {ps : List (Option X)} (l : Laid
 
   -- with no items every place is empty
   pub AreAllEmpty-LaidOut : length xs ≡ 0 → AreAllEmpty ps
-  AreAllEmpty-LaidOut none = Holds-once (holds l) (record {
-    length_is = length-replicate (length ps) None ∙ l.length_is;
-    in_region = l.in_region;
-    at = λ k lt. let past = slice_get_past xs k (omega arith) in grind (arith, common_steps);
-  })
+  AreAllEmpty-LaidOut none = same_places _ _ (sym (length-replicate (length ps) None)) (λ x lt.
+      let past = slice_get_past xs (distance t x n) (omega arith) in
+      Holds-each (holds l) x (omega (arith, length-replicate {A = Option X} (length ps) None))
+      ∙ grind (arith, common_steps))
 
   -- and the list may start at the first place as well
   pub LaidOut-restart : length xs ≡ 0 → LaidOut {X = X} n 0 [] ps
@@ -188,14 +188,13 @@ module _ {X : Type 0} {n t : ℕ} {xs : List X} {ps : List (Option X)} (l : Laid
 pub LaidOut-swap : {X : Type 0} {n t : ℕ} {xs : List X} {ps : List (Option X)} → LaidOut n t xs ps → (i j : ℕ)
     → i < length xs → j < length xs → LaidOut n t (swap xs i j) (swap ps (place_of t i n) (place_of t j n))
 LaidOut-swap {n = n} {t = t} {xs = xs} {ps = ps} l i j i_in j_in =
-    let p = place_of t i n in let q = place_of t j n in
     let x = slice_get_some xs i i_in in let y = slice_get_some xs j j_in in
-    let in_region : (k : ℕ) → k < length xs → place_of t k n < length ps =
-    λ k lt. omega arith in
-    let items : set (set xs i y.0) j x.0 ≡ swap xs i j = ap₂ (λ a b. set (set xs i a) j b)
-    (sym (get_or_from_slice_get xs j y.0 x.0 y.1)) (sym (get_or_from_slice_get xs i x.0 x.0 x.1))
-    ∙ swap_is xs i j x.0 i_in j_in in
-    let places : swap ps p q ≡ set (set ps p (Some y.0)) q (Some x.0) =
-    sym (swap_is ps p q None (in_region i i_in) (in_region j j_in))
-    ∙ ap₂ (λ a b. set (set ps p a) q b) (l.at j (omega arith) ∙ y.1) (l.at i (omega arith) ∙ x.1) in
-    rw places (rw items at (LaidOut-set (LaidOut-set l i y.0 i_in) j x.0 (omega (arith, length-set xs i y.0))))
+    let in_region : (k : ℕ) → k < length xs → place_of t k n < length ps = λ k lt. omega (arith, place_of-lt t k n) in
+    rw (
+      ← swap_is xs i j x.0 i_in j_in,
+      get_or_from_slice_get xs j y.0 x.0 y.1,
+      get_or_from_slice_get xs i x.0 x.0 x.1,
+      ← swap_is ps (place_of t i n) (place_of t j n) None (in_region i i_in) (in_region j j_in),
+      l.at j (omega arith) ∙ y.1,
+      l.at i (omega arith) ∙ x.1,
+    ) (LaidOut-set (LaidOut-set l i y.0 i_in) j x.0 (omega (arith, length-set xs i y.0)))

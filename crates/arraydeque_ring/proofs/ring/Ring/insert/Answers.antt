@@ -31,26 +31,25 @@ move_gap-requires-else-index-behind g c =
     let ring = opened c.self.inside c.self.invariant c.self.view_is in
     gap_may_move (Gapped-behind ring.laid c.requires.room) _ _ ring.len (omega arith) (omega arith)
 
+front : (g : Over) (c : goal.After-put-arg-1 g) → length (take c.args.index c.args.self.now.items) ≡ c.args.index
+front g c = length-take-le c.args.index c.args.self.now.items c.requires.in_bounds
+
 -- with the gap open
 gap : (g : Over) (c : goal.After-put-arg-1 g) → let old = c.args.self.now in let now = c.if-index-behind.self-inside in
     Gapped old.capacity now.start (take c.args.index old.items) 1 (drop c.args.index old.items) now.slots.places
 gap g c =
     let ring = opened c.self.inside c.self.invariant c.self.view_is in
     let items = c.args.self.now.items in
-    let front = length-take-le c.args.index items c.requires.in_bounds in
     elim c.if-index-behind.branch [
       | then-index-behind w ↦
+          let was = Gapped-before ring.laid c.requires.room in
           let before = rw (c.capacity-capacity.ensures, ring.laid.length_is) at w.wrap_add-before.ensures in
-          rw (w.self-inside-is, before) (gap_moves (Gapped-before ring.laid c.requires.room) 0 c.args.index refl _ _
-          (take-append-drop c.args.index items) front (Gapped-before ring.laid c.requires.room).reads.in_region
-          (rw before at w.move_gap.ensures.places))
+          rw (w.self-inside-is, before) (gap_moves was 0 c.args.index refl _ _ (take-append-drop c.args.index items)
+          (front g c) was.reads.in_region (rw before at w.move_gap.ensures.places))
       | else-index-behind w ↦ rw w.self-inside-is (gap_moves (Gapped-behind ring.laid c.requires.room) _ c.args.index
-          ring.len _ _ (take-append-drop c.args.index items ∙ sym (append-nil items)) front ring.laid.in_region
+          ring.len _ _ (take-append-drop c.args.index items ∙ sym (append-nil items)) (front g c) ring.laid.in_region
           w.move_gap-else-index-behind.ensures.places)
     ]
-
-front : (g : Over) (c : goal.After-put-arg-1 g) → length (take c.args.index c.args.self.now.items) ≡ c.args.index
-front g c = length-take-le c.args.index c.args.self.now.items c.requires.in_bounds
 
 place : (g : Over) (c : goal.After-put-arg-1 g) → c.wrap_add-place.result
     ≡ place_of c.if-index-behind.self-inside.start c.args.index c.args.self.now.capacity
