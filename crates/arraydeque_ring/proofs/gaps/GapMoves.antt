@@ -104,16 +104,14 @@ module _ {X : Type 0} {n t : ℕ} {xs : List X} {gap : ℕ} {ys : List X} {ps : 
     pub gap_moves : {us vs : List X} (s : ℕ) (qs : List (Option X)) → us ++ vs ≡ xs ++ ys → length us ≡ to → s ≤ n - 1
         → rotated s qs ≡ gap_moved from to gap (rotated t ps) → Gapped n s us gap vs qs
     gap_moves {us} {vs} s qs same there s_in is =
-        let within = p.within in
         let wide = length-rotated t ps in
-        let long = p.reads.length_is in
         let many : length us + length vs ≡ length xs + length ys =
         omega (arith, length-append us vs, length-append xs ys, ap length same) in
         let item : (j : ℕ) → slice_get (us ++ vs) j ≡ slice_get (xs ++ ys) j = λ j. ap (λ l. slice_get l j) same in
         record {
           within = omega arith;
           reads = Holds-of_rotated (sym (length-rotated s qs) ∙ ap length is
-              ∙ length-gap_moved from to gap (rotated t ps) (omega arith) (omega arith) ∙ wide ∙ long) s_in (λ x lt.
+              ∙ length-gap_moved from to gap (rotated t ps) (omega arith) (omega arith) ∙ wide ∙ p.reads.length_is) s_in (λ x lt.
               ap (λ l. held_at l x) is
               ∙ get_or-gap_moved from to gap (rotated t ps) (omega arith) (omega arith) x
               ∙ grind (
@@ -142,7 +140,6 @@ module _ {X : Type 0} {n t : ℕ} {xs : List X} {gap : ℕ} {ys : List X} {ps : 
   -- it may be closed
   pub may_close : (i m : ℕ) → 0 < gap → length xs ≡ i → length ys ≡ m → MayClose t i gap m ps
   may_close i m some front back =
-      let within = p.within in
       let wide = length-rotated t ps in
       record {
         some = some;
@@ -163,9 +160,8 @@ module _ {X : Type 0} {n t : ℕ} {xs : List X} {gap : ℕ} {ys : List X} {ps : 
       → s ≡ start_closed i gap m (length ps) t → rotated s qs ≡ gap_moved i (i + m) gap (rotated t ps)
       → LaidOut n s (xs ++ ys) qs
   LaidOut-closed i m s qs some front back here is =
-      let long = p.reads.length_is in
       LaidOut-gap_last (gap_moves i (i + m) front s qs (append-nil (xs ++ ys)) (omega (arith, length-append xs ys))
-      (rw (here, long) (start_closed-in i gap m n t (omega arith) (omega arith))) is)
+      (rw (here, p.reads.length_is) (start_closed-in i gap m n t (omega arith) (omega arith))) is)
 
 -- a gap between two runs
 pub Gapped-runs : {X : Type 0} (t i gap m : ℕ) (ps : List (Option X)) → t < length ps → i + gap + m ≤ length ps

@@ -31,7 +31,6 @@ module _ {X : Type 0} {n t : ℕ} {xs : List X} {ps : List (Option X)} (l : Laid
   pub Gapped-taken : (from gap : ℕ) (qs : List (Option X)) → from + gap ≤ length xs
       → rotated t qs ≡ run_emptied from gap (rotated t ps) → Gapped n t (take from xs) gap (drop (from + gap) xs) qs
   Gapped-taken from gap qs le out =
-      let within = l.within in
       let long : length (rotated t ps) ≡ n = length-rotated t ps ∙ l.length_is in
       let front = length-take-le from xs (omega arith) in
       record {
@@ -46,7 +45,6 @@ module _ {X : Type 0} {n t : ℕ} {xs : List X} {ps : List (Option X)} (l : Laid
   pub Gapped-taken_one : (i : ℕ) → i < length xs
       → Gapped n t (take i xs) 1 (drop (suc i) xs) (set ps (place_of t i n) None)
   Gapped-taken_one i lt =
-      let within = l.within in
       let front = length-take-le i xs (omega arith) in
       record {
         within = omega (arith, length-drop (suc i) xs);
@@ -85,7 +83,7 @@ module _ {X : Type 0} {n t : ℕ} {xs ys : List X} {ps : List (Option X)} where
   Gapped-put : {gap : ℕ} (i : ℕ) (x : X) → Gapped n t xs (suc gap) ys ps → length xs ≡ i
       → Gapped n t (xs ++ x ∷ []) gap ys (set ps (place_of t i n) (Some x))
   Gapped-put i x p front =
-      let within = p.within in let long = length-append xs (x ∷ []) in
+      let long = length-append xs (x ∷ []) in
       record {
         within = omega arith;
         reads = Holds-set p.reads i (Some x) (omega arith) (grind (arith, items, slice_get-cons))
@@ -106,7 +104,7 @@ module _ {X : Type 0} {n t : ℕ} {xs : List X} {gap : ℕ} {ps : List (Option X
 
   -- taken out of it
   pub Gapped-take : Gapped n t xs (suc gap) (drop (j + 1) ys) (set ps (place_of t i n) None)
-  Gapped-take = let within = p.within in let long = length-drop j ys in record {
+  Gapped-take = let long = length-drop j ys in record {
     within = omega (arith, length-drop (j + 1) ys);
     reads = Holds-set p.reads i None (omega arith) (grind arith)
         (λ k lt other. grind (arith, items));

@@ -78,7 +78,6 @@ module _ {X : Type 0} {capacity start len dst next : ℕ} {old ps : List (Option
   module _ (run : ℕ) (wraps : capacity - next < len - dst) (most : run ≡ min (capacity - next) (next - dst)) where
     pub Rotating-pass : (x : ℕ) → x ≡ min (len - dst - (capacity - next)) run → Pass dst next run x ps
     Rotating-pass x both =
-        let all = t.length_is in
         let rs = runs_exchanged dst next x ps in
         let long = length-runs_exchanged dst next x ps (omega arith) (omega arith) in
         let stays : (y : ℕ) → exchanged_from dst next x y ≡ y → held_at rs y ≡ held_at ps y =
@@ -102,9 +101,8 @@ module _ {X : Type 0} {capacity start len dst next : ℕ} {old ps : List (Option
         → ((capacity - next ≤ run) × (next_then ≡ next)) ⊎ ((run < capacity - next) × (next_then ≡ next + run))
         → Rotating capacity start len (dst + run) next_then old (runs_exchanged dst next run ps)
     Rotating-passed next_then ways =
-        let all = t.length_is in let in_order = t.in_order in let in_region = t.in_region in
         record {
-          length_is = length-runs_exchanged dst next run ps (omega arith) (omega arith) ∙ all;
+          length_is = length-runs_exchanged dst next run ps (omega arith) (omega arith) ∙ t.length_is;
           in_order = omega arith;
           in_region = omega arith;
           placed = omega arith;

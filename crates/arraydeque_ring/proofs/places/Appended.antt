@@ -39,9 +39,9 @@ module _ {X : Type 0} where
       → MayStartAt t i n place → place + length ys ≤ n → i + length ys ≤ n → Holds n t (λ k. if nat_lt k i then f k
       else (if nat_lt k (i + length ys) then slice_get ys (k - i) else f k)) (with_run place ys ps)
   Holds-run {n} {t} {ps = ps} h i place ys lies fits room =
-      let long = h.length_is in let in_region = h.in_region in record {
-        length_is = length-with_run place ys ps (omega arith) ∙ long;
-        in_region = in_region;
+      record {
+        length_is = length-with_run place ys ps (omega arith) ∙ h.length_is;
+        in_region = h.in_region;
         at = λ k lt.
             let was = h.at k lt in
             let read = get_or-with_run place ys ps in

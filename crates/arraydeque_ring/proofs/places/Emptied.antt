@@ -1,6 +1,6 @@
 -- A run of places that is emptied, one place after another.
 use Rattle.std.proofs.{
-  Common.{◌≡◌, ℕ, ◌+◌, ◌<◌, ◌≤◌, ◌==◌, List, length, set, get_or, nat_lt, if◌then◌else◌, Option, None},
+  Common.{◌≡◌, ℕ, ◌+◌, ◌-◌, ◌<◌, ◌≤◌, ◌==◌, List, length, set, get_or, nat_lt, if◌then◌else◌, Option, None},
   Common.{◌∙◌, arith, rules},
   lemmas.{Grind.common_steps, List.{places}},
 }
@@ -20,12 +20,13 @@ module _ {X : Type 0} where
         ≡ (if nat_lt x at then get_or ps x None else (if nat_lt x (at + k) then None else get_or ps x None))
     get_or-run_emptied x le = grind (arith, common_steps)
 
-  module _ (ps : List (Option X)) (at k i : ℕ) (here : at + k ≡ i) (lt : i < length ps) where
+  -- the places from `at` up to i are empty
+  module _ (ps : List (Option X)) (at i : ℕ) (le : at ≤ i) (lt : i < length ps) where
     -- the next place is as it was, and the run is longer with it
-    pub next_unchanged : get_or (run_emptied at k ps) i None ≡ get_or ps i None
-    next_unchanged = get_or-run_emptied at k ps i (omega arith) ∙ grind arith
+    pub next_unchanged : get_or (run_emptied at (i - at) ps) i None ≡ get_or ps i None
+    next_unchanged = get_or-run_emptied at (i - at) ps i (omega arith) ∙ grind arith
 
-    pub next_emptied : set (run_emptied at k ps) i None ≡ run_emptied at (k + 1) ps
+    pub next_emptied : set (run_emptied at (i - at) ps) i None ≡ run_emptied at (i + 1 - at) ps
     next_emptied = same_places _ _ (search (rules, places)) (λ x x_in.
-        get_or-written (run_emptied at k ps) i x None (search (rules, places)) ∙ grind
-        (arith, get_or-run_emptied at k ps x, get_or-run_emptied at (k + 1) ps x))
+        get_or-written (run_emptied at (i - at) ps) i x None (search (rules, places)) ∙ grind
+        (arith, get_or-run_emptied at (i - at) ps x, get_or-run_emptied at (i + 1 - at) ps x))

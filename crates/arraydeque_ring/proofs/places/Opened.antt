@@ -236,14 +236,16 @@ module _ {X : Type 0} (r : Inside X) (kept : Kept r) where
   all_filled = run_filled 0 r.len (omega arith)
 
   -- the items from the index k on are dropped, the first ones, or all
+  laid_before : (ps : List (Option X)) (k m : ℕ) → k + m ≡ r.len
+      → rotated r.start ps ≡ run_emptied k m (rotated r.start places) → LaidOut n r.start (take k items) ps
+  laid_before ps k m all out = LaidOut-gap_last (rw (drop_all (k + m) items (omega (arith, len))) at
+      (Gapped-taken laid k m ps (omega (arith, len)) out))
+
   pub last_dropped : (ps : List (Option X)) (k m : ℕ) → k + m ≡ r.len
       → rotated r.start ps ≡ run_emptied k m (rotated r.start places)
       → (rotated r.start ps ≡ run_emptied k m (rotated r.start places)) × Shows n r.start k (take k items) ps
-  last_dropped ps k m all out = (
-    out,
-    shows (LaidOut-gap_last (rw (drop_all (k + m) items (omega (arith, len))) at
-        (Gapped-taken laid k m ps (omega (arith, len)) out))) k (length-take-le k items (omega (arith, len))),
-  )
+  last_dropped ps k m all out =
+      (out, shows (laid_before ps k m all out) k (length-take-le k items (omega (arith, len))))
 
   pub first_dropped : (ps : List (Option X)) (m : ℕ) → m ≤ r.len
       → rotated r.start ps ≡ run_emptied 0 m (rotated r.start places)
@@ -255,11 +257,8 @@ module _ {X : Type 0} (r : Inside X) (kept : Kept r) where
 
   pub all_dropped : (ps : List (Option X)) → rotated r.start ps ≡ run_emptied 0 r.len (rotated r.start places)
       → (rotated r.start ps ≡ run_emptied 0 r.len (rotated r.start places)) × Shows n 0 0 [] ps
-  all_dropped ps out = (
-    out,
-    shows (LaidOut-restart (LaidOut-gap_last (rw (drop_all (0 + r.len) items
-        (omega (arith, len))) at (Gapped-taken laid 0 r.len ps (omega (arith, len)) out))) refl) 0 refl,
-  )
+  all_dropped ps out =
+      (out, shows (LaidOut-restart (laid_before ps 0 r.len (omega arith) out) refl) 0 refl)
 
   -- or handed over to another region, which was empty
   pub run_handed : (i m k : ℕ) → i + m ≤ r.len → m ≤ k → Become k 0 m (take m (drop i items))
