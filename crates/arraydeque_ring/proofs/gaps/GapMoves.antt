@@ -111,8 +111,8 @@ module _ {X : Type 0} {n t : ℕ} {xs : List X} {gap : ℕ} {ys : List X} {ps : 
         record {
           within = omega arith;
           reads = Holds-of_rotated (sym (length-rotated s qs) ∙ ap length is
-              ∙ length-gap_moved from to gap (rotated t ps) (omega arith) (omega arith) ∙ wide ∙ p.reads.length_is) s_in (λ x lt.
-              ap (λ l. held_at l x) is
+              ∙ length-gap_moved from to gap (rotated t ps) (omega arith) (omega arith) ∙ wide ∙ p.reads.length_is) s_in
+              (λ x lt. ap (λ l. held_at l x) is
               ∙ get_or-gap_moved from to gap (rotated t ps) (omega arith) (omega arith) x
               ∙ grind (
                 arith,

@@ -1,8 +1,8 @@
 -- Items in two parts, with a gap of empty places between them: how it comes about, is filled and ends.
 use Rattle.std.proofs.{
   Common.{◌≡◌, ℕ, zero, suc, ◌+◌, ◌-◌, ◌<◌, ◌≤◌, List, [], ◌∷◌, ◌++◌, length, take, drop, set, slice_get, nat_lt},
-  Common.{if◌then◌else◌, Option, Some, None, sym, ap, ◌∙◌, subst, arith},
-  lemmas.{List.{length-append, length-take-le, length-drop, append_assoc}},
+  Common.{if◌then◌else◌, Option, Some, None, sym, ap, ◌∙◌, arith},
+  lemmas.{List.{length-append, length-take-le, length-drop}},
 }
 use Rattle.arraydeque_ring.{
   specs.{Places.{held_at, IsEmpty}, Ring.{place_of, rotated}, Gaps.run_emptied},
@@ -65,12 +65,6 @@ module _ {X : Type 0} {n t : ℕ} {xs : List X} {ps : List (Option X)} where
       LaidOut-by (omega arith) (Holds-from p.reads (suc g) (omega arith) (omega arith)
       (λ k lt. grind (arith, items, place_of_cases (suc g) k n)))
 
--- a gap of no places is none
-LaidOut-no_gap : {X : Type 0} {n t : ℕ} {xs ys : List X} {ps : List (Option X)} → Gapped n t xs 0 ys ps
-    → LaidOut n t (xs ++ ys) ps
-LaidOut-no_gap {xs = xs} {ys = ys} p = LaidOut-by (omega (arith, length-append xs ys))
-    (Holds-same p.reads (λ k lt. grind (arith, items)))
-
 module _ {X : Type 0} {n t : ℕ} {xs ys : List X} {ps : List (Option X)} where
   -- the first place of a gap is empty
   pub IsEmpty-gap : (gap i : ℕ) → Gapped n t xs gap ys ps → length xs ≡ i → 0 < gap → IsEmpty ps (place_of t i n)
@@ -93,8 +87,8 @@ module _ {X : Type 0} {n t : ℕ} {xs ys : List X} {ps : List (Option X)} where
   -- which joins the parts where the gap is of one place
   pub LaidOut-put : (i : ℕ) (x : X) → Gapped n t xs 1 ys ps → length xs ≡ i
       → LaidOut n t (xs ++ x ∷ ys) (set ps (place_of t i n) (Some x))
-  LaidOut-put i x p front = let qs = set ps (place_of t i n) (Some x) in
-      subst (λ l. LaidOut n t l qs) (append_assoc xs (x ∷ []) ys) (LaidOut-no_gap (Gapped-put i x p front))
+  LaidOut-put i x p front = LaidOut-by (omega (arith, length-append xs (x ∷ ys))) (Holds-set p.reads i (Some x)
+      (omega arith) (grind (arith, items, slice_get-cons)) (λ k lt other. grind (arith, items, slice_get-cons)))
 
 module _ {X : Type 0} {n t : ℕ} {xs : List X} {gap : ℕ} {ps : List (Option X)} (ys : List X) (j i : ℕ)
     (p : Gapped n t xs gap (drop j ys) ps) (here : length xs + gap ≡ i) (some : j < length ys) where

@@ -148,20 +148,17 @@ round_run ps from len le filled = filled_run_of ps from len le (λ x a b.
 -- the last m
 module _ {X : Type 0} (i j k m l : ℕ) (ps : List (Option X)) (all : k + m ≡ l) (some : 0 < l) (can : CanCopy i j l ps)
   where
-    names : IsPart i j (length ps) 0 k i j × IsPart i j (length ps) k m (i + k) (j + k)
-    names = grind arith
-
     pub first_block_goes : i ≤ j → Steps i j k (i + k) (j + k) m ps (run_moved i j l ps)
     first_block_goes down = let n = length ps in
         steps i j l 0 k k m n ps refl (omega arith) (omega arith) (omega arith) all
         (inl (omega arith, omega arith, λ far. grind arith))
-        can.filled i j (i + k) (j + k) names.0 names.1
+        can.filled i j (i + k) (j + k) (grind arith) (grind arith)
 
     pub last_block_goes : j ≤ i → Steps (i + k) (j + k) m i j k ps (run_moved i j l ps)
     last_block_goes up = let n = length ps in
         steps i j l k 0 m k n ps refl (omega arith) (omega arith) (omega arith) (omega arith)
         (inr (omega arith, omega arith, grind arith))
-        can.filled (i + k) (j + k) i j names.1 names.0
+        can.filled (i + k) (j + k) i j (grind arith) (grind arith)
 
 -- three copies can be made one after the other
 pub record Three {X : Type 0} (d₁ s₁ l₁ d₂ s₂ l₂ d₃ s₃ l₃ : ℕ) (ps whole : List (Option X)) : Type 0 where
@@ -179,9 +176,6 @@ module _ {X : Type 0} (d s l n a b k m d₁ s₁ d₂ s₂ d₃ s₃ : ℕ) (ps 
   long : length ps ≡ n
   long = sym n_is
 
-  whole : (o : ℕ) → IsPart d s n 0 o d s
-  whole o = grind arith
-
   pub three : ((0 < distance s d n → l ≤ distance s d n) → Three d₁ s₁ a d₂ s₂ k d₃ s₃ m ps (run_moved d s l ps))
       × (distance s d n + l ≤ n → Three d₃ s₃ m d₂ s₂ k d₁ s₁ a ps (run_moved d s l ps))
   three = (
@@ -190,7 +184,7 @@ module _ {X : Type 0} (d s l n a b k m d₁ s₁ d₂ s₂ d₃ s₃ : ℕ) (ps 
         (inl (omega arith, omega arith, λ some. omega arith)) (λ x lt. filled x (omega arith)) d₁ s₁ d₂ s₂
         before.0 between.0 in
         let last = steps d s l 0 b b m n ps long d_in s_in (omega arith) (omega arith)
-        (inl (omega arith, omega arith, far)) filled d s d₃ s₃ (whole b) behind.0 in
+        (inl (omega arith, omega arith, far)) filled d s d₃ s₃ (grind arith) behind.0 in
         let same = length-moved d₁ s₁ a ps ∙ long in
         record {
           one = can_copy long before.1 firsts.first;
@@ -200,7 +194,7 @@ module _ {X : Type 0} (d s l n a b k m d₁ s₁ d₂ s₂ d₃ s₃ : ℕ) (ps 
         },
     λ near.
         let last = steps d s l b 0 m b n ps long d_in s_in (omega arith) (omega arith)
-        (inr (omega arith, omega arith, near)) filled d₃ s₃ d s behind.0 (whole b) in
+        (inr (omega arith, omega arith, near)) filled d₃ s₃ d s behind.0 (grind arith) in
         let same = length-moved d₃ s₃ m ps ∙ long in
         let firsts = steps d s b a 0 k a n (run_moved d₃ s₃ m ps) same d_in s_in (omega arith) (omega arith)
         (inr (omega arith, omega arith, omega arith)) last.second d₂ s₂ d₁ s₁ between.0 before.0 in

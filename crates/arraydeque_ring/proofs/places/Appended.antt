@@ -1,11 +1,11 @@
 -- Items that are laid behind a list, in one run of places.
 use Rattle.std.proofs.{
   Common.{◌≡◌, ℕ, ◌+◌, ◌-◌, ◌≤◌, List, ◌++◌, length, take, drop, get_or, slice_get, nat_lt, if◌then◌else◌, Option},
-  Common.{Some, None, replicate, refl, inl, sym, ap, ◌∙◌, arith},
+  Common.{None, replicate, refl, inl, sym, ap, ◌∙◌, arith},
   lemmas.{
     Bool.Decides.nat_tests,
     Grind.common_steps,
-    List.{length-append, length-map, append_assoc, drop-drop},
+    List.{length-append, append_assoc, drop-drop},
     Option.slice_get_past,
   },
   Math.Seq.take-add,
@@ -30,9 +30,7 @@ module _ {X : Type 0} where
       get_or (with_run at ys ps) x None ≡ (if nat_lt x at then get_or ps x None
       else (if nat_lt x (at + length ys) then slice_get ys (x - at) else get_or ps x None))
   get_or-with_run at ys ps x le =
-      let made = get_or-map_Some ys (x - at) in
-      let many = length-map ys Some in
-      grind (arith, common_steps, made, many)
+      grind (arith, common_steps, get_or-map_Some ys (x - at))
 
   -- a run of indexes is written, from the index i on
   pub Holds-run : {n t : ℕ} {f : ℕ → Option X} {ps : List (Option X)} → Holds n t f ps → (i place : ℕ) (ys : List X)

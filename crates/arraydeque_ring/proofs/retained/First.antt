@@ -2,7 +2,7 @@
 use Rattle.std.{
   proofs.{
     Common.{◌≡◌, ℕ, zero, suc, ◌+◌, ◌<◌, List, [], ◌∷◌, ◌++◌, length, take, replicate, get_or, slice_get, Bool, true},
-    Common.{false, cond, not, count_by, ◌==◌, if◌then◌else◌, refl, sym, ap, ap₂, ◌∙◌, subst, arith},
+    Common.{false, cond, not, count_by, ◌==◌, if◌then◌else◌, refl, sym, ap, ap₂, ◌∙◌, arith},
     Retain.answers_push,
     lemmas.{
       Bool.{Decides.nat_tests},
@@ -80,8 +80,7 @@ module _ {X F : Type 0} (R : F → X → Bool → F → Type 0) where
   -- or all of that one stay
   pub all_stay : (f g : F) (k : ℕ) (xs : List X) → k ≡ length xs → ReturnsInTurn R f (answers_until k (length xs)) xs g
       → ReturnsInTurn R f (replicate k true) xs g
-  all_stay f g k xs all told =
-      subst (λ bs. ReturnsInTurn R f bs xs g) (ap (answers_until k) (sym all) ∙ until_all k) told
+  all_stay f g k xs all told = rw (← all, until_all k) at told
 
   pub until_in_back : (f g h : F) (k m : ℕ) (xs ys : List X) → k ≡ length xs
       → ReturnsInTurn R f (answers_until k (length xs)) xs g → ReturnsInTurn R g (answers_until m (length ys)) ys h

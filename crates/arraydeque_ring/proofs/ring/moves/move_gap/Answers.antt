@@ -1,6 +1,6 @@
-use Rattle.std.proofs.Common.{◌≡◌, ℕ, ◌+◌, ◌-◌, inl, inr, refl, ap, ◌∙◌, arith}
+use Rattle.std.proofs.Common.{◌≡◌, ℕ, ◌+◌, ◌-◌, inl, inr, refl, arith}
 use Rattle.arraydeque_ring.{
-  specs.{Gaps.gap_moved, Ring.{place_of, rotated}, Steps.more_moves},
+  specs.{Gaps.gap_moved, Ring.{place_of, rotated}},
   proofs.{
     gaps.Crossing.{Crosses, crosses, one_on},
     ring.moves.move_gap.{Given.Over, Goals.{After-wrap_add-src, After-wrap_add-dst}},
@@ -63,8 +63,10 @@ returns-else-gap-eq1-clause-places g c = rw c.wrap_move.ensures.places
     (up g (goal.at.returns-else-gap-eq1-clause-places g c).After-wrap_add-src c.wrap_add.ensures).is
 
 pub returns-else-gap-eq1-clause-steps : goal.returns-else-gap-eq1-clause-steps
-returns-else-gap-eq1-clause-steps g c = rw c.wrap_move.ensures.steps (ap (λ k. more_moves k c.args.slots.now.steps)
-    ((up g (goal.at.returns-else-gap-eq1-clause-steps g c).After-wrap_add-src c.wrap_add.ensures).count ∙ omega arith))
+returns-else-gap-eq1-clause-steps g c = rw (
+  c.wrap_move.ensures.steps,
+  (up g (goal.at.returns-else-gap-eq1-clause-steps g c).After-wrap_add-src c.wrap_add.ensures).count,
+) (grind arith)
 
 pub returns-then-gap-eq1-2-clause-places : goal.returns-then-gap-eq1-2-clause-places
 returns-then-gap-eq1-2-clause-places g c = rw c.slide_down.ensures.places
@@ -76,6 +78,8 @@ returns-else-gap-eq1-2-clause-places g c = rw c.wrap_move-else-gap-eq1-2.ensures
     (goal.at.returns-else-gap-eq1-2-clause-places g c).After-wrap_add-dst c.wrap_add-else-gap-eq1-2.ensures).is
 
 pub returns-else-gap-eq1-2-clause-steps : goal.returns-else-gap-eq1-2-clause-steps
-returns-else-gap-eq1-2-clause-steps g c = rw c.wrap_move-else-gap-eq1-2.ensures.steps
-    (ap (λ k. more_moves k c.args.slots.now.steps) ((down g (goal.at.returns-else-gap-eq1-2-clause-steps g
-    c).After-wrap_add-dst c.wrap_add-else-gap-eq1-2.ensures).count ∙ omega arith))
+returns-else-gap-eq1-2-clause-steps g c = rw (
+  c.wrap_move-else-gap-eq1-2.ensures.steps,
+  (down g (goal.at.returns-else-gap-eq1-2-clause-steps g c).After-wrap_add-dst
+      c.wrap_add-else-gap-eq1-2.ensures).count,
+) (grind arith)
