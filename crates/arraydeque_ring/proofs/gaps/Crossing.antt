@@ -35,9 +35,9 @@ module _ {X : Type 0} (from to gap : ℕ) (ps : List (Option X)) (from_in : from
   get_or-gap_moved x = grind (arith, nat_tests, places)
 
 -- a place of an empty run, by its number
-pub empty_at : {X : Type 0} (ps : List (Option X)) (from len x : ℕ) → IsEmptyRun ps from len → from ≤ x
+pub empty_at : {X : Type 0} (ps : List (Option X)) (from len : ℕ) → IsEmptyRun ps from len → (x : ℕ) → from ≤ x
     → x < from + len → held_at ps x ≡ None
-empty_at ps from len x run a b =
+empty_at ps from len run x a b =
     ap (held_at ps) {y = from + (x - from)} (omega arith) ∙ empty_in_run ps from len (x - from) run (omega arith)
 
 -- what `wrap_move` asks
@@ -94,7 +94,7 @@ crosses t from to gap i j len d s m ps t_in some within empty ways long at_d at_
     let n = length ps in
     let qs = rotated t ps in
     let wide : length qs ≡ n = length-rotated t ps in
-    let none : (x : ℕ) → from ≤ x → x < from + gap → held_at qs x ≡ None = λ x a b. empty_at qs from gap x empty a b in
+    let none = empty_at qs from gap empty in
     let reads : Holds n t (held_at qs) ps = Holds-of_rotated refl (omega arith) (λ k lt. refl) in
     let moved = Holds-moved reads i j len t_in (omega arith) (omega arith) in
     rw (at_d, at_s, long) (record {

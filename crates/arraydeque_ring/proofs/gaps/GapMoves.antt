@@ -179,7 +179,7 @@ Gapped-runs t i gap m ps t_in within before empty behind rest =
         items,
         held_in_run _ 0 i k before,
         held_in_run _ (i + gap) m (k - (i + gap)) behind,
-        empty_at _ i gap k empty,
-        empty_at _ (i + gap + m) (length ps - (i + gap + m)) k rest,
+        empty_at _ i gap empty k,
+        empty_at _ (i + gap + m) (length ps - (i + gap + m)) rest k,
       ));
     }

@@ -47,7 +47,6 @@ handed t at len n place first ps long in_region some run is cut =
     let fits : at + len ≤ n = omega arith in
     let lies : MayStartAt t at n place = rw is (MayStartAt-place_of t at n (omega arith)) in
     let before_end : place < n = rw is (place_of-lt t at n (omega arith)) in
-    let end : place + first ≤ length ps = omega arith in
     let same : length es ≡ n = length-run_emptied place first ps (omega arith) ∙ sym long in
     let same_rs : length rs ≡ n = length-run_emptied 0 r es (omega arith) ∙ same in
     let many : length firsts ≡ first = search (rules, places) in
@@ -61,7 +60,7 @@ handed t at len n place first ps long in_region some run is cut =
     let there : others ≡ map Some (drop first zs) =
     sym (drop_at firsts others first many) ∙ ap (drop first) (joined ∙ run.1.1) ∙ drop-map Some first zs in
     record {
-      here = (end, (take first zs, here));
+      here = (omega arith, (take first zs, here));
       rest = (omega arith, (drop first zs, there));
       first_length = many;
       places = same_lists (rotated t rs) (run_emptied at len ts) (search (rules, places)) (λ j d lt.
@@ -76,7 +75,7 @@ handed t at len n place first ps long in_region some run is cut =
 module _ {X : Type 0} (len first : ℕ) (qs : List (Option X)) (le : first ≤ len) (empty : IsEmptyRun qs 0 len) where
   pub first_empty : IsEmptyRun qs 0 first
   first_empty = empty_run_of qs 0 first (omega arith)
-      (λ x from to. let was = empty_in_run qs 0 len x empty (omega arith) in grind (arith, common_steps))
+      (λ x from to. grind (arith, common_steps, empty_in_run qs 0 len x empty))
 
   module _ (firsts others : List (Option X)) (many : length firsts ≡ first) where
     abbrev put : List (Option X)
@@ -85,7 +84,7 @@ module _ {X : Type 0} (len first : ℕ) (qs : List (Option X)) (le : first ≤ l
     pub second_empty : IsEmptyRun put first (len - first)
     second_empty =
         empty_run_of put first (len - first) (grind (arith, common_steps))
-        (λ x from to. let was = empty_in_run qs 0 len x empty (omega arith) in grind (arith, common_steps))
+        (λ x from to. grind (arith, common_steps, empty_in_run qs 0 len x empty))
 
     pub both_put : take first put ++ (others ++ drop (first + (len - first)) put) ≡ (firsts ++ others) ++ drop len qs
     both_put =

@@ -29,11 +29,10 @@ use Rattle.arraydeque_ring.{
     places.{
       Appended.{LaidOut-appended, LaidOut-written, LaidOut-new, IsEmptyRun-behind},
       Handed.{handed, LaidOut-handed},
-      Held.length_filled,
       LaidOut.{LaidOut, LaidOut-values, values-LaidOut, FilledFrom-LaidOut, LaidOut-nothing, LaidOut-put_back},
       LaidOut.{LaidOut-put_front, LaidOut-take_back, LaidOut-take_front, IsEmpty-place_of, held_at-start},
       LaidOut.{LaidOut-restart, IsFilled-start, AreAllEmpty-LaidOut, IsFilled-place_of, IsFilledRun-rotated},
-      LaidOut.{IsFilledRun-LaidOut, same_run, LaidOut-set, LaidOut-swap},
+      LaidOut.{IsFilledRun-LaidOut, HoldsRun-LaidOut, same_run, LaidOut-set, LaidOut-swap},
       Rotated.{MayStartAt, MayStartAt-place_of, place_of-first, place_of-zero, place_of-lt, one_place},
     },
   },
@@ -322,17 +321,13 @@ module _ {X : Type 0} (r : Inside X) (kept : Kept r) where
         (splice places behind (behind + m) (take m (drop o.start o.slots.places)))
     piece_joined o okept some le fits' =
         let other = opened o okept refl in
-        let others = values (rotated o.start o.slots.places) in
-        let run = IsFilledRun-LaidOut other.laid 0 o.start m (inl (omega arith)) (omega arith) fits' in
-        let xs = run.1.0 in
-        let taken = length-take-le m others (omega arith) in
-        let many : length xs ≡ m = length_filled o.slots.places o.start m run in
-        let same = same_run other.laid 0 o.start m xs (inl (omega arith)) (omega arith) fits' run.1.1 in
+        let xs = take m (values (rotated o.start o.slots.places)) in
+        let many : length xs ≡ m = length-take-le m _ (omega (arith, other.len)) in
+        let held = HoldsRun-LaidOut other.laid 0 o.start m (inl (omega arith)) (omega (arith, other.len)) fits' in
         let written : splice places behind (behind + m) (take m (drop o.start o.slots.places))
-        ≡ with_run behind xs places = ap₂ (λ k l. splice places behind (behind + k) l) (sym many) run.1.1 in
-        become (rw (written, ← same)
-        (LaidOut-appended laid xs behind (lies some) (omega arith) (omega (arith, len)))) _
-        (omega (arith, len, length-append items (take m others)))
+        ≡ with_run behind xs places = ap₂ (λ k l. splice places behind (behind + k) l) (sym many) held in
+        become (rw written (LaidOut-appended laid xs behind (lies some) (omega arith) (omega (arith, len)))) _
+        (omega (arith, len, length-append items xs))
 
 -- for the goals of the ring that have no answer by hand
 pub ruleset ring_facts = (bounds, items_within, nothing_laid, slice_get_past, place_of-lt)

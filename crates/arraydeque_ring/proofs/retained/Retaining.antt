@@ -2,7 +2,7 @@
 use Rattle.std.{
   proofs.{
     Common.{◌≡◌, ℕ, suc, ◌+◌, ◌<◌, ◌≤◌, List, [], ◌∷◌, ◌++◌, length, take, drop, set, get_or, replicate, slice_get},
-    Common.{add-one, Option, Some, None, Bool, true, false, not, count_by, sym, ap, ◌∙◌, subst, arith},
+    Common.{add-one, Option, Some, None, Bool, true, false, not, count_by, sym, ap, ◌∙◌, arith},
     Retain.{picked_push_true, picked_push_false, answers_push},
     lemmas.{
       List.{length_push, length-drop, length-take-le, length-replicate, take_all, drop_all},
@@ -94,8 +94,7 @@ module _ {F X : Type 0} {R : F → X → Bool → F → Type 0} {f : F} {items :
 
   -- all have been asked about
   pub all_asked : length items ≤ index → Shows n t kept (items_where_true s.answers items) ps
-  all_asked past = shows (LaidOut-gap_last (subst (λ l. Gapped n t (items_where_true s.answers items)
-      (count_by not s.answers) l ps) (drop_all index items past) s.places)) kept s.stay
+  all_asked past = shows (LaidOut-gap_last (rw (drop_all index items past) at s.places)) kept s.stay
 
   module _ (lt : index < length items) where
     here : length (items_where_true s.answers items) + count_by not s.answers ≡ index
