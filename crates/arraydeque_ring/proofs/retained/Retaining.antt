@@ -53,7 +53,7 @@ all_kept R f g ring k all told =
       last = g;
       one_each = length-replicate k true ∙ all;
       in_turn = all_stay R f g k ring.items all told;
-      kept = grind (arith, items, none_goes k, none_moved k);
+      kept = grind (arith, none_goes k, none_moved k);
     }
 
 -- behind k items that stay, the first goes
