@@ -164,22 +164,19 @@ module _ {X : Type 0} {n t : ℕ} {xs : List X} {gap : ℕ} {ys : List X} {ps : 
       (rw (here, p.reads.length_is) (start_closed-in i gap m n t (omega arith) (omega arith))) is)
 
 -- a gap between two runs
-pub Gapped-runs : {X : Type 0} (t i gap m : ℕ) (ps : List (Option X)) → t < length ps → i + gap + m ≤ length ps
-    → (before : IsFilledRun (rotated t ps) 0 i) → IsEmptyRun (rotated t ps) i gap
-    → (behind : IsFilledRun (rotated t ps) (i + gap) m)
-    → IsEmptyRun (rotated t ps) (i + gap + m) (length ps - (i + gap + m))
-    → Gapped (length ps) t before.1.0 gap behind.1.0 ps
-Gapped-runs t i gap m ps t_in within before empty behind rest =
-    let front = length_filled _ 0 i before in
-    let back = length_filled _ (i + gap) m behind in
+pub Gapped-runs : {X : Type 0} (t i gap m : ℕ) (ps : List (Option X)) (may : MayClose t i gap m ps)
+    → Gapped (length ps) t may.filled_before.1.0 gap may.filled_behind.1.0 ps
+Gapped-runs t i gap m ps may =
+    let front = length_filled _ 0 i may.filled_before in
+    let back = length_filled _ (i + gap) m may.filled_behind in
     record {
       within = omega arith;
       reads = Holds-of_rotated refl (omega arith) (λ k lt. grind (
         arith,
         items,
-        held_in_run _ 0 i k before,
-        held_in_run _ (i + gap) m (k - (i + gap)) behind,
-        empty_at _ i gap empty k,
-        empty_at _ (i + gap + m) (length ps - (i + gap + m)) rest k,
+        held_in_run _ 0 i k may.filled_before,
+        held_in_run _ (i + gap) m (k - (i + gap)) may.filled_behind,
+        empty_at _ i gap may.empty k,
+        empty_at _ (i + gap + m) (length ps - (i + gap + m)) may.others_empty k,
       ));
     }

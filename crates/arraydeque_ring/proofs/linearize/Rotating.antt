@@ -49,10 +49,7 @@ pub record Pass {X : Type 0} (dst next run x : ℕ) (ps : List (Option X)) : Typ
 FilledFrom-rotated : {X : Type 0} (t len : ℕ) (ps : List (Option X)) → FilledFrom t len (filled ps)
     → FilledFrom 0 len (filled (rotated t ps))
 unfolding filled
-FilledFrom-rotated t len ps fills =
-    let same : filled (rotated t ps) ≡ rotated t (filled ps) = sym (rotated-map is_some t ps) in
-    append-nil (filled (rotated t ps)) ∙ same ∙ fills ∙ ap (λ n. replicate len true ++ replicate (n - len) false)
-    (sym (length-rotated t (filled ps)) ∙ ap length (sym same))
+FilledFrom-rotated t len ps fills = rw (append-nil, ← rotated-map is_some t ps, length-rotated t (filled ps)) fills
 
 -- the places are on their way from `old` to these read from the start on
 pub record Rotating {X : Type 0} (capacity start len dst next : ℕ) (old ps : List (Option X)) : Type 0 where

@@ -105,5 +105,4 @@ pub LaidOut-handed : {X : Type 0} {n t : ℕ} {xs : List X} {ps : List (Option X
 LaidOut-handed {xs = xs} l i m k within room =
     let ys = take m (drop i xs) in
     let many : 0 + length ys ≡ m = grind (arith, common_steps) in
-    rw (HoldsRun-rotated l i m within) (subst (λ j. LaidOut k 0 ys (map Some ys ++ drop j (replicate k None))) many
-    (LaidOut-new ys k (omega arith)))
+    rw (HoldsRun-rotated l i m within) (rw many at (LaidOut-new ys k (omega arith)))

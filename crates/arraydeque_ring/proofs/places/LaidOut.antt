@@ -144,8 +144,7 @@ module _ {X : Type 0} {n t : ℕ} {xs : List X} {ps : List (Option X)} (l : Laid
 
   -- and the list may start at the first place as well
   pub LaidOut-restart : length xs ≡ 0 → LaidOut {X = X} n 0 [] ps
-  LaidOut-restart none = let empty : replicate n None ≡ ps = ap (λ m. replicate m None) (sym l.length_is)
-      ∙ sym (AreAllEmpty-LaidOut none) in subst (LaidOut {X = X} n 0 []) empty (LaidOut-nothing n)
+  LaidOut-restart none = rw (AreAllEmpty-LaidOut none, l.length_is) (LaidOut-nothing n)
 
   -- c is written at the place of the index k
   LaidOut-write : {ys : List X} (k : ℕ) (c : Option X) → k < n → length ys ≤ n → c ≡ slice_get ys k
