@@ -40,6 +40,17 @@ pub empty_at : {X : Type 0} (ps : List (Option X)) (from len : ℕ) → IsEmptyR
 empty_at ps from len run x a b =
     ap (held_at ps) {y = from + (x - from)} (omega arith) ∙ empty_in_run ps from len (x - from) run (omega arith)
 
+-- what `move_gap` asks: a gap, and the values between it and the index that it moves to
+abbrev pub MayMove : {X : Type 0} → ℕ → ℕ → ℕ → ℕ → List (Option X) → Type 0
+MayMove t from to gap ps = record {
+  some : 0 < gap;
+  in_region : t < length ps;
+  within : max from to + gap ≤ length ps;
+  empty : IsEmptyRun (rotated t ps) from gap;
+  filled_before : IsFilledRun (rotated t ps) to (from - to);
+  filled_behind : IsFilledRun (rotated t ps) (from + gap) (to - from);
+}
+
 -- what `wrap_move` asks
 abbrev pub MayWrap : {X : Type 0} → ℕ → ℕ → ℕ → List (Option X) → Type 0
 MayWrap d s len ps = record {
@@ -86,15 +97,15 @@ passed from to gap i j len x qs from_in to_in none ways = elim (cases_lt x i) [
   ]
 ] ∙ sym (get_or-gap_moved from to gap qs from_in to_in x)
 
-pub crosses : {X : Type 0} (t from to gap i j len d s m : ℕ) (ps : List (Option X)) → t < length ps → 0 < gap
-    → max from to + gap ≤ length ps → IsEmptyRun (rotated t ps) from gap → Passes from to gap i j len
-    → m ≡ length ps → d ≡ place_of t i m → s ≡ place_of t j m → IsFilledRun (rotated t ps) j len
-    → Crosses t d s len ps (gap_moved from to gap (rotated t ps))
-crosses t from to gap i j len d s m ps t_in some within empty ways long at_d at_s filled =
+pub crosses : {X : Type 0} (t from to gap i j len d s m : ℕ) (ps : List (Option X)) → MayMove t from to gap ps
+    → Passes from to gap i j len → m ≡ length ps → d ≡ place_of t i m → s ≡ place_of t j m
+    → IsFilledRun (rotated t ps) j len → Crosses t d s len ps (gap_moved from to gap (rotated t ps))
+crosses t from to gap i j len d s m ps asked ways long at_d at_s filled =
+    let t_in = asked.in_region in
     let n = length ps in
     let qs = rotated t ps in
     let wide : length qs ≡ n = length-rotated t ps in
-    let none = empty_at qs from gap empty in
+    let none = empty_at qs from gap asked.empty in
     let reads : Holds n t (held_at qs) ps = Holds-of_rotated refl (omega arith) (λ k lt. refl) in
     let moved = Holds-moved reads i j len t_in (omega arith) (omega arith) in
     rw (at_d, at_s, long) (record {

@@ -13,7 +13,7 @@ use Rattle.arraydeque_ring.{
   },
   proofs.{
     gaps.{
-      Crossing.{length-gap_moved, get_or-gap_moved, empty_at},
+      Crossing.{MayMove, length-gap_moved, get_or-gap_moved, empty_at},
       Gapped.{Gapped, gapped, LaidOut-gap_first, LaidOut-gap_last},
     },
     places.{
@@ -29,17 +29,6 @@ use Rattle.arraydeque_ring.{
 -- the start stays in the region
 start_closed-in : (i gap m n t : ℕ) → t < n → gap ≤ n → start_closed i gap m n t ≤ n - 1
 start_closed-in i gap m n t t_in le = grind arith
-
--- what `move_gap` asks: a gap, and the values between it and the index that it moves to
-abbrev pub MayMove : {X : Type 0} → ℕ → ℕ → ℕ → ℕ → List (Option X) → Type 0
-MayMove t from to gap ps = record {
-  some : 0 < gap;
-  in_region : t < length ps;
-  within : max from to + gap ≤ length ps;
-  empty : IsEmptyRun (rotated t ps) from gap;
-  filled_before : IsFilledRun (rotated t ps) to (from - to);
-  filled_behind : IsFilledRun (rotated t ps) (from + gap) (to - from);
-}
 
 pub may_move : {X : Type 0} (t from to gap : ℕ) (ps : List (Option X)) {ts : List (Option X)} → rotated t ps ≡ ts
     → 0 < gap → t < length ps → max from to + gap ≤ length ps

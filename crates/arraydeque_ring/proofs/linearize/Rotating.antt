@@ -1,6 +1,6 @@
 -- A region while it is rotated: pass after pass, values come to their places.
 use Rattle.std.proofs.{
-  Common.{◌≡◌, ℕ, ◌+◌, ◌-◌, ◌<◌, ◌≤◌, ◌⊎◌, List, ◌++◌, length, min, replicate, Option, true, false, is_some},
+  Common.{◌≡◌, ℕ, ◌+◌, ◌-◌, ◌<◌, ◌≤◌, ◌⊎◌, List, length, min, Option, is_some},
   Common.{sym, ap, ◌∙◌, subst, arith},
   lemmas.{Bool.Decides.nat_tests, List.{append-nil}},
 }

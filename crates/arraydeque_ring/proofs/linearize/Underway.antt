@@ -18,9 +18,9 @@ use Rattle.arraydeque_ring.{
   },
   proofs.{
     gaps.{
-      Crossing.{length-gap_moved, get_or-gap_moved},
+      Crossing.{MayMove, length-gap_moved, get_or-gap_moved},
       Gapped.{Gapped, LaidOut-gap_last},
-      GapMoves.{MayMove, may_move, gap_may_move, gap_moves},
+      GapMoves.{may_move, gap_may_move, gap_moves},
     },
     moved.Flat.same_places,
     places.{

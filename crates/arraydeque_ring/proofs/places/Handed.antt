@@ -3,7 +3,7 @@
 use Rattle.std.{
   proofs.{
     Common.{◌≡◌, ℕ, ◌+◌, ◌-◌, ◌<◌, ◌≤◌, min, List, ◌++◌, map, length, take, drop, replicate, Option, Some, None, sym},
-    Common.{ap, ◌∙◌, subst, arith, rules},
+    Common.{ap, ◌∙◌, arith, rules},
     lemmas.{
       Grind.common_steps,
       List.{places, take-replicate, length-replicate, same_lists, take_at, drop_at, take-map, drop-map, drop-drop},

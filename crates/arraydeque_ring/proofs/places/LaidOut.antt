@@ -1,7 +1,7 @@
 -- What the places of a ring hold, read from its start on: first its items, then nothing.
 use Rattle.std.proofs.{
   Common.{◌≡◌, ◌≢◌, ℕ, ◌+◌, ◌-◌, ◌<◌, ◌≤◌, List, [], ◌∷◌, ◌++◌, length, take, drop, set, get_or, replicate, slice_get},
-  Common.{nat_lt, if◌then◌else◌, Option, Some, None, is_some, true, false, refl, sym, ap, ap₂, ◌∙◌, subst, swap, arith},
+  Common.{nat_lt, if◌then◌else◌, Option, Some, None, is_some, true, false, refl, sym, ap, ap₂, ◌∙◌, swap, arith},
   lemmas.{
     Grind.common_steps,
     List.{length-append, length-take, length-drop, length-map, length-replicate, length-set, Edits.swap_is},

@@ -86,7 +86,7 @@ module _ {X F : Type 0} (R : F → X → Bool → F → Type 0) where
       → ReturnsInTurn R f (answers_until k (length xs)) xs g → ReturnsInTurn R g (answers_until m (length ys)) ys h
       → ReturnsInTurn R f (answers_until (k + m) (length (xs ++ ys))) (xs ++ ys) h
   until_in_back f g h k m xs ys all told after =
-      let long : length (xs ++ ys) ≡ k + length ys = length-append xs ys ∙ ap (λ n. n + length ys) (sym all) in
+      let long : length (xs ++ ys) ≡ k + length ys = omega (arith, length-append xs ys) in
       rw (long, until_behind) (told_behind f g h (replicate k true)
       (answers_until m (length ys)) xs ys (length-replicate k true ∙ all) (all_stay f g k xs all told) after)
 
@@ -104,7 +104,7 @@ module _ {X F : Type 0} (t : Mut F (Bor X × Unit {0}) Bool) (f : F) (xs ys : Li
   asked_back g k all first answers h x here told =
       let bs = replicate k true in
       let long : length (bs ++ answers) ≡ length xs + length answers =
-      length-append bs answers ∙ ap (λ n. n + length answers) (length-replicate k true ∙ all) in
+      omega (arith, length-append bs answers, length-replicate k true) in
       may (bs ++ answers) h x (ap (slice_get (xs ++ ys)) long ∙ slice_get-append xs ys (length xs + length answers)
       ∙ grind (arith, nat_tests, here))
       (told_behind (CalledAt t) f g h bs answers xs ys (length-replicate k true ∙ all)

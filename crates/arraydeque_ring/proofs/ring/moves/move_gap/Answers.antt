@@ -12,17 +12,17 @@ up : (g : Over) (c : After-wrap_add-src g) {d : ℕ}
     → d ≡ place_of c.args.start (c.args.to + c.args.gap) c.capacity-capacity.result
     → let a = c.args in let ps = a.slots.now.places in Crosses a.start d c.wrap_add-src.result (a.from - a.to) ps
     (gap_moved a.from a.to a.gap (rotated a.start ps))
-up g c at = let r = c.requires in
-    crosses _ _ _ _ _ _ _ _ _ _ _ r.in_region r.some r.within r.empty (inl (refl, refl, omega arith))
-    c.capacity-capacity.ensures at c.wrap_add-src.ensures r.filled_before
+up g c at =
+    crosses _ _ _ _ _ _ _ _ _ _ _ c.requires (inl (refl, refl, omega arith))
+    c.capacity-capacity.ensures at c.wrap_add-src.ensures c.requires.filled_before
 
 down : (g : Over) (c : After-wrap_add-dst g) {s : ℕ}
     → s ≡ place_of c.args.start (c.args.from + c.args.gap) c.capacity-capacity.result
     → let a = c.args in let ps = a.slots.now.places in Crosses a.start c.wrap_add-dst.result s (a.to - a.from) ps
     (gap_moved a.from a.to a.gap (rotated a.start ps))
-down g c at = let r = c.requires in
-    crosses _ _ _ _ _ _ _ _ _ _ _ r.in_region r.some r.within r.empty (inr (refl, refl, omega arith))
-    c.capacity-capacity.ensures c.wrap_add-dst.ensures at r.filled_behind
+down g c at =
+    crosses _ _ _ _ _ _ _ _ _ _ _ c.requires (inr (refl, refl, omega arith))
+    c.capacity-capacity.ensures c.wrap_add-dst.ensures at c.requires.filled_behind
 
 pub slide_up-requires : goal.slide_up-requires
 slide_up-requires g c =
