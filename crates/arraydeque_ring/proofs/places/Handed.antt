@@ -6,8 +6,7 @@ use Rattle.std.{
     Common.{ap, ◌∙◌, arith, rules},
     lemmas.{
       Grind.common_steps,
-      List.{places, take-replicate, length-replicate, same_lists, take_at, drop_at, take-map, drop-map, drop-drop},
-      List.{append_assoc},
+      List.{places, take-replicate, length-replicate, same_lists, take_at, drop_at, take-map, drop-map},
     },
   },
 }
@@ -87,12 +86,7 @@ module _ {X : Type 0} (len first : ℕ) (qs : List (Option X)) (le : first ≤ l
         (λ x from to. grind (arith, common_steps, empty_in_run qs 0 len x empty))
 
     pub both_put : take first put ++ (others ++ drop (first + (len - first)) put) ≡ (firsts ++ others) ++ drop len qs
-    both_put =
-        let rest = len - first in
-        let behind : drop (first + rest) put ≡ drop len qs =
-        sym (drop-drop rest first put) ∙ ap (drop rest) (drop_at firsts (drop (0 + first) qs) first many)
-        ∙ drop-drop rest (0 + first) qs ∙ ap (λ k. drop k qs) (omega arith) in
-        rw (take_at firsts (drop (0 + first) qs) first many, behind) (sym (append_assoc firsts others (drop len qs)))
+    both_put = same_lists _ _ (search (rules, places)) (λ j d lt. grind (arith, places))
 
 -- in a new region the first places are empty
 pub all_empty : {X : Type 0} (len n : ℕ) → len ≤ n → IsEmptyRun {X = X} (replicate n None) 0 len

@@ -1,7 +1,8 @@
 -- What the places of a ring hold, read from its start on: first its items, then nothing.
 use Rattle.std.proofs.{
-  Common.{◌≡◌, ◌≢◌, ℕ, ◌+◌, ◌-◌, ◌<◌, ◌≤◌, List, [], ◌∷◌, ◌++◌, length, take, drop, set, get_or, replicate, slice_get},
-  Common.{nat_lt, if◌then◌else◌, Option, Some, None, is_some, true, false, refl, sym, ap, ap₂, ◌∙◌, swap, arith},
+  Common.{◌≡◌, ◌≢◌, ℕ, ◌+◌, ◌-◌, ◌<◌, ◌≤◌, List, [], ◌∷◌, ◌++◌, map, length, take, drop, set, get_or, replicate},
+  Common.{slice_get},
+  Common.{nat_lt, if◌then◌else◌, Option, Some, None, is_some, refl, sym, ap, ◌∙◌, swap, arith},
   lemmas.{
     Grind.common_steps,
     List.{length-append, length-take, length-drop, length-map, length-replicate, length-set, Edits.swap_is},
@@ -82,9 +83,8 @@ module _ {X : Type 0} {n t : ℕ} {xs : List X} {ps : List (Option X)} (l : Laid
   pub FilledFrom-LaidOut : (m : ℕ) → length xs ≡ m → FilledFrom t m (filled ps)
   unfolding filled
   FilledFrom-LaidOut m e =
-      let left : n - length xs ≡ length (filled ps) - m = omega (arith, length-map ps is_some) in
-      rotated-map is_some t ps ∙ ap filled rotated-LaidOut ∙ filled-and_empty xs (n - length xs)
-      ∙ ap₂ (λ a b. replicate a true ++ replicate b false) e left
+      let left : length (map is_some ps) - m ≡ n - length xs = omega (arith, length-map ps is_some) in
+      rw (rotated-map is_some t ps, rotated-LaidOut, left, ← e) (filled-and_empty xs (n - length xs))
 
   -- the place of an item is filled, and that of an index past the last one is empty
   pub IsFilled-place_of : (k : ℕ) → k < length xs → IsFilled ps (place_of t k n)

@@ -2,7 +2,7 @@
 use Rattle.std.{
   proofs.{
     Common.{◌≡◌, ℕ, zero, suc, ◌+◌, ◌<◌, List, [], ◌∷◌, ◌++◌, length, take, replicate, get_or, slice_get, Bool, true},
-    Common.{false, cond, not, count_by, ◌==◌, if◌then◌else◌, refl, sym, ap, ap₂, ◌∙◌, arith},
+    Common.{false, cond, not, count_by, refl, ap, ◌∙◌, arith},
     Retain.answers_push,
     lemmas.{
       Bool.{Decides.nat_tests},
@@ -26,10 +26,7 @@ until_all n = grind (arith, append-nil (replicate n true))
 
 -- n items that stay stand before
 until_behind : (n k m : ℕ) → answers_until (n + k) (n + m) ≡ replicate n true ++ answers_until k m
-until_behind n k m =
-    let test : (n + k == n + m) ≡ (k == m) = grind arith in
-    ap₂ (λ bs b. bs ++ (if b then [] else false ∷ [])) (sym (replicate-append-replicate n k true)) test
-    ∙ append_assoc (replicate n true) (replicate k true) (if k == m then [] else false ∷ [])
+until_behind n k m = grind (arith, append-nil, append_assoc, replicate-append-replicate n k true)
 
 -- those that stay are the first ones, none goes, and none is moved
 pub picked_front : {X : Type 0} (k : ℕ) (xs : List X) → items_where_true (replicate k true) xs ≡ take k xs
