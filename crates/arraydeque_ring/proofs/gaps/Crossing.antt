@@ -35,10 +35,21 @@ module _ {X : Type 0} (from to gap : ℕ) (ps : List (Option X)) (from_in : from
   get_or-gap_moved x = grind (arith, nat_tests, places)
 
 -- a place of an empty run, by its number
-pub empty_at : {X : Type 0} (ps : List (Option X)) (from len x : ℕ) → IsEmptyRun ps from len → from ≤ x
+pub empty_at : {X : Type 0} (ps : List (Option X)) (from len : ℕ) → IsEmptyRun ps from len → (x : ℕ) → from ≤ x
     → x < from + len → held_at ps x ≡ None
-empty_at ps from len x run a b =
+empty_at ps from len run x a b =
     ap (held_at ps) {y = from + (x - from)} (omega arith) ∙ empty_in_run ps from len (x - from) run (omega arith)
+
+-- what `move_gap` asks: a gap, and the values between it and the index that it moves to
+abbrev pub MayMove : {X : Type 0} → ℕ → ℕ → ℕ → ℕ → List (Option X) → Type 0
+MayMove t from to gap ps = record {
+  some : 0 < gap;
+  in_region : t < length ps;
+  within : max from to + gap ≤ length ps;
+  empty : IsEmptyRun (rotated t ps) from gap;
+  filled_before : IsFilledRun (rotated t ps) to (from - to);
+  filled_behind : IsFilledRun (rotated t ps) (from + gap) (to - from);
+}
 
 -- what `wrap_move` asks
 abbrev pub MayWrap : {X : Type 0} → ℕ → ℕ → ℕ → List (Option X) → Type 0
@@ -58,11 +69,11 @@ pub record Crosses {X : Type 0} (t d s len : ℕ) (ps after : List (Option X)) :
 
 apart_by : (t i j len n : ℕ) → t < n → i + len ≤ n → j + len ≤ n
     → MeetAtOneEndAtMost (place_of t i n) (place_of t j n) len n
-apart_by t i j len n t_in a b = grind (arith, nat_tests, distance-rotated t j i n t_in, distance_is j i n)
+apart_by t i j len n t_in a b = grind (arith, distance-rotated t j i n t_in, distance_is j i n)
 
 count_by : (t i j len n : ℕ) → t < n → i + len ≤ n → j + len ≤ n → i ≢ j
     → (if place_of t i n == place_of t j n then 0 else len) ≡ len
-count_by t i j len n t_in a b other = grind (arith, nat_tests, one_place t i j n (omega arith))
+count_by t i j len n t_in a b other = grind (arith, one_place t i j n (omega arith))
 
 -- a gap goes from one index to another where the len values between them, from the index j on, go the other way, to i
 abbrev pub Passes : ℕ → ℕ → ℕ → ℕ → ℕ → ℕ → Type 0
@@ -73,28 +84,28 @@ goes_to : (t from to gap i j len x n : ℕ) → t < n → x < n → Passes from 
     → x < i + len → (distance (place_of t j n) (place_of t x n) n < len) ⊎ ((from ≤ x) × (x < from + gap))
 goes_to t from to gap i j len x n t_in x_in ways within a b =
     rw (distance-rotated t j x n t_in (omega arith) x_in)
-    (grind (arith, nat_tests, distance_is j x n (omega arith) x_in))
+    (grind (arith, distance_is j x n (omega arith) x_in))
 
 passed : {X : Type 0} (from to gap i j len x : ℕ) (qs : List (Option X)) → from + gap ≤ length qs
     → to + gap ≤ length qs → (from ≤ x → x < from + gap → held_at qs x ≡ None) → Passes from to gap i j len
     → look (held_at qs) i j len x ≡ held_at (gap_moved from to gap qs) x
 passed from to gap i j len x qs from_in to_in none ways = elim (cases_lt x i) [
-  | inl low ↦ grind (arith, nat_tests, none)
+  | inl low ↦ grind (arith, none)
   | inr high ↦ elim ways [
-    | inl up ↦ let back : j + (x - i) ≡ x - gap = omega arith in grind (arith, nat_tests, none, back)
-    | inr down ↦ let on : j + (x - i) ≡ x + gap = omega arith in grind (arith, nat_tests, none, on)
+    | inl up ↦ let back : j + (x - i) ≡ x - gap = omega arith in grind (arith, none, back)
+    | inr down ↦ let on : j + (x - i) ≡ x + gap = omega arith in grind (arith, none, on)
   ]
 ] ∙ sym (get_or-gap_moved from to gap qs from_in to_in x)
 
-pub crosses : {X : Type 0} (t from to gap i j len d s m : ℕ) (ps : List (Option X)) → t < length ps → 0 < gap
-    → max from to + gap ≤ length ps → IsEmptyRun (rotated t ps) from gap → Passes from to gap i j len
-    → m ≡ length ps → d ≡ place_of t i m → s ≡ place_of t j m → IsFilledRun (rotated t ps) j len
-    → Crosses t d s len ps (gap_moved from to gap (rotated t ps))
-crosses t from to gap i j len d s m ps t_in some within empty ways long at_d at_s filled =
+pub crosses : {X : Type 0} (t from to gap i j len d s m : ℕ) (ps : List (Option X)) → MayMove t from to gap ps
+    → Passes from to gap i j len → m ≡ length ps → d ≡ place_of t i m → s ≡ place_of t j m
+    → IsFilledRun (rotated t ps) j len → Crosses t d s len ps (gap_moved from to gap (rotated t ps))
+crosses t from to gap i j len d s m ps asked ways long at_d at_s filled =
+    let t_in = asked.in_region in
     let n = length ps in
     let qs = rotated t ps in
     let wide : length qs ≡ n = length-rotated t ps in
-    let none : (x : ℕ) → from ≤ x → x < from + gap → held_at qs x ≡ None = λ x a b. empty_at qs from gap x empty a b in
+    let none = empty_at qs from gap asked.empty in
     let reads : Holds n t (held_at qs) ps = Holds-of_rotated refl (omega arith) (λ k lt. refl) in
     let moved = Holds-moved reads i j len t_in (omega arith) (omega arith) in
     rw (at_d, at_s, long) (record {

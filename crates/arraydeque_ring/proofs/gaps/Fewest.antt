@@ -19,9 +19,9 @@ use Rattle.arraydeque_ring.{
 count_sides : (p : ℕ → Bool) (f b : Bool) (s e n : ℕ) → s ≤ e
     → ((k : ℕ) → k < n → p k ≡ (if nat_lt k s then f else (if nat_lt k e then false else b)))
     → count_below p n ≡ (if f then min s n else 0) + (if b then n - e else 0)
-count_sides p f b s e zero le each = grind (arith, nat_tests)
+count_sides p f b s e zero le each = grind arith
 count_sides p f b s e (suc n) le each = let rest = count_sides p f b s e n le (λ k lt. each k (omega arith)) in
-    grind (arith, nat_tests, each n, rest)
+    grind (arith, rest)
 
 -- from two starts an item has the same place only where they are one
 one_start : (c t u k : ℕ) → t < c → u < c → k ≤ c → (place_of t k c == place_of u k c) ≡ (t == u)
@@ -37,7 +37,6 @@ module _ (i n c t : ℕ) (t_in : t < c) (i_in : i ≤ n) (room : n < c) where
       count_sides _ (not (t == u)) (not (t == place_of u 1 c)) i i n (omega arith)
       (λ k lt. grind (
         arith,
-        nat_tests,
         one_start c t u k t_in u_in (omega arith),
         one_start c t (place_of u 1 c) k t_in next (omega arith),
         place_of-sum u 1 k c,
@@ -45,12 +44,11 @@ module _ (i n c t : ℕ) (t_in : t < c) (i_in : i ≤ n) (room : n < c) where
 
   pub fewest_insert : IsFewest (moves_to_insert i n) c (changed_insert i n c t) (start_opened i (n - i) c t)
   fewest_insert = record {
-    least = λ u lt. grind (arith, nat_tests, inserted u lt, place_of_cases u 1 c (omega arith));
+    least = λ u lt. grind (arith, inserted u lt, place_of_cases u 1 c (omega arith));
     met =
         let back = place_of-lt t (c - 1) c (omega arith) in
         grind (
           arith,
-          nat_tests,
           inserted t t_in,
           inserted (place_of t (c - 1) c) back,
           place_of_cases t 1 c (omega arith),
@@ -79,7 +77,7 @@ module _ (s e n c t : ℕ) (t_in : t ≤ c - 1) (in_order : s ≤ e) (e_in : e �
   pub fewest_drain : IsFewest (moves_to_drain s e n) c (changed_drain s e n c t)
       (start_closed s (e - s) (n - e) c t)
   fewest_drain = record {
-    least = λ u lt. grind (arith, nat_tests, drained u lt, place_of_cases t (e - s) c (omega arith));
+    least = λ u lt. grind (arith, drained u lt, place_of_cases t (e - s) c (omega arith));
     met = elim (cases_lt 0 c) [
       | inl some ↦ grind (
         arith,
@@ -96,7 +94,7 @@ pub fewest_remove : (i n c t : ℕ) → t < c → i < n → n ≤ c
     → IsFewest (moves_to_remove i n) c (changed_remove i n c t) (start_closed i 1 (n - 1 - i) c t)
 fewest_remove i n c t t_in i_in within =
     let all = fewest_drain i (i + 1) n c t (omega arith) (omega arith) (omega arith) within in
-    let count : moves_to_drain i (i + 1) n ≡ moves_to_remove i n = grind (arith, nat_tests) in
+    let count : moves_to_drain i (i + 1) n ≡ moves_to_remove i n = grind arith in
     let one : i + 1 - i ≡ 1 = omega arith in
     let behind : n - (i + 1) ≡ n - 1 - i = omega arith in
     rw (count, one, behind) at all

@@ -1,8 +1,8 @@
 -- A gap among the items of a ring that moves: it opens for an item, or is moved to an end of them, and so closed.
 use Rattle.std.proofs.{
-  Common.{◌≡◌, ℕ, ◌+◌, ◌-◌, ◌<◌, ◌≤◌, List, [], ◌++◌, length, drop, slice_get, max, Option, None, refl},
+  Common.{◌≡◌, ℕ, ◌+◌, ◌-◌, ◌<◌, ◌≤◌, List, [], ◌++◌, length, slice_get, max, Option, None, refl},
   Common.{sym, ap, ◌∙◌, arith},
-  lemmas.{Bool.Decides.nat_tests, List.{length-append, append-nil, get_or-take, get_or-drop}},
+  lemmas.{Bool.Decides.nat_tests, List.{length-append, append-nil}},
 }
 use Rattle.arraydeque_ring.{
   specs.{
@@ -13,33 +13,22 @@ use Rattle.arraydeque_ring.{
   },
   proofs.{
     gaps.{
-      Crossing.{length-gap_moved, get_or-gap_moved, empty_at},
+      Crossing.{MayMove, length-gap_moved, get_or-gap_moved, empty_at},
       Gapped.{Gapped, gapped, LaidOut-gap_first, LaidOut-gap_last},
     },
     places.{
-      Held.{filled_run_of, empty_run_of, length_filled},
+      Held.{filled_run_of, empty_run_of, held_in_run, length_filled},
       Holds.{Holds-of_rotated, Holds-rotated, Holds-same, Holds-from},
-      Items.{items, slice_get_some, get_or-map_Some},
+      Items.{items, slice_get_some},
       LaidOut.{LaidOut, holds, rotated-LaidOut},
-      Rotated.{place_of_cases, place_of-lt, length-rotated},
+      Rotated.{place_of_cases, length-rotated},
     },
   },
 }
 
 -- the start stays in the region
 start_closed-in : (i gap m n t : ℕ) → t < n → gap ≤ n → start_closed i gap m n t ≤ n - 1
-start_closed-in i gap m n t t_in le = grind (arith, nat_tests, place_of-lt t gap n (omega arith))
-
--- what `move_gap` asks: a gap, and the values between it and the index that it moves to
-abbrev pub MayMove : {X : Type 0} → ℕ → ℕ → ℕ → ℕ → List (Option X) → Type 0
-MayMove t from to gap ps = record {
-  some : 0 < gap;
-  in_region : t < length ps;
-  within : max from to + gap ≤ length ps;
-  empty : IsEmptyRun (rotated t ps) from gap;
-  filled_before : IsFilledRun (rotated t ps) to (from - to);
-  filled_behind : IsFilledRun (rotated t ps) (from + gap) (to - from);
-}
+start_closed-in i gap m n t t_in le = grind arith
 
 pub may_move : {X : Type 0} (t from to gap : ℕ) (ps : List (Option X)) {ts : List (Option X)} → rotated t ps ≡ ts
     → 0 < gap → t < length ps → max from to + gap ≤ length ps
@@ -68,26 +57,20 @@ MayClose t i gap m ps = record {
   others_empty : IsEmptyRun (rotated t ps) (i + gap + m) (length ps - (i + gap + m));
 }
 
--- what the places of a run hold
-held_in_run : {X : Type 0} (ps : List (Option X)) (from len k : ℕ) (run : IsFilledRun ps from len) → k < len
-    → held_at ps (from + k) ≡ slice_get run.1.0 k
-held_in_run ps from len k run lt = sym (get_or-take len (drop from ps) k None lt ∙ get_or-drop from ps k None)
-    ∙ ap (λ l. held_at l k) run.1.1 ∙ get_or-map_Some run.1.0 k
-
 -- where there is room, there is a gap behind all items, or before them, from a start one place down
 module _ {X : Type 0} {n t : ℕ} {xs : List X} {ps : List (Option X)} (l : LaidOut n t xs ps)
     (room : length xs < n) where
   pub Gapped-behind : Gapped n t xs 1 [] ps
   Gapped-behind = record {
     within = omega arith;
-    reads = Holds-same (holds l) (λ k lt. grind (arith, nat_tests, items));
+    reads = Holds-same (holds l) (λ k lt. grind (arith, items));
   }
 
   pub Gapped-before : Gapped n (place_of t (n - 1) n) [] 1 xs ps
   Gapped-before = record {
     within = omega arith;
     reads = Holds-from (holds l) (n - 1) (omega arith) (omega arith)
-        (λ k lt. grind (arith, nat_tests, items, place_of_cases (n - 1) k n));
+        (λ k lt. grind (arith, items, place_of_cases (n - 1) k n));
   }
 
 module _ {X : Type 0} {n t : ℕ} {xs : List X} {gap : ℕ} {ys : List X} {ps : List (Option X)}
@@ -99,31 +82,26 @@ module _ {X : Type 0} {n t : ℕ} {xs : List X} {gap : ℕ} {ys : List X} {ps : 
     -- a gap may move to any index
     pub gap_may_move : 0 < gap → to ≤ from + length ys → MayMove t from to gap ps
     gap_may_move some le =
-        let within = p.within in
-        let long = p.reads.length_is in
-        let in_region = p.reads.in_region in
         may_move t from to gap ps refl some (omega arith) (omega arith)
-        (λ x a b. gap_at x (omega arith) ∙ grind (arith, nat_tests))
+        (λ x a b. gap_at x (omega arith) ∙ grind arith)
         (λ x a b. let v = slice_get_some xs x (omega arith) in
-        (v.0, gap_at x (omega arith) ∙ grind (arith, nat_tests, v.1)))
+        (v.0, gap_at x (omega arith) ∙ grind arith))
         (λ x a b. let v = slice_get_some ys (x - (from + gap)) (omega arith) in
-        (v.0, gap_at x (omega arith) ∙ grind (arith, nat_tests, v.1)))
+        (v.0, gap_at x (omega arith) ∙ grind arith))
 
     -- and then it is there, among the same items
     pub gap_moves : {us vs : List X} (s : ℕ) (qs : List (Option X)) → us ++ vs ≡ xs ++ ys → length us ≡ to → s ≤ n - 1
         → rotated s qs ≡ gap_moved from to gap (rotated t ps) → Gapped n s us gap vs qs
     gap_moves {us} {vs} s qs same there s_in is =
-        let within = p.within in
         let wide = length-rotated t ps in
-        let long = p.reads.length_is in
         let many : length us + length vs ≡ length xs + length ys =
         omega (arith, length-append us vs, length-append xs ys, ap length same) in
         let item : (j : ℕ) → slice_get (us ++ vs) j ≡ slice_get (xs ++ ys) j = λ j. ap (λ l. slice_get l j) same in
         record {
           within = omega arith;
           reads = Holds-of_rotated (sym (length-rotated s qs) ∙ ap length is
-              ∙ length-gap_moved from to gap (rotated t ps) (omega arith) (omega arith) ∙ wide ∙ long) s_in (λ x lt.
-              ap (λ l. held_at l x) is
+              ∙ length-gap_moved from to gap (rotated t ps) (omega arith) (omega arith) ∙ wide ∙ p.reads.length_is) s_in
+              (λ x lt. ap (λ l. held_at l x) is
               ∙ get_or-gap_moved from to gap (rotated t ps) (omega arith) (omega arith) x
               ∙ grind (
                 arith,
@@ -151,21 +129,19 @@ module _ {X : Type 0} {n t : ℕ} {xs : List X} {gap : ℕ} {ys : List X} {ps : 
   -- it may be closed
   pub may_close : (i m : ℕ) → 0 < gap → length xs ≡ i → length ys ≡ m → MayClose t i gap m ps
   may_close i m some front back =
-      let within = p.within in
-      let long = p.reads.length_is in
       let wide = length-rotated t ps in
       record {
         some = some;
-        in_region = omega (arith, p.reads.in_region);
+        in_region = omega arith;
         within = omega arith;
         filled_before = filled_run_of _ 0 i (omega arith) (λ x a b. let v = slice_get_some xs x (omega arith) in
-            (v.0, gap_at x (omega arith) ∙ grind (arith, nat_tests, v.1)));
-        empty = empty_run_of _ i gap (omega arith) (λ x a b. gap_at x (omega arith) ∙ grind (arith, nat_tests));
+            (v.0, gap_at x (omega arith) ∙ grind arith));
+        empty = empty_run_of _ i gap (omega arith) (λ x a b. gap_at x (omega arith) ∙ grind arith);
         filled_behind = filled_run_of _ (i + gap) m (omega arith) (λ x a b.
             let v = slice_get_some ys (x - (length xs + gap)) (omega arith) in
-            (v.0, gap_at x (omega arith) ∙ grind (arith, nat_tests, v.1)));
+            (v.0, gap_at x (omega arith) ∙ grind arith));
         others_empty = empty_run_of _ (i + gap + m) (length ps - (i + gap + m)) (omega arith)
-            (λ x a b. gap_at x (omega arith) ∙ grind (arith, nat_tests, items));
+            (λ x a b. gap_at x (omega arith) ∙ grind (arith, items));
       }
 
   -- and what it leaves
@@ -173,29 +149,23 @@ module _ {X : Type 0} {n t : ℕ} {xs : List X} {gap : ℕ} {ys : List X} {ps : 
       → s ≡ start_closed i gap m (length ps) t → rotated s qs ≡ gap_moved i (i + m) gap (rotated t ps)
       → LaidOut n s (xs ++ ys) qs
   LaidOut-closed i m s qs some front back here is =
-      let within = p.within in
-      let long = p.reads.length_is in
       LaidOut-gap_last (gap_moves i (i + m) front s qs (append-nil (xs ++ ys)) (omega (arith, length-append xs ys))
-      (rw (here, long) (start_closed-in i gap m n t (omega (arith, p.reads.in_region)) (omega arith))) is)
+      (rw (here, p.reads.length_is) (start_closed-in i gap m n t (omega arith) (omega arith))) is)
 
 -- a gap between two runs
-pub Gapped-runs : {X : Type 0} (t i gap m : ℕ) (ps : List (Option X)) → t < length ps → i + gap + m ≤ length ps
-    → (before : IsFilledRun (rotated t ps) 0 i) → IsEmptyRun (rotated t ps) i gap
-    → (behind : IsFilledRun (rotated t ps) (i + gap) m)
-    → IsEmptyRun (rotated t ps) (i + gap + m) (length ps - (i + gap + m))
-    → Gapped (length ps) t before.1.0 gap behind.1.0 ps
-Gapped-runs t i gap m ps t_in within before empty behind rest =
-    let front = length_filled _ 0 i before in
-    let back = length_filled _ (i + gap) m behind in
+pub Gapped-runs : {X : Type 0} (t i gap m : ℕ) (ps : List (Option X)) (may : MayClose t i gap m ps)
+    → Gapped (length ps) t may.filled_before.1.0 gap may.filled_behind.1.0 ps
+Gapped-runs t i gap m ps may =
+    let front = length_filled _ 0 i may.filled_before in
+    let back = length_filled _ (i + gap) m may.filled_behind in
     record {
       within = omega arith;
       reads = Holds-of_rotated refl (omega arith) (λ k lt. grind (
         arith,
-        nat_tests,
         items,
-        held_in_run _ 0 i k before,
-        held_in_run _ (i + gap) m (k - (i + gap)) behind,
-        empty_at _ i gap k empty,
-        empty_at _ (i + gap + m) (length ps - (i + gap + m)) k rest,
+        held_in_run _ 0 i k may.filled_before,
+        held_in_run _ (i + gap) m (k - (i + gap)) may.filled_behind,
+        empty_at _ i gap may.empty k,
+        empty_at _ (i + gap + m) (length ps - (i + gap + m)) may.others_empty k,
       ));
     }

@@ -1,8 +1,8 @@
 -- Items in two parts, with a gap of empty places between them: how it comes about, is filled and ends.
 use Rattle.std.proofs.{
   Common.{◌≡◌, ℕ, zero, suc, ◌+◌, ◌-◌, ◌<◌, ◌≤◌, List, [], ◌∷◌, ◌++◌, length, take, drop, set, slice_get, nat_lt},
-  Common.{if◌then◌else◌, Option, Some, None, sym, ap, ◌∙◌, subst, arith},
-  lemmas.{Bool.Decides.nat_tests, List.{length-append, length-take-le, length-drop, append_assoc}},
+  Common.{if◌then◌else◌, Option, Some, None, sym, ap, ◌∙◌, arith},
+  lemmas.{List.{length-append, length-take-le, length-drop}},
 }
 use Rattle.arraydeque_ring.{
   specs.{Places.{held_at, IsEmpty}, Ring.{place_of, rotated}, Gaps.run_emptied},
@@ -11,7 +11,7 @@ use Rattle.arraydeque_ring.{
     Holds.{Holds, Holds-of_rotated, Holds-rotated, Holds-same, Holds-from, Holds-set},
     Items.{items, slice_get-cons},
     LaidOut.{LaidOut, LaidOut-by, holds},
-    Rotated.{place_of_cases, place_of-lt, place_of-zero, length-rotated},
+    Rotated.{place_of_cases, place_of-zero, length-rotated},
   },
 }
 
@@ -31,7 +31,6 @@ module _ {X : Type 0} {n t : ℕ} {xs : List X} {ps : List (Option X)} (l : Laid
   pub Gapped-taken : (from gap : ℕ) (qs : List (Option X)) → from + gap ≤ length xs
       → rotated t qs ≡ run_emptied from gap (rotated t ps) → Gapped n t (take from xs) gap (drop (from + gap) xs) qs
   Gapped-taken from gap qs le out =
-      let within = l.within in
       let long : length (rotated t ps) ≡ n = length-rotated t ps ∙ l.length_is in
       let front = length-take-le from xs (omega arith) in
       record {
@@ -39,79 +38,70 @@ module _ {X : Type 0} {n t : ℕ} {xs : List X} {ps : List (Option X)} (l : Laid
         reads = Holds-of_rotated (sym (length-rotated t qs) ∙ ap length out
             ∙ length-run_emptied from gap (rotated t ps) (omega arith) ∙ long) l.in_region
             (λ k lt. ap (λ zs. held_at zs k) out ∙ get_or-run_emptied from gap (rotated t ps) k (omega arith)
-            ∙ grind (arith, nat_tests, items, Holds-rotated (holds l) k lt));
+            ∙ grind (arith, items, Holds-rotated (holds l) k lt));
       }
 
   -- where one item is
   pub Gapped-taken_one : (i : ℕ) → i < length xs
       → Gapped n t (take i xs) 1 (drop (suc i) xs) (set ps (place_of t i n) None)
   Gapped-taken_one i lt =
-      let within = l.within in
       let front = length-take-le i xs (omega arith) in
       record {
         within = omega (arith, length-drop (suc i) xs);
-        reads = Holds-set (holds l) i None (omega arith) (grind (arith, nat_tests))
-            (λ k k_in other. grind (arith, nat_tests, items));
+        reads = Holds-set (holds l) i None (omega arith) (grind arith)
+            (λ k k_in other. grind (arith, items));
       }
 
 module _ {X : Type 0} {n t : ℕ} {xs : List X} {ps : List (Option X)} where
   -- a gap behind all items is none
   pub LaidOut-gap_last : {gap : ℕ} → Gapped n t xs gap [] ps → LaidOut n t xs ps
-  LaidOut-gap_last p = let within = p.within in
-      LaidOut-by (omega arith) (Holds-same p.reads (λ k lt. grind (arith, nat_tests, items)))
+  LaidOut-gap_last p = LaidOut-by (omega arith) (Holds-same p.reads (λ k lt. grind (arith, items)))
 
   -- before all items it puts off the start
   pub LaidOut-gap_first : (gap : ℕ) → Gapped n t [] gap xs ps → LaidOut n (place_of t gap n) xs ps
   LaidOut-gap_first zero p = rw (place_of-zero t n p.reads.in_region)
-      (LaidOut-by (omega (arith, p.within)) (Holds-same p.reads (λ k lt. grind (arith, nat_tests))))
+      (LaidOut-by (omega arith) (Holds-same p.reads (λ k lt. grind arith)))
   LaidOut-gap_first (suc g) p =
-      let within = p.within in LaidOut-by (omega arith) (Holds-from p.reads (suc g) (omega arith) (omega arith)
-      (λ k lt. grind (arith, nat_tests, items, place_of_cases (suc g) k n)))
-
--- a gap of no places is none
-LaidOut-no_gap : {X : Type 0} {n t : ℕ} {xs ys : List X} {ps : List (Option X)} → Gapped n t xs 0 ys ps
-    → LaidOut n t (xs ++ ys) ps
-LaidOut-no_gap {xs = xs} {ys = ys} p = LaidOut-by (omega (arith, p.within, length-append xs ys))
-    (Holds-same p.reads (λ k lt. grind (arith, nat_tests, items)))
+      LaidOut-by (omega arith) (Holds-from p.reads (suc g) (omega arith) (omega arith)
+      (λ k lt. grind (arith, items, place_of_cases (suc g) k n)))
 
 module _ {X : Type 0} {n t : ℕ} {xs ys : List X} {ps : List (Option X)} where
   -- the first place of a gap is empty
   pub IsEmpty-gap : (gap i : ℕ) → Gapped n t xs gap ys ps → length xs ≡ i → 0 < gap → IsEmpty ps (place_of t i n)
-  IsEmpty-gap gap i p front some = let within = p.within in (
-    omega (arith, p.reads.length_is, place_of-lt t i n (omega (arith, p.reads.in_region))),
-    p.reads.at i (omega arith) ∙ grind (arith, nat_tests),
+  IsEmpty-gap gap i p front some = (
+    omega arith,
+    p.reads.at i (omega arith) ∙ grind arith,
   )
 
   -- an item put there
   Gapped-put : {gap : ℕ} (i : ℕ) (x : X) → Gapped n t xs (suc gap) ys ps → length xs ≡ i
       → Gapped n t (xs ++ x ∷ []) gap ys (set ps (place_of t i n) (Some x))
   Gapped-put i x p front =
-      let within = p.within in let long = length-append xs (x ∷ []) in
+      let long = length-append xs (x ∷ []) in
       record {
         within = omega arith;
-        reads = Holds-set p.reads i (Some x) (omega arith) (grind (arith, nat_tests, items, slice_get-cons))
-            (λ k lt other. grind (arith, nat_tests, items));
+        reads = Holds-set p.reads i (Some x) (omega arith) (grind (arith, items, slice_get-cons))
+            (λ k lt other. grind (arith, items));
       }
 
   -- which joins the parts where the gap is of one place
   pub LaidOut-put : (i : ℕ) (x : X) → Gapped n t xs 1 ys ps → length xs ≡ i
       → LaidOut n t (xs ++ x ∷ ys) (set ps (place_of t i n) (Some x))
-  LaidOut-put i x p front = let qs = set ps (place_of t i n) (Some x) in
-      subst (λ l. LaidOut n t l qs) (append_assoc xs (x ∷ []) ys) (LaidOut-no_gap (Gapped-put i x p front))
+  LaidOut-put i x p front = LaidOut-by (omega (arith, length-append xs (x ∷ ys))) (Holds-set p.reads i (Some x)
+      (omega arith) (grind (arith, items, slice_get-cons)) (λ k lt other. grind (arith, items, slice_get-cons)))
 
 module _ {X : Type 0} {n t : ℕ} {xs : List X} {gap : ℕ} {ps : List (Option X)} (ys : List X) (j i : ℕ)
     (p : Gapped n t xs gap (drop j ys) ps) (here : length xs + gap ≡ i) (some : j < length ys) where
   -- the first item behind the gap, in its place
   pub held_behind : held_at ps (place_of t i n) ≡ slice_get ys j
-  held_behind = let within = p.within in
-      p.reads.at i (omega (arith, length-drop j ys)) ∙ grind (arith, nat_tests, items)
+  held_behind = p.reads.at i (omega (arith, length-drop j ys)) ∙ grind (arith, items)
 
   -- taken out of it
   pub Gapped-take : Gapped n t xs (suc gap) (drop (j + 1) ys) (set ps (place_of t i n) None)
-  Gapped-take = let within = p.within in let long = length-drop j ys in record {
+  Gapped-take = let long = length-drop j ys in record {
     within = omega (arith, length-drop (j + 1) ys);
-    reads = Holds-set p.reads i None (omega arith) (grind (arith, nat_tests))
-        (λ k lt other. grind (arith, nat_tests, items));
+    reads = Holds-set p.reads i None (omega arith) (grind arith)
+        (λ k lt other. grind (arith, items));
   }
 
   -- and moved to the gap's first place, which may be its own

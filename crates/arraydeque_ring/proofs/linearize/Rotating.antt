@@ -1,6 +1,6 @@
 -- A region while it is rotated: pass after pass, values come to their places.
 use Rattle.std.proofs.{
-  Common.{◌≡◌, ℕ, ◌+◌, ◌-◌, ◌<◌, ◌≤◌, ◌⊎◌, List, ◌++◌, length, min, replicate, Option, true, false, is_some},
+  Common.{◌≡◌, ℕ, ◌+◌, ◌-◌, ◌<◌, ◌≤◌, ◌⊎◌, List, length, min, Option, is_some},
   Common.{sym, ap, ◌∙◌, subst, arith},
   lemmas.{Bool.Decides.nat_tests, List.{append-nil}},
 }
@@ -49,10 +49,7 @@ pub record Pass {X : Type 0} (dst next run x : ℕ) (ps : List (Option X)) : Typ
 FilledFrom-rotated : {X : Type 0} (t len : ℕ) (ps : List (Option X)) → FilledFrom t len (filled ps)
     → FilledFrom 0 len (filled (rotated t ps))
 unfolding filled
-FilledFrom-rotated t len ps fills =
-    let same : filled (rotated t ps) ≡ rotated t (filled ps) = sym (rotated-map is_some t ps) in
-    append-nil (filled (rotated t ps)) ∙ same ∙ fills ∙ ap (λ n. replicate len true ++ replicate (n - len) false)
-    (sym (length-rotated t (filled ps)) ∙ ap length (sym same))
+FilledFrom-rotated t len ps fills = rw (append-nil, ← rotated-map is_some t ps, length-rotated t (filled ps)) fills
 
 -- the places are on their way from `old` to these read from the start on
 pub record Rotating {X : Type 0} (capacity start len dst next : ℕ) (old ps : List (Option X)) : Type 0 where
@@ -69,19 +66,15 @@ module _ {X : Type 0} {capacity start len dst next : ℕ} {old ps : List (Option
 
   before : Underway dst (next - dst) (capacity - next) len ps
   before =
-      underway dst (next - dst) (capacity - next) len ps (omega (arith, t.length_is, t.in_order, t.in_region))
+      underway dst (next - dst) (capacity - next) len ps (omega arith)
       still_fills
 
   pub Rotating-fits : len ≤ capacity
-  Rotating-fits = omega (arith, before.many, before.laid.within, t.length_is)
+  Rotating-fits = omega (arith, before.many, before.laid.within)
 
   module _ (run : ℕ) (wraps : capacity - next < len - dst) (most : run ≡ min (capacity - next) (next - dst)) where
     pub Rotating-pass : (x : ℕ) → x ≡ min (len - dst - (capacity - next)) run → Pass dst next run x ps
     Rotating-pass x both =
-        let whole = before.whole in
-        let all = t.length_is in
-        let in_order = t.in_order in
-        let in_region = t.in_region in
         let rs = runs_exchanged dst next x ps in
         let long = length-runs_exchanged dst next x ps (omega arith) (omega arith) in
         let stays : (y : ℕ) → exchanged_from dst next x y ≡ y → held_at rs y ≡ held_at ps y =
@@ -105,9 +98,8 @@ module _ {X : Type 0} {capacity start len dst next : ℕ} {old ps : List (Option
         → ((capacity - next ≤ run) × (next_then ≡ next)) ⊎ ((run < capacity - next) × (next_then ≡ next + run))
         → Rotating capacity start len (dst + run) next_then old (runs_exchanged dst next run ps)
     Rotating-passed next_then ways =
-        let all = t.length_is in let in_order = t.in_order in let in_region = t.in_region in
         record {
-          length_is = length-runs_exchanged dst next run ps (omega arith) (omega arith) ∙ all;
+          length_is = length-runs_exchanged dst next run ps (omega arith) (omega arith) ∙ t.length_is;
           in_order = omega arith;
           in_region = omega arith;
           placed = omega arith;

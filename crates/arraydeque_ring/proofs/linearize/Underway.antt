@@ -18,9 +18,9 @@ use Rattle.arraydeque_ring.{
   },
   proofs.{
     gaps.{
-      Crossing.{length-gap_moved, get_or-gap_moved},
+      Crossing.{MayMove, length-gap_moved, get_or-gap_moved},
       Gapped.{Gapped, LaidOut-gap_last},
-      GapMoves.{MayMove, may_move, gap_may_move, gap_moves},
+      GapMoves.{may_move, gap_may_move, gap_moves},
     },
     moved.Flat.same_places,
     places.{
@@ -55,47 +55,43 @@ module _ {X : Type 0} {dst gap behind len : ℕ} {ps : List (Option X)} (u : Und
   -- what a place holds now
   held_now : (x : ℕ) → x < length ps → held_at ps x ≡ slice_get u.list (rotated_from dst behind gap x)
   held_now x lt =
-      let whole = u.whole in
       let y = rotated_from dst behind gap x in
-      let back : rotated_from dst gap behind y ≡ x = grind (arith, nat_tests) in
+      let back : rotated_from dst gap behind y ≡ x = grind arith in
       ap (held_at ps) (sym back) ∙ sym (get_or-run_rotated dst gap behind ps (omega arith) y)
-      ∙ Holds-first (holds u.laid) y (grind (arith, nat_tests))
+      ∙ Holds-first (holds u.laid) y (grind arith)
 
   pub filled_now : (x : ℕ) → x < length ps → rotated_from dst behind gap x < len → IsFilled ps x
-  filled_now x lt some = let v = slice_get_some u.list _ (omega (arith, some, u.many)) in (v.0, held_now x lt ∙ v.1)
+  filled_now x lt some = let v = slice_get_some u.list _ (omega arith) in (v.0, held_now x lt ∙ v.1)
 
   pub empty_now : (x : ℕ) → x < length ps → len ≤ rotated_from dst behind gap x → held_at ps x ≡ None
-  empty_now x lt past = held_now x lt ∙ slice_get_past u.list _ (omega (arith, past, u.many))
+  empty_now x lt past = held_now x lt ∙ slice_get_past u.list _ (omega arith)
 
   -- places that hold the list are all of them
   pub holds_all : (qs : List (Option X)) → length qs ≡ length ps
       → ((x : ℕ) → x < length ps → held_at qs x ≡ slice_get u.list x) → qs ≡ run_rotated dst gap behind ps
   holds_all qs long each = same_places _ _ (long ∙ sym u.laid.length_is) (λ x lt.
-      let x_in : x < length ps = omega (arith, u.laid.length_is) in
+      let x_in : x < length ps = omega arith in
       each x x_in ∙ sym (Holds-first (holds u.laid) x x_in))
 
   -- with no gap all are in their places
   pub none_left : gap ≡ 0 → ps ≡ run_rotated dst gap behind ps
-  none_left none = let whole = u.whole in
-      holds_all ps refl (λ x lt. held_now x lt ∙ ap (slice_get u.list) (grind (arith, nat_tests)))
+  none_left none = holds_all ps refl (λ x lt. held_now x lt ∙ ap (slice_get u.list) (grind arith))
 
   -- the values that are left may stand behind the gap, in one piece
   module _ (placed : dst ≤ len) (fits : len ≤ dst + behind) where
     front : length (take dst u.list) ≡ dst
-    front = length-take-le dst u.list (omega (arith, u.many))
+    front = length-take-le dst u.list (omega arith)
 
     parted : Gapped (length ps) 0 (take dst u.list) gap (drop dst u.list) ps
     parted =
-        let whole = u.whole in
-        let many = u.many in
         record {
           within = omega (arith, front, length-drop dst u.list);
           reads = Holds-of_rotated refl (omega arith)
-              (λ k lt. rw (append-nil ps) (held_now k lt ∙ grind (arith, nat_tests, items, front)));
+              (λ k lt. rw (append-nil ps) (held_now k lt ∙ grind (arith, items, front)));
         }
 
     pub last_may_move : 0 < gap → MayMove 0 dst len gap ps
-    last_may_move some = gap_may_move parted dst len front some (omega (arith, u.many, length-drop dst u.list))
+    last_may_move some = gap_may_move parted dst len front some (omega (arith, length-drop dst u.list))
 
     pub last_moved : (qs : List (Option X)) → rotated 0 qs ≡ gap_moved dst len gap (rotated 0 ps)
         → qs ≡ run_rotated dst gap behind ps
@@ -110,10 +106,9 @@ module _ {X : Type 0} {dst gap behind len : ℕ} {ps : List (Option X)} (u : Und
       (room : (dst + gap ≡ next) × (from + behind ≡ len) × (dst ≤ from) × (len ≤ next) × (0 < behind)) where
     pub room_for_first : MayMove 0 from dst behind ps
     room_for_first =
-        let whole = u.whole in
         may_move 0 from dst behind ps (append-nil ps) (omega arith) (omega arith) (omega arith)
-        (λ x a b. empty_now x (omega arith) (grind (arith, nat_tests)))
-        (λ x a b. filled_now x (omega arith) (grind (arith, nat_tests))) (λ x a b. absurd (omega arith))
+        (λ x a b. empty_now x (omega arith) (grind arith))
+        (λ x a b. filled_now x (omega arith) (grind arith)) (λ x a b. absurd (omega arith))
 
     module _ (qs : List (Option X)) (is : rotated 0 qs ≡ gap_moved from dst behind (rotated 0 ps)) where
       same : qs ≡ gap_moved from dst behind ps
@@ -123,22 +118,18 @@ module _ {X : Type 0} {dst gap behind len : ℕ} {ps : List (Option X)} (u : Und
           else (if nat_lt x (dst + behind) then None
           else (if nat_lt x next then slice_get u.list x else slice_get u.list (x - gap))))
       made_room x lt =
-          let whole = u.whole in
-          let many = u.many in
           ap (λ l. held_at l x) same ∙ get_or-gap_moved from dst behind ps (omega arith) (omega arith) x
           ∙ grind (arith, nat_tests, slice_get_past, held_now x lt, held_now (x - behind))
 
       pub first_moved : IsEmptyRun qs dst behind × IsFilledRun qs next behind
           × (runs_exchanged dst next behind qs ≡ run_rotated dst gap behind ps)
       first_moved =
-          let whole = u.whole in
-          let many = u.many in
           let long : length qs ≡ length ps =
           ap length same ∙ length-gap_moved from dst behind ps (omega arith) (omega arith) in (
             empty_run_of qs dst behind (omega arith) (λ x a b. made_room x (omega arith) ∙ grind (arith, nat_tests)),
             filled_run_of qs next behind (omega arith) (λ x a b.
                 let v = slice_get_some u.list (x - gap) (omega arith) in
-                (v.0, made_room x (omega arith) ∙ grind (arith, nat_tests, v.1))),
+                (v.0, made_room x (omega arith) ∙ grind (arith, nat_tests))),
             holds_all _ (length-runs_exchanged dst next behind qs (omega arith) (omega arith) ∙ long) (λ x lt.
                 get_or-runs_exchanged dst next behind qs (omega arith) (omega arith) x
                 ∙ grind (

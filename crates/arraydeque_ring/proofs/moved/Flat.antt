@@ -23,13 +23,13 @@ use Rattle.arraydeque_ring.{
 -- the distance between two places, of which the first may be the end
 pub distance_is : (from to n : ℕ) → from ≤ n → to < n
     → distance from to n ≡ (if nat_lt to from then to + n - from else to - from)
-distance_is from to n a b = grind (arith, nat_tests, place_of_cases to (n - from) n (omega arith))
+distance_is from to n a b = grind (arith, place_of_cases to (n - from) n (omega arith))
 
 -- to go up from src by the distance to dst is to come there
 pub up_from : (dst src n : ℕ) → dst < n → src < n → place_of src (distance src dst n) n ≡ dst
 up_from dst src n a b =
     let d = place_of-lt dst (n - src) n (omega arith) in
-    grind (arith, place_of_cases dst (n - src) n (omega arith), place_of_cases src (distance src dst n) n (omega arith))
+    grind (arith, place_of_cases src (distance src dst n) n (omega arith))
 
 module _ {X : Type 0} where
   pub length-moved : (dst src len : ℕ) (ps : List (Option X)) → length (run_moved dst src len ps) ≡ length ps
@@ -83,7 +83,7 @@ module _ {X : Type 0} where
   -- where no value moves, or all of a run have, nothing is left to move
   pub moved_none : (dst src : ℕ) (ps : List (Option X)) → run_moved dst src 0 ps ≡ ps
   moved_none dst src ps = same_places _ _ (length-moved dst src 0 ps)
-      (λ x lt. moved_at dst src 0 ps x refl lt ∙ grind (arith, nat_tests))
+      (λ x lt. moved_at dst src 0 ps x refl lt ∙ grind arith)
 
   pub all_moved : (dst src len : ℕ) (now : Region X) {whole : List (Option X)} {steps : Steps} → len ≡ 0
       → run_moved dst src len now.places ≡ whole → now.steps ≡ steps → now ≡ record { places = whole; steps = steps }
@@ -99,7 +99,7 @@ module _ {X : Type 0} where
   -- or where a run moves to where it is
   pub moved_nowhere : (at len : ℕ) (ps : List (Option X)) → at < length ps → run_moved at at len ps ≡ ps
   moved_nowhere at len ps lt = same_places _ _ (length-moved at at len ps)
-      (λ x x_in. moved_at at at len ps x refl x_in ∙ grind (arith, nat_tests, up_from x at (length ps) x_in lt))
+      (λ x x_in. moved_at at at len ps x refl x_in ∙ grind (arith, up_from x at (length ps) x_in lt))
 
   -- a run from its index 0 on is the run
   pub whole_run : (dst src len : ℕ) (ps : List (Option X))

@@ -19,7 +19,6 @@ distance-rotated t i x n a b c =
     let q = place_of-lt t x n (omega arith) in
     grind (
       arith,
-      nat_tests,
       distance_is i x n b c,
       distance_is (place_of t i n) (place_of t x n) n (omega arith) q,
       place_of_cases t i n (omega arith),

@@ -9,7 +9,7 @@ use Rattle.arraydeque_ring.{
   proofs.{
     moved.Flat.{distance_is, length-moved, moved_at, same_move, same_places},
     places.Held.filled_run_of,
-    places.Rotated.{place_of_cases, place_of-lt, place_of-sum, place_of-zero},
+    places.Rotated.{MayStartAt, place_of_cases, place_of-lt, place_of-sum},
   },
 }
 
@@ -20,7 +20,6 @@ distance-by : (a b x n : ℕ) → a < n → b < n → x < n
 distance-by a b x n p q r = (
   grind (
     arith,
-    nat_tests,
     distance_is a b n (omega arith) q,
     distance_is b x n (omega arith) r,
     distance_is a x n (omega arith) r,
@@ -32,7 +31,7 @@ distance-by a b x n p q r = (
 -- the place k on is at the distance k
 distance-up : (i k n : ℕ) → i < n → k < n → distance i (place_of i k n) n ≡ k
 distance-up i k n a b = let at = place_of-lt i k n (omega arith) in
-    grind (arith, nat_tests, distance_is i (place_of i k n) n (omega arith) at, place_of_cases i k n (omega arith))
+    grind (arith, place_of_cases i k n (omega arith))
 
 -- of the l values of a run that moves from s to d, k from the index i on move first, and then the m others, from the
 -- index j on: the first ones first, where none of the others is in their way, or the last ones
@@ -42,7 +41,12 @@ InOrder d s l n i j k m = ((i ≡ 0) × (j ≡ k) × (0 < distance s d n → l �
 
 -- the l values from t on, which go to e, are those from the index i on
 abbrev pub IsPart : ℕ → ℕ → ℕ → ℕ → ℕ → ℕ → ℕ → Type 0
-IsPart d s n i l e t = (l ≡ 0) ⊎ ((e ≡ place_of d i n) × (t ≡ place_of s i n))
+IsPart d s n i l e t = (l ≡ 0) ⊎ ((e < n) × (t < n) × MayStartAt d i n e × MayStartAt s i n t)
+
+at_places : (d s n i l e t : ℕ) → d < n → s < n → i ≤ n → IsPart d s n i l e t
+    → (l ≡ 0) ⊎ ((e ≡ place_of d i n) × (t ≡ place_of s i n))
+at_places d s n i l e t d_in s_in i_in part =
+    grind (arith, place_of_cases d i n (omega arith), place_of_cases s i n (omega arith))
 
 -- k values can move from t to e, and then m from u to f, which gives the places `whole`
 pub record Steps {X : Type 0} (e t k f u m : ℕ) (ps whole : List (Option X)) : Type 0 where
@@ -75,7 +79,7 @@ module _ {X : Type 0} (d s l i j k m n : ℕ) (ps : List (Option X)) (long : len
 
   still_there : (x : ℕ) → x < n → distance (place_of s j n) x n < m → held_at after_first x ≡ held_at ps x
   still_there x lt a = moved_at (place_of d i n) (place_of s i n) k ps x long lt
-      ∙ grind (arith, nat_tests, apart x lt a, either s x s_in lt)
+      ∙ grind (arith, apart x lt a, either s x s_in lt)
 
   both : run_moved (place_of d j n) (place_of s j n) m after_first ≡ run_moved d s l ps
   both =
@@ -106,7 +110,9 @@ module _ {X : Type 0} (d s l i j k m n : ℕ) (ps : List (Option X)) (long : len
 
   pub steps : IsFilledRound s l ps → (e t f u : ℕ) → IsPart d s n i k e t → IsPart d s n j m f u
       → Steps e t k f u m ps (run_moved d s l ps)
-  steps filled e t f u one two =
+  steps filled e t f u first second =
+      let one = at_places d s n i k e t d_in s_in (omega arith) first in
+      let two = at_places d s n j m f u d_in s_in (omega arith) second in
       let now : run_moved e t k ps ≡ after_first = same_move e t _ _ k ps one in
       let at : (o x : ℕ) → o + x < l → IsFilled ps (place_of (place_of s o n) x n) =
       λ o x lt. rw (place_of-sum s o x n, ← long) (filled (o + x) lt) in
@@ -142,26 +148,17 @@ round_run ps from len le filled = filled_run_of ps from len le (λ x a b.
 -- the last m
 module _ {X : Type 0} (i j k m l : ℕ) (ps : List (Option X)) (all : k + m ≡ l) (some : 0 < l) (can : CanCopy i j l ps)
   where
-    names : IsPart i j (length ps) 0 k i j × IsPart i j (length ps) k m (i + k) (j + k)
-    names = let n = length ps in let target = can.target in let source = can.source in grind (
-      arith,
-      place_of-zero i n (omega arith),
-      place_of-zero j n (omega arith),
-      place_of_cases i k n (omega arith),
-      place_of_cases j k n (omega arith),
-    )
-
     pub first_block_goes : i ≤ j → Steps i j k (i + k) (j + k) m ps (run_moved i j l ps)
-    first_block_goes down = let n = length ps in let target = can.target in let source = can.source in
+    first_block_goes down = let n = length ps in
         steps i j l 0 k k m n ps refl (omega arith) (omega arith) (omega arith) all
-        (inl (omega arith, omega arith, λ far. grind (arith, nat_tests, distance_is j i n (omega arith) (omega arith))))
-        can.filled i j (i + k) (j + k) names.0 names.1
+        (inl (omega arith, omega arith, λ far. grind arith))
+        can.filled i j (i + k) (j + k) (grind arith) (grind arith)
 
     pub last_block_goes : j ≤ i → Steps (i + k) (j + k) m i j k ps (run_moved i j l ps)
-    last_block_goes up = let n = length ps in let target = can.target in let source = can.source in
+    last_block_goes up = let n = length ps in
         steps i j l k 0 m k n ps refl (omega arith) (omega arith) (omega arith) (omega arith)
-        (inr (omega arith, omega arith, grind (arith, nat_tests, distance_is j i n (omega arith) (omega arith))))
-        can.filled (i + k) (j + k) i j names.1 names.0
+        (inr (omega arith, omega arith, grind arith))
+        can.filled (i + k) (j + k) i j (grind arith) (grind arith)
 
 -- three copies can be made one after the other
 pub record Three {X : Type 0} (d₁ s₁ l₁ d₂ s₂ l₂ d₃ s₃ l₃ : ℕ) (ps whole : List (Option X)) : Type 0 where
@@ -171,44 +168,40 @@ pub record Three {X : Type 0} (d₁ s₁ l₁ d₂ s₂ l₂ d₃ s₃ l₃ : �
   pub is : run_moved d₃ s₃ l₃ (run_moved d₂ s₂ l₂ (run_moved d₁ s₁ l₁ ps)) ≡ whole
 
 -- a run that moves in three parts, none of which passes the end: up to the index a, from there to b, and from there on
-module _ {X : Type 0} (d s l n a b k m d₁ s₁ d₂ s₂ d₃ s₃ : ℕ) (ps : List (Option X)) (long : length ps ≡ n)
+module _ {X : Type 0} (d s l n a b k m d₁ s₁ d₂ s₂ d₃ s₃ : ℕ) (ps : List (Option X)) (n_is : n ≡ length ps)
     (d_in : d < n) (s_in : s < n) (filled : IsFilledRound s l ps) (parts : (a + k ≡ b) × (b + m ≡ l) × (l ≤ n))
     (before : IsPart d s n 0 a d₁ s₁ × ((d₁ + a ≤ n) × (s₁ + a ≤ n)))
     (between : IsPart d s n a k d₂ s₂ × ((d₂ + k ≤ n) × (s₂ + k ≤ n)))
     (behind : IsPart d s n b m d₃ s₃ × ((d₃ + m ≤ n) × (s₃ + m ≤ n))) where
-  whole : (o : ℕ) → IsPart d s n 0 o d s
-  whole o = inr (sym (place_of-zero d n (omega arith)), sym (place_of-zero s n (omega arith)))
-
-  three_down : (0 < distance s d n → l ≤ distance s d n)
-      → Three d₁ s₁ a d₂ s₂ k d₃ s₃ m ps (run_moved d s l ps)
-  three_down far =
-      let firsts = steps d s b 0 a a k n ps long d_in s_in (omega arith) (omega arith)
-      (inl (omega arith, omega arith, λ some. omega (arith, far some))) (λ x lt. filled x (omega arith)) d₁ s₁ d₂ s₂
-      before.0 between.0 in
-      let last = steps d s l 0 b b m n ps long d_in s_in (omega arith) (omega arith)
-      (inl (omega arith, omega arith, far)) filled d s d₃ s₃ (whole b) behind.0 in
-      let same = length-moved d₁ s₁ a ps ∙ long in
-      record {
-        one = can_copy long before.1 firsts.first;
-        two = can_copy same between.1 firsts.second;
-        three = can_copy (length-moved d₂ s₂ k _ ∙ same) behind.1 (rw firsts.is last.second);
-        is = ap (run_moved d₃ s₃ m) firsts.is ∙ last.is;
-      }
-
-  three_up : distance s d n + l ≤ n → Three d₃ s₃ m d₂ s₂ k d₁ s₁ a ps (run_moved d s l ps)
-  three_up near =
-      let same = length-moved d₃ s₃ m ps ∙ long in
-      let last = steps d s l b 0 m b n ps long d_in s_in (omega arith) (omega arith)
-      (inr (omega arith, omega arith, near)) filled d₃ s₃ d s behind.0 (whole b) in
-      let firsts = steps d s b a 0 k a n (run_moved d₃ s₃ m ps) same d_in s_in (omega arith) (omega arith)
-      (inr (omega arith, omega arith, omega arith)) last.second d₂ s₂ d₁ s₁ between.0 before.0 in
-      record {
-        one = can_copy long behind.1 last.first;
-        two = can_copy same between.1 firsts.first;
-        three = can_copy (length-moved d₂ s₂ k _ ∙ same) before.1 firsts.second;
-        is = firsts.is ∙ last.is;
-      }
+  long : length ps ≡ n
+  long = sym n_is
 
   pub three : ((0 < distance s d n → l ≤ distance s d n) → Three d₁ s₁ a d₂ s₂ k d₃ s₃ m ps (run_moved d s l ps))
       × (distance s d n + l ≤ n → Three d₃ s₃ m d₂ s₂ k d₁ s₁ a ps (run_moved d s l ps))
-  three = (three_down, three_up)
+  three = (
+    λ far.
+        let firsts = steps d s b 0 a a k n ps long d_in s_in (omega arith) (omega arith)
+        (inl (omega arith, omega arith, λ some. omega arith)) (λ x lt. filled x (omega arith)) d₁ s₁ d₂ s₂
+        before.0 between.0 in
+        let last = steps d s l 0 b b m n ps long d_in s_in (omega arith) (omega arith)
+        (inl (omega arith, omega arith, far)) filled d s d₃ s₃ (grind arith) behind.0 in
+        let same = length-moved d₁ s₁ a ps ∙ long in
+        record {
+          one = can_copy long before.1 firsts.first;
+          two = can_copy same between.1 firsts.second;
+          three = can_copy (length-moved d₂ s₂ k _ ∙ same) behind.1 (rw firsts.is last.second);
+          is = ap (run_moved d₃ s₃ m) firsts.is ∙ last.is;
+        },
+    λ near.
+        let last = steps d s l b 0 m b n ps long d_in s_in (omega arith) (omega arith)
+        (inr (omega arith, omega arith, near)) filled d₃ s₃ d s behind.0 (grind arith) in
+        let same = length-moved d₃ s₃ m ps ∙ long in
+        let firsts = steps d s b a 0 k a n (run_moved d₃ s₃ m ps) same d_in s_in (omega arith) (omega arith)
+        (inr (omega arith, omega arith, omega arith)) last.second d₂ s₂ d₁ s₁ between.0 before.0 in
+        record {
+          one = can_copy long behind.1 last.first;
+          two = can_copy same between.1 firsts.first;
+          three = can_copy (length-moved d₂ s₂ k _ ∙ same) before.1 firsts.second;
+          is = firsts.is ∙ last.is;
+        },
+  )

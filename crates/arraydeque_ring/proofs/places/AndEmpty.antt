@@ -46,17 +46,17 @@ module _ {X : Type 0} where
       → (ps ≡ and_empty (values ps) k) × (length (values ps) ≡ n)
   unfolding filled
   and_empty_from [] zero zero e = (refl, refl)
-  and_empty_from [] zero (suc k) e = absurd (let l = ap length e in omega arith)
-  and_empty_from [] (suc n) k e = absurd (let l = ap length e in omega arith)
-  and_empty_from (None ∷ ps) zero zero e = absurd (let l = ap length e in omega arith)
+  and_empty_from [] zero (suc k) e = absurd (cc)
+  and_empty_from [] (suc n) k e = absurd (cc)
+  and_empty_from (None ∷ ps) zero zero e = absurd (cc)
   and_empty_from (None ∷ ps) zero (suc k) e =
       let rest = and_empty_from ps zero k (ap (drop 1) e) in
       let nothing = nil_from_length (values ps) rest.1 in (
         ap (λ l. None ∷ l) (rest.0 ∙ ap (λ l. and_empty l k) nothing) ∙ ap (λ l. and_empty l (suc k)) (sym nothing),
         rest.1,
       )
-  and_empty_from (None ∷ ps) (suc n) k e = absurd (let l : false ≡ true = ap (λ l. get_or l 0 true) e in cc)
-  and_empty_from (Some x ∷ ps) zero zero e = absurd (let l = ap length e in omega arith)
-  and_empty_from (Some x ∷ ps) zero (suc k) e = absurd (let l : true ≡ false = ap (λ l. get_or l 0 true) e in cc)
+  and_empty_from (None ∷ ps) (suc n) k e = absurd (cc)
+  and_empty_from (Some x ∷ ps) zero zero e = absurd (cc)
+  and_empty_from (Some x ∷ ps) zero (suc k) e = absurd (cc)
   and_empty_from (Some x ∷ ps) (suc n) k e = let rest = and_empty_from ps n k (ap (drop 1) e) in
       (ap (λ l. Some x ∷ l) rest.0, ap suc rest.1)

@@ -1,11 +1,11 @@
 -- Items that are laid behind a list, in one run of places.
 use Rattle.std.proofs.{
   Common.{◌≡◌, ℕ, ◌+◌, ◌-◌, ◌≤◌, List, ◌++◌, length, take, drop, get_or, slice_get, nat_lt, if◌then◌else◌, Option},
-  Common.{Some, None, replicate, refl, inl, sym, ap, ◌∙◌, arith},
+  Common.{None, replicate, refl, inl, sym, ap, ◌∙◌, arith},
   lemmas.{
     Bool.Decides.nat_tests,
     Grind.common_steps,
-    List.{length-append, length-map, append_assoc, drop-drop},
+    List.{length-append, append_assoc, drop-drop},
     Option.slice_get_past,
   },
   Math.Seq.take-add,
@@ -30,22 +30,20 @@ module _ {X : Type 0} where
       get_or (with_run at ys ps) x None ≡ (if nat_lt x at then get_or ps x None
       else (if nat_lt x (at + length ys) then slice_get ys (x - at) else get_or ps x None))
   get_or-with_run at ys ps x le =
-      let made = get_or-map_Some ys (x - at) in
-      let many = length-map ys Some in
-      grind (arith, nat_tests, common_steps, made, many)
+      grind (arith, common_steps, get_or-map_Some ys (x - at))
 
   -- a run of indexes is written, from the index i on
   pub Holds-run : {n t : ℕ} {f : ℕ → Option X} {ps : List (Option X)} → Holds n t f ps → (i place : ℕ) (ys : List X)
       → MayStartAt t i n place → place + length ys ≤ n → i + length ys ≤ n → Holds n t (λ k. if nat_lt k i then f k
       else (if nat_lt k (i + length ys) then slice_get ys (k - i) else f k)) (with_run place ys ps)
   Holds-run {n} {t} {ps = ps} h i place ys lies fits room =
-      let long = h.length_is in let in_region = h.in_region in record {
-        length_is = length-with_run place ys ps (omega arith) ∙ long;
-        in_region = in_region;
+      record {
+        length_is = length-with_run place ys ps (omega arith) ∙ h.length_is;
+        in_region = h.in_region;
         at = λ k lt.
             let was = h.at k lt in
             let read = get_or-with_run place ys ps in
-            grind (arith, nat_tests, read, was, place_of_cases t k n (omega arith), lies);
+            grind (arith, read, was, place_of_cases t k n (omega arith), lies);
       }
 
   module _ {n t : ℕ} {xs : List X} {ps : List (Option X)} (l : LaidOut n t xs ps) where
@@ -53,20 +51,18 @@ module _ {X : Type 0} where
         place + length ys ≤ n → length xs + length ys ≤ n → LaidOut n t (xs ++ ys) (with_run place ys ps)
     LaidOut-appended ys place lies fits room =
         LaidOut-by (omega (arith, length-append xs ys))
-        (Holds-same (Holds-run (holds l) (length xs) place ys lies fits room) (λ k lt. grind (arith, nat_tests, items)))
+        (Holds-same (Holds-run (holds l) (length xs) place ys lies fits room) (λ k lt. grind (arith, items)))
 
     -- as many items are written in their stead, where the list lies in one piece
     pub LaidOut-written : (ys : List X) → length ys ≡ length xs → t + length ys ≤ n → LaidOut n t ys (with_run t ys ps)
     LaidOut-written ys many fits =
-        LaidOut-by (omega (arith, fits)) (Holds-same (Holds-run (holds l) 0 t ys (inl (omega arith)) fits (omega arith))
-        (λ k lt. grind (arith, nat_tests, items)))
+        LaidOut-by (omega arith) (Holds-same (Holds-run (holds l) 0 t ys (inl (omega arith)) fits (omega arith))
+        (λ k lt. grind (arith, items)))
 
     -- the places behind the list are empty
     pub IsEmptyRun-from : (i place run : ℕ) → length xs ≤ i → MayStartAt t i n place → place + run ≤ n → i + run ≤ n
         → IsEmptyRun ps place run
     IsEmptyRun-from i place run past lies fits room =
-        let long = l.length_is in
-        let in_region = l.in_region in
         empty_run_of ps place run (omega arith) (λ x from to.
         let j = x - place in
         let on : x ≡ place + j = omega arith in
@@ -95,19 +91,7 @@ module _ {X : Type 0} where
   shed m o = record o { items = drop m o.items; start = up_by m o.start o.capacity; steps = more_takes m o.steps }
 
   pub joined-both : (j k : ℕ) (r o : RingState X) → joined k (joined j r o) (shed j o) ≡ joined (j + k) r o
-  joined-both j k r o =
-      let items : (r.items ++ take j o.items) ++ take k (drop j o.items) ≡ r.items ++ take (j + k) o.items =
-      append_assoc r.items (take j o.items) (take k (drop j o.items))
-      ∙ ap (λ l. r.items ++ l) (sym (take-add j k o.items))
-      in
-      let puts : r.steps.puts + j + k ≡ r.steps.puts + (j + k) = omega arith in
-      λ i. record r { items = items i; steps = record r.steps { puts = puts i } }
+  joined-both j k r o = grind (arith, append_assoc, take-add j k o.items)
 
   pub shed-both : (j k : ℕ) (o : RingState X) → shed k (shed j o) ≡ shed (j + k) o
-  shed-both j k o =
-      let takes : o.steps.takes + j + k ≡ o.steps.takes + (j + k) = omega arith in
-      λ i. record o {
-        items = drop-drop k j o.items i;
-        start = up_by-both j k o.start o.capacity i;
-        steps = record o.steps { takes = takes i };
-      }
+  shed-both j k o = grind (arith, drop-drop, up_by-both)

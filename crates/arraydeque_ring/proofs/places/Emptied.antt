@@ -1,8 +1,8 @@
 -- A run of places that is emptied, one place after another.
 use Rattle.std.proofs.{
-  Common.{◌≡◌, ℕ, ◌+◌, ◌<◌, ◌≤◌, ◌==◌, List, length, set, get_or, nat_lt, if◌then◌else◌, Option, None},
+  Common.{◌≡◌, ℕ, ◌+◌, ◌-◌, ◌<◌, ◌≤◌, ◌==◌, List, length, set, get_or, nat_lt, if◌then◌else◌, Option, None},
   Common.{◌∙◌, arith, rules},
-  lemmas.{Bool.{Decides.nat_tests}, Grind.common_steps, List.{places}},
+  lemmas.{Grind.common_steps, List.{places}},
 }
 use Rattle.arraydeque_ring.{specs.Gaps.run_emptied, proofs.moved.Flat.same_places}
 
@@ -10,7 +10,7 @@ module _ {X : Type 0} where
   -- what a place holds once c is written to the place i
   pub get_or-written : (ps : List (Option X)) (i x : ℕ) (c : Option X) → i < length ps
       → get_or (set ps i c) x None ≡ (if x == i then c else get_or ps x None)
-  get_or-written ps i x c lt = grind (arith, nat_tests, common_steps)
+  get_or-written ps i x c lt = grind (arith, common_steps)
 
   module _ (at k : ℕ) (ps : List (Option X)) where
     pub length-run_emptied : at + k ≤ length ps → length (run_emptied at k ps) ≡ length ps
@@ -18,14 +18,15 @@ module _ {X : Type 0} where
 
     pub get_or-run_emptied : (x : ℕ) → at + k ≤ length ps → get_or (run_emptied at k ps) x None
         ≡ (if nat_lt x at then get_or ps x None else (if nat_lt x (at + k) then None else get_or ps x None))
-    get_or-run_emptied x le = grind (arith, nat_tests, common_steps)
+    get_or-run_emptied x le = grind (arith, common_steps)
 
-  module _ (ps : List (Option X)) (at k i : ℕ) (here : at + k ≡ i) (lt : i < length ps) where
+  -- the places from `at` up to i are empty
+  module _ (ps : List (Option X)) (at i : ℕ) (le : at ≤ i) (lt : i < length ps) where
     -- the next place is as it was, and the run is longer with it
-    pub next_unchanged : get_or (run_emptied at k ps) i None ≡ get_or ps i None
-    next_unchanged = get_or-run_emptied at k ps i (omega arith) ∙ grind (arith, nat_tests)
+    pub next_unchanged : get_or (run_emptied at (i - at) ps) i None ≡ get_or ps i None
+    next_unchanged = get_or-run_emptied at (i - at) ps i (omega arith) ∙ grind arith
 
-    pub next_emptied : set (run_emptied at k ps) i None ≡ run_emptied at (k + 1) ps
+    pub next_emptied : set (run_emptied at (i - at) ps) i None ≡ run_emptied at (i + 1 - at) ps
     next_emptied = same_places _ _ (search (rules, places)) (λ x x_in.
-        get_or-written (run_emptied at k ps) i x None (search (rules, places)) ∙ grind
-        (arith, nat_tests, get_or-run_emptied at k ps x, get_or-run_emptied at (k + 1) ps x))
+        get_or-written (run_emptied at (i - at) ps) i x None (search (rules, places)) ∙ grind
+        (arith, get_or-run_emptied at (i - at) ps x, get_or-run_emptied at (i + 1 - at) ps x))

@@ -3,22 +3,21 @@
 use Rattle.std.{
   proofs.{
     Common.{◌≡◌, ℕ, ◌+◌, ◌-◌, ◌<◌, ◌≤◌, min, List, ◌++◌, map, length, take, drop, replicate, Option, Some, None, sym},
-    Common.{ap, ◌∙◌, subst, arith, rules},
+    Common.{ap, ◌∙◌, arith, rules},
     lemmas.{
       Grind.common_steps,
-      List.{places, take-replicate, length-replicate, same_lists, take_at, drop_at, take-map, drop-map, drop-drop},
-      List.{append_assoc},
+      List.{places, take-replicate, length-replicate, same_lists, take_at, drop_at, take-map, drop-map},
     },
   },
 }
 use Rattle.arraydeque_ring.{
-  specs.{Gaps.{IsEmptyRun, run_emptied}, Places.{IsFilledRun}, Ring.rotated},
+  specs.{Gaps.{IsEmptyRun, run_emptied}, Places.{IsFilledRun}, Ring.{place_of, rotated}},
   proofs.places.{
     Appended.LaidOut-new,
     Emptied.length-run_emptied,
     Held.{empty_in_run, empty_run_of},
     LaidOut.{LaidOut, HoldsRun-rotated},
-    Rotated.{MayStartAt, place_of_cases, length-rotated, get_or-rotated},
+    Rotated.{MayStartAt, MayStartAt-place_of, place_of_cases, place_of-lt, length-rotated, get_or-rotated},
   },
 }
 
@@ -32,10 +31,10 @@ pub record Handed {X : Type 0} (t at len place first : ℕ) (ps : List (Option X
   pub all : take first (drop place ps) ++ take (len - first)
       (run_emptied place first ps) ≡ take len (drop at (rotated t ps))
 
-pub handed : {X : Type 0} (t at len n place first : ℕ) (ps : List (Option X)) → length ps ≡ n → t ≤ n - 1
-    → IsFilledRun (rotated t ps) at len → MayStartAt t at n place → place ≤ n → first ≡ min len (n - place)
+pub handed : {X : Type 0} (t at len n place first : ℕ) (ps : List (Option X)) → n ≡ length ps → t ≤ length ps - 1
+    → 0 < len → IsFilledRun (rotated t ps) at len → place ≡ place_of t at n → first ≡ min len (n - place)
     → Handed t at len place first ps
-handed t at len n place first ps long in_region run lies before_end cut =
+handed t at len n place first ps long in_region some run is cut =
     let ts = rotated t ps in
     let es = run_emptied place first ps in
     let r = len - first in
@@ -43,29 +42,30 @@ handed t at len n place first ps long in_region run lies before_end cut =
     let firsts = take first (drop place ps) in
     let others = take r es in
     let zs = run.1.0 in
-    let wide : length ts ≡ n = length-rotated t ps ∙ long in
-    let fits : at + len ≤ n = omega (arith, run.0) in
-    let end : place + first ≤ length ps = omega arith in
-    let same : length es ≡ n = length-run_emptied place first ps (omega arith) ∙ long in
+    let wide : length ts ≡ n = length-rotated t ps ∙ sym long in
+    let fits : at + len ≤ n = omega arith in
+    let lies : MayStartAt t at n place = rw is (MayStartAt-place_of t at n (omega arith)) in
+    let before_end : place < n = rw is (place_of-lt t at n (omega arith)) in
+    let same : length es ≡ n = length-run_emptied place first ps (omega arith) ∙ sym long in
     let same_rs : length rs ≡ n = length-run_emptied 0 r es (omega arith) ∙ same in
     let many : length firsts ≡ first = search (rules, places) in
     let all : length (firsts ++ others) ≡ len = search (rules, places) in
     let joined : firsts ++ others ≡ take len (drop at ts) =
     same_lists (firsts ++ others) (take len (drop at ts)) (search (rules, places)) (λ j d lt.
-    let on = get_or-rotated t (at + j) n ps d long (omega arith) (omega arith) in
+    let on = get_or-rotated t (at + j) n ps d (sym long) (omega arith) (omega arith) in
     grind (arith, places, on, place_of_cases t (at + j) n (omega arith), lies)) in
     let here : firsts ≡ map Some (take first zs) =
     sym (take_at firsts others first many) ∙ ap (take first) (joined ∙ run.1.1) ∙ take-map Some first zs in
     let there : others ≡ map Some (drop first zs) =
     sym (drop_at firsts others first many) ∙ ap (drop first) (joined ∙ run.1.1) ∙ drop-map Some first zs in
     record {
-      here = (end, (take first zs, here));
+      here = (omega arith, (take first zs, here));
       rest = (omega arith, (drop first zs, there));
       first_length = many;
       places = same_lists (rotated t rs) (run_emptied at len ts) (search (rules, places)) (λ j d lt.
-          let within : j < n = omega (arith, lt, length-rotated t rs) in
+          let within : j < n = omega (arith, length-rotated t rs) in
           let read = get_or-rotated t j n rs d same_rs (omega arith) within in
-          let was = get_or-rotated t j n ps d long (omega arith) within in
+          let was = get_or-rotated t j n ps d (sym long) (omega arith) within in
           grind (arith, places, read, was, place_of_cases t j n (omega arith), lies));
       all = joined;
     }
@@ -73,8 +73,8 @@ handed t at len n place first ps long in_region run lies before_end cut =
 -- where the first len places of a region are empty, both parts go there, one behind the other
 module _ {X : Type 0} (len first : ℕ) (qs : List (Option X)) (le : first ≤ len) (empty : IsEmptyRun qs 0 len) where
   pub first_empty : IsEmptyRun qs 0 first
-  first_empty = let all = empty.0 in empty_run_of qs 0 first (omega arith)
-      (λ x from to. let was = empty_in_run qs 0 len x empty (omega arith) in grind (arith, common_steps))
+  first_empty = empty_run_of qs 0 first (omega arith)
+      (λ x from to. grind (arith, common_steps, empty_in_run qs 0 len x empty))
 
   module _ (firsts others : List (Option X)) (many : length firsts ≡ first) where
     abbrev put : List (Option X)
@@ -82,17 +82,11 @@ module _ {X : Type 0} (len first : ℕ) (qs : List (Option X)) (le : first ≤ l
 
     pub second_empty : IsEmptyRun put first (len - first)
     second_empty =
-        let all = empty.0 in
         empty_run_of put first (len - first) (grind (arith, common_steps))
-        (λ x from to. let was = empty_in_run qs 0 len x empty (omega arith) in grind (arith, common_steps))
+        (λ x from to. grind (arith, common_steps, empty_in_run qs 0 len x empty))
 
     pub both_put : take first put ++ (others ++ drop (first + (len - first)) put) ≡ (firsts ++ others) ++ drop len qs
-    both_put =
-        let rest = len - first in
-        let behind : drop (first + rest) put ≡ drop len qs =
-        sym (drop-drop rest first put) ∙ ap (drop rest) (drop_at firsts (drop (0 + first) qs) first many)
-        ∙ drop-drop rest (0 + first) qs ∙ ap (λ k. drop k qs) (omega arith) in
-        rw (take_at firsts (drop (0 + first) qs) first many, behind) (sym (append_assoc firsts others (drop len qs)))
+    both_put = same_lists _ _ (search (rules, places)) (λ j d lt. grind (arith, places))
 
 -- in a new region the first places are empty
 pub all_empty : {X : Type 0} (len n : ℕ) → len ≤ n → IsEmptyRun {X = X} (replicate n None) 0 len
@@ -105,5 +99,4 @@ pub LaidOut-handed : {X : Type 0} {n t : ℕ} {xs : List X} {ps : List (Option X
 LaidOut-handed {xs = xs} l i m k within room =
     let ys = take m (drop i xs) in
     let many : 0 + length ys ≡ m = grind (arith, common_steps) in
-    rw (HoldsRun-rotated l i m within) (subst (λ j. LaidOut k 0 ys (map Some ys ++ drop j (replicate k None))) many
-    (LaidOut-new ys k (omega arith)))
+    rw (HoldsRun-rotated l i m within) (rw many at (LaidOut-new ys k (omega arith)))

@@ -1,11 +1,11 @@
 -- Places and runs of them: what is filled, empty, and exchanged.
 use Rattle.std.proofs.{
   Common.{◌≡◌, ◌≢◌, ℕ, zero, suc, ◌+◌, ◌<◌, ◌≤◌, List, [], ◌∷◌, ◌++◌, length, take, drop, set, get_or, slice_get, swap},
-  Common.{Option, Some, None, refl, sym, ap, ap₂, ◌∙◌, subst, add-one, arith},
+  Common.{length-set, Option, Some, None, refl, sym, ap, ap₂, ◌∙◌, subst, add-one, arith},
   lemmas.{
     Grind.common_steps,
     List.{length-map, length-take-le, length-drop, map-append, take_more, get_or-take, get_or-drop, get_or-replicate},
-    List.{get_or_past, get_or-set_other, set-set, set_comm, Edits.swap_is},
+    List.{get_or_past, get_or-set_other, Edits.swap_is},
   },
 }
 use Rattle.arraydeque_ring.{
@@ -22,28 +22,32 @@ module _ {X : Type 0} where
   pub length_filled : (ps : List (Option X)) (from len : ℕ) (run : IsFilledRun ps from len) → length run.1.0 ≡ len
   length_filled ps from len run = omega (
     arith,
-    run.0,
     ap length run.1.1,
     length-map run.1.0 Some,
-    length-take-le len (drop from ps) (omega (arith, run.0, length-drop from ps)),
+    length-take-le len (drop from ps) (omega (arith, length-drop from ps)),
   )
 
-  -- and each place of a filled run is filled
+  -- a place of a run holds what is read in the run
+  in_run : (ps qs : List (Option X)) (from len k : ℕ) → take len (drop from ps) ≡ qs → k < len
+      → held_at ps (from + k) ≡ held_at qs k
+  in_run ps qs from len k is lt =
+      sym (get_or-take len (drop from ps) k None lt ∙ get_or-drop from ps k None) ∙ ap (λ l. held_at l k) is
+
+  -- so each place of a filled run is filled, with its value
+  pub held_in_run : (ps : List (Option X)) (from len k : ℕ) (run : IsFilledRun ps from len) → k < len
+      → held_at ps (from + k) ≡ slice_get run.1.0 k
+  held_in_run ps from len k run lt = in_run ps _ from len k run.1.1 lt ∙ get_or-map_Some run.1.0 k
+
   pub filled_in_run : (ps : List (Option X)) (from len k : ℕ) → IsFilledRun ps from len → k < len
       → IsFilled ps (from + k)
   filled_in_run ps from len k run lt =
-      let some = slice_get_some run.1.0 k (omega (arith, length_filled ps from len run)) in (
-        some.0,
-        sym (get_or-take len (drop from ps) k None lt ∙ get_or-drop from ps k None) ∙ ap (λ l. get_or l k None) run.1.1
-            ∙ get_or-map_Some run.1.0 k ∙ some.1,
-      )
+      let some = slice_get_some run.1.0 k (omega (arith, length_filled ps from len run)) in
+      (some.0, held_in_run ps from len k run lt ∙ some.1)
 
-  -- each place of an empty run is empty
+  -- and each place of an empty run is empty
   pub empty_in_run : (ps : List (Option X)) (from len k : ℕ) → IsEmptyRun ps from len → k < len
-      → get_or ps (from + k) None ≡ None
-  empty_in_run ps from len k run lt =
-      sym (get_or-take len (drop from ps) k None lt ∙ get_or-drop from ps k None) ∙ ap (λ l. get_or l k None) run.1
-      ∙ get_or-replicate len k None None lt
+      → held_at ps (from + k) ≡ None
+  empty_in_run ps from len k run lt = in_run ps _ from len k run.1 lt ∙ get_or-replicate len k None None lt
 
   -- two values that are taken out and put into each other's place
   pub exchanged : (ps : List (Option X)) (i j : ℕ) (x y : X) → i ≢ j → get_or ps i None ≡ Some x
@@ -51,10 +55,7 @@ module _ {X : Type 0} where
       → set (set (set (set ps i None) j None) i (Some y)) j (Some x) ≡ swap ps i j
   exchanged ps i j x y apart at_i at_j =
       let y_was : get_or ps j None ≡ Some y = sym (get_or-set_other ps i j None None (λ e. apart (sym e))) ∙ at_j in
-      ap (λ l. set l j (Some x)) (ap (λ l. set l i (Some y)) (set_comm ps i j None None apart)
-      ∙ set-set (set ps j None) i None (Some y) ∙ set_comm ps j i None (Some y) (λ e. apart (sym e)))
-      ∙ set-set (set ps i (Some y)) j None (Some x)
-      ∙ ap (λ p. set (set ps i p) j (Some x)) (sym y_was) ∙ ap (λ p. set (set ps i (get_or ps j None)) j p) (sym at_i)
+      same_places _ _ (simp length-set) (λ k lt. grind (arith, common_steps, at_i, y_was))
       ∙ swap_is ps i j None (filled_within ps i x at_i) (filled_within ps j y y_was)
 
   -- a run is filled, or empty, where each of its places is

@@ -2,12 +2,12 @@
 use Rattle.std.proofs.{
   Common.{◌≡◌, ◌≢◌, ℕ, ◌+◌, ◌-◌, ◌<◌, ◌≤◌, List, length, set, get_or, Option, Some, None, sym, ap, ◌∙◌},
   Common.{arith},
-  lemmas.{Bool.Decides.nat_tests, List.length-set},
+  lemmas.{List.length-set},
 }
 use Rattle.arraydeque_ring.{
   specs.{Moved.{distance, IsFilledRound}, Places.held_at, Ring.{place_of, rotated}},
   proofs.{
-    moved.Flat.{same_places, up_from},
+    moved.Flat.up_from,
     places.{
       Emptied.get_or-written,
       Rotated.{place_of-first, place_of-lt, place_of-sum, place_of-place_of, one_place, get_or-rotated},
@@ -32,7 +32,7 @@ Holds-of_rotated {n = n} {t = t} {ps = ps} long within each = record {
 
 module _ {X : Type 0} {n t : ℕ} {f : ℕ → Option X} {ps : List (Option X)} (h : Holds n t f ps) where
   pub Holds-rotated : (k : ℕ) → k < n → get_or (rotated t ps) k None ≡ f k
-  Holds-rotated k lt = get_or-rotated t k n ps None h.length_is (omega (arith, h.in_region)) lt ∙ h.at k lt
+  Holds-rotated k lt = get_or-rotated t k n ps None h.length_is (omega arith) lt ∙ h.at k lt
 
   pub Holds-same : {g : ℕ → Option X} → ((k : ℕ) → k < n → f k ≡ g k) → Holds n t g ps
   Holds-same same = record { length_is = h.length_is; in_region = h.in_region; at = λ k lt. h.at k lt ∙ same k lt }
@@ -42,7 +42,7 @@ module _ {X : Type 0} {n t : ℕ} {f : ℕ → Option X} {ps : List (Option X)} 
       → Holds n (place_of t j n) g ps
   Holds-from j some le each = record {
     length_is = h.length_is;
-    in_region = omega (arith, h.in_region, place_of-lt t j n (omega (arith, h.in_region)));
+    in_region = omega arith;
     at = λ k lt. ap (held_at ps) (place_of-place_of t j k n) ∙ h.at (place_of j k n) (place_of-lt j k n (omega arith))
         ∙ each k lt;
   }
@@ -54,25 +54,21 @@ module _ {X : Type 0} {n t : ℕ} {f : ℕ → Option X} {ps : List (Option X)} 
     length_is = length-set ps (place_of t k n) c ∙ h.length_is;
     in_region = h.in_region;
     at = λ i lt. get_or-written ps (place_of t k n) (place_of t i n) c
-        (omega (arith, h.length_is, place_of-lt t k n (omega (arith, h.in_region))))
-        ∙ rw (one_place t i k n (omega (arith, h.in_region)) lt k_in)
-        (grind (arith, nat_tests, here, h.at i lt, others i lt));
+        (omega (arith, place_of-lt t k n (omega arith)))
+        ∙ rw (one_place t i k n (omega arith) lt k_in)
+        (grind (arith, here, h.at i lt, others i lt));
   }
+
+  -- each place has an index
+  pub Holds-each : (x : ℕ) → x < n → held_at ps x ≡ f (distance t x n)
+  Holds-each x lt = ap (held_at ps) (sym (up_from x t n lt (omega arith)))
+      ∙ h.at (distance t x n) (place_of-lt x (n - t) n (omega arith))
 
   -- a run of indexes that have values
   pub Holds-filled : (i len : ℕ) → i + len ≤ n → ((k : ℕ) → k < len → (x : X) × (f (i + k) ≡ Some x))
       → IsFilledRound (place_of t i (length ps)) len ps
   Holds-filled i len within each k lt = let some = each k lt in
       (some.0, rw (h.length_is, place_of-sum t i k n) (h.at (i + k) (omega arith) ∙ some.1))
-
--- what is read says what the places are
-pub Holds-once : {X : Type 0} {n t : ℕ} {f : ℕ → Option X} {ps qs : List (Option X)} → Holds n t f ps
-    → Holds n t f qs → ps ≡ qs
-Holds-once {n = n} {t = t} {ps = ps} {qs = qs} h k = same_places ps qs (h.length_is ∙ sym k.length_is) (λ x lt.
-    let here = up_from x t n (omega (arith, k.length_is)) (omega (arith, h.in_region, k.length_is)) in
-    let within : distance t x n < n = place_of-lt x (n - t) n (omega (arith, h.in_region, k.length_is)) in
-    ap (held_at ps) (sym here) ∙ h.at (distance t x n) within
-    ∙ sym (ap (held_at qs) (sym here) ∙ k.at (distance t x n) within))
 
 -- from the first place on an index is its own place
 pub Holds-first : {X : Type 0} {n : ℕ} {f : ℕ → Option X} {ps : List (Option X)} → Holds n 0 f ps → (k : ℕ) → k < n

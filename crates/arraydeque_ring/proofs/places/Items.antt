@@ -2,7 +2,7 @@
 use Rattle.std.proofs.{
   Common.{◌≡◌, ℕ, zero, suc, ◌+◌, ◌-◌, ◌<◌, inl, inr, List, [], ◌∷◌, ◌++◌, length, map, take, drop, set, get_or},
   Common.{slice_get, nat_lt, ◌==◌, if◌then◌else◌, Some, None, refl, ap, ◌∙◌, arith},
-  lemmas.{Bool.Decides.nat_tests, Option.{slice_get_cases, slice_get_past}},
+  lemmas.{Option.{slice_get_cases, slice_get_past}},
 }
 
 module _ {X : Type 0} where
@@ -12,21 +12,21 @@ module _ {X : Type 0} where
 
   pub slice_get-cons : (x : X) (xs : List X) (k : ℕ)
       → slice_get (x ∷ xs) k ≡ (if nat_lt 0 k then slice_get xs (k - 1) else Some x)
-  slice_get-cons x xs zero = grind (arith, nat_tests)
-  slice_get-cons x xs (suc k) = grind (arith, nat_tests)
+  slice_get-cons x xs zero = grind arith
+  slice_get-cons x xs (suc k) = grind arith
 
   pub slice_get-append : (xs ys : List X) (k : ℕ)
       → slice_get (xs ++ ys) k ≡ (if nat_lt k (length xs) then slice_get xs k else slice_get ys (k - length xs))
-  slice_get-append [] ys k = grind (arith, nat_tests)
-  slice_get-append (x ∷ xs) ys zero = grind (arith, nat_tests)
-  slice_get-append (x ∷ xs) ys (suc k) = grind (arith, nat_tests, slice_get-append xs ys k)
+  slice_get-append [] ys k = grind arith
+  slice_get-append (x ∷ xs) ys zero = grind arith
+  slice_get-append (x ∷ xs) ys (suc k) = grind (arith, slice_get-append xs ys k)
 
   pub slice_get-take : (n : ℕ) (xs : List X) (k : ℕ)
       → slice_get (take n xs) k ≡ (if nat_lt k n then slice_get xs k else None)
-  slice_get-take zero xs k = grind (arith, nat_tests)
-  slice_get-take (suc n) [] k = grind (arith, nat_tests)
-  slice_get-take (suc n) (x ∷ xs) zero = grind (arith, nat_tests)
-  slice_get-take (suc n) (x ∷ xs) (suc k) = grind (arith, nat_tests, slice_get-take n xs k)
+  slice_get-take zero xs k = grind arith
+  slice_get-take (suc n) [] k = grind arith
+  slice_get-take (suc n) (x ∷ xs) zero = grind arith
+  slice_get-take (suc n) (x ∷ xs) (suc k) = grind (arith, slice_get-take n xs k)
 
   pub slice_get-drop : (n : ℕ) (xs : List X) (k : ℕ) → slice_get (drop n xs) k ≡ slice_get xs (n + k)
   slice_get-drop zero xs k = ap (slice_get xs) (omega arith)
@@ -36,10 +36,10 @@ module _ {X : Type 0} where
   pub slice_get-set : (xs : List X) (i k : ℕ) (x : X) → i < length xs
       → slice_get (set xs i x) k ≡ (if k == i then Some x else slice_get xs k)
   slice_get-set [] i k x lt = absurd (omega arith)
-  slice_get-set (y ∷ xs) zero zero x lt = grind (arith, nat_tests)
-  slice_get-set (y ∷ xs) zero (suc k) x lt = grind (arith, nat_tests)
-  slice_get-set (y ∷ xs) (suc i) zero x lt = grind (arith, nat_tests)
-  slice_get-set (y ∷ xs) (suc i) (suc k) x lt = grind (arith, nat_tests, slice_get-set xs i k x)
+  slice_get-set (y ∷ xs) zero zero x lt = grind arith
+  slice_get-set (y ∷ xs) zero (suc k) x lt = grind arith
+  slice_get-set (y ∷ xs) (suc i) zero x lt = grind arith
+  slice_get-set (y ∷ xs) (suc i) (suc k) x lt = grind (arith, slice_get-set xs i k x)
 
   pub get_or-map_Some : (xs : List X) (k : ℕ) → get_or (map Some xs) k None ≡ slice_get xs k
   get_or-map_Some [] k = refl

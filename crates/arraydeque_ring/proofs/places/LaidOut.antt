@@ -1,9 +1,9 @@
 -- What the places of a ring hold, read from its start on: first its items, then nothing.
 use Rattle.std.proofs.{
-  Common.{◌≡◌, ◌≢◌, ℕ, ◌+◌, ◌-◌, ◌<◌, ◌≤◌, List, [], ◌∷◌, ◌++◌, length, take, drop, set, get_or, replicate, slice_get},
-  Common.{nat_lt, if◌then◌else◌, Option, Some, None, is_some, true, false, refl, sym, ap, ap₂, ◌∙◌, subst, swap, arith},
+  Common.{◌≡◌, ◌≢◌, ℕ, ◌+◌, ◌-◌, ◌<◌, ◌≤◌, List, [], ◌∷◌, ◌++◌, map, length, take, drop, set, get_or, replicate},
+  Common.{slice_get},
+  Common.{nat_lt, if◌then◌else◌, Option, Some, None, is_some, refl, sym, ap, ◌∙◌, swap, arith},
   lemmas.{
-    Bool.Decides.nat_tests,
     Grind.common_steps,
     List.{length-append, length-take, length-drop, length-map, length-replicate, length-set, Edits.swap_is},
     Option.{get_or_from_slice_get, slice_get_past},
@@ -11,6 +11,7 @@ use Rattle.std.proofs.{
 }
 use Rattle.arraydeque_ring.{
   specs.{
+    Moved.distance,
     Places.{held_at, IsFilled, IsEmpty, HoldsRun, IsFilledRun, AreAllEmpty},
     Ring.{place_of, rotated, values, filled, FilledFrom},
   },
@@ -20,8 +21,8 @@ use Rattle.arraydeque_ring.{
       AndEmpty.{and_empty, length-and_empty, get_or-and_empty, values-and_empty, values-map_Some, filled-and_empty},
       AndEmpty.{and_empty_from},
       Held.holds_run_of,
-      Holds.{Holds, Holds-once, Holds-of_rotated, Holds-rotated, Holds-from, Holds-set},
-      Items.{items, slice_get_some, slice_get-cons, slice_get-drop},
+      Holds.{Holds, Holds-each, Holds-of_rotated, Holds-rotated, Holds-from, Holds-set},
+      Items.{items, slice_get_some, slice_get-cons},
       Rotated.{MayStartAt, place_of-lt, place_of-run, place_of-zero, place_of_cases, length-rotated, rotated-map},
     },
   },
@@ -70,7 +71,6 @@ module _ {X : Type 0} {n t : ℕ} {xs : List X} {ps : List (Option X)} (l : Laid
 
   pub rotated-LaidOut : rotated t ps ≡ and_empty xs (n - length xs)
   rotated-LaidOut =
-      let within = l.within in
       same_places _ _ (length-rotated t ps ∙ l.length_is ∙ omega (arith, length-and_empty xs (n - length xs)))
       (λ k lt. Holds-rotated (holds l) k (omega (arith, length-and_empty xs (n - length xs)))
       ∙ sym (get_or-and_empty xs (n - length xs) k))
@@ -83,17 +83,16 @@ module _ {X : Type 0} {n t : ℕ} {xs : List X} {ps : List (Option X)} (l : Laid
   pub FilledFrom-LaidOut : (m : ℕ) → length xs ≡ m → FilledFrom t m (filled ps)
   unfolding filled
   FilledFrom-LaidOut m e =
-      let left : n - length xs ≡ length (filled ps) - m = omega (arith, l.length_is, length-map ps is_some) in
-      rotated-map is_some t ps ∙ ap filled rotated-LaidOut ∙ filled-and_empty xs (n - length xs)
-      ∙ ap₂ (λ a b. replicate a true ++ replicate b false) e left
+      let left : length (map is_some ps) - m ≡ n - length xs = omega (arith, length-map ps is_some) in
+      rw (rotated-map is_some t ps, rotated-LaidOut, left, ← e) (filled-and_empty xs (n - length xs))
 
   -- the place of an item is filled, and that of an index past the last one is empty
   pub IsFilled-place_of : (k : ℕ) → k < length xs → IsFilled ps (place_of t k n)
-  IsFilled-place_of k lt = let some = slice_get_some xs k lt in (some.0, l.at k (omega (arith, l.within)) ∙ some.1)
+  IsFilled-place_of k lt = let some = slice_get_some xs k lt in (some.0, l.at k (omega arith) ∙ some.1)
 
   pub IsEmpty-place_of : (k : ℕ) → length xs ≤ k → k < n → IsEmpty ps (place_of t k n)
   IsEmpty-place_of k past lt =
-      (omega (arith, l.length_is, place_of-lt t k n (omega (arith, l.in_region))), l.at k lt ∙ grind (arith, items))
+      (omega arith, l.at k lt ∙ grind (arith, items))
 
   -- the start holds the first item
   pub held_at-start : 0 < n → held_at ps t ≡ slice_get xs 0
@@ -105,31 +104,29 @@ module _ {X : Type 0} {n t : ℕ} {xs : List X} {ps : List (Option X)} (l : Laid
   -- read from the start on, the len items from the index i on are a run
   pub HoldsRun-rotated : (i len : ℕ) → i + len ≤ length xs → HoldsRun (rotated t ps) i len (take len (drop i xs))
   HoldsRun-rotated i len le =
-      let within = l.within in
       holds_run_of (rotated t ps) i len (take len (drop i xs))
-      (omega (arith, length-take len (drop i xs), length-drop i xs)) (omega (arith, length-rotated t ps, l.length_is))
-      (λ k lt. Holds-rotated (holds l) (i + k) (omega arith) ∙ grind (arith, nat_tests, items))
+      (omega (arith, length-take len (drop i xs), length-drop i xs)) (omega (arith, length-rotated t ps))
+      (λ k lt. Holds-rotated (holds l) (i + k) (omega arith) ∙ grind (arith, items))
 
   pub IsFilledRun-rotated : (i len : ℕ) → i + len ≤ length xs → IsFilledRun (rotated t ps) i len
   IsFilledRun-rotated i len le = (
-    omega (arith, l.length_is, length-rotated t ps, length_within),
+    omega (arith, length-rotated t ps),
     (take len (drop i xs), HoldsRun-rotated i len le),
   )
 
   -- they stand from the place p on
-  HoldsRun-LaidOut : (i p len : ℕ) → MayStartAt t i n p → i + len ≤ length xs → p + len ≤ n
+  pub HoldsRun-LaidOut : (i p len : ℕ) → MayStartAt t i n p → i + len ≤ length xs → p + len ≤ n
       → HoldsRun ps p len (take len (drop i xs))
   HoldsRun-LaidOut i p len at within fits =
-      let all = l.within in
       holds_run_of ps p len (take len (drop i xs)) (omega (arith, length-take len (drop i xs), length-drop i xs))
-      (omega (arith, l.length_is))
-      (λ k lt. ap (held_at ps) (sym (place_of-run t i k n p at (omega arith) (omega (arith, l.in_region))
-      (omega arith))) ∙ l.at (i + k) (omega arith) ∙ grind (arith, nat_tests, items))
+      (omega arith)
+      (λ k lt. ap (held_at ps) (sym (place_of-run t i k n p at (omega arith) (omega arith)
+      (omega arith))) ∙ l.at (i + k) (omega arith) ∙ grind (arith, items))
 
   pub IsFilledRun-LaidOut : (i p len : ℕ) → MayStartAt t i n p → i + len ≤ length xs → p + len ≤ n
       → IsFilledRun ps p len
   IsFilledRun-LaidOut i p len at within fits =
-      (omega (arith, l.length_is), (take len (drop i xs), HoldsRun-LaidOut i p len at within fits))
+      (omega arith, (take len (drop i xs), HoldsRun-LaidOut i p len at within fits))
 
   -- and a run that is read there is of those items
   pub same_run : (i p len : ℕ) (ys : List X) → MayStartAt t i n p → i + len ≤ length xs → p + len ≤ n
@@ -140,16 +137,14 @@ module _ {X : Type 0} {n t : ℕ} {xs : List X} {ps : List (Option X)} (l : Laid
 
   -- with no items every place is empty
   pub AreAllEmpty-LaidOut : length xs ≡ 0 → AreAllEmpty ps
-  AreAllEmpty-LaidOut none = Holds-once (holds l) (record {
-    length_is = length-replicate (length ps) None ∙ l.length_is;
-    in_region = l.in_region;
-    at = λ k lt. let past = slice_get_past xs k (omega arith) in grind (arith, common_steps);
-  })
+  AreAllEmpty-LaidOut none = same_places _ _ (sym (length-replicate (length ps) None)) (λ x lt.
+      let past = slice_get_past xs (distance t x n) (omega arith) in
+      Holds-each (holds l) x (omega (arith, length-replicate {A = Option X} (length ps) None))
+      ∙ grind (arith, common_steps))
 
   -- and the list may start at the first place as well
   pub LaidOut-restart : length xs ≡ 0 → LaidOut {X = X} n 0 [] ps
-  LaidOut-restart none = let empty : replicate n None ≡ ps = ap (λ m. replicate m None) (sym l.length_is)
-      ∙ sym (AreAllEmpty-LaidOut none) in subst (LaidOut {X = X} n 0 []) empty (LaidOut-nothing n)
+  LaidOut-restart none = rw (AreAllEmpty-LaidOut none, l.length_is) (LaidOut-nothing n)
 
   -- c is written at the place of the index k
   LaidOut-write : {ys : List X} (k : ℕ) (c : Option X) → k < n → length ys ≤ n → c ≡ slice_get ys k
@@ -159,49 +154,46 @@ module _ {X : Type 0} {n t : ℕ} {xs : List X} {ps : List (Option X)} (l : Laid
   pub LaidOut-put_back : (x : X) → length xs < n
       → LaidOut n t (xs ++ x ∷ []) (set ps (place_of t (length xs) n) (Some x))
   LaidOut-put_back x room =
-      LaidOut-write (length xs) (Some x) room (omega (arith, length-append xs (x ∷ []))) (grind
-      (arith, nat_tests, items, slice_get-cons)) (λ i lt other. grind (arith, nat_tests, items, slice_get-cons))
+      LaidOut-write (length xs) (Some x) room (omega (arith, length-append xs (x ∷ [])))
+      (grind (arith, items, slice_get-cons)) (λ i lt other. grind (arith, items, slice_get-cons))
 
   pub LaidOut-take_back : (m : ℕ) → length xs ≡ m + 1 → LaidOut n t (take m xs) (set ps (place_of t m n) None)
-  LaidOut-take_back m e = let within = l.within in LaidOut-write m None (omega arith) (omega (arith, length-take m xs))
-      (grind (arith, nat_tests, items)) (λ i lt other. grind (arith, nat_tests, items))
+  LaidOut-take_back m e = LaidOut-write m None (omega arith) (omega (arith, length-take m xs))
+      (grind (arith, items)) (λ i lt other. grind (arith, items))
 
   pub LaidOut-put_front : (x : X) → length xs < n
       → LaidOut n (place_of t (n - 1) n) (x ∷ xs) (set ps (place_of t (n - 1) n) (Some x))
   LaidOut-put_front x room =
       let before = place_of t (n - 1) n in
       let turned : Holds n before (λ k. if nat_lt 0 k then slice_get xs (k - 1) else None) ps = Holds-from (holds l)
-      (n - 1) (omega arith) (omega arith) (λ k lt. grind (arith, nat_tests, items, place_of_cases (n - 1) k n)) in
+      (n - 1) (omega arith) (omega arith) (λ k lt. grind (arith, items, place_of_cases (n - 1) k n)) in
       rw (place_of-zero before n turned.in_region) at (LaidOut-by {xs = x ∷ xs} (omega arith)
-      (Holds-set turned 0 (Some x) (omega arith) refl (λ i lt other. grind (arith, nat_tests, slice_get-cons))))
+      (Holds-set turned 0 (Some x) (omega arith) refl (λ i lt other. grind (arith, slice_get-cons))))
 
   pub LaidOut-take_front : 0 < length xs → LaidOut n (place_of t 1 n) (drop 1 xs) (set ps t None)
   LaidOut-take_front some =
-      let within = l.within in
       let out = Holds-set (holds l) {g = λ k. if nat_lt 0 k then slice_get xs k else None} 0 None (omega arith) refl
-      (λ i lt other. grind (arith, nat_tests)) in
+      (λ i lt other. grind arith) in
       rw (place_of-zero t n l.in_region) at
       (LaidOut-by {xs = drop 1 xs} (omega (arith, length-drop 1 xs)) (Holds-from out 1 (omega arith) (omega arith)
-      (λ k lt. grind (arith, nat_tests, slice_get-drop 1 xs k, items, place_of_cases 1 k n))))
+      (λ k lt. grind (arith, items, place_of_cases 1 k n))))
 
   -- another value in the place of an item is another item
   pub LaidOut-set : (k : ℕ) (x : X) → k < length xs → LaidOut n t (set xs k x) (set ps (place_of t k n) (Some x))
-  LaidOut-set k x lt = let within = l.within in
-      LaidOut-write k (Some x) (omega arith) (omega (arith, length-set xs k x)) (grind (arith, nat_tests, items))
-      (λ i i_in other. grind (arith, nat_tests, items))
+  LaidOut-set k x lt = LaidOut-write k (Some x) (omega arith) (omega (arith, length-set xs k x))
+      (grind (arith, items)) (λ i i_in other. grind (arith, items))
 
 -- to exchange the places of two items is to exchange the items
 pub LaidOut-swap : {X : Type 0} {n t : ℕ} {xs : List X} {ps : List (Option X)} → LaidOut n t xs ps → (i j : ℕ)
     → i < length xs → j < length xs → LaidOut n t (swap xs i j) (swap ps (place_of t i n) (place_of t j n))
 LaidOut-swap {n = n} {t = t} {xs = xs} {ps = ps} l i j i_in j_in =
-    let p = place_of t i n in let q = place_of t j n in let within = l.within in
     let x = slice_get_some xs i i_in in let y = slice_get_some xs j j_in in
-    let in_region : (k : ℕ) → k < length xs → place_of t k n < length ps =
-    λ k lt. omega (arith, l.length_is, place_of-lt t k n (omega (arith, l.in_region))) in
-    let items : set (set xs i y.0) j x.0 ≡ swap xs i j = ap₂ (λ a b. set (set xs i a) j b)
-    (sym (get_or_from_slice_get xs j y.0 x.0 y.1)) (sym (get_or_from_slice_get xs i x.0 x.0 x.1))
-    ∙ swap_is xs i j x.0 i_in j_in in
-    let places : swap ps p q ≡ set (set ps p (Some y.0)) q (Some x.0) =
-    sym (swap_is ps p q None (in_region i i_in) (in_region j j_in))
-    ∙ ap₂ (λ a b. set (set ps p a) q b) (l.at j (omega arith) ∙ y.1) (l.at i (omega arith) ∙ x.1) in
-    rw places (rw items at (LaidOut-set (LaidOut-set l i y.0 i_in) j x.0 (omega (arith, length-set xs i y.0))))
+    let in_region : (k : ℕ) → k < length xs → place_of t k n < length ps = λ k lt. omega (arith, place_of-lt t k n) in
+    rw (
+      ← swap_is xs i j x.0 i_in j_in,
+      get_or_from_slice_get xs j y.0 x.0 y.1,
+      get_or_from_slice_get xs i x.0 x.0 x.1,
+      ← swap_is ps (place_of t i n) (place_of t j n) None (in_region i i_in) (in_region j j_in),
+      l.at j (omega arith) ∙ y.1,
+      l.at i (omega arith) ∙ x.1,
+    ) (LaidOut-set (LaidOut-set l i y.0 i_in) j x.0 (omega (arith, length-set xs i y.0)))

@@ -29,12 +29,11 @@ use Rattle.arraydeque_ring.{
     places.{
       Appended.{LaidOut-appended, LaidOut-written, LaidOut-new, IsEmptyRun-behind},
       Handed.{handed, LaidOut-handed},
-      Held.length_filled,
       LaidOut.{LaidOut, LaidOut-values, values-LaidOut, FilledFrom-LaidOut, LaidOut-nothing, LaidOut-put_back},
       LaidOut.{LaidOut-put_front, LaidOut-take_back, LaidOut-take_front, IsEmpty-place_of, held_at-start},
       LaidOut.{LaidOut-restart, IsFilled-start, AreAllEmpty-LaidOut, IsFilled-place_of, IsFilledRun-rotated},
-      LaidOut.{IsFilledRun-LaidOut, same_run, LaidOut-set, LaidOut-swap},
-      Rotated.{MayStartAt, MayStartAt-place_of, place_of-first, place_of-lt, one_place},
+      LaidOut.{IsFilledRun-LaidOut, HoldsRun-LaidOut, same_run, LaidOut-set, LaidOut-swap},
+      Rotated.{MayStartAt, MayStartAt-place_of, place_of-first, place_of-zero, place_of-lt, one_place},
     },
   },
 }
@@ -75,8 +74,7 @@ module _ {X : Type 0} where
   pub bounds : (r : Inside X) (v : RingState X) → Kept r → view r ≡ v → (view r ≡ v) × (length v.items ≡ r.len)
       × (r.len ≤ length r.slots.places) × (v.capacity ≡ length r.slots.places) × (v.start ≡ r.start)
   bounds r v kept is = let o = opened r kept is in
-      let same = o.laid.length_is in
-      (is, o.len, omega (arith, o.laid.within, same, o.len), omega (arith, same), omega (arith, o.start))
+      (is, o.len, omega arith, omega arith, omega arith)
 
 -- where the places ps hold the items xs, laid out from the place t on, what the invariant and the view say of ps
 abbrev pub Shows : {X : Type 0} → ℕ → ℕ → ℕ → List X → List (Option X) → Type 0
@@ -119,7 +117,6 @@ module _ {X : Type 0} {r : Inside X} {v : RingState X} (o : Opened r v) where
       → Gapped v.capacity r.start (take a v.items) m (drop b v.items) qs
       → Closing r.start v.capacity a m b r.len v.items qs
   gap_left a m b qs all some le p =
-      let len = o.len in
       let front = length-take-le a v.items (omega arith) in
       let back = length-drop b v.items in
       record {
@@ -164,7 +161,7 @@ module _ {X : Type 0} (r : Inside X) (kept : Kept r) where
   at_index k lt = laid.at k lt
 
   pub at_start : 0 < r.len → held_at places r.start ≡ slice_get items 0
-  at_start some = let within = laid.within in held_at-start laid (omega (arith, len))
+  at_start some = held_at-start laid (omega (arith, len, laid.within))
 
   pub is_filled : (k : ℕ) → k < r.len
       → (place_of r.start k n ≡ place_of r.start k n) × IsFilled places (place_of r.start k n)
@@ -224,12 +221,11 @@ module _ {X : Type 0} (r : Inside X) (kept : Kept r) where
       → ps ≡ swap places (place_of r.start i n) (place_of r.start j n)
       → (ps ≡ swap places (place_of r.start i n) (place_of r.start j n))
       × ((place_of r.start i n == place_of r.start j n) ≡ (i == j)) × Shows n r.start r.len (swap items i j) ps
-  swapped i j ps i_in j_in is =
-      let within = laid.within in (
-        is,
-        one_place r.start i j n (omega (arith, laid.in_region)) (omega (arith, len)) (omega (arith, len)),
-        rw is (shows (LaidOut-swap laid i j (omega (arith, len)) (omega (arith, len))) _ (length-swap items i j ∙ len)),
-      )
+  swapped i j ps i_in j_in is = (
+    is,
+    one_place r.start i j n (omega arith) (omega (arith, len, laid.within)) (omega (arith, len, laid.within)),
+    rw is (shows (LaidOut-swap laid i j (omega (arith, len)) (omega (arith, len))) _ (length-swap items i j ∙ len)),
+  )
 
   -- those of a run of indexes stand in filled places
   pub run_filled : (i m : ℕ) → i + m ≤ r.len → IsFilledRun (rotated r.start places) i m
@@ -239,14 +235,16 @@ module _ {X : Type 0} (r : Inside X) (kept : Kept r) where
   all_filled = run_filled 0 r.len (omega arith)
 
   -- the items from the index k on are dropped, the first ones, or all
+  laid_before : (ps : List (Option X)) (k m : ℕ) → k + m ≡ r.len
+      → rotated r.start ps ≡ run_emptied k m (rotated r.start places) → LaidOut n r.start (take k items) ps
+  laid_before ps k m all out = LaidOut-gap_last (rw (drop_all (k + m) items (omega (arith, len))) at
+      (Gapped-taken laid k m ps (omega (arith, len)) out))
+
   pub last_dropped : (ps : List (Option X)) (k m : ℕ) → k + m ≡ r.len
       → rotated r.start ps ≡ run_emptied k m (rotated r.start places)
       → (rotated r.start ps ≡ run_emptied k m (rotated r.start places)) × Shows n r.start k (take k items) ps
-  last_dropped ps k m all out = (
-    out,
-    shows (LaidOut-gap_last (rw (drop_all (k + m) items (omega (arith, len))) at
-        (Gapped-taken laid k m ps (omega (arith, len)) out))) k (length-take-le k items (omega (arith, len))),
-  )
+  last_dropped ps k m all out =
+      (out, shows (laid_before ps k m all out) k (length-take-le k items (omega (arith, len))))
 
   pub first_dropped : (ps : List (Option X)) (m : ℕ) → m ≤ r.len
       → rotated r.start ps ≡ run_emptied 0 m (rotated r.start places)
@@ -258,11 +256,8 @@ module _ {X : Type 0} (r : Inside X) (kept : Kept r) where
 
   pub all_dropped : (ps : List (Option X)) → rotated r.start ps ≡ run_emptied 0 r.len (rotated r.start places)
       → (rotated r.start ps ≡ run_emptied 0 r.len (rotated r.start places)) × Shows n 0 0 [] ps
-  all_dropped ps out = (
-    out,
-    shows (LaidOut-restart (LaidOut-gap_last (rw (drop_all (0 + r.len) items
-        (omega (arith, len))) at (Gapped-taken laid 0 r.len ps (omega (arith, len)) out))) refl) 0 refl,
-  )
+  all_dropped ps out =
+      (out, shows (LaidOut-restart (laid_before ps 0 r.len (omega arith) out) refl) 0 refl)
 
   -- or handed over to another region, which was empty
   pub run_handed : (i m k : ℕ) → i + m ≤ r.len → m ≤ k → Become k 0 m (take m (drop i items))
@@ -282,14 +277,14 @@ module _ {X : Type 0} (r : Inside X) (kept : Kept r) where
 
   -- the others stand from the first place on, where these go as far as the region's end
   pub rest_filled : (m : ℕ) → m ≤ r.len → r.start + m ≡ n → IsFilledRun places 0 (r.len - m)
-  rest_filled m le end = let within = laid.within in
-      IsFilledRun-LaidOut laid m 0 (r.len - m) (inr (omega arith)) (omega (arith, len)) (omega (arith, len))
+  rest_filled m le end = IsFilledRun-LaidOut laid m 0 (r.len - m) (inr (omega arith)) (omega (arith, len))
+      (omega (arith, len, laid.within))
 
   pub rest_held : (m : ℕ) (xs : List X) → m ≤ r.len → r.start + m ≡ n → HoldsRun places 0 (r.len - m) xs
       → HoldsRun places 0 (r.len - m) xs × (xs ≡ drop m items)
-  rest_held m xs le end held = let within = laid.within in (
+  rest_held m xs le end held = (
     held,
-    same_run laid m 0 (r.len - m) xs (inr (omega arith)) (omega (arith, len)) (omega (arith, len)) held
+    same_run laid m 0 (r.len - m) xs (inr (omega arith)) (omega (arith, len)) (omega (arith, len, laid.within)) held
         ∙ take_all (r.len - m) (drop m items) (omega (arith, len, length-drop m items)),
   )
 
@@ -299,14 +294,13 @@ module _ {X : Type 0} (r : Inside X) (kept : Kept r) where
   piece_written ws many fits = shows (LaidOut-written laid ws (omega (arith, len)) (omega (arith, len))) _ many
 
   -- they go
-  pub piece_taken : (m : ℕ) → m ≤ r.len → r.start + m ≤ n
+  pub piece_taken : (m : ℕ) → 0 < m → m ≤ r.len → r.start + m ≤ n
       → Shows n (place_of r.start m n) (r.len - m) (drop m items) (run_emptied r.start m places)
-  piece_taken m le fits =
+  piece_taken m some le fits =
       let none : m - m ≡ 0 = omega arith in
       let on : 0 + m ≡ m = omega arith in
-      let in_region = laid.in_region in
-      let parts = handed r.start 0 m n r.start m places refl (omega arith)
-      (IsFilledRun-rotated laid 0 m (omega (arith, len))) (inl (omega arith)) (omega arith) (omega arith) in
+      let parts = handed r.start 0 m n r.start m places refl laid.in_region some (run_filled 0 m (omega arith))
+      (sym (place_of-zero r.start n laid.in_region)) (omega arith) in
       shows (rw on at (LaidOut-gap_first m (Gapped-taken laid 0 m _ (omega (arith, len)) (rw none at parts.places))))
       _ (omega (arith, length-drop m items, len))
 
@@ -316,8 +310,7 @@ module _ {X : Type 0} (r : Inside X) (kept : Kept r) where
 
   module _ (m : ℕ) (fits : behind + m ≤ n) (room : r.len + m ≤ n) where
     lies : 0 < m → MayStartAt r.start (length items) n behind
-    lies some = let in_region = laid.in_region in
-        rw len (MayStartAt-place_of r.start r.len n (omega arith))
+    lies some = rw len (MayStartAt-place_of r.start r.len n (omega arith))
 
     pub behind_empty : 0 < m → IsEmptyRun places behind m
     behind_empty some = IsEmptyRun-behind laid behind m (lies some) fits (omega (arith, len))
@@ -328,17 +321,13 @@ module _ {X : Type 0} (r : Inside X) (kept : Kept r) where
         (splice places behind (behind + m) (take m (drop o.start o.slots.places)))
     piece_joined o okept some le fits' =
         let other = opened o okept refl in
-        let others = values (rotated o.start o.slots.places) in
-        let run = IsFilledRun-LaidOut other.laid 0 o.start m (inl (omega arith)) (omega (arith, other.len)) fits' in
-        let xs = run.1.0 in
-        let taken = length-take-le m others (omega (arith, other.len)) in
-        let many : length xs ≡ m = length_filled o.slots.places o.start m run in
-        let same = same_run other.laid 0 o.start m xs (inl (omega arith)) (omega (arith, other.len)) fits' run.1.1 in
+        let xs = take m (values (rotated o.start o.slots.places)) in
+        let many : length xs ≡ m = length-take-le m _ (omega (arith, other.len)) in
+        let held = HoldsRun-LaidOut other.laid 0 o.start m (inl (omega arith)) (omega (arith, other.len)) fits' in
         let written : splice places behind (behind + m) (take m (drop o.start o.slots.places))
-        ≡ with_run behind xs places = ap₂ (λ k l. splice places behind (behind + k) l) (sym many) run.1.1 in
-        become (rw (written, ← same)
-        (LaidOut-appended laid xs behind (lies some) (omega (arith, many)) (omega (arith, len, many)))) _
-        (omega (arith, len, length-append items (take m others), taken))
+        ≡ with_run behind xs places = ap₂ (λ k l. splice places behind (behind + k) l) (sym many) held in
+        become (rw written (LaidOut-appended laid xs behind (lies some) (omega arith) (omega (arith, len)))) _
+        (omega (arith, len, length-append items xs))
 
 -- for the goals of the ring that have no answer by hand
 pub ruleset ring_facts = (bounds, items_within, nothing_laid, slice_get_past, place_of-lt)

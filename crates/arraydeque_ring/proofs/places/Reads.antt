@@ -1,8 +1,8 @@
 -- Two runs that are rotated or exchanged, read place by place: where what a place holds came from.
 use Rattle.std.{
   proofs.{
-    Common.{◌≡◌, ℕ, ◌+◌, ◌-◌, ◌≤◌, List, length, set, get_or, nat_lt, if◌then◌else◌, Option, None, sym, ap, ◌∙◌, arith},
-    Common.{rules},
+    Common.{◌≡◌, ℕ, ◌+◌, ◌-◌, ◌<◌, ◌≤◌, List, length, set, get_or, nat_lt, if◌then◌else◌, Option, None},
+    Common.{sym, ap, ◌∙◌, arith, rules},
     lemmas.{Bool.Decides.nat_tests, Grind.common_steps, List.{places, same_lists, length-set, Edits.swap_is}},
   },
   specs.Prelude.swap,
@@ -22,7 +22,7 @@ module _ {X : Type 0} (at m k : ℕ) (ps : List (Option X)) (within : at + m + k
   length-run_rotated = grind (arith, common_steps)
 
   pub get_or-run_rotated : (x : ℕ) → get_or (run_rotated at m k ps) x None ≡ get_or ps (rotated_from at m k x) None
-  get_or-run_rotated x = grind (arith, nat_tests, places)
+  get_or-run_rotated x = grind (arith, places)
 
 -- the place whose value the place x has, once n values from a on are exchanged with those from b on
 abbrev pub exchanged_from : ℕ → ℕ → ℕ → ℕ → ℕ
@@ -49,46 +49,45 @@ module _ {X : Type 0} (a b : ℕ) (ps : List (Option X)) where
       let once = runs_exchanged a b n ps in
       let long = length-runs_exchanged a b n ps (omega arith) (omega arith) in
       same_places _ _ (search (rules, places)) (λ x lt.
-      get_or-runs_exchanged (a + n) (b + n) m once (omega arith) (omega (arith, long)) x
+      get_or-runs_exchanged (a + n) (b + n) m once (omega arith) (omega arith) x
       ∙ get_or-runs_exchanged a b n ps (omega arith) (omega arith) (exchanged_from (a + n) (b + n) m x)
       ∙ ap (λ i. get_or ps i None) (grind (arith, nat_tests))
       ∙ sym (get_or-runs_exchanged a b (n + m) ps before within x))
 
+  -- two places are two runs of one
+  swap-runs : a < b → b < length ps → swap ps a b ≡ runs_exchanged a b 1 ps
+  swap-runs before within =
+      let ones = set ps a (held_at ps b) in
+      let long = length-set ps a (held_at ps b) in
+      sym (swap_is ps a b None (omega arith) within) ∙ same_places _ _ (omega (
+        arith,
+        length-set ones b (held_at ps a),
+        long,
+        length-runs_exchanged a b 1 ps,
+      )) (λ x lt. grind (
+        arith,
+        get_or-written ones b x (held_at ps a),
+        long,
+        get_or-written ps a x (held_at ps b),
+        get_or-runs_exchanged a b 1 ps (omega arith) (omega arith) x,
+      ))
+
 -- the pairs of two runs are exchanged one after another: the pair k comes next
 module _ {X : Type 0} (a b k : ℕ) (ps : List (Option X)) (before : a + (k + 1) ≤ b)
     (within : b + (k + 1) ≤ length ps) where
-  abbrev so_far : List (Option X)
-  so_far = runs_exchanged a b k ps
+  still_filled : (x : ℕ) → exchanged_from a b k x ≡ x → IsFilled ps x → IsFilled (runs_exchanged a b k ps) x
+  still_filled x same filled = (
+    filled.0,
+    get_or-runs_exchanged a b k ps (omega arith) (omega arith) x ∙ ap (held_at ps) same ∙ filled.1,
+  )
 
-  length-so_far : length so_far ≡ length ps
-  length-so_far = length-runs_exchanged a b k ps (omega arith) (omega arith)
+  pub next_first : IsFilled ps (a + k) → IsFilled (runs_exchanged a b k ps) (a + k)
+  next_first = still_filled (a + k) (grind arith)
 
-  still_held : (x i : ℕ) → exchanged_from a b k x ≡ i → held_at so_far x ≡ held_at ps i
-  still_held x i same = get_or-runs_exchanged a b k ps (omega arith) (omega arith) x ∙ ap (λ j. get_or ps j None) same
+  pub next_second : IsFilled ps (b + k) → IsFilled (runs_exchanged a b k ps) (b + k)
+  next_second = still_filled (b + k) (grind arith)
 
-  first_stays : held_at so_far (a + k) ≡ held_at ps (a + k)
-  first_stays = still_held (a + k) (a + k) (grind (arith, nat_tests))
-
-  second_stays : held_at so_far (b + k) ≡ held_at ps (b + k)
-  second_stays = still_held (b + k) (b + k) (grind (arith, nat_tests))
-
-  pub next_first : IsFilled ps (a + k) → IsFilled so_far (a + k)
-  next_first filled = (filled.0, first_stays ∙ filled.1)
-
-  pub next_second : IsFilled ps (b + k) → IsFilled so_far (b + k)
-  next_second filled = (filled.0, second_stays ∙ filled.1)
-
-  pub runs_exchanged_more : swap so_far (a + k) (b + k) ≡ runs_exchanged a b (k + 1) ps
+  pub runs_exchanged_more : swap (runs_exchanged a b k ps) (a + k) (b + k) ≡ runs_exchanged a b (k + 1) ps
   runs_exchanged_more =
-      let ones = set so_far (a + k) (held_at so_far (b + k)) in
-      let longer = length-set so_far (a + k) (held_at so_far (b + k)) in
-      sym (swap_is so_far (a + k) (b + k) None (omega (arith, length-so_far)) (omega (arith, length-so_far)))
-      ∙ same_places _ _ (length-set ones (b + k) (held_at so_far (a + k)) ∙ longer ∙ length-so_far
-      ∙ sym (length-runs_exchanged a b (k + 1) ps before within)) (λ x lt.
-      get_or-written ones (b + k) x (held_at so_far (a + k)) (omega (arith, length-so_far, longer)) ∙ rw (
-        get_or-written so_far (a + k) x (held_at so_far (b + k)) (omega (arith, length-so_far)),
-        first_stays,
-        second_stays,
-        get_or-runs_exchanged a b k ps (omega arith) (omega arith) x,
-      ) (grind (arith, nat_tests))
-      ∙ sym (get_or-runs_exchanged a b (k + 1) ps before within x))
+      swap-runs (a + k) (b + k) _ (omega arith) (omega (arith, length-runs_exchanged a b k ps))
+      ∙ runs_exchanged_both a b ps k 1 before within

@@ -3,10 +3,7 @@ use Rattle.std.proofs.{
   Common.{◌≡◌, ℕ, zero, suc, ◌+◌, ◌-◌, ◌%◌, ◌<◌, ◌≤◌, ◌⊎◌, ◌==◌, inl, inr, List, ◌++◌, map, length, take, drop, get_or},
   Common.{sym, ap, ap₂, ◌∙◌, arith},
   Math.Nat.{mod-eq_of_lt, mod-eq-sub-mod, add-mod-mod, mod-add-mod, add_assoc},
-  lemmas.{
-    Bool.{cases_lt, Decides.nat_tests},
-    List.{places, length-append, length-take, length-drop, map-append, drop-map, take-map},
-  },
+  lemmas.{Bool.{cases_lt}, List.{places, length-append, length-take, length-drop, map-append, drop-map, take-map}},
 }
 use Rattle.arraydeque_ring.specs.Ring.{place_of, rotated}
 
@@ -21,7 +18,7 @@ place_of_cases t k n within = elim (cases_lt (t + k) n) [
 
 -- a place lies in the region
 pub place_of-lt : (t k n : ℕ) → t + k < n + n → place_of t k n < n
-place_of-lt t k n within = grind (arith, place_of_cases t k n within)
+place_of-lt t k n within = grind arith
 
 -- the index 0 has the start itself
 pub place_of-zero : (t n : ℕ) → t ≤ n - 1 → place_of t 0 n ≡ t
@@ -43,10 +40,10 @@ place_of-place_of t i x n = place_of-sum t i x n ∙ sym (add-mod-mod t (i + x) 
 -- two indexes have two places
 pub same_index : (t i j n : ℕ) → t ≤ n → i < n → j < n → place_of t i n ≡ place_of t j n → i ≡ j
 same_index t i j n a b c e =
-    grind (arith, place_of_cases t i n (omega arith), place_of_cases t j n (omega arith))
+    grind (arith, place_of_cases t j n (omega arith))
 
 pub one_place : (t i j n : ℕ) → t ≤ n → i < n → j < n → (place_of t i n == place_of t j n) ≡ (i == j)
-one_place t i j n a b c = grind (arith, nat_tests, same_index t i j n a b c)
+one_place t i j n a b c = grind (arith, same_index t i j n a b c)
 
 -- a run from the index i on may start at the place p: the place of i, or the region's end in its stead
 abbrev pub MayStartAt : ℕ → ℕ → ℕ → ℕ → Type 0
@@ -60,7 +57,7 @@ MayStartAt-place_of t i n within = elim (place_of_cases t i n within) [
 
 -- and its items stand side by side, as far as the end
 pub place_of-run : (t i j n p : ℕ) → MayStartAt t i n p → p + j < n → t ≤ n → i + j < n → place_of t (i + j) n ≡ p + j
-place_of-run t i j n p at a b c = grind (arith, at, place_of_cases t (i + j) n (omega arith))
+place_of-run t i j n p at a b c = grind (arith, place_of_cases t (i + j) n (omega arith))
 
 module _ {X : Type 0} where
   pub length-rotated : (t : ℕ) (xs : List X) → length (rotated t xs) ≡ length xs
@@ -69,7 +66,7 @@ module _ {X : Type 0} where
   -- the item at the index k stands at the place of k
   pub get_or-rotated : (t k n : ℕ) (xs : List X) (d : X) → length xs ≡ n → t ≤ n → k < n
       → get_or (rotated t xs) k d ≡ get_or xs (place_of t k n) d
-  get_or-rotated t k n xs d long a b = grind (arith, places, place_of_cases t k n (omega arith))
+  get_or-rotated t k n xs d long a b = grind (arith, places)
 
 pub rotated-map : {X Y : Type 0} (f : X → Y) (t : ℕ) (xs : List X) → rotated t (map f xs) ≡ map f (rotated t xs)
 rotated-map f t xs = ap₂ (λ l r. l ++ r) (drop-map f t xs) (take-map f t xs)

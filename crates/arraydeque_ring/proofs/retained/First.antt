@@ -2,7 +2,7 @@
 use Rattle.std.{
   proofs.{
     Common.{◌≡◌, ℕ, zero, suc, ◌+◌, ◌<◌, List, [], ◌∷◌, ◌++◌, length, take, replicate, get_or, slice_get, Bool, true},
-    Common.{false, cond, not, count_by, ◌==◌, if◌then◌else◌, refl, sym, ap, ap₂, ◌∙◌, subst, arith},
+    Common.{false, cond, not, count_by, refl, ap, ◌∙◌, arith},
     Retain.answers_push,
     lemmas.{
       Bool.{Decides.nat_tests},
@@ -19,17 +19,14 @@ use Rattle.arraydeque_ring.{
 }
 
 pub until_goes : (k n : ℕ) → k < n → answers_until k n ≡ replicate k true ++ false ∷ []
-until_goes k n lt = grind (arith, nat_tests)
+until_goes k n lt = grind arith
 
 until_all : (n : ℕ) → answers_until n n ≡ replicate n true
-until_all n = grind (arith, nat_tests, append-nil (replicate n true))
+until_all n = grind (arith, append-nil (replicate n true))
 
 -- n items that stay stand before
 until_behind : (n k m : ℕ) → answers_until (n + k) (n + m) ≡ replicate n true ++ answers_until k m
-until_behind n k m =
-    let test : (n + k == n + m) ≡ (k == m) = grind (arith, nat_tests) in
-    ap₂ (λ bs b. bs ++ (if b then [] else false ∷ [])) (sym (replicate-append-replicate n k true)) test
-    ∙ append_assoc (replicate n true) (replicate k true) (if k == m then [] else false ∷ [])
+until_behind n k m = grind (arith, append-nil, append_assoc, replicate-append-replicate n k true)
 
 -- those that stay are the first ones, none goes, and none is moved
 pub picked_front : {X : Type 0} (k : ℕ) (xs : List X) → items_where_true (replicate k true) xs ≡ take k xs
@@ -80,14 +77,13 @@ module _ {X F : Type 0} (R : F → X → Bool → F → Type 0) where
   -- or all of that one stay
   pub all_stay : (f g : F) (k : ℕ) (xs : List X) → k ≡ length xs → ReturnsInTurn R f (answers_until k (length xs)) xs g
       → ReturnsInTurn R f (replicate k true) xs g
-  all_stay f g k xs all told =
-      subst (λ bs. ReturnsInTurn R f bs xs g) (ap (answers_until k) (sym all) ∙ until_all k) told
+  all_stay f g k xs all told = rw (← all, until_all k) at told
 
   pub until_in_back : (f g h : F) (k m : ℕ) (xs ys : List X) → k ≡ length xs
       → ReturnsInTurn R f (answers_until k (length xs)) xs g → ReturnsInTurn R g (answers_until m (length ys)) ys h
       → ReturnsInTurn R f (answers_until (k + m) (length (xs ++ ys))) (xs ++ ys) h
   until_in_back f g h k m xs ys all told after =
-      let long : length (xs ++ ys) ≡ k + length ys = length-append xs ys ∙ ap (λ n. n + length ys) (sym all) in
+      let long : length (xs ++ ys) ≡ k + length ys = omega (arith, length-append xs ys) in
       rw (long, until_behind) (told_behind f g h (replicate k true)
       (answers_until m (length ys)) xs ys (length-replicate k true ∙ all) (all_stay f g k xs all told) after)
 
@@ -97,7 +93,7 @@ module _ {X F : Type 0} (t : Mut F (Bor X × Unit {0}) Bool) (f : F) (xs ys : Li
   pub asked_front : MayBeAsked t f xs
   asked_front answers g x here told =
       let lt = slice_get_within xs (length answers) x.now here in
-      may answers g x (slice_get-append xs ys (length answers) ∙ grind (arith, nat_tests, here))
+      may answers g x (slice_get-append xs ys (length answers) ∙ grind (arith, here))
       (told_longer (CalledAt t) f g answers xs ys told)
 
   pub asked_back : (g : F) (k : ℕ) → k ≡ length xs → ReturnsInTurn (CalledAt t) f (answers_until k (length xs)) xs g
@@ -105,7 +101,7 @@ module _ {X F : Type 0} (t : Mut F (Bor X × Unit {0}) Bool) (f : F) (xs ys : Li
   asked_back g k all first answers h x here told =
       let bs = replicate k true in
       let long : length (bs ++ answers) ≡ length xs + length answers =
-      length-append bs answers ∙ ap (λ n. n + length answers) (length-replicate k true ∙ all) in
+      omega (arith, length-append bs answers, length-replicate k true) in
       may (bs ++ answers) h x (ap (slice_get (xs ++ ys)) long ∙ slice_get-append xs ys (length xs + length answers)
       ∙ grind (arith, nat_tests, here))
       (told_behind (CalledAt t) f g h bs answers xs ys (length-replicate k true ∙ all)

@@ -2,7 +2,7 @@
 use Rattle.std.{
   proofs.{
     Common.{◌≡◌, ℕ, suc, ◌+◌, ◌<◌, ◌≤◌, List, [], ◌∷◌, ◌++◌, length, take, drop, set, get_or, replicate, slice_get},
-    Common.{add-one, Option, Some, None, Bool, true, false, not, count_by, sym, ap, ◌∙◌, subst, arith},
+    Common.{add-one, Option, Some, None, Bool, true, false, not, count_by, sym, ap, ◌∙◌, arith},
     Retain.{picked_push_true, picked_push_false, answers_push},
     lemmas.{
       List.{length_push, length-drop, length-take-le, length-replicate, take_all, drop_all},
@@ -53,7 +53,7 @@ all_kept R f g ring k all told =
       last = g;
       one_each = length-replicate k true ∙ all;
       in_turn = all_stay R f g k ring.items all told;
-      kept = grind (arith, items, none_goes k, none_moved k);
+      kept = grind (arith, none_goes k, none_moved k);
     }
 
 -- behind k items that stay, the first goes
@@ -69,10 +69,10 @@ first_goes R f g before {items} {n} {t} {ps} k l lt told =
     let one : count_by not (bs ++ false ∷ []) ≡ 1 = omega (arith, count_by-push not bs false, none_goes k) in
     record {
       answers = bs ++ false ∷ [];
-      asked = omega (arith, length_push bs false, long);
+      asked = omega (arith, length_push bs false);
       in_turn = rw (until_goes k (length items) lt) at told;
       stay = ap length stay ∙ length-take-le k items (omega arith);
-      some_gone = omega (arith, one);
+      some_gone = omega arith;
       places = rw (stay, one, add-one k) (Gapped-taken_one l k lt);
       cost = grind (arith, one, moved-push_false bs, none_moved k);
     }
@@ -81,7 +81,7 @@ module _ {F X : Type 0} {R : F → X → Bool → F → Type 0} {f : F} {items :
     {ps : List (Option X)} {steps : Steps} {g : F} (s : SoFar R f items before n t index kept ps steps g) where
   -- the items asked about stay or are gone
   counted : index ≤ length items → kept + count_by not s.answers ≡ index
-  counted le = omega (arith, kept_and_gone s.answers items (omega (arith, s.asked)), s.asked, s.stay)
+  counted le = omega (arith, kept_and_gone s.answers items (omega arith))
 
   -- the place behind those that stay is empty
   pub room_for_next : IsEmpty ps (place_of t kept n)
@@ -90,16 +90,15 @@ module _ {F X : Type 0} {R : F → X → Bool → F → Type 0} {f : F} {items :
   -- no more stay than were asked about, and all lie in the region
   pub all_within : index ≤ length items → (kept ≤ index) × (length items ≤ n)
   all_within le =
-      (omega (arith, counted le), omega (arith, s.places.within, counted le, s.stay, length-drop index items))
+      (omega (arith, counted le), omega (arith, counted le, length-drop index items))
 
   -- all have been asked about
   pub all_asked : length items ≤ index → Shows n t kept (items_where_true s.answers items) ps
-  all_asked past = shows (LaidOut-gap_last (subst (λ l. Gapped n t (items_where_true s.answers items)
-      (count_by not s.answers) l ps) (drop_all index items past) s.places)) kept s.stay
+  all_asked past = shows (LaidOut-gap_last (rw (drop_all index items past) at s.places)) kept s.stay
 
   module _ (lt : index < length items) where
     here : length (items_where_true s.answers items) + count_by not s.answers ≡ index
-    here = omega (arith, counted (omega arith), s.stay)
+    here = omega (arith, counted (omega arith))
 
     next_held : held_at ps (place_of t index n) ≡ slice_get items index
     next_held = held_behind items index index s.places here lt
@@ -114,7 +113,7 @@ module _ {F X : Type 0} {R : F → X → Bool → F → Type 0} {f : F} {items :
     -- the item x is answered
     module _ (x : X) (h : F) (held : held_at ps (place_of t index n) ≡ Some x) where
       in_list : length s.answers < length items
-      in_list = omega (arith, s.asked)
+      in_list = omega arith
 
       x_is : x ≡ get_or items (length s.answers) x
       x_is = sym (get_or_from_slice_get items (length s.answers) x x (next_asked x held))
@@ -131,13 +130,13 @@ module _ {F X : Type 0} {R : F → X → Bool → F → Type 0} {f : F} {items :
           let gone : count_by not (bs ++ true ∷ []) ≡ count_by not bs = omega (arith, count_by-push not bs true) in
           record {
             answers = bs ++ true ∷ [];
-            asked = omega (arith, length_push bs true, s.asked);
+            asked = omega (arith, length_push bs true);
             in_turn = answers_push R f g h bs items x true in_list x_is s.in_turn called;
-            stay = omega (arith, ap length more, length_push ks x, s.stay);
-            some_gone = omega (arith, s.some_gone, gone);
+            stay = omega (arith, ap length more, length_push ks x);
+            some_gone = omega arith;
             places =
                 rw (more, gone) (Gapped-move items index index s.places here lt x kept (sym next_held ∙ held) s.stay);
-            cost = grind (arith, s.cost, gone, moved-push_true bs s.some_gone);
+            cost = grind (arith, gone, moved-push_true bs s.some_gone);
           }
 
       -- the next item goes
@@ -149,10 +148,10 @@ module _ {F X : Type 0} {R : F → X → Bool → F → Type 0} {f : F} {items :
           omega (arith, count_by-push not bs false) in
           record {
             answers = bs ++ false ∷ [];
-            asked = omega (arith, length_push bs false, s.asked);
+            asked = omega (arith, length_push bs false);
             in_turn = answers_push R f g h bs items x false in_list x_is s.in_turn called;
             stay = ap length (picked_push_false bs items) ∙ s.stay;
-            some_gone = omega (arith, gone);
+            some_gone = omega arith;
             places = rw (picked_push_false, ← gone) (Gapped-take items index index s.places here lt);
-            cost = grind (arith, s.cost, gone, moved-push_false bs);
+            cost = grind (arith, moved-push_false bs);
           }

@@ -1,9 +1,5 @@
-use Rattle.std.proofs.Common.{◌≡◌, ◌+◌, ◌-◌, drop, ap, ap₂, ◌∙◌, arith}
-use Rattle.arraydeque_ring.specs.Steps.{more_takes}
-use Rattle.arraydeque_ring.proofs.{
-  fills.Laying.up_by-is,
-  places.{Appended.{joined, shed, joined-both, shed-both}, Opened.opened},
-}
+use Rattle.std.proofs.Common.{◌≡◌, ◌+◌, ◌-◌, arith}
+use Rattle.arraydeque_ring.proofs.{fills.Laying.up_by-is, places.{Appended.{joined-both, shed-both}, Opened.opened}}
 use Rattle.arraydeque_ring.proofs.ring.Ring.append.Goals as goal
 
 pub loop-left-preserved : goal.loop-left-preserved
@@ -14,16 +10,11 @@ loop-left-preserved g c =
     let now = c.loop-left.other in
     let m = c.args.len - c.loop-left.left in
     let run = c.min-run.result in
-    let total : m + run ≡ c.args.len - (c.loop-left.left - run) =
-    omega (arith, inv.within, c.min-run.ensures, c.min.ensures)
-    in
+    let total : c.args.len - (c.loop-left.left - run) ≡ m + run = omega arith in
     let other = opened c.other.inside c.other.invariant c.other.view_is in
-    let start = up_by-is run now.start now.capacity (omega (arith, other.laid.in_region, other.start)) in
+    let start = up_by-is run now.start now.capacity (omega arith) in
     record {
-      within = omega (arith, inv.within);
-      here = c.append_run.ensures.here ∙ ap₂ (joined run) inv.here inv.there
-          ∙ joined-both m run r o ∙ ap (λ k. joined k r o) total;
-      there = c.append_run.ensures.there
-          ∙ ap (λ t. record now { items = drop run now.items; start = t; steps = more_takes run now.steps }) start
-          ∙ ap (shed run) inv.there ∙ shed-both m run o ∙ ap (λ k. shed k o) total;
+      within = omega arith;
+      here = rw (c.append_run.ensures.here, inv.here, inv.there, total) (joined-both m run r o);
+      there = rw (c.append_run.ensures.there, start, inv.there, total) (shed-both m run o);
     }

@@ -11,7 +11,7 @@ use Rattle.arraydeque_ring.proofs.ring.Ring.append_run.Goals as goal
 pub hand_over-requires-clause-filled : goal.hand_over-requires-clause-filled
 hand_over-requires-clause-filled g c =
     let other = bounds c.other.inside _ c.other.invariant c.other.view_is in
-    piece_filled c.other.inside c.other.invariant c.args.run (omega (arith, other)) (omega (arith, other))
+    piece_filled c.other.inside c.other.invariant c.args.run (omega arith) (omega arith)
 
 -- the other ring, without them
 there : (g : Over) (c : After-hand_over g) → let other = c.other.inside in let n = length other.slots.places in
@@ -20,7 +20,7 @@ there : (g : Over) (c : After-hand_over g) → let other = c.other.inside in let
 there g c =
     let other = bounds c.other.inside _ c.other.invariant c.other.view_is in
     rw c.hand_over.ensures.here
-    (piece_taken c.other.inside c.other.invariant c.args.run (omega (arith, other)) (omega (arith, other)))
+    (piece_taken c.other.inside c.other.invariant c.args.run c.requires.some (omega arith) (omega arith))
 
 pub invariant_of-other : goal.invariant_of-other
 invariant_of-other g c = grind (arith, there g (goal.at.invariant_of-other g c).After-hand_over)

@@ -1,5 +1,5 @@
 use Rattle.std.{
-  proofs.{Common.{◌≡◌, ◌-◌, length, sym, subst, arith}, lemmas.{Bool.Decides.nat_tests, Grind.common_steps}},
+  proofs.{Common.{◌≡◌, ◌-◌, length, sym, subst, arith}, lemmas.{Grind.common_steps}},
   specs.List.remove_range,
 }
 use Rattle.arraydeque_ring.{
@@ -22,8 +22,8 @@ returns-then-count-eq0-clause-start g c =
     let ring = opened c.self.inside c.self.invariant c.self.view_is in
     let old = c.args.self.now in
     let none : c.args.to - c.args.from ≡ 0 = omega arith in
-    rw (none, place_of-zero old.start old.capacity (omega (arith, ring.laid.in_region, ring.start)))
-    (grind (arith, nat_tests))
+    rw (none, place_of-zero old.start old.capacity (omega arith))
+    (grind arith)
 
 pub take_run-requires-clause-empty : goal.take_run-requires-clause-empty
 take_run-requires-clause-empty g c = rw c.in_ok-slots.ensures.ok (all_empty (c.args.to - c.args.from) _ (omega arith))
@@ -71,7 +71,7 @@ returns-clause-steps g c = grind (arith, bounds)
 pub returns-clause-fewest : goal.returns-clause-fewest
 returns-clause-fewest g c =
     let ring = opened c.self.inside c.self.invariant c.self.view_is in
-    rw (returns-clause-start g c) (fewest_drain _ _ _ _ _ (omega (arith, ring.laid.in_region, ring.start))
+    rw (returns-clause-start g c) (fewest_drain _ _ _ _ _ (omega arith)
     c.requires.in_order c.requires.in_bounds (length_within ring.laid))
 
 pub returns-then-count-eq0-clause-fewest : goal.returns-then-count-eq0-clause-fewest
@@ -79,8 +79,8 @@ returns-then-count-eq0-clause-fewest g c =
     let old = c.args.self.now in
     let ring = opened c.self.inside c.self.invariant c.self.view_is in
     subst (IsFewest _ old.capacity _) (sym (returns-then-count-eq0-clause-start g c))
-    (fewest_drain c.args.from c.args.to (length old.items) old.capacity old.start (omega
-    (arith, ring.laid.in_region, ring.start)) c.requires.in_order c.requires.in_bounds (length_within ring.laid))
+    (fewest_drain c.args.from c.args.to (length old.items) old.capacity old.start (omega arith) c.requires.in_order
+    c.requires.in_bounds (length_within ring.laid))
 
 pub returns-then-count-eq0-clause-items : goal.returns-then-count-eq0-clause-items
 returns-then-count-eq0-clause-items g c = grind (arith, common_steps, bounds)

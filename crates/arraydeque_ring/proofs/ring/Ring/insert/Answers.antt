@@ -29,7 +29,10 @@ move_gap-requires g c =
 pub move_gap-requires-else-index-behind : goal.move_gap-requires-else-index-behind
 move_gap-requires-else-index-behind g c =
     let ring = opened c.self.inside c.self.invariant c.self.view_is in
-    gap_may_move (Gapped-behind ring.laid c.requires.room) _ _ ring.len (omega arith) (omega (arith, ring.len))
+    gap_may_move (Gapped-behind ring.laid c.requires.room) _ _ ring.len (omega arith) (omega arith)
+
+front : (g : Over) (c : goal.After-put-arg-1 g) → length (take c.args.index c.args.self.now.items) ≡ c.args.index
+front g c = length-take-le c.args.index c.args.self.now.items c.requires.in_bounds
 
 -- with the gap open
 gap : (g : Over) (c : goal.After-put-arg-1 g) → let old = c.args.self.now in let now = c.if-index-behind.self-inside in
@@ -37,20 +40,16 @@ gap : (g : Over) (c : goal.After-put-arg-1 g) → let old = c.args.self.now in l
 gap g c =
     let ring = opened c.self.inside c.self.invariant c.self.view_is in
     let items = c.args.self.now.items in
-    let front = length-take-le c.args.index items c.requires.in_bounds in
     elim c.if-index-behind.branch [
       | then-index-behind w ↦
+          let was = Gapped-before ring.laid c.requires.room in
           let before = rw (c.capacity-capacity.ensures, ring.laid.length_is) at w.wrap_add-before.ensures in
-          rw (w.self-inside-is, before) (gap_moves (Gapped-before ring.laid c.requires.room) 0 c.args.index refl _ _
-          (take-append-drop c.args.index items) front (Gapped-before ring.laid c.requires.room).reads.in_region
-          (rw before at w.move_gap.ensures.places))
+          rw (w.self-inside-is, before) (gap_moves was 0 c.args.index refl _ _ (take-append-drop c.args.index items)
+          (front g c) was.reads.in_region (rw before at w.move_gap.ensures.places))
       | else-index-behind w ↦ rw w.self-inside-is (gap_moves (Gapped-behind ring.laid c.requires.room) _ c.args.index
-          ring.len _ _ (take-append-drop c.args.index items ∙ sym (append-nil items)) front ring.laid.in_region
+          ring.len _ _ (take-append-drop c.args.index items ∙ sym (append-nil items)) (front g c) ring.laid.in_region
           w.move_gap-else-index-behind.ensures.places)
     ]
-
-front : (g : Over) (c : goal.After-put-arg-1 g) → length (take c.args.index c.args.self.now.items) ≡ c.args.index
-front g c = length-take-le c.args.index c.args.self.now.items c.requires.in_bounds
 
 place : (g : Over) (c : goal.After-put-arg-1 g) → c.wrap_add-place.result
     ≡ place_of c.if-index-behind.self-inside.start c.args.index c.args.self.now.capacity
@@ -67,12 +66,8 @@ after g c =
     let ring = opened c.self.inside c.self.invariant c.self.view_is in
     let same : c.if-index-behind.self-inside.len ≡ c.self.inside.len = grind arith in
     shows (rw (c.put.ensures.places, place g c.before) (LaidOut-put c.args.index c.args.element (gap g c.before)
-    (front g c.before))) _ (omega (
-      arith,
-      same,
-      ring.len,
-      length-insert c.args.self.now.items c.args.index c.args.element c.requires.in_bounds,
-    ))
+    (front g c.before)))
+    _ (omega (arith, length-insert c.args.self.now.items c.args.index c.args.element c.requires.in_bounds))
 
 pub invariant_of-self : goal.invariant_of-self
 invariant_of-self g c = let now = after g c in (now.1, now.2)
@@ -90,4 +85,4 @@ pub returns-clause-fewest : goal.returns-clause-fewest
 returns-clause-fewest g c =
     let ring = opened c.self.inside c.self.invariant c.self.view_is in
     rw (returns-clause-start g c) (fewest_insert c.args.index _ _ _
-    (omega (arith, ring.laid.in_region, ring.start)) c.requires.in_bounds c.requires.room)
+    (omega arith) c.requires.in_bounds c.requires.room)

@@ -25,7 +25,7 @@ use Rattle.arraydeque_ring.proofs.ring.Ring.into_vec.Goals as goal
 module _ {X : Type 0} {old : RingState X} {k : ℕ} {v : Vec X Global} {ps : List (Option X)} (was : AreOut old k v ps)
     {place : ℕ} (here : (k < length old.items) × (place_of old.start k old.capacity ≡ place)) where
   some : 0 < length (drop k old.items)
-  some = omega (arith, here.0, length-drop k old.items)
+  some = omega (arith, length-drop k old.items)
 
   next_filled : IsFilled ps place
   next_filled = rw here.1 at (IsFilled-start was.laid some)
@@ -34,8 +34,8 @@ module _ {X : Type 0} {old : RingState X} {k : ℕ} {v : Vec X Global} {ps : Lis
       → w.items ≡ v.items ++ x ∷ [] → vec_len w ≡ vec_len v + 1 → vec_capacity w ≡ vec_capacity v
       → AreOut old (k + 1) w qs
   next_out {x = x} held taken pushed len capacity =
-      let first = rw here.1 at (held_at-start was.laid (omega (arith, some, was.laid.within))) in record {
-        room = omega (arith, was.room, len, capacity);
+      let first = rw here.1 at (held_at-start was.laid (omega (arith, some))) in record {
+        room = omega arith;
         items = pushed ∙ ap₂ (λ l y. l ++ y ∷ []) was.items (sym (get_or_from_slice_get old.items k x x
             (grind (arith, first, slice_get-drop k old.items 0)))) ∙ sym (take_more old.items k x here.0);
         laid = rw (taken, ← here.1) (rw (place_of-sum, drop-drop) at (LaidOut-take_front was.laid some));
@@ -48,8 +48,6 @@ here : (g : Over) (c : After-min-first g) (k : ℕ) → k < c.self.inside.len
     × (c.min-first.result ≤ k → some × (place ≡ k - c.min-first.result))
 here g c k lt =
     let ring = bounds c.self.inside _ c.self.invariant c.self.view_is in
-    let first = c.min-first.ensures in
-    let n = c.capacity.ensures in
     elim (place_of_cases c.args.self.start k c.args.self.capacity (omega arith)) [
       | inl below ↦ (λ w. (omega arith, omega arith), λ w. (omega arith, omega arith))
       | inr past ↦ (λ w. (omega arith, omega arith), λ w. (omega arith, omega arith))

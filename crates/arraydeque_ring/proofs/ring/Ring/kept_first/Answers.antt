@@ -14,15 +14,13 @@ returns-then-kept-front-clause-in_turn g c = rw (← c.as_slices.ensures.joined)
 
 pub kept_run-requires : goal.kept_run-requires
 kept_run-requires g c =
-    let all : c.kept_run-kept.result ≡ length c.as_slices.result.0.now =
-    omega (arith, c.kept_run-kept.ensures.within) in
-    asked_back g.F.FnMut _ _ _ (rw (← c.as_slices.ensures.joined) at c.requires) _ _ all c.kept_run-kept.ensures.in_turn
+    asked_back g.F.FnMut _ _ _ (rw (← c.as_slices.ensures.joined) at c.requires) _ c.kept_run-kept.result (omega arith)
+    c.kept_run-kept.ensures.in_turn
 
 pub returns-clause-in_turn : goal.returns-clause-in_turn
 returns-clause-in_turn g c =
-    let all : c.kept_run-kept.result ≡ length c.as_slices.result.0.now =
-    omega (arith, c.kept_run-kept.ensures.within) in
     let before : c.self.inside.len - length c.as_slices.result.1.now ≡ c.kept_run-kept.result =
     grind (arith, slice_facts) in
     rw (before, ← c.as_slices.ensures.joined) (until_in_back
-    (CalledAt g.F.FnMut) _ _ _ _ _ _ _ all c.kept_run-kept.ensures.in_turn c.kept_run.ensures.in_turn)
+    (CalledAt g.F.FnMut) _ _ _ c.kept_run-kept.result _ _ _ (omega arith) c.kept_run-kept.ensures.in_turn
+    c.kept_run.ensures.in_turn)

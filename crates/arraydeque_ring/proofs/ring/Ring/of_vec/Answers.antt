@@ -25,7 +25,6 @@ fits : (g : Over) (c : In-Some g)
     ≤ length (replicate {A = Option g.row.T.Denot} c.args.capacity None)
 fits g c = omega (
   arith,
-  c.loop-item.items.ok.0,
   ap length c.loop-item.invariant.1.all,
   length-append c.loop-item.items.items c.loop-item.invariant.0,
   length-take c.args.capacity c.args.v.items,
@@ -48,7 +47,7 @@ loop-item-preserved g c =
             ∙ ap (λ l. l ++ was.0) (sym c.in-Some.ensures.items) ∙ was.1.all;
         places = rw (c.put.ensures.places, was.1.places, c.len.ensures)
             (with_run-before _ _ _ (fits g (goal.at.loop-item-preserved g c).In-Some) x _ c.in-Some.ensures.len);
-        steps = grind (arith, c.put.ensures.steps, was.1.steps);
+        steps = grind arith;
       },
     )
 

@@ -45,5 +45,5 @@ returns-clause-start g c =
 pub returns-clause-fewest : goal.returns-clause-fewest
 returns-clause-fewest g c =
     let ring = opened c.self.inside c.self.invariant c.self.view_is in
-    rw (returns-clause-start g c) (fewest_remove c.args.index _ _ _ (omega (arith, ring.laid.in_region, ring.start))
+    rw (returns-clause-start g c) (fewest_remove c.args.index _ _ _ (omega arith)
     c.requires (length_within ring.laid))

@@ -18,7 +18,7 @@ pub loop-index-init : goal.loop-index-init
 loop-index-init g c =
     let ring = opened c.self.inside c.self.invariant c.self.view_is in
     record {
-      all = omega (arith, ring.len);
+      all = omega arith;
       so_far = rw (
         c.take.ensures.places,
         c.take.ensures.steps,
@@ -27,7 +27,7 @@ loop-index-init g c =
         c.capacity-capacity.ensures,
         ring.laid.length_is,
       ) (first_goes (CalledAt g.F.FnMut) _ _ _ _ ring.laid
-          (omega (arith, ring.len, c.kept_first-kept.ensures.within)) c.kept_first-kept.ensures.in_turn);
+          (omega arith) c.kept_first-kept.ensures.in_turn);
     }
 
 pub get-requires : goal.get-requires
@@ -48,7 +48,7 @@ pub shift-requires-clause-empty : goal.shift-requires-clause-empty
 shift-requires-clause-empty g c = rw c.wrap_add-then-keeps.ensures (room_for_next c.loop-index.invariant.so_far)
 
 pub overflow_add-kept : goal.overflow_add-kept
-overflow_add-kept g c = let within = all_within c.loop-index.invariant.so_far (omega arith) in omega arith
+overflow_add-kept g c = omega arith
 
 pub loop-index-preserved : goal.loop-index-preserved
 loop-index-preserved g c =
@@ -89,9 +89,9 @@ returns-clause-retains g c =
     record {
       answers = so_far.answers;
       last = c.loop-index.f;
-      one_each = omega (arith, so_far.asked);
+      one_each = omega arith;
       in_turn = so_far.in_turn;
-      kept = grind (arith, bounds, all_asked so_far (omega arith), so_far.cost);
+      kept = grind (arith, bounds, all_asked so_far (omega arith));
     }
 
 pub returns-clause-no_longer : goal.returns-clause-no_longer

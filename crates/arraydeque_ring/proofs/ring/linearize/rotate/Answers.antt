@@ -1,7 +1,4 @@
-use Rattle.std.proofs.{
-  Common.{◌≡◌, ◌+◌, ◌-◌, inl, inr, ◌==◌, refl, if◌then◌else◌, arith},
-  lemmas.{Bool.Decides.nat_tests, Grind.common_steps},
-}
+use Rattle.std.proofs.{Common.{◌≡◌, ◌+◌, ◌-◌, inl, inr, ◌==◌, refl, if◌then◌else◌, arith}, lemmas.{Grind.common_steps}}
 use Rattle.arraydeque_ring.{
   specs.{Exchanged.runs_exchanged, Steps.Rearranges},
   proofs.{
@@ -72,7 +69,7 @@ returns-clause-steps g c =
     let so_far = c.loop-next.invariant.steps in (
       so_far.0 + (if c.loop-next.dst == c.loop-next.next then 0 else c.args.len - c.loop-next.dst),
       so_far.1,
-      grind (arith, nat_tests, so_far.2, c.loop-next.invariant.walk.placed),
+      grind arith,
       rw (c.place_last.ensures.steps, so_far.3) (grind arith),
     )
 

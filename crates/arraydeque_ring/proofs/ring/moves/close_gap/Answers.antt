@@ -10,8 +10,7 @@ use Rattle.arraydeque_ring.proofs.ring.moves.close_gap.Goals as goal
 
 gap : (g : Over) (c : Start g) → Gapped (length c.args.slots.now.places) c.args.start c.requires.filled_before.1.0
     c.args.gap c.requires.filled_behind.1.0 c.args.slots.now.places
-gap g c = let r = c.requires in
-    Gapped-runs _ _ _ _ _ r.in_region r.within r.filled_before r.empty r.filled_behind r.others_empty
+gap g c = Gapped-runs _ _ _ _ _ c.requires
 
 pub move_gap-requires : goal.move_gap-requires
 move_gap-requires g c = gap_may_move (gap g (goal.at.move_gap-requires g c).Start) _ _

@@ -1,6 +1,6 @@
-use Rattle.std.proofs.Common.{◌≡◌, ℕ, ◌+◌, ◌-◌, inl, inr, refl, ap, ◌∙◌, arith}
+use Rattle.std.proofs.Common.{◌≡◌, ℕ, ◌+◌, ◌-◌, inl, inr, refl, arith}
 use Rattle.arraydeque_ring.{
-  specs.{Gaps.gap_moved, Ring.{place_of, rotated}, Steps.more_moves},
+  specs.{Gaps.gap_moved, Ring.{place_of, rotated}},
   proofs.{
     gaps.Crossing.{Crosses, crosses, one_on},
     ring.moves.move_gap.{Given.Over, Goals.{After-wrap_add-src, After-wrap_add-dst}},
@@ -12,17 +12,17 @@ up : (g : Over) (c : After-wrap_add-src g) {d : ℕ}
     → d ≡ place_of c.args.start (c.args.to + c.args.gap) c.capacity-capacity.result
     → let a = c.args in let ps = a.slots.now.places in Crosses a.start d c.wrap_add-src.result (a.from - a.to) ps
     (gap_moved a.from a.to a.gap (rotated a.start ps))
-up g c at = let r = c.requires in
-    crosses _ _ _ _ _ _ _ _ _ _ _ r.in_region r.some r.within r.empty (inl (refl, refl, omega arith))
-    c.capacity-capacity.ensures at c.wrap_add-src.ensures r.filled_before
+up g c at =
+    crosses _ _ _ _ _ _ _ _ _ _ _ c.requires (inl (refl, refl, omega arith))
+    c.capacity-capacity.ensures at c.wrap_add-src.ensures c.requires.filled_before
 
 down : (g : Over) (c : After-wrap_add-dst g) {s : ℕ}
     → s ≡ place_of c.args.start (c.args.from + c.args.gap) c.capacity-capacity.result
     → let a = c.args in let ps = a.slots.now.places in Crosses a.start c.wrap_add-dst.result s (a.to - a.from) ps
     (gap_moved a.from a.to a.gap (rotated a.start ps))
-down g c at = let r = c.requires in
-    crosses _ _ _ _ _ _ _ _ _ _ _ r.in_region r.some r.within r.empty (inr (refl, refl, omega arith))
-    c.capacity-capacity.ensures c.wrap_add-dst.ensures at r.filled_behind
+down g c at =
+    crosses _ _ _ _ _ _ _ _ _ _ _ c.requires (inr (refl, refl, omega arith))
+    c.capacity-capacity.ensures c.wrap_add-dst.ensures at c.requires.filled_behind
 
 pub slide_up-requires : goal.slide_up-requires
 slide_up-requires g c =
@@ -30,7 +30,7 @@ slide_up-requires g c =
     (one_on _ _ _ _ _ _ c.wrap_add-src.ensures c.capacity-capacity.ensures c.if-gap-eq1.true) in
     record {
       in_region = go.may.src_in_region;
-      room = omega (arith, c.requires.within, c.requires.some);
+      room = omega arith;
       filled = go.may.filled;
       free = go.may.free;
     }
@@ -44,7 +44,7 @@ slide_down-requires g c =
     (one_on _ _ _ _ _ _ c.wrap_add-dst.ensures c.capacity-capacity.ensures c.if-gap-eq1-2.true) in
     record {
       in_region = go.may.dst_in_region;
-      room = omega (arith, c.requires.within, c.requires.some);
+      room = omega arith;
       filled = go.may.filled;
       free = go.may.free;
     }
@@ -63,8 +63,10 @@ returns-else-gap-eq1-clause-places g c = rw c.wrap_move.ensures.places
     (up g (goal.at.returns-else-gap-eq1-clause-places g c).After-wrap_add-src c.wrap_add.ensures).is
 
 pub returns-else-gap-eq1-clause-steps : goal.returns-else-gap-eq1-clause-steps
-returns-else-gap-eq1-clause-steps g c = rw c.wrap_move.ensures.steps (ap (λ k. more_moves k c.args.slots.now.steps)
-    ((up g (goal.at.returns-else-gap-eq1-clause-steps g c).After-wrap_add-src c.wrap_add.ensures).count ∙ omega arith))
+returns-else-gap-eq1-clause-steps g c = rw (
+  c.wrap_move.ensures.steps,
+  (up g (goal.at.returns-else-gap-eq1-clause-steps g c).After-wrap_add-src c.wrap_add.ensures).count,
+) (grind arith)
 
 pub returns-then-gap-eq1-2-clause-places : goal.returns-then-gap-eq1-2-clause-places
 returns-then-gap-eq1-2-clause-places g c = rw c.slide_down.ensures.places
@@ -76,6 +78,8 @@ returns-else-gap-eq1-2-clause-places g c = rw c.wrap_move-else-gap-eq1-2.ensures
     (goal.at.returns-else-gap-eq1-2-clause-places g c).After-wrap_add-dst c.wrap_add-else-gap-eq1-2.ensures).is
 
 pub returns-else-gap-eq1-2-clause-steps : goal.returns-else-gap-eq1-2-clause-steps
-returns-else-gap-eq1-2-clause-steps g c = rw c.wrap_move-else-gap-eq1-2.ensures.steps
-    (ap (λ k. more_moves k c.args.slots.now.steps) ((down g (goal.at.returns-else-gap-eq1-2-clause-steps g
-    c).After-wrap_add-dst c.wrap_add-else-gap-eq1-2.ensures).count ∙ omega arith))
+returns-else-gap-eq1-2-clause-steps g c = rw (
+  c.wrap_move-else-gap-eq1-2.ensures.steps,
+  (down g (goal.at.returns-else-gap-eq1-2-clause-steps g c).After-wrap_add-dst
+      c.wrap_add-else-gap-eq1-2.ensures).count,
+) (grind arith)

@@ -1,10 +1,7 @@
-use Rattle.std.proofs.{Common.{◌≡◌, ◌-◌, ◌+◌, ◌<◌, [], ◌++◌, drop, sym, ap, ◌∙◌, arith}, lemmas.List.append-nil}
+use Rattle.std.proofs.{Common.{◌≡◌, ◌-◌, [], ◌++◌, drop, ap, ◌∙◌, arith}, lemmas.List.append-nil}
 use Rattle.arraydeque_ring.{
   proofs.{
-    places.{
-      Handed.{Handed, handed, first_empty, second_empty, both_put},
-      Rotated.{MayStartAt-place_of, place_of-lt, length-rotated},
-    },
+    places.Handed.{Handed, handed, first_empty, second_empty, both_put},
     ring.parts.take_run.{Given.Over, Goals.{After-min-first}},
   },
 }
@@ -12,15 +9,9 @@ use Rattle.arraydeque_ring.proofs.ring.parts.take_run.Goals as goal
 
 parts : (g : Over) (c : After-min-first g)
     → Handed c.args.start c.args.at c.args.len c.wrap_add-place.result c.min-first.result c.args.slots.now.places
-parts g c =
-    let long = sym c.capacity-capacity.ensures in
-    let within = c.requires.filled.0 in
-    let wide = length-rotated c.args.start c.args.slots.now.places in
-    let fits : c.args.start + c.args.at < c.capacity-capacity.result + c.capacity-capacity.result =
-    omega (arith, long, c.requires.in_region) in
-    rw c.wrap_add-place.ensures (handed _ _ _ _ _ _ _ long (omega (arith, long, c.requires.in_region)) c.requires.filled
-    (MayStartAt-place_of _ _ _ fits) (omega (arith, place_of-lt _ _ _ fits))
-    (rw c.wrap_add-place.ensures at c.min-first.ensures))
+parts g c = let r = c.requires in
+    handed _ _ _ _ _ _ _ c.capacity-capacity.ensures r.in_region (omega arith) r.filled c.wrap_add-place.ensures
+    c.min-first.ensures
 
 pub hand_over-requires-clause-filled : goal.hand_over-requires-clause-filled
 hand_over-requires-clause-filled g c = (parts g (goal.at.hand_over-requires-clause-filled g c).After-min-first).here
@@ -50,7 +41,7 @@ returns-then-first-len-clause-taken g c =
     let both = both_put c.args.len c.min-first.result c.args.taken.now.places (omega arith) c.requires.empty _ _
     p.first_length ∙ ap (λ ps. ps ++ drop c.args.len c.args.taken.now.places) p.all in
     rw (c.hand_over-then-first-len.ensures.there, c.hand_over.ensures.there, c.hand_over.ensures.here)
-    (grind (arith, both))
+    (grind arith)
 
 pub returns-else-first-len-clause-places : goal.returns-else-first-len-clause-places
 returns-else-first-len-clause-places g c =
@@ -64,4 +55,4 @@ returns-else-first-len-clause-taken g c =
     let same : c.min-first.result ≡ c.args.len = omega arith in
     let all =
     rw append-nil at (rw none at (parts g (goal.at.returns-else-first-len-clause-taken g c).After-min-first).all) in
-    rw c.hand_over.ensures.there (grind (arith, all, same))
+    rw c.hand_over.ensures.there (grind arith)

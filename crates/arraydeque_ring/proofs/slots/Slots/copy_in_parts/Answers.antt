@@ -1,9 +1,9 @@
-use Rattle.std.proofs.Common.{◌-◌, ◌<◌, ◌≤◌, sym, refl, arith}
+use Rattle.std.proofs.Common.{◌-◌, ◌<◌, ◌≤◌, refl, arith}
 use Rattle.arraydeque_ring.{
   specs.Moved.run_moved,
   proofs.{
     moved.Steps.{Three, three},
-    places.Rotated.{place_of_cases, place_of-zero},
+    places.Rotated.place_of_cases,
     slots.Slots.copy_in_parts.{Given.Over, Goals.{After-wrap_add}},
   },
 }
@@ -21,14 +21,13 @@ copies g c =
     let a = c.args in
     let near = c.min-near.result in
     let far = c.min-far.result in
-    let long = sym c.capacity-capacity.ensures in
     let both = three a.dst a.src a.len n near far (far - near) (a.len - far) a.dst a.src c.wrap_add-dst_near.result
-    c.wrap_add-src_near.result c.wrap_add-dst_far.result c.wrap_add-src_far.result a.self.now.places long (omega arith)
-    (omega arith) c.requires.filled (omega arith)
-    (grind (arith, place_of-zero a.dst n (omega arith), place_of-zero a.src n (omega arith)))
+    c.wrap_add-src_near.result c.wrap_add-dst_far.result c.wrap_add-src_far.result a.self.now.places
+    c.capacity-capacity.ensures (omega arith) (omega arith) c.requires.filled (omega arith)
+    (grind arith)
     (grind (arith, place_of_cases a.dst near n (omega arith), place_of_cases a.src near n (omega arith)))
     (grind (arith, place_of_cases a.dst far n (omega arith), place_of_cases a.src far n (omega arith))) in
-    (λ down. both.0 (λ some. omega arith), λ up. both.1 (grind (arith, c.wrap_add.ensures, c.requires.apart)))
+    (λ down. both.0 (λ some. omega arith), λ up. both.1 (grind arith))
 
 pub copy-requires-then-len-wrap_add : goal.copy-requires-then-len-wrap_add
 copy-requires-then-len-wrap_add g c = rw c.copy.ensures

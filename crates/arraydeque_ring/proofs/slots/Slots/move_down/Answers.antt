@@ -13,9 +13,9 @@ pub move_first-requires-clause-can : goal.move_first-requires-clause-can
 move_first-requires-clause-can g c =
     let filled = c.requires.filled in
     whole_can _ _ _ _ (record {
-      target = omega (arith, filled.0);
-      source = omega (arith, filled.0);
-      filled = λ k lt. rw (mod-eq_of_lt {n = c.args.src + k} {m = length c.args.self.places} (omega (arith, filled.0)))
+      target = omega arith;
+      source = omega arith;
+      filled = λ k lt. rw (mod-eq_of_lt {n = c.args.src + k} {m = length c.args.self.places} (omega arith))
           (filled_in_run c.args.self.places c.args.src c.args.len k filled lt);
     })
 
@@ -30,6 +30,6 @@ returns-clause-places g c =
     let long = length-runs_exchanged dst src len ps c.requires.apart within in
     rw (c.count.ensures, c.move_first.ensures.all refl, whole_run dst src len ps)
     (same_places _ _ (length-moved dst src len ps ∙ sym long) (λ x lt.
-    flat_at dst src len ps x c.requires.empty.0 within (omega (arith, long))
+    flat_at dst src len ps x c.requires.empty.0 within (omega arith)
     ∙ grind (arith, nat_tests, empty_in_run ps dst len (x - src) c.requires.empty)
     ∙ sym (get_or-runs_exchanged dst src len ps c.requires.apart within x)))

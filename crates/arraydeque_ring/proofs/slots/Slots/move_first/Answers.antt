@@ -24,4 +24,4 @@ loop-moved-preserved g c =
 pub returns-after-loop-moved-clause-all : goal.returns-after-loop-moved-clause-all
 returns-after-loop-moved-clause-all g c = λ one. all_moved (c.args.dst + c.loop-moved.moved)
     (c.args.src + c.loop-moved.moved) (c.args.len - c.loop-moved.moved) c.loop-moved.self
-    (omega (arith, c.loop-moved-test.false)) c.loop-moved.invariant.moved c.loop-moved.invariant.steps
+    (omega arith) c.loop-moved.invariant.moved c.loop-moved.invariant.steps

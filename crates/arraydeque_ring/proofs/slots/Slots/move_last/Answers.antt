@@ -26,6 +26,6 @@ pub returns-clause-all : goal.returns-clause-all
 returns-clause-all g c = λ one. elim c.if-this-eq1.branch [
   | then-this-eq1+else-loop-moved-test w ↦ w.self-is
       ∙ all_moved c.args.dst c.args.src (c.args.len - w.loop-moved.moved) w.loop-moved.self
-      (omega (arith, w.loop-moved-test.false)) w.loop-moved.invariant.moved w.loop-moved.invariant.steps
+      (omega arith) w.loop-moved.invariant.moved w.loop-moved.invariant.steps
   | else-this-eq1+else-size_of_item w ↦ absurd (w.if-this-eq1.false one)
 ]

@@ -5,7 +5,7 @@ pub read-value-requires : goal.read-value-requires
 read-value-requires g c = c.requires.filled
 
 pub write-requires : goal.write-requires
-write-requires g c = rw c.read-value.ensures.region (grind (arith, common_steps, c.requires.empty, c.requires.filled.1))
+write-requires g c = rw c.read-value.ensures.region (grind (arith, common_steps))
 
 pub returns-clause-places : goal.returns-clause-places
 returns-clause-places g c =

@@ -1,13 +1,9 @@
-use Rattle.std.proofs.{
-  Common.{◌+◌, ◌-◌, ◌<◌, length, ap, sym, refl, arith},
-  Math.Nat.{mod-eq_of_lt},
-  lemmas.Bool.Decides.nat_tests,
-}
+use Rattle.std.proofs.{Common.{◌+◌, ◌-◌, ◌<◌, length, ap, refl, arith}, Math.Nat.{mod-eq_of_lt}}
 use Rattle.arraydeque_ring.{
   specs.{Ring.place_of, Moved.{run_moved}},
   proofs.{
     moved.{Flat.{distance_is, same_move, whole_run, whole_can}, Steps.{Three, three}},
-    places.Rotated.{place_of_cases, place_of-lt, place_of-zero},
+    places.Rotated.place_of_cases,
     slots.Slots.slide_down.{Given.Over, Goals.{After-capacity-last, then-len-upper, else-len-upper}},
   },
 }
@@ -22,28 +18,22 @@ round g c wraps =
     let n = c.capacity-last.result in
     let t = c.args.dst in
     let next = place_of t 1 n in
-    let long = sym c.capacity-last.ensures in
     let same = ap (λ r. length r.places) c.moved_out-slots.ensures.region in
-    let in_region : t < n = omega (arith, long, same) in
-    let room : c.args.len < n = omega (arith, long, same) in
     let next_is = place_of_cases t 1 n (omega arith) in
-    let next_in = place_of-lt t 1 n (omega arith) in
-    (three t next c.args.len n (n - 1 - t) (n - t) _ _ _ _ _ _ _ _ _ long in_region next_in
+    (three t next c.args.len n (n - 1 - t) (n - t) _ _ _ _ _ _ _ _ _ c.capacity-last.ensures (omega arith) (omega arith)
     (rw (c.capacity-last.ensures, c.moved_out-slots.ensures.region) c.requires.filled) (omega arith)
-    (grind (arith, place_of-zero t n (omega arith), place_of-zero next n (omega arith)))
-    (grind (arith, place_of_cases t (n - 1 - t) n (omega arith), place_of_cases next (n - 1 - t) n (omega arith)))
-    (grind (arith, place_of_cases t (n - t) n (omega arith), place_of_cases next (n - t) n (omega arith)))
-    ).0 (λ far. grind (arith, nat_tests, room, distance_is next t n (omega arith) in_region))
+    (grind arith) (grind arith) (grind arith)
+    ).0 (λ far. grind (arith, distance_is next t n (omega arith) (omega arith)))
 
 pub move_first-requires-clause-can : goal.move_first-requires-clause-can
 move_first-requires-clause-can g c =
     let n = length c.moved_out-slots.result.places in
     let same = ap (λ r. length r.places) c.moved_out-slots.ensures.region in
     whole_can _ _ _ _ (record {
-      target = omega (arith, same);
-      source = omega (arith, same);
+      target = omega arith;
+      source = omega arith;
       filled = λ k lt. rw (
-        ← mod-eq_of_lt {n = c.args.dst + 1} {m = n} (omega (arith, same)),
+        ← mod-eq_of_lt {n = c.args.dst + 1} {m = n} (omega arith),
         c.moved_out-slots.ensures.region,
       ) (c.requires.filled k lt);
     })
@@ -74,7 +64,7 @@ returns-clause-places g c =
       | then-len-upper w ↦
           rw (w.slots-is, w.move_first.ensures.all refl, whole_run c.args.dst (c.args.dst + 1) c.args.len ps)
           (same_move _ _ _ _ _ _
-          (grind (arith, w.if-len-upper.true, mod-eq_of_lt {n = c.args.dst + 1} {m = length ps})))
+          (grind (arith, mod-eq_of_lt {n = c.args.dst + 1} {m = length ps})))
       | else-len-upper w ↦ rw (
         w.slots-is,
         w.move_first-else-len-upper-2.ensures.all refl,
@@ -82,7 +72,7 @@ returns-clause-places g c =
         w.move_first-else-len-upper.ensures.all refl,
         whole_run c.args.dst (c.args.dst + 1) upper,
         whole_run 0 1 (c.args.len - upper - 1),
-        (round g (goal.at.returns-clause-places g c).After-capacity-last (omega (arith, w.if-len-upper.false))).is,
+        (round g (goal.at.returns-clause-places g c).After-capacity-last (omega arith)).is,
         c.capacity-last.ensures,
       ) refl
     ])

@@ -1,13 +1,9 @@
-use Rattle.std.proofs.{
-  Common.{◌+◌, ◌-◌, ◌<◌, ◌≤◌, length, ap, sym, refl, arith},
-  Math.Nat.{mod-eq_of_lt},
-  lemmas.Bool.Decides.nat_tests,
-}
+use Rattle.std.proofs.{Common.{◌+◌, ◌-◌, ◌≤◌, length, ap, refl, arith}, Math.Nat.{mod-eq_of_lt}}
 use Rattle.arraydeque_ring.{
   specs.{Ring.place_of, Moved.{run_moved}},
   proofs.{
     moved.{Flat.{distance_is, same_move, whole_run, whole_can}, Steps.{Three, three}},
-    places.Rotated.{place_of_cases, place_of-lt, place_of-zero},
+    places.Rotated.place_of_cases,
     slots.Slots.slide_up.{Given.Over, Goals.{After-capacity-capacity, then-len-upper, else-len-upper}},
   },
 }
@@ -22,18 +18,12 @@ round g c wraps =
     let n = c.capacity-capacity.result in
     let t = c.args.src in
     let next = place_of t 1 n in
-    let long = sym c.capacity-capacity.ensures in
     let same = ap (λ r. length r.places) c.moved_out-slots.ensures.region in
-    let in_region : t < n = omega (arith, long, same) in
-    let room : c.args.len < n = omega (arith, long, same) in
     let next_is = place_of_cases t 1 n (omega arith) in
-    let next_in = place_of-lt t 1 n (omega arith) in
-    (three next t c.args.len n (n - t - 1) (n - t) _ _ _ _ _ _ _ _ _ long next_in in_region
-    (rw c.moved_out-slots.ensures.region c.requires.filled) (omega arith)
-    (grind (arith, place_of-zero t n (omega arith), place_of-zero next n (omega arith)))
-    (grind (arith, place_of_cases t (n - t - 1) n (omega arith), place_of_cases next (n - t - 1) n (omega arith)))
-    (grind (arith, place_of_cases t (n - t) n (omega arith), place_of_cases next (n - t) n (omega arith)))
-    ).1 (grind (arith, nat_tests, room, distance_is t next n (omega arith) next_in))
+    (three next t c.args.len n (n - t - 1) (n - t) _ _ _ _ _ _ _ _ _ c.capacity-capacity.ensures (omega arith)
+    (omega arith) (rw c.moved_out-slots.ensures.region c.requires.filled) (omega arith)
+    (grind arith) (grind arith) (grind arith)
+    ).1 (grind (arith, distance_is t next n (omega arith) (omega arith)))
 
 pub move_last-requires-clause-can : goal.move_last-requires-clause-can
 move_last-requires-clause-can g c = record {
@@ -62,14 +52,14 @@ returns-clause-places g c =
     let ps = c.moved_out-slots.result.places in
     rw (c.count.ensures, ← c.moved_out-slots.ensures.region) (elim c.if-len-upper.branch [
       | then-len-upper w ↦ rw (w.slots-is, w.move_last.ensures.all refl) (same_move _ _ _ _ _ _
-          (grind (arith, w.if-len-upper.true, mod-eq_of_lt {n = c.args.src + 1} {m = length ps})))
+          (grind (arith, mod-eq_of_lt {n = c.args.src + 1} {m = length ps})))
       | else-len-upper w ↦ rw (
         w.slots-is,
         w.move_last-else-len-upper-2.ensures.all refl,
         w.move_first.ensures.all refl,
         w.move_last-else-len-upper.ensures.all refl,
         whole_run 0 (c.capacity-capacity.result - 1) 1,
-        (round g (goal.at.returns-clause-places g c).After-capacity-capacity (omega (arith, w.if-len-upper.false))).is,
+        (round g (goal.at.returns-clause-places g c).After-capacity-capacity (omega arith)).is,
         c.capacity-capacity.ensures,
       ) refl
     ])
