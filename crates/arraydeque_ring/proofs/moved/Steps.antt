@@ -43,6 +43,7 @@ InOrder d s l n i j k m = ((i ≡ 0) × (j ≡ k) × (0 < distance s d n → l �
 abbrev pub IsPart : ℕ → ℕ → ℕ → ℕ → ℕ → ℕ → ℕ → Type 0
 IsPart d s n i l e t = (l ≡ 0) ⊎ ((e < n) × (t < n) × MayStartAt d i n e × MayStartAt s i n t)
 
+-- both are the places of that index
 at_places : (d s n i l e t : ℕ) → d < n → s < n → i ≤ n → IsPart d s n i l e t
     → (l ≡ 0) ⊎ ((e ≡ place_of d i n) × (t ≡ place_of s i n))
 at_places d s n i l e t d_in s_in i_in part =
@@ -173,12 +174,9 @@ module _ {X : Type 0} (d s l n a b k m d₁ s₁ d₂ s₂ d₃ s₃ : ℕ) (ps 
     (before : IsPart d s n 0 a d₁ s₁ × ((d₁ + a ≤ n) × (s₁ + a ≤ n)))
     (between : IsPart d s n a k d₂ s₂ × ((d₂ + k ≤ n) × (s₂ + k ≤ n)))
     (behind : IsPart d s n b m d₃ s₃ × ((d₃ + m ≤ n) × (s₃ + m ≤ n))) where
-  long : length ps ≡ n
-  long = sym n_is
-
   pub three : ((0 < distance s d n → l ≤ distance s d n) → Three d₁ s₁ a d₂ s₂ k d₃ s₃ m ps (run_moved d s l ps))
       × (distance s d n + l ≤ n → Three d₃ s₃ m d₂ s₂ k d₁ s₁ a ps (run_moved d s l ps))
-  three = (
+  three = let long = sym n_is in (
     λ far.
         let firsts = steps d s b 0 a a k n ps long d_in s_in (omega arith) (omega arith)
         (inl (omega arith, omega arith, λ some. omega arith)) (λ x lt. filled x (omega arith)) d₁ s₁ d₂ s₂

@@ -51,10 +51,8 @@ module _ {X : Type 0} where
   and_empty_from (None ∷ ps) zero zero e = absurd (cc)
   and_empty_from (None ∷ ps) zero (suc k) e =
       let rest = and_empty_from ps zero k (ap (drop 1) e) in
-      let nothing = nil_from_length (values ps) rest.1 in (
-        ap (λ l. None ∷ l) (rest.0 ∙ ap (λ l. and_empty l k) nothing) ∙ ap (λ l. and_empty l (suc k)) (sym nothing),
-        rest.1,
-      )
+      let nothing = nil_from_length (values ps) rest.1 in
+      (rw nothing (ap (λ l. None ∷ l) (rest.0 ∙ ap (λ l. and_empty l k) nothing)), rest.1)
   and_empty_from (None ∷ ps) (suc n) k e = absurd (cc)
   and_empty_from (Some x ∷ ps) zero zero e = absurd (cc)
   and_empty_from (Some x ∷ ps) zero (suc k) e = absurd (cc)

@@ -1,7 +1,7 @@
 -- Places and runs of them: what is filled, empty, and exchanged.
 use Rattle.std.proofs.{
   Common.{◌≡◌, ◌≢◌, ℕ, zero, suc, ◌+◌, ◌<◌, ◌≤◌, List, [], ◌∷◌, ◌++◌, length, take, drop, set, get_or, slice_get, swap},
-  Common.{length-set, Option, Some, None, refl, sym, ap, ap₂, ◌∙◌, subst, add-one, arith},
+  Common.{length-set, Option, Some, None, refl, sym, ap, ◌∙◌, subst, add-one, arith},
   lemmas.{
     Grind.common_steps,
     List.{length-map, length-take-le, length-drop, map-append, take_more, get_or-take, get_or-drop, get_or-replicate},
@@ -68,10 +68,14 @@ module _ {X : Type 0} where
         le,
         (
           front.1.0 ++ last.0 ∷ [],
-          ap (λ m. take m (drop from ps)) (sym (add-one len))
-              ∙ take_more (drop from ps) len None (omega (arith, length-drop from ps))
-              ∙ ap₂ (λ l q. l ++ q ∷ []) front.1.1 (get_or-drop from ps len None ∙ last.1)
-              ∙ sym (map-append Some front.1.0 (last.0 ∷ [])),
+          rw (
+            ← add-one len,
+            take_more (drop from ps) len None (omega (arith, length-drop from ps)),
+            front.1.1,
+            get_or-drop,
+            last.1,
+            map-append,
+          ),
         ),
       )
 

@@ -1,7 +1,7 @@
 -- A list read from an index on, round its end.
 use Rattle.std.proofs.{
-  Common.{◌≡◌, ℕ, zero, suc, ◌+◌, ◌-◌, ◌%◌, ◌<◌, ◌≤◌, ◌⊎◌, ◌==◌, inl, inr, List, ◌++◌, map, length, take, drop, get_or},
-  Common.{sym, ap, ap₂, ◌∙◌, arith},
+  Common.{◌≡◌, ℕ, zero, suc, ◌+◌, ◌-◌, ◌%◌, ◌<◌, ◌≤◌, ◌⊎◌, ◌==◌, inl, inr, List, map, length, take, drop, get_or},
+  Common.{sym, ap, ◌∙◌, arith},
   Math.Nat.{mod-eq_of_lt, mod-eq-sub-mod, add-mod-mod, mod-add-mod, add_assoc},
   lemmas.{Bool.{cases_lt}, List.{places, length-append, length-take, length-drop, map-append, drop-map, take-map}},
 }
@@ -69,5 +69,4 @@ module _ {X : Type 0} where
   get_or-rotated t k n xs d long a b = grind (arith, places)
 
 pub rotated-map : {X Y : Type 0} (f : X → Y) (t : ℕ) (xs : List X) → rotated t (map f xs) ≡ map f (rotated t xs)
-rotated-map f t xs = ap₂ (λ l r. l ++ r) (drop-map f t xs) (take-map f t xs)
-    ∙ sym (map-append f (drop t xs) (take t xs))
+rotated-map f t xs = rw (map-append, drop-map, take-map)

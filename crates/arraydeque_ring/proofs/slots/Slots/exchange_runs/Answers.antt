@@ -13,15 +13,13 @@ loop-k-init g c = record {
 
 pub exchange-requires-clause-a_filled : goal.exchange-requires-clause-a_filled
 exchange-requires-clause-a_filled g c =
-    let old = c.args.self.places in
-    rw c.loop-k.invariant.places (next_first c.args.a c.args.b c.loop-k.k old (omega arith) (omega arith)
-    (filled_in_run old c.args.a c.args.len c.loop-k.k c.requires.a_filled (omega arith)))
+    rw c.loop-k.invariant.places (next_first c.args.a c.args.b c.loop-k.k _ (omega arith) (omega arith)
+    (filled_in_run _ _ _ c.loop-k.k c.requires.a_filled (omega arith)))
 
 pub exchange-requires-clause-b_filled : goal.exchange-requires-clause-b_filled
 exchange-requires-clause-b_filled g c =
-    let old = c.args.self.places in
-    rw c.loop-k.invariant.places (next_second c.args.a c.args.b c.loop-k.k old (omega arith) (omega arith)
-    (filled_in_run old c.args.b c.args.len c.loop-k.k c.requires.b_filled (omega arith)))
+    rw c.loop-k.invariant.places (next_second c.args.a c.args.b c.loop-k.k _ (omega arith) (omega arith)
+    (filled_in_run _ _ _ c.loop-k.k c.requires.b_filled (omega arith)))
 
 pub loop-k-preserved : goal.loop-k-preserved
 loop-k-preserved g c = record {
