@@ -1,13 +1,14 @@
 -- `lend` lends all items: the ring lends its own, and the deque follows what the ring follows. Assumes `Logic`.
 use Rattle.arraydeque_ring.{
   proofs.{
-    memory.Called.{calls_met, facts, hears, knows},
+    memory.Called.{calls_met, first_fact, knows},
     memory.Kit.{◌≡◌, refl, ap, ◌∙◌, List, [], ◌∷◌, ◌++◌, ℕ, ◌+◌, ◌≤◌, arith, length, full_share, id⊢, sep, Share},
     memory.Kit.{GName, fsep, flft, fauth, Fn, inst_fn, named, vptr, ◌⊑◌, fact, tables, Borrowed, owns, types_at, ‵},
     memory.Kit.{raw, ◌⊛◌, some, later, ◌$◌, ◌∵◌, !, qed, move, keep, use1, use2, split, split3, group, join, pick},
     memory.Kit.{frame, rewrite, await, fsplit, fsplit3, fjoin, fjoin3, fpack, feq_i, suffices, done, enter, addr, stop},
     memory.Kit.{fld, no_more, and_then, returns, alloc_all, pass_all, free_all, look_at, get, through, sets, lands_as},
-    memory.Kit.{no, plain, mem, part_at, Stays, walk_of, says_two, stay_dropped, ends_at, nothing, RattleType, El, R},
+    memory.Kit.{no, plain, mem, part_at, Stays, walk_of, says_two, stay_dropped, ends_at, heard, nothing, RattleType},
+    memory.Kit.{El, R},
     memory.Kit.{el_x, proved, after₂, sem, name_new, Array, both_by, number, MutBor, NamedLft, mut_vals, mut_Tells},
     memory.Kit.{named_lft, Goes-spent_ref, on_entry, a_type, a_number},
     loans.{Made.{loan_lawful, loan_renamed}, Names.{hands_on, followed_both}, Rings.Rr},
@@ -80,16 +81,14 @@ lend_spec 𝓤 𝓛 𝓜 𝓡 wired X N B L fits LB members dict dict_met =
     -- [the lent ring; the right;
     -- the open borrow; the other field; the way back; obs γ; auth γ; half the token; that of T; the others]
     nothing ! $ move ! (9 ∷ 0 ∷ []) $ join ! $ move ! (8 ∷ 0 ∷ []) $ join ! $ join ! $
-    nothing ! $ knows ! (κ₁ ⊑ X.lives) lives $ join ! $
+    nothing ! $ knows ! lives $ join ! $
     calls_met 𝓛 ! 𝓜 𝓣 (g.ended X) (g.clauses X 𝓛 𝓜.mem 𝓡.returns)
     (met 𝓤 𝓛 𝓜 𝓡 (code.calls-arraydeque_ring::ring::Ring::lend 𝓡.env wired) X L)
     ((κs', (r, (q₁, tt)), (bounds.0, tt), (lent, tt), (mut_vals lent, tt)), tt) (id⊢ 𝓤 _)
     (and_then ! (get ! refl) (no_more !)) (loan_lawful E) (λ v it ws typed. lands_as ! refl refl typed.0 $
     let α : NamedLft = named_lft 2 0 tt κs' in let It = loan.the_row α (R E) in
-    let Piece : Type 0 = x.ring.start + length x.ring.items ≤ x.ring.capacity → it.second.now ≡ [] in
-    let Value : Type 0 = remaining it ≡ x.ring.items in
-    move ! (2 ∷ []) $ use1 𝓛 (‵ (ring.lends_loan (R E) lent it) ⊛ raw (facts 𝓤 (Value ∷ Piece ∷ []))) (id⊢ 𝓤 _) $
-    split ! $ move ! (1 ∷ []) $ hears ! (Value ∷ Piece ∷ []) (λ value piece. fsplit ! $
+    move ! (2 ∷ []) $ use1 𝓛 (‵ (ring.lends_loan (R E) lent it) ⊛ raw _) (id⊢ 𝓤 _) $
+    split ! $ move ! (1 ∷ []) $ first_fact ! (λ value. heard ! _ (λ piece. fsplit ! $
     -- [what δ follows; what the loan's name follows;
     -- the loan; the tokens; the right; the open borrow; the other field; the way back; obs γ; auth γ; the others]
     let V : RingState (el_x E) → DequeState (el_x E) = λ u. view E N B (after E N B x d seen kept u.items) in
@@ -129,4 +128,4 @@ lend_spec 𝓤 𝓛 𝓜 𝓡 wired X N B L fits LB members dict dict_met =
       ap (λ (u : DequeState (el_x E)). u.start) seen,
       ap (λ (u : DequeState (el_x E)). length u.items) seen,
     )) in
-    says_two ! (value ∙ ap (λ (u : DequeState (el_x E)). u.items) seen, none) $ done !)))))))))
+    says_two ! (value ∙ ap (λ (u : DequeState (el_x E)). u.items) seen, none) $ done !))))))))))

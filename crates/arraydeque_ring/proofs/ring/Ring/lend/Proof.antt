@@ -2,15 +2,15 @@
 use Rattle.arraydeque_ring.{
   proofs.{
     memory.{
-      Kit.{◌++◌, nothing, ◌≡◌, refl, List, [], ◌∷◌, ℕ, ◌+◌, ◌<◌, ◌≤◌, ◌^◌, arith, length, full_share, id⊢, Share},
-      Kit.{GName, ftrue, fsep, fat, flft, fauth, Fn, inst_fn, w64, vptr, ◌⊑◌, fact, tables, sem, Borrowed, owns, ‵},
-      Kit.{raw, ◌⊛◌, some, later, ◌$◌, !, move, use1, use2, drop, split, join, pick, frame, await, fsplit, fjoin},
-      Kit.{fjoin3, fpack, feq_i, suffices, done, of_opd, addr, load, look, stop, fld, no_more, and_then, returns},
-      Kit.{alloc_all, pass_all, free_all, look_at, get, through, sets, lands_as, usize, mem, part_at, says_two, heard},
-      Kit.{El, R, args, el_x, after₂, split3, group, name_new, Array, both_by, MutBor, NamedLft, named_lft, pure_i},
-      Regions.{Sr, Seen, HoldsRun, IsFilledRun},
+      Kit.{◌++◌, nothing, ◌≡◌, refl, List, [], ◌∷◌, ℕ, ◌+◌, ◌<◌, ◌≤◌, ◌^◌, arith, length, full_share, id⊢, Share, emp},
+      Kit.{GName, fsep, fat, flft, fauth, Fn, inst_fn, w64, vptr, tables, sem, Borrowed, owns, ‵, raw, ◌⊛◌, some},
+      Kit.{later, ◌$◌, !, move, use1, use2, drop, split, join, pick, frame, await, fsplit, fjoin, fjoin3, fpack, feq_i},
+      Kit.{suffices, done, of_opd, addr, load, look, stop, fld, no_more, and_then, returns, alloc_all, pass_all},
+      Kit.{free_all, look_at, get, through, sets, lands_as, usize, mem, part_at, says_two, heard, El, R, args, el_x},
+      Kit.{after₂, split3, group, name_new, Array, both_by, MutBor, NamedLft, named_lft, pure_i},
+      Regions.{Sr, Seen},
       Methods.{method, spent, values},
-      Called.{calls_met, facts, hears, knows},
+      Called.{calls_met, first_fact, knows},
     },
     loans.{
       Lending.{open_after, lent_items, first_run_filled, second_run_filled},
@@ -48,7 +48,7 @@ lend_spec 𝓤 𝓛 𝓜 𝓡 wired X L =
     let κ = κs.0 in let κ₁ = κs.1.0 in let q = qs.0 in let l : Share = Share.left q in let r : Share = Share.right q in
     let rb : ℕ = a.0.ref_ptr.0 in let ro : ℕ = a.0.ref_ptr.1 in let γ = a.0.ghost_name in
     let d : RingState (el_x E) = a.0.now in let coded = (Rr E).coded.code d in
-    use1 𝓛 (raw (fact 𝓤 (κ₁ ⊑ X.lives)) ⊛ ‵ ftrue) (id⊢ 𝓤 _) $ split ! $ heard ! (κ₁ ⊑ X.lives) (λ lives. drop ! $
+    first_fact ! {P = emp 𝓤} (λ lives. drop ! $
     alloc_all ! (λ locals. pass_all ! refl ((tt, tt), fit) $
     -- [obs; the borrow; its token; the others]
     move ! (2 ∷ []) $ use1 𝓛 (‵ (flft κ l) ⊛ ‵ (flft κ r)) (𝓛.lfts.lft_split κ q) $ split ! $ move ! (2 ∷ 3 ∷ 0 ∷ []) $
@@ -92,22 +92,18 @@ lend_spec 𝓤 𝓛 𝓜 𝓡 wired X L =
     -- [the words; the lent slots;
     -- the right; the open borrow; the other fields; the way back; obs γ; auth γ; half its token; the others]
     move ! (1 ∷ 0 ∷ []) $ fjoin ! $ move ! (7 ∷ 8 ∷ []) $ join ! $ join ! $
-    let In = x.start ≤ length x.slots.places in let Within = x.len ≤ length x.slots.places in
-    let One = IsFilledRun x.slots.places x.start first in let Two = IsFilledRun x.slots.places 0 rest in
-    knows ! Two (second_run_filled open_ring) $ knows ! One (first_run_filled open_ring) $ join ! $
-    knows ! Within (omega (arith, length_within open_ring.laid)) $ join ! $
-    knows ! In (omega arith) $ join ! $
-    knows ! (κ₁ ⊑ X.lives) lives $ join ! $
+    knows ! (second_run_filled open_ring) $ knows ! (first_run_filled open_ring) $ join ! $
+    knows ! {φ = x.len ≤ length x.slots.places} (omega (arith, length_within open_ring.laid)) $ join ! $
+    knows ! {φ = x.start ≤ length x.slots.places} (omega arith) $ join ! $
+    knows ! lives $ join ! $
     calls_met 𝓛 ! 𝓜 𝓣 (g.ended X) (g.clauses X 𝓛 𝓜.mem 𝓡.returns)
     (met 𝓤 𝓛 𝓜 𝓡 (code.calls-arraydeque_ring::slots::Slots::lend_round 𝓡.env wired) X L)
     ((κs, (r, qs.1), bounds, (lent, words), vals), tt) (id⊢ 𝓤 _)
     (and_then ! (get ! refl) (and_then ! (get ! refl) (and_then ! (get ! refl) (no_more !)))) (loan_lawful E)
     (λ v it ws it_typed. lands_as ! refl refl it_typed.0 $
     let α : NamedLft = named_lft 2 0 tt κs in
-    let First : Type 0 = HoldsRun x.slots.places x.start first it.first.now in
-    let Second : Type 0 = HoldsRun x.slots.places 0 rest it.second.now in
-    move ! (2 ∷ []) $ use1 𝓛 (‵ (Lends.lends_loan (R E) lent x.start 0 it) ⊛ raw (facts 𝓤 (First ∷ Second ∷ [])))
-    (id⊢ 𝓤 _) $ split ! $ move ! (1 ∷ []) $ hears ! (First ∷ Second ∷ []) (λ held held'. fsplit ! $
+    move ! (2 ∷ []) $ use1 𝓛 (‵ (Lends.lends_loan (R E) lent x.start 0 it) ⊛ raw _) (id⊢ 𝓤 _) $ split ! $
+    move ! (1 ∷ []) $ first_fact ! (λ held. heard ! _ (λ held'. fsplit ! $
     -- [what δ follows; what the loan's name follows;
     -- the loan; the tokens; the right; the open borrow; the other fields; the way back; obs γ; auth γ]
     let Lists = mem (two_lists (R E)) in let Put : List (el_x E) × List (el_x E) → Seen E =
@@ -139,4 +135,4 @@ lend_spec 𝓤 𝓛 𝓜 𝓡 wired X L =
     let none : d.start + length d.items ≤ d.capacity → it.second.now ≡ [] =
     λ in_one_piece. nil_from_length it.second.now
     (omega (arith, length_filled x.slots.places 0 rest ((second_run_filled open_ring).0, (it.second.now, held')))) in
-    says_two ! (lent_items open_ring it.first.now it.second.now held held', none) $ done !)))))))))))
+    says_two ! (lent_items open_ring it.first.now it.second.now held held', none) $ done !))))))))))))

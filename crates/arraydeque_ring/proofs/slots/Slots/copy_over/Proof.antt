@@ -3,17 +3,16 @@
 use Rattle.arraydeque_ring.{
   proofs.memory.{
     Kit.{Vals, ◌≡◌, refl, List, [], ◌∷◌, ◌++◌, ℕ, ◌+◌, ◌*◌, ◌<◌, ◌^◌, arith, length, take, drop_list, id⊢, full_share},
-    Kit.{ftrue, froom, flft, Fn, inst_fn, named, w64, ty_array, vunit, vint, vptr, ◌⊑◌, tables, owns, types_at, ‵, raw},
-    Kit.{◌⊛◌, at_ret, ◌$◌, ◌∵◌, !, qed, move, keep, use1, drop, split, join, fsplit, fsplit3, fjoin, fjoin3, feq_i},
+    Kit.{ftrue, froom, flft, Fn, inst_fn, named, w64, ty_array, vunit, vint, vptr, tables, owns, types_at, ‵, raw, ◌⊛◌},
+    Kit.{at_ret, ◌$◌, ◌∵◌, !, qed, move, keep, use1, drop, split, join, fsplit, fsplit3, fjoin, fjoin3, feq_i},
     Kit.{suffices, done, whole, sub, look_in, enter, of_opd, unit_lit, bin, load, stop, fld, no_more, and_then, first},
     Kit.{blocks, exec, returns, alloc_all, pass_all, free_all, look_at, get, through, sets, lands_last, env, yes},
     Kit.{plain, usize, uint_vals, uint_Tells, RawPtr, block_ptr, Stays, walk_of, stay_dropped, stay_ref, Goes-dropped},
     Kit.{Goes-ref, ends_at, nothing, heard, after, says_two, calls_at_last, framed, triple_of, part_at, El, R, args},
     Kit.{el_x, elτ, proved, common_steps, split3, Array, mut_vals, mut_Tells, pure_i},
-    Methods.first_fact,
     Regions.{Sr, Seen, near, run_fits, slots_open, slots_close, scaled, item_size, Place, array_out, array_in},
     Regions.{room_out, room_in},
-    Called.{knows, returned},
+    Called.{first_fact, knows, returned},
   },
   specs.Gaps.{run_emptied},
 }
@@ -94,7 +93,7 @@ copy_over_spec 𝓤 𝓛 𝓜 𝓡 wired X L =
       ),
       xs,
     ) in
-    knows ! (n * s < 2 ^ 63) (run_fits E ok n (omega arith)).1 $ join ! $ knows ! (κ₂ ⊑ X.lives) lives $ join ! $
+    knows ! (run_fits E ok n (omega arith)).1 $ join ! $ knows ! lives $ join ! $
     pure_i ! (owns (RawPtr ∷ RawPtr ∷ usize ∷ []) z.0.3 z.0.4) (tt, (tt, ((tt, tt), tt)))
     (refl, (refl, ((refl, n_fits), tt))) $ move ! (14 ∷ 0 ∷ []) $ join ! $ join ! $
     use1 𝓛 (raw (Copies.pre z)) (id⊢ 𝓤 _) $

@@ -1,16 +1,15 @@
 -- `lend` lends the value in a filled place, and that place follows it. Assumes `Logic`.
 use Rattle.arraydeque_ring.proofs.{
   memory.{
-    Kit.{nothing, join, refl, sym, [], ◌∷◌, ℕ, ◌+◌, ◌*◌, ◌<◌, arith, length, get_or, set, length-set, Some, None, Ura},
-    Kit.{ent, sep, GName, Fml, fsep, flft, Fn, inst_fn, named, vptr, ◌⊑◌, tables, Logic, sem, ‵, ◌⊛◌, some, later},
-    Kit.{at_ret, ◌$◌, ◌∵◌, !, qed, by, move, use1, use2, split, pick, frame, rewrite, await, fsplit, fjoin, suffices},
-    Kit.{done, whole, sub, look_in, of_opd, bin, load, addr, stop, fld, first, blocks, exec, returns, alloc_all},
-    Kit.{pass_all, free_all, look_at, get, through, sets, sets_last, env, mem, says, after, El, R, args, el_x, split3},
-    Kit.{group, follows, MutBor, Global},
-    Regions.{scaled, Sr, Seen, Fits, near, places, Frame, slots_whole, slots_open, item_size, Place, Around, place_out},
-    Regions.{place_in, place_owned, IsFilled},
+    Kit.{nothing, join, refl, sym, [], ◌∷◌, ℕ, ◌+◌, ◌*◌, ◌<◌, arith, length, set, length-set, Some, Ura, ent, sep},
+    Kit.{GName, Fml, fsep, flft, Fn, inst_fn, named, vptr, tables, Logic, sem, ‵, ◌⊛◌, some, later, at_ret, ◌$◌, ◌∵◌},
+    Kit.{!, qed, by, move, use1, pick, frame, await, fsplit, fjoin, suffices, done, whole, sub, look_in, of_opd, bin},
+    Kit.{load, addr, stop, fld, first, blocks, exec, returns, alloc_all, pass_all, free_all, look_at, get, through},
+    Kit.{sets, sets_last, env, mem, says, after, El, R, args, el_x, split3, heard, group, follows, MutBor, Global},
+    Regions.{scaled, Sr, Seen, Fits, near, Frame, slots_whole, slots_open, item_size, Around, place_out, place_in},
+    Regions.{place_owned},
+    Called.first_fact,
     Methods.{method, spent},
-    Called.{hears},
   },
   places.Held.filled_within,
 }
@@ -47,7 +46,7 @@ lend_spec 𝓤 𝓛 𝓜 𝓡 wired X L =
     let κ = κs.0 in let q = qs.0 in let rb : ℕ = a.0.ref_ptr.0 in let ro : ℕ = a.0.ref_ptr.1 in
     let γ = a.0.ghost_name in let r : Seen E = a.0.now in let i : ℕ = a.1.0 in
     let s : ℕ = item_size E in let coded = (Sr E).coded.code r in
-    hears ! ((κs.1.0 ⊑ X.lives) ∷ IsFilled r.places i ∷ []) (λ _ asked.
+    first_fact ! (λ _. heard ! _ (λ asked.
     let x : el_x E = asked.0 in let within : i < length r.places = filled_within r.places i x asked.1 in
     alloc_all ! (λ l. pass_all ! refl ((tt, tt), typed) $
     slots_open E ! tt r rb ro (λ g b o n ok.
@@ -71,4 +70,4 @@ lend_spec 𝓤 𝓛 𝓜 𝓡 wired X L =
     (lends_Part 𝓛 (Sr E) (R E) new (named 0) κ q rb ro b at γ Rest₀ way coded coded x) $ await ! tt $
     pick ! (λ δ. split3 ! $ returns ! (look_at ! 0 refl) $ free_all ! refl $
     suffices ! _ (ends (vptr b at) (lent δ) tt) $ nothing ! $ frame ! $ frame ! $ move ! (0 ∷ 2 ∷ []) $ join ! $
-    frame ! $ says ! asked.1 $ done !)))))
+    frame ! $ says ! asked.1 $ done !))))))

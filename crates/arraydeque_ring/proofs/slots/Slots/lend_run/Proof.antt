@@ -3,15 +3,15 @@ use Rattle.arraydeque_ring.{
   proofs.{
     memory.{
       Kit.{nothing, join, ◌≡◌, refl, sym, ap, ◌∙◌, List, [], ◌∷◌, map, ℕ, ◌+◌, ◌*◌, ◌≤◌, arith, length, length-map},
-      Kit.{Some, Ura, ent, sep, GName, Fml, fsep, flft, Fn, inst_fn, named, ◌⊑◌, tables, Logic, sem, ‵, ◌⊛◌, some},
-      Kit.{later, at_ret, ◌$◌, ◌∵◌, !, qed, by, move, use1, use2, split, pick, frame, rewrite, await, fsplit, fjoin},
-      Kit.{suffices, done, whole, sub, look_in, agg, of_opd, bin, load, stop, fld, no_more, and_then, first, blocks},
-      Kit.{exec, returns, alloc_all, pass_all, free_all, look_at, get, through, sets, sets_last, env, mem, says, after},
-      Kit.{El, R, args, el_x, split3, group, cells, Array, follows, MutBor, MutSlice, slice_val, Global},
+      Kit.{Some, Ura, ent, sep, GName, Fml, fsep, flft, Fn, inst_fn, named, tables, Logic, sem, ‵, ◌⊛◌, some, later},
+      Kit.{at_ret, ◌$◌, ◌∵◌, !, qed, by, move, use1, use2, split, pick, frame, rewrite, await, fsplit, fjoin, suffices},
+      Kit.{done, whole, sub, look_in, agg, of_opd, bin, load, stop, fld, no_more, and_then, first, blocks, exec},
+      Kit.{returns, alloc_all, pass_all, free_all, look_at, get, through, sets, sets_last, env, mem, says, after},
+      Kit.{heard, El, R, args, el_x, split3, group, cells, Array, follows, MutBor, MutSlice, slice_val, Global},
       Regions.{Sr, Seen, Fits, near, run_fits, Frame, slots_whole, slots_open, scaled, item_size, Place, places_owned},
-      Regions.{IsFilledRun, Around, run_out, run_in},
+      Regions.{Around, run_out, run_in},
+      Called.first_fact,
       Methods.{method, spent},
-      Called.{hears},
     },
     loans.{Placed.{placed, run, as_many-same, length-placed}, Runs.same_cells},
     places.Held.length_filled,
@@ -59,7 +59,7 @@ lend_run_spec 𝓤 𝓛 𝓜 𝓡 wired X L =
     let κ = κs.0 in let q = qs.0 in let rb : ℕ = a.0.ref_ptr.0 in let ro : ℕ = a.0.ref_ptr.1 in
     let γ = a.0.ghost_name in let r : Seen E = a.0.now in let from : ℕ = a.1.0 in let len : ℕ = a.1.1.0 in
     let s : ℕ = item_size E in let coded = (Sr E).coded.code r in let len_ok = typed.1.0.1 in
-    hears ! ((κs.1.0 ⊑ X.lives) ∷ IsFilledRun r.places from len ∷ []) (λ _ asked.
+    first_fact ! (λ _. heard ! _ (λ asked.
     let xs : List (el_x E) = asked.1.0 in let held = asked.1.1 in
     let long = length_filled r.places from len asked in
     let within : from + length xs ≤ length r.places = omega arith in
@@ -94,4 +94,4 @@ lend_run_spec 𝓤 𝓛 𝓜 𝓡 wired X L =
     pick ! (λ δ. split3 ! $ rewrite ! 0 (λ (k : ℕ). ‵ (Slice δ k)) long refl $
     returns ! (look_at ! 0 refl) $ free_all ! refl $
     suffices ! _ (ends (slice_val (b, at) len) (lent δ) tt) $ nothing ! $ frame ! $ frame ! $ move ! (0 ∷ 2 ∷ []) $
-    join ! $ frame ! $ says ! held $ done !)))))
+    join ! $ frame ! $ says ! held $ done !))))))

@@ -3,16 +3,16 @@ use Rattle.arraydeque_ring.{
   proofs.{
     memory.{
       Kit.{ap, nothing, ◌≡◌, refl, sym, ◌∙◌, List, [], ◌∷◌, map, ℕ, ◌+◌, ◌*◌, ◌≤◌, arith, length, length-map, Some},
-      Kit.{Ura, SProp, ent, sep, GName, flft, fobs, fbor, Fn, inst_fn, named, ◌⊑◌, tables, Logic, sem, Borrowed, ‵},
-      Kit.{raw, ◌⊛◌, some, later, at_ret, ◌$◌, ◌∵◌, !, qed, by, move, use1, use2, split, join, pick, frame, rewrite},
-      Kit.{await, fsplit, fjoin, feq_i, feq_l, suffices, done, whole, sub, look_in, agg, of_opd, bin, load, stop, fld},
+      Kit.{Ura, SProp, ent, sep, GName, flft, fobs, fbor, Fn, inst_fn, named, tables, Logic, sem, Borrowed, ‵, raw},
+      Kit.{◌⊛◌, some, later, at_ret, ◌$◌, ◌∵◌, !, qed, by, move, use1, use2, split, join, pick, frame, rewrite, await},
+      Kit.{fsplit, fjoin, feq_i, feq_l, suffices, done, whole, sub, look_in, agg, of_opd, bin, load, stop, fld},
       Kit.{no_more, and_then, first, blocks, exec, returns, alloc_all, pass_all, free_all, look_at, get, through, sets},
       Kit.{sets_last, env, mem, says_two, after, El, R, args, el_x, after₂, split3, group, common_steps, SemTy, all},
-      Kit.{all_e, apply∗, follows, both_by, MutBor, NamedLft, named_lft, MutSlice, slice_val, Global, Fml, fsep},
+      Kit.{heard, all_e, apply∗, follows, both_by, MutBor, NamedLft, named_lft, MutSlice, slice_val, Global, Fml, fsep},
       Regions.{Sr, Seen, Fits, near, run_fits, Frame, slots_whole, slots_open, scaled, item_size, Place, places_owned},
-      Regions.{IsFilledRun, HoldsRun},
+      Regions.{HoldsRun},
+      Called.first_fact,
       Methods.{method, spent},
-      Called.{hears},
     },
     loans.{
       Made.{loan_val, loan_made},
@@ -85,8 +85,7 @@ lend_two_spec 𝓤 𝓛 𝓜 𝓡 wired X L =
     let γ = arg.0.ghost_name in let r : Seen E = arg.0.now in let coded = (Sr E).coded.code r in
     let a : ℕ = arg.1.0 in let la : ℕ = arg.1.1.0 in let b : ℕ = arg.1.1.1.0 in let lb : ℕ = arg.1.1.1.1.0 in
     let la_ok = typed.1.0.1 in let lb_ok = typed.1.1.1.0.1 in let s : ℕ = item_size E in
-    hears ! ((κs.1.0 ⊑ X.lives) ∷ IsFilledRun r.places a la ∷ IsFilledRun r.places b lb ∷ AreApart a la b lb ∷ [])
-    (λ _ one two apart.
+    first_fact ! (λ _. first_fact ! (λ one. first_fact ! (λ two. heard ! _ (λ apart.
     let xs : List (el_x E) = one.1.0 in let ys : List (el_x E) = two.1.0 in
     let long = length_filled r.places a la one in let long' = length_filled r.places b lb two in
     let held : HoldsRun r.places a (length xs) xs = rw long one.1.1 in
@@ -158,4 +157,4 @@ lend_two_spec 𝓤 𝓛 𝓜 𝓡 wired X L =
     returns ! (look_at ! 0 refl) $ free_all ! refl $
     -- [the token; what the loan's name follows; what the region follows; the loan; the other token]
     suffices ! _ (ends v seen tt) $ nothing ! $ frame ! $ move ! (3 ∷ 0 ∷ 4 ∷ 2 ∷ []) $ frame ! $ join ! $
-    frame ! $ fjoin ! $ says_two ! (one.1.1, two.1.1) $ done !)))))
+    frame ! $ fjoin ! $ says_two ! (one.1.1, two.1.1) $ done !))))))))

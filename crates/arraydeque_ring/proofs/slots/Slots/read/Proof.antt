@@ -7,7 +7,8 @@ use Rattle.arraydeque_ring.proofs.{
     Kit.{alloc_all, pass_all, free_all, look_at, get, through, sets, sets_last, env, heard, as_raw, after, says_two},
     Kit.{El, R, args, el_x, elτ},
     Regions.{scaled, Sr, Seen, near, slots_open, slots_close, item_size, place_out, place_in},
-    Methods.{first_fact, method, comes_back},
+    Called.first_fact,
+    Methods.{method, comes_back},
   },
   places.Held.filled_within,
 }

@@ -9,7 +9,7 @@ use Rattle.arraydeque_ring.proofs.{
     Kit.{Goes-dropped, ends_at, nothing, heard, after, El, R, args, el_x, times_below, proved, slice_val},
     Kit.{elements_shared, ◌∙◌, looks, shuts, RawPtr, Ptr, ptr_val, feq_l, rewrite, cell_at},
     Lent.slots_seen,
-    Methods.first_fact,
+    Called.first_fact,
     Regions.{Sr, Seen, scaled, item_size, run_seen},
   },
   places.Held.length_filled,

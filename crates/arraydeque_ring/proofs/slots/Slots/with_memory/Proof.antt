@@ -11,7 +11,7 @@ use Rattle.arraydeque_ring.proofs.memory.{
   Kit.{Struct, Global},
   Blocks.{scaled, right_at_start},
   Heap.{Allocates, to_allocate, allocate_goes, allocated},
-  Methods.first_fact,
+  Called.first_fact,
   Regions.{Sr, Seen, places, right, heap_Good, slots_val, slots_Good, slots_made, Fits-empty, item_size, of_room},
   Regions.{empty_region},
 }

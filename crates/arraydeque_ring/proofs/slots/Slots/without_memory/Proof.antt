@@ -6,7 +6,7 @@ use Rattle.arraydeque_ring.proofs.memory.{
   Kit.{heap_Tells, Stays, walk_of, says, stay_dropped, Goes-dropped, ends_at, nothing, heard, block_ptr, El, args},
   Kit.{proved, Global},
   Blocks.no_right,
-  Methods.first_fact,
+  Called.first_fact,
   Regions.{Seen, Fits-empty, places, right, heap_Good, slots_val, slots_Good, slots_made, of_nothing, empty_region},
 }
 use Rattle.std.specs.contracts.alloc.Global as heap

@@ -7,7 +7,7 @@ use Rattle.arraydeque_ring.proofs.memory.{
   Kit.{alloc_all, pass_all, free_all, look_at, get, through, sets, env, yes, no, plain, usize, Vals, Stays, walk_of},
   Kit.{stay_dropped, stay_ref, Goes-dropped, Goes-ref, ends_at, nothing, heard, as_written, after, says, El, R, args},
   Kit.{el_x, elτ, lawful, one, proved_at},
-  Methods.first_fact,
+  Called.first_fact,
   Regions.{scaled, Sr, Seen, near, slots_open, slots_close, item_size, place_out, place_in, place_owned},
 }
 use Rattle.arraydeque_ring.specs.contracts.slots.Slots.write as f
