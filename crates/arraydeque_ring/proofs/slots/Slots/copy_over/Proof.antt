@@ -3,7 +3,7 @@
 use Rattle.arraydeque_ring.{
   proofs.memory.{
     Kit.{Vals, ◌≡◌, refl, List, [], ◌∷◌, ◌++◌, ℕ, ◌+◌, ◌*◌, ◌<◌, ◌^◌, arith, length, take, drop_list, id⊢, full_share},
-    Kit.{ftrue, froom, flft, Fn, inst_fn, named, w64, ty_array, vunit, vint, vptr, tables, owns, types_at, ‵, raw, ◌⊛◌},
+    Kit.{ftrue, froom, flft, Fn, inst_fn, named, w64, ty_array, vunit, vint, tables, owns, types_at, ‵, raw, ◌⊛◌},
     Kit.{at_ret, ◌$◌, ◌∵◌, !, qed, move, keep, use1, drop, split, join, fsplit, fsplit3, fjoin, fjoin3, feq_i},
     Kit.{suffices, done, whole, sub, look_in, enter, of_opd, unit_lit, bin, load, stop, fld, no_more, and_then, first},
     Kit.{blocks, exec, returns, alloc_all, pass_all, free_all, look_at, get, through, sets, lands_last, env, yes},
@@ -42,9 +42,9 @@ copy_over_spec 𝓤 𝓛 𝓜 𝓡 wired X L =
       (uint_Tells w64, (mut_Tells (named 1) κs.1.0 (Sr E), (uint_Tells w64, (uint_Tells w64, tt)))),
     )) (λ κs qs bounds a _ are.
     let κ₂ = κs.1.1.0 in let q₂ = qs.1.1.0 in
-    let rb : ℕ = a.0.ref_ptr.0 in let ro : ℕ = a.0.ref_ptr.1 in let r : Seen E = a.0.now in
+    let r : Seen E = a.0.now in
     let ps : List (Place E) = r.places in
-    let sb : ℕ = a.1.1.0.ref_ptr.0 in let so : ℕ = a.1.1.0.ref_ptr.1 in let r' : Seen E = a.1.1.0.now in
+    let r' : Seen E = a.1.1.0.now in
     let ts : List (Place E) = r'.places in
     let from : ℕ = a.1.0 in let to : ℕ = a.1.1.1.0 in let n : ℕ = a.1.1.1.1.0 in
     let n_fits : n < 2 ^ 64 = are.1.1.1.1.0.1 in let s : ℕ = item_size E in
@@ -67,7 +67,7 @@ copy_over_spec 𝓤 𝓛 𝓜 𝓡 wired X L =
     enter ! _ _ _ _ _ $
     alloc_all ! (λ l. pass_all ! refl ((tt, tt), ((tt, record { fits = are.1.0.1 }), ((tt, tt),
     ((tt, record { fits = are.1.1.1.0.1 }), ((tt, record { fits = n_fits }), tt))))) $
-    slots_open E ! tt r rb ro (λ g b o m ok. move ! (6 ∷ 7 ∷ 8 ∷ []) $ slots_open E ! tt r' sb so (λ g' b' o' m' ok'.
+    slots_open E ! tt r (λ g b o m ok. move ! (6 ∷ 7 ∷ 8 ∷ []) $ slots_open E ! tt r' (λ g' b' o' m' ok'.
     let from_near = near E ok from (omega arith) in let to_near = near E ok' to (omega arith) in
     let src : ℕ = from * s + o in let dst : ℕ = to * s + o' in
     first ! $ blocks ! $
@@ -108,13 +108,13 @@ copy_over_spec 𝓤 𝓛 𝓜 𝓡 wired X L =
     sets ! (of_opd ! (unit_lit !)) refl (tt, tt) $
     -- [the values; the room; the token; the others here; the others there; ..]
     move ! (0 ∷ 4 ∷ []) $ array_in E ! b' o' ts to n target xs filled.1.1 $
-    move ! (0 ∷ 4 ∷ 5 ∷ 6 ∷ 7 ∷ 8 ∷ []) $ slots_close E ! tt g' r' new' b' o' m' sb so ok' us_long $
+    move ! (0 ∷ 4 ∷ 5 ∷ 6 ∷ 7 ∷ 8 ∷ []) $ slots_close E ! tt new' ok' us_long $
     move ! (3 ∷ 5 ∷ []) $ room_in E ! b o ps from n within $
-    move ! (0 ∷ 5 ∷ 6 ∷ 7 ∷ 8 ∷ 9 ∷ []) $ slots_close E ! tt g r new b o m rb ro ok es_long $
+    move ! (0 ∷ 5 ∷ 6 ∷ 7 ∷ 8 ∷ 9 ∷ []) $ slots_close E ! tt new ok es_long $
     returns ! (look_at ! 0 refl) $ free_all ! refl $
     suffices ! _ (ends_at 𝓛 ended stayed c y vunit tt (new, (tt, (new', _))) _) $ says_two ! (refl, refl) $
-    feq_i ! _ (vptr rb ro ∷ []) _ refl $ fjoin3 ! $ move ! (2 ∷ 3 ∷ []) $
-    feq_i ! _ (vptr sb so ∷ []) _ refl $ fjoin3 ! $
+    feq_i ! _ (mut_vals a.0) _ refl $ fjoin3 ! $ move ! (2 ∷ 3 ∷ []) $
+    feq_i ! _ (mut_vals a.1.1.0) _ refl $ fjoin3 ! $
     nothing ! $ nothing ! $ nothing ! $ fjoin3 ! $ move ! (1 ∷ 0 ∷ []) $ fjoin ! $ nothing ! $
     move ! (2 ∷ 0 ∷ 1 ∷ []) $ fjoin3 ! $
     move ! (2 ∷ 3 ∷ []) $ join ! $ move ! (2 ∷ 0 ∷ []) $ join ! $ feq_i ! _ (vunit ∷ []) _ refl $

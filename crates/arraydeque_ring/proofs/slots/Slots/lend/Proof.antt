@@ -49,7 +49,7 @@ lend_spec 𝓤 𝓛 𝓜 𝓡 wired X L =
     first_fact ! (λ _. heard ! _ (λ asked.
     let x : el_x E = asked.0 in let within : i < length r.places = filled_within r.places i x asked.1 in
     alloc_all ! (λ l. pass_all ! refl ((tt, tt), typed) $
-    slots_open E ! tt r rb ro (λ g b o n ok.
+    slots_open E ! tt r (λ g b o n ok.
     let far = near E ok i (omega arith) in
     first ! $ blocks ! $
     sets ! (of_opd ! (load ! (through ! refl (fld ! refl (stop !))) (look_in ! 2 (sub ! 0 refl (whole !)))))

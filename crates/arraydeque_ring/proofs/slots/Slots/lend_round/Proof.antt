@@ -2,10 +2,10 @@
 use Rattle.arraydeque_ring.{
   proofs.{
     memory.{
-      Kit.{◌≡◌, refl, sym, ap, subst, ◌∙◌, [], ◌∷◌, ℕ, ◌<◌, ◌^◌, lit<, arith, length, id⊢, Fn, inst_fn, w64, vptr},
-      Kit.{tables, owns, ‵, raw, ◌⊛◌, ◌$◌, !, move, use1, drop, split, join, frame, fsplit, fjoin, fjoin3, feq_i},
-      Kit.{feq_l, flt_l, suffices, done, of_opd, lit, bin, addr, load, stop, fld, no_more, whole, sub, look_in, only},
-      Kit.{and_then, returns, alloc_all, pass_all, free_all, look_at, get, through, sets, lands_as, usize, uint_vals},
+      Kit.{◌≡◌, refl, sym, ap, subst, ◌∙◌, [], ◌∷◌, ℕ, ◌<◌, ◌^◌, lit<, arith, length, id⊢, Fn, inst_fn, w64, tables},
+      Kit.{owns, ‵, raw, ◌⊛◌, ◌$◌, !, move, use1, drop, split, join, frame, fsplit, fjoin, fjoin3, feq_i, feq_l, flt_l},
+      Kit.{suffices, done, of_opd, lit, bin, addr, load, stop, fld, no_more, whole, sub, look_in, only, and_then},
+      Kit.{returns, alloc_all, pass_all, free_all, look_at, get, through, sets, lands_as, usize, uint_vals, mut_vals},
       Kit.{says_two, nothing, heard, El, R, args, both_by, pure_i},
       Regions.{Sr, Seen, slots_open, slots_close, IsFilledRun},
       Methods.{method, spent, values},
@@ -31,17 +31,17 @@ lend_round_spec 𝓤 𝓛 𝓜 𝓡 wired X L =
     let 𝓣 = tables 𝓤 𝓛.H 𝓜 𝓡 𝓡.env in
     method 1 2 (Sr E) 𝓛 (spent 1 𝓛 _) 𝓜 𝓡 _ _ (f.clauses X 𝓛 𝓜.mem 𝓡.returns) (f.Key.name (args E)) here
     (code.unfolded 𝓤 𝓛.H 𝓜 𝓡 wired (X, tt)) (λ κs qs bounds a _ typed post ends.
-    let κ₁ = κs.1.0 in let rb : ℕ = a.0.ref_ptr.0 in let ro : ℕ = a.0.ref_ptr.1 in let r : Seen E = a.0.now in
+    let κ₁ = κs.1.0 in let r : Seen E = a.0.now in
     let start : ℕ = a.1.0 in let len : ℕ = a.1.1.0 in let cut : ℕ = min len (length r.places - start) in
     let fs : start < 2 ^ 64 = typed.0.1.fits in let fl : len < 2 ^ 64 = typed.1.0.1.fits in
     let One : ℕ → Type 0 = λ first. IsFilledRun r.places start first in
     let Two : ℕ → Type 0 = λ first. IsFilledRun r.places 0 (len - first) in
     first_fact ! (λ lives. first_fact ! (λ inside. first_fact ! (λ within. first_fact ! (λ one. heard ! _ (λ two.
     alloc_all ! (λ l. pass_all ! refl ((tt, tt), typed) $
-    slots_open E ! tt r rb ro (λ heap b o n ok.
+    slots_open E ! tt r (λ heap b o n ok.
     sets ! (of_opd ! (load ! (through ! refl (fld ! refl (stop !))) (look_in ! 2 (sub ! 1 refl (whole !))))) refl
     (tt, record { fits = ok.word }) $
-    slots_close E ! tt heap r r b o n rb ro ok refl $
+    slots_close E ! tt r ok refl $
     -- [obs; the borrow; its token; the others]
     let room : ℕ = n - start in let room_fits : room < 2 ^ 64 = omega arith in
     sets ! (bin ! (get ! refl) (get ! refl) (omega arith)) refl
@@ -59,7 +59,7 @@ lend_round_spec 𝓤 𝓛 𝓜 𝓡 wired X L =
     let fr : rest < 2 ^ 64 = omega arith in
     sets ! (addr ! (through ! refl (stop !))) refl (tt, tt) $
     sets ! (bin ! (get ! refl) (get ! refl) (omega arith)) refl (tt, record { fits = fr }) $
-    feq_i ! _ (vptr rb ro ∷ []) _ refl $ fjoin3 ! $
+    feq_i ! _ (mut_vals a.0) _ refl $ fjoin3 ! $
     let words : ℕ × (ℕ × (ℕ × (ℕ × Unit {0}))) = (start, (first, (0, (rest, tt)))) in
     let vals = values 1 κs 4 (a.0, words) in
     pure_i ! (owns (usize ∷ usize ∷ usize ∷ usize ∷ []) words vals.1) _

@@ -64,7 +64,7 @@ lend_run_spec 𝓤 𝓛 𝓜 𝓡 wired X L =
     let long = length_filled r.places from len asked in
     let within : from + length xs ≤ length r.places = omega arith in
     alloc_all ! (λ l. pass_all ! refl ((tt, tt), typed) $
-    slots_open E ! tt r rb ro (λ g b o n ok.
+    slots_open E ! tt r (λ g b o n ok.
     let far = near E ok from (omega arith) in
     first ! $ blocks ! $
     sets ! (of_opd ! (load ! (through ! refl (fld ! refl (stop !))) (look_in ! 2 (sub ! 0 refl (whole !)))))

@@ -94,7 +94,7 @@ lend_two_spec 𝓤 𝓛 𝓜 𝓡 wired X L =
     let in_b : b + length ys ≤ length r.places = omega arith in
     let clear : AreApart a (length xs) b (length ys) = rw (long, long') apart in
     alloc_all ! (λ l. pass_all ! refl ((tt, tt), typed) $
-    slots_open E ! tt r rb ro (λ g p o n ok.
+    slots_open E ! tt r (λ g p o n ok.
     let far = near E ok a (omega arith) in let far' = near E ok b (omega arith) in
     first ! $ blocks ! $
     sets ! (of_opd ! (load ! (through ! refl (fld ! refl (stop !))) (look_in ! 2 (sub ! 0 refl (whole !)))))

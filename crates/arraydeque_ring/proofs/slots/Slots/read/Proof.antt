@@ -2,10 +2,10 @@
 use Rattle.arraydeque_ring.proofs.{
   memory.{
     Kit.{part_out, frame, refl, sym, [], ◌∷◌, ℕ, ◌+◌, ◌*◌, ◌<◌, arith, length, set, length-set, None, full_share, fat},
-    Kit.{froom, Fn, inst_fn, vptr, tables, ‵, ◌⊛◌, some, at_ret, ◌$◌, move, !, keep, use1, split, join, pick, fjoin3},
-    Kit.{feq_i, suffices, done, whole, sub, look_in, of_opd, bin, load, look, stop, fld, first, blocks, exec, returns},
+    Kit.{froom, Fn, inst_fn, tables, ‵, ◌⊛◌, some, at_ret, ◌$◌, move, !, keep, use1, split, join, pick, fjoin3, feq_i},
+    Kit.{suffices, done, whole, sub, look_in, of_opd, bin, load, look, stop, fld, first, blocks, exec, returns},
     Kit.{alloc_all, pass_all, free_all, look_at, get, through, sets, sets_last, env, heard, as_raw, after, says_two},
-    Kit.{El, R, args, el_x, elτ},
+    Kit.{mut_vals, El, R, args, el_x, elτ},
     Regions.{scaled, Sr, Seen, near, slots_open, slots_close, item_size, place_out, place_in},
     Called.first_fact,
     Methods.{method, comes_back},
@@ -23,12 +23,12 @@ read_spec 𝓤 𝓛 𝓜 𝓡 wired X L =
     let 𝓣 = tables 𝓤 𝓛.H 𝓜 𝓡 𝓡.env in
     method 1 1 (Sr E) 𝓛 (comes_back 1 𝓛 _) 𝓜 𝓡 _ _ (f.clauses X 𝓛 𝓜.mem 𝓡.returns) (f.Key.name (args E)) here
     (code.unfolded 𝓤 𝓛.H 𝓜 𝓡 wired (X, tt)) (λ κs qs bounds a _ fit post ends.
-    let rb : ℕ = a.0.ref_ptr.0 in let ro : ℕ = a.0.ref_ptr.1 in let r : Seen E = a.0.now in let i : ℕ = a.1.0 in
+    let r : Seen E = a.0.now in let i : ℕ = a.1.0 in
     let s : ℕ = item_size E in
     first_fact ! (λ _. heard ! _ (λ asked.
     let x : el_x E = asked.0 in let within : i < length r.places = filled_within r.places i x asked.1 in
     alloc_all ! (λ l. pass_all ! refl ((tt, tt), fit) $
-    slots_open E ! tt r rb ro (λ g b o n ok.
+    slots_open E ! tt r (λ g b o n ok.
     let far = near E ok i (omega arith) in
     let new : Seen E = record r { places = set r.places i None } in
     place_out E ! b o r.places i within asked.1 $
@@ -46,7 +46,7 @@ read_spec 𝓤 𝓛 𝓜 𝓡 wired X L =
     use1 𝓛 (‵ (froom (elτ E) b (i * s + o))) (𝓛.laws.at_room (elτ E) b (i * s + o) v) $ as_raw ! (elτ E) b (i * s + o) $
     move ! (0 ∷ 2 ∷ 3 ∷ 4 ∷ 5 ∷ 6 ∷ 7 ∷ []) $
     place_in E ! b o r.places i within None $
-    slots_close E ! tt g r new b o n rb ro ok (sym (length-set r.places i None)) $ returns ! (look_at ! 0 refl) $
+    slots_close E ! tt new ok (sym (length-set r.places i None)) $ returns ! (look_at ! 0 refl) $
     free_all ! refl $
-    suffices ! _ (ends v x new) $ feq_i ! _ (vptr rb ro ∷ []) _ refl $ fjoin3 ! $ frame ! $
+    suffices ! _ (ends v x new) $ feq_i ! _ (mut_vals a.0) _ refl $ fjoin3 ! $ frame ! $
     move ! (1 ∷ []) $ frame ! $ join ! $ keep ! (0 ∷ []) $ says_two ! (asked.1, refl) $ done !)))))))
