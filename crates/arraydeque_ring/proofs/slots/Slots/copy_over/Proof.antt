@@ -3,16 +3,16 @@
 use Rattle.arraydeque_ring.{
   proofs.memory.{
     Kit.{Vals, ◌≡◌, refl, List, [], ◌∷◌, ◌++◌, ℕ, ◌+◌, ◌*◌, ◌<◌, ◌^◌, arith, length, take, drop_list, id⊢, full_share},
-    Kit.{ftrue, froom, flft, Fn, inst_fn, named, w64, ty_array, vunit, vint, tables, owns, types_at, ‵, raw, ◌⊛◌},
-    Kit.{at_ret, ◌$◌, ◌∵◌, !, qed, move, keep, use1, drop, split, join, fsplit, fsplit3, fjoin, fjoin3, feq_i},
-    Kit.{suffices, done, whole, sub, look_in, enter, of_opd, unit_lit, bin, load, stop, fld, no_more, and_then, first},
-    Kit.{blocks, exec, returns, alloc_all, pass_all, free_all, look_at, get, through, sets, lands_last, env, yes},
-    Kit.{plain, usize, uint_vals, uint_Tells, RawPtr, block_ptr, Stays, walk_of, stay_dropped, stay_ref, Goes-dropped},
-    Kit.{Goes-ref, ends_at, nothing, heard, after, says_two, calls_at_last, framed, triple_of, part_at, El, R, args},
-    Kit.{el_x, elτ, proved, common_steps, split3, Array, mut_vals, mut_Tells, pure_i},
+    Kit.{ftrue, froom, flft, Fn, inst_fn, named, w64, ty_array, vunit, vint, tables, owns, types_at, ‵, raw, ◌⊛◌, ◌$◌},
+    Kit.{◌∵◌, !, qed, move, keep, use1, drop, split, join, fsplit, fsplit3, fjoin, fjoin3, feq_i, suffices, done},
+    Kit.{whole, sub, look_in, enter, of_opd, unit_lit, bin, load, stop, fld, no_more, and_then, first, blocks, returns},
+    Kit.{alloc_all, pass_all, free_all, look_at, get, through, sets, lands_last, yes, plain, usize, uint_vals},
+    Kit.{uint_Tells, RawPtr, block_ptr, Stays, walk_of, stay_dropped, stay_ref, Goes-dropped, Goes-ref, ends_at},
+    Kit.{nothing, heard, says_two, calls_at_last, framed, triple_of, part_at, El, R, args, el_x, elτ, proved},
+    Kit.{common_steps, split3, Array, mut_vals, mut_Tells, pure_i},
     Regions.{Sr, Seen, near, run_fits, slots_open, slots_close, scaled, item_size, Place, array_out, array_in},
     Regions.{room_out, room_in},
-    Called.{first_fact, knows, returned},
+    Called.{after_block, first_fact, knows, returned},
   },
   specs.Gaps.{run_emptied},
 }
@@ -104,7 +104,7 @@ copy_over_spec 𝓤 𝓛 𝓜 𝓡 wired X L =
     lands_last ! refl v_typed.0 $ move ! (1 ∷ []) $
     use1 𝓛 (‵ (part_at (Array (R E) n) full_share xs b' dst) ⊛ ‵ (froom (ty_array (elτ E) n) b src)) (id⊢ 𝓤 _) $
     split ! $
-    exec ! 𝓣.C 𝓣.Λ (env here.locals l) (after 1 here.body) (at_ret _ (W.post y)) $
+    after_block ! 𝓡 here l 1 (W.post y) $
     sets ! (of_opd ! (unit_lit !)) refl (tt, tt) $
     -- [the values; the room; the token; the others here; the others there; ..]
     move ! (0 ∷ 4 ∷ []) $ array_in E ! b' o' ts to n target xs filled.1.1 $

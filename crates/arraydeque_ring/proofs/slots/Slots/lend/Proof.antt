@@ -2,13 +2,13 @@
 use Rattle.arraydeque_ring.proofs.{
   memory.{
     Kit.{nothing, join, refl, sym, [], ◌∷◌, ℕ, ◌+◌, ◌*◌, ◌<◌, arith, length, set, length-set, Some, Ura, ent, sep},
-    Kit.{GName, Fml, fsep, flft, Fn, inst_fn, named, vptr, tables, Logic, sem, ‵, ◌⊛◌, some, later, at_ret, ◌$◌, ◌∵◌},
-    Kit.{!, qed, by, move, use1, pick, frame, await, fsplit, fjoin, suffices, done, whole, sub, look_in, of_opd, bin},
-    Kit.{load, addr, stop, fld, first, blocks, exec, returns, alloc_all, pass_all, free_all, look_at, get, through},
-    Kit.{sets, sets_last, env, mem, says, after, El, R, args, el_x, split3, heard, group, follows, MutBor, Global},
+    Kit.{GName, Fml, fsep, flft, Fn, inst_fn, named, vptr, Logic, sem, ‵, ◌⊛◌, some, later, ◌$◌, ◌∵◌, !, qed, by, move},
+    Kit.{use1, pick, frame, await, fsplit, fjoin, suffices, done, whole, sub, look_in, of_opd, bin, load, addr, stop},
+    Kit.{fld, first, blocks, returns, alloc_all, pass_all, free_all, look_at, get, through, sets, sets_last, mem, says},
+    Kit.{El, R, args, el_x, split3, heard, group, follows, MutBor, Global},
     Regions.{scaled, Sr, Seen, Fits, near, Frame, slots_whole, slots_open, item_size, Around, place_out, place_in},
     Regions.{place_owned},
-    Called.first_fact,
+    Called.{after_block, first_fact},
     Methods.{method, spent},
   },
   places.Held.filled_within,
@@ -40,7 +40,6 @@ module _ (E : El) {M : Type 1} {𝓤 : Ura M} (𝓛 : Logic 𝓤) (rb ro : ℕ) 
 pub lend_spec : {M : Type 1} → stated.statement M
 lend_spec 𝓤 𝓛 𝓜 𝓡 wired X L =
     let E : El = record { row = X; laws = L } in let here : Fn = inst_fn (args E) code.function in
-    let 𝓣 = tables 𝓤 𝓛.H 𝓜 𝓡 𝓡.env in
     method 1 1 (Sr E) 𝓛 (spent 1 𝓛 _) 𝓜 𝓡 _ _ (f.clauses X 𝓛 𝓜.mem 𝓡.returns) (f.Key.name (args E)) here
     (code.unfolded 𝓤 𝓛.H 𝓜 𝓡 wired (X, tt)) (λ κs qs bounds a _ typed post ends.
     let κ = κs.0 in let q = qs.0 in let rb : ℕ = a.0.ref_ptr.0 in let ro : ℕ = a.0.ref_ptr.1 in
@@ -57,7 +56,7 @@ lend_spec 𝓤 𝓛 𝓜 𝓡 wired X L =
     sets ! (scaled ! (get ! refl) far) refl (tt, record { fits = far }) $
     sets ! (bin ! (get ! refl) (get ! refl) tt) refl (tt, tt) $
     sets_last ! (addr ! (through ! refl (stop !))) refl (tt, tt) $
-    exec ! 𝓣.C 𝓣.Λ (env here.locals l) (after 1 here.body) (at_ret _ post) $
+    after_block ! 𝓡 here l 1 post $
     sets ! (of_opd ! (get ! refl)) refl (tt, tt) $
     let at = i * s + o in let way = back E 𝓛 rb ro r i g b o n ok within in let new = Written E r i in
     let Rest₀ = sem 𝓛 (Rest E 𝓛 rb ro r i g b o n) in

@@ -3,14 +3,14 @@ use Rattle.arraydeque_ring.{
   proofs.{
     memory.{
       Kit.{nothing, join, ◌≡◌, refl, sym, ap, ◌∙◌, List, [], ◌∷◌, map, ℕ, ◌+◌, ◌*◌, ◌≤◌, arith, length, length-map},
-      Kit.{Some, Ura, ent, sep, GName, Fml, fsep, flft, Fn, inst_fn, named, tables, Logic, sem, ‵, ◌⊛◌, some, later},
-      Kit.{at_ret, ◌$◌, ◌∵◌, !, qed, by, move, use1, use2, split, pick, frame, rewrite, await, fsplit, fjoin, suffices},
-      Kit.{done, whole, sub, look_in, agg, of_opd, bin, load, stop, fld, no_more, and_then, first, blocks, exec},
-      Kit.{returns, alloc_all, pass_all, free_all, look_at, get, through, sets, sets_last, env, mem, says, after},
-      Kit.{heard, El, R, args, el_x, split3, group, cells, Array, follows, MutBor, MutSlice, slice_val, Global},
+      Kit.{Some, Ura, ent, sep, GName, Fml, fsep, flft, Fn, inst_fn, named, Logic, sem, ‵, ◌⊛◌, some, later, ◌$◌, ◌∵◌},
+      Kit.{!, qed, by, move, use1, use2, split, pick, frame, rewrite, await, fsplit, fjoin, suffices, done, whole, sub},
+      Kit.{look_in, agg, of_opd, bin, load, stop, fld, no_more, and_then, first, blocks, returns, alloc_all, pass_all},
+      Kit.{free_all, look_at, get, through, sets, sets_last, mem, says, heard, El, R, args, el_x, split3, group, cells},
+      Kit.{Array, follows, MutBor, MutSlice, slice_val, Global},
       Regions.{Sr, Seen, Fits, near, run_fits, Frame, slots_whole, slots_open, scaled, item_size, Place, places_owned},
       Regions.{Around, run_out, run_in},
-      Called.first_fact,
+      Called.{after_block, first_fact},
       Methods.{method, spent},
     },
     loans.{Placed.{placed, run, as_many-same, length-placed}, Runs.same_cells},
@@ -53,7 +53,6 @@ module _ (E : El) {M : Type 1} {𝓤 : Ura M} (𝓛 : Logic 𝓤) (rb ro : ℕ) 
 pub lend_run_spec : {M : Type 1} → stated.statement M
 lend_run_spec 𝓤 𝓛 𝓜 𝓡 wired X L =
     let E : El = record { row = X; laws = L } in let here : Fn = inst_fn (args E) code.function in
-    let 𝓣 = tables 𝓤 𝓛.H 𝓜 𝓡 𝓡.env in
     method 1 2 (Sr E) 𝓛 (spent 1 𝓛 _) 𝓜 𝓡 _ _ (f.clauses X 𝓛 𝓜.mem 𝓡.returns) (f.Key.name (args E)) here
     (code.unfolded 𝓤 𝓛.H 𝓜 𝓡 wired (X, tt)) (λ κs qs bounds a _ typed post ends.
     let κ = κs.0 in let q = qs.0 in let rb : ℕ = a.0.ref_ptr.0 in let ro : ℕ = a.0.ref_ptr.1 in
@@ -82,7 +81,7 @@ lend_run_spec 𝓤 𝓛 𝓜 𝓡 wired X L =
     rewrite ! 0 (λ (F : Fml). ‵ F) (same_cells E 𝓛 b xs at) refl $
     sets_last ! (agg ! (and_then ! (get ! refl) (and_then ! (get ! refl) (no_more !)))) refl
     (tt, (tt, (len_ok, tt))) $
-    exec ! 𝓣.C 𝓣.Λ (env here.locals l) (after 1 here.body) (at_ret _ post) $
+    after_block ! 𝓡 here l 1 post $
     sets ! (of_opd ! (get ! refl)) refl (tt, (tt, (len_ok, tt))) $
     -- [the values; the others; the right; the words; the open borrow, in three; the other token]
     move ! (2 ∷ 3 ∷ []) $ fjoin ! $ move ! (2 ∷ 0 ∷ []) $ fjoin ! $ move ! (2 ∷ 3 ∷ 4 ∷ 1 ∷ 0 ∷ []) $ group ! 5 $

@@ -3,15 +3,15 @@ use Rattle.arraydeque_ring.{
   proofs.{
     memory.{
       Kit.{ap, nothing, ◌≡◌, refl, sym, ◌∙◌, List, [], ◌∷◌, map, ℕ, ◌+◌, ◌*◌, ◌≤◌, arith, length, length-map, Some},
-      Kit.{Ura, SProp, ent, sep, GName, flft, fobs, fbor, Fn, inst_fn, named, tables, Logic, sem, Borrowed, ‵, raw},
-      Kit.{◌⊛◌, some, later, at_ret, ◌$◌, ◌∵◌, !, qed, by, move, use1, use2, split, join, pick, frame, rewrite, await},
-      Kit.{fsplit, fjoin, feq_i, feq_l, suffices, done, whole, sub, look_in, agg, of_opd, bin, load, stop, fld},
-      Kit.{no_more, and_then, first, blocks, exec, returns, alloc_all, pass_all, free_all, look_at, get, through, sets},
-      Kit.{sets_last, env, mem, says_two, after, El, R, args, el_x, after₂, split3, group, common_steps, SemTy, all},
-      Kit.{heard, all_e, apply∗, follows, both_by, MutBor, NamedLft, named_lft, MutSlice, slice_val, Global, Fml, fsep},
+      Kit.{Ura, SProp, ent, sep, GName, flft, fobs, fbor, Fn, inst_fn, named, Logic, sem, Borrowed, ‵, raw, ◌⊛◌, some},
+      Kit.{later, ◌$◌, ◌∵◌, !, qed, by, move, use1, use2, split, join, pick, frame, rewrite, await, fsplit, fjoin},
+      Kit.{feq_i, feq_l, suffices, done, whole, sub, look_in, agg, of_opd, bin, load, stop, fld, no_more, and_then},
+      Kit.{first, blocks, returns, alloc_all, pass_all, free_all, look_at, get, through, sets, sets_last, mem},
+      Kit.{says_two, El, R, args, el_x, after₂, split3, group, common_steps, SemTy, all, heard, all_e, apply∗, follows},
+      Kit.{both_by, MutBor, NamedLft, named_lft, MutSlice, slice_val, Global, Fml, fsep},
       Regions.{Sr, Seen, Fits, near, run_fits, Frame, slots_whole, slots_open, scaled, item_size, Place, places_owned},
       Regions.{HoldsRun},
-      Called.first_fact,
+      Called.{after_block, first_fact},
       Methods.{method, spent},
     },
     loans.{
@@ -78,7 +78,6 @@ pub lend_two_spec : {M : Type 1} → stated.statement M
 unfolding both_by
 lend_two_spec 𝓤 𝓛 𝓜 𝓡 wired X L =
     let E : El = record { row = X; laws = L } in let here : Fn = inst_fn (args E) code.function in
-    let 𝓣 = tables 𝓤 𝓛.H 𝓜 𝓡 𝓡.env in
     method 1 4 (Sr E) 𝓛 (spent 1 𝓛 _) 𝓜 𝓡 _ _ (f.clauses X 𝓛 𝓜.mem 𝓡.returns) (f.Key.name (args E)) here
     (code.unfolded 𝓤 𝓛.H 𝓜 𝓡 wired (X, tt)) (λ κs qs bounds arg _ typed post ends.
     let κ = κs.0 in let q = qs.0 in let rb : ℕ = arg.0.ref_ptr.0 in let ro : ℕ = arg.0.ref_ptr.1 in
@@ -113,7 +112,7 @@ lend_two_spec 𝓤 𝓛 𝓜 𝓡 wired X L =
     sets ! (agg ! (and_then ! (get ! refl) (no_more !))) refl (tt, (tt, tt)) $
     sets_last ! (agg ! (and_then ! (get ! refl) (and_then ! (get ! refl) (and_then ! (get ! refl) (no_more !))))) refl
     (tt, ((tt, (la_ok, tt)), ((tt, (lb_ok, tt)), ((tt, tt), tt)))) $
-    exec ! 𝓣.C 𝓣.Λ (env here.locals l) (after 1 here.body) (at_ret _ post) $ sets ! (of_opd ! (get ! refl)) refl
+    after_block ! 𝓡 here l 1 post $ sets ! (of_opd ! (get ! refl)) refl
     (tt, ((tt, (la_ok, tt)), ((tt, (lb_ok, tt)), ((tt, tt), tt)))) $
     let pa = a * s + o in let pb = b * s + o in let Rest₀ = Rest E 𝓛 arg.0 a b xs ys g p o n in
     let way = back E 𝓛 arg.0 a b xs ys g p o n ok in_a in_b in let Ways = all 𝓤 (Way E 𝓛 arg.0 a b xs ys g p o n) in

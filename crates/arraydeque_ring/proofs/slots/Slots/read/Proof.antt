@@ -2,12 +2,11 @@
 use Rattle.arraydeque_ring.proofs.{
   memory.{
     Kit.{part_out, frame, refl, sym, [], ◌∷◌, ℕ, ◌+◌, ◌*◌, ◌<◌, arith, length, set, length-set, None, full_share, fat},
-    Kit.{froom, Fn, inst_fn, tables, ‵, ◌⊛◌, some, at_ret, ◌$◌, move, !, keep, use1, split, join, pick, fjoin3, feq_i},
-    Kit.{suffices, done, whole, sub, look_in, of_opd, bin, load, look, stop, fld, first, blocks, exec, returns},
-    Kit.{alloc_all, pass_all, free_all, look_at, get, through, sets, sets_last, env, heard, as_raw, after, says_two},
-    Kit.{mut_vals, El, R, args, el_x, elτ},
+    Kit.{froom, Fn, inst_fn, ‵, ◌⊛◌, some, ◌$◌, move, !, keep, use1, split, join, pick, fjoin3, feq_i, suffices, done},
+    Kit.{whole, sub, look_in, of_opd, bin, load, look, stop, fld, first, blocks, returns, alloc_all, pass_all},
+    Kit.{free_all, look_at, get, through, sets, sets_last, heard, as_raw, says_two, mut_vals, El, R, args, el_x, elτ},
     Regions.{scaled, Sr, Seen, near, slots_open, slots_close, item_size, place_out, place_in},
-    Called.first_fact,
+    Called.{after_block, first_fact},
     Methods.{method, comes_back},
   },
   places.Held.filled_within,
@@ -20,7 +19,6 @@ use Rattle.arraydeque_ring.proofs.slots.Slots.read.Code as code
 pub read_spec : {M : Type 1} → stated.statement M
 read_spec 𝓤 𝓛 𝓜 𝓡 wired X L =
     let E : El = record { row = X; laws = L } in let here : Fn = inst_fn (args E) code.function in
-    let 𝓣 = tables 𝓤 𝓛.H 𝓜 𝓡 𝓡.env in
     method 1 1 (Sr E) 𝓛 (comes_back 1 𝓛 _) 𝓜 𝓡 _ _ (f.clauses X 𝓛 𝓜.mem 𝓡.returns) (f.Key.name (args E)) here
     (code.unfolded 𝓤 𝓛.H 𝓜 𝓡 wired (X, tt)) (λ κs qs bounds a _ fit post ends.
     let r : Seen E = a.0.now in let i : ℕ = a.1.0 in
@@ -41,7 +39,7 @@ read_spec 𝓤 𝓛 𝓜 𝓡 wired X L =
     sets ! (scaled ! (get ! refl) far) refl (tt, record { fits = far }) $
     sets ! (bin ! (get ! refl) (get ! refl) tt) refl (tt, tt) $
     sets_last ! (of_opd ! (load ! (through ! refl (stop !)) (look ! 0 refl))) refl v_fits $
-    exec ! 𝓣.C 𝓣.Λ (env here.locals l) (after 1 here.body) (at_ret _ post) $
+    after_block ! 𝓡 here l 1 post $
     sets ! (of_opd ! (get ! refl)) refl v_fits $
     use1 𝓛 (‵ (froom (elτ E) b (i * s + o))) (𝓛.laws.at_room (elτ E) b (i * s + o) v) $ as_raw ! (elτ E) b (i * s + o) $
     move ! (0 ∷ 2 ∷ 3 ∷ 4 ∷ 5 ∷ 6 ∷ 7 ∷ []) $

@@ -1,13 +1,13 @@
 -- `write` fills an empty place. Assumes `Logic`.
 use Rattle.arraydeque_ring.proofs.memory.{
   Kit.{part_in, full_share, refl, sym, subst, [], ◌∷◌, ℕ, ◌+◌, ◌*◌, ◌<◌, arith, length, set, length-set, Some, ent},
-  Kit.{ftrue, flft, Fn, inst_fn, w64, Val, vunit, vint, WpFn, tables, owns, types_at, ‵, raw, ◌⊛◌, at_ret, ◌$◌, ◌∵◌, !},
-  Kit.{qed, move, keep, use2, split, join, fsplit, fsplit3, fjoin, fjoin3, feq_i, suffices, done, whole, sub, look_in},
-  Kit.{enter, of_opd, unit_lit, bin, load, init, stop, fld, assigns_last, first, blocks, exec, returns, alloc_all},
-  Kit.{pass_all, free_all, look_at, get, through, sets, env, yes, no, plain, usize, Vals, Stays, walk_of, stay_dropped},
-  Kit.{stay_ref, Goes-dropped, Goes-ref, ends_at, nothing, heard, as_written, after, says, El, R, args, mut_vals, el_x},
-  Kit.{elτ, lawful, one, proved_at},
-  Called.first_fact,
+  Kit.{ftrue, flft, Fn, inst_fn, w64, Val, vunit, vint, WpFn, tables, owns, types_at, ‵, raw, ◌⊛◌, ◌$◌, ◌∵◌, !, qed},
+  Kit.{move, keep, use2, split, join, fsplit, fsplit3, fjoin, fjoin3, feq_i, suffices, done, whole, sub, look_in},
+  Kit.{enter, of_opd, unit_lit, bin, load, init, stop, fld, assigns_last, first, blocks, returns, alloc_all, pass_all},
+  Kit.{free_all, look_at, get, through, sets, yes, no, plain, usize, Vals, Stays, walk_of, stay_dropped, stay_ref},
+  Kit.{Goes-dropped, Goes-ref, ends_at, nothing, heard, as_written, says, El, R, args, mut_vals, el_x, elτ, lawful},
+  Kit.{one, proved_at},
+  Called.{after_block, first_fact},
   Regions.{scaled, Sr, Seen, near, slots_open, slots_close, item_size, place_out, place_in, place_owned},
 }
 use Rattle.arraydeque_ring.specs.contracts.slots.Slots.write as f
@@ -58,7 +58,7 @@ write_spec 𝓤 𝓛 𝓜 𝓡 wired X L =
     sets ! (scaled ! (get ! refl) far) refl (tt, record { fits = far }) $
     sets ! (bin ! (get ! refl) (get ! refl) tt) refl (tt, tt) $ sets ! (of_opd ! (get ! refl)) refl v_fits $
     assigns_last ! (of_opd ! (get ! refl)) (through ! refl (stop !)) (init ! 0 refl v_fits) $
-    exec ! 𝓣.C 𝓣.Λ (env here.locals l) (after 1 here.body) (at_ret _ (W.post y)) $
+    after_block ! 𝓡 here l 1 (W.post y) $
     sets ! (of_opd ! (unit_lit !)) refl (tt, tt) $
     move ! (0 ∷ 7 ∷ []) $ use2 𝓛 (‵ (place_owned (R E) b (i * s + o) (Some x)))
     (part_in 𝓛 (R E) refl full_share x b (i * s + o) v) $
