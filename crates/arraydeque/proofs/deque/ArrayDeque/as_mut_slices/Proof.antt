@@ -2,16 +2,16 @@
 use Rattle.arraydeque_ring.{
   proofs.{
     memory.Called.{first_fact, returned},
-    memory.Kit.{◌≡◌, refl, List, [], ◌∷◌, ◌++◌, ◌+◌, ◌≤◌, length, id⊢, flft, Fn, inst_fn, named, tables, ‵, raw, ◌⊛◌},
-    memory.Kit.{◌$◌, ◌∵◌, !, qed, move, use1, use2, split, join, frame, rewrite, fsplit, suffices, enter, addr, stop},
-    memory.Kit.{no_more, and_then, returns, alloc_all, pass_all, free_all, look_at, get, through, sets, lands_as, no},
-    memory.Kit.{plain, mem, Stays, walk_of, stay_dropped, ends_at, nothing, fjoin, calls_at, framed, triple_of},
-    memory.Kit.{RattleType, El, R, el_x, proved, after₂, Array, both_by, number, mut_vals, mut_Tells, on_entry},
-    memory.Kit.{Goes-spent_ref, a_type, a_number, sem, heard, says_two, done},
+    memory.Kit.{refl, List, [], ◌∷◌, ◌++◌, id⊢, flft, Fn, inst_fn, named, tables, ‵, raw, ◌⊛◌, ◌$◌, ◌∵◌, !, qed, move},
+    memory.Kit.{use1, use2, split, join, frame, rewrite, fsplit, suffices, enter, addr, stop, no_more, and_then},
+    memory.Kit.{returns, alloc_all, pass_all, free_all, look_at, get, through, sets, lands_as, no, plain, mem, Stays},
+    memory.Kit.{walk_of, stay_dropped, ends_at, nothing, fjoin, calls_at, framed, triple_of, RattleType, El, R, el_x},
+    memory.Kit.{proved, after₂, Array, both_by, number, mut_vals, mut_Tells, on_entry, Goes-spent_ref, a_type},
+    memory.Kit.{a_number, sem, heard, says_two, done},
     loans.{Made.loan_lawful, Names.followed_both, Placed.as_many-twice, Slices.in_slices},
     slots.loan.Loan.into_slices.Met.{met as into_met},
   },
-  specs.Loans.{remaining, as_many},
+  specs.Loans.{as_many},
 }
 use contract.Lifetimes.{Lfts, Shares, toks}
 use denote.{Param.bounded, Triple.Entry.alive}
@@ -63,8 +63,7 @@ as_mut_slices_spec 𝓤 𝓛 𝓜 𝓡 wired X N B L fits LB members dict dict_m
     let Put : List (el_x E) → List (el_x E) → DequeState (el_x E) =
     λ us vs. rewritten d (as_many it.first.now us ++ as_many it.second.now vs) in
     use2 𝓛 (‵ (after₂ (mem (Dr E N B)) Rows Rows γ it.first.ghost_name it.second.ghost_name
-    (λ us vs. Ended (Put us vs)))) (followed_both 𝓛 (mem (Dr E N B))
-    (mem (Dr E N B)) Rows Rows Ended Put γ it.name it.first.ghost_name it.second.ghost_name) $
+    (λ us vs. Ended (Put us vs)))) (followed_both 𝓛 (mem (Dr E N B)) (mem (Dr E N B)) Rows Rows _ _ _ _ _ _) $
     rewrite ! 0 (λ (F : List (el_x E) → List (el_x E) → DequeState (el_x E)).
     ‵ (after₂ (mem (Dr E N B)) Rows Rows γ it.first.ghost_name it.second.ghost_name F))
     (λ i us vs. record (Put us vs) {

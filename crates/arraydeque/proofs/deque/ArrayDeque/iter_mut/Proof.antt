@@ -2,13 +2,12 @@
 use Rattle.arraydeque_ring.{
   proofs.memory.Called.{calls_met, first_fact, knows, returned},
   proofs.loans.Made.loan_lawful,
-  proofs.memory.Kit.{◌≡◌, ◌≤◌, ◌+◌, length, refl, sym, ap, ◌∙◌, [], ◌∷◌, id⊢, flft, Fn, inst_fn, named, ◌⊑◌, fact},
-  proofs.memory.Kit.{tables, ‵, raw, ◌⊛◌, ◌$◌, ◌∵◌, !, qed, move, keep, use1, use2, split, split3, join, frame},
-  proofs.memory.Kit.{rewrite, fsplit, fjoin, suffices, done, enter, addr, stop, no_more, and_then, returns, alloc_all},
-  proofs.memory.Kit.{pass_all, free_all, look_at, get, through, sets, lands_as, no, plain, Stays, walk_of, says},
-  proofs.memory.Kit.{stay_dropped, ends_at, nothing, heard, calls_at, framed, triple_of, param_laws, RattleType, El, R},
-  proofs.memory.Kit.{el_x, proved, number, mut_vals, mut_Tells, named_lft, on_entry, Goes-spent_ref, a_type, a_number},
-  proofs.memory.Kit.{sem},
+  proofs.memory.Kit.{refl, sym, ap, ◌∙◌, [], ◌∷◌, id⊢, flft, Fn, inst_fn, named, tables, ‵, raw, ◌⊛◌, ◌$◌, ◌∵◌, !, qed},
+  proofs.memory.Kit.{move, keep, use1, use2, split, join, frame, rewrite, fsplit, fjoin, suffices, done, enter, addr},
+  proofs.memory.Kit.{stop, no_more, and_then, returns, alloc_all, pass_all, free_all, look_at, get, through, sets},
+  proofs.memory.Kit.{lands_as, no, plain, Stays, walk_of, says, stay_dropped, ends_at, nothing, heard, calls_at},
+  proofs.memory.Kit.{framed, triple_of, param_laws, RattleType, El, R, el_x, proved, number, mut_vals, mut_Tells},
+  proofs.memory.Kit.{named_lft, on_entry, Goes-spent_ref, a_type, a_number, sem},
   specs.Loans.{LoanState, remaining},
 }
 use contract.Lifetimes.{Lfts, Shares, toks}

@@ -3,22 +3,21 @@ use Rattle.arraydeque_ring.{
   proofs.{
     memory.Called.{calls_met, first_fact, knows},
     memory.Kit.{◌≡◌, refl, ap, ◌∙◌, List, [], ◌∷◌, ◌++◌, ℕ, ◌+◌, ◌≤◌, arith, length, full_share, id⊢, sep, Share},
-    memory.Kit.{GName, fsep, flft, fauth, Fn, inst_fn, named, vptr, ◌⊑◌, fact, tables, Borrowed, owns, types_at, ‵},
-    memory.Kit.{raw, ◌⊛◌, some, later, ◌$◌, ◌∵◌, !, qed, move, keep, use1, use2, split, split3, group, join, pick},
-    memory.Kit.{frame, rewrite, await, fsplit, fsplit3, fjoin, fjoin3, fpack, feq_i, suffices, done, enter, addr, stop},
-    memory.Kit.{fld, no_more, and_then, returns, alloc_all, pass_all, free_all, look_at, get, through, sets, lands_as},
-    memory.Kit.{no, plain, mem, part_at, Stays, walk_of, says_two, stay_dropped, ends_at, heard, nothing, RattleType},
-    memory.Kit.{El, R},
-    memory.Kit.{el_x, proved, after₂, sem, name_new, Array, both_by, number, MutBor, NamedLft, mut_vals, mut_Tells},
-    memory.Kit.{named_lft, Goes-spent_ref, on_entry, a_type, a_number},
-    loans.{Made.{loan_lawful, loan_renamed}, Names.{hands_on, followed_both}, Rings.Rr},
+    memory.Kit.{GName, flft, Fn, inst_fn, named, vptr, ◌⊑◌, fact, tables, owns, types_at, ‵, raw, ◌⊛◌, some, later},
+    memory.Kit.{◌$◌, ◌∵◌, !, qed, move, keep, use1, use2, split, split3, group, join, pick, frame, rewrite, await},
+    memory.Kit.{fsplit, fsplit3, fjoin, suffices, done, enter, addr, stop, fld, no_more, and_then, returns, alloc_all},
+    memory.Kit.{pass_all, free_all, look_at, get, through, sets, lands_as, no, plain, mem, part_at, Stays, walk_of},
+    memory.Kit.{says_two, stay_dropped, ends_at, heard, nothing, RattleType, El, R, el_x, proved, after₂, sem, Array},
+    memory.Kit.{both_by, number, MutBor, NamedLft, mut_vals, mut_Tells, named_lft, Goes-spent_ref, on_entry, a_type},
+    memory.Kit.{a_number},
+    loans.{Made.{loan_lawful, loan_renamed}, Names.{hands_on, followed_both, lends_part}, Rings.Rr},
     ring.Ring.lend.Met.met,
   },
-  specs.{Loans.{LoanState, remaining, as_many}, Ring.RingState},
+  specs.{Loans.{LoanState, as_many}, Ring.RingState},
 }
 use base.Share
 use types.Follow as follow
-use types.{Late.{ages, bor_new_deep}, Mut.open_ref}
+use types.{Late.{ages}, Mut.open_ref}
 use contract.Lifetimes.{Lfts, toks}
 use denote.Param.{bounded}
 use mir.Syntax.{dcons, dnil}
@@ -66,15 +65,8 @@ lend_spec 𝓤 𝓛 𝓜 𝓡 wired X N B L fits LB members dict dict_met =
     use1 𝓛 (‵ (part_at (Rr E) full_share x.ring rb (ro + 0)) ⊛ ‵ (Other E N B LB 𝓛 rb ro x)
     ⊛ raw (Way E N B LB 𝓛 rb ro)) (ring_out E N B LB 𝓛 rb ro x) $ split3 ! $
     -- [the ring; the other field; the way back; the open borrow, in three; half the token; that of T; the others]
-    move ! (3 ∷ []) $ ages ! (λ age. name_new ! tt ((Rr E).coded.code x.ring) (λ δ.
     sets ! (addr ! (through ! refl (stop !))) refl (tt, tt) $
-    -- [obs δ; auth δ; the open borrow;
-    -- the ring; the other field; the way back; obs γ; auth γ; half the token; that of T; the others]
-    move ! (3 ∷ 1 ∷ []) $ fjoin ! $ fpack ! (RingState (el_x E)) (λ v. fsep ((mem (Rr E)).own_at v rb (ro + 0))
-    (fauth δ ((Rr E).coded.code v))) x.ring $ bor_new_deep ! tt age κ {P = Borrowed (mem (Rr E)) rb (ro + 0) δ} $
-    -- [the ring's borrow; the right to its end;
-    -- obs δ; the open borrow; the other field; the way back; obs γ; auth γ; half the token; that of T; the others]
-    move ! (2 ∷ 0 ∷ []) $ feq_i ! _ (vptr rb (ro + 0) ∷ []) _ refl $ fjoin3 ! $
+    move ! (3 ∷ []) $ ages ! (λ age. move ! (1 ∷ []) $ lends_part ! tt (Rr E) age κ x.ring rb (ro + 0) (λ δ.
     let lent : MutBor (RingState (el_x E)) = record { ref_ptr = (rb, ro + 0); ghost_name = δ; now = x.ring } in
     let κs' : Lfts 2 = (κ, (κ₁, tt)) in
     nothing ! $ move ! (1 ∷ 0 ∷ []) $ fjoin ! $
@@ -106,8 +98,7 @@ lend_spec 𝓤 𝓛 𝓜 𝓡 wired X N B L fits LB members dict dict_met =
     let Rows = mem (Array (R E) 0) in let Put : List (el_x E) → List (el_x E) → RingState (el_x E) =
     λ us vs. ring.rewritten x.ring (as_many it.first.now us ++ as_many it.second.now vs) in
     move ! (2 ∷ 3 ∷ []) $ use2 𝓛 (‵ (after₂ (mem (Dr E N B)) Rows Rows ν it.first.ghost_name it.second.ghost_name
-    (λ us vs. V (Put us vs)))) (followed_both 𝓛 (mem (Dr E N B))
-    (mem (Rr E)) Rows Rows V Put ν it.name it.first.ghost_name it.second.ghost_name) $
+    (λ us vs. V (Put us vs)))) (followed_both 𝓛 (mem (Dr E N B)) (mem (Rr E)) Rows Rows _ _ _ _ _ _) $
     rewrite ! 0 (λ (F : List (el_x E) → List (el_x E) → DequeState (el_x E)).
     ‵ (after₂ (mem (Dr E N B)) Rows Rows ν it.first.ghost_name it.second.ghost_name F))
     (λ i us vs. written E N B x d seen kept (as_many it.first.now us ++ as_many it.second.now vs) i) refl $

@@ -46,8 +46,7 @@ as_mut_slices_spec 𝓤 𝓛 𝓜 𝓡 wired X L =
     let Put : List (el_x E) → List (el_x E) → RingState (el_x E) =
     λ us vs. rewritten d (as_many it.first.now us ++ as_many it.second.now vs) in
     use2 𝓛 (‵ (after₂ (mem (Rr E)) Rows Rows γ it.first.ghost_name it.second.ghost_name (λ us vs. Ended (Put us vs))))
-    (followed_both 𝓛 (mem (Rr E))
-    (mem (Rr E)) Rows Rows Ended Put γ it.name it.first.ghost_name it.second.ghost_name) $
+    (followed_both 𝓛 (mem (Rr E)) (mem (Rr E)) Rows Rows _ _ _ _ _ _) $
     rewrite ! 0 (λ (F : List (el_x E) → List (el_x E) → RingState (el_x E)).
     ‵ (after₂ (mem (Rr E)) Rows Rows γ it.first.ghost_name it.second.ghost_name F))
     (λ i us vs. record (Put us vs) {

@@ -3,11 +3,11 @@ use Rattle.arraydeque_ring.{
   proofs.{
     memory.{
       Kit.{◌++◌, nothing, ◌≡◌, refl, List, [], ◌∷◌, ℕ, ◌+◌, ◌<◌, ◌≤◌, ◌^◌, arith, length, full_share, id⊢, Share, emp},
-      Kit.{GName, fsep, fat, flft, fauth, Fn, inst_fn, w64, vptr, tables, sem, Borrowed, owns, ‵, raw, ◌⊛◌, some},
-      Kit.{later, ◌$◌, !, move, use1, use2, drop, split, join, pick, frame, await, fsplit, fjoin, fjoin3, fpack, feq_i},
-      Kit.{suffices, done, of_opd, addr, load, look, stop, fld, no_more, and_then, returns, alloc_all, pass_all},
-      Kit.{free_all, look_at, get, through, sets, lands_as, usize, mem, part_at, says_two, heard, El, R, args, el_x},
-      Kit.{after₂, split3, group, name_new, Array, both_by, MutBor, NamedLft, named_lft, pure_i},
+      Kit.{GName, fat, flft, Fn, inst_fn, w64, tables, sem, owns, ‵, raw, ◌⊛◌, some, later, ◌$◌, !, move, use1, use2},
+      Kit.{drop, split, join, pick, frame, await, fsplit, fjoin, suffices, done, of_opd, addr, load, look, stop, fld},
+      Kit.{no_more, and_then, returns, alloc_all, pass_all, free_all, look_at, get, through, sets, lands_as, usize},
+      Kit.{mem, part_at, says_two, heard, El, R, args, el_x, after₂, split3, group, Array, both_by, MutBor, NamedLft},
+      Kit.{named_lft, pure_i},
       Regions.{Sr, Seen},
       Methods.{method, spent, values},
       Called.{calls_met, first_fact, knows},
@@ -15,7 +15,7 @@ use Rattle.arraydeque_ring.{
     loans.{
       Lending.{open_after, lent_items, first_run_filled, second_run_filled},
       Made.{loan_lawful, loan_renamed},
-      Names.{hands_on, followed_both},
+      Names.{hands_on, followed_both, lends_part},
       Rings.{Rr, Fields, Others, Way, fields_out, slots_out, ring_whole},
     },
     places.{Held.length_filled, LaidOut.length_within, Opened.{opened, view, Kept}},
@@ -24,7 +24,7 @@ use Rattle.arraydeque_ring.{
   specs.{Loans.{LoanState, as_many}, Ring.RingState, RingLends.rewritten},
 }
 use Rattle.std.{specs.Prelude.{◌-◌, min}, proofs.lemmas.List.nil_from_length}
-use types.{Follow.after, Late.{ages, bor_new_deep}, Mut.open_ref, Run.well_typed}
+use types.{Follow.after, Late.{ages}, Mut.open_ref, Run.well_typed}
 use base.Share
 use contract.Lifetimes.{toks}
 use base.Logic.{sep}
@@ -75,16 +75,8 @@ lend_spec 𝓤 𝓛 𝓜 𝓡 wired X L =
     let open_ring = opened x kept seen in
     sets ! (addr ! (through ! refl (fld ! refl (stop !)))) refl (tt, tt) $
     -- [the slots; the other fields; the way back; the open borrow, in three; half its token; the others]
-    move ! (3 ∷ []) $ ages ! (λ age. name_new ! tt ((Sr E).coded.code x.slots) (λ δ.
     sets ! (addr ! (through ! refl (stop !))) refl (tt, tt) $
-    -- [obs δ; auth δ; the open borrow;
-    -- the slots; the other fields; the way back; obs γ; auth γ; half its token; the others]
-    move ! (3 ∷ 1 ∷ []) $ fjoin ! $
-    fpack ! _ (λ (v : Seen E). fsep ((mem (Sr E)).own_at v rb (ro + 0)) (fauth δ ((Sr E).coded.code v))) x.slots $
-    bor_new_deep ! tt age κ {P = Borrowed (mem (Sr E)) rb (ro + 0) δ} $
-    -- [the slots' borrow; the right to its end;
-    -- obs δ; the open borrow; the other fields; the way back; obs γ; auth γ; half its token; the others]
-    move ! (2 ∷ 0 ∷ []) $ feq_i ! _ (vptr rb (ro + 0) ∷ []) _ refl $ fjoin3 ! $
+    move ! (3 ∷ []) $ ages ! (λ age. move ! (1 ∷ []) $ lends_part ! tt (Sr E) age κ x.slots rb (ro + 0) (λ δ.
     let lent : MutBor (Seen E) = record { ref_ptr = (rb, ro + 0); ghost_name = δ; now = x.slots } in
     let words : ℕ × (ℕ × Unit {0}) = (x.start, (x.len, tt)) in
     let vals = values 1 κs 2 (lent, words) in
@@ -121,8 +113,7 @@ lend_spec 𝓤 𝓛 𝓜 𝓡 wired X L =
     -- [half the token; what γ follows; what ν follows; what the loan's name follows; the loan; the tokens]
     let Rows = mem (Array (R E) 0) in move ! (2 ∷ 3 ∷ []) $
     use2 𝓛 (‵ (after₂ (mem (Rr E)) Rows Rows ν it.first.ghost_name it.second.ghost_name (λ us vs. V (us, vs))))
-    (followed_both 𝓛 (mem (Rr E)) Lists Rows Rows V (λ us vs. (us, vs)) ν it.name it.first.ghost_name
-    it.second.ghost_name) $
+    (followed_both 𝓛 (mem (Rr E)) Lists Rows Rows _ _ _ _ _ _) $
     -- [what ν follows; half the token; what γ follows; the loan; the tokens]
     let out : LoanState (el_x E) = record it { name = ν } in
     move ! (2 ∷ 0 ∷ []) $ fjoin ! $ move ! (2 ∷ []) $

@@ -12,7 +12,7 @@ use Rattle.arraydeque_ring.{
     loans.{Made.loan_lawful, Names.followed_both, Slices.in_slices},
     slots.{Slots.lend_two.Met.met, loan.Loan.into_slices.Met.met as into_met},
   },
-  specs.{Lends.{two_lists, lends_loan, lends_two_runs, two_written}},
+  specs.{Lends.{two_lists, lends_loan, lends_two_runs}},
 }
 use Rattle.arraydeque_ring.specs.contracts.slots.Slots.lend_two as g
 use Rattle.arraydeque_ring.specs.contracts.slots.Slots.two_slices_mut as f
@@ -42,10 +42,9 @@ two_slices_mut_spec 𝓤 𝓛 𝓜 𝓡 wired X L =
     -- [the pair; the tokens; what `lend_two` says]
     move ! (2 ∷ []) $ use1 𝓛 (‵ (lends_loan (R E) arg.0 a b it) ⊛ raw _) (id⊢ 𝓤 _) $ split ! $ move ! (1 ∷ []) $
     first_fact ! (λ held. heard ! _ (λ held'. fsplit ! $
-    let Rows = mem (Array (R E) 0) in let Put = two_written (R E) arg.0 a b it.first.now it.second.now in
-    use2 𝓛 (‵ (lends_two_runs (R E) arg.0 a b (it.first, it.second))) (followed_both 𝓛 (mem (Sr E))
-    (mem (two_lists (R E))) Rows Rows (λ w. Put w.0 w.1) (λ us vs. (us, vs)) arg.0.ghost_name it.name
-    it.first.ghost_name it.second.ghost_name) $
+    let Rows = mem (Array (R E) 0) in
+    use2 𝓛 (‵ (lends_two_runs (R E) arg.0 a b (it.first, it.second)))
+    (followed_both 𝓛 (mem (Sr E)) (mem (two_lists (R E))) Rows Rows _ _ _ _ _ _) $
     -- [what the region follows; the pair; the tokens]
     returns ! (look_at ! 0 refl) $ free_all ! refl $
     suffices ! _ (ends u (it.first, it.second) tt) $ nothing ! $ frame ! $ move ! (1 ∷ 2 ∷ []) $ frame ! $ frame ! $
