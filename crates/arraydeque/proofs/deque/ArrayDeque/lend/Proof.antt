@@ -49,7 +49,7 @@ lend_spec 𝓤 𝓛 𝓜 𝓡 wired X N B L fits LB members dict dict_met =
     let l : Share = Share.left q in let r : Share = Share.right q in
     let rb : ℕ = a.0.ref_ptr.0 in let ro : ℕ = a.0.ref_ptr.1 in let γ = a.0.ghost_name in
     let d : DequeState (el_x E) = a.0.now in
-    let y : W.Ghost = ((κs, qs, bounds, a, (mut_vals a.0, tt)), tt) in let coded = (Dr E N B).coded.code d in
+    let y : W.Ghost = ((κs, qs, bounds, a, (mut_vals a.0, tt)), tt) in
     known 𝓤 κ₁ κs.1.1.0 κs.1.1.1.0 X B (on_entry 𝓛 f_ended.signature κs qs a y.0.4) (λ lives.
     qed 𝓛 (((‵ (flft κ q) ⊛ ‵ (flft κ₁ q₁) ⊛ raw Others) ⊛ ‵ (owns (types_at f_ended.signature.params κs) a y.0.4))
     ∷ (raw (fact 𝓤 (κ₁ ⊑ X.lives)) ⊛ raw (Asked 𝓤 κ₁ κs.1.1.0 κs.1.1.1.0 X B)) ∷ []) ∵
@@ -91,7 +91,7 @@ lend_spec 𝓤 𝓛 𝓜 𝓡 wired X N B L fits LB members dict dict_met =
     (hands_on 𝓛 (mem (Dr E N B)) (mem (Rr E)) (mem (Rr E))
     (λ u. rewritten d u.items) V (λ u. ring.rewritten x.ring u.items) κ l rb ro rb (ro + 0) γ δ it.name Rest
     (λ u. deque_whole E N B LB 𝓛 rb ro (rewritten d (V u).items) x (ring.rewritten x.ring u.items)
-    (seen_after E N B x d seen kept u.items) (kept_after E N B x d seen kept u.items)) age coded coded d) $
+    (seen_after E N B x d seen kept u.items) (kept_after E N B x d seen kept u.items)) age _ _ d) $
     await ! tt $ pick ! (λ ν. split3 ! $
     -- [half the token; what γ follows;
     -- what ν follows; what the loan's name follows; the loan; the tokens; the others]

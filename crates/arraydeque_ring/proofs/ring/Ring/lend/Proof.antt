@@ -47,7 +47,7 @@ lend_spec 𝓤 𝓛 𝓜 𝓡 wired X L =
     (code.unfolded 𝓤 𝓛.H 𝓜 𝓡 wired (X, tt)) (λ κs qs bounds a _ fit post ends.
     let κ = κs.0 in let κ₁ = κs.1.0 in let q = qs.0 in let l : Share = Share.left q in let r : Share = Share.right q in
     let rb : ℕ = a.0.ref_ptr.0 in let ro : ℕ = a.0.ref_ptr.1 in let γ = a.0.ghost_name in
-    let d : RingState (el_x E) = a.0.now in let coded = (Rr E).coded.code d in
+    let d : RingState (el_x E) = a.0.now in
     first_fact ! {P = emp 𝓤} (λ lives. drop ! $
     alloc_all ! (λ locals. pass_all ! refl ((tt, tt), fit) $
     -- [obs; the borrow; its token; the others]
@@ -108,7 +108,7 @@ lend_spec 𝓤 𝓛 𝓜 𝓡 wired X L =
     (mem (Rr E)) γ ν (λ u. rewritten d u.items)) ⊛ ‵ (after (mem (Rr E)) Lists ν it.name V))))
     (hands_on 𝓛 (mem (Rr E)) (mem (Sr E)) Lists (λ u. rewritten d u.items) V Put κ l rb ro rb (ro + 0) γ δ it.name Rest
     (λ w. ring_whole E 𝓛 rb ro (rewritten d (V w).items) x (Put w) (open_after open_ring it.first.now it.second.now
-    held held' w.0 w.1)) age coded coded d) $
+    held held' w.0 w.1)) age _ _ d) $
     await ! tt $ pick ! (λ ν. split3 ! $
     -- [half the token; what γ follows; what ν follows; what the loan's name follows; the loan; the tokens]
     let Rows = mem (Array (R E) 0) in move ! (2 ∷ 3 ∷ []) $

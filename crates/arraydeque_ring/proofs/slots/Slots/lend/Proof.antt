@@ -44,7 +44,7 @@ lend_spec 𝓤 𝓛 𝓜 𝓡 wired X L =
     (code.unfolded 𝓤 𝓛.H 𝓜 𝓡 wired (X, tt)) (λ κs qs bounds a _ typed post ends.
     let κ = κs.0 in let q = qs.0 in let rb : ℕ = a.0.ref_ptr.0 in let ro : ℕ = a.0.ref_ptr.1 in
     let γ = a.0.ghost_name in let r : Seen E = a.0.now in let i : ℕ = a.1.0 in
-    let s : ℕ = item_size E in let coded = (Sr E).coded.code r in
+    let s : ℕ = item_size E in
     first_fact ! (λ _. heard ! _ (λ asked.
     let x : el_x E = asked.0 in let within : i < length r.places = filled_within r.places i x asked.1 in
     alloc_all ! (λ l. pass_all ! refl ((tt, tt), typed) $
@@ -66,7 +66,7 @@ lend_spec 𝓤 𝓛 𝓜 𝓡 wired X L =
     let lent : GName → MutBor (el_x E) = λ δ. record { ref_ptr = (b, at); ghost_name = δ; now = x } in
     use1 𝓛 (later (some (λ (δ : GName). ‵ ((MutRef (named 0) κ (R E)).own_val (lent δ) (vptr b at ∷ []))
     ⊛ ‵ (flft κ q) ⊛ ‵ (follows (Sr E) (R E) γ δ new))))
-    (lends_Part 𝓛 (Sr E) (R E) new (named 0) κ q rb ro b at γ Rest₀ way coded coded x) $ await ! tt $
+    (lends_Part 𝓛 (Sr E) (R E) new (named 0) κ q rb ro b at γ Rest₀ way _ _ x) $ await ! tt $
     pick ! (λ δ. split3 ! $ returns ! (look_at ! 0 refl) $ free_all ! refl $
     suffices ! _ (ends (vptr b at) (lent δ) tt) $ nothing ! $ frame ! $ frame ! $ move ! (0 ∷ 2 ∷ []) $ join ! $
     frame ! $ says ! asked.1 $ done !))))))

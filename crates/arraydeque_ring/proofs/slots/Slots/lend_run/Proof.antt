@@ -57,7 +57,7 @@ lend_run_spec 𝓤 𝓛 𝓜 𝓡 wired X L =
     (code.unfolded 𝓤 𝓛.H 𝓜 𝓡 wired (X, tt)) (λ κs qs bounds a _ typed post ends.
     let κ = κs.0 in let q = qs.0 in let rb : ℕ = a.0.ref_ptr.0 in let ro : ℕ = a.0.ref_ptr.1 in
     let γ = a.0.ghost_name in let r : Seen E = a.0.now in let from : ℕ = a.1.0 in let len : ℕ = a.1.1.0 in
-    let s : ℕ = item_size E in let coded = (Sr E).coded.code r in let len_ok = typed.1.0.1 in
+    let s : ℕ = item_size E in let len_ok = typed.1.0.1 in
     first_fact ! (λ _. heard ! _ (λ asked.
     let xs : List (el_x E) = asked.1.0 in let held = asked.1.1 in
     let long = length_filled r.places from len asked in
@@ -89,7 +89,7 @@ lend_run_spec 𝓤 𝓛 𝓜 𝓡 wired X L =
     let Slice : GName → ℕ → Fml = λ δ k. (MutSlice (named 0) κ (R E)).own_val (lent δ) (slice_val (b, at) k ∷ []) in
     use1 𝓛 (later (some (λ (δ : GName). ‵ (Slice δ (length xs)) ⊛ ‵ (flft κ q)
     ⊛ ‵ (follows (Sr E) (Array (R E) 0) γ δ new))))
-    (lends_Elements 𝓛 (Sr E) (R E) new (named 0) κ q rb ro b at γ xs room Rest₀ way coded coded) $ await ! tt $
+    (lends_Elements 𝓛 (Sr E) (R E) new (named 0) κ q rb ro b at γ xs room Rest₀ way _ _) $ await ! tt $
     pick ! (λ δ. split3 ! $ rewrite ! 0 (λ (k : ℕ). ‵ (Slice δ k)) long refl $
     returns ! (look_at ! 0 refl) $ free_all ! refl $
     suffices ! _ (ends (slice_val (b, at) len) (lent δ) tt) $ nothing ! $ frame ! $ frame ! $ move ! (0 ∷ 2 ∷ []) $

@@ -81,7 +81,7 @@ lend_two_spec 𝓤 𝓛 𝓜 𝓡 wired X L =
     method 1 4 (Sr E) 𝓛 (spent 1 𝓛 _) 𝓜 𝓡 _ _ (f.clauses X 𝓛 𝓜.mem 𝓡.returns) (f.Key.name (args E)) here
     (code.unfolded 𝓤 𝓛.H 𝓜 𝓡 wired (X, tt)) (λ κs qs bounds arg _ typed post ends.
     let κ = κs.0 in let q = qs.0 in let rb : ℕ = arg.0.ref_ptr.0 in let ro : ℕ = arg.0.ref_ptr.1 in
-    let γ = arg.0.ghost_name in let r : Seen E = arg.0.now in let coded = (Sr E).coded.code r in
+    let γ = arg.0.ghost_name in let r : Seen E = arg.0.now in
     let a : ℕ = arg.1.0 in let la : ℕ = arg.1.1.0 in let b : ℕ = arg.1.1.1.0 in let lb : ℕ = arg.1.1.1.1.0 in
     let la_ok = typed.1.0.1 in let lb_ok = typed.1.1.1.0.1 in let s : ℕ = item_size E in
     first_fact ! (λ _. first_fact ! (λ one. first_fact ! (λ two. heard ! _ (λ apart.
@@ -135,7 +135,7 @@ lend_two_spec 𝓤 𝓛 𝓜 𝓡 wired X L =
     ⊛ ‵ (flft κ q) ⊛ ‵ (after₂ Both (Lin E (length xs)) (Lin E (length ys)) νs.0 νs.1.0 νs.1.1 (λ us vs. (us, vs)))
     ⊛ ‵ (follows (Sr E) (two_lists (R E)) γ νs.0 new))))
     (takes_named 𝓛 (mem (Sr E)) (Lin E (length xs)) (Lin E (length ys)) Both.coded new κ q rb ro p pa p pb γ Rest₀ way
-    coded coded xs ys) $ await ! tt $
+    _ _ xs ys) $ await ! tt $
     pick ! (λ νs. split3 ! $
     let first_slice : MutBor (List (el_x E)) = record { ref_ptr = (p, pa); ghost_name = νs.1.0; now = xs } in
     let second_slice : MutBor (List (el_x E)) = record { ref_ptr = (p, pb); ghost_name = νs.1.1; now = ys } in
