@@ -147,10 +147,10 @@ module _ {M : Type 1} {𝓤 : Ura M} (𝓛 : Logic 𝓤) (R T N : SemTy) (F : R.
 
 -- A part of what lies open is lent under a new name, and leaves [its `&mut`; the right to its end].
 module _ {M : Type 1} {𝓤 : Ura M} {𝓛 : Logic 𝓤} {K : Type 0} {Γ : List (Item 𝓤)} {G : Goal 𝓤 𝓛.H} where
-  pub lends_part : K → Soaks G → (T : RattleType) (n : ℕ) (κ : Lft) (x : T.Denot) (b o : ℕ)
+  pub part_lent : K → Soaks G → (T : RattleType) (n : ℕ) (κ : Lft) (x : T.Denot) (b o : ℕ)
       → ((δ : GName) → Seq K 𝓛 (‵ ((MutRef (named 0) κ T).own_val (record { ref_ptr = (b, o); ghost_name = δ; now = x })
       (vptr b o ∷ [])) ∷ ‵ (flent (deep n κ) (Body (mem T) b o δ)) ∷ Γ) G) → Seq K 𝓛 (‵ ((mem T).own_at x b o) ∷ Γ) G
-  lends_part t z T n κ x b o next = name_new t z (T.coded.code x) (λ δ.
+  part_lent t z T n κ x b o next = name_new t z (T.coded.code x) (λ δ.
       -- [obs; auth; the part]
       move t (2 ∷ 1 ∷ []) $ fjoin t $ fpack t T.Denot (λ y. fsep ((mem T).own_at y b o) (fauth δ (T.coded.code y))) x $
       bor_new_deep t z n κ {P = Body (mem T) b o δ} $ move t (2 ∷ 0 ∷ []) $ feq_i t _ (vptr b o ∷ []) _ refl $

@@ -10,7 +10,7 @@ use Rattle.arraydeque_ring.{
     memory.Kit.{says_two, stay_dropped, ends_at, heard, nothing, RattleType, El, R, el_x, proved, after₂, sem, Array},
     memory.Kit.{both_by, number, MutBor, NamedLft, mut_vals, mut_Tells, named_lft, Goes-spent_ref, on_entry, a_type},
     memory.Kit.{a_number},
-    loans.{Made.{loan_lawful, loan_renamed}, Names.{hands_on, followed_both, lends_part}, Rings.Rr},
+    loans.{Made.{loan_lawful, loan_renamed}, Names.{hands_on, followed_both, part_lent}, Rings.Rr},
     ring.Ring.lend.Met.met,
   },
   specs.{Loans.{LoanState, as_many}, Ring.RingState},
@@ -66,7 +66,7 @@ lend_spec 𝓤 𝓛 𝓜 𝓡 wired X N B L fits LB members dict dict_met =
     ⊛ raw (Way E N B LB 𝓛 rb ro)) (ring_out E N B LB 𝓛 rb ro x) $ split3 ! $
     -- [the ring; the other field; the way back; the open borrow, in three; half the token; that of T; the others]
     sets ! (addr ! (through ! refl (stop !))) refl (tt, tt) $
-    move ! (3 ∷ []) $ ages ! (λ age. move ! (1 ∷ []) $ lends_part ! tt (Rr E) age κ x.ring rb (ro + 0) (λ δ.
+    move ! (3 ∷ []) $ ages ! (λ age. move ! (1 ∷ []) $ part_lent ! tt (Rr E) age κ x.ring rb (ro + 0) (λ δ.
     let lent : MutBor (RingState (el_x E)) = record { ref_ptr = (rb, ro + 0); ghost_name = δ; now = x.ring } in
     let κs' : Lfts 2 = (κ, (κ₁, tt)) in
     nothing ! $ move ! (1 ∷ 0 ∷ []) $ fjoin ! $

@@ -15,7 +15,7 @@ use Rattle.arraydeque_ring.{
     loans.{
       Lending.{open_after, lent_items, first_run_filled, second_run_filled},
       Made.{loan_lawful, loan_renamed},
-      Names.{hands_on, followed_both, lends_part},
+      Names.{hands_on, followed_both, part_lent},
       Rings.{Rr, Fields, Others, Way, fields_out, slots_out, ring_whole},
     },
     places.{Held.length_filled, LaidOut.length_within, Opened.{opened, view, Kept}},
@@ -76,7 +76,7 @@ lend_spec 𝓤 𝓛 𝓜 𝓡 wired X L =
     sets ! (addr ! (through ! refl (fld ! refl (stop !)))) refl (tt, tt) $
     -- [the slots; the other fields; the way back; the open borrow, in three; half its token; the others]
     sets ! (addr ! (through ! refl (stop !))) refl (tt, tt) $
-    move ! (3 ∷ []) $ ages ! (λ age. move ! (1 ∷ []) $ lends_part ! tt (Sr E) age κ x.slots rb (ro + 0) (λ δ.
+    move ! (3 ∷ []) $ ages ! (λ age. move ! (1 ∷ []) $ part_lent ! tt (Sr E) age κ x.slots rb (ro + 0) (λ δ.
     let lent : MutBor (Seen E) = record { ref_ptr = (rb, ro + 0); ghost_name = δ; now = x.slots } in
     let words : ℕ × (ℕ × Unit {0}) = (x.start, (x.len, tt)) in
     let vals = values 1 κs 2 (lent, words) in
