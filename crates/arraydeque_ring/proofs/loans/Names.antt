@@ -5,16 +5,17 @@ use Rattle.arraydeque_ring.proofs.memory.{
   Kit.{fobor, fbor, ‵, raw, ◌⊛◌, later, ◌$◌, ◌∵◌, !, qed, by, move, keep, use0, use1, use2, drop, split, fsplit, fjoin},
   Kit.{fpick, fpack, feq_l, rewrite, suffices, updating, await, show, done, wand_i, all, apply∗, all_e, upd_i, fex},
   Kit.{fres, fwand, fupd, fdead, flent, fseps, each, split3, assume, group, ℕ, [], ◌∷◌, Ura, Gv, Logic, sem, name_new},
-  Kit.{SemTy, after₂, some, pick},
+  Kit.{SemTy, after₂, some, pick, RattleType, Goal, Soaks, Seq, Item, List, named, vptr, feq_i, fjoin3, mem},
 }
 use types.{
   Kit.now,
-  Late.{deep, close_deep},
+  Late.{bor_new_deep, deep, close_deep},
   SemTy.Body,
   Follow.{after, follows_anew, came, Came, followed, followed₂, takes_part, takes_two},
   Mut.{open_ref},
 }
 use ghost.Rules.{aged}
+use denote.Ref.{MutRef}
 use base.Stored.{Coded}
 
 -- who has the value under ν has it under γ, as F makes it
@@ -143,3 +144,14 @@ module _ {M : Type 1} {𝓤 : Ura M} (𝓛 : Logic 𝓤) (R T N : SemTy) (F : R.
       move ! (4 ∷ 5 ∷ 1 ∷ 0 ∷ []) $ group ! 4 $
       use1 𝓛 (later (‵ (flft κ q) ⊛ raw (wand 𝓤 (A.dead κ) (A.bor κ Whole)))) (close_deep 𝓛 n κ κ q Whole
       (Body T b' o' δ)) $ await ! tt $ split ! $ now ! $ show ! Handed ν $ keep ! (0 ∷ 3 ∷ 2 ∷ []) $ done !)
+
+-- A part of what lies open is lent under a new name, and leaves [its `&mut`; the right to its end].
+module _ {M : Type 1} {𝓤 : Ura M} {𝓛 : Logic 𝓤} {K : Type 0} {Γ : List (Item 𝓤)} {G : Goal 𝓤 𝓛.H} where
+  pub part_lent : K → Soaks G → (T : RattleType) (n : ℕ) (κ : Lft) (x : T.Denot) (b o : ℕ)
+      → ((δ : GName) → Seq K 𝓛 (‵ ((MutRef (named 0) κ T).own_val (record { ref_ptr = (b, o); ghost_name = δ; now = x })
+      (vptr b o ∷ [])) ∷ ‵ (flent (deep n κ) (Body (mem T) b o δ)) ∷ Γ) G) → Seq K 𝓛 (‵ ((mem T).own_at x b o) ∷ Γ) G
+  part_lent t z T n κ x b o next = name_new t z (T.coded.code x) (λ δ.
+      -- [obs; auth; the part]
+      move t (2 ∷ 1 ∷ []) $ fjoin t $ fpack t T.Denot (λ y. fsep ((mem T).own_at y b o) (fauth δ (T.coded.code y))) x $
+      bor_new_deep t z n κ {P = Body (mem T) b o δ} $ move t (2 ∷ 0 ∷ []) $ feq_i t _ (vptr b o ∷ []) _ refl $
+      fjoin3 t $ next δ)

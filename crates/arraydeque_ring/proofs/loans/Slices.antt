@@ -1,10 +1,10 @@
 -- A pair of two slices for writing, and how a loan gives it. Assumes `Logic`.
 use Rattle.arraydeque_ring.{
   proofs.memory.{
-    Kit.{◌≡◌, refl, List, [], ◌∷◌, Ura, id⊢, Logic, Val, Env, Body, After, Seq, Item, RattleType, NamedLft, named_lft},
-    Kit.{MutSlice, Struct, El, R, el_x, MutBor, ‵, raw, ◌⊛◌, ◌$◌, move, use1, split, join, fjoin, nothing, heard},
-    Kit.{rewrite, fact, ◌⊑◌, tables, Contract},
-    Called.{Called, calls_met, knows},
+    Kit.{refl, List, [], ◌∷◌, Ura, id⊢, Logic, Val, Env, Body, After, Seq, Item, RattleType, NamedLft, named_lft},
+    Kit.{MutSlice, Struct, El, R, el_x, MutBor, ‵, raw, ◌$◌, move, join, fjoin, nothing, heard, rewrite, ◌⊑◌, tables},
+    Kit.{Contract},
+    Called.{Called, calls_met, first_fact, knows},
   },
   specs.Loans.LoanState,
 }
@@ -55,11 +55,9 @@ module _ {M : Type 1} {𝓤 : Ura M} (𝓛 : Logic 𝓤) (𝓜 : Model 𝓤 𝓛
       (runs 𝓣.C 𝓣.Λ En (seq (call f os d) rest) q)
   in_slices t met qs bounds lives it v arg next =
       nothing t $ move t (1 ∷ 0 ∷ []) $ fjoin t $ move t (1 ∷ 0 ∷ []) $ join t $
-      nothing t $ knows t (κs.1.0 ⊑ E.row.lives) lives $ join t $
+      nothing t $ knows t lives $ join t $
       calls_met 𝓛 t 𝓜 𝓣 (into.ended E.row) (into.clauses E.row 𝓛 𝓜.mem 𝓡.returns) met
       ((κs, qs, bounds, (it, tt), (v ∷ [], tt)), tt) (id⊢ 𝓤 _) arg (slices_lawful α (R E) 𝓛) (λ u two ws typed.
-      move t (2 ∷ []) $
-      use1 𝓛 (raw (fact 𝓤 (two.0 ≡ it.first)) ⊛ raw (fact 𝓤 (two.1 ≡ it.second))) (id⊢ 𝓤 _) $ split t $
-      heard t (two.0 ≡ it.first) (λ e. heard t (two.1 ≡ it.second) (λ e'.
+      move t (2 ∷ []) $ first_fact t (λ e. heard t _ (λ e'.
       rewrite t 0 (λ (pair : MutBor (List (el_x E)) × MutBor (List (el_x E))).
       ‵ ((Slices α (R E)).own_val pair (u ∷ []))) (λ i. (e i, e' i)) refl $ next u typed)))

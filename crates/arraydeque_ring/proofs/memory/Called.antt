@@ -1,28 +1,20 @@
--- A call in a walk: what is known is handed to it, and it gives its result. Assumes `Logic`.
+-- Steps of a walk: facts are heard, a block is left, and a call takes what is known and gives its result.
+-- Assumes `Logic`.
 use Rattle.arraydeque_ring.proofs.memory.{
   Kit.{List, [], ◌∷◌, Ura, emp, ent, sep, id⊢, Val, fact, fact_i, Logic, Goal, Soaks, Seq, Step, Item, ‵, raw, ◌⊛◌},
   Kit.{some, later, ◌$◌, move, use0, use1, use2, split, pick, drop, await, peeks, Is, shows, triple_of, RattleType},
-  Kit.{heard, SProp, Lasts, lasts, Contract, Env, Body, After, calls_at, framed},
+  Kit.{Fn, Wp, after, at_ret, at_return, env, exec, tables, ℕ, heard, SProp, Lasts, lasts, Contract, Env, Body, After},
+  Kit.{calls_at, framed},
 }
 use denote.{
   Laws.{Lawful, Typed},
   Signature.type_at,
   Triple.{Entry.{Res, alive}, Clauses.{Ended, Clauses, closing, at_exit}, Statement.Triple},
 }
-use contract.Running.{MachineTables}
+use contract.Running.{MachineTables, Running}
 use mir.Syntax.{Callee, Opd, Place, call, seq}
 use prog.Model.{Model}
-use types.{Kit.{lands, mean, runs}, Run.{Opds}}
-
--- several facts, as clauses say them
-abbrev pub facts : {M : Type 1} (𝓤 : Ura M) → List (Type 0) → SProp 𝓤
-facts 𝓤 [] = emp 𝓤
-facts 𝓤 (φ ∷ []) = fact 𝓤 φ
-facts 𝓤 (φ ∷ ψ ∷ φs) = sep 𝓤 (fact 𝓤 φ) (facts 𝓤 (ψ ∷ φs))
-
-abbrev Hearing : List (Type 0) → Type 1 → Type 1
-Hearing [] R = R
-Hearing (φ ∷ φs) R = φ → Hearing φs R
+use types.{Kit.{lands, mean, prop, runs}, Run.{Opds}}
 
 module _ {M : Type 1} {𝓤 : Ura M} (𝓛 : Logic 𝓤) (T : Ended) (c : Clauses 𝓤 T) where
   abbrev pub Called : Contract 𝓤
@@ -39,16 +31,20 @@ module _ {M : Type 1} {𝓤 : Ura M} (𝓛 : Logic 𝓤) (T : Ended) (c : Clause
 
 module _ {M : Type 1} {𝓤 : Ura M} {K : Type 0} {Γ : List (Item 𝓤)} where
   -- what is known is said
-  pub knows : {𝓛 : Logic 𝓤} {G : Goal 𝓤 𝓛.H} → K → (φ : Type 0) → φ → Step K 𝓛 (raw (fact 𝓤 φ) ∷ Γ) G Γ G
-  knows {𝓛 = 𝓛} t φ x = use0 𝓛 (raw (fact 𝓤 φ)) (fact_i 𝓤 φ (emp 𝓤) x)
+  pub knows : {𝓛 : Logic 𝓤} {G : Goal 𝓤 𝓛.H} → K → {φ : Type 0} → φ → Step K 𝓛 (raw (fact 𝓤 φ) ∷ Γ) G Γ G
+  knows {𝓛 = 𝓛} t {φ} x = use0 𝓛 (raw (fact 𝓤 φ)) (fact_i 𝓤 φ (emp 𝓤) x)
 
-  -- and what is required or ensured is heard, fact by fact
-  pub hears : {𝓛 : Logic 𝓤} {G : Goal 𝓤 𝓛.H} → K → (φs : List (Type 0)) → Hearing φs (Seq K 𝓛 Γ G)
-      → Seq K 𝓛 (raw (facts 𝓤 φs) ∷ Γ) G
-  hears t [] next = drop t $ next
-  hears t (φ ∷ []) next = heard t φ next
-  hears {𝓛 = 𝓛} t (φ ∷ ψ ∷ φs) next =
-      use1 𝓛 (raw (fact 𝓤 φ) ⊛ raw (facts 𝓤 (ψ ∷ φs))) (id⊢ 𝓤 _) $ split t $ heard t φ (λ x. hears t (ψ ∷ φs) (next x))
+  -- and of several facts, as of what is required or ensured, the first is heard
+  pub first_fact : {𝓛 : Logic 𝓤} {G : Goal 𝓤 𝓛.H} → K → {φ : Type 0} {P : SProp 𝓤} → (φ → Seq K 𝓛 (raw P ∷ Γ) G)
+      → Seq K 𝓛 (raw (sep 𝓤 (fact 𝓤 φ) P) ∷ Γ) G
+  first_fact {𝓛 = 𝓛} t {φ} {P} next = use1 𝓛 (raw (fact 𝓤 φ) ⊛ raw P) (id⊢ 𝓤 _) $ split t $ heard t φ next
+
+  -- a block has run: on to the code after the first k parts of the body
+  pub after_block : {𝓛 : Logic 𝓤} {𝓜 : Model 𝓤 𝓛.H} → K → (𝓡 : Running 𝓤 𝓛.H 𝓜) (e : Fn) (l : ℕ → ℕ) (k : ℕ)
+      (q : Val → SProp 𝓤) → let 𝓣 = tables 𝓤 𝓛.H 𝓜 𝓡 𝓡.env in let En = env e.locals l in
+      Step K 𝓛 Γ (runs 𝓣.C 𝓣.Λ En (after k e.body) (at_ret En q)) Γ
+      (prop (Wp 𝓤 𝓛.H 𝓣.C 𝓣.Λ En (after k e.body) (at_return 𝓤 𝓛.H En q)))
+  after_block t 𝓡 e l k q = exec t _ _ _ _ _
 
   pub returned : (𝓛 : Logic 𝓤) {G : Goal 𝓤 𝓛.H} → K → Soaks G → (T : Ended) (c : Clauses 𝓤 T)
       (y : (Called 𝓛 T c).Ghost) (v : Val) → Lawful 𝓛 (Result 𝓛 T c y) → GoesOn 𝓛 T c K Γ y v G

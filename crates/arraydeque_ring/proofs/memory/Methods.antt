@@ -1,11 +1,11 @@
--- How a walk begins and ends: what is required is heard; and all of it for a method of a `&mut` and n words, with m
--- lifetimes besides that of the `&mut`. Assumes `Logic`.
+-- How a walk begins and ends for a method of a `&mut` and n words, with m lifetimes besides that of the `&mut`.
+-- Assumes `Logic`.
 use Rattle.arraydeque_ring.proofs.memory.{
   Kit.{stay_ref, Goes-ref, Fml, MutBor, List, [], ◌∷◌, ℕ, zero, refl, suc, Ura, SProp, ent, emp, id⊢, Logic, Fn, Val},
   Kit.{named, w64, sem, sep, ‵, raw, ◌⊛◌, at_ret, ◌$◌, ◌∵◌, !, qed, move, keep, use0, split, join, fsplit, fsplit3},
   Kit.{fjoin, suffices, done, enter, flft, fobs, fbor, Borrowed, mem, RattleType, owns, types_at, plain, usize},
   Kit.{uint_vals, uint_Tells, mut_vals, mut_Tells, yes, no, nothing, Stays, stay_dropped, Goes-dropped, Goes-spent_ref},
-  Kit.{ends_at, tables, proved, walk_of, use1, Item, Goal, Seq, fact, heard},
+  Kit.{ends_at, tables, proved, walk_of, use1, Item},
 }
 use prog.{Model.Model, Wp.Closed}
 use mir.Syntax.{Callee}
@@ -24,12 +24,6 @@ use denote.{
     Walked.{Stay, Goes, AllGo, fits_of, has_of},
   },
 }
-
-module _ {M : Type 1} {𝓤 : Ura M} {𝓛 : Logic 𝓤} {K : Type 0} {Γ : List (Item 𝓤)} {G : Goal 𝓤 𝓛.H} where
-  -- of several facts, as of what is required, the first is heard
-  pub first_fact : K → {φ : Type 0} {P : SProp 𝓤} → (φ → Seq K 𝓛 (raw P ∷ Γ) G)
-      → Seq K 𝓛 (raw (sep 𝓤 (fact 𝓤 φ) P) ∷ Γ) G
-  first_fact t {φ} {P} then = use1 𝓛 (raw (fact 𝓤 φ) ⊛ raw P) (id⊢ 𝓤 _) $ split t $ heard t φ then
 
 module _ (m : ℕ) where
   abbrev Self : RattleType → Slot (suc m)

@@ -111,9 +111,9 @@ module _ (E : El) {M : Type 1} {𝓤 : Ura M} {𝓛 : Logic 𝓤} {K : Type 0} {
       ∙ ap (λ p. words_val p a.capacity ∷ []) at)))))))))))
 
   -- takes [the places; the right]
-  pub slots_made : K → (g : Global) (r : Seen E) (b o n : ℕ) → Fits E r o n
+  pub slots_made : K → {g : Global} {r : Seen E} {b o n : ℕ} → Fits E r o n
       → Step K 𝓛 (‵ ((Sr E).own_val r (slots_val b o n ∷ [])) ∷ Γ) G (‵ (places E r b o) ∷ ‵ (right E g n b o) ∷ Γ) G
-  slots_made t g r b o n ok = step (λ s.
+  slots_made t {g} {r} {b} {o} {n} ok = step (λ s.
       let a : Inside (el_x E) = record {
         ptr = block_ptr b o;
         capacity = n;
@@ -135,24 +135,24 @@ module _ (E : El) {M : Type 1} {𝓤 : Ura M} {𝓛 : Logic 𝓤} {K : Type 0} {
 
 module _ (E : El) {M : Type 1} {𝓤 : Ura M} {𝓛 : Logic 𝓤} {K : Type 0} {Γ : List (Item 𝓤)} {G : Goal 𝓤 𝓛.H} where
   -- a `&mut` is opened: [the places; the right; the words; the open borrow, in three]
-  pub slots_open : K → Soaks G → {κ : Lft} {q : Share} {γ : GName} (r : Seen E) (rb ro : ℕ)
+  pub slots_open : K → Soaks G → {κ : Lft} {q : Share} {γ : GName} (r : Seen E) {rb ro : ℕ}
       → ((g : Global) (b o n : ℕ) → Fits E r o n
       → Seq K 𝓛 (‵ (places E r b o) ∷ ‵ (right E g n b o)
       ∷ ‵ (cell_at full_share (Sr E).mir (slots_val b o n ∷ []) rb ro)
       ∷ ‵ (fobor κ q (Borrowed (mem (Sr E)) rb ro γ)) ∷ ‵ (fobs γ ((Sr E).coded.code r))
       ∷ ‵ (fauth γ ((Sr E).coded.code r)) ∷ Γ) G)
       → Seq K 𝓛 (‵ (fobs γ ((Sr E).coded.code r)) ∷ ‵ (fbor κ (Borrowed (mem (Sr E)) rb ro γ)) ∷ ‵ (flft κ q) ∷ Γ) G
-  slots_open t z r rb ro then =
+  slots_open t z r {rb} {ro} then =
       opens t z (Sr E) {h = r} rb ro (λ vs. move t (1 ∷ []) $ slots_apart E t r vs (λ g b o n ok is.
       rewrite t 2 (λ ws. ‵ (cell_at full_share (Sr E).mir ws rb ro)) is refl $ then g b o n ok))
 
   -- and closed with other places in the stead of those of r, as many
-  pub slots_close : K → Soaks G → {κ : Lft} {q : Share} {u v : Gv} {γ : GName} (g : Global) (r new : Seen E)
-      (b o n rb ro : ℕ) → Fits E r o n → length r.places ≡ length new.places
+  pub slots_close : K → Soaks G → {κ : Lft} {q : Share} {u v : Gv} {γ : GName} {g : Global} {r : Seen E} (new : Seen E)
+      {b o n rb ro : ℕ} → Fits E r o n → length r.places ≡ length new.places
       → Step K 𝓛 (‵ (fobs γ ((Sr E).coded.code new)) ∷ ‵ (fbor κ (Borrowed (mem (Sr E)) rb ro γ)) ∷ ‵ (flft κ q) ∷ Γ) G
       (‵ (places E new b o) ∷ ‵ (right E g n b o) ∷ ‵ (cell_at full_share (Sr E).mir (slots_val b o n ∷ []) rb ro)
       ∷ ‵ (fobor κ q (Borrowed (mem (Sr E)) rb ro γ)) ∷ ‵ (fobs γ u) ∷ ‵ (fauth γ v) ∷ Γ) G
-  slots_close t z g r new b o n rb ro ok same = step (λ s. slots_made E t g new b o n (Fits-as E ok new same) $
+  slots_close t z new {b} {o} {n} {rb} {ro} ok same = step (λ s. slots_made E t (Fits-as E ok new same) $
       move t (1 ∷ 0 ∷ []) $ closes t z (Sr E) new (slots_val b o n ∷ []) rb ro $ s)
 
 -- what a region owns but for its places, while it lies open
@@ -165,6 +165,6 @@ module _ (E : El) {M : Type 1} {𝓤 : Ura M} (𝓛 : Logic 𝓤) (rb ro : ℕ) 
   unfolding part_of
   slots_whole ok new same =
       qed 𝓛 (‵ (places E new b o) ∷ ‵ Frame ∷ []) ∵ move ! (1 ∷ []) $ fsplit ! $ move ! (2 ∷ 0 ∷ []) $
-      slots_made E ! g new b o n (Fits-as E ok new same) $ move ! (1 ∷ 0 ∷ []) $ fjoin ! $
+      slots_made E ! (Fits-as E ok new same) $ move ! (1 ∷ 0 ∷ []) $ fjoin ! $
       fpack ! (List Val) (λ vs. fsep (cell_at full_share (Sr E).mir vs rb ro) ((Sr E).own_val new vs))
       (slots_val b o n ∷ []) $ done !

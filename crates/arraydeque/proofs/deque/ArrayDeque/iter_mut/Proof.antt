@@ -1,14 +1,13 @@
 -- `iter_mut` goes over what `lend` lends, and the deque follows the loan's name. Assumes `Logic`.
 use Rattle.arraydeque_ring.{
-  proofs.memory.Called.{calls_met, knows, returned},
+  proofs.memory.Called.{calls_met, first_fact, knows, returned},
   proofs.loans.Made.loan_lawful,
-  proofs.memory.Kit.{◌≡◌, ◌≤◌, ◌+◌, length, refl, sym, ap, ◌∙◌, [], ◌∷◌, id⊢, flft, Fn, inst_fn, named, ◌⊑◌, fact},
-  proofs.memory.Kit.{tables, ‵, raw, ◌⊛◌, ◌$◌, ◌∵◌, !, qed, move, keep, use1, use2, split, split3, join, frame},
-  proofs.memory.Kit.{rewrite, fsplit, fjoin, suffices, done, enter, addr, stop, no_more, and_then, returns, alloc_all},
-  proofs.memory.Kit.{pass_all, free_all, look_at, get, through, sets, lands_as, no, plain, Stays, walk_of, says},
-  proofs.memory.Kit.{stay_dropped, ends_at, nothing, heard, calls_at, framed, triple_of, param_laws, RattleType, El, R},
-  proofs.memory.Kit.{el_x, proved, number, mut_vals, mut_Tells, named_lft, on_entry, Goes-spent_ref, a_type, a_number},
-  proofs.memory.Kit.{sem},
+  proofs.memory.Kit.{refl, sym, ap, ◌∙◌, [], ◌∷◌, id⊢, flft, Fn, inst_fn, named, tables, ‵, raw, ◌⊛◌, ◌$◌, ◌∵◌, !, qed},
+  proofs.memory.Kit.{move, keep, use1, use2, split, join, frame, rewrite, fsplit, fjoin, suffices, done, enter, addr},
+  proofs.memory.Kit.{stop, no_more, and_then, returns, alloc_all, pass_all, free_all, look_at, get, through, sets},
+  proofs.memory.Kit.{lands_as, no, plain, Stays, walk_of, says, stay_dropped, ends_at, nothing, heard, calls_at},
+  proofs.memory.Kit.{framed, triple_of, param_laws, RattleType, El, R, el_x, proved, number, mut_vals, mut_Tells},
+  proofs.memory.Kit.{named_lft, on_entry, Goes-spent_ref, a_type, a_number, sem},
   specs.Loans.{LoanState, remaining},
 }
 use contract.Lifetimes.{Lfts, Shares, toks}
@@ -52,21 +51,20 @@ iter_mut_spec 𝓤 𝓛 𝓜 𝓡 wired X N B L fits LB members dict dict_met =
     use1 𝓛 (raw (toks 𝓛 2 κs' qs') ⊛ raw Others) (set_apart 𝓛 A A₁ Others) $ split ! $ move ! (2 ∷ []) $
     -- [the loan; two tokens; the others; what `lend` says]
     nothing ! $ move ! (1 ∷ 0 ∷ []) $ fjoin ! $ move ! (1 ∷ 0 ∷ []) $ join ! $ nothing ! $
-    knows ! (κ₁ ⊑ X.lives) lives $ join ! $ calls_met 𝓛 ! 𝓜 𝓣 (h.ended X) (h.clauses X 𝓛 𝓜.mem 𝓡.returns)
+    knows ! lives $ join ! $ calls_met 𝓛 ! 𝓜 𝓣 (h.ended X) (h.clauses X 𝓛 𝓜.mem 𝓡.returns)
     (of_met 𝓤 𝓛 𝓜 𝓡 (code.calls-arraydeque::iter::iter_mut::IterMut::of 𝓡.env wired) X L)
     ((κs', qs', (bounds.0, tt), (it, tt), (v ∷ [], tt)), tt) (id⊢ 𝓤 _) (and_then ! (get ! refl) (no_more !))
     ((iter_laws.the_row_laws (named_lft 2 0 tt κs') (R E) (param_laws 0 X L)).lawful 𝓛)
     (λ u items ws' typed'. lands_as ! refl refl typed'.0 $
     -- [the iterator; two tokens; what `of` says; the others; what `lend` says]
     move ! (1 ∷ 3 ∷ []) $ use2 𝓛 (raw (alive 𝓛 ended.signature κs qs)) (come_back 𝓛 A A₁ Others) $ move ! (2 ∷ []) $
-    heard ! (items ≡ it) (λ e. move ! (2 ∷ []) $
-    use1 𝓛 (‵ (lends_loan (R E) (f.CAP-row X C B) (f.B-row X C B) a.0 it) ⊛ raw (fact 𝓤 (remaining it ≡ d.items))
-    ⊛ raw (fact 𝓤 (d.start + length d.items ≤ N → it.second.now ≡ []))) (id⊢ 𝓤 _) $ split3 ! $ move ! (1 ∷ []) $
-    heard ! (remaining it ≡ d.items) (λ value. fsplit ! $
+    heard ! _ (λ e. move ! (2 ∷ []) $
+    use1 𝓛 (‵ (lends_loan (R E) (f.CAP-row X C B) (f.B-row X C B) a.0 it) ⊛ raw _) (id⊢ 𝓤 _) $ split ! $
+    move ! (1 ∷ []) $ first_fact ! (λ value. heard ! _ (λ _. fsplit ! $
     rewrite ! 0 (λ (loan : LoanState (el_x E)). ‵ (lends_items (R E) (f.CAP-row X C B) (f.B-row X C B) a.0 loan.name))
     (sym e) refl $
-    -- [what the deque follows; what the loan's name follows; what is said of one piece; the tokens; the iterator]
-    returns ! (look_at ! 0 refl) $ free_all ! refl $ keep ! (4 ∷ 3 ∷ 0 ∷ []) $
+    -- [what the deque follows; what the loan's name follows; the tokens; the iterator]
+    returns ! (look_at ! 0 refl) $ free_all ! refl $ keep ! (3 ∷ 2 ∷ 0 ∷ []) $
     suffices ! _ (ends_at 𝓛 ended stayed c y u items (tt, tt) (tt, tt)) $
     nothing ! $ nothing ! $ fjoin ! $ join ! $ move ! (1 ∷ 0 ∷ []) $ join ! $ frame ! $
-    says ! (ap (λ (loan : LoanState (el_x E)). remaining loan) e ∙ value) $ done !))))))))
+    says ! (ap (λ (loan : LoanState (el_x E)). remaining loan) e ∙ value) $ done !)))))))))

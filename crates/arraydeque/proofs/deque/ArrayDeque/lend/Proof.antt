@@ -1,23 +1,23 @@
 -- `lend` lends all items: the ring lends its own, and the deque follows what the ring follows. Assumes `Logic`.
 use Rattle.arraydeque_ring.{
   proofs.{
-    memory.Called.{calls_met, facts, hears, knows},
+    memory.Called.{calls_met, first_fact, knows},
     memory.Kit.{◌≡◌, refl, ap, ◌∙◌, List, [], ◌∷◌, ◌++◌, ℕ, ◌+◌, ◌≤◌, arith, length, full_share, id⊢, sep, Share},
-    memory.Kit.{GName, fsep, flft, fauth, Fn, inst_fn, named, vptr, ◌⊑◌, fact, tables, Borrowed, owns, types_at, ‵},
-    memory.Kit.{raw, ◌⊛◌, some, later, ◌$◌, ◌∵◌, !, qed, move, keep, use1, use2, split, split3, group, join, pick},
-    memory.Kit.{frame, rewrite, await, fsplit, fsplit3, fjoin, fjoin3, fpack, feq_i, suffices, done, enter, addr, stop},
-    memory.Kit.{fld, no_more, and_then, returns, alloc_all, pass_all, free_all, look_at, get, through, sets, lands_as},
-    memory.Kit.{no, plain, mem, part_at, Stays, walk_of, says_two, stay_dropped, ends_at, nothing, RattleType, El, R},
-    memory.Kit.{el_x, proved, after₂, sem, name_new, Array, both_by, number, MutBor, NamedLft, mut_vals, mut_Tells},
-    memory.Kit.{named_lft, Goes-spent_ref, on_entry, a_type, a_number},
-    loans.{Made.{loan_lawful, loan_renamed}, Names.{hands_on, followed_both}, Rings.Rr},
+    memory.Kit.{GName, flft, Fn, inst_fn, named, vptr, ◌⊑◌, fact, tables, owns, types_at, ‵, raw, ◌⊛◌, some, later},
+    memory.Kit.{◌$◌, ◌∵◌, !, qed, move, keep, use1, use2, split, split3, group, join, pick, frame, rewrite, await},
+    memory.Kit.{fsplit, fsplit3, fjoin, suffices, done, enter, addr, stop, fld, no_more, and_then, returns, alloc_all},
+    memory.Kit.{pass_all, free_all, look_at, get, through, sets, lands_as, no, plain, mem, part_at, Stays, walk_of},
+    memory.Kit.{says_two, stay_dropped, ends_at, heard, nothing, RattleType, El, R, el_x, proved, after₂, sem, Array},
+    memory.Kit.{both_by, number, MutBor, NamedLft, mut_vals, mut_Tells, named_lft, Goes-spent_ref, on_entry, a_type},
+    memory.Kit.{a_number},
+    loans.{Made.{loan_lawful, loan_renamed}, Names.{hands_on, followed_both, part_lent}, Rings.Rr},
     ring.Ring.lend.Met.met,
   },
-  specs.{Loans.{LoanState, remaining, as_many}, Ring.RingState},
+  specs.{Loans.{LoanState, as_many}, Ring.RingState},
 }
 use base.Share
 use types.Follow as follow
-use types.{Late.{ages, bor_new_deep}, Mut.open_ref}
+use types.{Late.{ages}, Mut.open_ref}
 use contract.Lifetimes.{Lfts, toks}
 use denote.Param.{bounded}
 use mir.Syntax.{dcons, dnil}
@@ -49,7 +49,7 @@ lend_spec 𝓤 𝓛 𝓜 𝓡 wired X N B L fits LB members dict dict_met =
     let l : Share = Share.left q in let r : Share = Share.right q in
     let rb : ℕ = a.0.ref_ptr.0 in let ro : ℕ = a.0.ref_ptr.1 in let γ = a.0.ghost_name in
     let d : DequeState (el_x E) = a.0.now in
-    let y : W.Ghost = ((κs, qs, bounds, a, (mut_vals a.0, tt)), tt) in let coded = (Dr E N B).coded.code d in
+    let y : W.Ghost = ((κs, qs, bounds, a, (mut_vals a.0, tt)), tt) in
     known 𝓤 κ₁ κs.1.1.0 κs.1.1.1.0 X B (on_entry 𝓛 f_ended.signature κs qs a y.0.4) (λ lives.
     qed 𝓛 (((‵ (flft κ q) ⊛ ‵ (flft κ₁ q₁) ⊛ raw Others) ⊛ ‵ (owns (types_at f_ended.signature.params κs) a y.0.4))
     ∷ (raw (fact 𝓤 (κ₁ ⊑ X.lives)) ⊛ raw (Asked 𝓤 κ₁ κs.1.1.0 κs.1.1.1.0 X B)) ∷ []) ∵
@@ -65,31 +65,22 @@ lend_spec 𝓤 𝓛 𝓜 𝓡 wired X N B L fits LB members dict dict_met =
     use1 𝓛 (‵ (part_at (Rr E) full_share x.ring rb (ro + 0)) ⊛ ‵ (Other E N B LB 𝓛 rb ro x)
     ⊛ raw (Way E N B LB 𝓛 rb ro)) (ring_out E N B LB 𝓛 rb ro x) $ split3 ! $
     -- [the ring; the other field; the way back; the open borrow, in three; half the token; that of T; the others]
-    move ! (3 ∷ []) $ ages ! (λ age. name_new ! tt ((Rr E).coded.code x.ring) (λ δ.
     sets ! (addr ! (through ! refl (stop !))) refl (tt, tt) $
-    -- [obs δ; auth δ; the open borrow;
-    -- the ring; the other field; the way back; obs γ; auth γ; half the token; that of T; the others]
-    move ! (3 ∷ 1 ∷ []) $ fjoin ! $ fpack ! (RingState (el_x E)) (λ v. fsep ((mem (Rr E)).own_at v rb (ro + 0))
-    (fauth δ ((Rr E).coded.code v))) x.ring $ bor_new_deep ! tt age κ {P = Borrowed (mem (Rr E)) rb (ro + 0) δ} $
-    -- [the ring's borrow; the right to its end;
-    -- obs δ; the open borrow; the other field; the way back; obs γ; auth γ; half the token; that of T; the others]
-    move ! (2 ∷ 0 ∷ []) $ feq_i ! _ (vptr rb (ro + 0) ∷ []) _ refl $ fjoin3 ! $
+    move ! (3 ∷ []) $ ages ! (λ age. move ! (1 ∷ []) $ part_lent ! tt (Rr E) age κ x.ring rb (ro + 0) (λ δ.
     let lent : MutBor (RingState (el_x E)) = record { ref_ptr = (rb, ro + 0); ghost_name = δ; now = x.ring } in
     let κs' : Lfts 2 = (κ, (κ₁, tt)) in
     nothing ! $ move ! (1 ∷ 0 ∷ []) $ fjoin ! $
     -- [the lent ring; the right;
     -- the open borrow; the other field; the way back; obs γ; auth γ; half the token; that of T; the others]
     nothing ! $ move ! (9 ∷ 0 ∷ []) $ join ! $ move ! (8 ∷ 0 ∷ []) $ join ! $ join ! $
-    nothing ! $ knows ! (κ₁ ⊑ X.lives) lives $ join ! $
+    nothing ! $ knows ! lives $ join ! $
     calls_met 𝓛 ! 𝓜 𝓣 (g.ended X) (g.clauses X 𝓛 𝓜.mem 𝓡.returns)
     (met 𝓤 𝓛 𝓜 𝓡 (code.calls-arraydeque_ring::ring::Ring::lend 𝓡.env wired) X L)
     ((κs', (r, (q₁, tt)), (bounds.0, tt), (lent, tt), (mut_vals lent, tt)), tt) (id⊢ 𝓤 _)
     (and_then ! (get ! refl) (no_more !)) (loan_lawful E) (λ v it ws typed. lands_as ! refl refl typed.0 $
     let α : NamedLft = named_lft 2 0 tt κs' in let It = loan.the_row α (R E) in
-    let Piece : Type 0 = x.ring.start + length x.ring.items ≤ x.ring.capacity → it.second.now ≡ [] in
-    let Value : Type 0 = remaining it ≡ x.ring.items in
-    move ! (2 ∷ []) $ use1 𝓛 (‵ (ring.lends_loan (R E) lent it) ⊛ raw (facts 𝓤 (Value ∷ Piece ∷ []))) (id⊢ 𝓤 _) $
-    split ! $ move ! (1 ∷ []) $ hears ! (Value ∷ Piece ∷ []) (λ value piece. fsplit ! $
+    move ! (2 ∷ []) $ use1 𝓛 (‵ (ring.lends_loan (R E) lent it) ⊛ raw _) (id⊢ 𝓤 _) $
+    split ! $ move ! (1 ∷ []) $ first_fact ! (λ value. heard ! _ (λ piece. fsplit ! $
     -- [what δ follows; what the loan's name follows;
     -- the loan; the tokens; the right; the open borrow; the other field; the way back; obs γ; auth γ; the others]
     let V : RingState (el_x E) → DequeState (el_x E) = λ u. view E N B (after E N B x d seen kept u.items) in
@@ -100,15 +91,14 @@ lend_spec 𝓤 𝓛 𝓜 𝓡 wired X N B L fits LB members dict dict_met =
     (hands_on 𝓛 (mem (Dr E N B)) (mem (Rr E)) (mem (Rr E))
     (λ u. rewritten d u.items) V (λ u. ring.rewritten x.ring u.items) κ l rb ro rb (ro + 0) γ δ it.name Rest
     (λ u. deque_whole E N B LB 𝓛 rb ro (rewritten d (V u).items) x (ring.rewritten x.ring u.items)
-    (seen_after E N B x d seen kept u.items) (kept_after E N B x d seen kept u.items)) age coded coded d) $
+    (seen_after E N B x d seen kept u.items) (kept_after E N B x d seen kept u.items)) age _ _ d) $
     await ! tt $ pick ! (λ ν. split3 ! $
     -- [half the token; what γ follows;
     -- what ν follows; what the loan's name follows; the loan; the tokens; the others]
     let Rows = mem (Array (R E) 0) in let Put : List (el_x E) → List (el_x E) → RingState (el_x E) =
     λ us vs. ring.rewritten x.ring (as_many it.first.now us ++ as_many it.second.now vs) in
     move ! (2 ∷ 3 ∷ []) $ use2 𝓛 (‵ (after₂ (mem (Dr E N B)) Rows Rows ν it.first.ghost_name it.second.ghost_name
-    (λ us vs. V (Put us vs)))) (followed_both 𝓛 (mem (Dr E N B))
-    (mem (Rr E)) Rows Rows V Put ν it.name it.first.ghost_name it.second.ghost_name) $
+    (λ us vs. V (Put us vs)))) (followed_both 𝓛 (mem (Dr E N B)) (mem (Rr E)) Rows Rows _ _ _ _ _ _) $
     rewrite ! 0 (λ (F : List (el_x E) → List (el_x E) → DequeState (el_x E)).
     ‵ (after₂ (mem (Dr E N B)) Rows Rows ν it.first.ghost_name it.second.ghost_name F))
     (λ i us vs. written E N B x d seen kept (as_many it.first.now us ++ as_many it.second.now vs) i) refl $
@@ -129,4 +119,4 @@ lend_spec 𝓤 𝓛 𝓜 𝓡 wired X N B L fits LB members dict dict_met =
       ap (λ (u : DequeState (el_x E)). u.start) seen,
       ap (λ (u : DequeState (el_x E)). length u.items) seen,
     )) in
-    says_two ! (value ∙ ap (λ (u : DequeState (el_x E)). u.items) seen, none) $ done !)))))))))
+    says_two ! (value ∙ ap (λ (u : DequeState (el_x E)). u.items) seen, none) $ done !))))))))))

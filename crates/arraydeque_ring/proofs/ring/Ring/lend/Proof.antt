@@ -2,20 +2,20 @@
 use Rattle.arraydeque_ring.{
   proofs.{
     memory.{
-      Kit.{◌++◌, nothing, ◌≡◌, refl, List, [], ◌∷◌, ℕ, ◌+◌, ◌<◌, ◌≤◌, ◌^◌, arith, length, full_share, id⊢, Share},
-      Kit.{GName, ftrue, fsep, fat, flft, fauth, Fn, inst_fn, w64, vptr, ◌⊑◌, fact, tables, sem, Borrowed, owns, ‵},
-      Kit.{raw, ◌⊛◌, some, later, ◌$◌, !, move, use1, use2, drop, split, join, pick, frame, await, fsplit, fjoin},
-      Kit.{fjoin3, fpack, feq_i, suffices, done, of_opd, addr, load, look, stop, fld, no_more, and_then, returns},
-      Kit.{alloc_all, pass_all, free_all, look_at, get, through, sets, lands_as, usize, mem, part_at, says_two, heard},
-      Kit.{El, R, args, el_x, after₂, split3, group, name_new, Array, both_by, MutBor, NamedLft, named_lft, pure_i},
-      Regions.{Sr, Seen, HoldsRun, IsFilledRun},
+      Kit.{◌++◌, nothing, ◌≡◌, refl, List, [], ◌∷◌, ℕ, ◌+◌, ◌<◌, ◌≤◌, ◌^◌, arith, length, full_share, id⊢, Share, emp},
+      Kit.{GName, fat, flft, Fn, inst_fn, w64, tables, sem, owns, ‵, raw, ◌⊛◌, some, later, ◌$◌, !, move, use1, use2},
+      Kit.{drop, split, join, pick, frame, await, fsplit, fjoin, suffices, done, of_opd, addr, load, look, stop, fld},
+      Kit.{no_more, and_then, returns, alloc_all, pass_all, free_all, look_at, get, through, sets, lands_as, usize},
+      Kit.{mem, part_at, says_two, heard, El, R, args, el_x, after₂, split3, group, Array, both_by, MutBor, NamedLft},
+      Kit.{named_lft, pure_i},
+      Regions.{Sr, Seen},
       Methods.{method, spent, values},
-      Called.{calls_met, facts, hears, knows},
+      Called.{calls_met, first_fact, knows},
     },
     loans.{
       Lending.{open_after, lent_items, first_run_filled, second_run_filled},
       Made.{loan_lawful, loan_renamed},
-      Names.{hands_on, followed_both},
+      Names.{hands_on, followed_both, part_lent},
       Rings.{Rr, Fields, Others, Way, fields_out, slots_out, ring_whole},
     },
     places.{Held.length_filled, LaidOut.length_within, Opened.{opened, view, Kept}},
@@ -24,7 +24,7 @@ use Rattle.arraydeque_ring.{
   specs.{Loans.{LoanState, as_many}, Ring.RingState, RingLends.rewritten},
 }
 use Rattle.std.{specs.Prelude.{◌-◌, min}, proofs.lemmas.List.nil_from_length}
-use types.{Follow.after, Late.{ages, bor_new_deep}, Mut.open_ref, Run.well_typed}
+use types.{Follow.after, Late.{ages}, Mut.open_ref, Run.well_typed}
 use base.Share
 use contract.Lifetimes.{toks}
 use base.Logic.{sep}
@@ -47,8 +47,8 @@ lend_spec 𝓤 𝓛 𝓜 𝓡 wired X L =
     (code.unfolded 𝓤 𝓛.H 𝓜 𝓡 wired (X, tt)) (λ κs qs bounds a _ fit post ends.
     let κ = κs.0 in let κ₁ = κs.1.0 in let q = qs.0 in let l : Share = Share.left q in let r : Share = Share.right q in
     let rb : ℕ = a.0.ref_ptr.0 in let ro : ℕ = a.0.ref_ptr.1 in let γ = a.0.ghost_name in
-    let d : RingState (el_x E) = a.0.now in let coded = (Rr E).coded.code d in
-    use1 𝓛 (raw (fact 𝓤 (κ₁ ⊑ X.lives)) ⊛ ‵ ftrue) (id⊢ 𝓤 _) $ split ! $ heard ! (κ₁ ⊑ X.lives) (λ lives. drop ! $
+    let d : RingState (el_x E) = a.0.now in
+    first_fact ! {P = emp 𝓤} (λ lives. drop ! $
     alloc_all ! (λ locals. pass_all ! refl ((tt, tt), fit) $
     -- [obs; the borrow; its token; the others]
     move ! (2 ∷ []) $ use1 𝓛 (‵ (flft κ l) ⊛ ‵ (flft κ r)) (𝓛.lfts.lft_split κ q) $ split ! $ move ! (2 ∷ 3 ∷ 0 ∷ []) $
@@ -75,16 +75,8 @@ lend_spec 𝓤 𝓛 𝓜 𝓡 wired X L =
     let open_ring = opened x kept seen in
     sets ! (addr ! (through ! refl (fld ! refl (stop !)))) refl (tt, tt) $
     -- [the slots; the other fields; the way back; the open borrow, in three; half its token; the others]
-    move ! (3 ∷ []) $ ages ! (λ age. name_new ! tt ((Sr E).coded.code x.slots) (λ δ.
     sets ! (addr ! (through ! refl (stop !))) refl (tt, tt) $
-    -- [obs δ; auth δ; the open borrow;
-    -- the slots; the other fields; the way back; obs γ; auth γ; half its token; the others]
-    move ! (3 ∷ 1 ∷ []) $ fjoin ! $
-    fpack ! _ (λ (v : Seen E). fsep ((mem (Sr E)).own_at v rb (ro + 0)) (fauth δ ((Sr E).coded.code v))) x.slots $
-    bor_new_deep ! tt age κ {P = Borrowed (mem (Sr E)) rb (ro + 0) δ} $
-    -- [the slots' borrow; the right to its end;
-    -- obs δ; the open borrow; the other fields; the way back; obs γ; auth γ; half its token; the others]
-    move ! (2 ∷ 0 ∷ []) $ feq_i ! _ (vptr rb (ro + 0) ∷ []) _ refl $ fjoin3 ! $
+    move ! (3 ∷ []) $ ages ! (λ age. move ! (1 ∷ []) $ part_lent ! tt (Sr E) age κ x.slots rb (ro + 0) (λ δ.
     let lent : MutBor (Seen E) = record { ref_ptr = (rb, ro + 0); ghost_name = δ; now = x.slots } in
     let words : ℕ × (ℕ × Unit {0}) = (x.start, (x.len, tt)) in
     let vals = values 1 κs 2 (lent, words) in
@@ -92,22 +84,18 @@ lend_spec 𝓤 𝓛 𝓜 𝓡 wired X L =
     -- [the words; the lent slots;
     -- the right; the open borrow; the other fields; the way back; obs γ; auth γ; half its token; the others]
     move ! (1 ∷ 0 ∷ []) $ fjoin ! $ move ! (7 ∷ 8 ∷ []) $ join ! $ join ! $
-    let In = x.start ≤ length x.slots.places in let Within = x.len ≤ length x.slots.places in
-    let One = IsFilledRun x.slots.places x.start first in let Two = IsFilledRun x.slots.places 0 rest in
-    knows ! Two (second_run_filled open_ring) $ knows ! One (first_run_filled open_ring) $ join ! $
-    knows ! Within (omega (arith, length_within open_ring.laid)) $ join ! $
-    knows ! In (omega arith) $ join ! $
-    knows ! (κ₁ ⊑ X.lives) lives $ join ! $
+    knows ! (second_run_filled open_ring) $ knows ! (first_run_filled open_ring) $ join ! $
+    knows ! {φ = x.len ≤ length x.slots.places} (omega (arith, length_within open_ring.laid)) $ join ! $
+    knows ! {φ = x.start ≤ length x.slots.places} (omega arith) $ join ! $
+    knows ! lives $ join ! $
     calls_met 𝓛 ! 𝓜 𝓣 (g.ended X) (g.clauses X 𝓛 𝓜.mem 𝓡.returns)
     (met 𝓤 𝓛 𝓜 𝓡 (code.calls-arraydeque_ring::slots::Slots::lend_round 𝓡.env wired) X L)
     ((κs, (r, qs.1), bounds, (lent, words), vals), tt) (id⊢ 𝓤 _)
     (and_then ! (get ! refl) (and_then ! (get ! refl) (and_then ! (get ! refl) (no_more !)))) (loan_lawful E)
     (λ v it ws it_typed. lands_as ! refl refl it_typed.0 $
     let α : NamedLft = named_lft 2 0 tt κs in
-    let First : Type 0 = HoldsRun x.slots.places x.start first it.first.now in
-    let Second : Type 0 = HoldsRun x.slots.places 0 rest it.second.now in
-    move ! (2 ∷ []) $ use1 𝓛 (‵ (Lends.lends_loan (R E) lent x.start 0 it) ⊛ raw (facts 𝓤 (First ∷ Second ∷ [])))
-    (id⊢ 𝓤 _) $ split ! $ move ! (1 ∷ []) $ hears ! (First ∷ Second ∷ []) (λ held held'. fsplit ! $
+    move ! (2 ∷ []) $ use1 𝓛 (‵ (Lends.lends_loan (R E) lent x.start 0 it) ⊛ raw _) (id⊢ 𝓤 _) $ split ! $
+    move ! (1 ∷ []) $ first_fact ! (λ held. heard ! _ (λ held'. fsplit ! $
     -- [what δ follows; what the loan's name follows;
     -- the loan; the tokens; the right; the open borrow; the other fields; the way back; obs γ; auth γ]
     let Lists = mem (two_lists (R E)) in let Put : List (el_x E) × List (el_x E) → Seen E =
@@ -120,13 +108,12 @@ lend_spec 𝓤 𝓛 𝓜 𝓡 wired X L =
     (mem (Rr E)) γ ν (λ u. rewritten d u.items)) ⊛ ‵ (after (mem (Rr E)) Lists ν it.name V))))
     (hands_on 𝓛 (mem (Rr E)) (mem (Sr E)) Lists (λ u. rewritten d u.items) V Put κ l rb ro rb (ro + 0) γ δ it.name Rest
     (λ w. ring_whole E 𝓛 rb ro (rewritten d (V w).items) x (Put w) (open_after open_ring it.first.now it.second.now
-    held held' w.0 w.1)) age coded coded d) $
+    held held' w.0 w.1)) age _ _ d) $
     await ! tt $ pick ! (λ ν. split3 ! $
     -- [half the token; what γ follows; what ν follows; what the loan's name follows; the loan; the tokens]
     let Rows = mem (Array (R E) 0) in move ! (2 ∷ 3 ∷ []) $
     use2 𝓛 (‵ (after₂ (mem (Rr E)) Rows Rows ν it.first.ghost_name it.second.ghost_name (λ us vs. V (us, vs))))
-    (followed_both 𝓛 (mem (Rr E)) Lists Rows Rows V (λ us vs. (us, vs)) ν it.name it.first.ghost_name
-    it.second.ghost_name) $
+    (followed_both 𝓛 (mem (Rr E)) Lists Rows Rows _ _ _ _ _ _) $
     -- [what ν follows; half the token; what γ follows; the loan; the tokens]
     let out : LoanState (el_x E) = record it { name = ν } in
     move ! (2 ∷ 0 ∷ []) $ fjoin ! $ move ! (2 ∷ []) $
@@ -139,4 +126,4 @@ lend_spec 𝓤 𝓛 𝓜 𝓡 wired X L =
     let none : d.start + length d.items ≤ d.capacity → it.second.now ≡ [] =
     λ in_one_piece. nil_from_length it.second.now
     (omega (arith, length_filled x.slots.places 0 rest ((second_run_filled open_ring).0, (it.second.now, held')))) in
-    says_two ! (lent_items open_ring it.first.now it.second.now held held', none) $ done !)))))))))))
+    says_two ! (lent_items open_ring it.first.now it.second.now held held', none) $ done !))))))))))))

@@ -3,17 +3,16 @@
 use Rattle.arraydeque_ring.{
   proofs.memory.{
     Kit.{Vals, ◌≡◌, refl, List, [], ◌∷◌, ◌++◌, ℕ, ◌+◌, ◌*◌, ◌<◌, ◌^◌, arith, length, take, drop_list, id⊢, full_share},
-    Kit.{ftrue, froom, flft, Fn, inst_fn, named, w64, ty_array, vunit, vint, vptr, ◌⊑◌, tables, owns, types_at, ‵, raw},
-    Kit.{◌⊛◌, at_ret, ◌$◌, ◌∵◌, !, qed, move, keep, use1, drop, split, join, fsplit, fsplit3, fjoin, fjoin3, feq_i},
-    Kit.{suffices, done, whole, sub, look_in, enter, of_opd, unit_lit, bin, load, stop, fld, no_more, and_then, first},
-    Kit.{blocks, exec, returns, alloc_all, pass_all, free_all, look_at, get, through, sets, lands_last, env, yes},
-    Kit.{plain, usize, uint_vals, uint_Tells, RawPtr, block_ptr, Stays, walk_of, stay_dropped, stay_ref, Goes-dropped},
-    Kit.{Goes-ref, ends_at, nothing, heard, after, says_two, calls_at_last, framed, triple_of, part_at, El, R, args},
-    Kit.{el_x, elτ, proved, common_steps, split3, Array, mut_vals, mut_Tells, pure_i},
-    Methods.first_fact,
+    Kit.{ftrue, froom, flft, Fn, inst_fn, named, w64, ty_array, vunit, vint, tables, owns, types_at, ‵, raw, ◌⊛◌, ◌$◌},
+    Kit.{◌∵◌, !, qed, move, keep, use1, drop, split, join, fsplit, fsplit3, fjoin, fjoin3, feq_i, suffices, done},
+    Kit.{whole, sub, look_in, enter, of_opd, unit_lit, bin, load, stop, fld, no_more, and_then, first, blocks, returns},
+    Kit.{alloc_all, pass_all, free_all, look_at, get, through, sets, lands_last, yes, plain, usize, uint_vals},
+    Kit.{uint_Tells, RawPtr, block_ptr, Stays, walk_of, stay_dropped, stay_ref, Goes-dropped, Goes-ref, ends_at},
+    Kit.{nothing, heard, says_two, calls_at_last, framed, triple_of, part_at, El, R, args, el_x, elτ, proved},
+    Kit.{common_steps, split3, Array, mut_vals, mut_Tells, pure_i},
     Regions.{Sr, Seen, near, run_fits, slots_open, slots_close, scaled, item_size, Place, array_out, array_in},
     Regions.{room_out, room_in},
-    Called.{knows, returned},
+    Called.{after_block, first_fact, knows, returned},
   },
   specs.Gaps.{run_emptied},
 }
@@ -43,9 +42,9 @@ copy_over_spec 𝓤 𝓛 𝓜 𝓡 wired X L =
       (uint_Tells w64, (mut_Tells (named 1) κs.1.0 (Sr E), (uint_Tells w64, (uint_Tells w64, tt)))),
     )) (λ κs qs bounds a _ are.
     let κ₂ = κs.1.1.0 in let q₂ = qs.1.1.0 in
-    let rb : ℕ = a.0.ref_ptr.0 in let ro : ℕ = a.0.ref_ptr.1 in let r : Seen E = a.0.now in
+    let r : Seen E = a.0.now in
     let ps : List (Place E) = r.places in
-    let sb : ℕ = a.1.1.0.ref_ptr.0 in let so : ℕ = a.1.1.0.ref_ptr.1 in let r' : Seen E = a.1.1.0.now in
+    let r' : Seen E = a.1.1.0.now in
     let ts : List (Place E) = r'.places in
     let from : ℕ = a.1.0 in let to : ℕ = a.1.1.1.0 in let n : ℕ = a.1.1.1.1.0 in
     let n_fits : n < 2 ^ 64 = are.1.1.1.1.0.1 in let s : ℕ = item_size E in
@@ -68,7 +67,7 @@ copy_over_spec 𝓤 𝓛 𝓜 𝓡 wired X L =
     enter ! _ _ _ _ _ $
     alloc_all ! (λ l. pass_all ! refl ((tt, tt), ((tt, record { fits = are.1.0.1 }), ((tt, tt),
     ((tt, record { fits = are.1.1.1.0.1 }), ((tt, record { fits = n_fits }), tt))))) $
-    slots_open E ! tt r rb ro (λ g b o m ok. move ! (6 ∷ 7 ∷ 8 ∷ []) $ slots_open E ! tt r' sb so (λ g' b' o' m' ok'.
+    slots_open E ! tt r (λ g b o m ok. move ! (6 ∷ 7 ∷ 8 ∷ []) $ slots_open E ! tt r' (λ g' b' o' m' ok'.
     let from_near = near E ok from (omega arith) in let to_near = near E ok' to (omega arith) in
     let src : ℕ = from * s + o in let dst : ℕ = to * s + o' in
     first ! $ blocks ! $
@@ -94,7 +93,7 @@ copy_over_spec 𝓤 𝓛 𝓜 𝓡 wired X L =
       ),
       xs,
     ) in
-    knows ! (n * s < 2 ^ 63) (run_fits E ok n (omega arith)).1 $ join ! $ knows ! (κ₂ ⊑ X.lives) lives $ join ! $
+    knows ! (run_fits E ok n (omega arith)).1 $ join ! $ knows ! lives $ join ! $
     pure_i ! (owns (RawPtr ∷ RawPtr ∷ usize ∷ []) z.0.3 z.0.4) (tt, (tt, ((tt, tt), tt)))
     (refl, (refl, ((refl, n_fits), tt))) $ move ! (14 ∷ 0 ∷ []) $ join ! $ join ! $
     use1 𝓛 (raw (Copies.pre z)) (id⊢ 𝓤 _) $
@@ -105,17 +104,17 @@ copy_over_spec 𝓤 𝓛 𝓜 𝓡 wired X L =
     lands_last ! refl v_typed.0 $ move ! (1 ∷ []) $
     use1 𝓛 (‵ (part_at (Array (R E) n) full_share xs b' dst) ⊛ ‵ (froom (ty_array (elτ E) n) b src)) (id⊢ 𝓤 _) $
     split ! $
-    exec ! 𝓣.C 𝓣.Λ (env here.locals l) (after 1 here.body) (at_ret _ (W.post y)) $
+    after_block ! 𝓡 here l 1 (W.post y) $
     sets ! (of_opd ! (unit_lit !)) refl (tt, tt) $
     -- [the values; the room; the token; the others here; the others there; ..]
     move ! (0 ∷ 4 ∷ []) $ array_in E ! b' o' ts to n target xs filled.1.1 $
-    move ! (0 ∷ 4 ∷ 5 ∷ 6 ∷ 7 ∷ 8 ∷ []) $ slots_close E ! tt g' r' new' b' o' m' sb so ok' us_long $
+    move ! (0 ∷ 4 ∷ 5 ∷ 6 ∷ 7 ∷ 8 ∷ []) $ slots_close E ! tt new' ok' us_long $
     move ! (3 ∷ 5 ∷ []) $ room_in E ! b o ps from n within $
-    move ! (0 ∷ 5 ∷ 6 ∷ 7 ∷ 8 ∷ 9 ∷ []) $ slots_close E ! tt g r new b o m rb ro ok es_long $
+    move ! (0 ∷ 5 ∷ 6 ∷ 7 ∷ 8 ∷ 9 ∷ []) $ slots_close E ! tt new ok es_long $
     returns ! (look_at ! 0 refl) $ free_all ! refl $
     suffices ! _ (ends_at 𝓛 ended stayed c y vunit tt (new, (tt, (new', _))) _) $ says_two ! (refl, refl) $
-    feq_i ! _ (vptr rb ro ∷ []) _ refl $ fjoin3 ! $ move ! (2 ∷ 3 ∷ []) $
-    feq_i ! _ (vptr sb so ∷ []) _ refl $ fjoin3 ! $
+    feq_i ! _ (mut_vals a.0) _ refl $ fjoin3 ! $ move ! (2 ∷ 3 ∷ []) $
+    feq_i ! _ (mut_vals a.1.1.0) _ refl $ fjoin3 ! $
     nothing ! $ nothing ! $ nothing ! $ fjoin3 ! $ move ! (1 ∷ 0 ∷ []) $ fjoin ! $ nothing ! $
     move ! (2 ∷ 0 ∷ 1 ∷ []) $ fjoin3 ! $
     move ! (2 ∷ 3 ∷ []) $ join ! $ move ! (2 ∷ 0 ∷ []) $ join ! $ feq_i ! _ (vunit ∷ []) _ refl $

@@ -2,8 +2,8 @@
 use Rattle.arraydeque_ring.{
   proofs.{
     memory.{
-      Kit.{refl, [], ◌∷◌, ℕ, ftrue, flft, Fn, inst_fn, named, w64, vunit, vptr, owns, types_at, ‵, raw, ◌⊛◌, ◌$◌, ◌∵◌},
-      Kit.{!, qed, move, keep, split, join, fsplit3, fjoin, fjoin3, feq_i, suffices, done, enter, of_opd, unit_lit},
+      Kit.{refl, [], ◌∷◌, ℕ, ftrue, flft, Fn, inst_fn, named, w64, vunit, owns, types_at, ‵, raw, ◌⊛◌, ◌$◌, ◌∵◌, !},
+      Kit.{qed, move, keep, split, join, fsplit3, fjoin, fjoin3, feq_i, suffices, done, enter, of_opd, unit_lit},
       Kit.{returns, alloc_all, pass_all, free_all, look_at, sets, yes, plain, usize, uint_vals, uint_Tells, Stays},
       Kit.{walk_of, says, stay_dropped, stay_ref, Goes-dropped, Goes-ref, ends_at, nothing, El, args, proved, mut_vals},
       Kit.{mut_Tells},
@@ -37,7 +37,7 @@ count_spec 𝓤 𝓛 𝓜 𝓡 wired X L =
     (λ κs. (mut_vals, (kind_vals, (uint_vals w64, tt))))
     (λ κs. (mut_Tells (named 0) κs.0 (Sr E), (Tells-lowered kind.enum the_laws, (uint_Tells w64, tt))))
     (λ κs qs bounds a _ are.
-    let rb : ℕ = a.0.ref_ptr.0 in let ro : ℕ = a.0.ref_ptr.1 in let r : Seen E = a.0.now in let k : StepKind = a.1.0 in
+    let r : Seen E = a.0.now in let k : StepKind = a.1.0 in
     let n : ℕ = a.1.1.0 in
     let y : W.Ghost = ((κs, qs, bounds, a, (mut_vals a.0, (kind_vals k, (uint_vals w64 n, tt)))), tt) in
     let new : Seen E = record r { steps = counted k n r.steps } in
@@ -46,11 +46,11 @@ count_spec 𝓤 𝓛 𝓜 𝓡 wired X L =
     split ! $ split ! $ move ! (2 ∷ []) $ fsplit3 ! $ fsplit3 ! $ keep ! (1 ∷ 2 ∷ 5 ∷ 6 ∷ []) $
     enter ! _ _ _ _ _ $ alloc_all ! (λ l. pass_all ! refl
     ((tt, tt), (((the_row_laws.lawful 𝓛).typed k (kind_vals k) are.1.0).0, ((tt, record { fits = are.1.1.0.1 }), tt))) $
-    slots_open E ! tt r rb ro (λ g b o m ok.
+    slots_open E ! tt r (λ g b o m ok.
     sets ! (of_opd ! (unit_lit !)) refl (tt, tt) $
-    slots_close E ! tt g r new b o m rb ro ok refl $ returns ! (look_at ! 0 refl) $ free_all ! refl $
+    slots_close E ! tt new ok refl $ returns ! (look_at ! 0 refl) $ free_all ! refl $
     suffices ! _ (ends_at 𝓛 ended stayed c y vunit tt (new, _) _) $ says ! refl $
-    feq_i ! _ (vptr rb ro ∷ []) _ refl $ fjoin3 ! $ nothing ! $ nothing ! $ fjoin ! $
+    feq_i ! _ (mut_vals a.0) _ refl $ fjoin3 ! $ nothing ! $ nothing ! $ fjoin ! $
     nothing ! $ fjoin ! $ move ! (1 ∷ 0 ∷ []) $ fjoin ! $
     move ! (1 ∷ 2 ∷ []) $ join ! $ feq_i ! _ (vunit ∷ []) _ refl $
     keep ! (1 ∷ 2 ∷ 0 ∷ []) $ done !)))

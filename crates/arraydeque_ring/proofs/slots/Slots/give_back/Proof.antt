@@ -1,14 +1,14 @@
 -- `give_back` makes the empty places one block again, and frees it. Assumes `Logic`.
 use Rattle.arraydeque_ring.proofs.memory.{
   Kit.{◌≡◌, refl, sym, subst, List, [], ◌∷◌, ◌++◌, ℕ, ◌*◌, ◌<◌, ◌^◌, arith, length, SProp, ent, id⊢, ftrue, froom},
-  Kit.{flft, Fn, inst_fn, ty_array, Val, vunit, vptr, Env, WpFn, tables, owns, types_at, ‵, raw, ◌⊛◌, at_ret, ◌$◌, ◌∵◌},
-  Kit.{!, qed, move, keep, drop, use1, use3, split, join, rewrite, fsplit, fjoin, feq_i, suffices, done, whole, sub},
-  Kit.{enter, of_opd, lit, unit_lit, align_word, bin, stop, fld, no_more, and_then, first, blocks, branches, skips},
-  Kit.{exec, returns, alloc_all, pass_all, free_all, look_at, get, get_in, sets, lands_last, env, yes, no, plain},
-  Kit.{RefOf, Stays, walk_of, stay_dropped, Goes-dropped, ends_at, nothing, calls_at_last, framed, block_ptr, after},
-  Kit.{El, args, elτ, proved_at, Global},
+  Kit.{flft, Fn, inst_fn, ty_array, Val, vunit, vptr, WpFn, tables, owns, types_at, ‵, raw, ◌⊛◌, ◌$◌, ◌∵◌, !, qed},
+  Kit.{move, keep, drop, use1, use3, split, join, rewrite, fsplit, fjoin, feq_i, suffices, done, whole, sub, enter},
+  Kit.{of_opd, lit, unit_lit, align_word, bin, stop, fld, no_more, and_then, first, blocks, branches, skips, returns},
+  Kit.{alloc_all, pass_all, free_all, look_at, get, get_in, sets, lands_last, yes, no, plain, RefOf, Stays, walk_of},
+  Kit.{stay_dropped, Goes-dropped, ends_at, nothing, calls_at_last, framed, block_ptr, El, args, elτ, proved_at},
+  Kit.{Global},
   Blocks.{scaled, block_ty, token},
-  Called.{returned},
+  Called.{after_block, returned},
   Heap.{Deallocates, to_deallocate, deallocate_goes},
   Regions.{Sr, Seen, slots_val, slots_Good, slots_apart, item_size, row_room, owned_if},
 }
@@ -55,7 +55,6 @@ give_back_spec 𝓤 𝓛 𝓜 𝓡 wired X L =
     (subst (λ ws. ent 𝓤 (Run us) (Run ws)) (sym (λ k. words k ++ (at_hp k ++ []))) (id⊢ 𝓤 (Run us))) $
     enter ! _ _ _ _ _ $
     alloc_all ! (λ l. pass_all ! refl (slots_Good E b o n ok.word, ((tt, tt), tt)) $
-    let En : Env 𝓤 𝓛.H = env here.locals l in
     let Gives = Deallocates 𝓛 𝓜.mem 𝓡.returns in
     let z : Gives.Ghost = to_deallocate 𝓛 𝓜.mem 𝓡.returns E n κ q hp h b o in
     let out : Sq 𝓛 (‵ (flft κ q) ∷ (‵ (flft κ₁ q₁) ⊛ ‵ ftrue) ∷ []) (prop (W.post y vunit)) =
@@ -78,11 +77,11 @@ give_back_spec 𝓤 𝓛 𝓜 𝓡 wired X L =
     (and_then ! (get ! refl) (and_then ! (get ! refl) (and_then ! (align_word !) (no_more !))))) (λ v.
     returned 𝓛 ! tt gives.ended (gives.clauses 𝓛 𝓜.mem 𝓡.returns) z v (Nothing-Lawful 𝓛) (λ u ws v_typed. drop ! $
     lands_last ! refl v_typed.0 $
-    exec ! 𝓣.C 𝓣.Λ En (after 5 here.body) (at_ret _ (W.post y)) $
+    after_block ! 𝓡 here l 5 (W.post y) $
     sets ! (of_opd ! (unit_lit !)) refl (tt, tt) $ returns ! (look_at ! 0 refl) $ free_all ! refl $
     use1 𝓛 (‵ (flft κ q) ⊛ ‵ ftrue) (id⊢ 𝓤 _) $ split ! $ keep ! (0 ∷ 3 ∷ []) $
     out)))
-    (λ none. skips ! $ exec ! 𝓣.C 𝓣.Λ En (after 5 here.body) (at_ret _ (W.post y)) $
+    (λ none. skips ! $ after_block ! 𝓡 here l 5 (W.post y) $
     sets ! (of_opd ! (unit_lit !)) refl (tt, tt) $ returns ! (look_at ! 0 refl) $ free_all ! refl $
     keep ! (3 ∷ 4 ∷ []) $
     out))))

@@ -1,16 +1,15 @@
 -- `lend` lends the value in a filled place, and that place follows it. Assumes `Logic`.
 use Rattle.arraydeque_ring.proofs.{
   memory.{
-    Kit.{nothing, join, refl, sym, [], ◌∷◌, ℕ, ◌+◌, ◌*◌, ◌<◌, arith, length, get_or, set, length-set, Some, None, Ura},
-    Kit.{ent, sep, GName, Fml, fsep, flft, Fn, inst_fn, named, vptr, ◌⊑◌, tables, Logic, sem, ‵, ◌⊛◌, some, later},
-    Kit.{at_ret, ◌$◌, ◌∵◌, !, qed, by, move, use1, use2, split, pick, frame, rewrite, await, fsplit, fjoin, suffices},
-    Kit.{done, whole, sub, look_in, of_opd, bin, load, addr, stop, fld, first, blocks, exec, returns, alloc_all},
-    Kit.{pass_all, free_all, look_at, get, through, sets, sets_last, env, mem, says, after, El, R, args, el_x, split3},
-    Kit.{group, follows, MutBor, Global},
-    Regions.{scaled, Sr, Seen, Fits, near, places, Frame, slots_whole, slots_open, item_size, Place, Around, place_out},
-    Regions.{place_in, place_owned, IsFilled},
+    Kit.{nothing, join, refl, sym, [], ◌∷◌, ℕ, ◌+◌, ◌*◌, ◌<◌, arith, length, set, length-set, Some, Ura, ent, sep},
+    Kit.{GName, Fml, fsep, flft, Fn, inst_fn, named, vptr, Logic, sem, ‵, ◌⊛◌, some, later, ◌$◌, ◌∵◌, !, qed, by, move},
+    Kit.{use1, pick, frame, await, fsplit, fjoin, suffices, done, whole, sub, look_in, of_opd, bin, load, addr, stop},
+    Kit.{fld, first, blocks, returns, alloc_all, pass_all, free_all, look_at, get, through, sets, sets_last, mem, says},
+    Kit.{El, R, args, el_x, split3, heard, group, follows, MutBor, Global},
+    Regions.{scaled, Sr, Seen, Fits, near, Frame, slots_whole, slots_open, item_size, Around, place_out, place_in},
+    Regions.{place_owned},
+    Called.{after_block, first_fact},
     Methods.{method, spent},
-    Called.{hears},
   },
   places.Held.filled_within,
 }
@@ -41,16 +40,15 @@ module _ (E : El) {M : Type 1} {𝓤 : Ura M} (𝓛 : Logic 𝓤) (rb ro : ℕ) 
 pub lend_spec : {M : Type 1} → stated.statement M
 lend_spec 𝓤 𝓛 𝓜 𝓡 wired X L =
     let E : El = record { row = X; laws = L } in let here : Fn = inst_fn (args E) code.function in
-    let 𝓣 = tables 𝓤 𝓛.H 𝓜 𝓡 𝓡.env in
     method 1 1 (Sr E) 𝓛 (spent 1 𝓛 _) 𝓜 𝓡 _ _ (f.clauses X 𝓛 𝓜.mem 𝓡.returns) (f.Key.name (args E)) here
     (code.unfolded 𝓤 𝓛.H 𝓜 𝓡 wired (X, tt)) (λ κs qs bounds a _ typed post ends.
     let κ = κs.0 in let q = qs.0 in let rb : ℕ = a.0.ref_ptr.0 in let ro : ℕ = a.0.ref_ptr.1 in
     let γ = a.0.ghost_name in let r : Seen E = a.0.now in let i : ℕ = a.1.0 in
-    let s : ℕ = item_size E in let coded = (Sr E).coded.code r in
-    hears ! ((κs.1.0 ⊑ X.lives) ∷ IsFilled r.places i ∷ []) (λ _ asked.
+    let s : ℕ = item_size E in
+    first_fact ! (λ _. heard ! _ (λ asked.
     let x : el_x E = asked.0 in let within : i < length r.places = filled_within r.places i x asked.1 in
     alloc_all ! (λ l. pass_all ! refl ((tt, tt), typed) $
-    slots_open E ! tt r rb ro (λ g b o n ok.
+    slots_open E ! tt r (λ g b o n ok.
     let far = near E ok i (omega arith) in
     first ! $ blocks ! $
     sets ! (of_opd ! (load ! (through ! refl (fld ! refl (stop !))) (look_in ! 2 (sub ! 0 refl (whole !)))))
@@ -58,7 +56,7 @@ lend_spec 𝓤 𝓛 𝓜 𝓡 wired X L =
     sets ! (scaled ! (get ! refl) far) refl (tt, record { fits = far }) $
     sets ! (bin ! (get ! refl) (get ! refl) tt) refl (tt, tt) $
     sets_last ! (addr ! (through ! refl (stop !))) refl (tt, tt) $
-    exec ! 𝓣.C 𝓣.Λ (env here.locals l) (after 1 here.body) (at_ret _ post) $
+    after_block ! 𝓡 here l 1 post $
     sets ! (of_opd ! (get ! refl)) refl (tt, tt) $
     let at = i * s + o in let way = back E 𝓛 rb ro r i g b o n ok within in let new = Written E r i in
     let Rest₀ = sem 𝓛 (Rest E 𝓛 rb ro r i g b o n) in
@@ -68,7 +66,7 @@ lend_spec 𝓤 𝓛 𝓜 𝓡 wired X L =
     let lent : GName → MutBor (el_x E) = λ δ. record { ref_ptr = (b, at); ghost_name = δ; now = x } in
     use1 𝓛 (later (some (λ (δ : GName). ‵ ((MutRef (named 0) κ (R E)).own_val (lent δ) (vptr b at ∷ []))
     ⊛ ‵ (flft κ q) ⊛ ‵ (follows (Sr E) (R E) γ δ new))))
-    (lends_Part 𝓛 (Sr E) (R E) new (named 0) κ q rb ro b at γ Rest₀ way coded coded x) $ await ! tt $
+    (lends_Part 𝓛 (Sr E) (R E) new (named 0) κ q rb ro b at γ Rest₀ way _ _ x) $ await ! tt $
     pick ! (λ δ. split3 ! $ returns ! (look_at ! 0 refl) $ free_all ! refl $
     suffices ! _ (ends (vptr b at) (lent δ) tt) $ nothing ! $ frame ! $ frame ! $ move ! (0 ∷ 2 ∷ []) $ join ! $
-    frame ! $ says ! asked.1 $ done !)))))
+    frame ! $ says ! asked.1 $ done !))))))

@@ -2,14 +2,14 @@
 use Rattle.arraydeque_ring.{
   proofs.{
     memory.{
-      Kit.{◌≡◌, refl, sym, ap, subst, ◌∙◌, [], ◌∷◌, ℕ, ◌<◌, ◌≤◌, ◌^◌, lit<, arith, length, id⊢, Fn, inst_fn, w64, vptr},
-      Kit.{◌⊑◌, tables, owns, ‵, raw, ◌⊛◌, ◌$◌, !, move, use1, drop, split, join, frame, fsplit, fjoin, fjoin3, feq_i},
-      Kit.{feq_l, flt_l, suffices, done, of_opd, lit, bin, addr, load, stop, fld, no_more, whole, sub, look_in, only},
-      Kit.{and_then, returns, alloc_all, pass_all, free_all, look_at, get, through, sets, lands_as, usize, uint_vals},
+      Kit.{◌≡◌, refl, sym, ap, subst, ◌∙◌, [], ◌∷◌, ℕ, ◌<◌, ◌^◌, lit<, arith, length, id⊢, Fn, inst_fn, w64, tables},
+      Kit.{owns, ‵, raw, ◌⊛◌, ◌$◌, !, move, use1, drop, split, join, frame, fsplit, fjoin, fjoin3, feq_i, feq_l, flt_l},
+      Kit.{suffices, done, of_opd, lit, bin, addr, load, stop, fld, no_more, whole, sub, look_in, only, and_then},
+      Kit.{returns, alloc_all, pass_all, free_all, look_at, get, through, sets, lands_as, usize, uint_vals, mut_vals},
       Kit.{says_two, nothing, heard, El, R, args, both_by, pure_i},
-      Regions.{Sr, Seen, slots_open, slots_close, HoldsRun, IsFilledRun},
+      Regions.{Sr, Seen, slots_open, slots_close, IsFilledRun},
       Methods.{method, spent, values},
-      Called.{Called, calls_met, facts, hears, knows},
+      Called.{Called, calls_met, first_fact, knows},
     },
     loans.Made.loan_lawful,
     slots.Slots.lend_two.Met.met,
@@ -31,18 +31,17 @@ lend_round_spec 𝓤 𝓛 𝓜 𝓡 wired X L =
     let 𝓣 = tables 𝓤 𝓛.H 𝓜 𝓡 𝓡.env in
     method 1 2 (Sr E) 𝓛 (spent 1 𝓛 _) 𝓜 𝓡 _ _ (f.clauses X 𝓛 𝓜.mem 𝓡.returns) (f.Key.name (args E)) here
     (code.unfolded 𝓤 𝓛.H 𝓜 𝓡 wired (X, tt)) (λ κs qs bounds a _ typed post ends.
-    let κ₁ = κs.1.0 in let rb : ℕ = a.0.ref_ptr.0 in let ro : ℕ = a.0.ref_ptr.1 in let r : Seen E = a.0.now in
+    let κ₁ = κs.1.0 in let r : Seen E = a.0.now in
     let start : ℕ = a.1.0 in let len : ℕ = a.1.1.0 in let cut : ℕ = min len (length r.places - start) in
     let fs : start < 2 ^ 64 = typed.0.1.fits in let fl : len < 2 ^ 64 = typed.1.0.1.fits in
     let One : ℕ → Type 0 = λ first. IsFilledRun r.places start first in
     let Two : ℕ → Type 0 = λ first. IsFilledRun r.places 0 (len - first) in
-    hears ! ((κ₁ ⊑ X.lives) ∷ (start ≤ length r.places) ∷ (len ≤ length r.places) ∷ One cut ∷ Two cut ∷ [])
-    (λ lives inside within one two.
+    first_fact ! (λ lives. first_fact ! (λ inside. first_fact ! (λ within. first_fact ! (λ one. heard ! _ (λ two.
     alloc_all ! (λ l. pass_all ! refl ((tt, tt), typed) $
-    slots_open E ! tt r rb ro (λ heap b o n ok.
+    slots_open E ! tt r (λ heap b o n ok.
     sets ! (of_opd ! (load ! (through ! refl (fld ! refl (stop !))) (look_in ! 2 (sub ! 1 refl (whole !))))) refl
     (tt, record { fits = ok.word }) $
-    slots_close E ! tt heap r r b o n rb ro ok refl $
+    slots_close E ! tt r ok refl $
     -- [obs; the borrow; its token; the others]
     let room : ℕ = n - start in let room_fits : room < 2 ^ 64 = omega arith in
     sets ! (bin ! (get ! refl) (get ! refl) (omega arith)) refl
@@ -55,33 +54,30 @@ lend_round_spec 𝓤 𝓛 𝓜 𝓡 wired X L =
     (e_met 𝓤 𝓛 𝓜 𝓡 (code.calls-core::int::usize::min 𝓡.env wired)) zₑ (id⊢ 𝓤 _)
     (and_then ! (get ! refl) (and_then ! (get ! refl) (no_more !))) (uint_Lawful 𝓛 w64) (λ u first ws _. fsplit ! $
     feq_l ! (λ is_first. flt_l ! (λ ff. lands_as ! (ap only is_first) refl (tt, record { fits = ff }) $ drop ! $
-    heard ! (first ≡ min len room) (λ cuts.
+    heard ! _ (λ cuts.
     let same : cut ≡ first = sym (cuts ∙ ap (λ k. min len (k - start)) ok.capacity) in let rest : ℕ = len - first in
     let fr : rest < 2 ^ 64 = omega arith in
     sets ! (addr ! (through ! refl (stop !))) refl (tt, tt) $
     sets ! (bin ! (get ! refl) (get ! refl) (omega arith)) refl (tt, record { fits = fr }) $
-    feq_i ! _ (vptr rb ro ∷ []) _ refl $ fjoin3 ! $
+    feq_i ! _ (mut_vals a.0) _ refl $ fjoin3 ! $
     let words : ℕ × (ℕ × (ℕ × (ℕ × Unit {0}))) = (start, (first, (0, (rest, tt)))) in
     let vals = values 1 κs 4 (a.0, words) in
     pure_i ! (owns (usize ∷ usize ∷ usize ∷ usize ∷ []) words vals.1) _
     ((refl, fs), ((refl, ff), ((refl, lit< tt), ((refl, fr), tt)))) $
     -- [the words; the borrow; its token; the others]
     move ! (1 ∷ 0 ∷ []) $ fjoin ! $ move ! (1 ∷ 2 ∷ []) $ join ! $ join ! $
-    let Apart = AreApart start first 0 rest in
-    let apart : Apart = λ k from to from' to'. omega arith in
-    knows ! Apart apart $ knows ! (Two first) (subst Two same two) $ join ! $
-    knows ! (One first) (subst One same one) $ join ! $ knows ! (κ₁ ⊑ X.lives) lives $ join ! $
+    let apart : AreApart start first 0 rest = λ k from to from' to'. omega arith in
+    knows ! apart $ knows ! (subst Two same two) $ join ! $
+    knows ! (subst One same one) $ join ! $ knows ! lives $ join ! $
     calls_met 𝓛 ! 𝓜 𝓣 (g.ended X) (g.clauses X 𝓛 𝓜.mem 𝓡.returns)
     (met 𝓤 𝓛 𝓜 𝓡 (code.calls-arraydeque_ring::slots::Slots::lend_two 𝓡.env wired) X L)
     ((κs, qs, bounds, (a.0, words), vals), tt) (id⊢ 𝓤 _)
     (and_then ! (get ! refl) (and_then ! (get ! refl)
     (and_then ! (get ! refl) (and_then ! (lit ! tt) (and_then ! (get ! refl) (no_more !)))))) (loan_lawful E)
     (λ v it ws it_typed. lands_as ! refl refl it_typed.0 $
-    let First : ℕ → Type 0 = λ k. HoldsRun r.places start k it.first.now in
-    let Second : ℕ → Type 0 = λ k. HoldsRun r.places 0 (len - k) it.second.now in
-    move ! (2 ∷ []) $ use1 𝓛 (‵ (lends_loan (R E) a.0 start 0 it) ⊛ raw (facts 𝓤 (First first ∷ Second first ∷ [])))
-    (id⊢ 𝓤 _) $ split ! $ move ! (1 ∷ []) $ hears ! (First first ∷ Second first ∷ []) (λ held held'.
+    move ! (2 ∷ []) $ use1 𝓛 (‵ (lends_loan (R E) a.0 start 0 it) ⊛ raw _) (id⊢ 𝓤 _) $ split ! $ move ! (1 ∷ []) $
+    first_fact ! (λ held. heard ! _ (λ held'.
     -- [what the region follows; the loan; the tokens]
     returns ! (look_at ! 0 refl) $ free_all ! refl $
     suffices ! _ (ends v it tt) $ nothing ! $ frame ! $ move ! (1 ∷ 2 ∷ []) $ frame ! $ frame ! $
-    says_two ! (subst First (sym same) held, subst Second (sym same) held') $ done !))))))))))
+    says_two ! (rw same held, rw same held') $ done !)))))))))))))))

@@ -3,15 +3,15 @@ use Rattle.arraydeque_ring.{
   proofs.{
     memory.{
       Kit.{nothing, join, ◌≡◌, refl, sym, ap, ◌∙◌, List, [], ◌∷◌, map, ℕ, ◌+◌, ◌*◌, ◌≤◌, arith, length, length-map},
-      Kit.{Some, Ura, ent, sep, GName, Fml, fsep, flft, Fn, inst_fn, named, ◌⊑◌, tables, Logic, sem, ‵, ◌⊛◌, some},
-      Kit.{later, at_ret, ◌$◌, ◌∵◌, !, qed, by, move, use1, use2, split, pick, frame, rewrite, await, fsplit, fjoin},
-      Kit.{suffices, done, whole, sub, look_in, agg, of_opd, bin, load, stop, fld, no_more, and_then, first, blocks},
-      Kit.{exec, returns, alloc_all, pass_all, free_all, look_at, get, through, sets, sets_last, env, mem, says, after},
-      Kit.{El, R, args, el_x, split3, group, cells, Array, follows, MutBor, MutSlice, slice_val, Global},
+      Kit.{Some, Ura, ent, sep, GName, Fml, fsep, flft, Fn, inst_fn, named, Logic, sem, ‵, ◌⊛◌, some, later, ◌$◌, ◌∵◌},
+      Kit.{!, qed, by, move, use1, use2, split, pick, frame, rewrite, await, fsplit, fjoin, suffices, done, whole, sub},
+      Kit.{look_in, agg, of_opd, bin, load, stop, fld, no_more, and_then, first, blocks, returns, alloc_all, pass_all},
+      Kit.{free_all, look_at, get, through, sets, sets_last, mem, says, heard, El, R, args, el_x, split3, group, cells},
+      Kit.{Array, follows, MutBor, MutSlice, slice_val, Global},
       Regions.{Sr, Seen, Fits, near, run_fits, Frame, slots_whole, slots_open, scaled, item_size, Place, places_owned},
-      Regions.{IsFilledRun, Around, run_out, run_in},
+      Regions.{Around, run_out, run_in},
+      Called.{after_block, first_fact},
       Methods.{method, spent},
-      Called.{hears},
     },
     loans.{Placed.{placed, run, as_many-same, length-placed}, Runs.same_cells},
     places.Held.length_filled,
@@ -53,18 +53,17 @@ module _ (E : El) {M : Type 1} {𝓤 : Ura M} (𝓛 : Logic 𝓤) (rb ro : ℕ) 
 pub lend_run_spec : {M : Type 1} → stated.statement M
 lend_run_spec 𝓤 𝓛 𝓜 𝓡 wired X L =
     let E : El = record { row = X; laws = L } in let here : Fn = inst_fn (args E) code.function in
-    let 𝓣 = tables 𝓤 𝓛.H 𝓜 𝓡 𝓡.env in
     method 1 2 (Sr E) 𝓛 (spent 1 𝓛 _) 𝓜 𝓡 _ _ (f.clauses X 𝓛 𝓜.mem 𝓡.returns) (f.Key.name (args E)) here
     (code.unfolded 𝓤 𝓛.H 𝓜 𝓡 wired (X, tt)) (λ κs qs bounds a _ typed post ends.
     let κ = κs.0 in let q = qs.0 in let rb : ℕ = a.0.ref_ptr.0 in let ro : ℕ = a.0.ref_ptr.1 in
     let γ = a.0.ghost_name in let r : Seen E = a.0.now in let from : ℕ = a.1.0 in let len : ℕ = a.1.1.0 in
-    let s : ℕ = item_size E in let coded = (Sr E).coded.code r in let len_ok = typed.1.0.1 in
-    hears ! ((κs.1.0 ⊑ X.lives) ∷ IsFilledRun r.places from len ∷ []) (λ _ asked.
+    let s : ℕ = item_size E in let len_ok = typed.1.0.1 in
+    first_fact ! (λ _. heard ! _ (λ asked.
     let xs : List (el_x E) = asked.1.0 in let held = asked.1.1 in
     let long = length_filled r.places from len asked in
     let within : from + length xs ≤ length r.places = omega arith in
     alloc_all ! (λ l. pass_all ! refl ((tt, tt), typed) $
-    slots_open E ! tt r rb ro (λ g b o n ok.
+    slots_open E ! tt r (λ g b o n ok.
     let far = near E ok from (omega arith) in
     first ! $ blocks ! $
     sets ! (of_opd ! (load ! (through ! refl (fld ! refl (stop !))) (look_in ! 2 (sub ! 0 refl (whole !)))))
@@ -82,7 +81,7 @@ lend_run_spec 𝓤 𝓛 𝓜 𝓡 wired X L =
     rewrite ! 0 (λ (F : Fml). ‵ F) (same_cells E 𝓛 b xs at) refl $
     sets_last ! (agg ! (and_then ! (get ! refl) (and_then ! (get ! refl) (no_more !)))) refl
     (tt, (tt, (len_ok, tt))) $
-    exec ! 𝓣.C 𝓣.Λ (env here.locals l) (after 1 here.body) (at_ret _ post) $
+    after_block ! 𝓡 here l 1 post $
     sets ! (of_opd ! (get ! refl)) refl (tt, (tt, (len_ok, tt))) $
     -- [the values; the others; the right; the words; the open borrow, in three; the other token]
     move ! (2 ∷ 3 ∷ []) $ fjoin ! $ move ! (2 ∷ 0 ∷ []) $ fjoin ! $ move ! (2 ∷ 3 ∷ 4 ∷ 1 ∷ 0 ∷ []) $ group ! 5 $
@@ -90,8 +89,8 @@ lend_run_spec 𝓤 𝓛 𝓜 𝓡 wired X L =
     let Slice : GName → ℕ → Fml = λ δ k. (MutSlice (named 0) κ (R E)).own_val (lent δ) (slice_val (b, at) k ∷ []) in
     use1 𝓛 (later (some (λ (δ : GName). ‵ (Slice δ (length xs)) ⊛ ‵ (flft κ q)
     ⊛ ‵ (follows (Sr E) (Array (R E) 0) γ δ new))))
-    (lends_Elements 𝓛 (Sr E) (R E) new (named 0) κ q rb ro b at γ xs room Rest₀ way coded coded) $ await ! tt $
+    (lends_Elements 𝓛 (Sr E) (R E) new (named 0) κ q rb ro b at γ xs room Rest₀ way _ _) $ await ! tt $
     pick ! (λ δ. split3 ! $ rewrite ! 0 (λ (k : ℕ). ‵ (Slice δ k)) long refl $
     returns ! (look_at ! 0 refl) $ free_all ! refl $
     suffices ! _ (ends (slice_val (b, at) len) (lent δ) tt) $ nothing ! $ frame ! $ frame ! $ move ! (0 ∷ 2 ∷ []) $
-    join ! $ frame ! $ says ! held $ done !)))))
+    join ! $ frame ! $ says ! held $ done !))))))

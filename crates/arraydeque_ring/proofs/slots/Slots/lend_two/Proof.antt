@@ -3,16 +3,16 @@ use Rattle.arraydeque_ring.{
   proofs.{
     memory.{
       Kit.{ap, nothing, ◌≡◌, refl, sym, ◌∙◌, List, [], ◌∷◌, map, ℕ, ◌+◌, ◌*◌, ◌≤◌, arith, length, length-map, Some},
-      Kit.{Ura, SProp, ent, sep, GName, flft, fobs, fbor, Fn, inst_fn, named, ◌⊑◌, tables, Logic, sem, Borrowed, ‵},
-      Kit.{raw, ◌⊛◌, some, later, at_ret, ◌$◌, ◌∵◌, !, qed, by, move, use1, use2, split, join, pick, frame, rewrite},
-      Kit.{await, fsplit, fjoin, feq_i, feq_l, suffices, done, whole, sub, look_in, agg, of_opd, bin, load, stop, fld},
-      Kit.{no_more, and_then, first, blocks, exec, returns, alloc_all, pass_all, free_all, look_at, get, through, sets},
-      Kit.{sets_last, env, mem, says_two, after, El, R, args, el_x, after₂, split3, group, common_steps, SemTy, all},
-      Kit.{all_e, apply∗, follows, both_by, MutBor, NamedLft, named_lft, MutSlice, slice_val, Global, Fml, fsep},
+      Kit.{Ura, SProp, ent, sep, GName, flft, fobs, fbor, Fn, inst_fn, named, Logic, sem, Borrowed, ‵, raw, ◌⊛◌, some},
+      Kit.{later, ◌$◌, ◌∵◌, !, qed, by, move, use1, use2, split, join, pick, frame, rewrite, await, fsplit, fjoin},
+      Kit.{feq_i, feq_l, suffices, done, whole, sub, look_in, agg, of_opd, bin, load, stop, fld, no_more, and_then},
+      Kit.{first, blocks, returns, alloc_all, pass_all, free_all, look_at, get, through, sets, sets_last, mem},
+      Kit.{says_two, El, R, args, el_x, after₂, split3, group, common_steps, SemTy, all, heard, all_e, apply∗, follows},
+      Kit.{both_by, MutBor, NamedLft, named_lft, MutSlice, slice_val, Global, Fml, fsep},
       Regions.{Sr, Seen, Fits, near, run_fits, Frame, slots_whole, slots_open, scaled, item_size, Place, places_owned},
-      Regions.{IsFilledRun, HoldsRun},
+      Regions.{HoldsRun},
+      Called.{after_block, first_fact},
       Methods.{method, spent},
-      Called.{hears},
     },
     loans.{
       Made.{loan_val, loan_made},
@@ -78,15 +78,13 @@ pub lend_two_spec : {M : Type 1} → stated.statement M
 unfolding both_by
 lend_two_spec 𝓤 𝓛 𝓜 𝓡 wired X L =
     let E : El = record { row = X; laws = L } in let here : Fn = inst_fn (args E) code.function in
-    let 𝓣 = tables 𝓤 𝓛.H 𝓜 𝓡 𝓡.env in
     method 1 4 (Sr E) 𝓛 (spent 1 𝓛 _) 𝓜 𝓡 _ _ (f.clauses X 𝓛 𝓜.mem 𝓡.returns) (f.Key.name (args E)) here
     (code.unfolded 𝓤 𝓛.H 𝓜 𝓡 wired (X, tt)) (λ κs qs bounds arg _ typed post ends.
     let κ = κs.0 in let q = qs.0 in let rb : ℕ = arg.0.ref_ptr.0 in let ro : ℕ = arg.0.ref_ptr.1 in
-    let γ = arg.0.ghost_name in let r : Seen E = arg.0.now in let coded = (Sr E).coded.code r in
+    let γ = arg.0.ghost_name in let r : Seen E = arg.0.now in
     let a : ℕ = arg.1.0 in let la : ℕ = arg.1.1.0 in let b : ℕ = arg.1.1.1.0 in let lb : ℕ = arg.1.1.1.1.0 in
     let la_ok = typed.1.0.1 in let lb_ok = typed.1.1.1.0.1 in let s : ℕ = item_size E in
-    hears ! ((κs.1.0 ⊑ X.lives) ∷ IsFilledRun r.places a la ∷ IsFilledRun r.places b lb ∷ AreApart a la b lb ∷ [])
-    (λ _ one two apart.
+    first_fact ! (λ _. first_fact ! (λ one. first_fact ! (λ two. heard ! _ (λ apart.
     let xs : List (el_x E) = one.1.0 in let ys : List (el_x E) = two.1.0 in
     let long = length_filled r.places a la one in let long' = length_filled r.places b lb two in
     let held : HoldsRun r.places a (length xs) xs = rw long one.1.1 in
@@ -95,7 +93,7 @@ lend_two_spec 𝓤 𝓛 𝓜 𝓡 wired X L =
     let in_b : b + length ys ≤ length r.places = omega arith in
     let clear : AreApart a (length xs) b (length ys) = rw (long, long') apart in
     alloc_all ! (λ l. pass_all ! refl ((tt, tt), typed) $
-    slots_open E ! tt r rb ro (λ g p o n ok.
+    slots_open E ! tt r (λ g p o n ok.
     let far = near E ok a (omega arith) in let far' = near E ok b (omega arith) in
     first ! $ blocks ! $
     sets ! (of_opd ! (load ! (through ! refl (fld ! refl (stop !))) (look_in ! 2 (sub ! 0 refl (whole !)))))
@@ -114,7 +112,7 @@ lend_two_spec 𝓤 𝓛 𝓜 𝓡 wired X L =
     sets ! (agg ! (and_then ! (get ! refl) (no_more !))) refl (tt, (tt, tt)) $
     sets_last ! (agg ! (and_then ! (get ! refl) (and_then ! (get ! refl) (and_then ! (get ! refl) (no_more !))))) refl
     (tt, ((tt, (la_ok, tt)), ((tt, (lb_ok, tt)), ((tt, tt), tt)))) $
-    exec ! 𝓣.C 𝓣.Λ (env here.locals l) (after 1 here.body) (at_ret _ post) $ sets ! (of_opd ! (get ! refl)) refl
+    after_block ! 𝓡 here l 1 post $ sets ! (of_opd ! (get ! refl)) refl
     (tt, ((tt, (la_ok, tt)), ((tt, (lb_ok, tt)), ((tt, tt), tt)))) $
     let pa = a * s + o in let pb = b * s + o in let Rest₀ = Rest E 𝓛 arg.0 a b xs ys g p o n in
     let way = back E 𝓛 arg.0 a b xs ys g p o n ok in_a in_b in let Ways = all 𝓤 (Way E 𝓛 arg.0 a b xs ys g p o n) in
@@ -137,7 +135,7 @@ lend_two_spec 𝓤 𝓛 𝓜 𝓡 wired X L =
     ⊛ ‵ (flft κ q) ⊛ ‵ (after₂ Both (Lin E (length xs)) (Lin E (length ys)) νs.0 νs.1.0 νs.1.1 (λ us vs. (us, vs)))
     ⊛ ‵ (follows (Sr E) (two_lists (R E)) γ νs.0 new))))
     (takes_named 𝓛 (mem (Sr E)) (Lin E (length xs)) (Lin E (length ys)) Both.coded new κ q rb ro p pa p pb γ Rest₀ way
-    coded coded xs ys) $ await ! tt $
+    _ _ xs ys) $ await ! tt $
     pick ! (λ νs. split3 ! $
     let first_slice : MutBor (List (el_x E)) = record { ref_ptr = (p, pa); ghost_name = νs.1.0; now = xs } in
     let second_slice : MutBor (List (el_x E)) = record { ref_ptr = (p, pb); ghost_name = νs.1.1; now = ys } in
@@ -158,4 +156,4 @@ lend_two_spec 𝓤 𝓛 𝓜 𝓡 wired X L =
     returns ! (look_at ! 0 refl) $ free_all ! refl $
     -- [the token; what the loan's name follows; what the region follows; the loan; the other token]
     suffices ! _ (ends v seen tt) $ nothing ! $ frame ! $ move ! (3 ∷ 0 ∷ 4 ∷ 2 ∷ []) $ frame ! $ join ! $
-    frame ! $ fjoin ! $ says_two ! (one.1.1, two.1.1) $ done !)))))
+    frame ! $ fjoin ! $ says_two ! (one.1.1, two.1.1) $ done !))))))))

@@ -3,14 +3,15 @@ use Rattle.arraydeque_ring.{
   proofs.{
     memory.{
       Kit.{frame, ◌≡◌, refl, sym, ap, List, [], ◌∷◌, ℕ, ◌+◌, ◌*◌, arith, length, full_share, fat, froom, Fn, inst_fn},
-      Kit.{ty_array, vunit, vptr, tables, ‵, ◌⊛◌, some, at_ret, ◌$◌, !, move, keep, use1, use2, split, join, pick},
-      Kit.{rewrite, fjoin3, feq_i, suffices, done, whole, sub, look_in, of_opd, unit_lit, bin, load, look, init, stop},
-      Kit.{fld, assigns_last, first, blocks, exec, returns, alloc_all, pass_all, free_all, look_at, get, through, sets},
-      Kit.{is, env, heard, after, says, part_at, El, R, el_x, elτ, common_steps, Args, a_type, a_number, part_in},
-      Kit.{part_out, Array, layouts, number},
+      Kit.{ty_array, vunit, vptr, ‵, ◌⊛◌, some, ◌$◌, !, move, keep, use1, use2, split, join, pick, rewrite, fjoin3},
+      Kit.{feq_i, suffices, done, whole, sub, look_in, of_opd, unit_lit, bin, load, look, init, stop, fld},
+      Kit.{assigns_last, first, blocks, returns, alloc_all, pass_all, free_all, look_at, get, through, sets, is, heard},
+      Kit.{says, part_at, El, R, el_x, elτ, common_steps, Args, a_type, a_number, part_in, mut_vals, part_out, Array},
+      Kit.{layouts, number},
       Regions.{Sr, Seen, near, slots_open, slots_close, scaled, item_size, Place, Row, array_out, array_in, room_out},
       Regions.{room_in},
-      Methods.{first_fact, method, comes_back},
+      Called.{after_block, first_fact},
+      Methods.{method, comes_back},
     },
     moved.Flat.{length-moved, moved_parts},
   },
@@ -27,10 +28,9 @@ move_block_spec 𝓤 𝓛 𝓜 𝓡 wired X N L N_fits =
     let E : El = record { row = X; laws = L } in
     let types : Args = layouts (a_type ∷ a_number ∷ []) (X, (number N, tt)) in
     let here : Fn = inst_fn types code.function in
-    let 𝓣 = tables 𝓤 𝓛.H 𝓜 𝓡 𝓡.env in
     method 2 3 (Sr E) 𝓛 (comes_back 2 𝓛 _) 𝓜 𝓡 _ _ (f.clauses X (number N) 𝓛 𝓜.mem 𝓡.returns) (f.Key.name types) here
     (code.unfolded 𝓤 𝓛.H 𝓜 𝓡 wired (X, (number N, tt))) (λ κs qs bounds a _ fit post ends.
-    let rb : ℕ = a.0.ref_ptr.0 in let ro : ℕ = a.0.ref_ptr.1 in let r : Seen E = a.0.now in
+    let r : Seen E = a.0.now in
     let ps : List (Place E) = r.places in
     let to : ℕ = a.1.0 in let from : ℕ = a.1.1.0 in let at : ℕ = a.1.1.1.0 in let dst : ℕ = to + at in
     let src : ℕ = from + at in let s : ℕ = item_size E in
@@ -41,7 +41,7 @@ move_block_spec 𝓤 𝓛 𝓜 𝓡 wired X N L N_fits =
     let new : Seen E = record { places = run_moved dst src N ps; steps = r.steps } in
     let same_new : length ps ≡ length new.places = sym (length-moved dst src N ps) in
     alloc_all ! (λ l. pass_all ! refl ((tt, tt), fit) $
-    slots_open E ! tt r rb ro (λ g b o n ok.
+    slots_open E ! tt r (λ g b o n ok.
     let to_near = near E ok to (omega arith) in let from_near = near E ok from (omega arith) in
     let at_near = near E ok at (omega arith) in
     let on : (i : ℕ) → vptr b (at * s + (i * s + o)) ≡ vptr b ((i + at) * s + o) =
@@ -71,15 +71,15 @@ move_block_spec 𝓤 𝓛 𝓜 𝓡 wired X N L N_fits =
     use1 𝓛 (‵ (froom (ty_array (elτ E) N) b (src * s + o))) (𝓛.laws.at_room (ty_array (elτ E) N) b (src * s + o) v) $
     move ! (0 ∷ 2 ∷ []) $ room_in E ! b o ps src N within $ room_out E ! b o es dst N (omega arith) $
     assigns_last ! (of_opd ! (get ! refl)) (through ! refl (stop !)) (init ! 0 refl v_fits) $
-    exec ! 𝓣.C 𝓣.Λ (env here.locals l) (after 1 here.body) (at_ret _ post) $
+    after_block ! 𝓡 here l 1 post $
     sets ! (of_opd ! (unit_lit !)) refl (tt, tt) $
     -- [the array; the other places; what the array owns; ..]
     move ! (0 ∷ 2 ∷ []) $ use2 𝓛 (‵ (part_at (Array (R E) N) full_share xs b (dst * s + o)))
     (part_in 𝓛 (Array (R E) N) refl full_share xs b (dst * s + o) v) $
     array_in E ! b o es dst N (omega arith) xs filled.1.1 $
     rewrite ! 0 (λ l. ‵ (Row E 𝓛 b o l)) (moved_parts ps dst src N within target) refl $
-    slots_close E ! tt g r new b o n rb ro ok same_new $
+    slots_close E ! tt new ok same_new $
     returns ! (look_at ! 0 refl) $ free_all ! refl $
-    suffices ! _ (ends vunit tt new) $ feq_i ! _ (vptr rb ro ∷ []) _ refl $ fjoin3 ! $
+    suffices ! _ (ends vunit tt new) $ feq_i ! _ (mut_vals a.0) _ refl $ fjoin3 ! $
     frame ! $ feq_i ! _ (vunit ∷ []) _ refl $ frame ! $ join ! $ says ! refl $
     keep ! (0 ∷ []) $ done !)))))))))

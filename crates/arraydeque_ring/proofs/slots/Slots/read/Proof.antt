@@ -2,12 +2,12 @@
 use Rattle.arraydeque_ring.proofs.{
   memory.{
     Kit.{part_out, frame, refl, sym, [], ◌∷◌, ℕ, ◌+◌, ◌*◌, ◌<◌, arith, length, set, length-set, None, full_share, fat},
-    Kit.{froom, Fn, inst_fn, vptr, tables, ‵, ◌⊛◌, some, at_ret, ◌$◌, move, !, keep, use1, split, join, pick, fjoin3},
-    Kit.{feq_i, suffices, done, whole, sub, look_in, of_opd, bin, load, look, stop, fld, first, blocks, exec, returns},
-    Kit.{alloc_all, pass_all, free_all, look_at, get, through, sets, sets_last, env, heard, as_raw, after, says_two},
-    Kit.{El, R, args, el_x, elτ},
+    Kit.{froom, Fn, inst_fn, ‵, ◌⊛◌, some, ◌$◌, move, !, keep, use1, split, join, pick, fjoin3, feq_i, suffices, done},
+    Kit.{whole, sub, look_in, of_opd, bin, load, look, stop, fld, first, blocks, returns, alloc_all, pass_all},
+    Kit.{free_all, look_at, get, through, sets, sets_last, heard, as_raw, says_two, mut_vals, El, R, args, el_x, elτ},
     Regions.{scaled, Sr, Seen, near, slots_open, slots_close, item_size, place_out, place_in},
-    Methods.{first_fact, method, comes_back},
+    Called.{after_block, first_fact},
+    Methods.{method, comes_back},
   },
   places.Held.filled_within,
 }
@@ -19,15 +19,14 @@ use Rattle.arraydeque_ring.proofs.slots.Slots.read.Code as code
 pub read_spec : {M : Type 1} → stated.statement M
 read_spec 𝓤 𝓛 𝓜 𝓡 wired X L =
     let E : El = record { row = X; laws = L } in let here : Fn = inst_fn (args E) code.function in
-    let 𝓣 = tables 𝓤 𝓛.H 𝓜 𝓡 𝓡.env in
     method 1 1 (Sr E) 𝓛 (comes_back 1 𝓛 _) 𝓜 𝓡 _ _ (f.clauses X 𝓛 𝓜.mem 𝓡.returns) (f.Key.name (args E)) here
     (code.unfolded 𝓤 𝓛.H 𝓜 𝓡 wired (X, tt)) (λ κs qs bounds a _ fit post ends.
-    let rb : ℕ = a.0.ref_ptr.0 in let ro : ℕ = a.0.ref_ptr.1 in let r : Seen E = a.0.now in let i : ℕ = a.1.0 in
+    let r : Seen E = a.0.now in let i : ℕ = a.1.0 in
     let s : ℕ = item_size E in
     first_fact ! (λ _. heard ! _ (λ asked.
     let x : el_x E = asked.0 in let within : i < length r.places = filled_within r.places i x asked.1 in
     alloc_all ! (λ l. pass_all ! refl ((tt, tt), fit) $
-    slots_open E ! tt r rb ro (λ g b o n ok.
+    slots_open E ! tt r (λ g b o n ok.
     let far = near E ok i (omega arith) in
     let new : Seen E = record r { places = set r.places i None } in
     place_out E ! b o r.places i within asked.1 $
@@ -40,12 +39,12 @@ read_spec 𝓤 𝓛 𝓜 𝓡 wired X L =
     sets ! (scaled ! (get ! refl) far) refl (tt, record { fits = far }) $
     sets ! (bin ! (get ! refl) (get ! refl) tt) refl (tt, tt) $
     sets_last ! (of_opd ! (load ! (through ! refl (stop !)) (look ! 0 refl))) refl v_fits $
-    exec ! 𝓣.C 𝓣.Λ (env here.locals l) (after 1 here.body) (at_ret _ post) $
+    after_block ! 𝓡 here l 1 post $
     sets ! (of_opd ! (get ! refl)) refl v_fits $
     use1 𝓛 (‵ (froom (elτ E) b (i * s + o))) (𝓛.laws.at_room (elτ E) b (i * s + o) v) $ as_raw ! (elτ E) b (i * s + o) $
     move ! (0 ∷ 2 ∷ 3 ∷ 4 ∷ 5 ∷ 6 ∷ 7 ∷ []) $
     place_in E ! b o r.places i within None $
-    slots_close E ! tt g r new b o n rb ro ok (sym (length-set r.places i None)) $ returns ! (look_at ! 0 refl) $
+    slots_close E ! tt new ok (sym (length-set r.places i None)) $ returns ! (look_at ! 0 refl) $
     free_all ! refl $
-    suffices ! _ (ends v x new) $ feq_i ! _ (vptr rb ro ∷ []) _ refl $ fjoin3 ! $ frame ! $
+    suffices ! _ (ends v x new) $ feq_i ! _ (mut_vals a.0) _ refl $ fjoin3 ! $ frame ! $
     move ! (1 ∷ []) $ frame ! $ join ! $ keep ! (0 ∷ []) $ says_two ! (asked.1, refl) $ done !)))))))

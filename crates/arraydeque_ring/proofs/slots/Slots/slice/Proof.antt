@@ -2,14 +2,14 @@
 use Rattle.arraydeque_ring.proofs.{
   memory.{
     Kit.{refl, sym, ap, List, [], ◌∷◌, ℕ, ◌+◌, ◌*◌, ◌<◌, ◌^◌, arith, length, ftrue, flft, Fn, inst_fn, named, w64, Val},
-    Kit.{vptr, tables, owns, types_at, ‵, raw, ◌⊛◌, at_ret, ◌$◌, ◌∵◌, !, qed, move, keep, use1, drop, split, join},
-    Kit.{fsplit, fjoin, feq_i, flt_i, suffices, done, agg, enter, of_opd, bin, load, look, stop, fld, no_more},
-    Kit.{and_then, first, blocks, exec, returns, alloc_all, pass_all, free_all, look_at, get, through, sets, sets_last},
-    Kit.{env, yes, plain, usize, RefOf, uint_vals, uint_Tells, shr_vals, shr_Tells, Stays, walk_of, says, stay_dropped},
-    Kit.{Goes-dropped, ends_at, nothing, heard, after, El, R, args, el_x, times_below, proved, slice_val},
-    Kit.{elements_shared, ◌∙◌, looks, shuts, RawPtr, Ptr, ptr_val, feq_l, rewrite, cell_at},
+    Kit.{vptr, owns, types_at, ‵, raw, ◌⊛◌, ◌$◌, ◌∵◌, !, qed, move, keep, use1, drop, split, join, fsplit, fjoin},
+    Kit.{feq_i, flt_i, suffices, done, agg, enter, of_opd, bin, load, look, stop, fld, no_more, and_then, first},
+    Kit.{blocks, returns, alloc_all, pass_all, free_all, look_at, get, through, sets, sets_last, yes, plain, usize},
+    Kit.{RefOf, uint_vals, uint_Tells, shr_vals, shr_Tells, Stays, walk_of, says, stay_dropped, Goes-dropped, ends_at},
+    Kit.{nothing, heard, El, R, args, el_x, times_below, proved, slice_val, elements_shared, ◌∙◌, looks, shuts, RawPtr},
+    Kit.{Ptr, ptr_val, feq_l, rewrite, cell_at},
     Lent.slots_seen,
-    Methods.first_fact,
+    Called.{after_block, first_fact},
     Regions.{Sr, Seen, scaled, item_size, run_seen},
   },
   places.Held.length_filled,
@@ -24,7 +24,7 @@ slice_spec 𝓤 𝓛 𝓜 𝓡 wired X L =
     let E : El = record { row = X; laws = L } in let here : Fn = inst_fn (args E) code.function in
     let ended = f.ended X in let stayed : Stays ended.signature.params ended.kept =
     (stay_dropped _ yes, (stay_dropped _ yes, (stay_dropped _ yes, tt))) in
-    let c = f.clauses X 𝓛 𝓜.mem 𝓡.returns in let W = walk_of 𝓛 ended stayed c in let 𝓣 = tables 𝓤 𝓛.H 𝓜 𝓡 𝓡.env in
+    let c = f.clauses X 𝓛 𝓜.mem 𝓡.returns in let W = walk_of 𝓛 ended stayed c in
     let word_goes = Goes-dropped 𝓛 2 (plain (λ _. usize)) yes (λ κs x w. refl) in
     proved 𝓛 ended stayed c 𝓜 𝓡 (
       Goes-dropped 𝓛 2 (RefOf (0 ∷ []) tt (plain (λ _. Sr E)) (λ _. tt)) yes (λ κs x w. refl),
@@ -66,7 +66,7 @@ slice_spec 𝓤 𝓛 𝓜 𝓡 wired X L =
     let run : ℕ × ℕ = (b, i * s + o) in
     sets_last ! (agg ! (and_then ! (get ! refl) (and_then ! (get ! refl) (no_more !)))) refl
     (tt, (tt, (record { fits = len_fits }, tt))) $
-    exec ! 𝓣.C 𝓣.Λ (env here.locals l) (after 1 here.body) (at_ret _ (W.post y)) $
+    after_block ! 𝓡 here l 1 (W.post y) $
     sets ! (of_opd ! (get ! refl)) refl (tt, (tt, (record { fits = len_fits }, tt))) $
     returns ! (look_at ! 0 refl) $ free_all ! refl $
     suffices ! _ (ends_at 𝓛 ended stayed c y (slice_val run len) (record { ref_ptr = run; now = xs }) _ _) $

@@ -2,17 +2,17 @@
 use Rattle.arraydeque_ring.{
   proofs.{
     memory.{
-      Kit.{refl, [], ◌∷◌, ℕ, id⊢, Fn, inst_fn, ◌⊑◌, fact, tables, ‵, raw, ◌⊛◌, ◌$◌, !, move, use1, use2, split, join},
-      Kit.{frame, fsplit, suffices, addr, stop, no_more, and_then, returns, alloc_all, pass_all, free_all, look_at},
-      Kit.{get, through, sets, lands_as, mem, nothing, heard, El, R, args, Array, both_by, by},
-      Regions.{Sr, Seen, IsFilledRun, HoldsRun},
+      Kit.{refl, [], ◌∷◌, ℕ, id⊢, Fn, inst_fn, tables, ‵, raw, ◌⊛◌, ◌$◌, !, move, use1, use2, split, join, frame},
+      Kit.{fsplit, suffices, addr, stop, no_more, and_then, returns, alloc_all, pass_all, free_all, look_at, get},
+      Kit.{through, sets, lands_as, mem, nothing, heard, El, R, args, Array, both_by, says_two, done},
+      Regions.{Sr},
       Methods.{passing_on, spent, values},
-      Called.{calls_met, facts, knows},
+      Called.{calls_met, first_fact, knows},
     },
     loans.{Made.loan_lawful, Names.followed_both, Slices.in_slices},
     slots.{Slots.lend_two.Met.met, loan.Loan.into_slices.Met.met as into_met},
   },
-  specs.{Lends.{two_lists, lends_loan, lends_two_runs, two_written}, Loans.{AreApart}},
+  specs.{Lends.{two_lists, lends_loan, lends_two_runs}},
 }
 use Rattle.arraydeque_ring.specs.contracts.slots.Slots.lend_two as g
 use Rattle.arraydeque_ring.specs.contracts.slots.Slots.two_slices_mut as f
@@ -26,11 +26,9 @@ two_slices_mut_spec 𝓤 𝓛 𝓜 𝓡 wired X L =
     let 𝓣 = tables 𝓤 𝓛.H 𝓜 𝓡 𝓡.env in
     passing_on 1 4 (Sr E) 𝓛 (spent 1 𝓛 _) 𝓜 𝓡 _ _ (f.clauses X 𝓛 𝓜.mem 𝓡.returns) (f.Key.name (args E)) here
     (code.unfolded 𝓤 𝓛.H 𝓜 𝓡 wired (X, tt)) (λ κs qs bounds arg _ fit post ends.
-    let κ₁ = κs.1.0 in let r : Seen E = arg.0.now in let a : ℕ = arg.1.0 in let la : ℕ = arg.1.1.0 in
-    let b : ℕ = arg.1.1.1.0 in let lb : ℕ = arg.1.1.1.1.0 in
-    let Asked = facts 𝓤 (IsFilledRun r.places a la ∷ IsFilledRun r.places b lb ∷ AreApart a la b lb ∷ []) in
-    move ! (1 ∷ []) $ use1 𝓛 (raw (fact 𝓤 (κ₁ ⊑ X.lives)) ⊛ raw Asked) (id⊢ 𝓤 _) $ split ! $
-    heard ! (κ₁ ⊑ X.lives) (λ lives. knows ! (κ₁ ⊑ X.lives) lives $ join ! $
+    let a : ℕ = arg.1.0 in let b : ℕ = arg.1.1.1.0 in
+    move ! (1 ∷ []) $ first_fact ! (λ lives. first_fact ! (λ one. first_fact ! (λ two. heard ! _ (λ apart.
+    knows ! apart $ knows ! two $ join ! $ knows ! one $ join ! $ knows ! lives $ join ! $
     alloc_all ! (λ l. pass_all ! refl ((tt, tt), fit) $
     sets ! (addr ! (through ! refl (stop !))) refl (tt, tt) $
     calls_met 𝓛 ! 𝓜 𝓣 (g.ended X) (g.clauses X 𝓛 𝓜.mem 𝓡.returns)
@@ -42,13 +40,12 @@ two_slices_mut_spec 𝓤 𝓛 𝓜 𝓡 wired X L =
     (into_met 𝓤 𝓛 𝓜 𝓡 (code.calls-arraydeque_ring::slots::loan::Loan::into_slices 𝓡.env wired) X L) qs bounds lives it v
     (and_then ! (get ! refl) (no_more !)) (λ u two_typed. lands_as ! refl refl two_typed.0 $
     -- [the pair; the tokens; what `lend_two` says]
-    let Said = facts 𝓤 (HoldsRun r.places a la it.first.now ∷ HoldsRun r.places b lb it.second.now ∷ []) in
-    move ! (2 ∷ []) $ use1 𝓛 (‵ (lends_loan (R E) arg.0 a b it) ⊛ raw Said) (id⊢ 𝓤 _) $ split ! $ fsplit ! $
-    let Rows = mem (Array (R E) 0) in let Put = two_written (R E) arg.0 a b it.first.now it.second.now in
-    use2 𝓛 (‵ (lends_two_runs (R E) arg.0 a b (it.first, it.second))) (followed_both 𝓛 (mem (Sr E))
-    (mem (two_lists (R E))) Rows Rows (λ w. Put w.0 w.1) (λ us vs. (us, vs)) arg.0.ghost_name it.name
-    it.first.ghost_name it.second.ghost_name) $
-    -- [what the region follows; what else is said; the pair; the tokens]
+    move ! (2 ∷ []) $ use1 𝓛 (‵ (lends_loan (R E) arg.0 a b it) ⊛ raw _) (id⊢ 𝓤 _) $ split ! $ move ! (1 ∷ []) $
+    first_fact ! (λ held. heard ! _ (λ held'. fsplit ! $
+    let Rows = mem (Array (R E) 0) in
+    use2 𝓛 (‵ (lends_two_runs (R E) arg.0 a b (it.first, it.second)))
+    (followed_both 𝓛 (mem (Sr E)) (mem (two_lists (R E))) Rows Rows _ _ _ _ _ _) $
+    -- [what the region follows; the pair; the tokens]
     returns ! (look_at ! 0 refl) $ free_all ! refl $
-    suffices ! _ (ends u (it.first, it.second) tt) $ nothing ! $ frame ! $ move ! (2 ∷ 3 ∷ []) $ frame ! $ frame ! $
-    join ! $ by ! (id⊢ 𝓤 _))))))
+    suffices ! _ (ends u (it.first, it.second) tt) $ nothing ! $ frame ! $ move ! (1 ∷ 2 ∷ []) $ frame ! $ frame ! $
+    says_two ! (held, held') $ done !))))))))))

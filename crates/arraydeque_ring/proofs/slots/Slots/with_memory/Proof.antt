@@ -1,17 +1,16 @@
 -- `with_memory` cuts a new block into empty places, and keeps the right to free it. Assumes `Logic`.
 use Rattle.arraydeque_ring.proofs.memory.{
   Kit.{true, false, ◌≡◌, refl, [], ◌∷◌, ℕ, ◌*◌, ◌<◌, ◌^◌, arith, lit<, Ok, Err, ftrue, flft, Fn, Body, inst_fn, named},
-  Kit.{w64, ty_array, Val, vstruct, vcons, vnil, Env, after_seq, at_return, tables, After, ‵, raw, ◌⊛◌, given, at_ret},
-  Kit.{any_q, ◌$◌, ◌∵◌, !, qed, move, keep, drop, use1, use2, split, join, learn, frame, fsplit, fjoin, suffices, done},
-  Kit.{whole, agg, live, vrt, in_variant, enter, of_opd, lit, align_word, stop, fld, no_more, and_then, first},
-  Kit.{switches_on, exec, returns, alloc_all, pass_all, free_all, look_at, get, get_in, get_tag, sets, sets_last},
-  Kit.{lands_as, env, yes, RattleType, owns, Is, layout, uint_vals, uint_Tells, shr_vals, shr_Tells, usize, RefOf},
-  Kit.{plain, types_at, heard, nothing, owned, calls_at, framed, Stays, walk_of, says, stay_dropped, Goes-dropped},
-  Kit.{ends_at, heap_val, heap_Tells, as_written, Good, first_Good, after, head, arm_body, El, args, elτ, proved},
-  Kit.{Struct, Global},
+  Kit.{w64, ty_array, Val, vstruct, vcons, vnil, Env, after_seq, at_return, tables, After, ‵, raw, ◌⊛◌, given, any_q},
+  Kit.{◌$◌, ◌∵◌, !, qed, move, keep, drop, use1, use2, split, join, learn, frame, fsplit, fjoin, suffices, done, whole},
+  Kit.{agg, live, vrt, in_variant, enter, of_opd, lit, align_word, stop, fld, no_more, and_then, first, switches_on},
+  Kit.{exec, returns, alloc_all, pass_all, free_all, look_at, get, get_in, get_tag, sets, sets_last, lands_as, env},
+  Kit.{yes, RattleType, owns, Is, layout, uint_vals, uint_Tells, shr_vals, shr_Tells, usize, RefOf, plain, types_at},
+  Kit.{heard, nothing, owned, calls_at, framed, Stays, walk_of, says, stay_dropped, Goes-dropped, ends_at, heap_val},
+  Kit.{heap_Tells, as_written, Good, first_Good, after, head, arm_body, El, args, elτ, proved, Struct, Global},
   Blocks.{scaled, right_at_start},
   Heap.{Allocates, to_allocate, allocate_goes, allocated},
-  Methods.first_fact,
+  Called.{after_block, first_fact},
   Regions.{Sr, Seen, places, right, heap_Good, slots_val, slots_Good, slots_made, Fits-empty, item_size, of_room},
   Regions.{empty_region},
 }
@@ -78,11 +77,11 @@ with_memory_spec 𝓤 𝓛 𝓜 𝓡 wired X L =
     sets ! (agg ! (and_then ! (get ! refl) (and_then ! (get ! refl) (and_then ! (get ! refl) (no_more !)))))
     refl typed $
     sets_last ! (agg ! (and_then ! (lit ! tt) (and_then ! (get ! refl) (no_more !)))) refl ok $
-    exec ! 𝓣.C 𝓣.Λ En (after 3 here.body) (at_ret _ (W.post y)) $ sets ! (of_opd ! (get ! refl)) refl ok $
+    after_block ! 𝓡 here l 3 (W.post y) $ sets ! (of_opd ! (get ! refl)) refl ok $
     as_written ! (ty_array (elτ E) n) b o $ use1 𝓛 (‵ (places E r b o)) (of_room E 𝓛 b n o) $ move ! (1 ∷ []) $
     use1 𝓛 (given (o ≡ 0) (‵ (right E g n b o))) (right_at_start E 𝓛 g n b o some) $ learn ! (λ start.
     move ! (1 ∷ 0 ∷ []) $
-    slots_made E ! g r b o n (Fits-empty E o n n_fits (omega arith)) $
+    slots_made E ! (Fits-empty E o n n_fits (omega arith)) $
     use1 𝓛 (‵ (Out.own_val (Ok r) (live 0 (vcons made vnil) ∷ []))) (ok_of 𝓛 (Sr E) refusals.the_row r made) $
     returns ! (look_at ! 0 refl) $ free_all ! refl $ keep ! (0 ∷ 1 ∷ 2 ∷ []) $
     suffices ! _ (ends_at 𝓛 ended stayed c y (live 0 (vcons made vnil)) (Ok r) _ _) $ says ! refl $
@@ -98,7 +97,7 @@ with_memory_spec 𝓤 𝓛 𝓜 𝓡 wired X L =
     refl (tt, tt) $
     sets_last ! (agg ! (and_then ! (lit ! tt) (and_then ! (get ! refl) (no_more !)))) refl
     (tt, (record { fits = lit< tt }, (tt, tt))) $
-    exec ! 𝓣.C 𝓣.Λ En (after 3 here.body) (at_ret _ (W.post y)) $
+    after_block ! 𝓡 here l 3 (W.post y) $
     sets ! (of_opd ! (get ! refl)) refl (tt, (record { fits = lit< tt }, (tt, tt))) $
     owned ! Refusal (Is Refusal) (Struct-Makes 𝓛 (Declared.shape refusals.the_type) tt) tt (vstruct vnil ∷ [])
     (tt, (refl, tt)) $

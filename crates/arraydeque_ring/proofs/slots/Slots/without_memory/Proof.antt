@@ -6,7 +6,7 @@ use Rattle.arraydeque_ring.proofs.memory.{
   Kit.{heap_Tells, Stays, walk_of, says, stay_dropped, Goes-dropped, ends_at, nothing, heard, block_ptr, El, args},
   Kit.{proved, Global},
   Blocks.no_right,
-  Methods.first_fact,
+  Called.first_fact,
   Regions.{Seen, Fits-empty, places, right, heap_Good, slots_val, slots_Good, slots_made, of_nothing, empty_region},
 }
 use Rattle.std.specs.contracts.alloc.Global as heap
@@ -46,5 +46,5 @@ without_memory_spec 𝓤 𝓛 𝓜 𝓡 wired X L =
     -- [the token]
     use0 𝓛 (‵ (right E g n b 0)) (no_right E 𝓛 g n (block_ptr b 0) no_bytes) $
     use0 𝓛 (‵ (places E r b 0)) (of_nothing E 𝓛 b n 0 no_bytes) $
-    slots_made E ! g r b 0 n (Fits-empty E 0 n n_fits (omega (arith, no_bytes))) $
+    slots_made E ! (Fits-empty E 0 n n_fits (omega (arith, no_bytes))) $
     nothing ! $ nothing ! $ fjoin ! $ nothing ! $ fjoin ! $ keep ! (2 ∷ 0 ∷ 1 ∷ []) $ done !))))

@@ -1,13 +1,13 @@
 -- `write` fills an empty place. Assumes `Logic`.
 use Rattle.arraydeque_ring.proofs.memory.{
   Kit.{part_in, full_share, refl, sym, subst, [], ◌∷◌, ℕ, ◌+◌, ◌*◌, ◌<◌, arith, length, set, length-set, Some, ent},
-  Kit.{ftrue, flft, Fn, inst_fn, w64, Val, vunit, vint, vptr, WpFn, tables, owns, types_at, ‵, raw, ◌⊛◌, at_ret, ◌$◌},
-  Kit.{◌∵◌, !, qed, move, keep, use2, split, join, fsplit, fsplit3, fjoin, fjoin3, feq_i, suffices, done, whole, sub},
-  Kit.{look_in, enter, of_opd, unit_lit, bin, load, init, stop, fld, assigns_last, first, blocks, exec, returns},
-  Kit.{alloc_all, pass_all, free_all, look_at, get, through, sets, env, yes, no, plain, usize, Vals, Stays, walk_of},
-  Kit.{stay_dropped, stay_ref, Goes-dropped, Goes-ref, ends_at, nothing, heard, as_written, after, says, El, R, args},
-  Kit.{el_x, elτ, lawful, one, proved_at},
-  Methods.first_fact,
+  Kit.{ftrue, flft, Fn, inst_fn, w64, Val, vunit, vint, WpFn, tables, owns, types_at, ‵, raw, ◌⊛◌, ◌$◌, ◌∵◌, !, qed},
+  Kit.{move, keep, use2, split, join, fsplit, fsplit3, fjoin, fjoin3, feq_i, suffices, done, whole, sub, look_in},
+  Kit.{enter, of_opd, unit_lit, bin, load, init, stop, fld, assigns_last, first, blocks, returns, alloc_all, pass_all},
+  Kit.{free_all, look_at, get, through, sets, yes, no, plain, usize, Vals, Stays, walk_of, stay_dropped, stay_ref},
+  Kit.{Goes-dropped, Goes-ref, ends_at, nothing, heard, as_written, says, El, R, args, mut_vals, el_x, elτ, lawful},
+  Kit.{one, proved_at},
+  Called.{after_block, first_fact},
   Regions.{scaled, Sr, Seen, near, slots_open, slots_close, item_size, place_out, place_in, place_owned},
 }
 use Rattle.arraydeque_ring.specs.contracts.slots.Slots.write as f
@@ -31,11 +31,11 @@ write_spec 𝓤 𝓛 𝓜 𝓡 wired X L =
     (f.Key.name (args E)) here (code.unfolded 𝓤 𝓛.H 𝓜 𝓡 wired (X, tt))
     (λ z are.
     let κ = z.0.0.0 in let κ₁ = z.0.0.1.0 in let q = z.0.1.0 in let q₁ = z.0.1.1.0 in let a = z.0.3 in
-    let rb : ℕ = a.0.ref_ptr.0 in let ro : ℕ = a.0.ref_ptr.1 in let r : Seen E = a.0.now in let i : ℕ = a.1.0 in
+    let r : Seen E = a.0.now in let i : ℕ = a.1.0 in
     let x : el_x E = a.1.1.0 in
     let given_x = one E z.0.4.1.1.0 ((lawful E 𝓛).typed x z.0.4.1.1.0 are.1.1.0) in let v : Val = given_x.0 in
     let v_fits = given_x.2 in
-    let y : W.Ghost = ((z.0.0, z.0.1, z.0.2, a, (vptr rb ro ∷ [], (vint w64 i ∷ [], (v ∷ [], tt)))), z.1) in
+    let y : W.Ghost = ((z.0.0, z.0.1, z.0.2, a, (mut_vals a.0, (vint w64 i ∷ [], (v ∷ [], tt)))), z.1) in
     subst (λ (vss : Vals ended.signature z.0.0). Goes ((z.0.0, z.0.1, z.0.2, a, vss), z.1))
     (sym (λ k. (are.0.0 k, (are.1.0.0 k, (given_x.1 k, tt))))) (
     let s : ℕ = item_size E in
@@ -46,7 +46,7 @@ write_spec 𝓤 𝓛 𝓜 𝓡 wired X L =
     keep ! (3 ∷ 4 ∷ 6 ∷ 0 ∷ 7 ∷ []) $
     enter ! _ _ _ _ _ $
     alloc_all ! (λ l. pass_all ! refl ((tt, tt), ((tt, record { fits = are.1.0.1 }), (v_fits, tt))) $
-    slots_open E ! tt r rb ro (λ g b o n ok.
+    slots_open E ! tt r (λ g b o n ok.
     let far = near E ok i (omega arith) in
     let new : Seen E = record r { places = set r.places i (Some x) } in
     place_out E ! b o r.places i within asked.1 $
@@ -58,15 +58,15 @@ write_spec 𝓤 𝓛 𝓜 𝓡 wired X L =
     sets ! (scaled ! (get ! refl) far) refl (tt, record { fits = far }) $
     sets ! (bin ! (get ! refl) (get ! refl) tt) refl (tt, tt) $ sets ! (of_opd ! (get ! refl)) refl v_fits $
     assigns_last ! (of_opd ! (get ! refl)) (through ! refl (stop !)) (init ! 0 refl v_fits) $
-    exec ! 𝓣.C 𝓣.Λ (env here.locals l) (after 1 here.body) (at_ret _ (W.post y)) $
+    after_block ! 𝓡 here l 1 (W.post y) $
     sets ! (of_opd ! (unit_lit !)) refl (tt, tt) $
     move ! (0 ∷ 7 ∷ []) $ use2 𝓛 (‵ (place_owned (R E) b (i * s + o) (Some x)))
     (part_in 𝓛 (R E) refl full_share x b (i * s + o) v) $
     place_in E ! b o r.places i within (Some x) $
-    slots_close E ! tt g r new b o n rb ro ok (sym (length-set r.places i (Some x))) $
+    slots_close E ! tt new ok (sym (length-set r.places i (Some x))) $
     returns ! (look_at ! 0 refl) $ free_all ! refl $
     suffices ! _ (ends_at 𝓛 ended stayed c y vunit tt (new, _) _) $ says ! refl $
-    feq_i ! _ (vptr rb ro ∷ []) _ refl $ fjoin3 ! $ nothing ! $ nothing ! $ fjoin ! $
+    feq_i ! _ (mut_vals a.0) _ refl $ fjoin3 ! $ nothing ! $ nothing ! $ fjoin ! $
     nothing ! $ fjoin ! $ move ! (1 ∷ 0 ∷ []) $ fjoin ! $
     move ! (1 ∷ 2 ∷ []) $ join ! $ feq_i ! _ (vunit ∷ []) _ refl $
     keep ! (1 ∷ 2 ∷ 0 ∷ []) $ done !))))))
