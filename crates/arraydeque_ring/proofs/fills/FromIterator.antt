@@ -48,7 +48,7 @@ module _ {S A : Type 0} (gives : S → Option A → S → Type 0) where
       items = was.items ++ x ∷ [];
       last = to;
       yielded = Yields-more gives from was.items mid x to so_far came;
-      at_most = omega (arith, long, was.at_most);
+      at_most = omega arith;
       none = λ e. absurd (true≢false (sym e));
       all = λ _. (refl, omega (arith, long, (was.all refl).1));
       holds = holds;
@@ -65,9 +65,9 @@ module _ {S A : Type 0} (gives : S → Option A → S → Type 0) where
           last = then.last;
           yielded = Yields-both gives first.items then.items from mid then.last
               (subst (Yields gives from first.items) all.0 first.yielded) then.yielded;
-          at_most = omega (arith, long, all.1, then.at_most);
+          at_most = omega arith;
           none = then.none;
-          all = λ more. let rest = then.all more in (rest.0, omega (arith, long, all.1, rest.1));
+          all = λ more. let rest = then.all more in (rest.0, omega arith);
           holds = holds;
         }
 

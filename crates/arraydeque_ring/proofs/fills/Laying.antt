@@ -65,32 +65,32 @@ module _ {X : Type 0} {n t : ℕ} {ys : List X} {ps : List (Option X)} (l : Laid
     LaidOut-before zs many =
         let lies = lies_before in
         LaidOut-by (omega (arith, length-take n (zs ++ ys))) (Holds-from (Holds-run (holds l) (n - run) (end - run) zs
-        lies.0 (omega (arith, lies.1)) (omega (arith, lies.1))) (n - run) some (omega arith)
+        lies.0 (omega arith) (omega arith)) (n - run) some (omega arith)
         (λ k lt. grind (arith, nat_tests, items, many, lies.1, place_of_cases (n - run) k n (omega arith))))
 
 -- in an open ring, whose region has n places; the region is taken out, written, and put back
 module _ {X : Type 0} {r : Inside X} {v : RingState X} (o : Opened r v) {n : ℕ} (all : n ≡ v.capacity)
     (some : 0 < n) where
   in_region : (r.start < n) × (r.len ≤ n)
-  in_region = (omega (arith, o.laid.in_region, all, some), omega (arith, o.laid.within, all, o.len))
+  in_region = (omega arith, omega arith)
 
   -- behind the last item
   module _ (run place : ℕ) (is : place ≡ (r.start + r.len) % n) (fits : run ≤ n - place) (room : run ≤ n - r.len) where
     lies : MayStartAt r.start (length v.items) v.capacity place × (place + run ≤ v.capacity)
     lies = let within = in_region in (
-      rw (is, all, ← o.len) (MayStartAt-place_of r.start (length v.items) v.capacity (omega (arith, all, o.len))),
-      omega (arith, all, place_of-lt r.start r.len n (omega arith)),
+      rw (is, all, ← o.len) (MayStartAt-place_of r.start (length v.items) v.capacity (omega arith)),
+      omega arith,
     )
 
     pub empty_behind : IsEmptyRun r.slots.places place run
-    empty_behind = IsEmptyRun-behind o.laid place run lies.0 lies.1 (omega (arith, all, o.len, in_region))
+    empty_behind = IsEmptyRun-behind o.laid place run lies.0 lies.1 (omega arith)
 
     pub laid_back : (xs : List X) → length xs ≡ run → {slots : Region X}
         → slots.places ≡ with_run place xs r.slots.places → slots.steps ≡ more_puts run r.slots.steps
         → Opened record r { slots = slots; len = r.len + run } (filled_back xs v)
     laid_back xs many places steps = record {
-      laid = rw places (LaidOut-appended o.laid xs place lies.0 (omega (arith, lies.1, many))
-          (omega (arith, all, many, o.len, in_region)));
+      laid = rw places (LaidOut-appended o.laid xs place lies.0 (omega arith)
+          (omega arith));
       len = omega (arith, length-append v.items xs, o.len, many);
       start = o.start;
       steps = rw (steps, o.steps, many) refl;
@@ -99,15 +99,15 @@ module _ {X : Type 0} {r : Inside X} {v : RingState X} (o : Opened r v) {n : ℕ
   -- in the places of the first items
   pub filled_first : r.len ≡ n → IsFilledRun r.slots.places r.start (n - r.start)
   filled_first full = IsFilledRun-LaidOut o.laid 0 r.start (n - r.start) (inl (omega arith))
-      (omega (arith, o.len, full)) (omega (arith, all, in_region))
+      (omega arith) (omega arith)
 
   pub laid_first : (run : ℕ) (xs : List X) → length xs ≡ run → r.len ≡ n → run ≤ n - r.start
       → {slots : Region X} {start : ℕ} → start ≡ (r.start + run) % n → slots.places ≡ with_run r.start xs r.slots.places
       → slots.steps ≡ more_puts run (more_takes run r.slots.steps)
       → Opened record r { slots = slots; start = start } (displaced_first xs v)
   laid_first run xs many full fits is places steps = record {
-    laid = rw (places, is, all, ← many) (LaidOut-first o.laid (omega (arith, all, some)) xs
-        (omega (arith, o.len, full, all)) (omega (arith, all, many, in_region)));
+    laid = rw (places, is, all, ← many) (LaidOut-first o.laid (omega arith) xs
+        (omega arith) (omega arith));
     len = omega (arith, o.len, length-drop (length xs) (v.items ++ xs), length-append v.items xs);
     start = rw (is, all, ← many, o.start) (up_by-is (length xs) v.start v.capacity (rw o.start at o.laid.in_region));
     steps = rw (steps, o.steps, many) refl;
@@ -119,24 +119,24 @@ module _ {X : Type 0} {r : Inside X} {v : RingState X} (o : Opened r v) {n : ℕ
     end_is = rw (above, all) refl
 
     before : MayStartAt r.start (v.capacity - run) v.capacity (place + 1 - run) × (place + 1 ≤ v.capacity)
-    before = lies_before o.laid (omega (arith, all, some)) (place + 1) run end_is fits
+    before = lies_before o.laid (omega arith) (place + 1) run end_is fits
 
     pub empty_before : run ≤ n - r.len → IsEmptyRun r.slots.places (place + 1 - run) run
     empty_before room = IsEmptyRun-from o.laid (v.capacity - run) (place + 1 - run) run
-        (omega (arith, all, o.len, in_region)) before.0 (omega (arith, before.1)) (omega (arith, before.1))
+        (omega arith) before.0 (omega arith) (omega arith)
 
     pub filled_last : r.len ≡ n → IsFilledRun r.slots.places (place + 1 - run) run
     filled_last full = IsFilledRun-LaidOut o.laid (v.capacity - run) (place + 1 - run) run before.0
-        (omega (arith, o.len, full, all, before.1)) (omega (arith, before.1))
+        (omega arith) (omega arith)
 
     module _ (xs : List X) (many : length xs ≡ run) {start : ℕ} (is : start ≡ (r.start + (n - run)) % n)
         (slots : Region X) (places : slots.places ≡ with_run (place + 1 - run) (reverse xs) r.slots.places) where
       down : start ≡ down_by (length xs) v.start v.capacity
       down = rw (is, all, ← many, o.start) (down_by-is (length xs) v.start v.capacity
-          (omega (arith, o.start, in_region, all)) (omega (arith, many, before.1)))
+          (omega arith) (omega arith))
 
       laid : LaidOut v.capacity start (take v.capacity (reverse xs ++ v.items)) slots.places
-      laid = rw (places, is, all) (LaidOut-before o.laid (omega (arith, all, some)) (place + 1) run end_is fits
+      laid = rw (places, is, all) (LaidOut-before o.laid (omega arith) (place + 1) run end_is fits
           (reverse xs) (length-reverse xs ∙ many))
 
       long : length (reverse xs ++ v.items) ≡ r.len + run
@@ -154,7 +154,7 @@ module _ {X : Type 0} {r : Inside X} {v : RingState X} (o : Opened r v) {n : ℕ
       pub laid_last : r.len ≡ n → slots.steps ≡ more_puts run (more_takes run r.slots.steps)
           → Opened record r { slots = slots; start = start } (displaced_last xs v)
       laid_last full steps =
-          let same : length v.items ≡ v.capacity = omega (arith, o.len, full, all) in record {
+          let same : length v.items ≡ v.capacity = omega arith in record {
             laid = rw same laid;
             len = omega (arith, o.len, long, length-take (length v.items) (reverse xs ++ v.items));
             start = down;

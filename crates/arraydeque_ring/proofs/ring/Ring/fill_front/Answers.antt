@@ -31,16 +31,16 @@ loop-ended-init g c = let ring = bounds c.self.inside _ c.self.invariant c.self.
 pub fill_down-written-requires-clause-empty : goal.fill_down-written-requires-clause-empty
 fill_down-written-requires-clause-empty g c = let was = c.loop-ended.invariant in let run = c.min-run in
     empty_before was.so_far.1.holds was.all (omega arith) run.result
-    c.wrap_add-from.result c.wrap_add-from.ensures (omega (arith, run.ensures)) (omega (arith, run.ensures))
+    c.wrap_add-from.result c.wrap_add-from.ensures (omega arith) (omega arith)
 
 pub loop-ended-preserved : goal.loop-ended-preserved
 loop-ended-preserved g c =
     let was = c.loop-ended.invariant in let some = c.loop-ended-test.true in let fill = c.fill_down-written in
     let xs = was.so_far.1.items in let now = fill.ensures.filled in
     let after = laid_front was.so_far.1.holds was.all (omega arith) fill.result.1 c.wrap_add-from.result
-    c.wrap_add-from.ensures (omega (arith, c.min-run.ensures, now.holds.0, now.at_most)) now.items now.holds.0
+    c.wrap_add-from.ensures (omega arith) now.items now.holds.0
     c.wrap_add-self-inside.ensures fill.result.0 now.holds.1
-    (omega (arith, c.min-run.ensures, now.holds.0, now.at_most)) fill.ensures.steps in
+    (omega arith) fill.ensures.steps in
     record {
       all = was.all;
       out = was.out;
@@ -64,7 +64,7 @@ returns-clause-filled g c =
     let all = c.loop-ended.invariant.all in let was = c.loop-ended.invariant.so_far.1 in
     let within = was.holds.laid.within in
     let long = length-append (reverse was.items) c.args.self.now.items in let same = length-reverse was.items in
-    rw c.replace-nothing.ensures.after (Fills-as _ was _ _ (omega (arith, within, long, same)) (λ more.
+    rw c.replace-nothing.ensures.after (Fills-as _ was _ _ (omega arith) (λ more.
     elim c.loop-ended-test.branch [
       | then-loop-ended-test+else-self-capacity w ↦
           omega (arith, w.if-self-capacity, all, was.holds.len, (was.all more).1, within, long, same)

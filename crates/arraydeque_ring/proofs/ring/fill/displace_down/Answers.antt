@@ -10,7 +10,7 @@ take-last-requires g c =
     let was = c.loop-displaced.invariant.filled in let filled = c.requires.filled in
     rw was.holds.1 (filled_outside (c.args.from - c.loop-displaced.displaced) (reverse was.items) c.args.slots.places
     (omega (arith, filled.0, was.holds.0, length-reverse was.items)) _ (inl (omega arith))
-    (c.args.from - c.args.run) c.args.run filled (omega arith) (omega (arith, c.requires.in_region)))
+    (c.args.from - c.args.run) c.args.run filled (omega arith) (omega arith))
 
 pub loop-displaced-preserved : goal.loop-displaced-preserved
 loop-displaced-preserved g c =
@@ -21,11 +21,11 @@ loop-displaced-preserved g c =
         rw (c.put.ensures.places, c.take-last.ensures.places, was.filled.holds.1) (set-set _ _ None (Some x)
             ∙ with_run-down (c.args.from - c.loop-displaced.displaced) xs c.args.slots.places x _
             (c.args.from - (c.loop-displaced.displaced + 1))
-            (omega (arith, c.requires.filled.0, c.requires.in_region, many))
-            (omega (arith, c.requires.in_region)) (omega arith)),
+            (omega arith)
+            (omega arith) (omega arith)),
       );
       steps = rw (c.put.ensures.steps, c.take-last.ensures.steps, was.steps) (grind arith);
       may = goes.0;
       ends = goes.1;
-      nearer = omega (arith, goes.2, was.nearer);
+      nearer = omega arith;
     }

@@ -8,8 +8,8 @@ use Rattle.arraydeque_ring.proofs.ring.fill.displace_up.Goals as goal
 pub take-first-requires : goal.take-first-requires
 take-first-requires g c =
     let was = c.loop-displaced.invariant.filled in let filled = c.requires.filled in
-    rw was.holds.1 (filled_outside c.args.from was.items c.args.slots.places (omega (arith, filled.0, was.holds.0)) _
-    (inr (omega (arith, was.holds.0))) c.args.from c.args.run filled (omega arith) (omega arith))
+    rw was.holds.1 (filled_outside c.args.from was.items c.args.slots.places (omega arith) _
+    (inr (omega arith)) c.args.from c.args.run filled (omega arith) (omega arith))
 
 pub loop-displaced-preserved : goal.loop-displaced-preserved
 loop-displaced-preserved g c =
@@ -19,11 +19,11 @@ loop-displaced-preserved g c =
       filled = Fills-one _ was.filled x c.in-Some.ensures.steps _ (
         omega (arith, many, length-append xs (x ∷ [])),
         rw (c.put.ensures.places, c.take-first.ensures.places, was.filled.holds.1) (set-set _ _ None (Some x)
-            ∙ with_run-behind c.args.from xs c.args.slots.places (omega (arith, within, many)) x _
-            (omega (arith, many)) (omega (arith, within))),
+            ∙ with_run-behind c.args.from xs c.args.slots.places (omega arith) x _
+            (omega arith) (omega arith)),
       );
       steps = rw (c.put.ensures.steps, c.take-first.ensures.steps, was.steps) (grind arith);
       may = goes.0;
       ends = goes.1;
-      nearer = omega (arith, goes.2, was.nearer);
+      nearer = omega arith;
     }
