@@ -50,7 +50,7 @@ module _ {S A : Type 0} (gives : S → Option A → S → Type 0) where
       yielded = Yields-more gives from was.items mid x to so_far came;
       at_most = omega arith;
       none = λ e. absurd (true≢false (sym e));
-      all = λ _. (refl, omega (arith, long, (was.all refl).1));
+      all = λ _. (refl, omega (arith, (was.all refl).1));
       holds = holds;
     }
 

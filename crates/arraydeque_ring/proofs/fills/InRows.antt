@@ -10,7 +10,7 @@ use Rattle.arraydeque_ring.{
 
 -- to go down by j places and then by k is to go down by both
 down_by-both : (j k s n : ℕ) → down_by k (down_by j s n) n ≡ down_by (j + k) s n
-down_by-both j k s n = grind (arith, nat_tests, place_of-sum s (j * (n - 1)) (k * (n - 1)) n)
+down_by-both j k s n = grind (arith, place_of-sum s (j * (n - 1)) (k * (n - 1)) n)
 
 module _ {X : Type 0} (xs ys : List X) where
   pub down_by-all : (s n : ℕ) → down_by (length ys) (down_by (length xs) s n) n ≡ down_by (length (xs ++ ys)) s n

@@ -11,7 +11,7 @@ use Rattle.arraydeque_ring.proofs.ring.Ring.displace_last.Goals as goal
 
 pub loop-ended-init : goal.loop-ended-init
 loop-ended-init g c = let ring = bounds c.self.inside _ c.self.invariant c.self.view_is in record {
-  full = (omega arith, omega arith);
+  full = omega arith;
   out = c.moved_out-slots.ensures.left;
   so_far = (
     0,
@@ -23,9 +23,8 @@ loop-ended-init g c = let ring = bounds c.self.inside _ c.self.invariant c.self.
 
 pub displace_down-written-requires-clause-filled : goal.displace_down-written-requires-clause-filled
 displace_down-written-requires-clause-filled g c =
-    let full = c.loop-ended.invariant.full in let from = c.wrap_add-from in
-    filled_last c.loop-ended.invariant.so_far.1.holds full.1 (omega arith) (from.result + 1)
-    from.result from.ensures (omega arith) (omega arith)
+    let was = c.loop-ended.invariant in
+    filled_last was.so_far.1.holds was.full.1 (omega arith) _ _ c.wrap_add-from.ensures (omega arith) (omega arith)
 
 pub loop-ended-preserved : goal.loop-ended-preserved
 loop-ended-preserved g c =
@@ -37,9 +36,8 @@ loop-ended-preserved g c =
         _,
         Fills-both _ was now _ c.loop-ended-test.true (subst (Opened _)
             (displaced_last-both was.items now.items c.args.self.now)
-            (laid_last was.holds full.1 (omega arith) done.result.1 c.wrap_add-from.result
-            c.wrap_add-from.ensures (omega arith) now.items now.holds.0
-            c.wrap_add-self-inside.ensures done.result.0 now.holds.1 (omega arith) done.ensures.steps)),
+            (laid_last was.holds full.1 (omega arith) _ _ c.wrap_add-from.ensures (omega arith) now.items
+            now.holds.0 c.wrap_add-self-inside.ensures _ now.holds.1 (omega arith) done.ensures.steps)),
       );
       goes = λ more. let goes = done.ensures.goes more in (goes.0, goes.1);
     }

@@ -29,18 +29,16 @@ loop-ended-init g c = let ring = bounds c.self.inside _ c.self.invariant c.self.
 }
 
 pub fill_down-written-requires-clause-empty : goal.fill_down-written-requires-clause-empty
-fill_down-written-requires-clause-empty g c = let was = c.loop-ended.invariant in let run = c.min-run in
-    empty_before was.so_far.1.holds was.all (omega arith) run.result
-    c.wrap_add-from.result c.wrap_add-from.ensures (omega arith) (omega arith)
+fill_down-written-requires-clause-empty g c = let was = c.loop-ended.invariant in
+    empty_before was.so_far.1.holds was.all (omega arith) _ _ c.wrap_add-from.ensures (omega arith) (omega arith)
 
 pub loop-ended-preserved : goal.loop-ended-preserved
 loop-ended-preserved g c =
     let was = c.loop-ended.invariant in let some = c.loop-ended-test.true in let fill = c.fill_down-written in
     let xs = was.so_far.1.items in let now = fill.ensures.filled in
-    let after = laid_front was.so_far.1.holds was.all (omega arith) fill.result.1 c.wrap_add-from.result
-    c.wrap_add-from.ensures (omega arith) now.items now.holds.0
-    c.wrap_add-self-inside.ensures fill.result.0 now.holds.1
-    (omega arith) fill.ensures.steps in
+    let after = laid_front was.so_far.1.holds was.all (omega arith) _ _ c.wrap_add-from.ensures
+    (omega arith) now.items now.holds.0 c.wrap_add-self-inside.ensures _ now.holds.1 (omega arith)
+    fill.ensures.steps in
     record {
       all = was.all;
       out = was.out;

@@ -30,4 +30,4 @@ pub returns-clause-one_piece : goal.returns-clause-one_piece
 returns-clause-one_piece g c =
     let ring = opened c.self.inside c.self.invariant c.self.view_is in
     let now = after g (goal.at.returns-clause-one_piece g c).After-replace-nothing in
-    omega (arith, ap length now.3, length_within ring.laid)
+    omega (arith, ap length now.3)

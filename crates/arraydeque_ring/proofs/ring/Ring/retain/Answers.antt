@@ -81,7 +81,7 @@ loop-index-preserved g c =
     ]
 
 pub invariant_of-self : goal.invariant_of-self
-invariant_of-self g c = grind (arith, bounds, all_asked c.loop-index.invariant.so_far (omega arith))
+invariant_of-self g c = grind (arith, all_asked c.loop-index.invariant.so_far (omega arith))
 
 pub returns-clause-retains : goal.returns-clause-retains
 returns-clause-retains g c =
@@ -91,9 +91,9 @@ returns-clause-retains g c =
       last = c.loop-index.f;
       one_each = omega arith;
       in_turn = so_far.in_turn;
-      kept = grind (arith, bounds, all_asked so_far (omega arith));
+      kept = grind (arith, all_asked so_far (omega arith));
     }
 
 pub returns-clause-no_longer : goal.returns-clause-no_longer
 returns-clause-no_longer g c = let so_far = c.loop-index.invariant.so_far in
-    grind (arith, bounds, all_asked so_far (omega arith), all_within so_far (omega arith))
+    grind (arith, all_asked so_far (omega arith), all_within so_far (omega arith))

@@ -7,10 +7,9 @@ use Rattle.arraydeque_ring.proofs.ring.fill.displace_down.Goals as goal
 
 pub take-last-requires : goal.take-last-requires
 take-last-requires g c =
-    let was = c.loop-displaced.invariant.filled in let filled = c.requires.filled in
+    let was = c.loop-displaced.invariant.filled in
     rw was.holds.1 (filled_outside (c.args.from - c.loop-displaced.displaced) (reverse was.items) c.args.slots.places
-    (omega (arith, filled.0, was.holds.0, length-reverse was.items)) _ (inl (omega arith))
-    (c.args.from - c.args.run) c.args.run filled (omega arith) (omega arith))
+    (omega (arith, length-reverse was.items)) _ (inl (omega arith)) _ _ c.requires.filled (omega arith) (omega arith))
 
 pub loop-displaced-preserved : goal.loop-displaced-preserved
 loop-displaced-preserved g c =
@@ -18,11 +17,9 @@ loop-displaced-preserved g c =
     let x = c.in-Some.element in let goes = c.in-Some.ensures.goes.on was.ends in record {
       filled = Fills-one _ was.filled x c.in-Some.ensures.steps _ (
         omega (arith, many, length-append xs (x ∷ [])),
-        rw (c.put.ensures.places, c.take-last.ensures.places, was.filled.holds.1) (set-set _ _ None (Some x)
+        rw (c.put.ensures.places, c.take-last.ensures.places, was.filled.holds.1) (set-set _ _ _ _
             ∙ with_run-down (c.args.from - c.loop-displaced.displaced) xs c.args.slots.places x _
-            (c.args.from - (c.loop-displaced.displaced + 1))
-            (omega arith)
-            (omega arith) (omega arith)),
+            (c.args.from - (c.loop-displaced.displaced + 1)) (omega arith) (omega arith) (omega arith)),
       );
       steps = rw (c.put.ensures.steps, c.take-last.ensures.steps, was.steps) (grind arith);
       may = goes.0;

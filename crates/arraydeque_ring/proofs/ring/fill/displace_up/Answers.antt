@@ -7,9 +7,9 @@ use Rattle.arraydeque_ring.proofs.ring.fill.displace_up.Goals as goal
 
 pub take-first-requires : goal.take-first-requires
 take-first-requires g c =
-    let was = c.loop-displaced.invariant.filled in let filled = c.requires.filled in
-    rw was.holds.1 (filled_outside c.args.from was.items c.args.slots.places (omega arith) _
-    (inr (omega arith)) c.args.from c.args.run filled (omega arith) (omega arith))
+    let was = c.loop-displaced.invariant.filled in
+    rw was.holds.1 (filled_outside c.args.from was.items c.args.slots.places (omega arith) _ (inr (omega arith))
+    _ _ c.requires.filled (omega arith) (omega arith))
 
 pub loop-displaced-preserved : goal.loop-displaced-preserved
 loop-displaced-preserved g c =
@@ -18,7 +18,7 @@ loop-displaced-preserved g c =
     record {
       filled = Fills-one _ was.filled x c.in-Some.ensures.steps _ (
         omega (arith, many, length-append xs (x ∷ [])),
-        rw (c.put.ensures.places, c.take-first.ensures.places, was.filled.holds.1) (set-set _ _ None (Some x)
+        rw (c.put.ensures.places, c.take-first.ensures.places, was.filled.holds.1) (set-set _ _ _ _
             ∙ with_run-behind c.args.from xs c.args.slots.places (omega arith) x _
             (omega arith) (omega arith)),
       );
