@@ -55,11 +55,9 @@ returns-clause-within g c = rw c.replace-nothing.ensures.after
 
 pub returns-clause-filled : goal.returns-clause-filled
 returns-clause-filled g c =
-    let all = c.loop-ended.invariant.all in let was = c.loop-ended.invariant.so_far.1 in
-    let within = was.holds.laid.within in let long = length-append c.args.self.now.items was.items in
+    let was = c.loop-ended.invariant.so_far.1 in let long = length-append c.args.self.now.items was.items in
     rw c.replace-nothing.ensures.after (Fills-as _ was _ _ (omega arith) (λ more.
     elim c.loop-ended-test.branch [
-      | then-loop-ended-test+else-self-capacity w ↦
-          omega (arith, w.if-self-capacity, all, was.holds.len, (was.all more).1, within, long)
-      | else-loop-ended-test w ↦ absurd (true≢false (sym w.loop-ended-test.false ∙ more))
+      | then-loop-ended-test+else-self-capacity w ↦ omega (arith, (was.all more).1)
+      | else-loop-ended-test w ↦ absurd (grind arith)
     ]) (λ xs. closed))

@@ -1,6 +1,6 @@
 use Rattle.std.proofs.{
-  Common.{◌-◌, ◌+◌, [], ◌∷◌, reverse, inl, Some, None, ◌∙◌, arith},
-  lemmas.List.{length-append, length-reverse, set-set},
+  Common.{◌-◌, ◌+◌, reverse, inl, Some, None, ◌∙◌, arith},
+  lemmas.List.{length_push, length-reverse, set-set},
 }
 use Rattle.arraydeque_ring.proofs.fills.{FromIterator.Fills-one, Filling.{filled_outside, with_run-down}}
 use Rattle.arraydeque_ring.proofs.ring.fill.displace_down.Goals as goal
@@ -13,10 +13,10 @@ take-last-requires g c =
 
 pub loop-displaced-preserved : goal.loop-displaced-preserved
 loop-displaced-preserved g c =
-    let was = c.loop-displaced.invariant in let xs = was.filled.items in let many = was.filled.holds.0 in
+    let was = c.loop-displaced.invariant in let xs = was.filled.items in
     let x = c.in-Some.element in let goes = c.in-Some.ensures.goes.on was.ends in record {
       filled = Fills-one _ was.filled x c.in-Some.ensures.steps _ (
-        omega (arith, many, length-append xs (x ∷ [])),
+        omega (arith, length_push xs x),
         rw (c.put.ensures.places, c.take-last.ensures.places, was.filled.holds.1) (set-set _ _ _ _
             ∙ with_run-down (c.args.from - c.loop-displaced.displaced) xs c.args.slots.places x _
             (c.args.from - (c.loop-displaced.displaced + 1)) (omega arith) (omega arith) (omega arith)),

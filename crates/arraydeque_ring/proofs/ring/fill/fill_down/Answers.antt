@@ -1,6 +1,6 @@
 use Rattle.std.proofs.{
-  Common.{◌-◌, ◌+◌, [], ◌∷◌, reverse, inl, refl, arith},
-  lemmas.List.{length-append, length-reverse},
+  Common.{◌-◌, ◌+◌, reverse, inl, refl, arith},
+  lemmas.List.{length_push, length-reverse},
 }
 use Rattle.arraydeque_ring.proofs.fills.{FromIterator.Fills-one, Filling.{empty_outside, with_run-down}}
 use Rattle.arraydeque_ring.proofs.ring.fill.fill_down.Goals as goal
@@ -13,10 +13,10 @@ put-requires g c =
 
 pub loop-filled-preserved : goal.loop-filled-preserved
 loop-filled-preserved g c =
-    let was = c.loop-filled.invariant in let xs = was.filled.items in let many = was.filled.holds.0 in
+    let was = c.loop-filled.invariant in let xs = was.filled.items in
     let x = c.in-Some.element in record {
       filled = Fills-one _ was.filled x c.in-Some.ensures.steps _ (
-        omega (arith, many, length-append xs (x ∷ [])),
+        omega (arith, length_push xs x),
         rw (c.put.ensures.places, was.filled.holds.1) (with_run-down (c.args.from - c.loop-filled.filled) xs c.args.slots.places x _
             (c.args.from - (c.loop-filled.filled + 1)) (omega arith) (omega arith) (omega arith)),
       );
