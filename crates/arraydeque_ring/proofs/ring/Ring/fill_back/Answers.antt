@@ -58,6 +58,6 @@ returns-clause-filled g c =
     let was = c.loop-ended.invariant.so_far.1 in let long = length-append c.args.self.now.items was.items in
     rw c.replace-nothing.ensures.after (Fills-as _ was _ _ (omega arith) (λ more.
     elim c.loop-ended-test.branch [
-      | then-loop-ended-test+else-self-capacity w ↦ omega (arith, (was.all more).1)
+      | then-loop-ended-test+else-self-capacity w ↦ omega arith
       | else-loop-ended-test w ↦ absurd (grind arith)
     ]) (λ xs. closed))

@@ -63,6 +63,6 @@ returns-clause-filled g c =
     let long = length-append (reverse was.items) c.args.self.now.items in let same = length-reverse was.items in
     rw c.replace-nothing.ensures.after (Fills-as _ was _ _ (omega arith) (λ more.
     elim c.loop-ended-test.branch [
-      | then-loop-ended-test+else-self-capacity w ↦ omega (arith, (was.all more).1)
+      | then-loop-ended-test+else-self-capacity w ↦ omega arith
       | else-loop-ended-test w ↦ absurd (grind arith)
     ]) (λ xs. closed))
