@@ -3,7 +3,7 @@ use Rattle.std.proofs.{
   Common.{◌≡◌, ℕ, ◌+◌, ◌-◌, ◌<◌, ◌≤◌, ◌⊎◌, List, [], ◌∷◌, ◌++◌, length, reverse, set, Option, Some, ap},
   Common.{◌∙◌, arith, rules},
   lemmas.{
-    Bool.{cases_eq, Decides.nat_tests},
+    Bool.Decides.nat_tests,
     List.{get_or-set_same, places, same_lists, length-map, map-append, length-append, length-reverse, reverse-append},
   },
 }
@@ -28,8 +28,8 @@ module _ {X : Type 0} (at : ℕ) (xs : List X) (ps : List (Option X)) (within : 
   with_run-behind x place here lt =
       let long = length-map xs Some in
       let more = length-append xs (x ∷ []) in
-      same_places _ _ (search (rules, places, map-append, long)) (λ i i_in.
-      get_or-written (with_run at xs ps) place i (Some x) (search (rules, places, long)) ∙ grind (
+      same_places _ _ (search (rules, places, map-append)) (λ i i_in.
+      get_or-written (with_run at xs ps) place i (Some x) (search (rules, places)) ∙ grind (
         arith,
         nat_tests,
         items,

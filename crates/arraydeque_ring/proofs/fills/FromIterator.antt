@@ -1,10 +1,10 @@
 -- Loops that take items from an iterator, while there is room.
 use Rattle.std.{
   proofs.{
-    Common.{◌≡◌, ℕ, ◌+◌, ◌≤◌, List, [], ◌∷◌, ◌++◌, length, Option, Some, Bool, true, false, refl, sym},
-    Common.{subst, ◌∙◌, true≢false, arith},
-    iter.{Next.{Yields-more}, runs.Lists.{Yields-both}},
-    lemmas.List.{length-append},
+    Common.{◌≡◌, ℕ, ◌+◌, ◌≤◌, List, [], ◌∷◌, ◌++◌, length, Option, Some, Bool, true, false, refl},
+    Common.{subst, arith},
+    iter.runs.Lists.Yields-both,
+    lemmas.List.length-append,
   },
   specs.Iterator.Yields,
 }

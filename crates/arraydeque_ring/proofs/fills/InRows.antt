@@ -1,7 +1,7 @@
 -- Items that come one by one behind the last item or before the first.
 use Rattle.std.proofs.{
   Common.{◌≡◌, ℕ, ◌+◌, ◌-◌, ◌*◌, List, ◌++◌, length, reverse, sym, ap, ◌∙◌, arith},
-  lemmas.{Bool.Decides.nat_tests, List.{append_assoc, length-append, reverse-append}},
+  lemmas.List.{append_assoc, length-append, reverse-append},
 }
 use Rattle.arraydeque_ring.{
   specs.{Ring.{RingState, down_by}, Steps.{more_puts}},

@@ -23,7 +23,7 @@ use Rattle.arraydeque_ring.{
       Items.items,
       LaidOut.{LaidOut, LaidOut-by, holds, IsFilledRun-LaidOut},
       Opened.Opened,
-      Rotated.{MayStartAt, MayStartAt-place_of, place_of_cases, place_of-lt, place_of-zero},
+      Rotated.{MayStartAt, MayStartAt-place_of, place_of_cases, place_of-zero},
     },
   },
 }
@@ -31,7 +31,7 @@ use Rattle.arraydeque_ring.{
 -- to go up by k places is to go to the place of index k
 pub up_by-is : (k s n : ℕ) → s ≤ n - 1 → place_of s k n ≡ up_by k s n
 up_by-is zero s n le = place_of-zero s n le
-up_by-is (suc k) s n le = grind (arith, nat_tests)
+up_by-is (suc k) s n le = grind arith
 
 -- and down by k, to that of the index n - k
 down_by-is : (k s n : ℕ) → s < n → k ≤ n → place_of s (n - k) n ≡ down_by k s n
@@ -40,7 +40,7 @@ down_by-is (suc k) s zero lt le = absurd (omega arith)
 down_by-is (suc k) s (suc p) lt le =
     let round : s + suc k * p ≡ s + (p - k) + k * suc p = omega arith in
     let is = ap (λ j. j % suc p) round ∙ add-mul-mod_self_right (s + (p - k)) k (suc p) in
-    grind (arith, nat_tests, is)
+    grind arith
 
 module _ {X : Type 0} {n t : ℕ} {ys : List X} {ps : List (Option X)} (l : LaidOut n t ys ps) (some : 0 < n) where
   -- in a full list the items xs take the places of the first ones
@@ -49,7 +49,7 @@ module _ {X : Type 0} {n t : ℕ} {ys : List X} {ps : List (Option X)} (l : Laid
   LaidOut-first xs full fits =
       LaidOut-by (omega (arith, length-drop (length xs) (ys ++ xs), length-append ys xs))
       (Holds-from (Holds-run (holds l) 0 t xs (inl (omega arith)) fits (omega arith)) (length xs) some (omega arith)
-      (λ k lt. grind (arith, nat_tests, items, place_of_cases (length xs) k n (omega arith))))
+      (λ k lt. grind (arith, items, place_of_cases (length xs) k n (omega arith))))
 
   -- the items zs go into the places of the last indexes, before the others, and of a full list the last ones go out
   LaidOut-before : (zs : List X) (run at : ℕ) → length zs ≡ run → MayStartAt t (n - run) n at → at + run ≤ n

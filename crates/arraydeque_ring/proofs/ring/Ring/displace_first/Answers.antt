@@ -10,13 +10,13 @@ use Rattle.arraydeque_ring.proofs.{
 use Rattle.arraydeque_ring.proofs.ring.Ring.displace_first.Goals as goal
 
 pub loop-ended-init : goal.loop-ended-init
-loop-ended-init g c = let ring = bounds c.self.inside _ c.self.invariant c.self.view_is in record {
+loop-ended-init g c = let ring = bounds _ _ c.self.invariant c.self.view_is in record {
   full = omega arith;
   out = c.moved_out-slots.ensures.left;
   so_far = (
     0,
     Fills-none _ _ _ (rw c.moved_out-slots.ensures.region
-        (opened c.self.inside c.self.invariant (grind (arith, append-nil)))),
+        (opened _ c.self.invariant (grind (arith, append-nil)))),
   );
   goes = λ _. (c.requires.may, c.requires.ends);
 }

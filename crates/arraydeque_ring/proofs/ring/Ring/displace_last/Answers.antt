@@ -1,4 +1,4 @@
-use Rattle.std.proofs.{Common.{◌+◌, subst, arith}, lemmas.List.take_all}
+use Rattle.std.proofs.{Common.{subst, arith}, lemmas.List.take_all}
 use Rattle.arraydeque_ring.proofs.{
   fills.{
     Displaced.displaced_last-both,
@@ -10,13 +10,13 @@ use Rattle.arraydeque_ring.proofs.{
 use Rattle.arraydeque_ring.proofs.ring.Ring.displace_last.Goals as goal
 
 pub loop-ended-init : goal.loop-ended-init
-loop-ended-init g c = let ring = bounds c.self.inside _ c.self.invariant c.self.view_is in record {
+loop-ended-init g c = let ring = bounds _ _ c.self.invariant c.self.view_is in record {
   full = omega arith;
   out = c.moved_out-slots.ensures.left;
   so_far = (
     0,
     Fills-none _ _ _ (rw c.moved_out-slots.ensures.region
-        (opened c.self.inside c.self.invariant (grind (arith, take_all)))),
+        (opened _ c.self.invariant (grind (arith, take_all)))),
   );
   goes = λ _. (c.requires.may, c.requires.ends);
 }

@@ -1,4 +1,4 @@
-use Rattle.std.proofs.{Common.{subst, ◌∙◌, sym, true≢false, arith}, lemmas.List.{append-nil, length-append}}
+use Rattle.std.proofs.{Common.{subst, arith}, lemmas.List.{append-nil, length-append}}
 use Rattle.arraydeque_ring.proofs.{
   fills.{
     FromIterator.{Fills-none, Fills-both, Fills-as},
@@ -14,13 +14,13 @@ use Rattle.arraydeque_ring.proofs.ring.Ring.fill_back.Goals.{
 }
 
 pub loop-ended-init : goal.loop-ended-init
-loop-ended-init g c = let ring = bounds c.self.inside _ c.self.invariant c.self.view_is in record {
+loop-ended-init g c = let ring = bounds _ _ c.self.invariant c.self.view_is in record {
   all = omega arith;
   out = c.moved_out-slots.ensures.left;
   so_far = (
     0,
     Fills-none _ _ _ (rw c.moved_out-slots.ensures.region
-        (opened c.self.inside c.self.invariant (grind (arith, append-nil)))),
+        (opened _ c.self.invariant (grind (arith, append-nil)))),
   );
   goes = λ _. (c.requires, λ f. f);
 }

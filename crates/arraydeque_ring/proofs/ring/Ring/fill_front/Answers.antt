@@ -1,7 +1,4 @@
-use Rattle.std.proofs.{
-  Common.{reverse, subst, ◌∙◌, sym, true≢false, arith},
-  lemmas.List.{length-append, length-reverse},
-}
+use Rattle.std.proofs.{Common.{reverse, subst, arith}, lemmas.List.{length-append, length-reverse}}
 use Rattle.arraydeque_ring.proofs.{
   fills.{
     FromIterator.{Fills-none, Fills-both, Fills-as},
@@ -17,13 +14,13 @@ use Rattle.arraydeque_ring.proofs.ring.Ring.fill_front.Goals.{
 }
 
 pub loop-ended-init : goal.loop-ended-init
-loop-ended-init g c = let ring = bounds c.self.inside _ c.self.invariant c.self.view_is in record {
+loop-ended-init g c = let ring = bounds _ _ c.self.invariant c.self.view_is in record {
   all = omega arith;
   out = c.moved_out-slots.ensures.left;
   so_far = (
     0,
     Fills-none _ _ _ (rw c.moved_out-slots.ensures.region
-        (opened c.self.inside c.self.invariant (grind arith))),
+        (opened _ c.self.invariant (grind arith))),
   );
   goes = λ _. (c.requires, λ f. f);
 }

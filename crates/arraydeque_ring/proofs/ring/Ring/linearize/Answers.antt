@@ -2,11 +2,7 @@ use Rattle.std.proofs.{Common.{length, ap, ◌∙◌, arith}, lemmas.List.append
 use Rattle.arraydeque_ring.{
   specs.Places.Region,
   proofs.{
-    places.{
-      LaidOut.{length_within, rotated-LaidOut, LaidOut-from},
-      Opened.{opened, Shows, shows},
-      Rotated.length-rotated,
-    },
+    places.{LaidOut.{rotated-LaidOut, LaidOut-from}, Opened.{opened, Shows, shows}, Rotated.length-rotated},
     ring.Ring.linearize.{Given.Over, Goals.{After-replace-nothing}},
   },
 }

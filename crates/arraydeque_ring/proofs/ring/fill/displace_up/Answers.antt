@@ -1,14 +1,11 @@
-use Rattle.std.proofs.{
-  Common.{inr, Some, None, ◌∙◌, arith},
-  lemmas.List.{length_push, set-set},
-}
+use Rattle.std.proofs.{Common.{inr, ◌∙◌, arith}, lemmas.List.{length_push, set-set}}
 use Rattle.arraydeque_ring.proofs.fills.{FromIterator.Fills-one, Filling.{filled_outside, with_run-behind}}
 use Rattle.arraydeque_ring.proofs.ring.fill.displace_up.Goals as goal
 
 pub take-first-requires : goal.take-first-requires
 take-first-requires g c =
     let was = c.loop-displaced.invariant.filled in
-    rw was.holds.1 (filled_outside c.args.from was.items c.args.slots.places (omega arith) _ (inr (omega arith))
+    rw was.holds.1 (filled_outside c.args.from _ _ (omega arith) _ (inr (omega arith))
     _ _ c.requires.filled (omega arith) (omega arith))
 
 pub loop-displaced-preserved : goal.loop-displaced-preserved

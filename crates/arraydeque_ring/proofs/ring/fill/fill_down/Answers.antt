@@ -8,7 +8,7 @@ use Rattle.arraydeque_ring.proofs.ring.fill.fill_down.Goals as goal
 pub put-requires : goal.put-requires
 put-requires g c =
     let was = c.loop-filled.invariant.filled in
-    rw was.holds.1 (empty_outside (c.args.from - c.loop-filled.filled) (reverse was.items) c.args.slots.places
+    rw was.holds.1 (empty_outside _ (reverse was.items) _
     (omega (arith, length-reverse was.items)) _ (inl (omega arith)) _ _ c.requires.empty (omega arith) (omega arith))
 
 pub loop-filled-preserved : goal.loop-filled-preserved
@@ -17,7 +17,7 @@ loop-filled-preserved g c =
     let x = c.in-Some.element in record {
       filled = Fills-one _ was.filled x c.in-Some.ensures.steps _ (
         omega (arith, length_push xs x),
-        rw (c.put.ensures.places, was.filled.holds.1) (with_run-down (c.args.from - c.loop-filled.filled) xs c.args.slots.places x _
+        rw (c.put.ensures.places, was.filled.holds.1) (with_run-down _ xs _ x _
             (c.args.from - (c.loop-filled.filled + 1)) (omega arith) (omega arith) (omega arith)),
       );
       steps = rw (c.put.ensures.steps, was.steps) (grind arith);

@@ -5,7 +5,7 @@ use Rattle.arraydeque_ring.proofs.ring.fill.fill_up.Goals as goal
 pub put-requires : goal.put-requires
 put-requires g c =
     let was = c.loop-filled.invariant.filled in
-    rw was.holds.1 (empty_outside c.args.from was.items c.args.slots.places (omega arith) _ (inr (omega arith))
+    rw was.holds.1 (empty_outside _ was.items _ (omega arith) _ (inr (omega arith))
     _ _ c.requires.empty (omega arith) (omega arith))
 
 pub loop-filled-preserved : goal.loop-filled-preserved
