@@ -71,7 +71,7 @@ module _ {X : Type 0} {r : Inside X} {v : RingState X} (o : Opened r v) {n : ℕ
     )
 
     pub empty_behind : IsEmptyRun r.slots.places place run
-    empty_behind = IsEmptyRun-behind o.laid place run lies.0 lies.1 (omega arith)
+    empty_behind = IsEmptyRun-behind o.laid _ _ lies.0 lies.1 (omega arith)
 
     pub laid_back : (xs : List X) → length xs ≡ run → {slots : Region X}
         → slots.places ≡ with_run place xs r.slots.places → slots.steps ≡ more_puts run r.slots.steps
@@ -85,18 +85,16 @@ module _ {X : Type 0} {r : Inside X} {v : RingState X} (o : Opened r v) {n : ℕ
 
   -- in the places of the first items
   pub filled_first : r.len ≡ n → IsFilledRun r.slots.places r.start (n - r.start)
-  filled_first full = IsFilledRun-LaidOut o.laid 0 r.start (n - r.start) (inl (omega arith)) (omega arith)
-      (omega arith)
+  filled_first full = IsFilledRun-LaidOut o.laid 0 _ _ (inl (omega arith)) (omega arith) (omega arith)
 
   pub laid_first : (run : ℕ) (xs : List X) → length xs ≡ run → r.len ≡ n → run ≤ n - r.start
       → {slots : Region X} {start : ℕ} → start ≡ (r.start + run) % n → slots.places ≡ with_run r.start xs r.slots.places
       → slots.steps ≡ more_puts run (more_takes run r.slots.steps)
       → Opened record r { slots = slots; start = start } (displaced_first xs v)
   laid_first run xs many full fits is places steps = record {
-    laid = rw (places, is, all, ← many) (LaidOut-first o.laid (omega arith) xs (omega arith)
-        (omega arith));
+    laid = rw (places, is, all, ← many) (LaidOut-first o.laid (omega arith) xs (omega arith) (omega arith));
     len = omega (arith, length-drop (length xs) (v.items ++ xs), length-append v.items xs);
-    start = rw (is, all, ← many, o.start) (up_by-is (length xs) v.start v.capacity (rw o.start at o.laid.in_region));
+    start = rw (is, all, ← many, o.start) (up_by-is _ _ _ (rw o.start at o.laid.in_region));
     steps = rw (steps, o.steps, many) refl;
   }
 
@@ -110,21 +108,19 @@ module _ {X : Type 0} {r : Inside X} {v : RingState X} (o : Opened r v) {n : ℕ
     ]
 
     pub empty_before : run ≤ n - r.len → IsEmptyRun r.slots.places (place + 1 - run) run
-    empty_before room = IsEmptyRun-from o.laid (v.capacity - run) (place + 1 - run) run
-        (omega arith) before.0 (omega arith) (omega arith)
+    empty_before room = IsEmptyRun-from o.laid (v.capacity - run) _ _ (omega arith) before.0 (omega arith)
+        (omega arith)
 
     pub filled_last : r.len ≡ n → IsFilledRun r.slots.places (place + 1 - run) run
-    filled_last full = IsFilledRun-LaidOut o.laid (v.capacity - run) (place + 1 - run) run before.0
-        (omega arith) (omega arith)
+    filled_last full = IsFilledRun-LaidOut o.laid (v.capacity - run) _ _ before.0 (omega arith) (omega arith)
 
     module _ (xs : List X) (many : length xs ≡ run) {start : ℕ} (is : start ≡ (r.start + (n - run)) % n)
         (slots : Region X) (places : slots.places ≡ with_run (place + 1 - run) (reverse xs) r.slots.places) where
       down : start ≡ down_by (length xs) v.start v.capacity
-      down = rw (is, all, ← many, o.start) (down_by-is (length xs) v.start v.capacity (omega arith)
-          (omega arith))
+      down = rw (is, all, ← many, o.start) (down_by-is _ _ _ (omega arith) (omega arith))
 
       laid : LaidOut v.capacity start (take v.capacity (reverse xs ++ v.items)) slots.places
-      laid = rw (places, is, all) (LaidOut-before o.laid (omega arith) (reverse xs) run (place + 1 - run)
+      laid = rw (places, is, all) (LaidOut-before o.laid (omega arith) (reverse xs) _ _
           (length-reverse xs ∙ many) before.0 (omega (arith, before.1)))
 
       long : length (reverse xs ++ v.items) ≡ r.len + run
