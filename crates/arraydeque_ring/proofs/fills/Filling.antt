@@ -3,7 +3,7 @@ use Rattle.std.proofs.{
   Common.{◌≡◌, ℕ, ◌+◌, ◌-◌, ◌<◌, ◌≤◌, ◌⊎◌, List, [], ◌∷◌, ◌++◌, length, reverse, set, Option, Some, ap},
   Common.{◌∙◌, arith, rules},
   lemmas.{
-    Bool.{cases_eq, Decides.nat_tests},
+    Bool.Decides.nat_tests,
     List.{get_or-set_same, places, same_lists, length-map, map-append, length-append, length-reverse, reverse-append},
   },
 }
@@ -28,8 +28,8 @@ module _ {X : Type 0} (at : ℕ) (xs : List X) (ps : List (Option X)) (within : 
   with_run-behind x place here lt =
       let long = length-map xs Some in
       let more = length-append xs (x ∷ []) in
-      same_places _ _ (search (rules, places, map-append, long)) (λ i i_in.
-      get_or-written (with_run at xs ps) place i (Some x) (search (rules, places, long)) ∙ grind (
+      same_places _ _ (search (rules, places, map-append)) (λ i i_in.
+      get_or-written (with_run at xs ps) place i (Some x) (search (rules, places)) ∙ grind (
         arith,
         nat_tests,
         items,
@@ -41,19 +41,18 @@ module _ {X : Type 0} (at : ℕ) (xs : List X) (ps : List (Option X)) (within : 
 
   pub with_run-before : (x : X) (place : ℕ) → place + 1 ≡ at
       → set (with_run at xs ps) place (Some x) ≡ with_run place (x ∷ xs) ps
-  with_run-before x place here = let long = length-map xs Some in
-      same_lists _ _ (search (rules, places)) (λ j d lt.
-      grind (arith, places, long, get_or-set_same, cases_eq j place))
+  with_run-before x place here =
+      same_lists _ _ (search (rules, places)) (λ j d lt. grind (arith, places, get_or-set_same))
 
   -- the places outside are as they were
   module _ (place : ℕ) (outside : (place < at) ⊎ (at + length xs ≤ place)) where
     held : held_at (with_run at xs ps) place ≡ held_at ps place
-    held = grind (arith, nat_tests, outside, get_or-with_run at xs ps place)
+    held = grind (arith, get_or-with_run at xs ps place)
 
     pub empty_outside : (first run : ℕ) → IsEmptyRun ps first run → first ≤ place → place < first + run
         → IsEmpty (with_run at xs ps) place
     empty_outside first run empty from to = (
-      omega (arith, empty.0, length-with_run at xs ps within),
+      omega (arith, length-with_run at xs ps within),
       held ∙ ap (held_at ps) (omega arith) ∙ empty_in_run ps first run (place - first) empty (omega arith),
     )
 

@@ -1,10 +1,10 @@
 -- Loops that take items from an iterator, while there is room.
 use Rattle.std.{
   proofs.{
-    Common.{◌≡◌, ℕ, ◌+◌, ◌≤◌, List, [], ◌∷◌, ◌++◌, length, Option, Some, Bool, true, false, refl, sym},
-    Common.{subst, ◌∙◌, true≢false, arith},
-    iter.{Next.{Yields-more}, runs.Lists.{Yields-both}},
-    lemmas.List.{length-append},
+    Common.{◌≡◌, ℕ, ◌+◌, ◌≤◌, List, [], ◌∷◌, ◌++◌, length, Option, Some, Bool, true, false, refl},
+    Common.{subst, arith},
+    iter.runs.Lists.Yields-both,
+    lemmas.List.length-append,
   },
   specs.Iterator.Yields,
 }
@@ -18,14 +18,14 @@ module _ {S A : Type 0} (gives : S → Option A → S → Type 0) where
     last = s;
     yielded = refl;
     at_most = omega arith;
-    none = λ e. absurd (true≢false (sym e));
+    none = λ e. absurd (grind arith);
     all = λ _. (refl, refl);
     holds = holds;
   }
 
   -- the same, said otherwise
   pub Fills-as : {from to : S} {n : ℕ} {ended : Bool} {P : List A → Type 0} (f : Fills gives from to n ended P) (m : ℕ)
-      (Q : List A → Type 0) → length f.items ≤ m → (ended ≡ false → n ≡ m) → ((xs : List A) → P xs → Q xs)
+      (Q : List A → Type 0) → length f.items ≤ m → (ended ≡ false → length f.items ≡ m) → ((xs : List A) → P xs → Q xs)
       → Fills gives from to m ended Q
   Fills-as f m Q le same holds = record {
     items = f.items;
@@ -33,26 +33,9 @@ module _ {S A : Type 0} (gives : S → Option A → S → Type 0) where
     yielded = f.yielded;
     at_most = le;
     none = f.none;
-    all = λ some. let all = f.all some in (all.0, all.1 ∙ same some);
+    all = λ some. ((f.all some).0, same some);
     holds = holds f.items f.holds;
   }
-
-  module _ {from mid : S} {k : ℕ} {P : List A → Type 0} (was : Fills gives from mid k false P) where
-    so_far : Yields gives from was.items mid
-    so_far = subst (Yields gives from was.items) (was.all refl).0 was.yielded
-
-    -- one item more
-    pub Fills-one : {to : S} (x : A) → gives mid (Some x) to → (Q : List A → Type 0) → Q (was.items ++ x ∷ [])
-        → Fills gives from to (k + 1) false Q
-    Fills-one {to = to} x came Q holds = let long = length-append was.items (x ∷ []) in record {
-      items = was.items ++ x ∷ [];
-      last = to;
-      yielded = Yields-more gives from was.items mid x to so_far came;
-      at_most = omega (arith, long, was.at_most);
-      none = λ e. absurd (true≢false (sym e));
-      all = λ _. (refl, omega (arith, long, (was.all refl).1));
-      holds = holds;
-    }
 
   module _ {from mid : S} {n : ℕ} {ended : Bool} {P : List A → Type 0} (first : Fills gives from mid n ended P) where
     -- of two loops, where the iterator didn't end in the first
@@ -65,11 +48,24 @@ module _ {S A : Type 0} (gives : S → Option A → S → Type 0) where
           last = then.last;
           yielded = Yields-both gives first.items then.items from mid then.last
               (subst (Yields gives from first.items) all.0 first.yielded) then.yielded;
-          at_most = omega (arith, long, all.1, then.at_most);
+          at_most = omega arith;
           none = then.none;
-          all = λ more. let rest = then.all more in (rest.0, omega (arith, long, all.1, rest.1));
+          all = λ more. let rest = then.all more in (rest.0, omega arith);
           holds = holds;
         }
+
+  -- and of a loop and one call more
+  pub Fills-one : {from mid to : S} {n : ℕ} {P : List A → Type 0} (was : Fills gives from mid n false P) (x : A)
+      → gives mid (Some x) to → (Q : List A → Type 0) → Q (was.items ++ x ∷ []) → Fills gives from to (n + 1) false Q
+  Fills-one {mid = mid} {to = to} was x came Q holds = Fills-both was {Q = λ _. gives mid (Some x) to} (record {
+    items = x ∷ [];
+    last = to;
+    yielded = (to, came, refl);
+    at_most = omega arith;
+    none = λ e. absurd (grind arith);
+    all = λ _. (refl, refl);
+    holds = came;
+  }) Q refl holds
 
   -- and where it ended, all that came before the first None
   pub Ends-fills : {from to : S} {n : ℕ} {ended : Bool} {P Q : List A → Type 0} → Fills gives from to n ended P

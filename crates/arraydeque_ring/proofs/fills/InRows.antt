@@ -1,7 +1,7 @@
 -- Items that come one by one behind the last item or before the first.
 use Rattle.std.proofs.{
   Common.{◌≡◌, ℕ, ◌+◌, ◌-◌, ◌*◌, List, ◌++◌, length, reverse, sym, ap, ◌∙◌, arith},
-  lemmas.{Bool.Decides.nat_tests, List.{append_assoc, length-append, reverse-append}},
+  lemmas.List.{append_assoc, length-append, reverse-append},
 }
 use Rattle.arraydeque_ring.{
   specs.{Ring.{RingState, down_by}, Steps.{more_puts}},
@@ -10,7 +10,7 @@ use Rattle.arraydeque_ring.{
 
 -- to go down by j places and then by k is to go down by both
 down_by-both : (j k s n : ℕ) → down_by k (down_by j s n) n ≡ down_by (j + k) s n
-down_by-both j k s n = grind (arith, nat_tests, place_of-sum s (j * (n - 1)) (k * (n - 1)) n)
+down_by-both j k s n = grind (arith, place_of-sum s (j * (n - 1)) (k * (n - 1)) n)
 
 module _ {X : Type 0} (xs ys : List X) where
   pub down_by-all : (s n : ℕ) → down_by (length ys) (down_by (length xs) s n) n ≡ down_by (length (xs ++ ys)) s n

@@ -126,10 +126,10 @@ module _ {X : Type 0} {dst gap behind len : ℕ} {ps : List (Option X)} (u : Und
       first_moved =
           let long : length qs ≡ length ps =
           ap length same ∙ length-gap_moved from dst behind ps (omega arith) (omega arith) in (
-            empty_run_of qs dst behind (omega arith) (λ x a b. made_room x (omega arith) ∙ grind (arith, nat_tests)),
+            empty_run_of qs dst behind (omega arith) (λ x a b. made_room x (omega arith) ∙ grind arith),
             filled_run_of qs next behind (omega arith) (λ x a b.
                 let v = slice_get_some u.list (x - gap) (omega arith) in
-                (v.0, made_room x (omega arith) ∙ grind (arith, nat_tests))),
+                (v.0, made_room x (omega arith) ∙ grind arith)),
             holds_all _ (length-runs_exchanged dst next behind qs (omega arith) (omega arith) ∙ long) (λ x lt.
                 get_or-runs_exchanged dst next behind qs (omega arith) (omega arith) x
                 ∙ grind (

@@ -2,7 +2,7 @@
 use Rattle.std.{
   proofs.{
     Common.{◌≡◌, ◌+◌, ◌<◌, ◌≤◌, List, [], ◌∷◌, ◌++◌, length, Bool, true, false, cond, not, count_by, refl, arith},
-    lemmas.List.Sums.{sum_by-append, sum_by-cons},
+    lemmas.List.Sums.{sum_by_push, sum_by-cons},
   },
   specs.List.items_where_true,
 }
@@ -20,7 +20,7 @@ kept_and_gone (false ∷ bs) (x ∷ xs) le = let more : count_by not (false ∷ 
 -- one more to count
 pub count_by-push : (p : Bool → Bool) (bs : List Bool) (b : Bool)
     → count_by p (bs ++ b ∷ []) ≡ count_by p bs + cond (p b) 1 0
-count_by-push p bs b = let sum = sum_by-append (λ x. cond (p x) 1 0) bs (b ∷ []) in omega arith
+count_by-push p bs b = sum_by_push (λ x. cond (p x) 1 0) bs b
 
 -- an item that stays behind one that goes is moved
 pub moved-push_true : (bs : List Bool) → 0 < count_by not bs → count_moved (bs ++ true ∷ []) ≡ count_moved bs + 1

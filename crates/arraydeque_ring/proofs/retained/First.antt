@@ -26,7 +26,7 @@ until_all n = grind (arith, append-nil (replicate n true))
 
 -- n items that stay stand before
 until_behind : (n k m : ℕ) → answers_until (n + k) (n + m) ≡ replicate n true ++ answers_until k m
-until_behind n k m = grind (arith, append-nil, append_assoc, replicate-append-replicate n k true)
+until_behind n k m = grind (arith, append_assoc, replicate-append-replicate n k true)
 
 -- those that stay are the first ones, none goes, and none is moved
 pub picked_front : {X : Type 0} (k : ℕ) (xs : List X) → items_where_true (replicate k true) xs ≡ take k xs
@@ -93,7 +93,7 @@ module _ {X F : Type 0} (t : Mut F (Bor X × Unit {0}) Bool) (f : F) (xs ys : Li
   pub asked_front : MayBeAsked t f xs
   asked_front answers g x here told =
       let lt = slice_get_within xs (length answers) x.now here in
-      may answers g x (slice_get-append xs ys (length answers) ∙ grind (arith, here))
+      may answers g x (slice_get-append xs ys (length answers) ∙ grind arith)
       (told_longer (CalledAt t) f g answers xs ys told)
 
   pub asked_back : (g : F) (k : ℕ) → k ≡ length xs → ReturnsInTurn (CalledAt t) f (answers_until k (length xs)) xs g
@@ -103,6 +103,6 @@ module _ {X F : Type 0} (t : Mut F (Bor X × Unit {0}) Bool) (f : F) (xs ys : Li
       let long : length (bs ++ answers) ≡ length xs + length answers =
       omega (arith, length-append bs answers, length-replicate k true) in
       may (bs ++ answers) h x (ap (slice_get (xs ++ ys)) long ∙ slice_get-append xs ys (length xs + length answers)
-      ∙ grind (arith, nat_tests, here))
+      ∙ grind (arith, nat_tests))
       (told_behind (CalledAt t) f g h bs answers xs ys (length-replicate k true ∙ all)
       (all_stay (CalledAt t) f g k xs all first) told)

@@ -74,7 +74,7 @@ first_goes R f g before {items} {n} {t} {ps} k l lt told =
       stay = ap length stay ∙ length-take-le k items (omega arith);
       some_gone = omega arith;
       places = rw (stay, one, add-one k) (Gapped-taken_one l k lt);
-      cost = grind (arith, one, moved-push_false bs, none_moved k);
+      cost = grind (arith, moved-push_false bs, none_moved k);
     }
 
 module _ {F X : Type 0} {R : F → X → Bool → F → Type 0} {f : F} {items : List X} {before : Steps} {n t index kept : ℕ}

@@ -10,21 +10,20 @@ use Rattle.arraydeque_ring.proofs.{
 use Rattle.arraydeque_ring.proofs.ring.Ring.displace_first.Goals as goal
 
 pub loop-ended-init : goal.loop-ended-init
-loop-ended-init g c = let ring = bounds c.self.inside _ c.self.invariant c.self.view_is in record {
-  full = (omega (arith, ring, c.requires.full), omega (arith, ring, c.capacity-capacity.ensures));
+loop-ended-init g c = let ring = bounds _ _ c.self.invariant c.self.view_is in record {
+  full = omega arith;
   out = c.moved_out-slots.ensures.left;
   so_far = (
     0,
     Fills-none _ _ _ (rw c.moved_out-slots.ensures.region
-        (opened c.self.inside c.self.invariant (grind (arith, append-nil)))),
+        (opened _ c.self.invariant (grind (arith, append-nil)))),
   );
   goes = λ _. (c.requires.may, c.requires.ends);
 }
 
 pub displace_up-written-requires-clause-filled : goal.displace_up-written-requires-clause-filled
-displace_up-written-requires-clause-filled g c = let full = c.loop-ended.invariant.full in
-    filled_first c.loop-ended.invariant.so_far.1.holds full.1 (omega (arith, full.1, c.requires.some))
-    (omega (arith, full))
+displace_up-written-requires-clause-filled g c = let was = c.loop-ended.invariant in
+    filled_first was.so_far.1.holds was.full.1 (omega arith) (omega arith)
 
 pub loop-ended-preserved : goal.loop-ended-preserved
 loop-ended-preserved g c =
@@ -36,9 +35,8 @@ loop-ended-preserved g c =
         _,
         Fills-both _ was now _ c.loop-ended-test.true (subst (Opened _)
             (displaced_first-both was.items now.items c.args.self.now)
-            (laid_first was.holds full.1 (omega (arith, full.1, c.requires.some)) done.result.1 now.items now.holds.0
-            (omega (arith, full)) (omega (arith, now.at_most, now.holds.0)) c.wrap_add-self-inside.ensures
-            now.holds.1 done.ensures.steps)),
+            (laid_first was.holds full.1 (omega arith) _ now.items now.holds.0 (omega arith) (omega arith)
+            c.wrap_add-self-inside.ensures now.holds.1 done.ensures.steps)),
       );
       goes = λ more. let goes = done.ensures.goes more in (goes.0, goes.1);
     }

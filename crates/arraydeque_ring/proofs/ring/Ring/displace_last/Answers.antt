@@ -1,4 +1,4 @@
-use Rattle.std.proofs.{Common.{◌+◌, subst, arith}, lemmas.List.take_all}
+use Rattle.std.proofs.{Common.{subst, arith}, lemmas.List.take_all}
 use Rattle.arraydeque_ring.proofs.{
   fills.{
     Displaced.displaced_last-both,
@@ -10,22 +10,21 @@ use Rattle.arraydeque_ring.proofs.{
 use Rattle.arraydeque_ring.proofs.ring.Ring.displace_last.Goals as goal
 
 pub loop-ended-init : goal.loop-ended-init
-loop-ended-init g c = let ring = bounds c.self.inside _ c.self.invariant c.self.view_is in record {
-  full = (omega (arith, ring, c.requires.full), omega (arith, ring, c.capacity-capacity.ensures));
+loop-ended-init g c = let ring = bounds _ _ c.self.invariant c.self.view_is in record {
+  full = omega arith;
   out = c.moved_out-slots.ensures.left;
   so_far = (
     0,
     Fills-none _ _ _ (rw c.moved_out-slots.ensures.region
-        (opened c.self.inside c.self.invariant (grind (arith, take_all)))),
+        (opened _ c.self.invariant (grind (arith, take_all)))),
   );
   goes = λ _. (c.requires.may, c.requires.ends);
 }
 
 pub displace_down-written-requires-clause-filled : goal.displace_down-written-requires-clause-filled
 displace_down-written-requires-clause-filled g c =
-    let full = c.loop-ended.invariant.full in let from = c.wrap_add-from in
-    filled_last c.loop-ended.invariant.so_far.1.holds full.1 (omega (arith, full.1, c.requires.some)) (from.result + 1)
-    from.result from.ensures (omega arith) (omega (arith, full))
+    let was = c.loop-ended.invariant in
+    filled_last was.so_far.1.holds was.full.1 (omega arith) _ _ c.wrap_add-from.ensures (omega arith) (omega arith)
 
 pub loop-ended-preserved : goal.loop-ended-preserved
 loop-ended-preserved g c =
@@ -37,9 +36,8 @@ loop-ended-preserved g c =
         _,
         Fills-both _ was now _ c.loop-ended-test.true (subst (Opened _)
             (displaced_last-both was.items now.items c.args.self.now)
-            (laid_last was.holds full.1 (omega (arith, full.1, c.requires.some)) done.result.1 c.wrap_add-from.result
-            c.wrap_add-from.ensures (omega (arith, now.at_most, now.holds.0)) now.items now.holds.0
-            c.wrap_add-self-inside.ensures done.result.0 now.holds.1 (omega (arith, full)) done.ensures.steps)),
+            (laid_last was.holds full.1 (omega arith) _ _ c.wrap_add-from.ensures (omega arith) now.items
+            now.holds.0 c.wrap_add-self-inside.ensures _ now.holds.1 (omega arith) done.ensures.steps)),
       );
       goes = λ more. let goes = done.ensures.goes more in (goes.0, goes.1);
     }

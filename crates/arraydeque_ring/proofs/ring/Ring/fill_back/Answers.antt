@@ -1,4 +1,4 @@
-use Rattle.std.proofs.{Common.{subst, ◌∙◌, sym, true≢false, arith}, lemmas.List.{append-nil, length-append}}
+use Rattle.std.proofs.{Common.{subst, arith}, lemmas.List.{append-nil, length-append}}
 use Rattle.arraydeque_ring.proofs.{
   fills.{
     FromIterator.{Fills-none, Fills-both, Fills-as},
@@ -14,30 +14,27 @@ use Rattle.arraydeque_ring.proofs.ring.Ring.fill_back.Goals.{
 }
 
 pub loop-ended-init : goal.loop-ended-init
-loop-ended-init g c = let ring = bounds c.self.inside _ c.self.invariant c.self.view_is in record {
+loop-ended-init g c = let ring = bounds _ _ c.self.invariant c.self.view_is in record {
   all = omega arith;
   out = c.moved_out-slots.ensures.left;
   so_far = (
     0,
     Fills-none _ _ _ (rw c.moved_out-slots.ensures.region
-        (opened c.self.inside c.self.invariant (grind (arith, append-nil)))),
+        (opened _ c.self.invariant (grind (arith, append-nil)))),
   );
   goes = λ _. (c.requires, λ f. f);
 }
 
 pub fill_up-written-requires-clause-empty : goal.fill_up-written-requires-clause-empty
-fill_up-written-requires-clause-empty g c = let was = c.loop-ended.invariant in let run = c.min-run in
-    empty_behind was.so_far.1.holds was.all (omega arith) run.result
-    c.wrap_add-from.result c.wrap_add-from.ensures (omega (arith, run.ensures)) (omega (arith, run.ensures))
+fill_up-written-requires-clause-empty g c = let was = c.loop-ended.invariant in
+    empty_behind was.so_far.1.holds was.all (omega arith) _ _ c.wrap_add-from.ensures (omega arith) (omega arith)
 
 pub loop-ended-preserved : goal.loop-ended-preserved
 loop-ended-preserved g c =
     let was = c.loop-ended.invariant in let some = c.loop-ended-test.true in let fill = c.fill_up-written in
     let xs = was.so_far.1.items in let now = fill.ensures.filled in
-    let after = laid_back was.so_far.1.holds was.all (omega arith) fill.result.1 c.wrap_add-from.result
-    c.wrap_add-from.ensures (omega (arith, c.min-run.ensures, now.holds.0, now.at_most))
-    (omega (arith, c.min-run.ensures, now.holds.0, now.at_most)) now.items now.holds.0
-    now.holds.1 fill.ensures.steps in
+    let after = laid_back was.so_far.1.holds was.all (omega arith) _ _ c.wrap_add-from.ensures
+    (omega arith) (omega arith) now.items now.holds.0 now.holds.1 fill.ensures.steps in
     record {
       all = was.all;
       out = was.out;
@@ -58,11 +55,9 @@ returns-clause-within g c = rw c.replace-nothing.ensures.after
 
 pub returns-clause-filled : goal.returns-clause-filled
 returns-clause-filled g c =
-    let all = c.loop-ended.invariant.all in let was = c.loop-ended.invariant.so_far.1 in
-    let within = was.holds.laid.within in let long = length-append c.args.self.now.items was.items in
-    rw c.replace-nothing.ensures.after (Fills-as _ was _ _ (omega (arith, within, long)) (λ more.
+    let was = c.loop-ended.invariant.so_far.1 in let long = length-append c.args.self.now.items was.items in
+    rw c.replace-nothing.ensures.after (Fills-as _ was _ _ (omega arith) (λ more.
     elim c.loop-ended-test.branch [
-      | then-loop-ended-test+else-self-capacity w ↦
-          omega (arith, w.if-self-capacity, all, was.holds.len, (was.all more).1, within, long)
-      | else-loop-ended-test w ↦ absurd (true≢false (sym w.loop-ended-test.false ∙ more))
+      | then-loop-ended-test+else-self-capacity w ↦ omega arith
+      | else-loop-ended-test w ↦ absurd (grind arith)
     ]) (λ xs. closed))

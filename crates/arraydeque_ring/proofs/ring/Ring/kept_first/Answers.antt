@@ -6,15 +6,15 @@ use Rattle.arraydeque_ring.proofs.{
 use Rattle.arraydeque_ring.proofs.ring.Ring.kept_first.Goals as goal
 
 pub kept_run-kept-requires : goal.kept_run-kept-requires
-kept_run-kept-requires g c = asked_front g.F.FnMut _ _ _ (rw (← c.as_slices.ensures.joined) at c.requires)
+kept_run-kept-requires g c = asked_front _ _ _ _ (rw (← c.as_slices.ensures.joined) at c.requires)
 
 pub returns-then-kept-front-clause-in_turn : goal.returns-then-kept-front-clause-in_turn
 returns-then-kept-front-clause-in_turn g c = rw (← c.as_slices.ensures.joined)
-    (until_in_front (CalledAt g.F.FnMut) _ _ _ _ _ c.if-kept-front.true c.kept_run-kept.ensures.in_turn)
+    (until_in_front (CalledAt _) _ _ _ _ _ c.if-kept-front.true c.kept_run-kept.ensures.in_turn)
 
 pub kept_run-requires : goal.kept_run-requires
 kept_run-requires g c =
-    asked_back g.F.FnMut _ _ _ (rw (← c.as_slices.ensures.joined) at c.requires) _ c.kept_run-kept.result (omega arith)
+    asked_back _ _ _ _ (rw (← c.as_slices.ensures.joined) at c.requires) _ c.kept_run-kept.result (omega arith)
     c.kept_run-kept.ensures.in_turn
 
 pub returns-clause-in_turn : goal.returns-clause-in_turn
@@ -22,5 +22,5 @@ returns-clause-in_turn g c =
     let before : c.self.inside.len - length c.as_slices.result.1.now ≡ c.kept_run-kept.result =
     grind (arith, slice_facts) in
     rw (before, ← c.as_slices.ensures.joined) (until_in_back
-    (CalledAt g.F.FnMut) _ _ _ c.kept_run-kept.result _ _ _ (omega arith) c.kept_run-kept.ensures.in_turn
+    (CalledAt _) _ _ _ c.kept_run-kept.result _ _ _ (omega arith) c.kept_run-kept.ensures.in_turn
     c.kept_run.ensures.in_turn)

@@ -2,11 +2,7 @@ use Rattle.std.proofs.{Common.{length, ap, ◌∙◌, arith}, lemmas.List.append
 use Rattle.arraydeque_ring.{
   specs.Places.Region,
   proofs.{
-    places.{
-      LaidOut.{length_within, rotated-LaidOut, LaidOut-from},
-      Opened.{opened, Shows, shows},
-      Rotated.length-rotated,
-    },
+    places.{LaidOut.{rotated-LaidOut, LaidOut-from}, Opened.{opened, Shows, shows}, Rotated.length-rotated},
     ring.Ring.linearize.{Given.Over, Goals.{After-replace-nothing}},
   },
 }
@@ -30,4 +26,4 @@ pub returns-clause-one_piece : goal.returns-clause-one_piece
 returns-clause-one_piece g c =
     let ring = opened c.self.inside c.self.invariant c.self.view_is in
     let now = after g (goal.at.returns-clause-one_piece g c).After-replace-nothing in
-    omega (arith, ap length now.3, length_within ring.laid)
+    omega (arith, ap length now.3)

@@ -3,7 +3,7 @@ use Rattle.arraydeque_ring.{
   proofs.{
     retained.Retaining.{all_kept, first_goes, next_filled, next_asked, room_for_next, all_within, one_stays, one_goes},
     retained.Retaining.{all_asked},
-    places.Opened.{opened, bounds},
+    places.Opened.opened,
     ring.Ring.retain.Goals.{then-keeps, else-keeps},
   },
 }
@@ -11,7 +11,7 @@ use Rattle.arraydeque_ring.proofs.ring.Ring.retain.Goals as goal
 
 pub returns-then-kept-len-clause-retains : goal.returns-then-kept-len-clause-retains
 returns-then-kept-len-clause-retains g c =
-    let ring = opened c.self.inside c.self.invariant c.self.view_is in
+    let ring = opened _ c.self.invariant c.self.view_is in
     all_kept (CalledAt g.F.FnMut) _ _ _ _ (c.if-kept-len.true ∙ sym ring.len) c.kept_first-kept.ensures.in_turn
 
 pub loop-index-init : goal.loop-index-init
@@ -37,7 +37,7 @@ get-requires g c =
 pub f-keeps-requires : goal.f-keeps-requires
 f-keeps-requires g c =
     let so_far = c.loop-index.invariant.so_far in
-    c.requires so_far.answers c.loop-index.f _
+    c.requires _ _ _
     (next_asked so_far (omega arith) _ (rw c.wrap_add-place.ensures at c.get.ensures)) so_far.in_turn
 
 pub shift-requires-clause-filled : goal.shift-requires-clause-filled
@@ -81,7 +81,7 @@ loop-index-preserved g c =
     ]
 
 pub invariant_of-self : goal.invariant_of-self
-invariant_of-self g c = grind (arith, bounds, all_asked c.loop-index.invariant.so_far (omega arith))
+invariant_of-self g c = grind (arith, all_asked c.loop-index.invariant.so_far (omega arith))
 
 pub returns-clause-retains : goal.returns-clause-retains
 returns-clause-retains g c =
@@ -91,9 +91,9 @@ returns-clause-retains g c =
       last = c.loop-index.f;
       one_each = omega arith;
       in_turn = so_far.in_turn;
-      kept = grind (arith, bounds, all_asked so_far (omega arith));
+      kept = grind (arith, all_asked so_far (omega arith));
     }
 
 pub returns-clause-no_longer : goal.returns-clause-no_longer
 returns-clause-no_longer g c = let so_far = c.loop-index.invariant.so_far in
-    grind (arith, bounds, all_asked so_far (omega arith), all_within so_far (omega arith))
+    grind (arith, all_asked so_far (omega arith), all_within so_far (omega arith))

@@ -13,6 +13,6 @@ take-requires g c =
 pub loop-place-preserved : goal.loop-place-preserved
 loop-place-preserved g c = record {
   places = rw (c.take.ensures.places, c.loop-place.invariant.places)
-      (next_emptied _ c.args.from c.loop-place.place (omega arith) (omega arith));
+      (next_emptied _ c.args.from _ (omega arith) (omega arith));
   steps = grind arith;
 }
