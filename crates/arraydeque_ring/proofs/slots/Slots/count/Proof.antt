@@ -2,7 +2,7 @@
 use Rattle.arraydeque_ring.{
   proofs.{
     memory.{
-      Kit.{refl, [], ◌∷◌, ℕ, ftrue, flft, Fn, inst_fn, named, w64, vunit, owns, types_at, ‵, raw, ◌⊛◌, ◌$◌, ◌∵◌, !},
+      Kit.{refl, [], ◌∷◌, ℕ, ftrue, flft, Fn, inst_fn, named, w64, vunit, owns, types_at, ‵, raw, ◌⊛◌, ◌$◌, !, ◌∵◌},
       Kit.{qed, move, keep, split, join, fsplit3, fjoin, fjoin3, feq_i, suffices, done, enter, of_opd, unit_lit},
       Kit.{returns, alloc_all, pass_all, free_all, look_at, sets, yes, plain, usize, uint_vals, uint_Tells, Stays},
       Kit.{walk_of, says, stay_dropped, stay_ref, Goes-dropped, Goes-ref, ends_at, nothing, El, args, proved, mut_vals},

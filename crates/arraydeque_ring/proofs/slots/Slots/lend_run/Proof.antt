@@ -4,7 +4,7 @@ use Rattle.arraydeque_ring.{
     memory.{
       Kit.{nothing, join, ◌≡◌, refl, sym, ap, ◌∙◌, List, [], ◌∷◌, map, ℕ, ◌+◌, ◌*◌, ◌≤◌, arith, length, length-map},
       Kit.{Some, Ura, ent, sep, GName, Fml, fsep, flft, Fn, inst_fn, named, Logic, sem, ‵, ◌⊛◌, some, later, ◌$◌, ◌∵◌},
-      Kit.{!, qed, by, move, use1, use2, split, pick, frame, rewrite, await, fsplit, fjoin, suffices, done, whole, sub},
+      Kit.{qed, !, by, move, use1, use2, split, pick, frame, rewrite, await, fsplit, fjoin, suffices, done, whole, sub},
       Kit.{look_in, agg, of_opd, bin, load, stop, fld, no_more, and_then, first, blocks, returns, alloc_all, pass_all},
       Kit.{free_all, look_at, get, through, sets, sets_last, mem, says, heard, El, R, args, el_x, split3, group, cells},
       Kit.{Array, follows, MutBor, MutSlice, slice_val, Global},
