@@ -16,6 +16,12 @@ pub const COUNTS: &str = "counts.csv";
 /// How much of the better peer's time is long.
 const LONG: f64 = 1.5;
 
+/// From how much of it on a cause is looked for.
+const LONGER: f64 = 1.1;
+
+/// Where the causes are written, by hand: the rows above `LONG` or above `LONGER`, their workloads, and what costs them.
+const CAUSES: &str = "causes.csv";
+
 /// What was measured of a workload, ours first: the least nanoseconds of a round, or its instructions.
 pub struct Figures {
     pub name: String,
@@ -33,6 +39,11 @@ impl Figures {
         let [ours, rust, std] = self.columns;
         let (to_rust, to_std) = (self.ratio(0), self.ratio(1));
         format!("| {} | {ours:.2} | {rust:.2} | {std:.2} | {to_rust:.2} | {to_std:.2} |", self.name)
+    }
+
+    /// Our time as a part of the better peer's.
+    fn worse_ratio(&self) -> f64 {
+        self.ratio(0).max(self.ratio(1))
     }
 
     /// The workload, without the bytes of an item and the capacity.
@@ -160,7 +171,7 @@ pub fn counts_line(name: &str, [ours, rust, std]: [f64; 3]) -> String {
 }
 
 fn is_long(figures: &Figures) -> bool {
-    figures.ratio(0).max(figures.ratio(1)) > LONG
+    figures.worse_ratio() > LONG
 }
 
 /// The workloads that take long beside the better peer.
@@ -169,26 +180,77 @@ pub fn slow() -> Result<Vec<String>> {
 }
 
 /// The instructions of the rows that take long, as far as they were counted.
-fn counts_table(all: &[Figures]) -> String {
+fn counts_table(rows: &[&Figures]) -> String {
     let counts = load(COUNTS).unwrap_or_default();
-    let lines = all.iter().filter(|row| is_long(row)).filter_map(|row| {
+    let lines = rows.iter().filter_map(|row| {
         let counted = counts.iter().find(|counted| counted.name == row.name)?;
         Some(counts_line(&row.name, counted.columns) + "\n")
     });
     format!("{COUNTS_HEAD}\n{}", lines.collect::<String>())
 }
 
+/// A workload with its greatest ratio and the count of its rows, if it has any of these.
+fn worst(workload: &str, rows: &[&Figures]) -> Option<String> {
+    let ratios = || rows.iter().filter(|row| row.workload() == workload).map(|row| row.worse_ratio());
+    let greatest = ratios().reduce(f64::max)?;
+    Some(format!("`{workload}` {greatest:.2} ({})", ratios().count()))
+}
+
+/// What costs the rows of some workloads.
+struct Cause {
+    workloads: Vec<String>,
+    text: String,
+}
+
+/// The causes that are written for the rows above this limit.
+fn causes(limit: f64) -> Result<Vec<Cause>> {
+    let text = std::fs::read_to_string(CAUSES)?;
+    let of_limit = text.lines().filter_map(|line| line.strip_prefix(&format!("{limit};"))?.split_once(';'));
+    let cause = |(workloads, text): (&str, &str)| Cause {
+        workloads: workloads.split(' ').map(str::to_string).collect(),
+        text: text.to_string(),
+    };
+    Ok(of_limit.map(cause).collect())
+}
+
+/// The workloads of these rows, which are above the limit, by what costs them.
+fn causes_table(limit: f64, rows: &[&Figures]) -> Result<String> {
+    let mut causes = causes(limit)?;
+    let has_cause = |name: &str| causes.iter().any(|cause| cause.workloads.iter().any(|other| other == name));
+    let mut others: Vec<String> =
+        rows.iter().map(|row| row.workload()).filter(|name| !has_cause(name)).map(str::to_string).collect();
+    others.sort();
+    others.dedup();
+    causes.push(Cause { workloads: others, text: "No cause was looked for.".to_string() });
+    let mut table = format!("| Above {limit} | What costs it |\n|---|---|\n");
+    for Cause { workloads, text } in &causes {
+        let worst: Vec<String> = workloads.iter().filter_map(|workload| worst(workload, rows)).collect();
+        if !worst.is_empty() {
+            let _ = writeln!(table, "| {} | {text} |", worst.join(", "));
+        }
+    }
+    Ok(table)
+}
+
 fn write_drawn(all: &[Figures], count_first: usize) -> Result<()> {
+    let (long, shorter): (Vec<&Figures>, Vec<&Figures>) =
+        all.iter().filter(|row| row.worse_ratio() > LONGER).partition(|row| is_long(row));
     let summaries = by_workload(all);
     let rows: String = all.iter().map(|figures| figures.line() + "\n").collect();
     let text = format!(
         "# The figures\n\n\
          Written by `bench/run`; [README.md](README.md) says what they mean.\n\n\
          By workload, the geometric mean of its rows and the least and the greatest of them:\n\n\
-         {}\nRows above {LONG} times the better peer's time:\n\n{}\n\
-         All rows:\n\n{HEAD}\n{rows}{}",
+         {}\n## Where it is slower, and why\n\n\
+         {} rows take more than {LONG} times the better peer's time, and {} more than {LONGER}. \
+         `ends` 1.66 (1), as an example, says that 1 row of `ends` does, and that the slowest takes 1.66 times.\n\n\
+         {}\n{}\n{}\n## All rows\n\n{HEAD}\n{rows}{}",
         short_table(&summaries),
-        counts_table(all),
+        long.len(),
+        shorter.len(),
+        causes_table(LONG, &long)?,
+        counts_table(&long),
+        causes_table(LONGER, &shorter)?,
         mean_lines(all, count_first),
     );
     std::fs::write("figures.md", text)?;
