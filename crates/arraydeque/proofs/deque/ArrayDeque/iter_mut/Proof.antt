@@ -52,12 +52,13 @@ iter_mut_spec 𝓤 𝓛 𝓜 𝓡 wired X N B L fits LB members dict dict_met =
     nothing ! $ move ! (1 ∷ 0 ∷ []) $ fjoin ! $ move ! (1 ∷ 0 ∷ []) $ join ! $ nothing ! $
     knows ! lives $ join ! $ calls_met 𝓛 ! 𝓜 𝓣 (h.ended X) (h.clauses X 𝓛 𝓜.mem 𝓡.returns)
     (of_met 𝓤 𝓛 𝓜 𝓡 (code.calls-arraydeque::iter::iter_mut::IterMut::of 𝓡.env wired) X L)
-    ((Two κs, (qs.0, (qs.1.0, tt)), (bounds.0, tt), (it, tt), (v ∷ [], tt)), tt) (id⊢ 𝓤 _) (and_then ! (get ! refl) (no_more !))
+    ((Two κs, (qs.0, (qs.1.0, tt)), (bounds.0, tt), (it, tt), (v ∷ [], tt)), tt) (id⊢ 𝓤 _)
+    (and_then ! (get ! refl) (no_more !))
     ((iter_laws.the_row_laws (named_lft 2 0 tt (Two κs)) (R E) (param_laws 0 X L)).lawful 𝓛)
     (λ u items ws' typed'. lands_as ! refl refl typed'.0 $
     -- [the iterator; two tokens; what `of` says; the others; what `lend` says]
-    move ! (1 ∷ 3 ∷ []) $ use2 𝓛 (raw (toks 𝓛 4 κs qs)) (come_back 𝓛 κs qs) $ move ! (2 ∷ []) $
-    heard ! _ (λ e. move ! (2 ∷ []) $
+    move ! (1 ∷ 3 ∷ []) $ use2 𝓛 (raw (toks 𝓛 4 κs qs)) (come_back 𝓛 κs qs) $
+    move ! (2 ∷ []) $ heard ! _ (λ e. move ! (2 ∷ []) $
     use1 𝓛 (‵ (lends_loan (R E) (f.CAP-row X C B) (f.B-row X C B) a.0 it) ⊛ raw _) (id⊢ 𝓤 _) $ split ! $
     move ! (1 ∷ []) $ first_fact ! (λ value. heard ! _ (λ _. fsplit ! $
     rewrite ! 0 (λ (loan : LoanState (el_x E)). ‵ (lends_items (R E) (f.CAP-row X C B) (f.B-row X C B) a.0 loan.name))
