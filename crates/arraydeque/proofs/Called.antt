@@ -1,31 +1,42 @@
 -- A call in a walk: what `lend` requires, and how the tokens of two lifetimes go on to the next call.
 -- Assumes `Logic`.
 use Rattle.arraydeque_ring.proofs.memory.{
-  Kit.{[], ◌∷◌, Ura, SProp, ent, sep, emp, via, snd∗, fact, fact_use, Logic, ‵, raw, ◌⊛◌, ◌$◌, ◌∵◌, !, qed, move, keep},
-  Kit.{split3, join, done, RattleType, ftrue, nothing, ◌⊑◌, ◌<◌, Lft},
+  Kit.{[], ◌∷◌, Ura, SProp, ent, sep, emp, fact, flft, Logic, sem, ‵, raw, ◌⊛◌, ◌$◌, ◌∵◌, !, qed, move, keep, split3},
+  Kit.{join, done, RattleType, ftrue, nothing, ◌⊑◌, ◌<◌, Lft},
 }
-use base.Logic.{fst∗}
+use contract.Lifetimes.{Lfts, Shares, toks}
 
-module _ {M : Type 1} (𝓤 : Ura M) (κ₁ κ₂ κ₃ : Lft) (X B : RattleType) where
-  -- what `lend` and its callers require, and that the first of it is known
+module _ {M : Type 1} (𝓤 : Ura M) (κ₂ κ₃ : Lft) (B : RattleType) where
+  -- what `lend` and its callers require, but that the items outlive the loan
   abbrev pub Asked : SProp 𝓤
   Asked = sep 𝓤 (fact 𝓤 (κ₂ ⊑ []))
       (sep 𝓤 (fact 𝓤 (κ₃ ⊑ B.lives)) (sep 𝓤 (fact 𝓤 (32 < 9223372036854775808)) (emp 𝓤)))
 
-  pub known : (P : SProp 𝓤) {Q : SProp 𝓤} → (κ₁ ⊑ X.lives → ent 𝓤 (sep 𝓤 P (sep 𝓤 (fact 𝓤 (κ₁ ⊑ X.lives)) Asked)) Q)
-      → ent 𝓤 (sep 𝓤 P (sep 𝓤 (fact 𝓤 (κ₁ ⊑ X.lives)) Asked)) Q
-  known P = fact_use 𝓤 (κ₁ ⊑ X.lives) (via 𝓤 (sep 𝓤 (fact 𝓤 (κ₁ ⊑ X.lives)) Asked)
-      (snd∗ 𝓤 P (sep 𝓤 (fact 𝓤 (κ₁ ⊑ X.lives)) Asked)) (fst∗ 𝓤 (fact 𝓤 (κ₁ ⊑ X.lives)) Asked))
+-- the lifetimes of the loan and of the items
+abbrev pub Two : Lfts 4 → Lfts 2
+Two κs = (κs.0, (κs.1.0, tt))
 
-module _ {M : Type 1} {𝓤 : Ura M} (𝓛 : Logic 𝓤) where
-  module _ (A B O : SProp 𝓤) where
-    -- two tokens are set apart from others
-    pub set_apart : ent 𝓤 (sep 𝓤 A (sep 𝓤 B O)) (sep 𝓤 (sep 𝓤 A (sep 𝓤 B (emp 𝓤))) O)
-    set_apart = qed 𝓛 ((raw A ⊛ raw B ⊛ raw O) ∷ []) ∵ split3 ! $ nothing ! $ move ! (2 ∷ 0 ∷ []) $ join ! $
-        move ! (1 ∷ 0 ∷ []) $ join ! $ move ! (0 ∷ 1 ∷ []) $ join ! $ done !
+module _ {M : Type 1} {𝓤 : Ura M} (𝓛 : Logic 𝓤) (κs : Lfts 4) (qs : Shares 4) where
+  -- their tokens, and the others
+  abbrev pub OfTwo : SProp 𝓤
+  OfTwo = toks 𝓛 2 (Two κs) (qs.0, (qs.1.0, tt))
 
-    -- and come back to them
-    pub come_back : ent 𝓤 (sep 𝓤 (sep 𝓤 A (sep 𝓤 B (emp 𝓤))) O) (sep 𝓤 A (sep 𝓤 B O))
-    come_back =
-        qed 𝓛 ((raw A ⊛ raw B ⊛ ‵ ftrue) ∷ raw O ∷ []) ∵ split3 ! $ move ! (1 ∷ 3 ∷ []) $ join ! $
-        move ! (1 ∷ 0 ∷ []) $ join ! $ keep ! (0 ∷ []) $ done !
+  abbrev pub Others : SProp 𝓤
+  Others = toks 𝓛 2 κs.1.1 qs.1.1
+
+  abbrev A : SProp 𝓤
+  A = sem 𝓛 (flft κs.0 qs.0)
+
+  abbrev B : SProp 𝓤
+  B = sem 𝓛 (flft κs.1.0 qs.1.0)
+
+  -- two tokens are set apart from the others
+  pub set_apart : ent 𝓤 (toks 𝓛 4 κs qs) (sep 𝓤 OfTwo Others)
+  set_apart = qed 𝓛 ((raw A ⊛ raw B ⊛ raw Others) ∷ []) ∵ split3 ! $ nothing ! $ move ! (2 ∷ 0 ∷ []) $ join ! $
+      move ! (1 ∷ 0 ∷ []) $ join ! $ move ! (0 ∷ 1 ∷ []) $ join ! $ done !
+
+  -- and come back to them
+  pub come_back : ent 𝓤 (sep 𝓤 OfTwo Others) (toks 𝓛 4 κs qs)
+  come_back =
+      qed 𝓛 ((raw A ⊛ raw B ⊛ ‵ ftrue) ∷ raw Others ∷ []) ∵ split3 ! $ move ! (1 ∷ 3 ∷ []) $ join ! $
+      move ! (1 ∷ 0 ∷ []) $ join ! $ keep ! (0 ∷ []) $ done !

@@ -1,15 +1,16 @@
 -- `lend` lends all items: the ring lends its own, and the deque follows what the ring follows. Assumes `Logic`.
 use Rattle.arraydeque_ring.{
   proofs.{
-    memory.Called.{calls_met, first_fact, knows},
-    memory.Kit.{◌≡◌, refl, ap, ◌∙◌, List, [], ◌∷◌, ◌++◌, ℕ, ◌+◌, ◌≤◌, arith, length, full_share, id⊢, sep, Share},
-    memory.Kit.{GName, flft, Fn, inst_fn, named, vptr, ◌⊑◌, fact, tables, owns, types_at, ‵, raw, ◌⊛◌, some, later},
-    memory.Kit.{◌$◌, ◌∵◌, !, qed, move, keep, use1, use2, split, split3, group, join, pick, frame, rewrite, await},
-    memory.Kit.{fsplit, fsplit3, fjoin, suffices, done, enter, addr, stop, fld, no_more, and_then, returns, alloc_all},
-    memory.Kit.{pass_all, free_all, look_at, get, through, sets, lands_as, no, plain, mem, part_at, Stays, walk_of},
-    memory.Kit.{says_two, stay_dropped, ends_at, heard, nothing, RattleType, El, R, el_x, proved, after₂, sem, Array},
-    memory.Kit.{both_by, number, MutBor, NamedLft, mut_vals, mut_Tells, named_lft, Goes-spent_ref, on_entry, a_type},
-    memory.Kit.{a_number},
+    memory.{
+      Called.{calls_met, first_fact, knows},
+      Methods.{method, spent, values},
+      Kit.{◌≡◌, refl, ap, ◌∙◌, List, [], ◌∷◌, ◌++◌, ℕ, ◌+◌, ◌≤◌, arith, length, full_share, id⊢, sep, Share, GName},
+      Kit.{flft, Fn, inst_fn, tables, ‵, raw, ◌⊛◌, some, later, ◌$◌, !, move, keep, use1, use2, split, split3, group},
+      Kit.{join, pick, frame, rewrite, await, fsplit, fjoin, suffices, done, addr, stop, fld, no_more, and_then},
+      Kit.{returns, alloc_all, pass_all, free_all, look_at, get, through, sets, lands_as, mem, part_at, says_two},
+      Kit.{heard, nothing, RattleType, El, R, el_x, after₂, sem, Array, both_by, number, MutBor, NamedLft, named_lft},
+      Kit.{a_type, a_number, drop},
+    },
     loans.{Made.{loan_lawful, loan_renamed}, Names.{hands_on, followed_both, part_lent}, Rings.Rr},
     ring.Ring.lend.Met.met,
   },
@@ -18,7 +19,7 @@ use Rattle.arraydeque_ring.{
 use base.Share
 use types.Follow as follow
 use types.{Late.{ages}, Mut.open_ref}
-use contract.Lifetimes.{Lfts, toks}
+use contract.Lifetimes.{toks}
 use denote.Param.{bounded}
 use mir.Syntax.{dcons, dnil}
 use Rattle.arraydeque_ring.specs.RingLends as ring
@@ -27,7 +28,7 @@ use Rattle.arraydeque_ring.specs.contracts.ring.Ring.lend as g
 use Rattle.arraydeque.{
   specs.{Deque.DequeState, DequeLends.rewritten},
   proofs.Lent.{Dr, FieldsRow, Fields, view, Kept, Other, Way, fields_out, ring_out, deque_whole, after, kept_after},
-  proofs.{Called.{Asked, known, come_back}, Lent.{seen_after, written}},
+  proofs.{Called.{Asked, Others, Two, come_back}, Lent.{seen_after, written}},
 }
 use Rattle.arraydeque.specs.contracts.deque.ArrayDeque.lend as f
 use Rattle.arraydeque.proofs.deque.ArrayDeque.lend.Statement as stated
@@ -37,27 +38,21 @@ pub lend_spec : {M : Type 1} → stated.statement M
 unfolding both_by
 lend_spec 𝓤 𝓛 𝓜 𝓡 wired X N B L fits LB members dict dict_met =
     let E : El = record { row = X; laws = L } in let C : RattleType = number N in
-    let f_ended = f.ended X C B members dict in let c = f.clauses X C B members dict 𝓛 𝓜.mem 𝓡.returns in
-    let stayed : Stays f_ended.signature.params f_ended.kept = (stay_dropped _ no, tt) in
-    let W = walk_of 𝓛 f_ended stayed c in let 𝓣 = tables 𝓤 𝓛.H 𝓜 𝓡 𝓡.env in
+    let 𝓣 = tables 𝓤 𝓛.H 𝓜 𝓡 𝓡.env in
     let args = bounded (a_type ∷ a_number ∷ a_type ∷ []) (X, (C, (B, tt))) (dcons dict dnil) in
     let here : Fn = inst_fn args code.function in
-    proved 𝓛 f_ended stayed c 𝓜 𝓡 (Goes-spent_ref 𝓛 4 (0 ∷ []) tt (plain (λ _. Dr E N B)), tt)
-    (f.Key.name args) here (code.unfolded 𝓤 𝓛.H 𝓜 𝓡 wired (X, (C, (B, tt))) dict)
-    (λ κs. (mut_vals, tt)) (λ κs. (mut_Tells (named 0) κs.0 (Dr E N B), tt)) (λ κs qs bounds a _ are.
-    let κ = κs.0 in let κ₁ = κs.1.0 in let q = qs.0 in let q₁ = qs.1.0 in let Others = toks 𝓛 2 κs.1.1 qs.1.1 in
+    method 3 0 (Dr E N B) 𝓛 (spent 3 𝓛 _) 𝓜 𝓡 _ _ (f.clauses X C B members dict 𝓛 𝓜.mem 𝓡.returns)
+    (f.Key.name args) here (code.unfolded 𝓤 𝓛.H 𝓜 𝓡 wired (X, (C, (B, tt))) dict) (λ κs qs bounds a _ fit post ends.
+    let κ = κs.0 in let κ₁ = κs.1.0 in let q = qs.0 in let q₁ = qs.1.0 in
     let l : Share = Share.left q in let r : Share = Share.right q in
     let rb : ℕ = a.0.ref_ptr.0 in let ro : ℕ = a.0.ref_ptr.1 in let γ = a.0.ghost_name in
     let d : DequeState (el_x E) = a.0.now in
-    let y : W.Ghost = ((κs, qs, bounds, a, (mut_vals a.0, tt)), tt) in
-    known 𝓤 κ₁ κs.1.1.0 κs.1.1.1.0 X B (on_entry 𝓛 f_ended.signature κs qs a y.0.4) (λ lives.
-    qed 𝓛 (((‵ (flft κ q) ⊛ ‵ (flft κ₁ q₁) ⊛ raw Others) ⊛ ‵ (owns (types_at f_ended.signature.params κs) a y.0.4))
-    ∷ (raw (fact 𝓤 (κ₁ ⊑ X.lives)) ⊛ raw (Asked 𝓤 κ₁ κs.1.1.0 κs.1.1.1.0 X B)) ∷ []) ∵
-    split ! $ split3 ! $ move ! (3 ∷ []) $ fsplit ! $ fsplit3 ! $ keep ! (1 ∷ 2 ∷ 4 ∷ 5 ∷ 6 ∷ []) $
-    enter ! 𝓣.C 𝓣.Λ here (vptr rb ro ∷ []) _ $ alloc_all ! (λ locals. pass_all ! refl ((tt, tt), tt) $
+    first_fact ! {P = Asked 𝓤 κs.1.1.0 κs.1.1.1.0 B} (λ lives. drop ! $
+    alloc_all ! (λ locals. pass_all ! refl ((tt, tt), fit) $
     sets ! (addr ! (through ! refl (fld ! refl (stop !)))) refl (tt, tt) $
-    -- [obs; the borrow; its token; that of T; the others]
-    move ! (2 ∷ []) $ use1 𝓛 (‵ (flft κ l) ⊛ ‵ (flft κ r)) (𝓛.lfts.lft_split κ q) $ split ! $ move ! (2 ∷ 3 ∷ 0 ∷ []) $
+    -- [obs; the borrow; its token; the others]
+    move ! (3 ∷ []) $ use1 𝓛 (‵ (flft κ₁ q₁) ⊛ raw (Others 𝓛 κs qs)) (id⊢ 𝓤 _) $ split ! $
+    move ! (4 ∷ []) $ use1 𝓛 (‵ (flft κ l) ⊛ ‵ (flft κ r)) (𝓛.lfts.lft_split κ q) $ split ! $ move ! (4 ∷ 5 ∷ 0 ∷ []) $
     open_ref ! tt (mem (Dr E N B)) {x = d} {b = rb} {o = ro} $
     use1 𝓛 (some (λ (x : (x : Fields E N B) × ((view E N B x ≡ d) × Kept E N B x)).
     ‵ (part_at (FieldsRow E N B) full_share x.0 rb ro))) (fields_out E N B LB 𝓛 rb ro d) $ pick ! (λ opened.
@@ -68,7 +63,6 @@ lend_spec 𝓤 𝓛 𝓜 𝓡 wired X N B L fits LB members dict dict_met =
     sets ! (addr ! (through ! refl (stop !))) refl (tt, tt) $
     move ! (3 ∷ []) $ ages ! (λ age. move ! (1 ∷ []) $ part_lent ! tt (Rr E) age κ x.ring rb (ro + 0) (λ δ.
     let lent : MutBor (RingState (el_x E)) = record { ref_ptr = (rb, ro + 0); ghost_name = δ; now = x.ring } in
-    let κs' : Lfts 2 = (κ, (κ₁, tt)) in
     nothing ! $ move ! (1 ∷ 0 ∷ []) $ fjoin ! $
     -- [the lent ring; the right;
     -- the open borrow; the other field; the way back; obs γ; auth γ; half the token; that of T; the others]
@@ -76,9 +70,9 @@ lend_spec 𝓤 𝓛 𝓜 𝓡 wired X N B L fits LB members dict dict_met =
     nothing ! $ knows ! lives $ join ! $
     calls_met 𝓛 ! 𝓜 𝓣 (g.ended X) (g.clauses X 𝓛 𝓜.mem 𝓡.returns)
     (met 𝓤 𝓛 𝓜 𝓡 (code.calls-arraydeque_ring::ring::Ring::lend 𝓡.env wired) X L)
-    ((κs', (r, (q₁, tt)), (bounds.0, tt), (lent, tt), (mut_vals lent, tt)), tt) (id⊢ 𝓤 _)
+    ((Two κs, (r, (q₁, tt)), (bounds.0, tt), (lent, tt), values 1 (Two κs) 0 (lent, tt)), tt) (id⊢ 𝓤 _)
     (and_then ! (get ! refl) (no_more !)) (loan_lawful E) (λ v it ws typed. lands_as ! refl refl typed.0 $
-    let α : NamedLft = named_lft 2 0 tt κs' in let It = loan.the_row α (R E) in
+    let α : NamedLft = named_lft 2 0 tt (Two κs) in let It = loan.the_row α (R E) in
     move ! (2 ∷ []) $ use1 𝓛 (‵ (ring.lends_loan (R E) lent it) ⊛ raw _) (id⊢ 𝓤 _) $
     split ! $ move ! (1 ∷ []) $ first_fact ! (λ value. heard ! _ (λ piece. fsplit ! $
     -- [what δ follows; what the loan's name follows;
@@ -107,13 +101,12 @@ lend_spec 𝓤 𝓛 𝓜 𝓡 wired X N B L fits LB members dict dict_met =
     move ! (2 ∷ 0 ∷ []) $ fjoin ! $ move ! (2 ∷ []) $
     use1 𝓛 (‵ (It.own_val out (v ∷ []))) (loan_renamed α (R E) 𝓛 it ν (v ∷ [])) $
     -- [the loan; what the deque follows; half the token; the tokens; the others]
-    move ! (3 ∷ 4 ∷ []) $ use2 𝓛 (‵ (flft κ r) ⊛ ‵ (flft κ₁ q₁) ⊛ raw Others)
-    (come_back 𝓛 (sem 𝓛 (flft κ r)) (sem 𝓛 (flft κ₁ q₁)) Others) $ split ! $ move ! (4 ∷ 0 ∷ []) $
+    move ! (3 ∷ 4 ∷ []) $ use2 𝓛 (‵ (flft κ r) ⊛ raw (toks 𝓛 3 κs.1 qs.1)) (come_back 𝓛 κs (r, qs.1)) $
+    split ! $ move ! (4 ∷ 0 ∷ []) $
     use2 𝓛 (‵ (flft κ q)) (𝓛.lfts.lft_join κ q) $ join ! $
     -- [the tokens; the loan; what the deque follows]
-    returns ! (look_at ! 0 refl) $ free_all ! refl $ keep ! (0 ∷ 1 ∷ 2 ∷ []) $
-    suffices ! _ (ends_at 𝓛 f_ended stayed c y v out (tt, tt) (tt, tt)) $
-    move ! (1 ∷ []) $ nothing ! $ nothing ! $ fjoin ! $ join ! $ move ! (1 ∷ 0 ∷ []) $ join ! $ frame ! $
+    returns ! (look_at ! 0 refl) $ free_all ! refl $ keep ! (2 ∷ 1 ∷ 0 ∷ []) $
+    suffices ! _ (ends v out tt) $ nothing ! $ frame ! $ move ! (1 ∷ 2 ∷ []) $ frame ! $ frame ! $
     let none : d.start + length d.items ≤ N → it.second.now ≡ [] = λ in_one_piece. piece (omega (
       arith,
       ap (λ (u : DequeState (el_x E)). u.start) seen,
