@@ -18,8 +18,7 @@ use Rattle.arraydeque_ring.{
       Rotated.{length-rotated, rotated-map},
       Held.{filled_run_of, empty_run_of},
     },
-    moved.Flat.same_places,
-    linearize.Underway.{Underway, underway, filled_now, empty_now},
+    linearize.Underway.{are_rotated, Underway, len_within, filled_now, empty_now},
   },
 }
 
@@ -30,11 +29,10 @@ rotated_by_pass : {X : Type 0} (dst gap behind next run left last : ℕ) (ps : L
     → run_rotated (dst + run) left last (runs_exchanged dst next run ps) ≡ run_rotated dst gap behind ps
 rotated_by_pass dst gap behind next run left last ps whole here ways =
     let long = length-runs_exchanged dst next run ps (omega arith) (omega arith) in
-    let rotated = length-run_rotated dst gap behind ps (omega arith) in
-    same_places _ _ (length-run_rotated (dst + run) left last _ (omega arith) ∙ long ∙ sym rotated) (λ x lt.
-    get_or-run_rotated (dst + run) left last _ (omega arith) x
+    are_rotated dst gap behind ps _ (omega arith) (length-run_rotated (dst + run) left last _ (omega arith) ∙ long)
+    (λ x lt. get_or-run_rotated (dst + run) left last _ (omega arith) x
     ∙ get_or-runs_exchanged dst next run ps (omega arith) (omega arith) (rotated_from (dst + run) left last x)
-    ∙ ap (held_at ps) (grind (arith, nat_tests)) ∙ sym (get_or-run_rotated dst gap behind ps (omega arith) x))
+    ∙ ap (held_at ps) (grind (arith, nat_tests)))
 
 -- a pass: `run` values come to their places, x of them by an exchange and the others into empty places
 pub record Pass {X : Type 0} (dst next run x : ℕ) (ps : List (Option X)) : Type 0 where
@@ -65,12 +63,10 @@ module _ {X : Type 0} {capacity start len dst next : ℕ} {old ps : List (Option
   still_fills = subst (λ qs. FilledFrom 0 len (filled qs)) t.left (FilledFrom-rotated start len old fills)
 
   before : Underway dst (next - dst) (capacity - next) len ps
-  before =
-      underway dst (next - dst) (capacity - next) len ps (omega arith)
-      still_fills
+  before = record { whole = omega arith; fills = still_fills }
 
   pub Rotating-fits : len ≤ capacity
-  Rotating-fits = omega (arith, before.many, before.laid.within)
+  Rotating-fits = omega (arith, len_within before)
 
   module _ (run : ℕ) (wraps : capacity - next < len - dst) (most : run ≡ min (capacity - next) (next - dst)) where
     pub Rotating-pass : (x : ℕ) → x ≡ min (len - dst - (capacity - next)) run → Pass dst next run x ps

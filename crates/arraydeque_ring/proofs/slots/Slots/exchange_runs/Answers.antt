@@ -14,12 +14,12 @@ loop-k-init g c = record {
 pub exchange-requires-clause-a_filled : goal.exchange-requires-clause-a_filled
 exchange-requires-clause-a_filled g c =
     rw c.loop-k.invariant.places (next_first c.args.a c.args.b c.loop-k.k _ (omega arith) (omega arith)
-    (filled_in_run _ _ _ c.loop-k.k c.requires.a_filled (omega arith)))
+    (filled_in_run _ _ _ _ c.requires.a_filled (omega arith)))
 
 pub exchange-requires-clause-b_filled : goal.exchange-requires-clause-b_filled
 exchange-requires-clause-b_filled g c =
     rw c.loop-k.invariant.places (next_second c.args.a c.args.b c.loop-k.k _ (omega arith) (omega arith)
-    (filled_in_run _ _ _ c.loop-k.k c.requires.b_filled (omega arith)))
+    (filled_in_run _ _ _ _ c.requires.b_filled (omega arith)))
 
 pub loop-k-preserved : goal.loop-k-preserved
 loop-k-preserved g c = record {
@@ -27,7 +27,7 @@ loop-k-preserved g c = record {
       (runs_exchanged_more c.args.a c.args.b c.loop-k.k c.args.self.places (omega arith) (omega arith));
   steps = rw (
     c.exchange.ensures.steps,
-    ne_eqb (c.args.a + c.loop-k.k) (c.args.b + c.loop-k.k) (λ same. omega arith),
+    ne_eqb (c.args.a + c.loop-k.k) (c.args.b + c.loop-k.k) (omega arith),
     c.loop-k.invariant.steps,
   ) (grind arith);
 }
