@@ -18,7 +18,7 @@ use Rattle.arraydeque_ring.{
       Rotated.{length-rotated, rotated-map},
       Held.{filled_run_of, empty_run_of},
     },
-    linearize.Underway.{are_rotated, Underway, len_within, filled_now, empty_now},
+    linearize.Underway.{are_rotated, Underway, underway, len_within, filled_now, empty_now},
   },
 }
 
@@ -63,7 +63,7 @@ module _ {X : Type 0} {capacity start len dst next : ℕ} {old ps : List (Option
   still_fills = subst (λ qs. FilledFrom 0 len (filled qs)) t.left (FilledFrom-rotated start len old fills)
 
   before : Underway dst (next - dst) (capacity - next) len ps
-  before = record { whole = omega arith; fills = still_fills }
+  before = underway still_fills (omega arith)
 
   pub Rotating-fits : len ≤ capacity
   Rotating-fits = omega (arith, len_within before)

@@ -36,6 +36,11 @@ pub record Underway {X : Type 0} (dst gap behind len : ℕ) (ps : List (Option X
   pub whole : dst + gap + behind ≡ length ps
   pub fills : FilledFrom 0 len (filled (run_rotated dst gap behind ps))
 
+pub underway : {X : Type 0} {dst gap behind len : ℕ} {ps : List (Option X)}
+    → FilledFrom 0 len (filled (run_rotated dst gap behind ps)) → dst + gap + behind ≡ length ps
+    → Underway dst gap behind len ps
+underway fills whole = record { whole = whole; fills = fills }
+
 module _ {X : Type 0} {dst gap behind len : ℕ} {ps : List (Option X)} (u : Underway dst gap behind len ps) where
   abbrev list : List X
   list = values (rotated 0 (run_rotated dst gap behind ps))
@@ -93,23 +98,25 @@ module _ {X : Type 0} {dst gap behind len : ℕ} {ps : List (Option X)} (u : Und
     made_room x lt = get_or-gap_moved (len - behind) dst behind ps (omega arith) (omega arith) x
         ∙ grind (arith, nat_tests, between x, between (x - behind))
 
-    pub first_moved : let qs = gap_moved (len - behind) dst behind ps in IsEmptyRun qs dst behind × IsFilledRun qs next behind
-        × (runs_exchanged dst next behind qs ≡ run_rotated dst gap behind ps)
-    first_moved =
-        let qs = gap_moved (len - behind) dst behind ps in
-        let long : length qs ≡ length ps = length-gap_moved (len - behind) dst behind ps (omega arith) (omega arith) in (
-          empty_run_of qs dst behind (omega arith) (λ x a b. made_room x (omega arith) ∙ grind arith),
-          filled_run_of qs next behind (omega arith) (λ x a b.
+    pub room_made : let qs = gap_moved (len - behind) dst behind ps in IsEmptyRun qs dst behind × IsFilledRun qs next behind
+    room_made =
+        let long = length-gap_moved (len - behind) dst behind ps (omega arith) (omega arith) in (
+          empty_run_of _ dst behind (omega arith) (λ x a b. made_room x (omega arith) ∙ grind arith),
+          filled_run_of _ next behind (omega arith) (λ x a b.
               let v = filled_now x (omega arith) (grind arith) in (v.0, made_room x (omega arith) ∙ grind arith)),
-          are_rotated dst gap behind ps _ (omega arith)
-              (length-runs_exchanged dst next behind qs (omega arith) (omega arith) ∙ long) (λ x lt.
-              get_or-runs_exchanged dst next behind qs (omega arith) (omega arith) x
-              ∙ grind (
-                arith,
-                nat_tests,
-                made_room x lt,
-                made_room (x - dst + next),
-                made_room (x - next + dst),
-                between (x - behind),
-              )),
         )
+
+    pub first_moved : runs_exchanged dst next behind (gap_moved (len - behind) dst behind ps)
+        ≡ run_rotated dst gap behind ps
+    first_moved =
+        let long = length-gap_moved (len - behind) dst behind ps (omega arith) (omega arith) in
+        are_rotated dst gap behind ps _ (omega arith)
+        (length-runs_exchanged dst next behind _ (omega arith) (omega arith) ∙ long) (λ x lt.
+        get_or-runs_exchanged dst next behind _ (omega arith) (omega arith) x ∙ grind (
+          arith,
+          nat_tests,
+          made_room x lt,
+          made_room (x - dst + next),
+          made_room (x - next + dst),
+          between (x - behind),
+        ))
