@@ -81,7 +81,7 @@ module _ {X : Type 0} {capacity start len dst next : ℕ} {old ps : List (Option
           a_filled = filled_run_of ps dst x (omega arith) (λ y a b. filled y (omega arith) (grind arith));
           b_filled = filled_run_of ps next x (omega arith) (λ y a b. filled y (omega arith) (grind (arith, nat_tests)));
           empty = empty_run_of rs (dst + x) (run - x) (omega arith)
-              (λ y a b. stays y (grind (arith, nat_tests)) ∙ none y (omega arith) (grind (arith, nat_tests)));
+              (λ y a b. stays y (grind arith) ∙ none y (omega arith) (grind arith));
           filled = filled_run_of rs (next + x) (run - x) (omega arith) (λ y a b.
               let is = filled y (omega arith) (grind (arith, nat_tests)) in
               (is.0, stays y (grind (arith, nat_tests)) ∙ is.1));

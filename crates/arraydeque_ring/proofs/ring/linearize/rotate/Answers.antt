@@ -34,7 +34,7 @@ steps g c =
       so_far.0 + (c.min-run.result - c.min-past_end.result),
       so_far.1 + c.min-past_end.result,
       omega arith,
-      rw (c.move_down-slots.ensures.steps, c.exchange_runs-slots.ensures.steps, so_far.3) (grind arith),
+      rw c.move_down-slots.ensures.steps (grind arith),
     )
 
 pub loop-next-preserved-then-run-first : goal.loop-next-preserved-then-run-first
@@ -63,5 +63,5 @@ returns-clause-steps g c =
       so_far.0 + (if c.loop-next.dst == c.loop-next.next then 0 else c.args.len - c.loop-next.dst),
       so_far.1,
       grind arith,
-      rw (c.place_last.ensures.steps, so_far.3) (grind arith),
+      rw c.place_last.ensures.steps (grind arith),
     )

@@ -25,9 +25,5 @@ pub loop-k-preserved : goal.loop-k-preserved
 loop-k-preserved g c = record {
   places = rw (c.exchange.ensures.places, c.loop-k.invariant.places)
       (runs_exchanged_more c.args.a c.args.b c.loop-k.k c.args.self.places (omega arith) (omega arith));
-  steps = rw (
-    c.exchange.ensures.steps,
-    ne_eqb (c.args.a + c.loop-k.k) (c.args.b + c.loop-k.k) (omega arith),
-    c.loop-k.invariant.steps,
-  ) (grind arith);
+  steps = rw (c.exchange.ensures.steps, c.loop-k.invariant.steps) (grind arith);
 }
