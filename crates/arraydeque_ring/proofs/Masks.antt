@@ -1,23 +1,12 @@
 -- A number that shares no bit with the one below it.
 use Rattle.std.proofs.{
-  Common.{◌≡◌, ℕ, suc, ◌+◌, ◌-◌, ◌*◌, ◌/◌, ◌%◌, ◌^◌, ◌<◌, ◌≤◌, inl, inr, bit_and, sym, ap, ap₂, ◌∙◌, arith, pow-suc},
-  lemmas.{Bool.cases_lt, Nat.{and_block, and_mask}},
+  Common.{◌≡◌, ℕ, suc, ◌+◌, ◌-◌, ◌*◌, ◌/◌, ◌%◌, ◌^◌, ◌<◌, ◌≤◌, inl, inr, bit_and, sym, ap, ◌∙◌, arith},
+  Math.Pow.pow_mono,
+  lemmas.{Bool.cases_lt, Nat.and_mask},
 }
 use lib.{Arith.bin_ind, Bits.{and_step, and_self}}
 
--- above 2 ^ 63 a number and the one below it share their highest bit
-pub at_most_half : (n : ℕ) → n < 2 ^ 64 → bit_and n (n - 1) ≡ 0 → n ≤ 2 ^ 63
-at_most_half n within e = elim (cases_lt (2 ^ 63) n) [
-  | inl above ↦
-      let r = n - 2 ^ 63 in
-      let high : n ≡ 1 * 2 ^ 63 + r = omega arith in
-      let low : n - 1 ≡ 1 * 2 ^ 63 + (r - 1) = omega arith in
-      let shared = sym e ∙ ap₂ bit_and high low ∙ and_block 63 1 1 r (r - 1) (omega arith) (omega arith) in
-      absurd (omega arith)
-  | inr below ↦ below
-]
-
--- it is a power of two
+-- such a number is a power of two
 power_of_two : (n : ℕ) → 0 < n → bit_and n (n - 1) ≡ 0 → (k : ℕ) × (n ≡ 2 ^ k)
 power_of_two = bin_ind (λ (n : ℕ). 0 < n → bit_and n (n - 1) ≡ 0 → (k : ℕ) × (n ≡ 2 ^ k))
     (λ some _. absurd (omega arith)) (λ n half some e.
@@ -25,15 +14,22 @@ power_of_two = bin_ind (λ (n : ℕ). 0 < n → bit_and n (n - 1) ≡ 0 → (k :
     elim (cases_lt 0 (n % 2)) [
       | inl odd ↦
           let same : bit_and (n / 2) ((n - 1) / 2) ≡ n / 2 = ap (bit_and (n / 2)) (omega arith) ∙ and_self (n / 2) in
-          (0, omega (arith, step, same))
+          (0, omega arith)
       | inr even ↦
           let below : bit_and (n / 2) ((n - 1) / 2) ≡ bit_and (n / 2) (n / 2 - 1) =
           ap (bit_and (n / 2)) (omega arith) in
-          let k = half (omega arith) (omega (arith, step, below)) in
-          (suc k.0, omega (arith, k.1, pow-suc 2 k.0))
+          let k = half (omega arith) (omega arith) in
+          (suc k.0, omega arith)
     ])
 
--- so the one below it masks what is left of a number by a division
+-- so it is 2 ^ 63 at most, where it is below 2 ^ 64
+pub at_most_half : (n : ℕ) → 0 < n → n < 2 ^ 64 → bit_and n (n - 1) ≡ 0 → n ≤ 2 ^ 63
+at_most_half n some within e = let k = power_of_two n some e in elim (cases_lt k.0 64) [
+  | inl low ↦ omega (arith, pow_mono {i = k.0} {j = 63} (omega arith))
+  | inr high ↦ absurd (omega (arith, pow_mono high))
+]
+
+-- and the one below it masks what is left of a number by a division
 pub masked : (x n : ℕ) → 0 < n → bit_and n (n - 1) ≡ 0 → bit_and x (n - 1) ≡ x % n
 masked x n some e = let k = power_of_two n some e in
     ap (λ m. bit_and x (m - 1)) k.1 ∙ and_mask x k.0 ∙ ap (λ m. x % m) (sym k.1)

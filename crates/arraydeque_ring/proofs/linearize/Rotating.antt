@@ -18,8 +18,7 @@ use Rattle.arraydeque_ring.{
       Rotated.{length-rotated, rotated-map},
       Held.{filled_run_of, empty_run_of},
     },
-    moved.Flat.same_places,
-    linearize.Underway.{Underway, underway, filled_now, empty_now},
+    linearize.Underway.{are_rotated, Underway, underway, len_within, filled_now, empty_now},
   },
 }
 
@@ -30,20 +29,17 @@ rotated_by_pass : {X : Type 0} (dst gap behind next run left last : ℕ) (ps : L
     → run_rotated (dst + run) left last (runs_exchanged dst next run ps) ≡ run_rotated dst gap behind ps
 rotated_by_pass dst gap behind next run left last ps whole here ways =
     let long = length-runs_exchanged dst next run ps (omega arith) (omega arith) in
-    let rotated = length-run_rotated dst gap behind ps (omega arith) in
-    same_places _ _ (length-run_rotated (dst + run) left last _ (omega arith) ∙ long ∙ sym rotated) (λ x lt.
-    get_or-run_rotated (dst + run) left last _ (omega arith) x
+    are_rotated dst gap behind ps _ (omega arith) (length-run_rotated (dst + run) left last _ (omega arith) ∙ long)
+    (λ x lt. get_or-run_rotated (dst + run) left last _ (omega arith) x
     ∙ get_or-runs_exchanged dst next run ps (omega arith) (omega arith) (rotated_from (dst + run) left last x)
-    ∙ ap (held_at ps) (grind (arith, nat_tests)) ∙ sym (get_or-run_rotated dst gap behind ps (omega arith) x))
+    ∙ ap (held_at ps) (grind (arith, nat_tests)))
 
--- a pass: `run` values come to their places, x of them by an exchange and the others into empty places
+-- a pass: of `run` values that come to their places, x do by an exchange, and the others then into empty places
 pub record Pass {X : Type 0} (dst next run x : ℕ) (ps : List (Option X)) : Type 0 where
   pub a_filled : IsFilledRun ps dst x
   pub b_filled : IsFilledRun ps next x
   pub empty : IsEmptyRun (runs_exchanged dst next x ps) (dst + x) (run - x)
   pub filled : IsFilledRun (runs_exchanged dst next x ps) (next + x) (run - x)
-  pub all : runs_exchanged (dst + x) (next + x) (run - x) (runs_exchanged dst next x ps)
-      ≡ runs_exchanged dst next run ps
 
 -- of the places read from t on the first len are filled
 FilledFrom-rotated : {X : Type 0} (t len : ℕ) (ps : List (Option X)) → FilledFrom t len (filled ps)
@@ -51,8 +47,9 @@ FilledFrom-rotated : {X : Type 0} (t len : ℕ) (ps : List (Option X)) → Fille
 unfolding filled
 FilledFrom-rotated t len ps fills = rw (append-nil, ← rotated-map is_some t ps, length-rotated t (filled ps)) fills
 
--- the places are on their way from `old` to these read from the start on
+-- the places are on their way from `old`, where len values begin at `start`, to these read from the start on
 pub record Rotating {X : Type 0} (capacity start len dst next : ℕ) (old ps : List (Option X)) : Type 0 where
+  pub fills : FilledFrom start len (filled old)
   pub length_is : length ps ≡ capacity
   pub in_order : dst ≤ next
   pub in_region : next < capacity
@@ -60,21 +57,20 @@ pub record Rotating {X : Type 0} (capacity start len dst next : ℕ) (old ps : L
   pub left : rotated start old ≡ run_rotated dst (next - dst) (capacity - next) ps
 
 module _ {X : Type 0} {capacity start len dst next : ℕ} {old ps : List (Option X)}
-    (fills : FilledFrom start len (filled old)) (t : Rotating capacity start len dst next old ps) where
+    (t : Rotating capacity start len dst next old ps) where
   pub still_fills : FilledFrom 0 len (filled (run_rotated dst (next - dst) (capacity - next) ps))
-  still_fills = subst (λ qs. FilledFrom 0 len (filled qs)) t.left (FilledFrom-rotated start len old fills)
+  still_fills = subst (λ qs. FilledFrom 0 len (filled qs)) t.left (FilledFrom-rotated start len old t.fills)
 
   before : Underway dst (next - dst) (capacity - next) len ps
-  before =
-      underway dst (next - dst) (capacity - next) len ps (omega arith)
-      still_fills
+  before = underway still_fills (omega arith)
 
   pub Rotating-fits : len ≤ capacity
-  Rotating-fits = omega (arith, before.many, before.laid.within)
+  Rotating-fits = omega (arith, len_within before)
 
-  module _ (run : ℕ) (wraps : capacity - next < len - dst) (most : run ≡ min (capacity - next) (next - dst)) where
-    pub Rotating-pass : (x : ℕ) → x ≡ min (len - dst - (capacity - next)) run → Pass dst next run x ps
-    Rotating-pass x both =
+  module _ {run x : ℕ} (wraps : capacity - next < len - dst) (most : run ≡ min (capacity - next) (next - dst))
+      (both : x ≡ min (len - dst - (capacity - next)) run) where
+    pub Rotating-pass : Pass dst next run x ps
+    Rotating-pass =
         let rs = runs_exchanged dst next x ps in
         let long = length-runs_exchanged dst next x ps (omega arith) (omega arith) in
         let stays : (y : ℕ) → exchanged_from dst next x y ≡ y → held_at rs y ≡ held_at ps y =
@@ -85,24 +81,25 @@ module _ {X : Type 0} {capacity start len dst next : ℕ} {old ps : List (Option
           a_filled = filled_run_of ps dst x (omega arith) (λ y a b. filled y (omega arith) (grind arith));
           b_filled = filled_run_of ps next x (omega arith) (λ y a b. filled y (omega arith) (grind (arith, nat_tests)));
           empty = empty_run_of rs (dst + x) (run - x) (omega arith)
-              (λ y a b. stays y (grind (arith, nat_tests)) ∙ none y (omega arith) (grind (arith, nat_tests)));
+              (λ y a b. stays y (grind arith) ∙ none y (omega arith) (grind arith));
           filled = filled_run_of rs (next + x) (run - x) (omega arith) (λ y a b.
               let is = filled y (omega arith) (grind (arith, nat_tests)) in
               (is.0, stays y (grind (arith, nat_tests)) ∙ is.1));
-          all = runs_exchanged_both dst next ps x (run - x) (omega arith) (omega arith)
-              ∙ ap (λ n. runs_exchanged dst next n ps) (omega arith);
         }
 
     -- after it the others stand where they did, or one run further on
     pub Rotating-passed : (next_then : ℕ)
         → ((capacity - next ≤ run) × (next_then ≡ next)) ⊎ ((run < capacity - next) × (next_then ≡ next + run))
-        → Rotating capacity start len (dst + run) next_then old (runs_exchanged dst next run ps)
+        → Rotating capacity start len (dst + run) next_then old
+        (runs_exchanged (dst + x) (next + x) (run - x) (runs_exchanged dst next x ps))
     Rotating-passed next_then ways =
-        record {
+        let all : x + (run - x) ≡ run = omega arith in
+        rw (runs_exchanged_both dst next ps x (run - x) (omega arith) (omega arith), all) (record {
+          fills = t.fills;
           length_is = length-runs_exchanged dst next run ps (omega arith) (omega arith) ∙ t.length_is;
           in_order = omega arith;
           in_region = omega arith;
           placed = omega arith;
           left = t.left ∙ sym (rotated_by_pass dst (next - dst) (capacity - next) next run (next_then - (dst + run))
               (capacity - next_then) ps (omega arith) (omega arith) (grind arith));
-        }
+        })

@@ -29,7 +29,7 @@ distance_is from to n a b = grind (arith, place_of_cases to (n - from) n (omega 
 pub up_from : (dst src n : ℕ) → dst < n → src < n → place_of src (distance src dst n) n ≡ dst
 up_from dst src n a b =
     let d = place_of-lt dst (n - src) n (omega arith) in
-    grind (arith, place_of_cases src (distance src dst n) n (omega arith))
+    grind arith
 
 module _ {X : Type 0} where
   pub length-moved : (dst src len : ℕ) (ps : List (Option X)) → length (run_moved dst src len ps) ≡ length ps
@@ -65,7 +65,7 @@ module _ {X : Type 0} where
       let n = length ps in
       let d = distance_is i x n (omega arith) lt in
       let e = distance_is j x n (omega arith) lt in
-      moved_at i j len ps x refl lt ∙ rw (d, e) (grind (arith, nat_tests, mod-eq_of_lt {n = j + (x - i)} {m = n}))
+      moved_at i j len ps x refl lt ∙ rw d (grind (arith, nat_tests, mod-eq_of_lt {n = j + (x - i)} {m = n}))
 
   -- the source emptied, and its values written over the target
   pub moved_parts : (ps : List (Option X)) (dst src len : ℕ) → src + len ≤ length ps → dst + len ≤ length ps
@@ -77,7 +77,7 @@ module _ {X : Type 0} where
       same_places _ _ (grind (arith, places, length-moved dst src len ps)) (λ x lt.
       let in_it : x < length ps = omega (arith, length-moved dst src len ps) in
       let held : (y : ℕ) → get_or es y None ≡ other (λ z. get_or ps z None) src len y =
-      λ y. grind (arith, nat_tests, places) in
+      λ y. grind (arith, places) in
       grind (arith, nat_tests, places, held x) ∙ sym (flat_at dst src len ps x b a in_it))
 
   -- where no value moves, or all of a run have, nothing is left to move

@@ -1,39 +1,28 @@
-use Rattle.std.proofs.Common.{◌-◌, length, arith}
-use Rattle.arraydeque_ring.proofs.{
-  linearize.Underway.{Underway, underway, none_left, last_may_move, last_moved, room_for_first, first_moved},
-  ring.linearize.place_last.{Given.Over, Goals.{Start}},
-}
+use Rattle.std.proofs.{Common.{◌-◌, length, ◌∙◌, arith}, lemmas.List.append-nil}
+use Rattle.arraydeque_ring.proofs.linearize.Underway.{underway, last_may_move, last_moved, room_for_first, room_made, first_moved}
 use Rattle.arraydeque_ring.proofs.ring.linearize.place_last.Goals as goal
-
-now : (g : Over) (c : Start g) → let ps = c.args.slots.places in
-    Underway c.args.dst (c.args.next - c.args.dst) (length ps - c.args.next) c.args.len ps
-now g c = underway _ _ _ _ _ (omega arith) c.requires.filled
-
-pub returns-then-dst-next-clause-places : goal.returns-then-dst-next-clause-places
-returns-then-dst-next-clause-places g c =
-    none_left (now g (goal.at.returns-then-dst-next-clause-places g c).Start) (omega arith)
 
 -- the others stand in one piece
 pub move_gap-requires : goal.move_gap-requires
 move_gap-requires g c =
-    last_may_move (now g (goal.at.move_gap-requires g c).Start) c.requires.some_left (omega arith) (omega arith)
+    last_may_move (underway c.requires.filled (omega arith)) c.requires.some_left (omega arith) (omega arith)
 
 pub returns-then-left-first-clause-places : goal.returns-then-left-first-clause-places
-returns-then-left-first-clause-places g c = last_moved (now g (goal.at.returns-then-left-first-clause-places g c).Start)
-    c.requires.some_left (omega arith) _ c.move_gap.ensures.places
+returns-then-left-first-clause-places g c = simp append-nil at c.move_gap.ensures.places
+    ∙ last_moved (underway c.requires.filled (omega arith)) c.requires.some_left (omega arith)
 
 -- or there is room before them
 pub move_gap-requires-2 : goal.move_gap-requires-2
 move_gap-requires-2 g c = rw c.capacity.ensures
-    (room_for_first (now g (goal.at.move_gap-requires-2 g c).Start) c.args.next _ (omega arith))
+    (room_for_first (underway c.requires.filled (omega arith)) c.args.next (omega arith))
 
 pub move_down-requires : goal.move_down-requires
 move_down-requires g c =
-    let moved = first_moved (now g (goal.at.move_down-requires g c).Start) c.args.next _
-    (omega arith) _ (rw c.capacity.ensures at c.move_gap-2.ensures.places) in
-    rw c.capacity.ensures (record { apart = omega arith; empty = moved.0; filled = moved.1 })
+    let moved = room_made (underway c.requires.filled (omega arith)) c.args.next (omega arith) in
+    rw (simp append-nil at c.move_gap-2.ensures.places, c.capacity.ensures)
+    (record { apart = omega arith; empty = moved.0; filled = moved.1 })
 
 pub returns-clause-places : goal.returns-clause-places
-returns-clause-places g c = rw (c.move_down.ensures.places, c.capacity.ensures)
-    (first_moved (now g (goal.at.returns-clause-places g c).Start) c.args.next _
-    (omega arith) _ (rw c.capacity.ensures at c.move_gap-2.ensures.places)).2
+returns-clause-places g c =
+    rw (c.move_down.ensures.places, simp append-nil at c.move_gap-2.ensures.places, c.capacity.ensures)
+    (first_moved (underway c.requires.filled (omega arith)) c.args.next (omega arith))

@@ -1,31 +1,30 @@
 use Rattle.std.proofs.{Common.{◌≡◌, ◌+◌, ◌-◌, inl, inr, ◌==◌, refl, if◌then◌else◌, arith}, lemmas.{Grind.common_steps}}
 use Rattle.arraydeque_ring.{
-  specs.{Exchanged.runs_exchanged, Steps.Rearranges},
+  specs.Steps.Rearranges,
   proofs.{
-    linearize.Rotating.{Pass, Rotating-pass, Rotating-passed, Rotating-fits, still_fills},
-    ring.linearize.rotate.{Given.Over, Goals.{After-min-past_end, After-move_down-slots}},
+    linearize.Rotating.{Rotating-pass, Rotating-passed, Rotating-fits, still_fills},
+    ring.linearize.rotate.{Given.Over, Goals.After-move_down-slots},
   },
 }
 use Rattle.arraydeque_ring.proofs.ring.linearize.rotate.Goals as goal
 
-pass : (g : Over) (c : After-min-past_end g)
-    → Pass c.loop-next.dst c.loop-next.next c.min-run.result c.min-past_end.result c.loop-next.slots.places
-pass g c = Rotating-pass c.requires.filled c.loop-next.invariant.walk _ c.if-capacity-next.true c.min-run.ensures
-    _ c.min-past_end.ensures
+pub loop-next-init : goal.loop-next-init
+loop-next-init g c = record { walk = grind (arith, common_steps); steps = (0, 0, omega arith, grind arith) }
 
 pub exchange_runs-slots-requires : goal.exchange_runs-slots-requires
 exchange_runs-slots-requires g c =
-    let may = pass g (goal.at.exchange_runs-slots-requires g c).After-min-past_end in
+    let may = Rotating-pass c.loop-next.invariant.walk c.if-capacity-next.true c.min-run.ensures
+    c.min-past_end.ensures in
     record { apart = omega arith; a_filled = may.a_filled; b_filled = may.b_filled }
 
 pub move_down-slots-requires : goal.move_down-slots-requires
 move_down-slots-requires g c =
-    let may = pass g (goal.at.move_down-slots-requires g c).After-min-past_end in
+    let may = Rotating-pass c.loop-next.invariant.walk c.if-capacity-next.true c.min-run.ensures
+    c.min-past_end.ensures in
     rw c.exchange_runs-slots.ensures.places (record { apart = omega arith; empty = may.empty; filled = may.filled })
 
 pub loop-next-smaller-then-run-first : goal.loop-next-smaller-then-run-first
-loop-next-smaller-then-run-first g c = let fits = Rotating-fits c.requires.filled c.loop-next.invariant.walk in
-    omega arith
+loop-next-smaller-then-run-first g c = omega (arith, Rotating-fits c.loop-next.invariant.walk)
 
 -- a pass makes as many steps as values come to their places
 steps : (g : Over) (c : After-move_down-slots g)
@@ -35,34 +34,28 @@ steps g c =
       so_far.0 + (c.min-run.result - c.min-past_end.result),
       so_far.1 + c.min-past_end.result,
       omega arith,
-      rw (c.move_down-slots.ensures.steps, c.exchange_runs-slots.ensures.steps, so_far.3) (grind arith),
+      rw c.move_down-slots.ensures.steps (grind arith),
     )
 
-after : (g : Over) (c : After-move_down-slots g) → c.move_down-slots.result.places
-    ≡ runs_exchanged c.loop-next.dst c.loop-next.next c.min-run.result c.loop-next.slots.places
-after g c = rw (c.move_down-slots.ensures.places, c.exchange_runs-slots.ensures.places) (pass g c.before.before).all
-
 pub loop-next-preserved-then-run-first : goal.loop-next-preserved-then-run-first
-loop-next-preserved-then-run-first g c =
-    let moved = (goal.at.loop-next-preserved-then-run-first g c).After-move_down-slots in
-    record {
-      walk = rw (after g moved) (Rotating-passed c.requires.filled c.loop-next.invariant.walk _ c.if-capacity-next.true
-          c.min-run.ensures _ (inr (c.if-run-first.true, refl)));
-      steps = steps g moved;
-    }
+loop-next-preserved-then-run-first g c = record {
+  walk = rw (c.move_down-slots.ensures.places, c.exchange_runs-slots.ensures.places)
+      (Rotating-passed c.loop-next.invariant.walk c.if-capacity-next.true c.min-run.ensures c.min-past_end.ensures
+      _ (inr (c.if-run-first.true, refl)));
+  steps = steps g (goal.at.loop-next-preserved-then-run-first g c).After-move_down-slots;
+}
 
 pub loop-next-preserved : goal.loop-next-preserved
-loop-next-preserved g c =
-    let moved = (goal.at.loop-next-preserved g c).After-move_down-slots in
-    record {
-      walk = rw (after g moved) (Rotating-passed c.requires.filled c.loop-next.invariant.walk _ c.if-capacity-next.true
-          c.min-run.ensures _ (inl (c.if-run-first.false, refl)));
-      steps = steps g moved;
-    }
+loop-next-preserved g c = record {
+  walk = rw (c.move_down-slots.ensures.places, c.exchange_runs-slots.ensures.places)
+      (Rotating-passed c.loop-next.invariant.walk c.if-capacity-next.true c.min-run.ensures c.min-past_end.ensures
+      _ (inl (c.if-run-first.false, refl)));
+  steps = steps g (goal.at.loop-next-preserved g c).After-move_down-slots;
+}
 
 pub place_last-requires-clause-filled : goal.place_last-requires-clause-filled
 place_last-requires-clause-filled g c =
-    rw c.loop-next.invariant.walk.length_is (still_fills c.requires.filled c.loop-next.invariant.walk)
+    rw c.loop-next.invariant.walk.length_is (still_fills c.loop-next.invariant.walk)
 
 pub returns-clause-steps : goal.returns-clause-steps
 returns-clause-steps g c =
@@ -70,8 +63,5 @@ returns-clause-steps g c =
       so_far.0 + (if c.loop-next.dst == c.loop-next.next then 0 else c.args.len - c.loop-next.dst),
       so_far.1,
       grind arith,
-      rw (c.place_last.ensures.steps, so_far.3) (grind arith),
+      rw c.place_last.ensures.steps (grind arith),
     )
-
-pub loop-next-init : goal.loop-next-init
-loop-next-init g c = record { walk = grind (arith, common_steps); steps = (0, 0, omega arith, grind arith) }

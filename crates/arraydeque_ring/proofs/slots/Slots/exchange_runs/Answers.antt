@@ -14,20 +14,16 @@ loop-k-init g c = record {
 pub exchange-requires-clause-a_filled : goal.exchange-requires-clause-a_filled
 exchange-requires-clause-a_filled g c =
     rw c.loop-k.invariant.places (next_first c.args.a c.args.b c.loop-k.k _ (omega arith) (omega arith)
-    (filled_in_run _ _ _ c.loop-k.k c.requires.a_filled (omega arith)))
+    (filled_in_run _ _ _ _ c.requires.a_filled (omega arith)))
 
 pub exchange-requires-clause-b_filled : goal.exchange-requires-clause-b_filled
 exchange-requires-clause-b_filled g c =
     rw c.loop-k.invariant.places (next_second c.args.a c.args.b c.loop-k.k _ (omega arith) (omega arith)
-    (filled_in_run _ _ _ c.loop-k.k c.requires.b_filled (omega arith)))
+    (filled_in_run _ _ _ _ c.requires.b_filled (omega arith)))
 
 pub loop-k-preserved : goal.loop-k-preserved
 loop-k-preserved g c = record {
   places = rw (c.exchange.ensures.places, c.loop-k.invariant.places)
       (runs_exchanged_more c.args.a c.args.b c.loop-k.k c.args.self.places (omega arith) (omega arith));
-  steps = rw (
-    c.exchange.ensures.steps,
-    ne_eqb (c.args.a + c.loop-k.k) (c.args.b + c.loop-k.k) (λ same. omega arith),
-    c.loop-k.invariant.steps,
-  ) (grind arith);
+  steps = rw (c.exchange.ensures.steps, c.loop-k.invariant.steps) (grind arith);
 }
