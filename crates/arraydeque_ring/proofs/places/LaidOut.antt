@@ -146,30 +146,7 @@ module _ {X : Type 0} {n t : ℕ} {xs : List X} {ps : List (Option X)} (l : Laid
   pub LaidOut-restart : length xs ≡ 0 → LaidOut {X = X} n 0 [] ps
   LaidOut-restart none = rw (AreAllEmpty-LaidOut none, l.length_is) (LaidOut-nothing n)
 
-  -- c is written at the place of the index k
-  LaidOut-write : {ys : List X} (k : ℕ) (c : Option X) → k < n → length ys ≤ n → c ≡ slice_get ys k
-      → ((i : ℕ) → i < n → i ≢ k → slice_get xs i ≡ slice_get ys i) → LaidOut n t ys (set ps (place_of t k n) c)
-  LaidOut-write k c lt within here others = LaidOut-by within (Holds-set (holds l) k c lt here others)
-
-  pub LaidOut-put_back : (x : X) → length xs < n
-      → LaidOut n t (xs ++ x ∷ []) (set ps (place_of t (length xs) n) (Some x))
-  LaidOut-put_back x room =
-      LaidOut-write (length xs) (Some x) room (omega (arith, length-append xs (x ∷ [])))
-      (grind (arith, items, slice_get-cons)) (λ i lt other. grind (arith, items, slice_get-cons))
-
-  pub LaidOut-take_back : (m : ℕ) → length xs ≡ m + 1 → LaidOut n t (take m xs) (set ps (place_of t m n) None)
-  LaidOut-take_back m e = LaidOut-write m None (omega arith) (omega (arith, length-take m xs))
-      (grind (arith, items)) (λ i lt other. grind (arith, items))
-
-  pub LaidOut-put_front : (x : X) → length xs < n
-      → LaidOut n (place_of t (n - 1) n) (x ∷ xs) (set ps (place_of t (n - 1) n) (Some x))
-  LaidOut-put_front x room =
-      let before = place_of t (n - 1) n in
-      let turned : Holds n before (λ k. if nat_lt 0 k then slice_get xs (k - 1) else None) ps = Holds-from (holds l)
-      (n - 1) (omega arith) (omega arith) (λ k lt. grind (arith, items, place_of_cases (n - 1) k n)) in
-      rw (place_of-zero before n turned.in_region) at (LaidOut-by {xs = x ∷ xs} (omega arith)
-      (Holds-set turned 0 (Some x) (omega arith) refl (λ i lt other. grind (arith, slice_get-cons))))
-
+  -- the first item is taken off
   pub LaidOut-take_front : 0 < length xs → LaidOut n (place_of t 1 n) (drop 1 xs) (set ps t None)
   LaidOut-take_front some =
       let out = Holds-set (holds l) {g = λ k. if nat_lt 0 k then slice_get xs k else None} 0 None (omega arith) refl
@@ -180,8 +157,8 @@ module _ {X : Type 0} {n t : ℕ} {xs : List X} {ps : List (Option X)} (l : Laid
 
   -- another value in the place of an item is another item
   pub LaidOut-set : (k : ℕ) (x : X) → k < length xs → LaidOut n t (set xs k x) (set ps (place_of t k n) (Some x))
-  LaidOut-set k x lt = LaidOut-write k (Some x) (omega arith) (omega (arith, length-set xs k x))
-      (grind (arith, items)) (λ i i_in other. grind (arith, items))
+  LaidOut-set k x lt = LaidOut-by (omega (arith, length-set xs k x)) (Holds-set (holds l) k (Some x) (omega arith)
+      (grind (arith, items)) (λ i i_in other. grind (arith, items)))
 
 -- to exchange the places of two items is to exchange the items
 pub LaidOut-swap : {X : Type 0} {n t : ℕ} {xs : List X} {ps : List (Option X)} → LaidOut n t xs ps → (i j : ℕ)
