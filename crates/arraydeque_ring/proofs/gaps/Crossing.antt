@@ -17,7 +17,7 @@ use Rattle.arraydeque_ring.{
     moved.{Flat.{distance_is, look, same_places}, Round.{Holds-moved, distance-rotated}},
     places.{
       Held.{filled_in_run, empty_in_run},
-      Holds.{Holds, Holds-filled, Holds-of_rotated, Holds-rotated},
+      Holds.{Holds, Holds-filled, Holds-of_rotated, rotated-Holds},
       Rotated.{place_of-lt, place_of-sum, one_place, length-rotated},
     },
   },
@@ -106,7 +106,7 @@ crosses t from to gap i j len d s m ps asked ways long at_d at_s filled =
     let qs = rotated t ps in
     let wide : length qs ≡ n = length-rotated t ps in
     let none = empty_at qs from gap asked.empty in
-    let reads : Holds n t (held_at qs) ps = Holds-of_rotated refl (omega arith) (λ k lt. refl) in
+    let reads : Holds n t (held_at qs) ps = Holds-of_rotated refl wide (omega arith) (λ k lt. refl) in
     let moved = Holds-moved reads i j len t_in (omega arith) (omega arith) in
     rw (at_d, at_s, long) (record {
       may = record {
@@ -124,10 +124,8 @@ crosses t from to gap i j len d s m ps asked ways long at_d at_s filled =
             ]);
       };
       count = count_by t i j len n t_in (omega arith) (omega arith) (omega arith);
-      is = same_places _ _ (length-rotated t _ ∙ moved.length_is ∙ sym (length-gap_moved from to gap qs (omega arith)
-          (omega arith) ∙ wide)) (λ x lt.
-          Holds-rotated moved x (omega (arith, length-gap_moved from to gap qs))
-          ∙ passed from to gap i j len x qs (omega arith) (omega arith) (none x) ways);
+      is = rotated-Holds moved (length-gap_moved from to gap qs (omega arith) (omega arith) ∙ wide)
+          (λ x lt. passed from to gap i j len x qs (omega arith) (omega arith) (none x) ways);
     })
 
 -- a gap of one place goes by one place

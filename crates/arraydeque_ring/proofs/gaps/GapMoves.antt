@@ -19,7 +19,7 @@ use Rattle.arraydeque_ring.{
     },
     places.{
       Held.{filled_run_of, empty_run_of},
-      Holds.{Holds-of_rotated, Holds-rotated, Holds-same, Holds-from},
+      Holds.{Holds-of_rotated, Holds-rotated, rotated-Holds, Holds-same, Holds-from},
       Items.{items, slice_get_some},
       LaidOut.{LaidOut, holds, rotated-LaidOut},
       Rotated.{place_of_cases, length-rotated},
@@ -100,10 +100,9 @@ module _ {X : Type 0} {n t : ℕ} {xs : List X} {gap : ℕ} {ys : List X} {ps : 
         let item : (j : ℕ) → slice_get (us ++ vs) j ≡ slice_get (xs ++ ys) j = λ j. ap (λ l. slice_get l j) same in
         record {
           within = omega arith;
-          reads = Holds-of_rotated (sym (length-rotated s qs) ∙ ap length is
-              ∙ length-gap_moved from to gap (rotated t ps) (omega arith) (omega arith) ∙ wide ∙ p.reads.length_is) s_in
-              (λ x lt. ap (λ l. held_at l x) is
-              ∙ get_or-gap_moved from to gap (rotated t ps) (omega arith) (omega arith) x
+          reads = Holds-of_rotated is
+              (length-gap_moved from to gap (rotated t ps) (omega arith) (omega arith) ∙ wide ∙ p.reads.length_is) s_in
+              (λ x lt. get_or-gap_moved from to gap (rotated t ps) (omega arith) (omega arith) x
               ∙ grind (
                 arith,
                 nat_tests,
@@ -150,15 +149,11 @@ closed_up t i gap m ps qs may is =
     let n = length ps in
     let ts = rotated t ps in
     let wide : length ts ≡ n = length-rotated t ps in
-    let long : length qs ≡ n = sym (length-rotated t qs) ∙ ap length is ∙ length-gap_moved i 0 gap ts (omega arith)
-        (omega arith) ∙ wide in
-    let reads = Holds-from (Holds-of_rotated long (omega arith) (λ k lt. ap (λ l. held_at l k) is)) gap (omega arith)
-        (omega arith) (λ k lt. refl) in
-    same_places _ _ (length-rotated _ qs ∙ long ∙ sym (length-gap_moved i (i + m) gap ts (omega arith) (omega arith)
-    ∙ wide)) (λ x lt.
-    let x_in : x < n = omega (arith, length-gap_moved i (i + m) gap ts) in
     let none = empty_at ts (i + gap + m) (n - (i + gap + m)) may.others_empty in
-    Holds-rotated reads x x_in
-    ∙ get_or-gap_moved i 0 gap ts (omega arith) (omega arith) (place_of gap x n)
+    let reads = Holds-of_rotated is (length-gap_moved i 0 gap ts (omega arith) (omega arith) ∙ wide) (omega arith)
+        (λ k lt. refl) in
+    rotated-Holds (Holds-from reads gap (omega arith) (omega arith) (λ k lt. refl))
+    (length-gap_moved i (i + m) gap ts (omega arith) (omega arith) ∙ wide) (λ x lt.
+    get_or-gap_moved i 0 gap ts (omega arith) (omega arith) (place_of gap x n)
     ∙ grind (arith, nat_tests, place_of_cases gap x n (omega arith), none x, none (place_of gap x n))
     ∙ sym (get_or-gap_moved i (i + m) gap ts (omega arith) (omega arith) x))

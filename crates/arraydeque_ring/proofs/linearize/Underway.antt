@@ -86,8 +86,8 @@ module _ {X : Type 0} {dst gap behind len : ℕ} {ps : List (Option X)} (u : Und
     parted =
         record {
           within = omega (arith, front, length-drop dst u.list);
-          reads = Holds-of_rotated refl (omega arith)
-              (λ k lt. rw (append-nil ps) (held_now k lt ∙ grind (arith, items, front)));
+          reads = Holds-of_rotated (append-nil ps) refl (omega arith)
+              (λ k lt. held_now k lt ∙ grind (arith, items, front));
         }
 
     pub last_may_move : 0 < gap → MayMove 0 dst len gap ps

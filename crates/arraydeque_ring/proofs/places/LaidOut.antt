@@ -21,7 +21,7 @@ use Rattle.arraydeque_ring.{
       AndEmpty.{and_empty, length-and_empty, get_or-and_empty, values-and_empty, values-map_Some, filled-and_empty},
       AndEmpty.{and_empty_from},
       Held.holds_run_of,
-      Holds.{Holds, Holds-each, Holds-of_rotated, Holds-rotated, Holds-from, Holds-set},
+      Holds.{Holds, Holds-each, Holds-of_rotated, Holds-rotated, rotated-Holds, Holds-from, Holds-set},
       Items.{items, slice_get_some, slice_get-cons},
       Rotated.{MayStartAt, place_of-lt, place_of-run, place_of-zero, place_of_cases, length-rotated, rotated-map},
     },
@@ -45,8 +45,9 @@ module _ {X : Type 0} {n t : ℕ} {xs : List X} {ps : List (Option X)} where
   -- where the list that begins at t has the items and then k empty places
   pub LaidOut-from : (k : ℕ) → length ps ≡ n → t ≤ n - 1 → rotated t ps ≡ and_empty xs k → LaidOut n t xs ps
   LaidOut-from k long within e =
-      LaidOut-by (omega (arith, length-rotated t ps, ap length e, length-and_empty xs k))
-      (Holds-of_rotated long within (λ i lt. ap (λ l. get_or l i None) e ∙ get_or-and_empty xs k i))
+      let all = sym (ap length e) ∙ length-rotated t ps ∙ long in
+      LaidOut-by (omega (arith, all, length-and_empty xs k))
+      (Holds-of_rotated e all within (λ i lt. get_or-and_empty xs k i))
 
 -- empty places hold the empty list
 pub LaidOut-nothing : {X : Type 0} (n : ℕ) → LaidOut {X = X} n 0 [] (replicate n None)
@@ -70,10 +71,8 @@ module _ {X : Type 0} {n t : ℕ} {xs : List X} {ps : List (Option X)} (l : Laid
   length_within = l.within
 
   pub rotated-LaidOut : rotated t ps ≡ and_empty xs (n - length xs)
-  rotated-LaidOut =
-      same_places _ _ (length-rotated t ps ∙ l.length_is ∙ omega (arith, length-and_empty xs (n - length xs)))
-      (λ k lt. Holds-rotated (holds l) k (omega (arith, length-and_empty xs (n - length xs)))
-      ∙ sym (get_or-and_empty xs (n - length xs) k))
+  rotated-LaidOut = rotated-Holds (holds l) (omega (arith, length-and_empty xs (n - length xs)))
+      (λ k lt. sym (get_or-and_empty xs (n - length xs) k))
 
   -- the values that are there are the items
   pub values-LaidOut : values (rotated t ps) ≡ xs
