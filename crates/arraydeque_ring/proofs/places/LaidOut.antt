@@ -103,9 +103,8 @@ module _ {X : Type 0} {n t : ℕ} {xs : List X} {ps : List (Option X)} (l : Laid
   -- read from the start on, the len items from the index i on are a run
   pub HoldsRun-rotated : (i len : ℕ) → i + len ≤ length xs → HoldsRun (rotated t ps) i len (take len (drop i xs))
   HoldsRun-rotated i len le =
-      holds_run_of (rotated t ps) i len (take len (drop i xs))
-      (omega (arith, length-take len (drop i xs), length-drop i xs)) (omega (arith, length-rotated t ps))
-      (λ k lt. Holds-rotated (holds l) (i + k) (omega arith) ∙ grind (arith, items))
+      holds_run_of _ i i len xs le (omega (arith, length-rotated t ps))
+      (λ k lt. Holds-rotated (holds l) (i + k) (omega arith))
 
   pub IsFilledRun-rotated : (i len : ℕ) → i + len ≤ length xs → IsFilledRun (rotated t ps) i len
   IsFilledRun-rotated i len le = (
@@ -117,10 +116,8 @@ module _ {X : Type 0} {n t : ℕ} {xs : List X} {ps : List (Option X)} (l : Laid
   pub HoldsRun-LaidOut : (i p len : ℕ) → MayStartAt t i n p → i + len ≤ length xs → p + len ≤ n
       → HoldsRun ps p len (take len (drop i xs))
   HoldsRun-LaidOut i p len at within fits =
-      holds_run_of ps p len (take len (drop i xs)) (omega (arith, length-take len (drop i xs), length-drop i xs))
-      (omega arith)
-      (λ k lt. ap (held_at ps) (sym (place_of-run t i k n p at (omega arith) (omega arith)
-      (omega arith))) ∙ l.at (i + k) (omega arith) ∙ grind (arith, items))
+      holds_run_of ps p i len xs within (omega arith)
+      (λ k lt. rw (place_of-run t i k n p at (omega arith) (omega arith) (omega arith)) at (l.at (i + k) (omega arith)))
 
   pub IsFilledRun-LaidOut : (i p len : ℕ) → MayStartAt t i n p → i + len ≤ length xs → p + len ≤ n
       → IsFilledRun ps p len
