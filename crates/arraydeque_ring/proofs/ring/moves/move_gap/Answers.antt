@@ -26,7 +26,7 @@ down g c at =
 
 pub slide_up-requires : goal.slide_up-requires
 slide_up-requires g c =
-    let go = up g (goal.at.slide_up-requires g c).After-wrap_add-src
+    let go = up g c.before.before
     (one_on _ _ _ _ _ _ c.wrap_add-src.ensures c.capacity-capacity.ensures c.if-gap-eq1.true) in
     record {
       in_region = go.may.src_in_region;
@@ -36,11 +36,11 @@ slide_up-requires g c =
     }
 
 pub wrap_move-requires : goal.wrap_move-requires
-wrap_move-requires g c = (up g (goal.at.wrap_move-requires g c).After-wrap_add-src c.wrap_add.ensures).may
+wrap_move-requires g c = (up g c.before.before.before c.wrap_add.ensures).may
 
 pub slide_down-requires : goal.slide_down-requires
 slide_down-requires g c =
-    let go = down g (goal.at.slide_down-requires g c).After-wrap_add-dst
+    let go = down g c.before.before
     (one_on _ _ _ _ _ _ c.wrap_add-dst.ensures c.capacity-capacity.ensures c.if-gap-eq1-2.true) in
     record {
       in_region = go.may.dst_in_region;
@@ -50,12 +50,12 @@ slide_down-requires g c =
     }
 
 pub wrap_move-requires-else-gap-eq1-2 : goal.wrap_move-requires-else-gap-eq1-2
-wrap_move-requires-else-gap-eq1-2 g c = (down g (goal.at.wrap_move-requires-else-gap-eq1-2 g c).After-wrap_add-dst
+wrap_move-requires-else-gap-eq1-2 g c = (down g c.before.before.before
     c.wrap_add-else-gap-eq1-2.ensures).may
 
 pub returns-then-gap-eq1-clause-places : goal.returns-then-gap-eq1-clause-places
 returns-then-gap-eq1-clause-places g c = rw c.slide_up.ensures.places
-    (up g (goal.at.returns-then-gap-eq1-clause-places g c).After-wrap_add-src
+    (up g c.before.before.before
     (one_on _ _ _ _ _ _ c.wrap_add-src.ensures c.capacity-capacity.ensures c.if-gap-eq1.true)).is
 
 pub returns-else-gap-eq1-clause-places : goal.returns-else-gap-eq1-clause-places
@@ -70,7 +70,7 @@ returns-else-gap-eq1-clause-steps g c = rw (
 
 pub returns-then-gap-eq1-2-clause-places : goal.returns-then-gap-eq1-2-clause-places
 returns-then-gap-eq1-2-clause-places g c = rw c.slide_down.ensures.places
-    (down g (goal.at.returns-then-gap-eq1-2-clause-places g c).After-wrap_add-dst
+    (down g c.before.before.before
     (one_on _ _ _ _ _ _ c.wrap_add-dst.ensures c.capacity-capacity.ensures c.if-gap-eq1-2.true)).is
 
 pub returns-else-gap-eq1-2-clause-places : goal.returns-else-gap-eq1-2-clause-places
