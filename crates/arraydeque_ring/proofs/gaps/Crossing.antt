@@ -97,10 +97,10 @@ passed from to gap i j len x qs from_in to_in none ways = elim (cases_lt x i) [
   ]
 ] ∙ sym (get_or-gap_moved from to gap qs from_in to_in x)
 
-pub crosses : {X : Type 0} (t from to gap i j len d s m : ℕ) (ps : List (Option X)) → MayMove t from to gap ps
+pub crosses : {X : Type 0} {t len d s m : ℕ} {ps : List (Option X)} (from to gap i j : ℕ) → MayMove t from to gap ps
     → Passes from to gap i j len → m ≡ length ps → d ≡ place_of t i m → s ≡ place_of t j m
     → IsFilledRun (rotated t ps) j len → Crosses t d s len ps (gap_moved from to gap (rotated t ps))
-crosses t from to gap i j len d s m ps asked ways long at_d at_s filled =
+crosses {t = t} {len = len} {ps = ps} from to gap i j asked ways long at_d at_s filled =
     let t_in = asked.in_region in
     let n = length ps in
     let qs = rotated t ps in
@@ -129,5 +129,5 @@ crosses t from to gap i j len d s m ps asked ways long at_d at_s filled =
     })
 
 -- a gap of one place goes by one place
-pub one_on : (t i gap s m n : ℕ) → s ≡ place_of t i m → m ≡ n → gap ≡ 1 → place_of s 1 n ≡ place_of t (i + gap) m
-one_on t i gap s m n at long one = rw (at, one, long) (place_of-sum t i 1 n)
+pub one_on : {gap s m n : ℕ} (t i : ℕ) → s ≡ place_of t i m → m ≡ n → gap ≡ 1 → place_of s 1 n ≡ place_of t (i + gap) m
+one_on {n = n} t i at long one = rw (at, one, long) (place_of-sum t i 1 n)
