@@ -25,9 +25,6 @@ returns-then-count-eq0-clause-start g c =
     rw (none, place_of-zero old.start old.capacity (omega arith))
     (grind arith)
 
-pub take_run-requires-clause-empty : goal.take_run-requires-clause-empty
-take_run-requires-clause-empty g c = rw c.in_ok-slots.ensures.ok (all_empty (c.args.to - c.args.from) _ (omega arith))
-
 pub take_run-requires-clause-filled : goal.take_run-requires-clause-filled
 take_run-requires-clause-filled g c =
     let ring = opened c.self.inside c.self.invariant c.self.view_is in
