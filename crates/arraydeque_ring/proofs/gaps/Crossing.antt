@@ -17,7 +17,7 @@ use Rattle.arraydeque_ring.{
     moved.{Flat.{distance_is, look, same_places}, Round.{Holds-moved, distance-rotated}},
     places.{
       Held.{filled_in_run, empty_in_run},
-      Holds.{Holds, Holds-filled, Holds-of_rotated, Holds-rotated},
+      Holds.{Holds, Holds-filled, Holds-of_rotated, rotated-Holds},
       Rotated.{place_of-lt, place_of-sum, one_place, length-rotated},
     },
   },
@@ -97,16 +97,16 @@ passed from to gap i j len x qs from_in to_in none ways = elim (cases_lt x i) [
   ]
 ] ∙ sym (get_or-gap_moved from to gap qs from_in to_in x)
 
-pub crosses : {X : Type 0} (t from to gap i j len d s m : ℕ) (ps : List (Option X)) → MayMove t from to gap ps
+pub crosses : {X : Type 0} {t len d s m : ℕ} {ps : List (Option X)} (from to gap i j : ℕ) → MayMove t from to gap ps
     → Passes from to gap i j len → m ≡ length ps → d ≡ place_of t i m → s ≡ place_of t j m
     → IsFilledRun (rotated t ps) j len → Crosses t d s len ps (gap_moved from to gap (rotated t ps))
-crosses t from to gap i j len d s m ps asked ways long at_d at_s filled =
+crosses {t = t} {len = len} {ps = ps} from to gap i j asked ways long at_d at_s filled =
     let t_in = asked.in_region in
     let n = length ps in
     let qs = rotated t ps in
     let wide : length qs ≡ n = length-rotated t ps in
     let none = empty_at qs from gap asked.empty in
-    let reads : Holds n t (held_at qs) ps = Holds-of_rotated refl (omega arith) (λ k lt. refl) in
+    let reads : Holds n t (held_at qs) ps = Holds-of_rotated refl wide (omega arith) (λ k lt. refl) in
     let moved = Holds-moved reads i j len t_in (omega arith) (omega arith) in
     rw (at_d, at_s, long) (record {
       may = record {
@@ -124,12 +124,10 @@ crosses t from to gap i j len d s m ps asked ways long at_d at_s filled =
             ]);
       };
       count = count_by t i j len n t_in (omega arith) (omega arith) (omega arith);
-      is = same_places _ _ (length-rotated t _ ∙ moved.length_is ∙ sym (length-gap_moved from to gap qs (omega arith)
-          (omega arith) ∙ wide)) (λ x lt.
-          Holds-rotated moved x (omega (arith, length-gap_moved from to gap qs))
-          ∙ passed from to gap i j len x qs (omega arith) (omega arith) (none x) ways);
+      is = rotated-Holds moved (length-gap_moved from to gap qs (omega arith) (omega arith) ∙ wide)
+          (λ x lt. passed from to gap i j len x qs (omega arith) (omega arith) (none x) ways);
     })
 
 -- a gap of one place goes by one place
-pub one_on : (t i gap s m n : ℕ) → s ≡ place_of t i m → m ≡ n → gap ≡ 1 → place_of s 1 n ≡ place_of t (i + gap) m
-one_on t i gap s m n at long one = rw (at, one, long) (place_of-sum t i 1 n)
+pub one_on : {gap s m n : ℕ} (t i : ℕ) → s ≡ place_of t i m → m ≡ n → gap ≡ 1 → place_of s 1 n ≡ place_of t (i + gap) m
+one_on {n = n} t i at long one = rw (at, one, long) (place_of-sum t i 1 n)

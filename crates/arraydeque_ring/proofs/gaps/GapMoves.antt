@@ -12,13 +12,14 @@ use Rattle.arraydeque_ring.{
     Sides.start_closed,
   },
   proofs.{
+    moved.Flat.same_places,
     gaps.{
       Crossing.{MayMove, length-gap_moved, get_or-gap_moved, empty_at},
       Gapped.{Gapped, gapped, LaidOut-gap_first, LaidOut-gap_last},
     },
     places.{
-      Held.{filled_run_of, empty_run_of, held_in_run, length_filled},
-      Holds.{Holds-of_rotated, Holds-rotated, Holds-same, Holds-from},
+      Held.{filled_run_of, empty_run_of},
+      Holds.{Holds-of_rotated, Holds-rotated, rotated-Holds, Holds-same, Holds-from},
       Items.{items, slice_get_some},
       LaidOut.{LaidOut, holds, rotated-LaidOut},
       Rotated.{place_of_cases, length-rotated},
@@ -99,10 +100,9 @@ module _ {X : Type 0} {n t : ℕ} {xs : List X} {gap : ℕ} {ys : List X} {ps : 
         let item : (j : ℕ) → slice_get (us ++ vs) j ≡ slice_get (xs ++ ys) j = λ j. ap (λ l. slice_get l j) same in
         record {
           within = omega arith;
-          reads = Holds-of_rotated (sym (length-rotated s qs) ∙ ap length is
-              ∙ length-gap_moved from to gap (rotated t ps) (omega arith) (omega arith) ∙ wide ∙ p.reads.length_is) s_in
-              (λ x lt. ap (λ l. held_at l x) is
-              ∙ get_or-gap_moved from to gap (rotated t ps) (omega arith) (omega arith) x
+          reads = Holds-of_rotated is
+              (length-gap_moved from to gap (rotated t ps) (omega arith) (omega arith) ∙ wide ∙ p.reads.length_is) s_in
+              (λ x lt. get_or-gap_moved from to gap (rotated t ps) (omega arith) (omega arith) x
               ∙ grind (
                 arith,
                 nat_tests,
@@ -115,32 +115,21 @@ module _ {X : Type 0} {n t : ℕ} {xs : List X} {gap : ℕ} {ys : List X} {ps : 
               ));
         }
 
-  -- behind all of them it is none, and before them the list starts behind it
-  pub closed_up : (i m : ℕ) (qs : List (Option X)) → length xs ≡ i → length ys ≡ m
-      → rotated t qs ≡ gap_moved i 0 gap (rotated t ps)
-      → rotated (place_of t gap n) qs ≡ gap_moved i (i + m) gap (rotated t ps)
-  closed_up i m qs front back is =
-      let after = gap_moved i (i + m) gap (rotated t ps) in
-      let first = gap_moves i 0 front {us = []} {vs = xs ++ ys} t qs refl refl p.reads.in_region is in
-      let last = gap_moves i (i + m) front {us = xs ++ ys} {vs = []} 0 after (append-nil (xs ++ ys))
-      (omega (arith, length-append xs ys)) (omega arith) (append-nil after) in
-      rotated-LaidOut (LaidOut-gap_first gap first) ∙ sym (rotated-LaidOut (LaidOut-gap_last last)) ∙ append-nil after
-
   -- it may be closed
   pub may_close : (i m : ℕ) → 0 < gap → length xs ≡ i → length ys ≡ m → MayClose t i gap m ps
   may_close i m some front back =
-      let wide = length-rotated t ps in
+      let up = gap_may_move i 0 front some (omega arith) in
+      let down = gap_may_move i (i + m) front some (omega arith) in
+      let before : i - 0 ≡ i = omega arith in
+      let behind : i + m - i ≡ m = omega arith in
       record {
         some = some;
-        in_region = omega arith;
+        in_region = up.in_region;
         within = omega arith;
-        filled_before = filled_run_of _ 0 i (omega arith) (λ x a b. let v = slice_get_some xs x (omega arith) in
-            (v.0, gap_at x (omega arith) ∙ grind arith));
-        empty = empty_run_of _ i gap (omega arith) (λ x a b. gap_at x (omega arith) ∙ grind arith);
-        filled_behind = filled_run_of _ (i + gap) m (omega arith) (λ x a b.
-            let v = slice_get_some ys (x - (length xs + gap)) (omega arith) in
-            (v.0, gap_at x (omega arith) ∙ grind arith));
-        others_empty = empty_run_of _ (i + gap + m) (length ps - (i + gap + m)) (omega arith)
+        filled_before = rw before at up.filled_before;
+        empty = up.empty;
+        filled_behind = rw behind at down.filled_behind;
+        others_empty = empty_run_of _ (i + gap + m) (length ps - (i + gap + m)) (omega (arith, length-rotated t ps))
             (λ x a b. gap_at x (omega arith) ∙ grind (arith, items));
       }
 
@@ -152,20 +141,19 @@ module _ {X : Type 0} {n t : ℕ} {xs : List X} {gap : ℕ} {ys : List X} {ps : 
       LaidOut-gap_last (gap_moves i (i + m) front s qs (append-nil (xs ++ ys)) (omega (arith, length-append xs ys))
       (rw (here, p.reads.length_is) (start_closed-in i gap m n t (omega arith) (omega arith))) is)
 
--- a gap between two runs
-pub Gapped-runs : {X : Type 0} (t i gap m : ℕ) (ps : List (Option X)) (may : MayClose t i gap m ps)
-    → Gapped (length ps) t may.filled_before.1.0 gap may.filled_behind.1.0 ps
-Gapped-runs t i gap m ps may =
-    let front = length_filled _ 0 i may.filled_before in
-    let back = length_filled _ (i + gap) m may.filled_behind in
-    record {
-      within = omega arith;
-      reads = Holds-of_rotated refl (omega arith) (λ k lt. grind (
-        arith,
-        items,
-        held_in_run _ 0 i k may.filled_before,
-        held_in_run _ (i + gap) m (k - (i + gap)) may.filled_behind,
-        empty_at _ i gap may.empty k,
-        empty_at _ (i + gap + m) (length ps - (i + gap + m)) may.others_empty k,
-      ));
-    }
+-- a gap that goes before all values leaves what one does that goes behind them, from a start behind it
+pub closed_up : {X : Type 0} (t i gap m : ℕ) (ps qs : List (Option X)) → MayClose t i gap m ps
+    → rotated t qs ≡ gap_moved i 0 gap (rotated t ps)
+    → rotated (place_of t gap (length ps)) qs ≡ gap_moved i (i + m) gap (rotated t ps)
+closed_up t i gap m ps qs may is =
+    let n = length ps in
+    let ts = rotated t ps in
+    let wide : length ts ≡ n = length-rotated t ps in
+    let none = empty_at ts (i + gap + m) (n - (i + gap + m)) may.others_empty in
+    let reads = Holds-of_rotated is (length-gap_moved i 0 gap ts (omega arith) (omega arith) ∙ wide) (omega arith)
+        (λ k lt. refl) in
+    rotated-Holds (Holds-from reads gap (omega arith) (omega arith) (λ k lt. refl))
+    (length-gap_moved i (i + m) gap ts (omega arith) (omega arith) ∙ wide) (λ x lt.
+    get_or-gap_moved i 0 gap ts (omega arith) (omega arith) (place_of gap x n)
+    ∙ grind (arith, nat_tests, place_of_cases gap x n (omega arith), none x, none (place_of gap x n))
+    ∙ sym (get_or-gap_moved i (i + m) gap ts (omega arith) (omega arith) x))

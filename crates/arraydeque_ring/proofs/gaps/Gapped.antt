@@ -35,9 +35,8 @@ module _ {X : Type 0} {n t : ℕ} {xs : List X} {ps : List (Option X)} (l : Laid
       let front = length-take-le from xs (omega arith) in
       record {
         within = omega (arith, length-drop (from + gap) xs);
-        reads = Holds-of_rotated (sym (length-rotated t qs) ∙ ap length out
-            ∙ length-run_emptied from gap (rotated t ps) (omega arith) ∙ long) l.in_region
-            (λ k lt. ap (λ zs. held_at zs k) out ∙ get_or-run_emptied from gap (rotated t ps) k (omega arith)
+        reads = Holds-of_rotated out (length-run_emptied from gap (rotated t ps) (omega arith) ∙ long) l.in_region
+            (λ k lt. get_or-run_emptied from gap (rotated t ps) k (omega arith)
             ∙ grind (arith, items, Holds-rotated (holds l) k lt));
       }
 

@@ -2,9 +2,12 @@
 use Rattle.std.proofs.{
   Common.{◌≡◌, ℕ, zero, suc, ◌+◌, List, [], ◌∷◌, ◌++◌, map, length, drop, get_or, replicate, slice_get, Option, Some},
   Common.{None, true, false, refl, sym, ap, ◌∙◌, arith},
+  lemmas.Grind.common_steps,
+  lemmas.Option.slice_get_past,
   lemmas.List.{length-append, length-map, length-replicate, append-nil, nil_from_length},
 }
 use Rattle.arraydeque_ring.specs.Ring.{values, filled}
+use Rattle.arraydeque_ring.proofs.places.Items.{get_or-map_Some}
 
 module _ {X : Type 0} where
   -- the items, and then k empty places
@@ -20,11 +23,7 @@ module _ {X : Type 0} where
   )
 
   pub get_or-and_empty : (xs : List X) (k i : ℕ) → get_or (and_empty xs k) i None ≡ slice_get xs i
-  get_or-and_empty [] zero i = refl
-  get_or-and_empty [] (suc k) zero = refl
-  get_or-and_empty [] (suc k) (suc i) = get_or-and_empty [] k i
-  get_or-and_empty (x ∷ xs) k zero = refl
-  get_or-and_empty (x ∷ xs) k (suc i) = get_or-and_empty xs k i
+  get_or-and_empty xs k i = grind (arith, common_steps, get_or-map_Some xs i, slice_get_past)
 
   pub values-and_empty : (xs : List X) (k : ℕ) → values (and_empty xs k) ≡ xs
   values-and_empty [] zero = refl

@@ -10,7 +10,7 @@ use Rattle.std.proofs.{
 }
 use Rattle.arraydeque_ring.{
   specs.{Places.{held_at, IsFilled, HoldsRun, IsFilledRun}, Gaps.IsEmptyRun},
-  proofs.{moved.Flat.same_places, places.Items.{get_or-map_Some, slice_get_some}},
+  proofs.{moved.Flat.same_places, places.Items.{items, get_or-map_Some, slice_get_some}},
 }
 
 module _ {X : Type 0} where
@@ -89,9 +89,11 @@ module _ {X : Type 0} where
   empty_run_of ps from len le each =
       (le, same_places _ _ (grind (arith, common_steps)) (λ x lt. grind (arith, common_steps, each (from + x))))
 
-  -- and holds those values that its places hold
-  pub holds_run_of : (ps : List (Option X)) (from len : ℕ) (xs : List X) → length xs ≡ len → from + len ≤ length ps
-      → ((k : ℕ) → k < len → held_at ps (from + k) ≡ slice_get xs k) → HoldsRun ps from len xs
-  holds_run_of ps from len xs many le each =
-      let long = length-map xs Some in same_places _ _ (grind (arith, common_steps))
-      (λ k lt. grind (arith, common_steps, each k) ∙ sym (get_or-map_Some xs k))
+  -- and holds those items that its places hold, here those from the index i on
+  pub holds_run_of : (ps : List (Option X)) (from i len : ℕ) (xs : List X) → i + len ≤ length xs
+      → from + len ≤ length ps → ((k : ℕ) → k < len → held_at ps (from + k) ≡ slice_get xs (i + k))
+      → HoldsRun ps from len (take len (drop i xs))
+  holds_run_of ps from i len xs within le each =
+      let ys = take len (drop i xs) in
+      let long = length-map ys Some in same_places _ _ (grind (arith, common_steps))
+      (λ k lt. grind (arith, common_steps, items, each k) ∙ sym (get_or-map_Some ys k))

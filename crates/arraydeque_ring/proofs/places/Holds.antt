@@ -7,10 +7,10 @@ use Rattle.std.proofs.{
 use Rattle.arraydeque_ring.{
   specs.{Moved.{distance, IsFilledRound}, Places.held_at, Ring.{place_of, rotated}},
   proofs.{
-    moved.Flat.up_from,
+    moved.Flat.{same_places, up_from},
     places.{
       Emptied.get_or-written,
-      Rotated.{place_of-first, place_of-lt, place_of-sum, place_of-place_of, one_place, get_or-rotated},
+      Rotated.{place_of-first, place_of-lt, place_of-sum, place_of-place_of, one_place, get_or-rotated, length-rotated},
     },
   },
 }
@@ -21,18 +21,24 @@ pub record Holds {X : Type 0} (n t : ℕ) (f : ℕ → Option X) (ps : List (Opt
   pub in_region : t ≤ n - 1
   pub at : (k : ℕ) → k < n → held_at ps (place_of t k n) ≡ f k
 
--- the same is read in the list that begins there
-pub Holds-of_rotated : {X : Type 0} {n t : ℕ} {f : ℕ → Option X} {ps : List (Option X)} → length ps ≡ n → t ≤ n - 1
-    → ((k : ℕ) → k < n → get_or (rotated t ps) k None ≡ f k) → Holds n t f ps
-Holds-of_rotated {n = n} {t = t} {ps = ps} long within each = record {
-  length_is = long;
-  in_region = within;
-  at = λ k lt. sym (get_or-rotated t k n ps None long (omega arith) lt) ∙ each k lt;
-}
+-- the same is read in the list ts that begins there
+pub Holds-of_rotated : {X : Type 0} {n t : ℕ} {f : ℕ → Option X} {ps ts : List (Option X)} → rotated t ps ≡ ts
+    → length ts ≡ n → t ≤ n - 1 → ((k : ℕ) → k < n → held_at ts k ≡ f k) → Holds n t f ps
+Holds-of_rotated {n = n} {t = t} {ps = ps} is long within each =
+    let whole : length ps ≡ n = sym (length-rotated t ps) ∙ ap length is ∙ long in
+    record {
+      length_is = whole;
+      in_region = within;
+      at = λ k lt. sym (get_or-rotated t k n ps None whole (omega arith) lt) ∙ ap (λ l. held_at l k) is ∙ each k lt;
+    }
 
 module _ {X : Type 0} {n t : ℕ} {f : ℕ → Option X} {ps : List (Option X)} (h : Holds n t f ps) where
   pub Holds-rotated : (k : ℕ) → k < n → get_or (rotated t ps) k None ≡ f k
   Holds-rotated k lt = get_or-rotated t k n ps None h.length_is (omega arith) lt ∙ h.at k lt
+
+  pub rotated-Holds : {ts : List (Option X)} → length ts ≡ n → ((k : ℕ) → k < n → f k ≡ held_at ts k) → rotated t ps ≡ ts
+  rotated-Holds long same = same_places _ _ (length-rotated t ps ∙ h.length_is ∙ sym long)
+      (λ k lt. Holds-rotated k (omega arith) ∙ same k (omega arith))
 
   pub Holds-same : {g : ℕ → Option X} → ((k : ℕ) → k < n → f k ≡ g k) → Holds n t g ps
   Holds-same same = record { length_is = h.length_is; in_region = h.in_region; at = λ k lt. h.at k lt ∙ same k lt }

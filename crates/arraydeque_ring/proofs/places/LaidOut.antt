@@ -21,7 +21,7 @@ use Rattle.arraydeque_ring.{
       AndEmpty.{and_empty, length-and_empty, get_or-and_empty, values-and_empty, values-map_Some, filled-and_empty},
       AndEmpty.{and_empty_from},
       Held.holds_run_of,
-      Holds.{Holds, Holds-each, Holds-of_rotated, Holds-rotated, Holds-from, Holds-set},
+      Holds.{Holds, Holds-each, Holds-of_rotated, Holds-rotated, rotated-Holds, Holds-from, Holds-set},
       Items.{items, slice_get_some, slice_get-cons},
       Rotated.{MayStartAt, place_of-lt, place_of-run, place_of-zero, place_of_cases, length-rotated, rotated-map},
     },
@@ -45,8 +45,9 @@ module _ {X : Type 0} {n t : ℕ} {xs : List X} {ps : List (Option X)} where
   -- where the list that begins at t has the items and then k empty places
   pub LaidOut-from : (k : ℕ) → length ps ≡ n → t ≤ n - 1 → rotated t ps ≡ and_empty xs k → LaidOut n t xs ps
   LaidOut-from k long within e =
-      LaidOut-by (omega (arith, length-rotated t ps, ap length e, length-and_empty xs k))
-      (Holds-of_rotated long within (λ i lt. ap (λ l. get_or l i None) e ∙ get_or-and_empty xs k i))
+      let all = sym (ap length e) ∙ length-rotated t ps ∙ long in
+      LaidOut-by (omega (arith, all, length-and_empty xs k))
+      (Holds-of_rotated e all within (λ i lt. get_or-and_empty xs k i))
 
 -- empty places hold the empty list
 pub LaidOut-nothing : {X : Type 0} (n : ℕ) → LaidOut {X = X} n 0 [] (replicate n None)
@@ -70,10 +71,8 @@ module _ {X : Type 0} {n t : ℕ} {xs : List X} {ps : List (Option X)} (l : Laid
   length_within = l.within
 
   pub rotated-LaidOut : rotated t ps ≡ and_empty xs (n - length xs)
-  rotated-LaidOut =
-      same_places _ _ (length-rotated t ps ∙ l.length_is ∙ omega (arith, length-and_empty xs (n - length xs)))
-      (λ k lt. Holds-rotated (holds l) k (omega (arith, length-and_empty xs (n - length xs)))
-      ∙ sym (get_or-and_empty xs (n - length xs) k))
+  rotated-LaidOut = rotated-Holds (holds l) (omega (arith, length-and_empty xs (n - length xs)))
+      (λ k lt. sym (get_or-and_empty xs (n - length xs) k))
 
   -- the values that are there are the items
   pub values-LaidOut : values (rotated t ps) ≡ xs
@@ -104,9 +103,8 @@ module _ {X : Type 0} {n t : ℕ} {xs : List X} {ps : List (Option X)} (l : Laid
   -- read from the start on, the len items from the index i on are a run
   pub HoldsRun-rotated : (i len : ℕ) → i + len ≤ length xs → HoldsRun (rotated t ps) i len (take len (drop i xs))
   HoldsRun-rotated i len le =
-      holds_run_of (rotated t ps) i len (take len (drop i xs))
-      (omega (arith, length-take len (drop i xs), length-drop i xs)) (omega (arith, length-rotated t ps))
-      (λ k lt. Holds-rotated (holds l) (i + k) (omega arith) ∙ grind (arith, items))
+      holds_run_of _ i i len xs le (omega (arith, length-rotated t ps))
+      (λ k lt. Holds-rotated (holds l) (i + k) (omega arith))
 
   pub IsFilledRun-rotated : (i len : ℕ) → i + len ≤ length xs → IsFilledRun (rotated t ps) i len
   IsFilledRun-rotated i len le = (
@@ -118,10 +116,8 @@ module _ {X : Type 0} {n t : ℕ} {xs : List X} {ps : List (Option X)} (l : Laid
   pub HoldsRun-LaidOut : (i p len : ℕ) → MayStartAt t i n p → i + len ≤ length xs → p + len ≤ n
       → HoldsRun ps p len (take len (drop i xs))
   HoldsRun-LaidOut i p len at within fits =
-      holds_run_of ps p len (take len (drop i xs)) (omega (arith, length-take len (drop i xs), length-drop i xs))
-      (omega arith)
-      (λ k lt. ap (held_at ps) (sym (place_of-run t i k n p at (omega arith) (omega arith)
-      (omega arith))) ∙ l.at (i + k) (omega arith) ∙ grind (arith, items))
+      holds_run_of ps p i len xs within (omega arith)
+      (λ k lt. rw (place_of-run t i k n p at (omega arith) (omega arith) (omega arith)) at (l.at (i + k) (omega arith)))
 
   pub IsFilledRun-LaidOut : (i p len : ℕ) → MayStartAt t i n p → i + len ≤ length xs → p + len ≤ n
       → IsFilledRun ps p len
@@ -146,30 +142,7 @@ module _ {X : Type 0} {n t : ℕ} {xs : List X} {ps : List (Option X)} (l : Laid
   pub LaidOut-restart : length xs ≡ 0 → LaidOut {X = X} n 0 [] ps
   LaidOut-restart none = rw (AreAllEmpty-LaidOut none, l.length_is) (LaidOut-nothing n)
 
-  -- c is written at the place of the index k
-  LaidOut-write : {ys : List X} (k : ℕ) (c : Option X) → k < n → length ys ≤ n → c ≡ slice_get ys k
-      → ((i : ℕ) → i < n → i ≢ k → slice_get xs i ≡ slice_get ys i) → LaidOut n t ys (set ps (place_of t k n) c)
-  LaidOut-write k c lt within here others = LaidOut-by within (Holds-set (holds l) k c lt here others)
-
-  pub LaidOut-put_back : (x : X) → length xs < n
-      → LaidOut n t (xs ++ x ∷ []) (set ps (place_of t (length xs) n) (Some x))
-  LaidOut-put_back x room =
-      LaidOut-write (length xs) (Some x) room (omega (arith, length-append xs (x ∷ [])))
-      (grind (arith, items, slice_get-cons)) (λ i lt other. grind (arith, items, slice_get-cons))
-
-  pub LaidOut-take_back : (m : ℕ) → length xs ≡ m + 1 → LaidOut n t (take m xs) (set ps (place_of t m n) None)
-  LaidOut-take_back m e = LaidOut-write m None (omega arith) (omega (arith, length-take m xs))
-      (grind (arith, items)) (λ i lt other. grind (arith, items))
-
-  pub LaidOut-put_front : (x : X) → length xs < n
-      → LaidOut n (place_of t (n - 1) n) (x ∷ xs) (set ps (place_of t (n - 1) n) (Some x))
-  LaidOut-put_front x room =
-      let before = place_of t (n - 1) n in
-      let turned : Holds n before (λ k. if nat_lt 0 k then slice_get xs (k - 1) else None) ps = Holds-from (holds l)
-      (n - 1) (omega arith) (omega arith) (λ k lt. grind (arith, items, place_of_cases (n - 1) k n)) in
-      rw (place_of-zero before n turned.in_region) at (LaidOut-by {xs = x ∷ xs} (omega arith)
-      (Holds-set turned 0 (Some x) (omega arith) refl (λ i lt other. grind (arith, slice_get-cons))))
-
+  -- the first item is taken off
   pub LaidOut-take_front : 0 < length xs → LaidOut n (place_of t 1 n) (drop 1 xs) (set ps t None)
   LaidOut-take_front some =
       let out = Holds-set (holds l) {g = λ k. if nat_lt 0 k then slice_get xs k else None} 0 None (omega arith) refl
@@ -180,8 +153,8 @@ module _ {X : Type 0} {n t : ℕ} {xs : List X} {ps : List (Option X)} (l : Laid
 
   -- another value in the place of an item is another item
   pub LaidOut-set : (k : ℕ) (x : X) → k < length xs → LaidOut n t (set xs k x) (set ps (place_of t k n) (Some x))
-  LaidOut-set k x lt = LaidOut-write k (Some x) (omega arith) (omega (arith, length-set xs k x))
-      (grind (arith, items)) (λ i i_in other. grind (arith, items))
+  LaidOut-set k x lt = LaidOut-by (omega (arith, length-set xs k x)) (Holds-set (holds l) k (Some x) (omega arith)
+      (grind (arith, items)) (λ i i_in other. grind (arith, items)))
 
 -- to exchange the places of two items is to exchange the items
 pub LaidOut-swap : {X : Type 0} {n t : ℕ} {xs : List X} {ps : List (Option X)} → LaidOut n t xs ps → (i j : ℕ)

@@ -22,15 +22,15 @@ use Rattle.arraydeque_ring.{
   },
   proofs.{
     gaps.{
-      Gapped.{Gapped, Gapped-taken, Gapped-taken_one, LaidOut-gap_first, LaidOut-gap_last},
-      GapMoves.{MayClose, may_close, LaidOut-closed},
+      Gapped.{Gapped, Gapped-taken, Gapped-taken_one, LaidOut-gap_first, LaidOut-gap_last, LaidOut-put},
+      GapMoves.{MayClose, may_close, Gapped-behind, Gapped-before, LaidOut-closed},
     },
     loans.Placed.length-as_many,
     places.{
       Appended.{LaidOut-appended, LaidOut-written, LaidOut-new, IsEmptyRun-behind},
       Handed.{handed, LaidOut-handed},
-      LaidOut.{LaidOut, LaidOut-values, values-LaidOut, FilledFrom-LaidOut, LaidOut-nothing, LaidOut-put_back},
-      LaidOut.{LaidOut-put_front, LaidOut-take_back, LaidOut-take_front, IsEmpty-place_of, held_at-start},
+      LaidOut.{LaidOut, LaidOut-values, values-LaidOut, FilledFrom-LaidOut, LaidOut-nothing},
+      LaidOut.{LaidOut-take_front, IsEmpty-place_of, held_at-start},
       LaidOut.{LaidOut-restart, IsFilled-start, AreAllEmpty-LaidOut, IsFilled-place_of, IsFilledRun-rotated},
       LaidOut.{IsFilledRun-LaidOut, HoldsRun-LaidOut, same_run, LaidOut-set, LaidOut-swap},
       Rotated.{MayStartAt, MayStartAt-place_of, place_of-first, place_of-zero, place_of-lt, one_place},
@@ -183,7 +183,7 @@ module _ {X : Type 0} (r : Inside X) (kept : Kept r) where
   -- an item is put at an end, or taken off there
   pub back_put : (place : ℕ) (x : X) → r.len < n → place ≡ place_of r.start r.len n
       → Become n r.start (r.len + 1) (items ++ x ∷ []) (set places place (Some x))
-  back_put place x room is = become (rw (is, ← len) (LaidOut-put_back laid x (omega (arith, len)))) _
+  back_put place x room is = become (rw is (LaidOut-put r.len x (Gapped-behind laid (omega (arith, len))) len)) _
       (omega (arith, len, length_push items x))
 
   -- where the list starts at the first place, that is the place of its length
@@ -199,11 +199,14 @@ module _ {X : Type 0} (r : Inside X) (kept : Kept r) where
   pub front_put : (place : ℕ) (x : X) → r.len < n → place ≡ place_of r.start (n - 1) n
       → Become n place (r.len + 1) (x ∷ items) (set places place (Some x))
   front_put place x room is =
-      become (rw is (LaidOut-put_front laid x (omega (arith, len)))) _ (omega (arith, len))
+      let gap = Gapped-before laid (omega (arith, len)) in
+      become (rw is (rw (place_of-zero _ n gap.reads.in_region) at (LaidOut-put 0 x gap refl))) _ (omega (arith, len))
 
   pub back_taken : (place : ℕ) → 0 < r.len → place ≡ place_of r.start (r.len - 1) n
       → Become n r.start (r.len - 1) (take (r.len - 1) items) (set places place None)
-  back_taken place some is = become (rw is (LaidOut-take_back laid (r.len - 1) (omega (arith, len)))) _
+  back_taken place some is = 
+      become (rw is (LaidOut-gap_last (rw (drop_all (suc (r.len - 1)) items (omega (arith, len))) at
+      (Gapped-taken_one laid (r.len - 1) (omega (arith, len)))))) _
       (length-take-le (r.len - 1) items (omega (arith, len)))
 
   pub front_taken : (place : ℕ) → 0 < r.len → place ≡ r.start

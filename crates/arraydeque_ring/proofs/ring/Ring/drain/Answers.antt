@@ -25,9 +25,6 @@ returns-then-count-eq0-clause-start g c =
     rw (none, place_of-zero old.start old.capacity (omega arith))
     (grind arith)
 
-pub take_run-requires-clause-empty : goal.take_run-requires-clause-empty
-take_run-requires-clause-empty g c = rw c.in_ok-slots.ensures.ok (all_empty (c.args.to - c.args.from) _ (omega arith))
-
 pub take_run-requires-clause-filled : goal.take_run-requires-clause-filled
 take_run-requires-clause-filled g c =
     let ring = opened c.self.inside c.self.invariant c.self.view_is in
@@ -39,7 +36,7 @@ out g c = run_out (opened c.self.inside c.self.invariant c.self.view_is) _ _ _ (
     c.take_run.ensures.places
 
 pub close_gap-self-inside-requires : goal.close_gap-self-inside-requires
-close_gap-self-inside-requires g c = (out g (goal.at.close_gap-self-inside-requires g c).After-take_run).may
+close_gap-self-inside-requires g c = (out g c.before.before).may
 
 after : (g : Over) (c : After-close_gap-self-inside g) → let old = c.args.self.now in
     Shows old.capacity c.close_gap-self-inside.result (c.self.inside.len - (c.args.to - c.args.from))
@@ -49,13 +46,13 @@ after g c = let moved = c.close_gap-self-inside.ensures in
 
 pub invariant_of-self : goal.invariant_of-self
 invariant_of-self g c =
-    let now = after g (goal.at.invariant_of-self g c).After-close_gap-self-inside in (now.1, now.2)
+    let now = after g c.before in (now.1, now.2)
 
 pub returns-clause-items : goal.returns-clause-items
-returns-clause-items g c = (after g (goal.at.returns-clause-items g c).After-close_gap-self-inside).3
+returns-clause-items g c = (after g c.before).3
 
 pub returns-clause-capacity : goal.returns-clause-capacity
-returns-clause-capacity g c = (after g (goal.at.returns-clause-capacity g c).After-close_gap-self-inside).0
+returns-clause-capacity g c = (after g c.before).0
 
 pub returns-clause-start : goal.returns-clause-start
 returns-clause-start g c =

@@ -18,7 +18,7 @@ out g c =
     ))
 
 pub close_gap-self-inside-requires : goal.close_gap-self-inside-requires
-close_gap-self-inside-requires g c = (out g (goal.at.close_gap-self-inside-requires g c).After-take-item).may
+close_gap-self-inside-requires g c = (out g c.before.before).may
 
 after : (g : Over) (c : After-close_gap-self-inside g) → let old = c.args.self.now in
     Shows old.capacity c.close_gap-self-inside.result (c.self.inside.len - 1) (remove old.items c.args.index)
@@ -28,13 +28,13 @@ after g c = let moved = c.close_gap-self-inside.ensures in
 
 pub invariant_of-self : goal.invariant_of-self
 invariant_of-self g c =
-    let now = after g (goal.at.invariant_of-self g c).After-close_gap-self-inside in (now.1, now.2)
+    let now = after g c.before in (now.1, now.2)
 
 pub returns-clause-items : goal.returns-clause-items
-returns-clause-items g c = (after g (goal.at.returns-clause-items g c).After-close_gap-self-inside).3
+returns-clause-items g c = (after g c.before).3
 
 pub returns-clause-capacity : goal.returns-clause-capacity
-returns-clause-capacity g c = (after g (goal.at.returns-clause-capacity g c).After-close_gap-self-inside).0
+returns-clause-capacity g c = (after g c.before).0
 
 pub returns-clause-start : goal.returns-clause-start
 returns-clause-start g c =

@@ -14,7 +14,7 @@ parts g c = let r = c.requires in
     c.min-first.ensures
 
 pub hand_over-requires-clause-filled : goal.hand_over-requires-clause-filled
-hand_over-requires-clause-filled g c = (parts g (goal.at.hand_over-requires-clause-filled g c).After-min-first).here
+hand_over-requires-clause-filled g c = (parts g c.before.before).here
 
 pub hand_over-requires-clause-empty : goal.hand_over-requires-clause-empty
 hand_over-requires-clause-empty g c = first_empty c.args.len _ c.args.taken.now.places (omega arith) c.requires.empty
