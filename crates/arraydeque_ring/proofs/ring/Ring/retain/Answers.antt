@@ -40,16 +40,6 @@ f-keeps-requires g c =
     c.requires _ _ _
     (next_asked so_far (omega arith) _ (rw c.wrap_add-place.ensures at c.get.ensures)) so_far.in_turn
 
-pub shift-requires-clause-filled : goal.shift-requires-clause-filled
-shift-requires-clause-filled g c =
-    rw c.wrap_add-place.ensures (next_filled c.loop-index.invariant.so_far (omega arith))
-
-pub shift-requires-clause-empty : goal.shift-requires-clause-empty
-shift-requires-clause-empty g c = rw c.wrap_add-then-keeps.ensures (room_for_next c.loop-index.invariant.so_far)
-
-pub overflow_add-kept : goal.overflow_add-kept
-overflow_add-kept g c = omega arith
-
 pub loop-index-preserved : goal.loop-index-preserved
 loop-index-preserved g c =
     let so_far = c.loop-index.invariant.so_far in
