@@ -33,11 +33,11 @@ module _ {X : Type 0} where
     steps = more_puts (length xs) v.steps;
   }
 
-  pub filled_back-both : (xs ys : List X) (v : RingState X)
+  pub filled_back-both : (v : RingState X) (xs ys : List X)
       → filled_back ys (filled_back xs v) ≡ filled_back (xs ++ ys) v
-  filled_back-both xs ys v = grind (arith, append_assoc v.items xs ys, length-append xs ys)
+  filled_back-both v xs ys = grind (arith, append_assoc v.items xs ys, length-append xs ys)
 
-  pub filled_front-both : (xs ys : List X) (v : RingState X)
+  pub filled_front-both : (v : RingState X) (xs ys : List X)
       → filled_front ys (filled_front xs v) ≡ filled_front (xs ++ ys) v
-  filled_front-both xs ys v =
+  filled_front-both v xs ys =
       grind (arith, all_before xs ys v.items, down_by-all xs ys v.start v.capacity, length-append xs ys)

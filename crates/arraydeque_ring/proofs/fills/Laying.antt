@@ -44,23 +44,6 @@ down_by-is (suc k) s (suc p) lt le =
     let is = ap (λ j. j % suc p) round ∙ add-mul-mod_self_right (s + (p - k)) k (suc p) in
     grind arith
 
-module _ {X : Type 0} {n t : ℕ} {ys : List X} {ps : List (Option X)} (l : LaidOut n t ys ps) (some : 0 < n) where
-  -- in a full list the items xs take the places of the first ones
-  LaidOut-first : (xs : List X) → length ys ≡ n → t + length xs ≤ n
-      → LaidOut n (place_of t (length xs) n) (drop (length xs) (ys ++ xs)) (with_run t xs ps)
-  LaidOut-first xs full fits =
-      LaidOut-by (omega (arith, length-drop (length xs) (ys ++ xs), length-append ys xs))
-      (Holds-from (Holds-run (holds l) 0 t xs (inl (omega arith)) fits (omega arith)) (length xs) some (omega arith)
-      (λ k lt. grind (arith, items, place_of_cases (length xs) k n (omega arith))))
-
-  -- the items zs go into the places of the last indexes, before the others, and of a full list the last ones go out
-  LaidOut-before : (zs : List X) (run at : ℕ) → length zs ≡ run → MayStartAt t (n - run) n at → at + run ≤ n
-      → LaidOut n (place_of t (n - run) n) (take n (zs ++ ys)) (with_run at zs ps)
-  LaidOut-before zs run at many lies fits =
-      LaidOut-by (omega (arith, length-take n (zs ++ ys)))
-      (Holds-from (Holds-run (holds l) (n - run) at zs lies (omega arith) (omega arith)) (n - run) some (omega arith)
-      (λ k lt. grind (arith, nat_tests, items, place_of_cases (n - run) k n (omega arith))))
-
 -- what a loop has made of a ring v by the items that it took of an iterator, as the word says of them;
 -- the region, of n places, is out of the fields r meanwhile
 pub record Laying {S X : Type 0} (it : Ghosts S X) (word : List X → RingState X → RingState X) (v : RingState X)
@@ -75,16 +58,16 @@ pub record Laying {S X : Type 0} (it : Ghosts S X) (word : List X → RingState 
 module _ {S X : Type 0} {it : Ghosts S X} {word : List X → RingState X → RingState X} {v : RingState X} {n : ℕ}
     {r : Inside X} {slots : Region X} where
   -- before the first turn
-  pub begun : {s : S} {left : Region X} → Opened r v → n ≡ length r.slots.places → slots ≡ r.slots
-      → left ≡ empty_region 0 → it.can_next s → v ≡ word [] v
+  pub begun : {s : S} {left : Region X} → Opened r v → n ≡ length r.slots.places
+      → record { region : slots ≡ r.slots; left : left ≡ empty_region 0 } → it.can_next s → v ≡ word [] v
       → Laying it word v s s false n record r { slots = left } slots
-  begun o long all out may none = record {
+  begun o long moved may none = record {
     all = omega arith;
-    out = out;
+    out = moved.left;
     count = 0;
-    so_far = Fills-none _ _ _ (rw all (subst (Opened _) none o));
+    so_far = Fills-none _ _ _ (rw moved.region (subst (Opened _) none o));
     goes = λ _. (may, λ f. f);
-    kept = rw all (kept o);
+    kept = rw moved.region (kept o);
   }
 
   -- a turn more, in which the items of `now` came
@@ -136,7 +119,10 @@ module _ {X : Type 0} {r : Inside X} {v : RingState X} (o : Opened r v) {n : ℕ
       → new.steps ≡ more_puts run (more_takes run r.slots.steps)
       → Opened record r { slots = new; start = start } (displaced_first xs v)
   laid_first full fits is xs came steps = record {
-    laid = rw (came.1, is, all, ← came.0) (LaidOut-first o.laid (omega arith) xs (omega arith) (omega arith));
+    laid = rw (came.1, is, all, ← came.0)
+        (LaidOut-by (omega (arith, length-drop (length xs) (v.items ++ xs), length-append v.items xs))
+        (Holds-from (Holds-run (holds o.laid) 0 _ xs (inl (omega arith)) (omega arith) (omega arith)) (length xs)
+        (omega arith) (omega arith) (λ k lt. grind (arith, items, place_of_cases (length xs) k v.capacity (omega arith)))));
     len = omega (arith, length-drop (length xs) (v.items ++ xs), length-append v.items xs);
     start = rw (is, all, ← came.0, o.start) (up_by-is _ _ _ (rw o.start at o.laid.in_region));
     steps = rw (steps, o.steps, came.0) refl;
@@ -164,8 +150,11 @@ module _ {X : Type 0} {r : Inside X} {v : RingState X} (o : Opened r v) {n : ℕ
       down = rw (is, all, ← came.0, o.start) (down_by-is _ _ _ (omega arith) (omega arith))
 
       laid : LaidOut v.capacity start (take v.capacity (reverse xs ++ v.items)) new.places
-      laid = rw (came.1, is, all) (LaidOut-before o.laid (omega arith) (reverse xs) _ _
-          (length-reverse xs ∙ came.0) before.0 (omega (arith, before.1)))
+      laid = let many = length-reverse xs ∙ came.0 in let j = v.capacity - run in rw (came.1, is, all)
+          (LaidOut-by (omega (arith, length-take v.capacity (reverse xs ++ v.items)))
+          (Holds-from (Holds-run (holds o.laid) j _ (reverse xs) before.0 (omega (arith, before.1)) (omega arith)) j
+          (omega arith) (omega arith)
+          (λ k lt. grind (arith, nat_tests, items, place_of_cases j k v.capacity (omega arith)))))
 
       long : length (reverse xs ++ v.items) ≡ r.len + run
       long = omega (arith, length-append (reverse xs) v.items, length-reverse xs)

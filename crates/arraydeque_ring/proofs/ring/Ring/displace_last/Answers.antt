@@ -7,7 +7,7 @@ use Rattle.arraydeque_ring.proofs.ring.Ring.displace_last.Goals as goal
 
 pub loop-ended-init : goal.loop-ended-init
 loop-ended-init g c = begun (opened _ c.self.invariant c.self.view_is) c.capacity-capacity.ensures
-    c.moved_out-slots.ensures.region c.moved_out-slots.ensures.left c.requires.may (grind (arith, take_all))
+    c.moved_out-slots.ensures c.requires.may (grind (arith, take_all))
 
 pub displace_down-written-requires-clause-filled : goal.displace_down-written-requires-clause-filled
 displace_down-written-requires-clause-filled g c = let was = c.loop-ended.invariant in
@@ -17,7 +17,7 @@ pub loop-ended-preserved : goal.loop-ended-preserved
 loop-ended-preserved g c =
     let was = c.loop-ended.invariant in let done = c.displace_down-written.ensures in let now = done.filled in
     more was c.loop-ended-test.true now (λ some. let goes = done.goes some in (goes.0, λ _. goes.1))
-    (λ xs ys. displaced_last-both xs ys _) (laid_last was.so_far.holds was.all (omega arith) c.wrap_add-from.ensures
+    (displaced_last-both _) (laid_last was.so_far.holds was.all (omega arith) c.wrap_add-from.ensures
     (omega arith) c.wrap_add-self-inside.ensures now.items _ now.holds (grind (arith, common_steps)) done.steps)
 
 pub returns : goal.returns

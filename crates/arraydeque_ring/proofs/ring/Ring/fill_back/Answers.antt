@@ -7,7 +7,7 @@ use Rattle.arraydeque_ring.proofs.ring.Ring.fill_back.Goals as goal
 
 pub loop-ended-init : goal.loop-ended-init
 loop-ended-init g c = begun (opened _ c.self.invariant c.self.view_is) c.capacity-capacity.ensures
-    c.moved_out-slots.ensures.region c.moved_out-slots.ensures.left c.requires (grind (arith, append-nil))
+    c.moved_out-slots.ensures c.requires (grind (arith, append-nil))
 
 pub fill_up-written-requires-clause-empty : goal.fill_up-written-requires-clause-empty
 fill_up-written-requires-clause-empty g c = let was = c.loop-ended.invariant in
@@ -16,7 +16,7 @@ fill_up-written-requires-clause-empty g c = let was = c.loop-ended.invariant in
 pub loop-ended-preserved : goal.loop-ended-preserved
 loop-ended-preserved g c =
     let was = c.loop-ended.invariant in let fill = c.fill_up-written.ensures in let now = fill.filled in
-    more was c.loop-ended-test.true now fill.goes (λ xs ys. filled_back-both xs ys _) (laid_back was.so_far.holds was.all
+    more was c.loop-ended-test.true now fill.goes (filled_back-both _) (laid_back was.so_far.holds was.all
     (omega arith) c.wrap_add-from.ensures (omega arith) (omega arith) now.items now.holds fill.steps)
 
 pub returns-clause-filled : goal.returns-clause-filled

@@ -7,7 +7,7 @@ use Rattle.arraydeque_ring.proofs.ring.Ring.fill_front.Goals as goal
 
 pub loop-ended-init : goal.loop-ended-init
 loop-ended-init g c = begun (opened _ c.self.invariant c.self.view_is) c.capacity-capacity.ensures
-    c.moved_out-slots.ensures.region c.moved_out-slots.ensures.left c.requires (grind arith)
+    c.moved_out-slots.ensures c.requires (grind arith)
 
 pub fill_down-written-requires-clause-empty : goal.fill_down-written-requires-clause-empty
 fill_down-written-requires-clause-empty g c = let was = c.loop-ended.invariant in
@@ -16,7 +16,7 @@ fill_down-written-requires-clause-empty g c = let was = c.loop-ended.invariant i
 pub loop-ended-preserved : goal.loop-ended-preserved
 loop-ended-preserved g c =
     let was = c.loop-ended.invariant in let fill = c.fill_down-written.ensures in let now = fill.filled in
-    more was c.loop-ended-test.true now fill.goes (λ xs ys. filled_front-both xs ys _)
+    more was c.loop-ended-test.true now fill.goes (filled_front-both _)
     (laid_front was.so_far.holds was.all (omega arith) c.wrap_add-from.ensures (omega arith)
     c.wrap_add-self-inside.ensures now.items _ now.holds (omega arith) fill.steps)
 
