@@ -8,13 +8,10 @@ use Rattle.arraydeque_ring.{
   proofs.{places.Rotated.{place_of-sum}},
 }
 
--- to go down by j places and then by k is to go down by both
-down_by-both : (j k s n : ℕ) → down_by k (down_by j s n) n ≡ down_by (j + k) s n
-down_by-both j k s n = grind (arith, place_of-sum s (j * (n - 1)) (k * (n - 1)) n)
-
 module _ {X : Type 0} (xs ys : List X) where
+  -- to go down once for each of xs and then for each of ys is to go down for all
   pub down_by-all : (s n : ℕ) → down_by (length ys) (down_by (length xs) s n) n ≡ down_by (length (xs ++ ys)) s n
-  down_by-all s n = down_by-both (length xs) (length ys) s n ∙ ap (λ k. down_by k s n) (sym (length-append xs ys))
+  down_by-all s n = rw length-append (grind (arith, place_of-sum s (length xs * (n - 1)) (length ys * (n - 1)) n))
 
   -- those that went in last stand first
   pub all_before : (zs : List X) → reverse ys ++ (reverse xs ++ zs) ≡ reverse (xs ++ ys) ++ zs

@@ -18,7 +18,7 @@ use Rattle.arraydeque_ring.{
     Steps.{more_puts, more_takes},
   },
   proofs.{
-    fills.{FromIterator.{Fills-none, Fills-both}, Displaced.{displaced_first, displaced_last}, InRows.{filled_back, filled_front}},
+    fills.{FromIterator.Fills-both, Displaced.{displaced_first, displaced_last}, InRows.{filled_back, filled_front}},
     places.{
       Appended.{Holds-run, LaidOut-appended, IsEmptyRun-from, IsEmptyRun-behind},
       Holds.Holds-from,
@@ -65,7 +65,15 @@ module _ {S X : Type 0} {it : Ghosts S X} {word : List X → RingState X → Rin
     all = omega arith;
     out = moved.left;
     count = 0;
-    so_far = Fills-none _ _ _ (rw moved.region (subst (Opened _) none o));
+    so_far = record {
+      items = [];
+      last = _;
+      yielded = refl;
+      at_most = omega arith;
+      none = λ e. absurd (grind arith);
+      all = λ _. (refl, refl);
+      holds = rw moved.region (subst (Opened _) none o);
+    };
     goes = λ _. (may, λ f. f);
     kept = rw moved.region (kept o);
   }
@@ -107,7 +115,7 @@ module _ {X : Type 0} {r : Inside X} {v : RingState X} (o : Opened r v) {n : ℕ
       laid = rw came.1 (LaidOut-appended o.laid xs place lies.0 (omega arith) (omega arith));
       len = omega (arith, length-append v.items xs);
       start = o.start;
-      steps = rw (steps, o.steps, came.0) refl;
+      steps = grind arith;
     }
 
   -- in the places of the first items
@@ -125,7 +133,7 @@ module _ {X : Type 0} {r : Inside X} {v : RingState X} (o : Opened r v) {n : ℕ
         (omega arith) (omega arith) (λ k lt. grind (arith, items, place_of_cases (length xs) k v.capacity (omega arith)))));
     len = omega (arith, length-drop (length xs) (v.items ++ xs), length-append v.items xs);
     start = rw (is, all, ← came.0, o.start) (up_by-is _ _ _ (rw o.start at o.laid.in_region));
-    steps = rw (steps, o.steps, came.0) refl;
+    steps = grind arith;
   }
 
   -- before the first item, or in the places of the last ones
@@ -165,7 +173,7 @@ module _ {X : Type 0} {r : Inside X} {v : RingState X} (o : Opened r v) {n : ℕ
         laid = rw (take_all v.capacity (reverse xs ++ v.items) (omega (arith, long))) at laid;
         len = long;
         start = down;
-        steps = rw (steps, o.steps, came.0) refl;
+        steps = grind arith;
       }
 
       pub laid_last : r.len ≡ n → new.steps ≡ more_puts run (more_takes run r.slots.steps)
@@ -175,5 +183,5 @@ module _ {X : Type 0} {r : Inside X} {v : RingState X} (o : Opened r v) {n : ℕ
             laid = rw same laid;
             len = omega (arith, long, length-take (length v.items) (reverse xs ++ v.items));
             start = down;
-            steps = rw (steps, o.steps, came.0) refl;
+            steps = grind arith;
           }

@@ -47,14 +47,12 @@ pub all_kept : {F X : Type 0} (R : F → X → Bool → F → Type 0) (f g : F) 
     → Retains R f ring ring
 all_kept R f g ring k all told =
     let bs = replicate k true in
-    let items : items_where_true bs ring.items ≡ ring.items =
-    picked_front k ring.items ∙ take_all k ring.items (omega arith) in
     record {
       answers = bs;
       last = g;
       one_each = length-replicate k true ∙ all;
       in_turn = all_stay R f g k ring.items all told;
-      kept = grind (arith, none_goes k, none_moved k);
+      kept = grind (arith, none_goes k, none_moved k, picked_front k ring.items, take_all k ring.items);
     }
 
 -- behind k items that stay, the first goes

@@ -39,8 +39,7 @@ module _ {X : Type 0} {old : RingState X} {k : ℕ} {v : Vec X Global} {ps : Lis
       → AreOut old (k + 1) w qs
   next_out {x = x} is taken pushed len capacity = record {
     room = omega arith;
-    items = pushed ∙ ap₂ (λ l y. l ++ y ∷ []) was.items (sym (get_or_from_slice_get old.items k x x (sym held ∙ is)))
-        ∙ sym (take_more old.items k x lt);
+    items = grind (arith, get_or_from_slice_get old.items k x x (sym held ∙ is), take_more old.items k x lt);
     reads = rw (taken, ← here) (Holds-set was.reads k None (omega arith) (grind arith) (λ i i_in other. grind arith));
   }
 

@@ -18,7 +18,7 @@ loop-item-init g c = (
 
 pub put-requires : goal.put-requires
 put-requires g c =
-    let was = c.loop-item.invariant.1 in rw was.places (grind (arith, common_steps, was.fits, c.in-Some.ensures.len))
+    let was = c.loop-item.invariant.1 in rw was.places (grind (arith, common_steps, c.in-Some.ensures.len))
 
 pub loop-item-preserved : goal.loop-item-preserved
 loop-item-preserved g c =
@@ -28,7 +28,7 @@ loop-item-preserved g c =
         all = grind (arith, common_steps, was.1.all, c.in-Some.ensures.items);
         fits = omega (arith, c.in-Some.ensures.len);
         places = rw (c.put.ensures.places, was.1.places, c.len.ensures) (with_run-before _ _ _
-            (omega (arith, length-replicate {A = Option g.row.T.Denot} c.args.capacity None))
+            (grind (arith, common_steps))
             x _ c.in-Some.ensures.len);
         steps = grind arith;
       },
