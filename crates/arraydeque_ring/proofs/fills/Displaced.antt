@@ -26,7 +26,7 @@ module _ {X : Type 0} where
   }
 
   -- ys came after xs
-  module _ (xs ys : List X) (r : RingState X) where
+  module _ (r : RingState X) (xs ys : List X) where
     pub displaced_first-both : displaced_first ys (displaced_first xs r) ≡ displaced_first (xs ++ ys) r
     displaced_first-both =
         let items : drop (length ys) (drop (length xs) (r.items ++ xs) ++ ys) ≡ drop (length (xs ++ ys))

@@ -1,31 +1,27 @@
 -- A run of places that is written with items from an iterator, one place after another.
 use Rattle.std.proofs.{
-  Common.{◌≡◌, ℕ, ◌+◌, ◌-◌, ◌<◌, ◌≤◌, ◌⊎◌, List, [], ◌∷◌, ◌++◌, length, reverse, set, Option, Some, ap},
-  Common.{◌∙◌, arith, rules},
+  Common.{◌≡◌, ℕ, ◌+◌, ◌-◌, ◌<◌, ◌≤◌, List, [], ◌∷◌, ◌++◌, length, reverse, set, Option, Some, false, ◌∙◌, arith, rules},
   lemmas.{
     Bool.Decides.nat_tests,
     List.{get_or-set_same, places, same_lists, length-map, map-append, length-append, length-reverse, reverse-append},
+    List.length_push,
   },
 }
 use Rattle.arraydeque_ring.{
-  specs.{Gaps.IsEmptyRun, Loans.with_run, Places.{held_at, IsEmpty, IsFilled, IsFilledRun}},
+  specs.{Fills.Fills, Loans.with_run},
   proofs.{
-    loans.Placed.length-with_run,
+    fills.FromIterator.Fills-one,
     moved.Flat.same_places,
-    places.{
-      Appended.get_or-with_run,
-      Emptied.get_or-written,
-      Held.{empty_in_run, filled_in_run},
-      Items.{items, slice_get-cons},
-    },
+    places.{Appended.get_or-with_run, Emptied.get_or-written, Items.{items, slice_get-cons}},
   },
 }
 
-module _ {X : Type 0} (at : ℕ) (xs : List X) (ps : List (Option X)) (within : at + length xs ≤ length ps) where
-  -- one item more, in the place behind the run or before it
-  pub with_run-behind : (x : X) (place : ℕ) → place ≡ at + length xs → place < length ps
+-- one item more, in the place behind the run or before it
+module _ {X : Type 0} (at : ℕ) (xs : List X) (ps : List (Option X)) (within : at + length xs ≤ length ps) (x : X)
+    (place : ℕ) where
+  with_run-behind : place ≡ at + length xs → place < length ps
       → set (with_run at xs ps) place (Some x) ≡ with_run at (xs ++ x ∷ []) ps
-  with_run-behind x place here lt =
+  with_run-behind here lt =
       let long = length-map xs Some in
       let more = length-append xs (x ∷ []) in
       same_places _ _ (search (rules, places, map-append)) (λ i i_in.
@@ -39,32 +35,29 @@ module _ {X : Type 0} (at : ℕ) (xs : List X) (ps : List (Option X)) (within : 
         more,
       ))
 
-  pub with_run-before : (x : X) (place : ℕ) → place + 1 ≡ at
-      → set (with_run at xs ps) place (Some x) ≡ with_run place (x ∷ xs) ps
-  with_run-before x place here =
+  pub with_run-before : place + 1 ≡ at → set (with_run at xs ps) place (Some x) ≡ with_run place (x ∷ xs) ps
+  with_run-before here =
       same_lists _ _ (search (rules, places)) (λ j d lt. grind (arith, places, get_or-set_same))
 
-  -- the places outside are as they were
-  module _ (place : ℕ) (outside : (place < at) ⊎ (at + length xs ≤ place)) where
-    held : held_at (with_run at xs ps) place ≡ held_at ps place
-    held = grind (arith, get_or-with_run at xs ps place)
+-- n items came from an iterator, and then x
+module _ {S X : Type 0} {gives : S → Option X → S → Type 0} {from mid to : S} {n : ℕ} (at : ℕ)
+    (ps : List (Option X)) (x : X) {qs rs : List (Option X)} (came : gives mid (Some x) to) where
+  -- they stand from the place `at` on
+  pub one_up : Fills gives from mid n false (λ xs. (length xs ≡ n) × (qs ≡ with_run at xs ps)) → at + n < length ps
+      → rs ≡ set qs (at + n) (Some x)
+      → Fills gives from to (n + 1) false (λ xs. (length xs ≡ n + 1) × (rs ≡ with_run at xs ps))
+  one_up was within is = Fills-one gives was x came _ (
+    omega (arith, length_push was.items x),
+    rw (is, was.holds.1) (with_run-behind at was.items ps (omega arith) x _ (omega arith) within),
+  )
 
-    pub empty_outside : (first run : ℕ) → IsEmptyRun ps first run → first ≤ place → place < first + run
-        → IsEmpty (with_run at xs ps) place
-    empty_outside first run empty from to = (
-      omega (arith, length-with_run at xs ps within),
-      held ∙ ap (held_at ps) (omega arith) ∙ empty_in_run ps first run (place - first) empty (omega arith),
-    )
-
-    pub filled_outside : (first run : ℕ) → IsFilledRun ps first run → first ≤ place → place < first + run
-        → IsFilled (with_run at xs ps) place
-    filled_outside first run filled from to =
-        let some = filled_in_run ps first run (place - first) filled (omega arith) in
-        (some.0, held ∙ ap (held_at ps) (omega arith) ∙ some.1)
-
--- items that come downwards stand in reverse
-pub with_run-down : {X : Type 0} (at : ℕ) (xs : List X) (ps : List (Option X)) (x : X) (place next : ℕ)
-    → at + length xs ≤ length ps → next + 1 ≡ at → place ≡ next
-    → set (with_run at (reverse xs) ps) place (Some x) ≡ with_run next (reverse (xs ++ x ∷ [])) ps
-with_run-down at xs ps x place next within above here = rw (here, reverse-append xs (x ∷ []))
-    (with_run-before at (reverse xs) ps (omega (arith, length-reverse xs)) x next above)
+  -- or from the place `at` downwards, in reverse
+  pub one_down : Fills gives from mid n false (λ xs. (length xs ≡ n) × (qs ≡ with_run (at - n) (reverse xs) ps))
+      → n < at → at ≤ length ps → rs ≡ set qs (at - 1 - n) (Some x)
+      → Fills gives from to (n + 1) false (λ xs. (length xs ≡ n + 1) × (rs ≡ with_run (at - (n + 1)) (reverse xs) ps))
+  one_down was some within is = let next : at - 1 - n ≡ at - (n + 1) = omega arith in
+      Fills-one gives was x came _ (
+        omega (arith, length_push was.items x),
+        rw (is, was.holds.1, next, reverse-append was.items (x ∷ [])) (with_run-before _ (reverse was.items) ps
+            (omega (arith, length-reverse was.items)) x _ (omega arith)),
+      )

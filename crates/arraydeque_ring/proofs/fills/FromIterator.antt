@@ -11,18 +11,6 @@ use Rattle.std.{
 use Rattle.arraydeque_ring.specs.Fills.{Fills, Ends}
 
 module _ {S A : Type 0} (gives : S → Option A → S → Type 0) where
-  -- before the first call
-  pub Fills-none : (s : S) (P : List A → Type 0) → P [] → Fills gives s s 0 false P
-  Fills-none s P holds = record {
-    items = [];
-    last = s;
-    yielded = refl;
-    at_most = omega arith;
-    none = λ e. absurd (grind arith);
-    all = λ _. (refl, refl);
-    holds = holds;
-  }
-
   -- the same, said otherwise
   pub Fills-as : {from to : S} {n : ℕ} {ended : Bool} {P : List A → Type 0} (f : Fills gives from to n ended P) (m : ℕ)
       (Q : List A → Type 0) → length f.items ≤ m → (ended ≡ false → length f.items ≡ m) → ((xs : List A) → P xs → Q xs)

@@ -8,13 +8,10 @@ use Rattle.arraydeque_ring.{
   proofs.{places.Rotated.{place_of-sum}},
 }
 
--- to go down by j places and then by k is to go down by both
-down_by-both : (j k s n : ℕ) → down_by k (down_by j s n) n ≡ down_by (j + k) s n
-down_by-both j k s n = grind (arith, place_of-sum s (j * (n - 1)) (k * (n - 1)) n)
-
 module _ {X : Type 0} (xs ys : List X) where
+  -- to go down once for each of xs and then for each of ys is to go down for all
   pub down_by-all : (s n : ℕ) → down_by (length ys) (down_by (length xs) s n) n ≡ down_by (length (xs ++ ys)) s n
-  down_by-all s n = down_by-both (length xs) (length ys) s n ∙ ap (λ k. down_by k s n) (sym (length-append xs ys))
+  down_by-all s n = rw length-append (grind (arith, place_of-sum s (length xs * (n - 1)) (length ys * (n - 1)) n))
 
   -- those that went in last stand first
   pub all_before : (zs : List X) → reverse ys ++ (reverse xs ++ zs) ≡ reverse (xs ++ ys) ++ zs
@@ -33,11 +30,11 @@ module _ {X : Type 0} where
     steps = more_puts (length xs) v.steps;
   }
 
-  pub filled_back-both : (xs ys : List X) (v : RingState X)
+  pub filled_back-both : (v : RingState X) (xs ys : List X)
       → filled_back ys (filled_back xs v) ≡ filled_back (xs ++ ys) v
-  filled_back-both xs ys v = grind (arith, append_assoc v.items xs ys, length-append xs ys)
+  filled_back-both v xs ys = grind (arith, append_assoc v.items xs ys, length-append xs ys)
 
-  pub filled_front-both : (xs ys : List X) (v : RingState X)
+  pub filled_front-both : (v : RingState X) (xs ys : List X)
       → filled_front ys (filled_front xs v) ≡ filled_front (xs ++ ys) v
-  filled_front-both xs ys v =
+  filled_front-both v xs ys =
       grind (arith, all_before xs ys v.items, down_by-all xs ys v.start v.capacity, length-append xs ys)

@@ -2,27 +2,29 @@
 -- the places of others.
 use Rattle.std.proofs.{
   Common.{◌≡◌, ℕ, zero, suc, ◌+◌, ◌-◌, ◌*◌, ◌%◌, ◌<◌, ◌≤◌, inl, inr, List, ◌++◌, length, take, drop, reverse, Option},
-  Common.{refl, ap, ◌∙◌, arith},
+  Common.{[], Bool, true, false, refl, subst, ap, ◌∙◌, arith},
   Math.Nat.{add-mod_right, add-mul-mod_self_right, mod-eq_of_lt},
   lemmas.{Bool.Decides.nat_tests, List.{length-append, length-drop, length-reverse, length-take, take_all}},
 }
+use Rattle.std.specs.declared.iter.Iterator.{Ghosts}
 use Rattle.arraydeque_ring.{
   specs.{
+    Fills.{Fills, GoesOn},
     declared.ring.Ring.TheInside.Inside,
     Gaps.IsEmptyRun,
     Loans.with_run,
-    Places.{Region, IsFilledRun},
+    Places.{Region, IsFilledRun, empty_region},
     Ring.{RingState, place_of, up_by, down_by},
     Steps.{more_puts, more_takes},
   },
   proofs.{
-    fills.{Displaced.{displaced_first, displaced_last}, InRows.{filled_back, filled_front}},
+    fills.{FromIterator.Fills-both, Displaced.{displaced_first, displaced_last}, InRows.{filled_back, filled_front}},
     places.{
       Appended.{Holds-run, LaidOut-appended, IsEmptyRun-from, IsEmptyRun-behind},
       Holds.Holds-from,
       Items.items,
       LaidOut.{LaidOut, LaidOut-by, holds, IsFilledRun-LaidOut},
-      Opened.Opened,
+      Opened.{Opened, Kept, kept},
       Rotated.{MayStartAt, MayStartAt-place_of, place_of_cases, place_of-zero},
     },
   },
@@ -42,28 +44,61 @@ down_by-is (suc k) s (suc p) lt le =
     let is = ap (λ j. j % suc p) round ∙ add-mul-mod_self_right (s + (p - k)) k (suc p) in
     grind arith
 
-module _ {X : Type 0} {n t : ℕ} {ys : List X} {ps : List (Option X)} (l : LaidOut n t ys ps) (some : 0 < n) where
-  -- in a full list the items xs take the places of the first ones
-  LaidOut-first : (xs : List X) → length ys ≡ n → t + length xs ≤ n
-      → LaidOut n (place_of t (length xs) n) (drop (length xs) (ys ++ xs)) (with_run t xs ps)
-  LaidOut-first xs full fits =
-      LaidOut-by (omega (arith, length-drop (length xs) (ys ++ xs), length-append ys xs))
-      (Holds-from (Holds-run (holds l) 0 t xs (inl (omega arith)) fits (omega arith)) (length xs) some (omega arith)
-      (λ k lt. grind (arith, items, place_of_cases (length xs) k n (omega arith))))
+-- what a loop has made of a ring v by the items that it took of an iterator, as the word says of them;
+-- the region, of n places, is out of the fields r meanwhile
+pub record Laying {S X : Type 0} (it : Ghosts S X) (word : List X → RingState X → RingState X) (v : RingState X)
+    (from to : S) (ended : Bool) (n : ℕ) (r : Inside X) (slots : Region X) : Type 0 where
+  pub all : n ≡ v.capacity
+  pub out : r.slots ≡ empty_region 0
+  pub count : ℕ
+  pub so_far : Fills it.next_gives from to count ended (λ xs. Opened record r { slots = slots } (word xs v))
+  pub goes : GoesOn it.can_next it.remaining from to ended
+  pub kept : Kept record r { slots = slots }
 
-  -- the items zs go into the places of the last indexes, before the others, and of a full list the last ones go out
-  LaidOut-before : (zs : List X) (run at : ℕ) → length zs ≡ run → MayStartAt t (n - run) n at → at + run ≤ n
-      → LaidOut n (place_of t (n - run) n) (take n (zs ++ ys)) (with_run at zs ps)
-  LaidOut-before zs run at many lies fits =
-      LaidOut-by (omega (arith, length-take n (zs ++ ys)))
-      (Holds-from (Holds-run (holds l) (n - run) at zs lies (omega arith) (omega arith)) (n - run) some (omega arith)
-      (λ k lt. grind (arith, nat_tests, items, place_of_cases (n - run) k n (omega arith))))
+module _ {S X : Type 0} {it : Ghosts S X} {word : List X → RingState X → RingState X} {v : RingState X} {n : ℕ}
+    {r : Inside X} {slots : Region X} where
+  -- before the first turn
+  pub begun : {s : S} {left : Region X} → Opened r v → n ≡ length r.slots.places
+      → record { region : slots ≡ r.slots; left : left ≡ empty_region 0 } → it.can_next s → v ≡ word [] v
+      → Laying it word v s s false n record r { slots = left } slots
+  begun o long moved may none = record {
+    all = omega arith;
+    out = moved.left;
+    count = 0;
+    so_far = record {
+      items = [];
+      last = _;
+      yielded = refl;
+      at_most = omega arith;
+      none = λ e. absurd (grind arith);
+      all = λ _. (refl, refl);
+      holds = rw moved.region (subst (Opened _) none o);
+    };
+    goes = λ _. (may, λ f. f);
+    kept = rw moved.region (kept o);
+  }
+
+  -- a turn more, in which the items of `now` came
+  pub more : {from mid to : S} {ended over : Bool} {m : ℕ} {P : List X → Type 0}
+      (was : Laying it word v from mid ended n r slots) → ended ≡ false → (now : Fills it.next_gives mid to m over P)
+      → GoesOn it.can_next it.remaining mid to over → {start len : ℕ} {new : Region X}
+      → ((xs ys : List X) → word ys (word xs v) ≡ word (xs ++ ys) v)
+      → Opened record r { slots = new; start = start; len = len } (word now.items (word was.so_far.items v))
+      → Laying it word v from to over n record r { start = start; len = len } new
+  more was on now goes both o = record {
+    all = was.all;
+    out = was.out;
+    count = _;
+    so_far = Fills-both _ was.so_far now _ on (subst (Opened _) (both was.so_far.items now.items) o);
+    goes = λ some. let next = goes some in (next.0, λ f. next.1 ((was.goes on).1 f));
+    kept = kept o;
+  }
 
 -- in an open ring, whose region has n places; the region is taken out, written, and put back
 module _ {X : Type 0} {r : Inside X} {v : RingState X} (o : Opened r v) {n : ℕ} (all : n ≡ v.capacity)
     (some : 0 < n) where
   -- behind the last item
-  module _ (run place : ℕ) (is : place ≡ (r.start + r.len) % n) (fits : run ≤ n - place) (room : run ≤ n - r.len) where
+  module _ {run place : ℕ} (is : place ≡ (r.start + r.len) % n) (fits : run ≤ n - place) (room : run ≤ n - r.len) where
     lies : MayStartAt r.start (length v.items) v.capacity place × (place + run ≤ v.capacity)
     lies = (
       rw (is, all, ← o.len) (MayStartAt-place_of r.start (length v.items) v.capacity (omega arith)),
@@ -73,33 +108,36 @@ module _ {X : Type 0} {r : Inside X} {v : RingState X} (o : Opened r v) {n : ℕ
     pub empty_behind : IsEmptyRun r.slots.places place run
     empty_behind = IsEmptyRun-behind o.laid _ _ lies.0 lies.1 (omega arith)
 
-    pub laid_back : (xs : List X) → length xs ≡ run → {slots : Region X}
-        → slots.places ≡ with_run place xs r.slots.places → slots.steps ≡ more_puts run r.slots.steps
-        → Opened record r { slots = slots; len = r.len + run } (filled_back xs v)
-    laid_back xs many places steps = record {
-      laid = rw places (LaidOut-appended o.laid xs place lies.0 (omega arith) (omega arith));
+    pub laid_back : (xs : List X) {new : Region X}
+        → (length xs ≡ run) × (new.places ≡ with_run place xs r.slots.places)
+        → new.steps ≡ more_puts run r.slots.steps → Opened record r { slots = new; len = r.len + run } (filled_back xs v)
+    laid_back xs came steps = record {
+      laid = rw came.1 (LaidOut-appended o.laid xs place lies.0 (omega arith) (omega arith));
       len = omega (arith, length-append v.items xs);
       start = o.start;
-      steps = rw (steps, o.steps, many) refl;
+      steps = grind arith;
     }
 
   -- in the places of the first items
   pub filled_first : r.len ≡ n → IsFilledRun r.slots.places r.start (n - r.start)
   filled_first full = IsFilledRun-LaidOut o.laid 0 _ _ (inl (omega arith)) (omega arith) (omega arith)
 
-  pub laid_first : (run : ℕ) (xs : List X) → length xs ≡ run → r.len ≡ n → run ≤ n - r.start
-      → {slots : Region X} {start : ℕ} → start ≡ (r.start + run) % n → slots.places ≡ with_run r.start xs r.slots.places
-      → slots.steps ≡ more_puts run (more_takes run r.slots.steps)
-      → Opened record r { slots = slots; start = start } (displaced_first xs v)
-  laid_first run xs many full fits is places steps = record {
-    laid = rw (places, is, all, ← many) (LaidOut-first o.laid (omega arith) xs (omega arith) (omega arith));
+  pub laid_first : {run : ℕ} → r.len ≡ n → run ≤ n - r.start → {start : ℕ} → start ≡ (r.start + run) % n
+      → (xs : List X) {new : Region X} → (length xs ≡ run) × (new.places ≡ with_run r.start xs r.slots.places)
+      → new.steps ≡ more_puts run (more_takes run r.slots.steps)
+      → Opened record r { slots = new; start = start } (displaced_first xs v)
+  laid_first full fits is xs came steps = record {
+    laid = rw (came.1, is, all, ← came.0)
+        (LaidOut-by (omega (arith, length-drop (length xs) (v.items ++ xs), length-append v.items xs))
+        (Holds-from (Holds-run (holds o.laid) 0 _ xs (inl (omega arith)) (omega arith) (omega arith)) (length xs)
+        (omega arith) (omega arith) (λ k lt. grind (arith, items, place_of_cases (length xs) k v.capacity (omega arith)))));
     len = omega (arith, length-drop (length xs) (v.items ++ xs), length-append v.items xs);
-    start = rw (is, all, ← many, o.start) (up_by-is _ _ _ (rw o.start at o.laid.in_region));
-    steps = rw (steps, o.steps, many) refl;
+    start = rw (is, all, ← came.0, o.start) (up_by-is _ _ _ (rw o.start at o.laid.in_region));
+    steps = grind arith;
   }
 
   -- before the first item, or in the places of the last ones
-  module _ (run place : ℕ) (above : place ≡ (r.start + (n - 1)) % n) (fits : run ≤ place + 1) where
+  module _ {run place : ℕ} (above : place ≡ (r.start + (n - 1)) % n) (fits : run ≤ place + 1) where
     -- below the start, or below the region's end in its stead, lie the places of the last indexes
     before : MayStartAt r.start (v.capacity - run) v.capacity (place + 1 - run) × (place + 1 ≤ v.capacity)
     before = elim (place_of_cases r.start (n - 1) n (omega arith)) [
@@ -114,33 +152,36 @@ module _ {X : Type 0} {r : Inside X} {v : RingState X} (o : Opened r v) {n : ℕ
     pub filled_last : r.len ≡ n → IsFilledRun r.slots.places (place + 1 - run) run
     filled_last full = IsFilledRun-LaidOut o.laid (v.capacity - run) _ _ before.0 (omega arith) (omega arith)
 
-    module _ (xs : List X) (many : length xs ≡ run) {start : ℕ} (is : start ≡ (r.start + (n - run)) % n)
-        (slots : Region X) (places : slots.places ≡ with_run (place + 1 - run) (reverse xs) r.slots.places) where
+    module _ {start : ℕ} (is : start ≡ (r.start + (n - run)) % n) (xs : List X) (new : Region X)
+        (came : (length xs ≡ run) × (new.places ≡ with_run (place + 1 - run) (reverse xs) r.slots.places)) where
       down : start ≡ down_by (length xs) v.start v.capacity
-      down = rw (is, all, ← many, o.start) (down_by-is _ _ _ (omega arith) (omega arith))
+      down = rw (is, all, ← came.0, o.start) (down_by-is _ _ _ (omega arith) (omega arith))
 
-      laid : LaidOut v.capacity start (take v.capacity (reverse xs ++ v.items)) slots.places
-      laid = rw (places, is, all) (LaidOut-before o.laid (omega arith) (reverse xs) _ _
-          (length-reverse xs ∙ many) before.0 (omega (arith, before.1)))
+      laid : LaidOut v.capacity start (take v.capacity (reverse xs ++ v.items)) new.places
+      laid = let many = length-reverse xs ∙ came.0 in let j = v.capacity - run in rw (came.1, is, all)
+          (LaidOut-by (omega (arith, length-take v.capacity (reverse xs ++ v.items)))
+          (Holds-from (Holds-run (holds o.laid) j _ (reverse xs) before.0 (omega (arith, before.1)) (omega arith)) j
+          (omega arith) (omega arith)
+          (λ k lt. grind (arith, nat_tests, items, place_of_cases j k v.capacity (omega arith)))))
 
       long : length (reverse xs ++ v.items) ≡ r.len + run
       long = omega (arith, length-append (reverse xs) v.items, length-reverse xs)
 
-      pub laid_front : run ≤ n - r.len → slots.steps ≡ more_puts run r.slots.steps
-          → Opened record r { slots = slots; start = start; len = r.len + run } (filled_front xs v)
+      pub laid_front : run ≤ n - r.len → new.steps ≡ more_puts run r.slots.steps
+          → Opened record r { slots = new; start = start; len = r.len + run } (filled_front xs v)
       laid_front room steps = record {
         laid = rw (take_all v.capacity (reverse xs ++ v.items) (omega (arith, long))) at laid;
         len = long;
         start = down;
-        steps = rw (steps, o.steps, many) refl;
+        steps = grind arith;
       }
 
-      pub laid_last : r.len ≡ n → slots.steps ≡ more_puts run (more_takes run r.slots.steps)
-          → Opened record r { slots = slots; start = start } (displaced_last xs v)
+      pub laid_last : r.len ≡ n → new.steps ≡ more_puts run (more_takes run r.slots.steps)
+          → Opened record r { slots = new; start = start } (displaced_last xs v)
       laid_last full steps =
           let same : length v.items ≡ v.capacity = omega arith in record {
             laid = rw same laid;
             len = omega (arith, long, length-take (length v.items) (reverse xs ++ v.items));
             start = down;
-            steps = rw (steps, o.steps, many) refl;
+            steps = grind arith;
           }

@@ -14,8 +14,8 @@ pub kept_and_gone : {X : Type 0} (bs : List Bool) (xs : List X) → length bs �
 kept_and_gone [] xs le = refl
 kept_and_gone (b ∷ bs) [] le = absurd (omega arith)
 kept_and_gone (true ∷ bs) (x ∷ xs) le = omega (arith, kept_and_gone bs xs (omega arith))
-kept_and_gone (false ∷ bs) (x ∷ xs) le = let more : count_by not (false ∷ bs) ≡ 1 + count_by not bs =
-    sum_by-cons (λ b. cond (not b) 1 0) false bs in omega (arith, kept_and_gone bs xs (omega arith))
+kept_and_gone (false ∷ bs) (x ∷ xs) le =
+    omega (arith, kept_and_gone bs xs (omega arith), sum_by-cons (λ b. cond (not b) 1 0) false bs)
 
 -- one more to count
 pub count_by-push : (p : Bool → Bool) (bs : List Bool) (b : Bool)

@@ -69,9 +69,7 @@ module _ {X F : Type 0} (R : F → X → Bool → F → Type 0) where
   pub until_in_front : (f g : F) (k : ℕ) (xs ys : List X)
       → k < length xs → ReturnsInTurn R f (answers_until k (length xs)) xs g
       → ReturnsInTurn R f (answers_until k (length (xs ++ ys))) (xs ++ ys) g
-  until_in_front f g k xs ys lt told =
-      let long = length-append xs ys in
-      rw (until_goes k (length (xs ++ ys)) (omega arith))
+  until_in_front f g k xs ys lt told = rw (until_goes k (length (xs ++ ys)) (omega (arith, length-append xs ys)))
       (told_longer f g (replicate k true ++ false ∷ []) xs ys (rw (until_goes k (length xs) lt) at told))
 
   -- or all of that one stay
@@ -92,17 +90,19 @@ module _ {X F : Type 0} (t : Mut F (Bor X × Unit {0}) Bool) (f : F) (xs ys : Li
     (may : MayBeAsked t f (xs ++ ys)) where
   pub asked_front : MayBeAsked t f xs
   asked_front answers g x here told =
-      let lt = slice_get_within xs (length answers) x.now here in
-      may answers g x (slice_get-append xs ys (length answers) ∙ grind arith)
+      may answers g x (grind (arith, slice_get-append xs ys (length answers), slice_get_within xs (length answers) x.now here))
       (told_longer (CalledAt t) f g answers xs ys told)
 
   pub asked_back : (g : F) (k : ℕ) → k ≡ length xs → ReturnsInTurn (CalledAt t) f (answers_until k (length xs)) xs g
       → MayBeAsked t g ys
   asked_back g k all first answers h x here told =
       let bs = replicate k true in
-      let long : length (bs ++ answers) ≡ length xs + length answers =
-      omega (arith, length-append bs answers, length-replicate k true) in
-      may (bs ++ answers) h x (ap (slice_get (xs ++ ys)) long ∙ slice_get-append xs ys (length xs + length answers)
-      ∙ grind (arith, nat_tests))
+      may (bs ++ answers) h x (grind (
+        arith,
+        nat_tests,
+        length-append bs answers,
+        length-replicate k true,
+        slice_get-append xs ys (length (bs ++ answers)),
+      ))
       (told_behind (CalledAt t) f g h bs answers xs ys (length-replicate k true ∙ all)
       (all_stay (CalledAt t) f g k xs all first) told)

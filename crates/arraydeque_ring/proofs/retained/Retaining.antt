@@ -28,10 +28,11 @@ use Rattle.arraydeque_ring.{
   },
 }
 
--- a retain that began at f has asked about the first `index` items and is at g:
+-- a retain of len items that began at f has asked about the first `index` of them and is at g:
 -- `kept` of those stay, in front, and the others, one at least, are gone
 pub record SoFar {F X : Type 0} (R : F → X → Bool → F → Type 0) (f : F) (items : List X) (before : Steps)
-    (n t index kept : ℕ) (ps : List (Option X)) (steps : Steps) (g : F) : Type 0 where
+    (n t len index kept : ℕ) (ps : List (Option X)) (steps : Steps) (g : F) : Type 0 where
+  pub all : len ≡ length items
   pub answers : List Bool
   pub asked : length answers ≡ index
   pub in_turn : ReturnsInTurn R f answers items g
@@ -46,65 +47,60 @@ pub all_kept : {F X : Type 0} (R : F → X → Bool → F → Type 0) (f g : F) 
     → Retains R f ring ring
 all_kept R f g ring k all told =
     let bs = replicate k true in
-    let items : items_where_true bs ring.items ≡ ring.items =
-    picked_front k ring.items ∙ take_all k ring.items (omega arith) in
     record {
       answers = bs;
       last = g;
       one_each = length-replicate k true ∙ all;
       in_turn = all_stay R f g k ring.items all told;
-      kept = grind (arith, none_goes k, none_moved k);
+      kept = grind (arith, none_goes k, none_moved k, picked_front k ring.items, take_all k ring.items);
     }
 
 -- behind k items that stay, the first goes
 pub first_goes : {F X : Type 0} (R : F → X → Bool → F → Type 0) (f g : F) (before : Steps)
-    {items : List X} {n t : ℕ} {ps : List (Option X)} (k : ℕ) → LaidOut n t items ps → k < length items
+    {items : List X} {n t len : ℕ} {ps : List (Option X)} (k : ℕ) → LaidOut n t items ps → len ≡ length items → k < len
     → ReturnsInTurn R f (answers_until k (length items)) items g
-    → SoFar R f items before n t (k + 1) k (set ps (place_of t k n) None) (more_takes 1 before) g
-first_goes R f g before {items} {n} {t} {ps} k l lt told =
+    → SoFar R f items before n t len (k + 1) k (set ps (place_of t k n) None) (more_takes 1 before) g
+first_goes R f g before {items} {n} {t} {ps = ps} k l all lt told =
     let bs = replicate k true in
     let stay : items_where_true (bs ++ false ∷ []) items ≡ take k items =
     picked_push_false bs items ∙ picked_front k items in
     let long = length-replicate k true in
     let one : count_by not (bs ++ false ∷ []) ≡ 1 = omega (arith, count_by-push not bs false, none_goes k) in
     record {
+      all = all;
       answers = bs ++ false ∷ [];
       asked = omega (arith, length_push bs false);
-      in_turn = rw (until_goes k (length items) lt) at told;
+      in_turn = rw (until_goes k (length items) (omega arith)) at told;
       stay = ap length stay ∙ length-take-le k items (omega arith);
       some_gone = omega arith;
-      places = rw (stay, one, add-one k) (Gapped-taken_one l k lt);
+      places = rw (stay, one, add-one k) (Gapped-taken_one l k (omega arith));
       cost = grind (arith, moved-push_false bs, none_moved k);
     }
 
-module _ {F X : Type 0} {R : F → X → Bool → F → Type 0} {f : F} {items : List X} {before : Steps} {n t index kept : ℕ}
-    {ps : List (Option X)} {steps : Steps} {g : F} (s : SoFar R f items before n t index kept ps steps g) where
+module _ {F X : Type 0} {R : F → X → Bool → F → Type 0} {f : F} {items : List X} {before : Steps}
+    {n t len index kept : ℕ} {ps : List (Option X)} {steps : Steps} {g : F}
+    (s : SoFar R f items before n t len index kept ps steps g) where
   -- the items asked about stay or are gone
-  counted : index ≤ length items → kept + count_by not s.answers ≡ index
+  pub counted : index ≤ len → kept + count_by not s.answers ≡ index
   counted le = omega (arith, kept_and_gone s.answers items (omega arith))
 
   -- the place behind those that stay is empty
   pub room_for_next : IsEmpty ps (place_of t kept n)
   room_for_next = IsEmpty-gap (count_by not s.answers) kept s.places s.stay s.some_gone
 
-  -- no more stay than were asked about, and all lie in the region
-  pub all_within : index ≤ length items → (kept ≤ index) × (length items ≤ n)
-  all_within le =
-      (omega (arith, counted le), omega (arith, counted le, length-drop index items))
-
   -- all have been asked about
-  pub all_asked : length items ≤ index → Shows n t kept (items_where_true s.answers items) ps
-  all_asked past = shows (LaidOut-gap_last (rw (drop_all index items past) at s.places)) kept s.stay
+  pub all_asked : len ≤ index → Shows n t kept (items_where_true s.answers items) ps
+  all_asked past = shows (LaidOut-gap_last (rw (drop_all index items (omega arith)) at s.places)) kept s.stay
 
-  module _ (lt : index < length items) where
+  module _ (lt : index < len) where
     here : length (items_where_true s.answers items) + count_by not s.answers ≡ index
     here = omega (arith, counted (omega arith))
 
     next_held : held_at ps (place_of t index n) ≡ slice_get items index
-    next_held = held_behind items index index s.places here lt
+    next_held = held_behind items index index s.places here (omega arith)
 
     pub next_filled : IsFilled ps (place_of t index n)
-    next_filled = let some = slice_get_some items index lt in (some.0, next_held ∙ some.1)
+    next_filled = let some = slice_get_some items index (omega arith) in (some.0, next_held ∙ some.1)
 
     -- what stands there is the item in turn
     pub next_asked : (x : X) → held_at ps (place_of t index n) ≡ Some x → slice_get items (length s.answers) ≡ Some x
@@ -120,7 +116,7 @@ module _ {F X : Type 0} {R : F → X → Bool → F → Type 0} {f : F} {items :
 
       -- the next item stays, and is moved up
       pub one_stays : R g x true h → let src = place_of t index n in let dst = place_of t kept n in
-          SoFar R f items before n t (index + 1) (kept + 1) (set (set ps src None) dst (held_at ps src))
+          SoFar R f items before n t len (index + 1) (kept + 1) (set (set ps src None) dst (held_at ps src))
           (more_moves 1 steps) h
       one_stays called =
           let bs = s.answers in
@@ -129,29 +125,31 @@ module _ {F X : Type 0} {R : F → X → Bool → F → Type 0} {f : F} {items :
           picked_push_true bs items x in_list ∙ ap (λ y. ks ++ y ∷ []) (sym x_is) in
           let gone : count_by not (bs ++ true ∷ []) ≡ count_by not bs = omega (arith, count_by-push not bs true) in
           record {
+            all = s.all;
             answers = bs ++ true ∷ [];
             asked = omega (arith, length_push bs true);
             in_turn = answers_push R f g h bs items x true in_list x_is s.in_turn called;
             stay = omega (arith, ap length more, length_push ks x);
             some_gone = omega arith;
-            places =
-                rw (more, gone) (Gapped-move items index index s.places here lt x kept (sym next_held ∙ held) s.stay);
+            places = rw (more, gone)
+                (Gapped-move items index index s.places here (omega arith) x kept (sym next_held ∙ held) s.stay);
             cost = grind (arith, gone, moved-push_true bs s.some_gone);
           }
 
       -- the next item goes
       pub one_goes : R g x false h
-          → SoFar R f items before n t (index + 1) kept (set ps (place_of t index n) None) (more_takes 1 steps) h
+          → SoFar R f items before n t len (index + 1) kept (set ps (place_of t index n) None) (more_takes 1 steps) h
       one_goes called =
           let bs = s.answers in
           let gone : suc (count_by not bs) ≡ count_by not (bs ++ false ∷ []) =
           omega (arith, count_by-push not bs false) in
           record {
+            all = s.all;
             answers = bs ++ false ∷ [];
             asked = omega (arith, length_push bs false);
             in_turn = answers_push R f g h bs items x false in_list x_is s.in_turn called;
             stay = ap length (picked_push_false bs items) ∙ s.stay;
             some_gone = omega arith;
-            places = rw (picked_push_false, ← gone) (Gapped-take items index index s.places here lt);
+            places = rw (picked_push_false, ← gone) (Gapped-take items index index s.places here (omega arith));
             cost = grind (arith, moved-push_false bs);
           }

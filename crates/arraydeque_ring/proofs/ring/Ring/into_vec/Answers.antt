@@ -1,9 +1,8 @@
 use Rattle.std.{
   proofs.{
-    Common.{◌≡◌, ℕ, ◌+◌, ◌-◌, ◌<◌, ◌≤◌, List, ◌∷◌, [], ◌++◌, length, drop, set, Option, Some, None, Vec, Global},
-    Common.{vec_len},
-    Common.{inl, inr, sym, ap₂, ◌∙◌, arith},
-    lemmas.{Grind.common_steps, List.{take_all, take_more, drop-drop, length-drop}, Option.get_or_from_slice_get},
+    Common.{◌≡◌, ℕ, ◌+◌, ◌<◌, ◌≤◌, List, ◌∷◌, [], ◌++◌, length, take, slice_get, set, Option, Some, None, Vec, Global},
+    Common.{vec_len, inl, inr, sym, ap, ap₂, ◌∙◌, arith, refl},
+    lemmas.{Grind.common_steps, List.{take_all, take_more}, Option.{get_or_from_slice_get, slice_get_past}},
   },
   specs.Vec.vec_capacity,
 }
@@ -11,47 +10,38 @@ use Rattle.arraydeque_ring.{
   specs.{Places.{held_at, IsFilled}, Ring.{RingState, place_of}},
   proofs.{
     places.{
-      Items.slice_get-drop,
-      LaidOut.{AreAllEmpty-LaidOut, IsFilled-start, LaidOut-take_front, held_at-start},
+      Holds.{Holds-same, Holds-set},
+      Items.slice_get_some,
+      LaidOut.{AreAllEmpty-LaidOut, LaidOut-by, holds},
       Opened.{opened, bounds},
-      Rotated.{place_of_cases, place_of-sum, place_of-zero},
+      Rotated.{MayStartAt, place_of_cases},
     },
-    ring.Ring.into_vec.{Given.Over, Goals.After-min-first, Invariants.AreOut},
+    ring.Ring.into_vec.Invariants.AreOut,
   },
 }
 use Rattle.arraydeque_ring.proofs.ring.Ring.into_vec.Goals as goal
 
 -- k are out, and the next is at `place`
 module _ {X : Type 0} {old : RingState X} {k : ℕ} {v : Vec X Global} {ps : List (Option X)} (was : AreOut old k v ps)
-    {place : ℕ} (here : (k < length old.items) × (place_of old.start k old.capacity ≡ place)) where
-  some : 0 < length (drop k old.items)
-  some = omega (arith, length-drop k old.items)
+    {place : ℕ} (lt : k < length old.items) (fits : length old.items ≤ old.capacity)
+    (lies : MayStartAt old.start k old.capacity place) (within : place < old.capacity) where
+  here : place_of old.start k old.capacity ≡ place
+  here = grind (arith, place_of_cases old.start k old.capacity (omega (arith, was.reads.in_region)))
+
+  held : held_at ps place ≡ slice_get old.items k
+  held = ap (held_at ps) (sym here) ∙ was.reads.at k (omega arith) ∙ grind arith
 
   next_filled : IsFilled ps place
-  next_filled = rw here.1 at (IsFilled-start was.laid some)
+  next_filled = let some = slice_get_some old.items k lt in (some.0, held ∙ some.1)
 
   next_out : {w : Vec X Global} {qs : List (Option X)} {x : X} → held_at ps place ≡ Some x → qs ≡ set ps place None
       → w.items ≡ v.items ++ x ∷ [] → vec_len w ≡ vec_len v + 1 → vec_capacity w ≡ vec_capacity v
       → AreOut old (k + 1) w qs
-  next_out {x = x} held taken pushed len capacity =
-      let first = rw here.1 at (held_at-start was.laid (omega (arith, some))) in record {
-        room = omega arith;
-        items = pushed ∙ ap₂ (λ l y. l ++ y ∷ []) was.items (sym (get_or_from_slice_get old.items k x x
-            (grind (arith, first, slice_get-drop k old.items 0)))) ∙ sym (take_more old.items k x here.0);
-        laid = rw (taken, ← here.1) (rw (place_of-sum, drop-drop) at (LaidOut-take_front was.laid some));
-      }
-
--- which is before the region's end, or past it
-here : (g : Over) (c : After-min-first g) (k : ℕ) → k < c.self.inside.len
-    → let place = place_of c.args.self.start k c.args.self.capacity in let some = k < length c.args.self.items in
-    (k < c.min-first.result → some × (place ≡ c.self.inside.start + k))
-    × (c.min-first.result ≤ k → some × (place ≡ k - c.min-first.result))
-here g c k lt =
-    let ring = bounds c.self.inside _ c.self.invariant c.self.view_is in
-    elim (place_of_cases c.args.self.start k c.args.self.capacity (omega arith)) [
-      | inl below ↦ (λ w. (omega arith, omega arith), λ w. (omega arith, omega arith))
-      | inr past ↦ (λ w. (omega arith, omega arith), λ w. (omega arith, omega arith))
-    ]
+  next_out {x = x} is taken pushed len capacity = record {
+    room = omega arith;
+    items = grind (arith, get_or_from_slice_get old.items k x x (sym held ∙ is), take_more old.items k x lt);
+    reads = rw (taken, ← here) (Holds-set was.reads k None (omega arith) (grind arith) (λ i i_in other. grind arith));
+  }
 
 pub loop-k-init : goal.loop-k-init
 loop-k-init g c =
@@ -59,38 +49,37 @@ loop-k-init g c =
     record {
       room = grind (arith, common_steps);
       items = grind (arith, common_steps);
-      laid = rw (← ring.start, place_of-zero _ _ ring.laid.in_region) ring.laid;
+      reads = rw (← ring.start) (Holds-same (holds ring.laid) (λ i lt. grind arith));
     }
 
 pub take-requires : goal.take-requires
-take-requires g c = next_filled c.loop-k.invariant
-    ((here g (goal.at.take-requires g c).After-min-first c.loop-k.k (omega arith)).0 (omega arith))
+take-requires g c = let ring = bounds _ _ c.self.invariant c.self.view_is in
+    next_filled c.loop-k.invariant (omega arith) (omega arith) (inl (omega arith)) (omega arith)
 
 pub loop-k-preserved : goal.loop-k-preserved
 loop-k-preserved g c =
-    let pushed = c.push_reserved.ensures in
-    next_out c.loop-k.invariant
-    ((here g (goal.at.loop-k-preserved g c).After-min-first c.loop-k.k (omega arith)).0 (omega arith))
+    let ring = bounds _ _ c.self.invariant c.self.view_is in let pushed = c.push_reserved.ensures in
+    next_out c.loop-k.invariant (omega arith) (omega arith) (inl (omega arith)) (omega arith)
     c.take.ensures.value c.take.ensures.places pushed.items pushed.len pushed.capacity
 
 pub take-requires-in-loop-k-2 : goal.take-requires-in-loop-k-2
-take-requires-in-loop-k-2 g c = next_filled c.loop-k-2.invariant
-    ((here g (goal.at.take-requires-in-loop-k-2 g c).After-min-first c.loop-k-2.k (omega arith)).1 (omega arith))
+take-requires-in-loop-k-2 g c = let ring = bounds _ _ c.self.invariant c.self.view_is in
+    next_filled c.loop-k-2.invariant (omega arith) (omega arith) (inr (omega arith)) (omega arith)
 
 pub loop-k-2-preserved : goal.loop-k-2-preserved
 loop-k-2-preserved g c =
-    let taken = c.take-in-loop-k-2.ensures in
-    let pushed = c.push_reserved-in-loop-k-2.ensures in
-    next_out c.loop-k-2.invariant
-    ((here g (goal.at.loop-k-2-preserved g c).After-min-first c.loop-k-2.k (omega arith)).1 (omega arith))
+    let ring = bounds _ _ c.self.invariant c.self.view_is in
+    let taken = c.take-in-loop-k-2.ensures in let pushed = c.push_reserved-in-loop-k-2.ensures in
+    next_out c.loop-k-2.invariant (omega arith) (omega arith) (inr (omega arith)) (omega arith)
     taken.value taken.places pushed.items pushed.len pushed.capacity
 
 pub drop-slots-requires : goal.drop-slots-requires
 drop-slots-requires g c =
-    let ring = bounds c.self.inside _ c.self.invariant c.self.view_is in
-    AreAllEmpty-LaidOut c.loop-k-2.invariant.laid (omega (arith, length-drop c.loop-k-2.k c.args.self.items))
+    let ring = bounds _ _ c.self.invariant c.self.view_is in
+    AreAllEmpty-LaidOut (LaidOut-by {xs = []} (omega arith)
+    (Holds-same c.loop-k-2.invariant.reads (λ i lt. grind (arith, slice_get_past)))) refl
 
 pub returns-clause-items : goal.returns-clause-items
 returns-clause-items g c =
-    let ring = bounds c.self.inside _ c.self.invariant c.self.view_is in
+    let ring = bounds _ _ c.self.invariant c.self.view_is in
     c.loop-k-2.invariant.items ∙ take_all c.loop-k-2.k c.args.self.items (omega arith)

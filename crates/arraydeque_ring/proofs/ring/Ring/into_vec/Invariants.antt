@@ -1,15 +1,16 @@
 use Rattle.std.{
-  proofs.Common.{◌≡◌, ℕ, ◌+◌, ◌-◌, ◌≤◌, List, length, take, drop, Option, Vec, Global, vec_len},
+  proofs.Common.{◌≡◌, ℕ, ◌+◌, ◌-◌, ◌≤◌, List, length, take, nat_lt, if◌then◌else◌, slice_get, Option, None, Vec},
+  proofs.Common.{Global, vec_len},
   specs.Vec.vec_capacity,
 }
-use Rattle.arraydeque_ring.{specs.Ring.{RingState, place_of}, proofs.places.LaidOut.{LaidOut}}
+use Rattle.arraydeque_ring.{specs.Ring.RingState, proofs.places.Holds.Holds}
 use Rattle.arraydeque_ring.proofs.ring.Ring.into_vec.Given as goal
 
 -- the first k items of a ring are out of its places and in a vector, which has room for the others
 pub record AreOut {X : Type 0} (old : RingState X) (k : ℕ) (v : Vec X Global) (ps : List (Option X)) : Type 0 where
   pub room : vec_len v + (length old.items - k) ≤ vec_capacity v
   pub items : v.items ≡ take k old.items
-  pub laid : LaidOut old.capacity (place_of old.start k old.capacity) (drop k old.items) ps
+  pub reads : Holds old.capacity old.start (λ i. if nat_lt i k then None else slice_get old.items i) ps
 
 abbrev pub invariant-loop-k : goal.invariant-loop-k
 invariant-loop-k g l = AreOut l.fn.self l.k l.v l.slots.places

@@ -1,7 +1,7 @@
 use Rattle.std.{proofs.{Common.{refl, sym, ◌∙◌, subst, Bool, arith}, lemmas.Fn.called_at}, specs.{Fn.CalledAt}}
 use Rattle.arraydeque_ring.{
   proofs.{
-    retained.Retaining.{all_kept, first_goes, next_filled, next_asked, room_for_next, all_within, one_stays, one_goes},
+    retained.Retaining.{all_kept, first_goes, next_filled, next_asked, room_for_next, counted, one_stays, one_goes},
     retained.Retaining.{all_asked},
     places.Opened.opened,
     ring.Ring.retain.Goals.{then-keeps, else-keeps},
@@ -17,75 +17,55 @@ returns-then-kept-len-clause-retains g c =
 pub loop-index-init : goal.loop-index-init
 loop-index-init g c =
     let ring = opened c.self.inside c.self.invariant c.self.view_is in
-    record {
-      all = omega arith;
-      so_far = rw (
-        c.take.ensures.places,
-        c.take.ensures.steps,
-        ← ring.steps,
-        c.wrap_add.ensures,
-        c.capacity-capacity.ensures,
-        ring.laid.length_is,
-      ) (first_goes (CalledAt g.F.FnMut) _ _ _ _ ring.laid
-          (omega arith) c.kept_first-kept.ensures.in_turn);
-    }
+    rw (
+      c.take.ensures.places,
+      c.take.ensures.steps,
+      ← ring.steps,
+      c.wrap_add.ensures,
+      c.capacity-capacity.ensures,
+      ring.laid.length_is,
+    ) (first_goes (CalledAt g.F.FnMut) _ _ _ _ ring.laid (omega arith) (omega arith) c.kept_first-kept.ensures.in_turn)
 
 pub get-requires : goal.get-requires
 get-requires g c =
-    rw c.wrap_add-place.ensures (next_filled c.loop-index.invariant.so_far (omega arith))
+    rw c.wrap_add-place.ensures (next_filled c.loop-index.invariant (omega arith))
 
 pub f-keeps-requires : goal.f-keeps-requires
 f-keeps-requires g c =
-    let so_far = c.loop-index.invariant.so_far in
+    let so_far = c.loop-index.invariant in
     c.requires _ _ _
     (next_asked so_far (omega arith) _ (rw c.wrap_add-place.ensures at c.get.ensures)) so_far.in_turn
 
-pub shift-requires-clause-filled : goal.shift-requires-clause-filled
-shift-requires-clause-filled g c =
-    rw c.wrap_add-place.ensures (next_filled c.loop-index.invariant.so_far (omega arith))
-
-pub shift-requires-clause-empty : goal.shift-requires-clause-empty
-shift-requires-clause-empty g c = rw c.wrap_add-then-keeps.ensures (room_for_next c.loop-index.invariant.so_far)
-
-pub overflow_add-kept : goal.overflow_add-kept
-overflow_add-kept g c = omega arith
-
 pub loop-index-preserved : goal.loop-index-preserved
 loop-index-preserved g c =
-    let so_far = c.loop-index.invariant.so_far in
+    let so_far = c.loop-index.invariant in
     let held = rw c.wrap_add-place.ensures at c.get.ensures in
     let said = called_at g.F.FnMut c.f-keeps.ensures refl in
     let answered : Bool → Type 0 = λ b. CalledAt g.F.FnMut c.loop-index.f c.get.result.now b c.f-keeps.new.self in
     elim c.if-keeps.branch [
-      | then-keeps w ↦ record {
-        all = c.loop-index.invariant.all;
-        so_far = rw (
-          w.slots-is,
-          w.kept-is,
-          w.shift.ensures.places,
-          w.shift.ensures.steps,
-          w.wrap_add-then-keeps.ensures,
-          c.wrap_add-place.ensures,
-        ) (one_stays so_far (omega arith) _ _ held (subst answered w.if-keeps.true said));
-      }
-      | else-keeps w ↦ record {
-        all = c.loop-index.invariant.all;
-        so_far = rw (
-          w.slots-is,
-          w.kept-is,
-          w.take-else-keeps.ensures.places,
-          w.take-else-keeps.ensures.steps,
-          c.wrap_add-place.ensures,
-        ) (one_goes so_far (omega arith) _ _ held (subst answered w.if-keeps.false said));
-      }
+      | then-keeps w ↦ rw (
+        w.slots-is,
+        w.kept-is,
+        w.shift.ensures.places,
+        w.shift.ensures.steps,
+        w.wrap_add-then-keeps.ensures,
+        c.wrap_add-place.ensures,
+      ) (one_stays so_far (omega arith) _ _ held (subst answered w.if-keeps.true said))
+      | else-keeps w ↦ rw (
+        w.slots-is,
+        w.kept-is,
+        w.take-else-keeps.ensures.places,
+        w.take-else-keeps.ensures.steps,
+        c.wrap_add-place.ensures,
+      ) (one_goes so_far (omega arith) _ _ held (subst answered w.if-keeps.false said))
     ]
 
 pub invariant_of-self : goal.invariant_of-self
-invariant_of-self g c = grind (arith, all_asked c.loop-index.invariant.so_far (omega arith))
+invariant_of-self g c = grind (arith, all_asked c.loop-index.invariant (omega arith))
 
 pub returns-clause-retains : goal.returns-clause-retains
 returns-clause-retains g c =
-    let so_far = c.loop-index.invariant.so_far in
+    let so_far = c.loop-index.invariant in
     record {
       answers = so_far.answers;
       last = c.loop-index.f;
@@ -95,5 +75,5 @@ returns-clause-retains g c =
     }
 
 pub returns-clause-no_longer : goal.returns-clause-no_longer
-returns-clause-no_longer g c = let so_far = c.loop-index.invariant.so_far in
-    grind (arith, all_asked so_far (omega arith), all_within so_far (omega arith))
+returns-clause-no_longer g c = let so_far = c.loop-index.invariant in
+    grind (arith, all_asked so_far (omega arith), counted so_far (omega arith))
