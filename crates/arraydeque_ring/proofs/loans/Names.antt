@@ -1,7 +1,7 @@
 -- A loan under a name of its lender's own type: how it is made, and handed on by what holds the lender.
 -- For any types in memory. Assumes `Logic`.
 use Rattle.arraydeque_ring.proofs.memory.{
-  Kit.{via, mono_r, refl, SProp, ent, sep, wand, ex, id⊢, emp, snd∗, flft, Lft, GName, Share, Fml, fsep, fobs, fauth},
+  Kit.{via, ◌≡◌, mono_r, refl, SProp, ent, sep, wand, ex, id⊢, emp, snd∗, flft, Lft, GName, Share, Fml, fsep, fobs, fauth},
   Kit.{fobor, fbor, ‵, raw, ◌⊛◌, later, ◌$◌, ◌∵◌, !, qed, by, move, keep, use0, use1, use2, drop, split, fsplit, fjoin},
   Kit.{fpick, fpack, feq_l, rewrite, suffices, updating, await, show, done, wand_i, all, apply∗, all_e, upd_i, fex},
   Kit.{fres, fwand, fupd, fdead, flent, fseps, each, split3, assume, group, ℕ, [], ◌∷◌, Ura, Gv, Logic, sem, name_new},
@@ -33,20 +33,21 @@ module _ {M : Type 1} {𝓤 : Ura M} (𝓛 : Logic 𝓤) (R S : SemTy) (F : S.re
       (apply∗ 𝓤 (A.auth ν (S.coded.code w)) (A.auth γ (R.coded.code (F w))))
 
 -- what follows a value that follows two follows the two
-module _ {M : Type 1} {𝓤 : Ura M} (𝓛 : Logic 𝓤) (R S T U : SemTy) (F : S.rep → R.rep) (P : T.rep → U.rep → S.rep)
-    (γ ν γ₁ γ₂ : GName) where
+module _ {M : Type 1} {𝓤 : Ura M} (𝓛 : Logic 𝓤) (R S T : SemTy) (F : S.rep → R.rep) (P : T.rep → T.rep → S.rep)
+    (J : T.rep → T.rep → R.rep) (γ ν γ₁ γ₂ : GName) where
   open 𝓛 use {A}
 
-  abbrev Ends : T.rep × U.rep → SProp 𝓤
-  Ends w = sep 𝓤 (A.res γ₁ (T.coded.code w.0)) (A.res γ₂ (U.coded.code w.1))
+  abbrev Ends : T.rep × T.rep → SProp 𝓤
+  Ends w = sep 𝓤 (A.res γ₁ (T.coded.code w.0)) (A.res γ₂ (T.coded.code w.1))
 
-  pub followed_both : ent 𝓤 (sep 𝓤 (sem 𝓛 (after R S γ ν F)) (sem 𝓛 (after₂ S T U ν γ₁ γ₂ P)))
-      (sem 𝓛 (after₂ R T U γ γ₁ γ₂ (λ t u. F (P t u))))
-  followed_both =
-      qed 𝓛 (‵ (after R S γ ν F) ∷ ‵ (after₂ S T U ν γ₁ γ₂ P) ∷ []) ∵ each ! (λ (w : T.rep × U.rep).
-      wand 𝓤 (Ends w) (A.res γ (R.coded.code (F (P w.0 w.1))))) (λ w. assume ! (raw (Ends w)) $ move ! (0 ∷ 2 ∷ []) $
-      use2 𝓛 (‵ (fres ν (S.coded.code (P w.0 w.1)))) (followed₂ 𝓛 S T U P ν γ₁ γ₂ w.0 w.1) $ move ! (1 ∷ 0 ∷ []) $
-      by ! (followed 𝓛 R S F γ ν (P w.0 w.1)))
+  pub followed_both : ((t u : T.rep) → F (P t u) ≡ J t u)
+      → ent 𝓤 (sep 𝓤 (sem 𝓛 (after R S γ ν F)) (sem 𝓛 (after₂ S T T ν γ₁ γ₂ P))) (sem 𝓛 (after₂ R T T γ γ₁ γ₂ J))
+  followed_both is =
+      qed 𝓛 (‵ (after R S γ ν F) ∷ ‵ (after₂ S T T ν γ₁ γ₂ P) ∷ []) ∵ each ! (λ (w : T.rep × T.rep).
+      wand 𝓤 (Ends w) (A.res γ (R.coded.code (J w.0 w.1)))) (λ w. assume ! (raw (Ends w)) $ move ! (0 ∷ 2 ∷ []) $
+      use2 𝓛 (‵ (fres ν (S.coded.code (P w.0 w.1)))) (followed₂ 𝓛 S T T P ν γ₁ γ₂ w.0 w.1) $ move ! (1 ∷ 0 ∷ []) $
+      use2 𝓛 (‵ (fres γ (R.coded.code (F (P w.0 w.1))))) (followed 𝓛 R S F γ ν (P w.0 w.1)) $
+      rewrite ! 0 (λ x. ‵ (fres γ (R.coded.code x))) (is w.0 w.1) refl $ done !)
 
 -- An open borrow is cut into borrows of two parts.
 -- The whole's name follows a new name, that of a pair, and that one follows the parts'.
