@@ -2,10 +2,9 @@
 use Rattle.arraydeque_ring.{
   proofs.{
     memory.{
-      Kit.{fact, sep, by, emp, refl, List, [], ◌∷◌, ◌++◌, id⊢, Fn, inst_fn, tables, ‵, raw, ◌⊛◌, ◌$◌, !, move, use1, use2, split},
-      Kit.{join, frame, rewrite, fsplit, suffices, addr, stop, no_more, and_then, returns, alloc_all, pass_all},
-      Kit.{free_all, look_at, get, through, sets, lands_as, mem, nothing, heard, El, R, args, el_x, after₂, Array},
-      Kit.{both_by, says_two, done},
+      Kit.{fact, sep, by, emp, refl, [], ◌∷◌, ◌++◌, id⊢, Fn, inst_fn, tables, ◌$◌, !, move, join, frame, suffices},
+      Kit.{addr, stop, no_more, and_then, returns, alloc_all, pass_all, free_all, look_at, get, through, sets},
+      Kit.{lands_as, mem, nothing, El, R, args, Array, both_by},
       Methods.{passing_on, spent, values},
       Called.{calls_met, first_fact, knows},
     },
@@ -13,7 +12,7 @@ use Rattle.arraydeque_ring.{
     ring.Ring.lend.Met.met,
     slots.loan.Loan.into_slices.Met.met as into_met,
   },
-  specs.{Loans.{as_many}, Ring.RingState, RingLends.{lends_slices, lends_loan}},
+  specs.{Loans.{as_many}},
 }
 use base.Logic.{mono_l}
 use Rattle.arraydeque_ring.specs.contracts.ring.Ring.lend as g

@@ -2,19 +2,18 @@
 use Rattle.arraydeque_ring.{
   proofs.{
     memory.{
-      Kit.{◌≡◌, refl, sym, ap, subst, vint, ◌∙◌, [], ◌∷◌, ℕ, ◌<◌, ◌^◌, lit<, arith, length, id⊢, Fn, inst_fn, w64, tables},
-      Kit.{owns, ‵, raw, ◌⊛◌, ◌$◌, !, move, use1, drop, split, join, frame, fsplit, fjoin, fjoin3, feq_i, feq_l, flt_l},
-      Kit.{suffices, done, of_opd, lit, bin, addr, load, stop, fld, no_more, whole, sub, look_in, only, and_then},
-      Kit.{returns, alloc_all, pass_all, free_all, look_at, get, through, sets, lands_as, usize, uint_vals, mut_vals},
-      Kit.{says_two, nothing, heard, El, R, args, both_by, pure_i},
-      Regions.{Sr, Seen, slots_open, slots_close, IsFilledRun},
+      Kit.{◌≡◌, refl, ap, vint, ◌∙◌, [], ◌∷◌, ℕ, ◌<◌, ◌^◌, lit<, arith, length, id⊢, Fn, inst_fn, w64, tables, owns},
+      Kit.{◌$◌, !, move, drop, join, fsplit, fjoin, fjoin3, feq_i, feq_l, suffices, done, of_opd, lit, bin, addr, load},
+      Kit.{stop, fld, no_more, whole, sub, look_in, only, and_then, returns, alloc_all, pass_all, free_all, look_at},
+      Kit.{get, through, sets, lands_as, usize, uint_vals, mut_vals, nothing, heard, El, args, both_by, pure_i},
+      Regions.{Sr, Seen, slots_open, slots_close},
       Methods.{method, spent, values},
       Called.{Called, calls_met, first_fact, knows},
     },
     loans.Made.loan_lawful,
     slots.Slots.lend_two.Met.met,
   },
-  specs.{Lends.lends_loan, Loans.AreApart},
+  specs.{Loans.AreApart},
 }
 use Rattle.std.{specs.Prelude.{◌-◌, min}, below.core.proofs.int.usize.min.Met.met as e_met}
 use Rattle.arraydeque_ring.specs.contracts.slots.Slots.lend_two as g

@@ -2,9 +2,9 @@
 use Rattle.arraydeque_ring.{
   proofs.{
     memory.{
-      Kit.{fact, sep, by, refl, [], ◌∷◌, ℕ, id⊢, Fn, inst_fn, tables, ‵, raw, ◌⊛◌, ◌$◌, !, move, use1, use2, split, join, frame},
-      Kit.{fsplit, suffices, addr, stop, no_more, and_then, returns, alloc_all, pass_all, free_all, look_at, get},
-      Kit.{through, sets, lands_as, mem, nothing, heard, El, R, args, Array, both_by, says_two, done},
+      Kit.{fact, sep, by, refl, [], ◌∷◌, id⊢, Fn, inst_fn, tables, ◌$◌, !, move, join, frame, suffices, addr, stop},
+      Kit.{no_more, and_then, returns, alloc_all, pass_all, free_all, look_at, get, through, sets, lands_as, mem},
+      Kit.{nothing, heard, El, R, args, Array, both_by},
       Regions.{Sr},
       Methods.{passing_on, spent, values},
       Called.{calls_met, first_fact, knows},
@@ -12,7 +12,7 @@ use Rattle.arraydeque_ring.{
     loans.{Made.loan_lawful, Names.followed_both, Slices.in_slices},
     slots.{Slots.lend_two.Met.met, loan.Loan.into_slices.Met.met as into_met},
   },
-  specs.{Lends.{two_lists, lends_loan, lends_two_runs}},
+  specs.{Lends.{two_lists}},
 }
 use base.Logic.{mono_l}
 use Rattle.arraydeque_ring.specs.contracts.slots.Slots.lend_two as g
