@@ -1,11 +1,19 @@
--- A `Loan` is made of its two slices, under any name. Assumes `Logic`.
+-- A slice is made of what is lent of a run, and a `Loan` of its two slices, under any name. Assumes `Logic`.
 use Rattle.arraydeque_ring.{
   proofs.memory.Kit.{◌≡◌, refl, ap, List, [], ◌∷◌, ◌+◌, ◌<◌, ◌^◌, length, Ura, ent, sep, emp, GName, Fml, fsep, ftrue},
-  proofs.memory.Kit.{Val, vstruct, vcons, vnil, Logic, sem, ‵, ◌$◌, ◌∵◌, !, qed, move, use0, fjoin, fpick, fpack},
-  proofs.memory.Kit.{feq_i, done, El, R, param_laws, RattleType, nothing, NamedLft, MutSlice, makes_shadow, Struct},
+  proofs.memory.Kit.{Val, vstruct, vcons, vnil, Logic, sem, ‵, ◌$◌, ◌∵◌, !, qed, move, use0, fjoin, fpick, fpack, Step},
+  proofs.memory.Kit.{step, Item, Goal, sym, subst, use2, rewrite, slice_val, fobs, fbor, Borrowed, mem, ℕ, feq_i, done},
+  proofs.memory.Kit.{El, R, param_laws, RattleType, nothing, NamedLft, MutSlice, MutBor, makes_shadow, Struct},
   specs.{Loans.LoanState, declared.slots.loan.Loan.TheInside.Inside},
 }
-use denote.{Laws.Lawful, Struct.{Declared.shape, Owning.shape as owned_shape, Struct.within}}
+use types.SemTy.{Arr}
+use base.Stored.{coded_list}
+use denote.{
+  FollowSlice.slice_of,
+  Slice.Room,
+  Laws.Lawful,
+  Struct.{Declared.shape, Owning.shape as owned_shape, Struct.within},
+}
 use Rattle.arraydeque_ring.specs.contracts.slots.loan.Loan as loan
 use Rattle.arraydeque_ring.specs.contracts.slots.loan.Loan.TheInside as inside
 use Rattle.arraydeque_ring.specs.contracts.slots.loan.LoanName as loan_name
@@ -22,6 +30,18 @@ abbrev pub loan_val : Val → Val → Val
 loan_val first second = vstruct (vcons first (vcons second (vcons mark vnil)))
 
 module _ (α : NamedLft) (T : RattleType) {M : Type 1} {𝓤 : Ura M} (𝓛 : Logic 𝓤) where
+  -- n values in a row that are lent are a slice
+  pub slice_lent : {K : Type 0} {Γ : List (Item 𝓤)} {G : Goal 𝓤 𝓛.H} → K → {b o n : ℕ} {γ : GName} (xs : List T.Denot)
+      → length xs ≡ n → Room T n → Step K 𝓛 (‵ ((MutSlice α.mir α.lft T).own_val
+      (record { ref_ptr = (b, o); ghost_name = γ; now = xs }) (slice_val (b, o) n ∷ [])) ∷ Γ) G
+      (‵ (fobs γ ((coded_list T.coded).code xs)) ∷ ‵ (fbor α.lft (Borrowed (Arr (mem T) n) b o γ)) ∷ Γ) G
+  slice_lent t {b} {o} {n} {γ} xs long room = step (λ s.
+      let x : MutBor (List T.Denot) = record { ref_ptr = (b, o); ghost_name = γ; now = xs } in
+      let Slice : ℕ → Fml = λ k. (MutSlice α.mir α.lft T).own_val x (slice_val (b, o) k ∷ []) in
+      rewrite t 1 (λ k. ‵ (fbor α.lft (Borrowed (Arr (mem T) k) b o γ))) (sym long) refl $
+      use2 𝓛 (‵ (Slice (length xs))) (slice_of 𝓛 T α.mir α.lft b o γ xs (subst (Room T) (sym long) room)) $
+      rewrite t 0 (λ k. ‵ (Slice k)) long refl $ s)
+
   abbrev Mark : Fml
   Mark = (Struct (owned_shape (loan_name.the_type α T))).own_val (tt, tt) (mark ∷ [])
 

@@ -1,8 +1,8 @@
 -- A loan under a name of its lender's own type: how it is made, and handed on by what holds the lender.
 -- For any types in memory. Assumes `Logic`.
 use Rattle.arraydeque_ring.proofs.memory.{
-  Kit.{via, mono_r, refl, SProp, ent, sep, wand, ex, id⊢, emp, snd∗, flft, Lft, GName, Share, Fml, fsep, fobs, fauth},
-  Kit.{fobor, fbor, ‵, raw, ◌⊛◌, later, ◌$◌, ◌∵◌, !, qed, by, move, keep, use0, use1, use2, drop, split, fsplit, fjoin},
+  Kit.{via, ◌≡◌, mono_r, refl, SProp, ent, sep, wand, ex, id⊢, emp, snd∗, flft, Lft, GName, Share, Fml, fsep, fobs},
+  Kit.{fauth, fbor, ‵, raw, ◌⊛◌, later, ◌$◌, ◌∵◌, !, qed, move, keep, use0, use1, use2, drop, split, fsplit, fjoin},
   Kit.{fpick, fpack, feq_l, rewrite, suffices, updating, await, show, done, wand_i, all, apply∗, all_e, upd_i, fex},
   Kit.{fres, fwand, fupd, fdead, flent, fseps, each, split3, assume, group, ℕ, [], ◌∷◌, Ura, Gv, Logic, sem, name_new},
   Kit.{SemTy, after₂, some, pick, RattleType, Goal, Soaks, Seq, Item, List, named, vptr, feq_i, fjoin3, mem},
@@ -11,7 +11,7 @@ use types.{
   Kit.now,
   Late.{bor_new_deep, deep, close_deep},
   SemTy.Body,
-  Follow.{after, follows_anew, came, Came, followed, followed₂, takes_part, takes_two},
+  Follow.{after, follows_anew, came, Came, followed, followed₂, takes_two},
   Mut.{open_ref},
 }
 use ghost.Rules.{aged}
@@ -33,27 +33,24 @@ module _ {M : Type 1} {𝓤 : Ura M} (𝓛 : Logic 𝓤) (R S : SemTy) (F : S.re
       (apply∗ 𝓤 (A.auth ν (S.coded.code w)) (A.auth γ (R.coded.code (F w))))
 
 -- what follows a value that follows two follows the two
-module _ {M : Type 1} {𝓤 : Ura M} (𝓛 : Logic 𝓤) (R S T U : SemTy) (F : S.rep → R.rep) (P : T.rep → U.rep → S.rep)
-    (γ ν γ₁ γ₂ : GName) where
+module _ {M : Type 1} {𝓤 : Ura M} (𝓛 : Logic 𝓤) (R S T : SemTy) (F : S.rep → R.rep) (P : T.rep → T.rep → S.rep)
+    (J : T.rep → T.rep → R.rep) (γ ν γ₁ γ₂ : GName) where
   open 𝓛 use {A}
 
-  abbrev Ends : T.rep × U.rep → SProp 𝓤
-  Ends w = sep 𝓤 (A.res γ₁ (T.coded.code w.0)) (A.res γ₂ (U.coded.code w.1))
+  abbrev Ends : T.rep × T.rep → SProp 𝓤
+  Ends w = sep 𝓤 (A.res γ₁ (T.coded.code w.0)) (A.res γ₂ (T.coded.code w.1))
 
-  pub followed_both : ent 𝓤 (sep 𝓤 (sem 𝓛 (after R S γ ν F)) (sem 𝓛 (after₂ S T U ν γ₁ γ₂ P)))
-      (sem 𝓛 (after₂ R T U γ γ₁ γ₂ (λ t u. F (P t u))))
-  followed_both =
-      qed 𝓛 (‵ (after R S γ ν F) ∷ ‵ (after₂ S T U ν γ₁ γ₂ P) ∷ []) ∵ each ! (λ (w : T.rep × U.rep).
-      wand 𝓤 (Ends w) (A.res γ (R.coded.code (F (P w.0 w.1))))) (λ w. assume ! (raw (Ends w)) $ move ! (0 ∷ 2 ∷ []) $
-      use2 𝓛 (‵ (fres ν (S.coded.code (P w.0 w.1)))) (followed₂ 𝓛 S T U P ν γ₁ γ₂ w.0 w.1) $ move ! (1 ∷ 0 ∷ []) $
-      by ! (followed 𝓛 R S F γ ν (P w.0 w.1)))
+  pub followed_both : ((t u : T.rep) → F (P t u) ≡ J t u)
+      → ent 𝓤 (sep 𝓤 (sem 𝓛 (after R S γ ν F)) (sem 𝓛 (after₂ S T T ν γ₁ γ₂ P))) (sem 𝓛 (after₂ R T T γ γ₁ γ₂ J))
+  followed_both is =
+      qed 𝓛 (‵ (after R S γ ν F) ∷ ‵ (after₂ S T T ν γ₁ γ₂ P) ∷ []) ∵ each ! (λ (w : T.rep × T.rep).
+      wand 𝓤 (Ends w) (A.res γ (R.coded.code (J w.0 w.1)))) (λ w. assume ! (raw (Ends w)) $ move ! (0 ∷ 2 ∷ []) $
+      use2 𝓛 (‵ (fres ν (S.coded.code (P w.0 w.1)))) (followed₂ 𝓛 S T T P ν γ₁ γ₂ w.0 w.1) $ move ! (1 ∷ 0 ∷ []) $
+      use2 𝓛 (‵ (fres γ (R.coded.code (F (P w.0 w.1))))) (followed 𝓛 R S F γ ν (P w.0 w.1)) $
+      rewrite ! 0 (λ x. ‵ (fres γ (R.coded.code x))) (is w.0 w.1) refl $ done !)
 
--- An open borrow is cut into borrows of two parts.
--- The whole's name follows a new name, that of a pair, and that one follows the parts'.
-module _ {M : Type 1} {𝓤 : Ura M} (𝓛 : Logic 𝓤) (R T U : SemTy) (coded : Coded (T.rep × U.rep))
-    (F : T.rep × U.rep → R.rep) (κ : Lft) (q : Share) (b o b₁ o₁ b₂ o₂ : ℕ) (γ : GName) where
-  open 𝓛 use {H, A}
-
+-- two values of the types T and U, and where each lies
+module _ (T U : SemTy) (coded : Coded (T.rep × U.rep)) (b₁ o₁ b₂ o₂ : ℕ) where
   abbrev pub Pair : SemTy
   Pair = record {
     rep = T.rep × U.rep;
@@ -62,36 +59,27 @@ module _ {M : Type 1} {𝓤 : Ura M} (𝓛 : Logic 𝓤) (R T U : SemTy) (coded 
     own_at = λ w _ _. fsep (T.own_at w.0 b₁ o₁) (U.own_at w.1 b₂ o₂);
   }
 
-  abbrev Took : T.rep → U.rep → GName × (GName × GName) → SProp 𝓤
-  Took y z νs = sep 𝓤 (sep 𝓤 (A.obs νs.1.0 (T.coded.code y)) (A.bor κ (Body T b₁ o₁ νs.1.0)))
-      (sep 𝓤 (sep 𝓤 (A.obs νs.1.1 (U.coded.code z)) (A.bor κ (Body U b₂ o₂ νs.1.1)))
-      (sep 𝓤 (A.lft κ q) (sep 𝓤 (sem 𝓛 (after₂ Pair T U νs.0 νs.1.0 νs.1.1 (λ s t. (s, t))))
-      (sem 𝓛 (after R Pair γ νs.0 F)))))
-
-  whole : (s : T.rep) (t : U.rep) → ent 𝓤 (sep 𝓤 (sem 𝓛 (T.own_at s b₁ o₁))
-      (sep 𝓤 (sem 𝓛 (U.own_at t b₂ o₂)) (emp 𝓤))) (sem 𝓛 (Pair.own_at (s, t) b o))
-  whole s t =
+  whole : {M : Type 1} {𝓤 : Ura M} (𝓛 : Logic 𝓤) (s : T.rep) (t : U.rep) → ent 𝓤 (sep 𝓤 (sem 𝓛 (T.own_at s b₁ o₁))
+      (sep 𝓤 (sem 𝓛 (U.own_at t b₂ o₂)) (emp 𝓤))) (sem 𝓛 (Pair.own_at (s, t) 0 0))
+  whole {𝓤 = 𝓤} 𝓛 s t =
       qed 𝓛 (‵ (T.own_at s b₁ o₁) ∷ ‵ (U.own_at t b₂ o₂) ∷ raw (emp 𝓤) ∷ []) ∵ fjoin ! $ keep ! (0 ∷ []) $ done !
 
-  pub takes_named : (Rest : SProp 𝓤)
-      → ((w : T.rep × U.rep) → ent 𝓤 (sep 𝓤 (sem 𝓛 (Pair.own_at w b o)) Rest) (sem 𝓛 (R.own_at (F w) b o)))
-      → (u v : Gv) (y : T.rep) (z : U.rep)
-      → ent 𝓤 (sep 𝓤 (A.obor κ q (Body R b o γ)) (sep 𝓤 (A.obs γ u) (sep 𝓤 (A.auth γ v)
-      (sep 𝓤 (sem 𝓛 (Pair.own_at (y, z) b o)) Rest)))) (H.⇛ (ex 𝓤 (Took y z)))
-  takes_named Rest back u v y z =
-      qed 𝓛 (‵ (fobor κ q (Body R b o γ)) ∷ ‵ (fobs γ u) ∷ ‵ (fauth γ v) ∷ ‵ (Pair.own_at (y, z) b o) ∷ raw Rest ∷ []) ∵
-      updating ! $ group ! 5 $
-      use1 𝓛 (later (some (λ (ν : GName). ‵ (fobs ν (coded.code (y, z))) ⊛ ‵ (fbor κ (Body Pair b o ν)) ⊛ ‵ (flft κ q)
-      ⊛ ‵ (after R Pair γ ν F)))) (takes_part 𝓛 R Pair F κ q b o b o γ Rest back u v (y, z)) $ await ! tt $
-      pick ! (λ ν. split3 ! $ move ! (2 ∷ []) $ split ! $ move ! (2 ∷ 3 ∷ 0 ∷ []) $
-      open_ref ! tt Pair {x = (y, z)} {b = b} {o = o} $
-      -- [the parts; the open borrow, in three; after]
-      fsplit ! $ use0 𝓛 (raw (emp 𝓤)) (id⊢ 𝓤 (emp 𝓤)) $ move ! (3 ∷ 4 ∷ 5 ∷ 1 ∷ 2 ∷ 0 ∷ []) $ group ! 6 $
-      use1 𝓛 (later (some (λ (γs : GName × GName). (‵ (fobs γs.0 (T.coded.code y)) ⊛ ‵ (fbor κ (Body T b₁ o₁ γs.0)))
-      ⊛ (‵ (fobs γs.1 (U.coded.code z)) ⊛ ‵ (fbor κ (Body U b₂ o₂ γs.1))) ⊛ ‵ (flft κ q)
-      ⊛ ‵ (after₂ Pair T U ν γs.0 γs.1 (λ s t. (s, t)))))) (takes_two 𝓛 Pair T U (λ s t. (s, t)) κ q b o b₁ o₁ b₂ o₂ ν
-      (emp 𝓤) whole (coded.code (y, z)) (coded.code (y, z)) y z) $ await ! tt $ pick ! (λ γs. split3 ! $
-      move ! (2 ∷ []) $ split ! $ now ! $ show ! (Took y z) (ν, γs) $ keep ! (2 ∷ 3 ∷ 0 ∷ 1 ∷ 4 ∷ []) $ done !))
+  -- what is lent of both is lent as two borrows, under new names that the pair's name follows, the second first
+  pub both_lent : {M : Type 1} {𝓤 : Ura M} {𝓛 : Logic 𝓤} {K : Type 0} {Γ : List (Item 𝓤)} {G : Goal 𝓤 𝓛.H} → K
+      → Soaks G → {κ : Lft} {q : Share} {ν : GName} (x : T.rep) (y : U.rep)
+      → ((γs : GName × GName) → Seq K 𝓛 (‵ (fobs γs.1 (U.coded.code y)) ∷ ‵ (fbor κ (Body U b₂ o₂ γs.1))
+      ∷ ‵ (fobs γs.0 (T.coded.code x)) ∷ ‵ (fbor κ (Body T b₁ o₁ γs.0)) ∷ ‵ (flft κ q)
+      ∷ ‵ (after₂ Pair T U ν γs.0 γs.1 (λ s t. (s, t))) ∷ Γ) G)
+      → Seq K 𝓛 (‵ (fobs ν (coded.code (x, y))) ∷ ‵ (fbor κ (Body Pair 0 0 ν)) ∷ ‵ (flft κ q) ∷ Γ) G
+  both_lent {𝓤 = 𝓤} {𝓛 = 𝓛} t z {κ} {q} {ν} x y next =
+      open_ref t z Pair {x = (x, y)} {b = 0} {o = 0} $ fsplit t $ use0 𝓛 (raw (emp 𝓤)) (id⊢ 𝓤 (emp 𝓤)) $
+      move t (3 ∷ 4 ∷ 5 ∷ 1 ∷ 2 ∷ 0 ∷ []) $ group t 6 $
+      use1 𝓛 (later (some (λ (γs : GName × GName). (‵ (fobs γs.0 (T.coded.code x)) ⊛ ‵ (fbor κ (Body T b₁ o₁ γs.0)))
+      ⊛ (‵ (fobs γs.1 (U.coded.code y)) ⊛ ‵ (fbor κ (Body U b₂ o₂ γs.1))) ⊛ ‵ (flft κ q)
+      ⊛ ‵ (after₂ Pair T U ν γs.0 γs.1 (λ s t. (s, t)))))) (takes_two 𝓛 Pair T U (λ s t. (s, t)) κ q 0 0 b₁ o₁ b₂ o₂ ν
+      (emp 𝓤) (whole 𝓛) (coded.code (x, y)) (coded.code (x, y)) x y) $ await t z $
+      pick t (λ γs. split3 t $ move t (2 ∷ []) $ split t $ move t (2 ∷ []) $ split t $ move t (4 ∷ []) $ split t $
+      next γs)
 
 -- The whole stays open while its part, under the name δ, is lent to a call, which says that δ follows m by G.
 -- The whole is then closed, and follows a new name of its own type, which follows m.

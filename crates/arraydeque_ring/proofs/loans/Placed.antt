@@ -1,7 +1,7 @@
 -- What is written in the stead of as many items of a list, or of as many places, and runs that lie apart.
 use Rattle.std.{
   proofs.{
-    Common.{◌≡◌, ℕ, ◌+◌, ◌≤◌, ◌⊎◌, List, map, length, take, drop, Option, Some, refl, sym, arith},
+    Common.{◌≡◌, ℕ, ◌+◌, ◌≤◌, ◌⊎◌, List, map, length, take, drop, Option, Some, refl, sym, ◌∙◌, arith},
     lemmas.{
       Grind.common_steps,
       List.{places, same_lists, length-map, nil_from_length, take_at, take-append-drop, drop-drop},
@@ -62,6 +62,11 @@ module _ {X : Type 0} where
 
   pub as_many-twice : (xs ws : List X) → as_many xs (as_many xs ws) ≡ as_many xs ws
   as_many-twice xs ws = as_many-same xs (as_many xs ws) (length-as_many xs ws)
+
+  -- as many in the stead of m items, as `with_run` writes them
+  pub as_run : (i : ℕ) (xs us : List X) (ps : List (Option X)) {m : ℕ} → length xs ≡ m → length us ≡ m
+      → placed i m (map Some us) ps ≡ with_run i (as_many xs us) ps
+  as_run i xs us ps long same = rw (as_many-same xs us (same ∙ sym long), sym same)
 
   pub length-with_run : (from : ℕ) (ws : List X) (ps : List (Option X)) → from + length ws ≤ length ps
       → length (with_run from ws ps) ≡ length ps

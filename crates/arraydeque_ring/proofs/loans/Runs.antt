@@ -1,119 +1,133 @@
--- Runs of the places of a block, taken out and put back. Assumes `Logic`.
+-- Runs of the places of a block, taken out as values and put back. Assumes `Logic`.
 use Rattle.arraydeque_ring.{
   proofs.{
     memory.{
-      Kit.{◌≡◌, refl, sym, ap, subst, ◌∙◌, via, List, [], ◌∷◌, map, ℕ, ◌+◌, ◌*◌, ◌≤◌, arith, length, take, drop_list},
-      Kit.{length-take, Some, Ura, full_share, SProp, ent, sep, wand, Fml, part_at, mem, Logic, sem, ‵, raw, ◌⊛◌, ◌$◌},
-      Kit.{◌∵◌, !, qed, by, move, keep, use1, use2, split, join, fsplit, rewrite, done, nothing, El, R, el_x, inl, inr},
-      Kit.{all, all_e, apply∗, each, assume, cells, fsep, fjoin},
+      Kit.{◌≡◌, refl, sym, ap, subst, ◌∙◌, List, [], ◌∷◌, map, ℕ, ◌+◌, ◌*◌, ◌≤◌, arith, length, take, drop_list},
+      Kit.{length-take, Some, Ura, full_share, ent, sep, Fml, part_at, mem, Logic, sem, ‵, ◌⊛◌, ◌$◌, length-map, Goal},
+      Kit.{◌∵◌, !, qed, by, move, keep, use1, use2, use3, split, fsplit, rewrite, done, nothing, El, R, el_x, inl, inr},
+      Kit.{cells, fsep, fjoin, Seq, Step, step, Item, SemTy, feq_i, feq_l},
       Owned.{item_size, Place},
       Rows.{Around, run_out, run_in},
     },
     loans.Placed.{placed, run, placed_nothing, length-placed, take-placed, drop-placed, placed-either, run-take},
-    loans.Placed.{apart_cases},
+    loans.Placed.{apart_cases, as_run},
   },
-  specs.{Loans.AreApart, Ownership.places_owned},
+  specs.{Loans.{AreApart, as_many, with_run}, Ownership.places_owned, Places.IsFilledRun},
 }
+use types.SemTy.{Arr}
 
-module _ (E : El) {M : Type 1} {𝓤 : Ura M} (𝓛 : Logic 𝓤) (b : ℕ) where
-  abbrev s : ℕ
-  s = item_size E
+-- n values in a row
+abbrev pub Values : El → ℕ → SemTy
+Values E n = Arr (mem (R E)) n
+
+same_cells : (E : El) (xs : List (el_x E)) (b o : ℕ) → places_owned (R E) b o (map Some xs) ≡ cells (mem (R E)) xs b o
+same_cells E [] b o = refl
+same_cells E (x ∷ xs) b o = ap (λ (F : Fml). fsep (part_at (R E) full_share x b o) F)
+    (same_cells E xs b (o + item_size E))
+
+module _ (E : El) (b o : ℕ) where
+  -- the place i
+  abbrev at : ℕ → ℕ
+  at i = i * item_size E + o
 
   abbrev Row : ℕ → List (Place E) → Fml
   Row = places_owned (R E) b
 
-  -- filled places are the items of a slice
-  pub same_cells : (xs : List (el_x E)) (o : ℕ) → Row o (map Some xs) ≡ cells (mem (R E)) xs b o
-  same_cells [] o = refl
-  same_cells (x ∷ xs) o = ap (λ (F : Fml). fsep (part_at (R E) full_share x b o) F) (same_cells xs (o + s))
+  abbrev Held : ℕ → ℕ → List (el_x E) → Fml
+  Held i n xs = (Values E n).own_at xs b (at i)
 
-  abbrev at : ℕ → ℕ → ℕ
-  at o i = i * s + o
+  module _ {M : Type 1} {𝓤 : Ura M} {𝓛 : Logic 𝓤} {K : Type 0} {Γ : List (Item 𝓤)} {G : Goal 𝓤 𝓛.H} (t : K)
+      (i : ℕ) where
+    -- filled places are values, and values are filled places
+    pub as_values : {ps : List (Place E)} (xs : List (el_x E)) {n : ℕ} → ps ≡ map Some xs → length xs ≡ n
+        → Step K 𝓛 (‵ (Held i n xs) ∷ Γ) G (‵ (Row (at i) ps) ∷ Γ) G
+    as_values xs {n} is many = step (λ s.
+        rewrite t 0 (λ (F : Fml). ‵ F) (ap (Row (at i)) is ∙ same_cells E xs b (at i)) refl $
+        feq_i t ℕ (length xs) n many $ fjoin t $ s)
 
-  -- two runs apart: with as many in the stead of both, the places again
-  module _ (o : ℕ) (ps : List (Place E)) (i m j n : ℕ) where
-    abbrev pub News : Type 0
-    News = (us : List (Place E)) × (vs : List (Place E)) × (m ≡ length us) × (n ≡ length vs)
+    pub as_places : (xs : List (el_x E)) {n : ℕ} → (length xs ≡ n → Seq K 𝓛 (‵ (Row (at i) (map Some xs)) ∷ Γ) G)
+        → Seq K 𝓛 (‵ (Held i n xs) ∷ Γ) G
+    as_places xs next = fsplit t $ feq_l t (λ many.
+        rewrite t 0 (λ (F : Fml). ‵ F) (sym (same_cells E xs b (at i))) refl $ next many)
 
-    abbrev pub Filling : News → SProp 𝓤
-    Filling w = wand 𝓤 (sep 𝓤 (sem 𝓛 (Row (at o i) w.0)) (sem 𝓛 (Row (at o j) w.1)))
-        (sem 𝓛 (Row o (placed j n w.1 (placed i m w.0 ps))))
+  -- two runs apart are taken out
+  module _ {M : Type 1} {𝓤 : Ura M} (𝓛 : Logic 𝓤) (K : Type 0) (Γ : List (Item 𝓤)) (G : Goal 𝓤 𝓛.H) (t : K)
+      (ps : List (Place E)) where
+    -- how a proof goes on with both: as many in the stead of both give, with the rest, the places again
+    abbrev Next : ℕ → ℕ → ℕ → ℕ → Type 1
+    Next i m j n = (Rest : Fml)
+        → ((us vs : List (Place E)) → length us ≡ m → length vs ≡ n
+        → ent 𝓤 (sep 𝓤 (sem 𝓛 (Row (at i) us)) (sep 𝓤 (sem 𝓛 (Row (at j) vs)) (sem 𝓛 Rest)))
+        (sem 𝓛 (Row o (placed j n vs (placed i m us ps)))))
+        → Seq K 𝓛 (‵ (Row (at i) (run ps i m)) ∷ ‵ (Row (at j) (run ps j n)) ∷ ‵ Rest ∷ Γ) G
 
-    abbrev pub Apart : SProp 𝓤
-    Apart =
-        sep 𝓤 (sem 𝓛 (Row (at o i) (run ps i m))) (sep 𝓤 (sem 𝓛 (Row (at o j) (run ps j n))) (all 𝓤 Filling))
+    -- the first is empty
+    first_none : (i j n : ℕ) → j + n ≤ length ps → Next i 0 j n → Seq K 𝓛 (‵ (Row o ps) ∷ Γ) G
+    first_none i j n in_j next =
+        let Others = Around E 𝓛 b o ps j n in
+        use1 𝓛 (‵ (Row (at j) (run ps j n)) ⊛ ‵ Others) (run_out E 𝓛 b o ps j n in_j) $ split t $ nothing t $
+        next Others (λ us vs e e'. rw (placed_nothing i us ps e)
+        (qed 𝓛 (‵ (Row (at i) us) ∷ ‵ (Row (at j) vs) ∷ ‵ Others ∷ []) ∵ keep ! (1 ∷ 2 ∷ []) $
+        by ! (run_in E 𝓛 b o ps j n in_j vs e')))
 
-  module _ (o : ℕ) (ps : List (Place E)) where
-    -- one of the two is empty
-    first_none : (i j n : ℕ) (in_j : j + n ≤ length ps) → ent 𝓤 (sem 𝓛 (Row o ps)) (Apart o ps i 0 j n)
-    first_none i j n in_j =
-        qed 𝓛 (‵ (Row o ps) ∷ []) ∵ use1 𝓛 (‵ (Row (at o j) (run ps j n)) ⊛ ‵ (Around E 𝓛 b o ps j n))
-        (run_out E 𝓛 b o ps j n in_j) $ split ! $ move ! (1 ∷ []) $
-        use1 𝓛 (raw (all 𝓤 (Filling o ps i 0 j n))) (qed 𝓛 (‵ (Around E 𝓛 b o ps j n) ∷ []) ∵
-        each ! (Filling o ps i 0 j n) (λ w.
-        assume ! (‵ (Row (at o i) w.0) ⊛ ‵ (Row (at o j) w.1)) $ split ! $ keep ! (1 ∷ 2 ∷ []) $
-        use2 𝓛 (‵ (Row o (placed j n w.1 ps))) (run_in E 𝓛 b o ps j n in_j w.1 (sym w.3)) $
-        rewrite ! 0 (λ (qs : List (Place E)). ‵ (Row o (placed j n w.1 qs)))
-        (sym (placed_nothing i w.0 ps (sym w.2))) refl $ done !)) $
-        nothing ! $ move ! (0 ∷ 2 ∷ 1 ∷ []) $ done !
+    -- the first lies before the second
+    first_low : (i m j n : ℕ) → i + m ≤ j → j + n ≤ length ps → Next i m j n → Seq K 𝓛 (‵ (Row o ps) ∷ Γ) G
+    first_low i m j n low in_j next =
+        let front = take j ps in let behind = n * item_size E + at j in
+        let Before = Around E 𝓛 b o front i m in let Behind = Row behind (drop_list (j + n) ps) in
+        let below : i + m ≤ length front = omega (arith, length-take j ps) in
+        use1 𝓛 (‵ (Row (at j) (run ps j n)) ⊛ ‵ (Around E 𝓛 b o ps j n)) (run_out E 𝓛 b o ps j n in_j) $ split t $
+        move t (1 ∷ []) $ fsplit t $
+        use1 𝓛 (‵ (Row (at i) (run front i m)) ⊛ ‵ Before) (run_out E 𝓛 b o front i m below) $ split t $
+        rewrite t 0 (λ (qs : List (Place E)). ‵ (Row (at i) qs)) (run-take i m j n ps low in_j) refl $
+        -- [the first; around it; what is behind the second; the second]
+        move t (1 ∷ 2 ∷ []) $ fjoin t $ move t (1 ∷ 2 ∷ []) $ next (fsep Before Behind) (λ us vs e e'.
+        let long = length-placed i m us ps (omega arith) e in
+        qed 𝓛 (‵ (Row (at i) us) ∷ ‵ (Row (at j) vs) ∷ ‵ (fsep Before Behind) ∷ []) ∵
+        move ! (2 ∷ []) $ fsplit ! $ move ! (2 ∷ 0 ∷ []) $
+        use2 𝓛 (‵ (Row o (placed i m us front))) (run_in E 𝓛 b o front i m below us e) $
+        -- [what is before the second; what is behind it; the second]
+        rewrite ! 0 (λ (qs : List (Place E)). ‵ (Row o qs)) (sym (take-placed i m j n ps low in_j us e)) refl $
+        rewrite ! 1 (λ (qs : List (Place E)). ‵ (Row behind qs)) (sym (drop-placed i m j n ps low in_j us e)) refl $
+        fjoin ! $ move ! (1 ∷ 0 ∷ []) $ by ! (run_in E 𝓛 b o (placed i m us ps) j n (omega arith) vs e'))
 
-    -- which of two runs comes first is all one, where what is written into both may come in either order
+    -- which of the two comes first is all one, where what is written into both may come in either order
     other_way : (i m j n : ℕ) → ((us vs : List (Place E)) → length us ≡ m → length vs ≡ n
-        → placed i m us (placed j n vs ps) ≡ placed j n vs (placed i m us ps))
-        → ent 𝓤 (Apart o ps j n i m) (Apart o ps i m j n)
-    other_way i m j n same =
-        qed 𝓛 (‵ (Row (at o j) (run ps j n)) ∷ ‵ (Row (at o i) (run ps i m)) ∷ raw
-        (all 𝓤 (Filling o ps j n i m)) ∷ []) ∵ move ! (2 ∷ []) $
-        use1 𝓛 (raw (all 𝓤 (Filling o ps i m j n))) (qed 𝓛 (raw (all 𝓤 (Filling o ps j n i m)) ∷ []) ∵
-        each ! (Filling o ps i m j n) (λ w.
-        assume ! (‵ (Row (at o i) w.0) ⊛ ‵ (Row (at o j) w.1)) $ split ! $ move ! (1 ∷ 0 ∷ []) $ join ! $
-        move ! (1 ∷ []) $
-        use1 𝓛 (raw (Filling o ps j n i m (w.1, w.0, w.3, w.2))) (all_e 𝓤 (Filling o ps j n i m) (w.1, w.0, w.3, w.2)) $
-        move ! (1 ∷ 0 ∷ []) $
-        use2 𝓛 (‵ (Row o (placed i m w.0 (placed j n w.1 ps)))) (apply∗ 𝓤 (sep 𝓤 (sem 𝓛 (Row (at o j) w.1))
-        (sem 𝓛 (Row (at o i) w.0))) (sem 𝓛 (Row o (placed i m w.0 (placed j n w.1 ps))))) $
-        rewrite ! 0 (λ (qs : List (Place E)). ‵ (Row o qs)) (same w.0 w.1 (sym w.2) (sym w.3)) refl $ done !)) $
-        move ! (2 ∷ 1 ∷ 0 ∷ []) $ done !
+        → placed i m us (placed j n vs ps) ≡ placed j n vs (placed i m us ps)) → Next i m j n → Next j n i m
+    other_way i m j n same next Rest back = move t (1 ∷ []) $ next Rest (λ us vs e e'.
+        qed 𝓛 (‵ (Row (at i) us) ∷ ‵ (Row (at j) vs) ∷ ‵ Rest ∷ []) ∵ move ! (1 ∷ []) $
+        use3 𝓛 (‵ (Row o (placed i m us (placed j n vs ps)))) (back vs us e' e) $
+        rewrite ! 0 (λ (qs : List (Place E)). ‵ (Row o qs)) (same us vs e e') refl $ done !)
 
-    module _ (i m j n : ℕ) (in_i : i + m ≤ length ps) (in_j : j + n ≤ length ps) where
-      -- the first lies before the second
-      first_low : i + m ≤ j → ent 𝓤 (sem 𝓛 (Row o ps)) (Apart o ps i m j n)
-      first_low apart =
-          let front = take j ps in
-          let below : i + m ≤ length front = omega (arith, length-take j ps) in
-          qed 𝓛 (‵ (Row o ps) ∷ []) ∵ use1 𝓛 (‵ (Row (at o j) (run ps j n)) ⊛ ‵ (Around E 𝓛 b o ps j n))
-          (run_out E 𝓛 b o ps j n in_j) $ split ! $ move ! (1 ∷ []) $ fsplit ! $
-          use1 𝓛 (‵ (Row (at o i) (run front i m)) ⊛ ‵ (Around E 𝓛 b o front i m))
-          (run_out E 𝓛 b o front i m below) $ split ! $
-          rewrite ! 0 (λ (qs : List (Place E)). ‵ (Row (at o i) qs)) (run-take i m j n ps apart in_j) refl $
-          -- [the first; around it; what is behind the second; the second]
-          move ! (1 ∷ 2 ∷ []) $ join ! $ use1 𝓛 (raw (all 𝓤 (Filling o ps i m j n)))
-          (qed 𝓛 (‵ (Around E 𝓛 b o front i m) ∷ ‵ (Row (n * s + at o j) (drop_list (j + n) ps)) ∷ []) ∵
-          each ! (Filling o ps i m j n) (λ w.
-          let new = placed i m w.0 ps in let long = length-placed i m w.0 ps in_i (sym w.2) in
-          assume ! (‵ (Row (at o i) w.0) ⊛ ‵ (Row (at o j) w.1)) $ split ! $ move ! (0 ∷ 2 ∷ []) $
-          use2 𝓛 (‵ (Row o (placed i m w.0 front))) (run_in E 𝓛 b o front i m below w.0 (sym w.2)) $
-          -- [what is before the second; the second; what is behind it]
-          rewrite ! 0 (λ (qs : List (Place E)). ‵ (Row o qs))
-          (sym (take-placed i m j n ps apart in_j w.0 (sym w.2))) refl $
-          rewrite ! 2 (λ (qs : List (Place E)). ‵ (Row (n * s + at o j) qs))
-          (sym (drop-placed i m j n ps apart in_j w.0 (sym w.2))) refl $ move ! (0 ∷ 2 ∷ []) $ fjoin ! $
-          move ! (1 ∷ 0 ∷ []) $ by ! (run_in E 𝓛 b o new j n (omega arith) w.1 (sym w.3)))) $
-          move ! (1 ∷ 2 ∷ []) $ done !
-
-    pub two_out : (i m j n : ℕ) (in_i : i + m ≤ length ps) (in_j : j + n ≤ length ps) → AreApart i m j n
-        → ent 𝓤 (sem 𝓛 (Row o ps)) (Apart o ps i m j n)
+    two_out : (i m j n : ℕ) → i + m ≤ length ps → j + n ≤ length ps → AreApart i m j n → Next i m j n
+        → Seq K 𝓛 (‵ (Row o ps) ∷ Γ) G
     two_out i m j n in_i in_j apart = elim (apart_cases i m j n apart) [
       | inl in_order ↦ elim in_order [
-        | inl low ↦ first_low i m j n in_i in_j low
-        | inr low ↦ via 𝓤 (Apart o ps j n i m) (first_low j n i m in_j in_i low)
-            (other_way i m j n (λ us vs e e'. sym (placed-either j n i m ps low in_i vs e' us e)))
+        | inl low ↦ first_low i m j n low in_j
+        | inr low ↦ λ next. first_low j n i m low in_i (other_way i m j n (λ us vs e e'.
+            sym (placed-either j n i m ps low in_i vs e' us e)) next)
       ]
       | inr one ↦ elim one [
-        | inl none ↦ subst (λ k. ent 𝓤 (sem 𝓛 (Row o ps)) (Apart o ps i k j n)) (sym none) (first_none i j n in_j)
-        | inr none ↦ subst (λ k. ent 𝓤 (sem 𝓛 (Row o ps)) (Apart o ps i m j k)) (sym none)
-            (via 𝓤 (Apart o ps j 0 i m) (first_none j i m in_i)
+        | inl none ↦ subst (λ k. Next i k j n → Seq K 𝓛 (‵ (Row o ps) ∷ Γ) G) (sym none) (first_none i j n in_j)
+        | inr none ↦ subst (λ k. Next i m j k → Seq K 𝓛 (‵ (Row o ps) ∷ Γ) G) (sym none) (λ next. first_none j i m in_i
             (other_way i m j 0 (λ us vs e e'. ap (placed i m us) (placed_nothing j vs ps e')
-            ∙ sym (placed_nothing j vs (placed i m us ps) e'))))
+            ∙ sym (placed_nothing j vs (placed i m us ps) e')) next))
       ]
     ]
+
+  -- two filled runs are taken out as values, and others in their stead give the places with these written
+  module _ {M : Type 1} {𝓤 : Ura M} {𝓛 : Logic 𝓤} {K : Type 0} {Γ : List (Item 𝓤)} {G : Goal 𝓤 𝓛.H} (t : K)
+      (ps : List (Place E)) (i m j n : ℕ) (one : IsFilledRun ps i m) (two : IsFilledRun ps j n) where
+    pub values_out : AreApart i m j n → length one.1.0 ≡ m → length two.1.0 ≡ n
+        → ((Rest : Fml) → ((us vs : List (el_x E))
+        → ent 𝓤 (sep 𝓤 (sem 𝓛 (Held i m us)) (sep 𝓤 (sem 𝓛 (Held j n vs)) (sem 𝓛 Rest)))
+        (sem 𝓛 (Row o (with_run j (as_many two.1.0 vs) (with_run i (as_many one.1.0 us) ps)))))
+        → Seq K 𝓛 (‵ (Held i m one.1.0) ∷ ‵ (Held j n two.1.0) ∷ ‵ Rest ∷ Γ) G) → Seq K 𝓛 (‵ (Row o ps) ∷ Γ) G
+    values_out apart long long' next = two_out 𝓛 K Γ G t ps i m j n one.0 two.0 apart (λ Rest back.
+        as_values t i one.1.0 one.1.1 long $ move t (1 ∷ []) $ as_values t j two.1.0 two.1.1 long' $
+        move t (1 ∷ []) $ next Rest (λ us vs. qed 𝓛 (‵ (Held i m us) ∷ ‵ (Held j n vs) ∷ ‵ Rest ∷ []) ∵
+        as_places ! i us (λ same. move ! (1 ∷ []) $ as_places ! j vs (λ same'. move ! (1 ∷ []) $
+        use3 𝓛 (‵ (Row o (placed j n (map Some vs) (placed i m (map Some us) ps))))
+        (back (map Some us) (map Some vs) (length-map us Some ∙ same) (length-map vs Some ∙ same')) $
+        rewrite ! 0 (λ (qs : List (Place E)). ‵ (Row o qs)) (rw (as_run i one.1.0 us ps long same)
+        (as_run j two.1.0 vs (with_run i (as_many one.1.0 us) ps) long' same')) refl $ done !))))

@@ -1,15 +1,19 @@
--- What a `&` to a `Slots` shows: its pointer, and a `&` to each value in its places. Assumes `Logic`.
+-- What a `&` to a `Slots` shows: its pointer, and a `&` to each value in its places. And how a part of the places that
+-- a `&mut` opens is lent. Assumes `Logic`.
 use Rattle.arraydeque_ring.{
   proofs.memory.{
     Kit.{◌≡◌, refl, ap, List, [], ◌∷◌, ℕ, ◌+◌, ◌*◌, ◌<◌, ◌^◌, length, Ura, never, id⊢, Lft, fhide, Logic, Goal, Seq},
     Kit.{Item, ‵, ◌⊛◌, ◌$◌, move, drop, use1, split, rewrite, fsplit, fpick, flt_l, hidden_shr, Ptr, RawPtr, block_ptr},
-    Kit.{in_a_block, El, R, el_x, Struct},
+    Kit.{in_a_block, El, R, el_x, Struct, Soaks, Share, GName, Gv, Global, Fml, SemTy, ent, sep, sem, mem, cell_at},
+    Kit.{flft, full_share, fobs, fauth, fbor, fobor, Borrowed, ◌∵◌, !, qed, by, use2, await, pick, some, later, group},
+    Kit.{split3},
     Owned.item_size,
-    Regions.{Sr, Seen, owning},
+    Regions.{Sr, Seen, owning, Fits, Frame, slots_whole, slots_val, places, right},
   },
   specs.{Ownership.{places_lent, slots_lent}},
 }
 use denote.{Struct.{Lending.lent_out, Owning.{to, shape}}, Opens.unhide}
+use types.Follow.{after, takes_part}
 use Rattle.std.specs.contracts.alloc.Global as heap
 use Rattle.arraydeque_ring.specs.contracts.slots.Slots.TheInside as inside
 
@@ -30,3 +34,24 @@ module _ (E : El) {M : Type 1} {𝓤 : Ura M} {𝓛 : Logic 𝓤} {K : Type 0} {
       in_a_block t a.ptr (λ p. slots_lent (R E) p a.places κ) (id⊢ 𝓤 (never 𝓤)) (λ b o at.
       rewrite t 0 (λ ps. ‵ (slots_lent (R E) (block_ptr b o) ps κ)) (ap (λ (v : Seen E). v.places) x.1.0) refl $
       fsplit t $ flt_l t (λ reach. then a.ptr b o at reach)))
+
+  -- A part of the places is lent under a new name, which the region follows.
+  -- Takes [the part; the other places; the right; the words; the open borrow, in three].
+  pub slots_lend : K → Soaks G → {κ : Lft} {q : Share} {γ : GName} {u v : Gv} {g : Global} {r : Seen E}
+      {b o n rb ro : ℕ} {Rest : Fml} → Fits E r o n → (T : SemTy) (new : T.rep → Seen E) (x : T.rep) (at : ℕ)
+      → ((w : T.rep) → length r.places ≡ length (new w).places)
+      → ((w : T.rep) → ent 𝓤 (sep 𝓤 (sem 𝓛 (T.own_at w b at)) (sem 𝓛 Rest)) (sem 𝓛 (places E (new w) b o)))
+      → ((ν : GName) → Seq K 𝓛 (‵ (fobs ν (T.coded.code x)) ∷ ‵ (fbor κ (Borrowed T b at ν)) ∷ ‵ (flft κ q)
+      ∷ ‵ (after (mem (Sr E)) T γ ν new) ∷ Γ) G)
+      → Seq K 𝓛 (‵ (T.own_at x b at) ∷ ‵ Rest ∷ ‵ (right E g n b o)
+      ∷ ‵ (cell_at full_share (Sr E).mir (slots_val b o n ∷ []) rb ro)
+      ∷ ‵ (fobor κ q (Borrowed (mem (Sr E)) rb ro γ)) ∷ ‵ (fobs γ u) ∷ ‵ (fauth γ v) ∷ Γ) G
+  slots_lend t z {κ} {q} {γ} {u} {v} {g} {r} {b} {o} {n} {rb} {ro} {Rest} ok T new x at long back then =
+      let Framed = Frame E 𝓛 rb ro g r b o n in
+      move t (4 ∷ 5 ∷ 6 ∷ []) $ group t 7 $
+      use1 𝓛 (later (some (λ (ν : GName). ‵ (fobs ν (T.coded.code x)) ⊛ ‵ (fbor κ (Borrowed T b at ν)) ⊛ ‵ (flft κ q)
+      ⊛ ‵ (after (mem (Sr E)) T γ ν new))))
+      (takes_part 𝓛 (mem (Sr E)) T new κ q rb ro b at γ (sep 𝓤 (sem 𝓛 Rest) (sem 𝓛 Framed))
+      (λ w. qed 𝓛 (‵ (T.own_at w b at) ∷ ‵ Rest ∷ ‵ Framed ∷ []) ∵ use2 𝓛 (‵ (places E (new w) b o)) (back w) $
+      by ! (slots_whole E 𝓛 rb ro g r b o n ok (new w) (long w))) u v x) $ await t z $
+      pick t (λ ν. split3 t $ move t (2 ∷ []) $ split t $ move t (2 ∷ 3 ∷ []) $ then ν)

@@ -2,19 +2,19 @@
 use Rattle.arraydeque_ring.{
   proofs.{
     memory.{
-      Kit.{emp, refl, List, [], ◌∷◌, ◌++◌, id⊢, Fn, inst_fn, tables, ‵, raw, ◌⊛◌, ◌$◌, !, move, use1, use2, split},
-      Kit.{join, frame, rewrite, fsplit, suffices, addr, stop, no_more, and_then, returns, alloc_all, pass_all},
-      Kit.{free_all, look_at, get, through, sets, lands_as, mem, nothing, heard, El, R, args, el_x, after₂, Array},
-      Kit.{both_by, says_two, done},
+      Kit.{fact, sep, by, emp, refl, [], ◌∷◌, ◌++◌, id⊢, Fn, inst_fn, tables, ◌$◌, !, move, join, frame, suffices},
+      Kit.{addr, stop, no_more, and_then, returns, alloc_all, pass_all, free_all, look_at, get, through, sets},
+      Kit.{lands_as, mem, nothing, El, R, args, Array, both_by},
       Methods.{passing_on, spent, values},
       Called.{calls_met, first_fact, knows},
     },
-    loans.{Made.loan_lawful, Names.followed_both, Placed.as_many-twice, Rings.Rr, Slices.in_slices},
+    loans.{Lending.rewritten-twice, Made.loan_lawful, Names.followed_both, Rings.Rr, Slices.in_slices},
     ring.Ring.lend.Met.met,
     slots.loan.Loan.into_slices.Met.met as into_met,
   },
-  specs.{Loans.{as_many}, Ring.RingState, RingLends.{rewritten, lends_loan}},
+  specs.{Loans.{as_many}},
 }
+use base.Logic.{mono_l}
 use Rattle.arraydeque_ring.specs.contracts.ring.Ring.lend as g
 use Rattle.arraydeque_ring.specs.contracts.ring.Ring.as_mut_slices as f
 use Rattle.arraydeque_ring.proofs.ring.Ring.as_mut_slices.Statement as stated
@@ -27,7 +27,6 @@ as_mut_slices_spec 𝓤 𝓛 𝓜 𝓡 wired X L =
     let 𝓣 = tables 𝓤 𝓛.H 𝓜 𝓡 𝓡.env in
     passing_on 1 0 (Rr E) 𝓛 (spent 1 𝓛 _) 𝓜 𝓡 _ _ (f.clauses X 𝓛 𝓜.mem 𝓡.returns) (f.Key.name (args E)) here
     (code.unfolded 𝓤 𝓛.H 𝓜 𝓡 wired (X, tt)) (λ κs qs bounds a _ fit post ends.
-    let d : RingState (el_x E) = a.0.now in
     move ! (1 ∷ []) $ first_fact ! {P = emp 𝓤} (λ lives. knows ! lives $ join ! $
     alloc_all ! (λ l. pass_all ! refl ((tt, tt), fit) $
     sets ! (addr ! (through ! refl (stop !))) refl (tt, tt) $
@@ -38,21 +37,9 @@ as_mut_slices_spec 𝓤 𝓛 𝓜 𝓡 wired X L =
     in_slices 𝓛 𝓜 𝓡 E κs !
     (into_met 𝓤 𝓛 𝓜 𝓡 (code.calls-arraydeque_ring::slots::loan::Loan::into_slices 𝓡.env wired) X L) qs bounds lives it v
     (and_then ! (get ! refl) (no_more !)) (λ u two_typed. lands_as ! refl refl two_typed.0 $
-    -- [the pair; the tokens; what `lend` says]
-    move ! (2 ∷ []) $ use1 𝓛 (‵ (lends_loan (R E) a.0 it) ⊛ raw _) (id⊢ 𝓤 _) $ split ! $ move ! (1 ∷ []) $
-    first_fact ! (λ value. heard ! _ (λ piece. fsplit ! $
-    let γ = a.0.ghost_name in let Rows = mem (Array (R E) 0) in
-    let Ended : RingState (el_x E) → RingState (el_x E) = λ w. rewritten d w.items in
-    let Put : List (el_x E) → List (el_x E) → RingState (el_x E) =
-    λ us vs. rewritten d (as_many it.first.now us ++ as_many it.second.now vs) in
-    use2 𝓛 (‵ (after₂ (mem (Rr E)) Rows Rows γ it.first.ghost_name it.second.ghost_name (λ us vs. Ended (Put us vs))))
-    (followed_both 𝓛 (mem (Rr E)) (mem (Rr E)) Rows Rows _ _ _ _ _ _) $
-    rewrite ! 0 (λ (F : List (el_x E) → List (el_x E) → RingState (el_x E)).
-    ‵ (after₂ (mem (Rr E)) Rows Rows γ it.first.ghost_name it.second.ghost_name F))
-    (λ i us vs. record (Put us vs) {
-      items = as_many-twice d.items (as_many it.first.now us ++ as_many it.second.now vs) i;
-    }) refl $
-    -- [what the ring follows; the pair; the tokens]
+    -- [the pair; the tokens; what `lend` ensures]
     returns ! (look_at ! 0 refl) $ free_all ! refl $
-    suffices ! _ (ends u (it.first, it.second) tt) $ nothing ! $ frame ! $ move ! (1 ∷ 2 ∷ []) $ frame ! $ frame ! $
-    says_two ! (value, piece) $ done !)))))))
+    suffices ! _ (ends u (it.first, it.second) tt) $ nothing ! $ frame ! $ frame ! $ frame ! $
+    by ! (mono_l 𝓤 (sep 𝓤 (fact {0} 𝓤 _) (fact {0} 𝓤 _))
+    (followed_both 𝓛 (mem (Rr E)) (mem (Rr E)) (mem (Array (R E) 0)) _ _ _ _ _ _ _
+    (λ us vs. rewritten-twice a.0.now (as_many it.first.now us ++ as_many it.second.now vs)))))))))

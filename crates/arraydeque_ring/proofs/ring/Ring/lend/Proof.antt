@@ -113,7 +113,7 @@ lend_spec 𝓤 𝓛 𝓜 𝓡 wired X L =
     -- [half the token; what γ follows; what ν follows; what the loan's name follows; the loan; the tokens]
     let Rows = mem (Array (R E) 0) in move ! (2 ∷ 3 ∷ []) $
     use2 𝓛 (‵ (after₂ (mem (Rr E)) Rows Rows ν it.first.ghost_name it.second.ghost_name (λ us vs. V (us, vs))))
-    (followed_both 𝓛 (mem (Rr E)) Lists Rows Rows _ _ _ _ _ _) $
+    (followed_both 𝓛 (mem (Rr E)) Lists Rows _ _ _ _ _ _ _ (λ us vs. refl)) $
     -- [what ν follows; half the token; what γ follows; the loan; the tokens]
     let out : LoanState (el_x E) = record it { name = ν } in
     move ! (2 ∷ 0 ∷ []) $ fjoin ! $ move ! (2 ∷ []) $

@@ -2,19 +2,18 @@
 use Rattle.arraydeque_ring.{
   proofs.{
     memory.{
-      Kit.{◌≡◌, refl, sym, ap, subst, ◌∙◌, [], ◌∷◌, ℕ, ◌<◌, ◌^◌, lit<, arith, length, id⊢, Fn, inst_fn, w64, tables},
-      Kit.{owns, ‵, raw, ◌⊛◌, ◌$◌, !, move, use1, drop, split, join, frame, fsplit, fjoin, fjoin3, feq_i, feq_l, flt_l},
-      Kit.{suffices, done, of_opd, lit, bin, addr, load, stop, fld, no_more, whole, sub, look_in, only, and_then},
-      Kit.{returns, alloc_all, pass_all, free_all, look_at, get, through, sets, lands_as, usize, uint_vals, mut_vals},
-      Kit.{says_two, nothing, heard, El, R, args, both_by, pure_i},
-      Regions.{Sr, Seen, slots_open, slots_close, IsFilledRun},
+      Kit.{◌≡◌, refl, ap, vint, ◌∙◌, [], ◌∷◌, ℕ, ◌<◌, ◌^◌, lit<, arith, length, id⊢, Fn, inst_fn, w64, tables, owns},
+      Kit.{◌$◌, !, move, drop, join, fsplit, fjoin, fjoin3, feq_i, feq_l, suffices, done, of_opd, lit, bin, addr, load},
+      Kit.{stop, fld, no_more, whole, sub, look_in, only, and_then, returns, alloc_all, pass_all, free_all, look_at},
+      Kit.{get, through, sets, lands_as, usize, uint_vals, mut_vals, nothing, heard, El, args, both_by, pure_i},
+      Regions.{Sr, Seen, slots_open, slots_close},
       Methods.{method, spent, values},
       Called.{Called, calls_met, first_fact, knows},
     },
     loans.Made.loan_lawful,
     slots.Slots.lend_two.Met.met,
   },
-  specs.{Lends.lends_loan, Loans.AreApart},
+  specs.{Loans.AreApart},
 }
 use Rattle.std.{specs.Prelude.{◌-◌, min}, below.core.proofs.int.usize.min.Met.met as e_met}
 use Rattle.arraydeque_ring.specs.contracts.slots.Slots.lend_two as g
@@ -31,11 +30,9 @@ lend_round_spec 𝓤 𝓛 𝓜 𝓡 wired X L =
     let 𝓣 = tables 𝓤 𝓛.H 𝓜 𝓡 𝓡.env in
     method 1 2 (Sr E) 𝓛 (spent 1 𝓛 _) 𝓜 𝓡 _ _ (f.clauses X 𝓛 𝓜.mem 𝓡.returns) (f.Key.name (args E)) here
     (code.unfolded 𝓤 𝓛.H 𝓜 𝓡 wired (X, tt)) (λ κs qs bounds a _ typed post ends.
-    let κ₁ = κs.1.0 in let r : Seen E = a.0.now in
+    let r : Seen E = a.0.now in
     let start : ℕ = a.1.0 in let len : ℕ = a.1.1.0 in let cut : ℕ = min len (length r.places - start) in
     let fs : start < 2 ^ 64 = typed.0.1.fits in let fl : len < 2 ^ 64 = typed.1.0.1.fits in
-    let One : ℕ → Type 0 = λ first. IsFilledRun r.places start first in
-    let Two : ℕ → Type 0 = λ first. IsFilledRun r.places 0 (len - first) in
     first_fact ! (λ lives. first_fact ! (λ inside. first_fact ! (λ within. first_fact ! (λ one. heard ! _ (λ two.
     alloc_all ! (λ l. pass_all ! refl ((tt, tt), typed) $
     slots_open E ! tt r (λ heap b o n ok.
@@ -53,31 +50,26 @@ lend_round_spec 𝓤 𝓛 𝓜 𝓡 wired X L =
     calls_met 𝓛 ! 𝓜 𝓣 e.ended (e.clauses 𝓛 𝓜.mem 𝓡.returns)
     (e_met 𝓤 𝓛 𝓜 𝓡 (code.calls-core::int::usize::min 𝓡.env wired)) zₑ (id⊢ 𝓤 _)
     (and_then ! (get ! refl) (and_then ! (get ! refl) (no_more !))) (uint_Lawful 𝓛 w64) (λ u first ws _. fsplit ! $
-    feq_l ! (λ is_first. flt_l ! (λ ff. lands_as ! (ap only is_first) refl (tt, record { fits = ff }) $ drop ! $
-    heard ! _ (λ cuts.
-    let same : cut ≡ first = sym (cuts ∙ ap (λ k. min len (k - start)) ok.capacity) in let rest : ℕ = len - first in
-    let fr : rest < 2 ^ 64 = omega arith in
+    feq_l ! (λ is_first. drop ! $ drop ! $ heard ! _ (λ cuts.
+    let same : first ≡ cut = cuts ∙ ap (λ k. min len (k - start)) ok.capacity in let rest : ℕ = len - cut in
+    let fc : cut < 2 ^ 64 = omega arith in let fr : rest < 2 ^ 64 = omega arith in
+    lands_as ! (ap only is_first ∙ ap (vint w64) same) refl (tt, record { fits = fc }) $
     sets ! (addr ! (through ! refl (stop !))) refl (tt, tt) $
     sets ! (bin ! (get ! refl) (get ! refl) (omega arith)) refl (tt, record { fits = fr }) $
     feq_i ! _ (mut_vals a.0) _ refl $ fjoin3 ! $
-    let words : ℕ × (ℕ × (ℕ × (ℕ × Unit {0}))) = (start, (first, (0, (rest, tt)))) in
+    let words : ℕ × (ℕ × (ℕ × (ℕ × Unit {0}))) = (start, (cut, (0, (rest, tt)))) in
     let vals = values 1 κs 4 (a.0, words) in
     pure_i ! (owns (usize ∷ usize ∷ usize ∷ usize ∷ []) words vals.1) _
-    ((refl, fs), ((refl, ff), ((refl, lit< tt), ((refl, fr), tt)))) $
+    ((refl, fs), ((refl, fc), ((refl, lit< tt), ((refl, fr), tt)))) $
     -- [the words; the borrow; its token; the others]
     move ! (1 ∷ 0 ∷ []) $ fjoin ! $ move ! (1 ∷ 2 ∷ []) $ join ! $ join ! $
-    let apart : AreApart start first 0 rest = λ k from to from' to'. omega arith in
-    knows ! apart $ knows ! (subst Two same two) $ join ! $
-    knows ! (subst One same one) $ join ! $ knows ! lives $ join ! $
+    let apart : AreApart start cut 0 rest = λ k from to from' to'. omega arith in
+    knows ! apart $ knows ! two $ join ! $ knows ! one $ join ! $ knows ! lives $ join ! $
     calls_met 𝓛 ! 𝓜 𝓣 (g.ended X) (g.clauses X 𝓛 𝓜.mem 𝓡.returns)
     (met 𝓤 𝓛 𝓜 𝓡 (code.calls-arraydeque_ring::slots::Slots::lend_two 𝓡.env wired) X L)
     ((κs, qs, bounds, (a.0, words), vals), tt) (id⊢ 𝓤 _)
     (and_then ! (get ! refl) (and_then ! (get ! refl)
     (and_then ! (get ! refl) (and_then ! (lit ! tt) (and_then ! (get ! refl) (no_more !)))))) (loan_lawful E)
     (λ v it ws it_typed. lands_as ! refl refl it_typed.0 $
-    move ! (2 ∷ []) $ use1 𝓛 (‵ (lends_loan (R E) a.0 start 0 it) ⊛ raw _) (id⊢ 𝓤 _) $ split ! $ move ! (1 ∷ []) $
-    first_fact ! (λ held. heard ! _ (λ held'.
-    -- [what the region follows; the loan; the tokens]
-    returns ! (look_at ! 0 refl) $ free_all ! refl $
-    suffices ! _ (ends v it tt) $ nothing ! $ frame ! $ move ! (1 ∷ 2 ∷ []) $ frame ! $ frame ! $
-    says_two ! (rw same held, rw same held') $ done !)))))))))))))))
+    -- [the loan; the tokens; what `lend_two` ensures]
+    returns ! (look_at ! 0 refl) $ free_all ! refl $ suffices ! _ (ends v it tt) $ nothing ! $ done !))))))))))))

@@ -2,9 +2,9 @@
 use Rattle.arraydeque_ring.{
   proofs.{
     memory.{
-      Kit.{refl, [], ◌∷◌, ℕ, id⊢, Fn, inst_fn, tables, ‵, raw, ◌⊛◌, ◌$◌, !, move, use1, use2, split, join, frame},
-      Kit.{fsplit, suffices, addr, stop, no_more, and_then, returns, alloc_all, pass_all, free_all, look_at, get},
-      Kit.{through, sets, lands_as, mem, nothing, heard, El, R, args, Array, both_by, says_two, done},
+      Kit.{fact, sep, by, refl, [], ◌∷◌, id⊢, Fn, inst_fn, tables, ◌$◌, !, move, join, frame, suffices, addr, stop},
+      Kit.{no_more, and_then, returns, alloc_all, pass_all, free_all, look_at, get, through, sets, lands_as, mem},
+      Kit.{nothing, heard, El, R, args, Array, both_by},
       Regions.{Sr},
       Methods.{passing_on, spent, values},
       Called.{calls_met, first_fact, knows},
@@ -12,8 +12,9 @@ use Rattle.arraydeque_ring.{
     loans.{Made.loan_lawful, Names.followed_both, Slices.in_slices},
     slots.{Slots.lend_two.Met.met, loan.Loan.into_slices.Met.met as into_met},
   },
-  specs.{Lends.{two_lists, lends_loan, lends_two_runs}},
+  specs.{Lends.{two_lists}},
 }
+use base.Logic.{mono_l}
 use Rattle.arraydeque_ring.specs.contracts.slots.Slots.lend_two as g
 use Rattle.arraydeque_ring.specs.contracts.slots.Slots.two_slices_mut as f
 use Rattle.arraydeque_ring.proofs.slots.Slots.two_slices_mut.Statement as stated
@@ -26,7 +27,6 @@ two_slices_mut_spec 𝓤 𝓛 𝓜 𝓡 wired X L =
     let 𝓣 = tables 𝓤 𝓛.H 𝓜 𝓡 𝓡.env in
     passing_on 1 4 (Sr E) 𝓛 (spent 1 𝓛 _) 𝓜 𝓡 _ _ (f.clauses X 𝓛 𝓜.mem 𝓡.returns) (f.Key.name (args E)) here
     (code.unfolded 𝓤 𝓛.H 𝓜 𝓡 wired (X, tt)) (λ κs qs bounds arg _ fit post ends.
-    let a : ℕ = arg.1.0 in let b : ℕ = arg.1.1.1.0 in
     move ! (1 ∷ []) $ first_fact ! (λ lives. first_fact ! (λ one. first_fact ! (λ two. heard ! _ (λ apart.
     knows ! apart $ knows ! two $ join ! $ knows ! one $ join ! $ knows ! lives $ join ! $
     alloc_all ! (λ l. pass_all ! refl ((tt, tt), fit) $
@@ -39,13 +39,8 @@ two_slices_mut_spec 𝓤 𝓛 𝓜 𝓡 wired X L =
     in_slices 𝓛 𝓜 𝓡 E κs !
     (into_met 𝓤 𝓛 𝓜 𝓡 (code.calls-arraydeque_ring::slots::loan::Loan::into_slices 𝓡.env wired) X L) qs bounds lives it v
     (and_then ! (get ! refl) (no_more !)) (λ u two_typed. lands_as ! refl refl two_typed.0 $
-    -- [the pair; the tokens; what `lend_two` says]
-    move ! (2 ∷ []) $ use1 𝓛 (‵ (lends_loan (R E) arg.0 a b it) ⊛ raw _) (id⊢ 𝓤 _) $ split ! $ move ! (1 ∷ []) $
-    first_fact ! (λ held. heard ! _ (λ held'. fsplit ! $
-    let Rows = mem (Array (R E) 0) in
-    use2 𝓛 (‵ (lends_two_runs (R E) arg.0 a b (it.first, it.second)))
-    (followed_both 𝓛 (mem (Sr E)) (mem (two_lists (R E))) Rows Rows _ _ _ _ _ _) $
-    -- [what the region follows; the pair; the tokens]
+    -- [the pair; the tokens; what `lend_two` ensures]
     returns ! (look_at ! 0 refl) $ free_all ! refl $
-    suffices ! _ (ends u (it.first, it.second) tt) $ nothing ! $ frame ! $ move ! (1 ∷ 2 ∷ []) $ frame ! $ frame ! $
-    says_two ! (held, held') $ done !))))))))))
+    suffices ! _ (ends u (it.first, it.second) tt) $ nothing ! $ frame ! $ frame ! $ frame ! $
+    by ! (mono_l 𝓤 (sep 𝓤 (fact {0} 𝓤 _) (fact {0} 𝓤 _))
+    (followed_both 𝓛 (mem (Sr E)) (mem (two_lists (R E))) (mem (Array (R E) 0)) _ _ _ _ _ _ _ (λ us vs. refl)))))))))))
