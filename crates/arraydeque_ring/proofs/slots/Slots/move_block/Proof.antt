@@ -3,11 +3,10 @@ use Rattle.arraydeque_ring.{
   proofs.{
     memory.{
       Kit.{frame, ◌≡◌, refl, sym, ap, List, [], ◌∷◌, ℕ, ◌+◌, ◌*◌, arith, length, full_share, fat, froom, Fn, inst_fn},
-      Kit.{ty_array, vunit, vptr, ‵, ◌⊛◌, some, ◌$◌, !, move, keep, use1, use2, split, join, pick, rewrite, fjoin3},
-      Kit.{feq_i, suffices, done, whole, sub, look_in, of_opd, unit_lit, bin, load, look, init, stop, fld},
-      Kit.{assigns_last, first, blocks, returns, alloc_all, pass_all, free_all, look_at, get, through, sets, is, heard},
-      Kit.{says, part_at, El, R, el_x, elτ, common_steps, Args, a_type, a_number, part_in, mut_vals, part_out, Array},
-      Kit.{layouts, number},
+      Kit.{ty_array, vunit, vptr, ‵, ◌⊛◌, some, ◌$◌, !, move, use1, use2, split, join, pick, rewrite, feq_i, suffices},
+      Kit.{done, whole, sub, look_in, of_opd, unit_lit, bin, load, look, init, stop, fld, assigns_last, first, blocks},
+      Kit.{returns, alloc_all, pass_all, free_all, look_at, get, through, sets, is, heard, says, part_at, El, R, el_x},
+      Kit.{elτ, common_steps, Args, a_type, a_number, part_in, part_out, Array, layouts, number},
       Regions.{Sr, Seen, near, slots_open, slots_close, scaled, item_size, Place, Row, array_out, array_in, room_out},
       Regions.{room_in},
       Called.{after_block, first_fact},
@@ -80,6 +79,5 @@ move_block_spec 𝓤 𝓛 𝓜 𝓡 wired X N L N_fits =
     rewrite ! 0 (λ l. ‵ (Row E 𝓛 b o l)) (moved_parts ps dst src N within target) refl $
     slots_close E ! tt new ok same_new $
     returns ! (look_at ! 0 refl) $ free_all ! refl $
-    suffices ! _ (ends vunit tt new) $ feq_i ! _ (mut_vals a.0) _ refl $ fjoin3 ! $
-    frame ! $ feq_i ! _ (vunit ∷ []) _ refl $ frame ! $ join ! $ says ! refl $
-    keep ! (0 ∷ []) $ done !)))))))))
+    suffices ! _ (ends vunit tt (new, tt)) $ frame ! $ frame ! $
+    feq_i ! _ (vunit ∷ []) _ refl $ frame ! $ join ! $ says ! refl $ done !)))))))))

@@ -2,9 +2,9 @@
 use Rattle.arraydeque_ring.proofs.{
   memory.{
     Kit.{part_out, frame, refl, sym, [], ◌∷◌, ℕ, ◌+◌, ◌*◌, ◌<◌, arith, length, set, length-set, None, full_share, fat},
-    Kit.{froom, Fn, inst_fn, ‵, ◌⊛◌, some, ◌$◌, move, !, keep, use1, split, join, pick, fjoin3, feq_i, suffices, done},
-    Kit.{whole, sub, look_in, of_opd, bin, load, look, stop, fld, first, blocks, returns, alloc_all, pass_all},
-    Kit.{free_all, look_at, get, through, sets, sets_last, heard, as_raw, says_two, mut_vals, El, R, args, el_x, elτ},
+    Kit.{froom, Fn, inst_fn, ‵, ◌⊛◌, some, ◌$◌, move, !, use1, split, join, pick, suffices, done, whole, sub, look_in},
+    Kit.{of_opd, bin, load, look, stop, fld, first, blocks, returns, alloc_all, pass_all, free_all, look_at, get},
+    Kit.{through, sets, sets_last, heard, as_raw, says_two, El, R, args, el_x, elτ},
     Regions.{scaled, Sr, Seen, near, slots_open, slots_close, item_size, place_out, place_in},
     Called.{after_block, first_fact},
     Methods.{method, comes_back},
@@ -46,5 +46,5 @@ read_spec 𝓤 𝓛 𝓜 𝓡 wired X L =
     place_in E ! b o r.places i within None $
     slots_close E ! tt new ok (sym (length-set r.places i None)) $ returns ! (look_at ! 0 refl) $
     free_all ! refl $
-    suffices ! _ (ends v x new) $ feq_i ! _ (mut_vals a.0) _ refl $ fjoin3 ! $ frame ! $
-    move ! (1 ∷ []) $ frame ! $ join ! $ keep ! (0 ∷ []) $ says_two ! (asked.1, refl) $ done !)))))))
+    suffices ! _ (ends v x (new, tt)) $ frame ! $ frame ! $
+    move ! (1 ∷ []) $ frame ! $ join ! $ says_two ! (asked.1, refl) $ done !)))))))
