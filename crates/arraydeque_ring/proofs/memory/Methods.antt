@@ -40,11 +40,10 @@ module _ {M : Type 1} {𝓤 : Ura M} (𝓛 : Logic 𝓤) (m : ℕ) where
     pub Had : Stored → List (Item 𝓤) → List (Item 𝓤)
     pub has : (s : Stored) (Γ : List (Item 𝓤)) → Sq 𝓛 (‵ (owns (types_at ss κs) a (vals s)) ∷ Γ) (prop (⋆ 𝓛 (Had s Γ)))
     pub Lasts : Type 0
-    pub lasts : Lasts → Fins κs ss ks a
-    pub fit : (w : Lasts) → fits_of κs ss ks hs a (lasts w)
+    pub lasts : Lasts → (ws : Fins κs ss ks a) × fits_of κs ss ks hs a ws
     pub Owed : Lasts → SProp 𝓤 → SProp 𝓤
     pub owes : (s : Stored) (w : Lasts) (P : SProp 𝓤)
-        → ent 𝓤 (Owed w P) (sep 𝓤 (sem 𝓛 (has_of κs ss ks hs a (lasts w) (vals s))) P)
+        → ent 𝓤 (Owed w P) (sep 𝓤 (sem 𝓛 (has_of κs ss ks hs a (lasts w).0 (vals s))) P)
 
   pub record Params : Type 2 where
     pub slots : List (Slot m)
@@ -69,8 +68,8 @@ module _ {M : Type 1} {𝓤 : Ura M} (𝓛 : Logic 𝓤) (m : ℕ) where
       pub stay : Stay Self kept
       pub goes : Goes 𝓛 m Self kept stay
       pub And : Type 0 → Type 0
-      pub last : (κs : Lfts m) (x : MutBor S.Denot) {X : Type 0} → And X → Last ((Self.row κs).exit kept) x × X
-      pub fit : (κs : Lfts m) (x : MutBor S.Denot) (w : Last ((Self.row κs).exit kept) x) → stay.fit κs x w
+      pub last : (κs : Lfts m) (x : MutBor S.Denot) {X : Type 0} → And X
+          → ((w : Last ((Self.row κs).exit kept) x) × stay.fit κs x w) × X
       pub Owed : (κs : Lfts m) (x : MutBor S.Denot) → Last ((Self.row κs).exit kept) x → SProp 𝓤 → SProp 𝓤
       pub owes : (κs : Lfts m) (x : MutBor S.Denot) (w : Last ((Self.row κs).exit kept) x) (P : SProp 𝓤)
           → ent 𝓤 (Owed κs x w P) (sep 𝓤 (sem 𝓛 (stay.has κs x w (mut_vals x))) P)
@@ -82,8 +81,7 @@ module _ {M : Type 1} {𝓤 : Ura M} (𝓛 : Logic 𝓤) (m : ℕ) where
       stay = stay_ref (j ∷ []) ok (plain (λ _. S));
       goes = Goes-ref 𝓛 m j ok (plain (λ _. S));
       And = λ X. S.Denot × X;
-      last = λ κs x w. w;
-      fit = λ κs x w. tt;
+      last = λ κs x w. ((w.0, tt), w.1);
       Owed = λ κs x w P. sep 𝓤 (sem 𝓛 (obs x w)) (sep 𝓤 (sem 𝓛 (bor κs x)) P);
       owes = λ κs x w P. qed 𝓛 (‵ (obs x w) ∷ ‵ (bor κs x) ∷ raw P ∷ []) ∵
           feq_i ! _ (mut_vals x) _ refl $ fjoin3 ! $ done !;
@@ -122,11 +120,10 @@ module _ {M : Type 1} {𝓤 : Ura M} {𝓛 : Logic 𝓤} where
         Had = λ t Γ. shown b ((s.row κs).own_val a.0 (v κs a.0 t.0)) (r.Had t.1 Γ);
         has = λ t Γ. beside (r.Had t.1 Γ) (shows b ((s.row κs).own_val a.0 (v κs a.0 t.0)) (r.Had t.1 Γ)) (r.has t.1 Γ);
         Lasts = r.Lasts;
-        lasts = λ w. (rest ((s.row κs).exit k) a.0, r.lasts w);
-        fit = λ w. (tt, r.fit w);
+        lasts = λ w. let ws = r.lasts w in ((rest ((s.row κs).exit k) a.0, ws.0), (tt, ws.1));
         Owed = r.Owed;
         owes = λ t w P. via 𝓤 _ (r.owes t.1 w P)
-            (qed 𝓛 (‵ (has_of κs ps.slots ps.kept ps.stays a.1 (r.lasts w) (r.vals t.1)) ∷ raw P ∷ []) ∵
+            (qed 𝓛 (‵ (has_of κs ps.slots ps.kept ps.stays a.1 (r.lasts w).0 (r.vals t.1)) ∷ raw P ∷ []) ∵
             nothing ! $ fjoin ! $ done !);
       };
     }
@@ -165,15 +162,13 @@ module _ {M : Type 1} {𝓤 : Ura M} {𝓛 : Logic 𝓤} where
         Had = λ t Γ. ‵ (obs 𝓛 m j ok S x x.now) ∷ ‵ (bor 𝓛 m j ok S κs x) ∷ r.Had t Γ;
         has = λ t Γ. beside (r.Had t Γ) (fsplit3 ! $ drop ! $ done !) (r.has t Γ);
         Lasts = fate.And r.Lasts;
-        lasts = λ w. let both = fate.last κs x w in (both.0, r.lasts both.1);
-        fit = λ w. let both = fate.last κs x w in (fate.fit κs x both.0, r.fit both.1);
-        Owed = λ w P. let both = fate.last κs x w in fate.Owed κs x both.0 (r.Owed both.1 P);
-        owes = λ t w P. let both = fate.last κs x w in
-            let Others = has_of κs ps.slots ps.kept ps.stays a.1 (r.lasts both.1) (r.vals t) in
-            let It = fate.stay.has κs x both.0 (mut_vals x) in
-            via 𝓤 _ (fate.owes κs x both.0 (r.Owed both.1 P))
-            (qed 𝓛 (‵ It ∷ raw (r.Owed both.1 P) ∷ []) ∵ move ! (1 ∷ []) $
-            use1 𝓛 (‵ Others ⊛ raw P) (r.owes t both.1 P) $ split ! $ move ! (2 ∷ 0 ∷ []) $ fjoin ! $ done !);
+        lasts = λ w. let l = fate.last κs x w in let ws = r.lasts l.1 in ((l.0.0, ws.0), (l.0.1, ws.1));
+        Owed = λ w P. let l = fate.last κs x w in fate.Owed κs x l.0.0 (r.Owed l.1 P);
+        owes = λ t w P. let l = fate.last κs x w in
+            let Others = has_of κs ps.slots ps.kept ps.stays a.1 (r.lasts l.1).0 (r.vals t) in
+            via 𝓤 _ (fate.owes κs x l.0.0 (r.Owed l.1 P))
+            (qed 𝓛 (‵ (fate.stay.has κs x l.0.0 (mut_vals x)) ∷ raw (r.Owed l.1 P) ∷ []) ∵ move ! (1 ∷ []) $
+            use1 𝓛 (‵ Others ⊛ raw P) (r.owes t l.1 P) $ split ! $ move ! (2 ∷ 0 ∷ []) $ fjoin ! $ done !);
       };
     }
 
@@ -194,8 +189,7 @@ module _ {M : Type 1} {𝓤 : Ura M} {𝓛 : Logic 𝓤} where
         Had = λ s Γ. Γ;
         has = λ s Γ. drop ! $ done !;
         Lasts = Unit {0};
-        lasts = λ w. tt;
-        fit = λ w. tt;
+        lasts = λ w. (tt, tt);
         Owed = λ w P. P;
         owes = λ s w P. emp∗ 𝓤 P;
       };
@@ -214,8 +208,7 @@ module _ (m : ℕ) {M : Type 1} {𝓤 : Ura M} (𝓛 : Logic 𝓤) where
     stay = stay_dropped _ no;
     goes = Goes-spent_ref 𝓛 (suc m) (0 ∷ []) tt (plain (λ _. S));
     And = λ X. X;
-    last = λ κs x w. (tt, w);
-    fit = λ κs x w. tt;
+    last = λ κs x w. ((tt, tt), w);
     Owed = λ κs x w P. sep 𝓤 (sem 𝓛 ftrue) P;
     owes = λ κs x w P. id⊢ 𝓤 _;
   }
@@ -230,37 +223,31 @@ module _ (m : ℕ) {M : Type 1} {𝓤 : Ura M} (𝓛 : Logic 𝓤) where
       kept = ps.kept;
     }
 
-    -- what a walk has at entry, by the arguments and what is required
-    abbrev Begins : Type 2
-    Begins = (κs : Lfts (suc m)) → Shares (suc m) → (a : Denots (types_at ps.slots κs)) → (ps.passed κs a).Stored
-        → SProp 𝓤 → List (Item 𝓤)
+    -- at entry a walk has [the tokens and what the parameters own; what is required],
+    -- or apart [what is required; what is had of the parameters; the first token; the others]
+    abbrev Begins : Bool → (κs : Lfts (suc m)) → Shares (suc m) → (a : Denots (types_at ps.slots κs))
+        → (ps.passed κs a).Stored → SProp 𝓤 → List (Item 𝓤)
+    Begins false κs qs a s P = raw (sep 𝓤 (toks 𝓛 (suc m) κs qs)
+        (sem 𝓛 (owns (types_at ps.slots κs) a ((ps.passed κs a).vals s)))) ∷ raw P ∷ []
+    Begins true κs qs a s P = raw P ∷ (ps.passed κs a).Had s (‵ (flft κs.0 qs.0) ∷ raw (toks 𝓛 m κs.1 qs.1) ∷ [])
 
     -- a walk is handed how the parameters are stored, and how it ends: with what it owes of them, the result, the tokens
     -- and what is ensured
-    abbrev Walking : Begins → Type 2
-    Walking Γ = (𝓜 : Model 𝓤 𝓛.H) (𝓡 : Running 𝓤 𝓛.H 𝓜) (os : List (Outlives (suc m))) (res : Slot (suc m))
+    abbrev Walking : Bool → Type 2
+    Walking apart = (𝓜 : Model 𝓤 𝓛.H) (𝓡 : Running 𝓤 𝓛.H 𝓜) (os : List (Outlives (suc m))) (res : Slot (suc m))
         (c : Clauses 𝓤 (Method os res)) (k : Callee) (e : Fn) → let 𝓣 = tables 𝓤 𝓛.H 𝓜 𝓡 𝓡.env in
         Closed 𝓤 𝓛.H 𝓣.C 𝓣.Λ k e
         → ((κs : Lfts (suc m)) (qs : Shares (suc m)) (bounds : AllOutlive (suc m) os κs)
         (a : Denots (types_at ps.slots κs)) (g : (c κs a).ghost) (s : (ps.passed κs a).Stored) (post : Val → SProp 𝓤)
         → ((v : Val) (r : Res (Method os res).signature κs) (w : (ps.passed κs a).Lasts)
         → ent 𝓤 ((ps.passed κs a).Owed w (sep 𝓤 (sem 𝓛 ((type_at res κs).own_val r (v ∷ [])))
-        (sep 𝓤 (toks 𝓛 (suc m) κs qs) ((c κs a).ensures g r (at_exit (Method os res) κs a ((ps.passed κs a).lasts w))))))
+        (sep 𝓤 (toks 𝓛 (suc m) κs qs) ((c κs a).ensures g r (at_exit (Method os res) κs a ((ps.passed κs a).lasts w).0)))))
         (post v))
-        → Sq 𝓛 (Γ κs qs a s ((c κs a).requires g)) (allocs e.locals (λ En. params' En
+        → Sq 𝓛 (Begins apart κs qs a s ((c κs a).requires g)) (allocs e.locals (λ En. params' En
         (flat (types_at ps.slots κs) ((ps.passed κs a).vals s)) (runs 𝓣.C 𝓣.Λ En e.body (at_ret En post)))))
         → Meets 𝓛 (Method os res).signature (𝓣.C k) (closing 𝓛 (Method os res) c)
 
-    -- [the tokens and what the parameters own; what is required]
-    abbrev Whole : Begins
-    Whole κs qs a s P = raw (sep 𝓤 (toks 𝓛 (suc m) κs qs)
-        (sem 𝓛 (owns (types_at ps.slots κs) a ((ps.passed κs a).vals s)))) ∷ raw P ∷ []
-
-    -- [what is required; what is had of the parameters; the first token; the others]
-    abbrev Apart : Begins
-    Apart κs qs a s P = raw P ∷ (ps.passed κs a).Had s (‵ (flft κs.0 qs.0) ∷ raw (toks 𝓛 m κs.1 qs.1) ∷ [])
-
-    as_whole : Walking Whole
+    as_whole : Walking false
     as_whole 𝓜 𝓡 os res c k e closed walk =
         let T = Method os res in let W = walk_of 𝓛 T ps.stays c in let 𝓣 = tables 𝓤 𝓛.H 𝓜 𝓡 𝓡.env in
         proved_at 𝓛 T ps.stays c 𝓜 𝓡 ps.go k e closed (λ z are.
@@ -268,19 +255,19 @@ module _ (m : ℕ) {M : Type 1} {𝓤 : Ura M} (𝓛 : Logic 𝓤) where
         let s = told.0 in let y : W.Ghost = ((κs, qs, z.0.2, a, p.vals s), z.1) in
         let Goes : W.Ghost → Type 1 = λ x. ent 𝓤 (W.pre x) (WpFn 𝓤 𝓛.H 𝓣.C 𝓣.Λ e (W.args x) (W.post x)) in
         subst (λ (vss : Valss (types_at ps.slots κs)). Goes ((κs, qs, z.0.2, a, vss), z.1)) (sym told.1) (
-        qed 𝓛 (Whole κs qs a s ((c κs a).requires z.1)) ∵
+        qed 𝓛 (Begins false κs qs a s ((c κs a).requires z.1)) ∵
         enter ! _ _ _ _ _ $ walk κs qs z.0.2 a z.1 s (W.post y) (λ v r w.
         let Result : Fml = (type_at res κs).own_val r (v ∷ []) in
-        let Says = (c κs a).ensures z.1 r (at_exit T κs a (p.lasts w)) in
+        let Says = (c κs a).ensures z.1 r (at_exit T κs a (p.lasts w).0) in
         via 𝓤 _ (p.owes s w (sep 𝓤 (sem 𝓛 Result) (sep 𝓤 (toks 𝓛 (suc m) κs qs) Says)))
-        (qed 𝓛 (‵ (has_of κs ps.slots ps.kept ps.stays a (p.lasts w) (p.vals s)) ∷ ‵ Result ∷ raw (toks 𝓛 (suc m) κs qs)
-        ∷ raw Says ∷ []) ∵ move ! (2 ∷ []) $ by ! (leaves 𝓛 T ps.stays c y v r (p.lasts w) (p.fit w))))))
+        (qed 𝓛 (‵ (has_of κs ps.slots ps.kept ps.stays a (p.lasts w).0 (p.vals s)) ∷ ‵ Result ∷ raw (toks 𝓛 (suc m) κs qs)
+        ∷ raw Says ∷ []) ∵ move ! (2 ∷ []) $ by ! (leaves 𝓛 T ps.stays c y v r (p.lasts w).0 (p.lasts w).1)))))
 
-    pub walked : Walking Apart
+    pub walked : Walking true
     walked 𝓜 𝓡 os res c k e closed walk = as_whole 𝓜 𝓡 os res c k e closed (λ κs qs bounds a g s post ends.
         let p = ps.passed κs a in let Γ = ‵ (flft κs.0 qs.0) ∷ raw (toks 𝓛 m κs.1 qs.1) ∷ [] in
         let P = (c κs a).requires g in
-        by ! (via 𝓤 _ (qed 𝓛 (Whole κs qs a s P) ∵
+        by ! (via 𝓤 _ (qed 𝓛 (Begins false κs qs a s P) ∵
         suffices ! (sep 𝓤 P (⋆ 𝓛 (p.Had s Γ))) (push 𝓛 (raw P) (p.Had s Γ)) $ move ! (1 ∷ []) $ frame ! $
         use1 𝓛 ((‵ (flft κs.0 qs.0) ⊛ raw (toks 𝓛 m κs.1 qs.1)) ⊛ ‵ (owns (types_at ps.slots κs) a (p.vals s))) (id⊢ 𝓤 _) $
         split ! $ split ! $ move ! (2 ∷ []) $ p.has s Γ)
@@ -288,10 +275,10 @@ module _ (m : ℕ) {M : Type 1} {𝓤 : Ura M} (𝓛 : Logic 𝓤) where
 
 -- for a `&mut` and n words
 module _ (m n : ℕ) (S : RattleType) {M : Type 1} {𝓤 : Ura M} (𝓛 : Logic 𝓤) (fate : Fate 𝓛 (suc m) 0 tt S) where
-  pub passing_on : Walking m 𝓛 (mutable fate (words n)) (Whole m 𝓛 (mutable fate (words n)))
+  pub passing_on : Walking m 𝓛 (mutable fate (words n)) false
   passing_on = as_whole m 𝓛 (mutable fate (words n))
 
-  pub method : Walking m 𝓛 (mutable fate (words n)) (Apart m 𝓛 (mutable fate (words n)))
+  pub method : Walking m 𝓛 (mutable fate (words n)) true
   method = walked m 𝓛 (mutable fate (words n))
 
 -- the machine values of a `&mut` and of words
