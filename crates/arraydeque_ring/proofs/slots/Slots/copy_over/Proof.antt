@@ -2,14 +2,14 @@
 -- and room for it in another region, and puts both back. Assumes `Logic`.
 use Rattle.arraydeque_ring.{
   proofs.memory.{
-    Kit.{◌≡◌, refl, List, [], ◌∷◌, ◌++◌, ℕ, ◌+◌, ◌*◌, arith, length, take, drop_list, id⊢, full_share, ftrue, froom},
-    Kit.{flft, Fn, inst_fn, w64, ty_array, vunit, vint, tables, owns, ‵, raw, ◌⊛◌, ◌$◌, !, move, use1, drop, split},
-    Kit.{join, fjoin, feq_i, suffices, done, whole, sub, look_in, of_opd, unit_lit, bin, load, stop, fld, no_more},
-    Kit.{and_then, first, blocks, returns, alloc_all, pass_all, free_all, look_at, get, through, sets, lands_last},
-    Kit.{usize, RawPtr, block_ptr, heard, says_two, calls_at_last, framed, triple_of, part_at, El, R, args, el_x, elτ},
-    Kit.{common_steps, Array, pure_i, frame},
-    Regions.{Sr, Seen, near, run_fits, slots_open, slots_close, scaled, item_size, Place, array_out, array_in},
-    Regions.{room_out, room_in},
+    Kit.{◌≡◌, refl, [], ◌∷◌, ◌++◌, ◌+◌, ◌*◌, arith, length, take, drop_list, id⊢, full_share, ftrue, froom, flft},
+    Kit.{inst_fn, w64, ty_array, vunit, vint, tables, owns, ‵, raw, ◌⊛◌, ◌$◌, !, move, use1, drop, split, join, fjoin},
+    Kit.{feq_i, suffices, done, whole, sub, look_in, of_opd, unit_lit, bin, load, stop, fld, no_more, and_then, first},
+    Kit.{blocks, returns, alloc_all, pass_all, free_all, look_at, get, through, sets, lands_last, usize, RawPtr},
+    Kit.{block_ptr, heard, says_two, calls_at_last, framed, triple_of, part_at, El, R, args, elτ, common_steps, Array},
+    Kit.{pure_i, frame},
+    Regions.{Sr, Seen, near, run_fits, slots_open, slots_close, scaled, item_size, array_out, array_in, room_out},
+    Regions.{room_in},
     Methods.{walked, mutable, comes_back, back, word, words},
     Called.{after_block, first_fact, knows, returned},
   },
@@ -24,23 +24,23 @@ use Rattle.arraydeque_ring.proofs.slots.Slots.copy_over.Code as code
 
 pub copy_over_spec : {M : Type 1} → stated.statement M
 copy_over_spec 𝓤 𝓛 𝓜 𝓡 wired X L =
-    let E : El = record { row = X; laws = L } in let here : Fn = inst_fn (args E) code.function in
+    let E : El = record { row = X; laws = L } in let here = inst_fn (args E) code.function in
     let 𝓣 = tables 𝓤 𝓛.H 𝓜 𝓡 𝓡.env in
     let Copies = triple_of 𝓛 (copy.signature X) (copy.spec X 𝓛 𝓜.mem 𝓡.returns) in
     walked 2 𝓛 (mutable (comes_back 2 𝓛 (Sr E)) (word (mutable (back 𝓛 3 1 tt (Sr E)) (words 2)))) 𝓜 𝓡 _ _
     (f.clauses X 𝓛 𝓜.mem 𝓡.returns) (f.Key.name (args E)) here (code.unfolded 𝓤 𝓛.H 𝓜 𝓡 wired (X, tt))
     (λ κs qs bounds a _ fit post ends.
     let κ₂ = κs.1.1.0 in let q₂ = qs.1.1.0 in
-    let r : Seen E = a.0.now in
-    let ps : List (Place E) = r.places in
-    let r' : Seen E = a.1.1.0.now in
-    let ts : List (Place E) = r'.places in
-    let from : ℕ = a.1.0 in let to : ℕ = a.1.1.1.0 in let n : ℕ = a.1.1.1.1.0 in
-    let n_fits = fit.1.1.0.1 in let s : ℕ = item_size E in
+    let r = a.0.now in
+    let ps = r.places in
+    let r' = a.1.1.0.now in
+    let ts = r'.places in
+    let from = a.1.0 in let to = a.1.1.1.0 in let n = a.1.1.1.1.0 in
+    let n_fits = fit.1.1.0.1 in let s = item_size E in
     first_fact ! (λ lives. first_fact ! (λ filled. heard ! _ (λ empty.
-    let within = filled.0 in let target = empty.0 in let xs : List (el_x E) = filled.1.0 in
-    let es : List (Place E) = run_emptied from n ps in
-    let us : List (Place E) = take to ts ++ (take n (drop_list from ps) ++ drop_list (to + n) ts) in
+    let within = filled.0 in let target = empty.0 in let xs = filled.1.0 in
+    let es = run_emptied from n ps in
+    let us = take to ts ++ (take n (drop_list from ps) ++ drop_list (to + n) ts) in
     let es_long : length ps ≡ length es = grind (arith, common_steps) in
     let us_long : length ts ≡ length us = grind (arith, common_steps) in
     let new : Seen E = record { places = es; steps = r.steps } in
@@ -49,7 +49,7 @@ copy_over_spec 𝓤 𝓛 𝓜 𝓡 wired X L =
     alloc_all ! (λ l. pass_all ! refl ((tt, tt), (fit.0, ((tt, tt), fit.1))) $ move ! (2 ∷ 3 ∷ 6 ∷ 4 ∷ 5 ∷ 0 ∷ []) $
     slots_open E ! tt r (λ g b o m ok. move ! (6 ∷ 7 ∷ 8 ∷ []) $ slots_open E ! tt r' (λ g' b' o' m' ok'.
     let from_near = near E ok from (omega arith) in let to_near = near E ok' to (omega arith) in
-    let src : ℕ = from * s + o in let dst : ℕ = to * s + o' in
+    let src = from * s + o in let dst = to * s + o' in
     first ! $ blocks ! $
     sets ! (of_opd ! (load ! (through ! refl (fld ! refl (stop !))) (look_in ! 8 (sub ! 0 refl (whole !)))))
     refl (tt, tt) $

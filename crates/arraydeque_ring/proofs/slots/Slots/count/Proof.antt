@@ -2,14 +2,14 @@
 use Rattle.arraydeque_ring.{
   proofs.{
     memory.{
-      Kit.{refl, [], ◌∷◌, Fn, inst_fn, vunit, ◌$◌, !, join, feq_i, suffices, done, of_opd, unit_lit, returns},
-      Kit.{alloc_all, pass_all, free_all, look_at, sets, plain, says, El, args, frame, drop, false},
+      Kit.{refl, [], ◌∷◌, inst_fn, vunit, ◌$◌, !, join, feq_i, suffices, done, of_opd, unit_lit, returns, alloc_all},
+      Kit.{pass_all, free_all, look_at, sets, plain, says, El, args, frame, drop, false},
       Regions.{Sr, Seen, slots_open, slots_close},
       Methods.{walked, mutable, comes_back, told, words},
     },
     slots.StepKind.TheLaws.{the_laws, the_row_laws},
   },
-  specs.{declared.slots.StepKind.StepKind, Counted.counted},
+  specs.Counted.counted,
 }
 use denote.Enum.Laws.{low_vals, Tells-lowered}
 use Rattle.arraydeque_ring.specs.contracts.slots.StepKind as kind
@@ -19,12 +19,12 @@ use Rattle.arraydeque_ring.proofs.slots.Slots.count.Code as code
 
 pub count_spec : {M : Type 1} → stated.statement M
 count_spec 𝓤 𝓛 𝓜 𝓡 wired X L =
-    let E : El = record { row = X; laws = L } in let here : Fn = inst_fn (args E) code.function in
+    let E : El = record { row = X; laws = L } in let here = inst_fn (args E) code.function in
     let kind_vals = low_vals kind.enum the_laws in
     walked 1 𝓛 (mutable (comes_back 1 𝓛 (Sr E)) (told (plain (λ _. kind.the_row)) (λ _ _ _. refl) false (λ _. kind_vals)
     (λ _. Tells-lowered kind.enum the_laws) (words 1))) 𝓜 𝓡 _ _ (f.clauses X 𝓛 𝓜.mem 𝓡.returns)
     (f.Key.name (args E)) here (code.unfolded 𝓤 𝓛.H 𝓜 𝓡 wired (X, tt)) (λ κs qs bounds a _ fit post ends.
-    let r : Seen E = a.0.now in let k : StepKind = a.1.0 in
+    let r = a.0.now in let k = a.1.0 in
     let new : Seen E = record r { steps = counted k a.1.1.0 r.steps } in
     drop ! $ alloc_all ! (λ l. pass_all ! refl
     ((tt, tt), (((the_row_laws.lawful 𝓛).typed k (kind_vals k) fit.0).0, fit.1)) $

@@ -1,18 +1,17 @@
 -- `give_back` makes the empty places one block again, and frees it. Assumes `Logic`.
 use Rattle.arraydeque_ring.proofs.memory.{
-  Kit.{refl, sym, List, [], ◌∷◌, ◌++◌, ℕ, ◌*◌, arith, id⊢, ftrue, froom, flft, Fn, inst_fn, ty_array, Val, vunit, vptr},
+  Kit.{refl, sym, List, [], ◌∷◌, ◌++◌, ◌*◌, arith, id⊢, ftrue, froom, flft, inst_fn, ty_array, Val, vunit, vptr},
   Kit.{tables, ‵, raw, ◌⊛◌, ◌$◌, !, move, keep, drop, use1, use3, split, join, rewrite, fsplit, feq_i, suffices, done},
   Kit.{whole, sub, of_opd, lit, unit_lit, align_word, bin, stop, fld, no_more, and_then, first, blocks, branches},
   Kit.{skips, returns, alloc_all, pass_all, free_all, look_at, get, get_in, sets, lands_last, nothing, calls_at_last},
-  Kit.{framed, block_ptr, El, args, elτ, Global, frame, at_ret},
+  Kit.{framed, block_ptr, El, args, elτ, frame, at_ret},
   Blocks.{scaled, block_ty, token},
   Methods.{walked, seen, whole_slots, words},
   Called.{after_block, returned},
   Heap.{Deallocates, to_deallocate, deallocate_goes},
-  Regions.{near, Seen, slots_Good, slots_apart, item_size, row_room, owned_if},
+  Regions.{near, slots_Good, slots_apart, item_size, row_room, owned_if},
 }
-use types.Kit.{Sq, prop, runs, allocs, params', regoal}
-use contract.Lifetimes.{toks}
+use types.Kit.{runs, allocs, params', regoal}
 use denote.Plain.{Nothing-Lawful}
 use Rattle.std.{specs.Prelude.nat_lt, proofs.{Flags.T_true, impls.GlobalAllocator.deallocate.Met.met}}
 use Rattle.std.specs.contracts.alloc.Global as heap
@@ -23,13 +22,13 @@ use Rattle.arraydeque_ring.proofs.slots.Slots.give_back.Code as code
 
 pub give_back_spec : {M : Type 1} → stated.statement M
 give_back_spec 𝓤 𝓛 𝓜 𝓡 wired X L =
-    let E : El = record { row = X; laws = L } in let here : Fn = inst_fn (args E) code.function in
+    let E : El = record { row = X; laws = L } in let here = inst_fn (args E) code.function in
     let 𝓣 = tables 𝓤 𝓛.H 𝓜 𝓡 𝓡.env in
     walked 1 𝓛 (whole_slots E (seen heap.the_row (words 0))) 𝓜 𝓡 _ _ (f.clauses X 𝓛 𝓜.mem 𝓡.returns) (f.Key.name (args E)) here
     (code.unfolded 𝓤 𝓛.H 𝓜 𝓡 wired (X, tt)) (λ κs qs bounds a _ fit post ends.
     let κ = κs.0 in let q = qs.0 in
-    let r : Seen E = a.0 in let hp : ℕ × ℕ = a.1.0.ref_ptr in let h : Global = a.1.0.now in
-    let s : ℕ = item_size E in
+    let r = a.0 in let hp = a.1.0.ref_ptr in let h = a.1.0.now in
+    let s = item_size E in
     drop ! $ slots_apart E ! r fit.0 (λ g b o n ok words.
     let bytes = near E ok n (omega arith) in
     use1 𝓛 (‵ (froom (ty_array (elτ E) n) b o)) (row_room E 𝓛 b r.places n o (sym ok.capacity)) $
@@ -40,8 +39,8 @@ give_back_spec 𝓤 𝓛 𝓜 𝓡 wired X L =
     (runs 𝓣.C 𝓣.Λ En here.body (at_ret En post)))) words refl $
     alloc_all ! (λ l. pass_all ! refl (slots_Good E b o n ok.word, ((tt, tt), tt)) $
     let Gives = Deallocates 𝓛 𝓜.mem 𝓡.returns in
-    let z : Gives.Ghost = to_deallocate 𝓛 𝓜.mem 𝓡.returns E n κ q hp h b o in
-    let out : Sq 𝓛 (‵ (flft κ q) ∷ raw (toks 𝓛 1 κs.1 qs.1) ∷ []) (prop (post vunit)) =
+    let z = to_deallocate 𝓛 𝓜.mem 𝓡.returns E n κ q hp h b o in
+    let out =
     suffices ! _ (ends vunit tt tt) $ feq_i ! _ (vunit ∷ []) _ refl $ frame ! $ join ! $ nothing ! $ move ! (1 ∷ []) $ done ! in
     sets ! (of_opd ! (get_in ! (fld ! refl (stop !)) (sub ! 0 refl (whole !)))) refl (tt, tt) $
     sets ! (of_opd ! (get_in ! (fld ! refl (stop !)) (sub ! 1 refl (whole !)))) refl (tt, record { fits = ok.word }) $

@@ -1,15 +1,15 @@
 -- `slice` lends the values of a filled run. Assumes `Logic`.
 use Rattle.arraydeque_ring.proofs.{
   memory.{
-    Kit.{refl, sym, ap, List, [], ◌∷◌, ℕ, ◌+◌, ◌*◌, ◌<◌, ◌^◌, arith, length, Fn, inst_fn, Val, vptr, ‵, ◌$◌, !, move},
-    Kit.{use1, drop, join, fsplit, fjoin, feq_i, flt_i, suffices, done, agg, of_opd, bin, load, look, stop, fld},
-    Kit.{no_more, and_then, first, blocks, returns, alloc_all, pass_all, free_all, look_at, get, through, sets},
-    Kit.{sets_last, says, heard, El, R, args, el_x, times_below, slice_val, elements_shared, ◌∙◌, looks, shuts, RawPtr},
-    Kit.{Ptr, ptr_val, feq_l, rewrite, cell_at, frame},
+    Kit.{refl, sym, ap, List, [], ◌∷◌, ℕ, ◌+◌, ◌*◌, ◌<◌, ◌^◌, arith, length, inst_fn, Val, vptr, ‵, ◌$◌, !, move, use1},
+    Kit.{drop, join, fsplit, fjoin, feq_i, flt_i, suffices, done, agg, of_opd, bin, load, look, stop, fld, no_more},
+    Kit.{and_then, first, blocks, returns, alloc_all, pass_all, free_all, look_at, get, through, sets, sets_last, says},
+    Kit.{heard, El, R, args, times_below, slice_val, elements_shared, ◌∙◌, looks, shuts, RawPtr, Ptr, ptr_val, feq_l},
+    Kit.{rewrite, cell_at, frame},
     Lent.slots_seen,
     Called.{after_block, first_fact},
     Methods.{walked, seen, words},
-    Regions.{Sr, Seen, scaled, item_size, run_seen},
+    Regions.{Sr, scaled, item_size, run_seen},
   },
   places.Held.length_filled,
 }
@@ -20,15 +20,15 @@ use Rattle.arraydeque_ring.proofs.slots.Slots.slice.Code as code
 
 pub slice_spec : {M : Type 1} → stated.statement M
 slice_spec 𝓤 𝓛 𝓜 𝓡 wired X L =
-    let E : El = record { row = X; laws = L } in let here : Fn = inst_fn (args E) code.function in
+    let E : El = record { row = X; laws = L } in let here = inst_fn (args E) code.function in
     walked 1 𝓛 (seen (Sr E) (words 2)) 𝓜 𝓡 _ _ (f.clauses X 𝓛 𝓜.mem 𝓡.returns) (f.Key.name (args E)) here
     (code.unfolded 𝓤 𝓛.H 𝓜 𝓡 wired (X, tt)) (λ κs qs bounds a _ fit post ends.
     let κ = κs.0 in
-    let rb : ℕ = a.0.ref_ptr.0 in let ro : ℕ = a.0.ref_ptr.1 in let r : Seen E = a.0.now in let i : ℕ = a.1.0 in
-    let len : ℕ = a.1.1.0 in
-    let len_fits = fit.1.1.0.1 in let s : ℕ = item_size E in
+    let rb = a.0.ref_ptr.0 in let ro = a.0.ref_ptr.1 in let r = a.0.now in let i = a.1.0 in
+    let len = a.1.1.0 in
+    let len_fits = fit.1.1.0.1 in let s = item_size E in
     first_fact ! (λ _. heard ! _ (λ asked.
-    let within = asked.0 in let xs : List (el_x E) = asked.1.0 in let held = asked.1.1 in
+    let within = asked.0 in let xs = asked.1.0 in let held = asked.1.1 in
     let long = length_filled r.places i len asked in
     fsplit ! $ drop ! $ slots_seen E ! r rb ro (λ p b o at reach.
     let all : length r.places * s < 2 ^ 63 = omega arith in

@@ -1,11 +1,11 @@
 -- `without_memory` makes places that take no bytes out of nothing. Assumes `Logic`.
 use Rattle.arraydeque_ring.proofs.memory.{
-  Kit.{arith, refl, ℕ, Fn, inst_fn, ‵, ◌$◌, !, use0, suffices, done, agg, addr, from, stop, no_more, and_then, returns},
-  Kit.{alloc_all, pass_all, free_all, look_at, get, sets, says, heard, block_ptr, El, args, Global, frame, join},
+  Kit.{arith, refl, inst_fn, ‵, ◌$◌, !, use0, suffices, done, agg, addr, from, stop, no_more, and_then, returns},
+  Kit.{alloc_all, pass_all, free_all, look_at, get, sets, says, heard, block_ptr, El, args, frame, join},
   Blocks.no_right,
   Methods.{walked, handle, words},
   Called.first_fact,
-  Regions.{Seen, Fits-empty, places, right, heap_Good, slots_val, slots_Good, slots_made, of_nothing, empty_region},
+  Regions.{Fits-empty, places, right, heap_Good, slots_val, slots_Good, slots_made, of_nothing, empty_region},
 }
 use Rattle.arraydeque_ring.specs.contracts.slots.Slots.without_memory as f
 use Rattle.arraydeque_ring.proofs.slots.Slots.without_memory.Statement as stated
@@ -13,14 +13,14 @@ use Rattle.arraydeque_ring.proofs.slots.Slots.without_memory.Code as code
 
 pub without_memory_spec : {M : Type 1} → stated.statement M
 without_memory_spec 𝓤 𝓛 𝓜 𝓡 wired X L =
-    let E : El = record { row = X; laws = L } in let here : Fn = inst_fn (args E) code.function in
+    let E : El = record { row = X; laws = L } in let here = inst_fn (args E) code.function in
     walked 0 𝓛 (handle (words 1)) 𝓜 𝓡 _ _ (f.clauses X 𝓛 𝓜.mem 𝓡.returns) (f.Key.name (args E)) here
     (code.unfolded 𝓤 𝓛.H 𝓜 𝓡 wired (X, tt)) (λ κs qs bounds a _ fit post ends.
-    let g : Global = a.0 in let n : ℕ = a.1.0 in let n_fits = fit.1.0.1.fits in
-    let r : Seen E = empty_region n in
+    let g = a.0 in let n = a.1.0 in let n_fits = fit.1.0.1.fits in
+    let r = empty_region n in
     first_fact ! (λ _. heard ! _ (λ no_bytes.
     alloc_all ! (λ l. pass_all ! refl (heap_Good, fit.1) $
-    let b : ℕ = l 3 in
+    let b = l 3 in
     sets ! (agg ! (no_more !)) refl (tt, tt) $
     sets ! (addr ! (from ! (stop !))) refl (tt, tt) $
     sets ! (agg ! (and_then ! (get ! refl) (and_then ! (get ! refl) (and_then ! (get ! refl) (no_more !))))) refl

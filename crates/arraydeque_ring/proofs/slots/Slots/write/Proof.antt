@@ -1,9 +1,9 @@
 -- `write` fills an empty place. Assumes `Logic`.
 use Rattle.arraydeque_ring.proofs.memory.{
-  Kit.{part_in, full_share, refl, sym, [], ◌∷◌, ℕ, ◌+◌, ◌*◌, ◌<◌, arith, length, set, length-set, Some, Fn, inst_fn},
-  Kit.{Val, vunit, ‵, ◌$◌, !, move, use2, join, feq_i, suffices, done, whole, sub, look_in, of_opd, unit_lit, bin},
-  Kit.{load, init, stop, fld, assigns_last, first, blocks, returns, alloc_all, pass_all, free_all, look_at, get},
-  Kit.{through, sets, heard, as_written, says, El, R, args, el_x, elτ, frame},
+  Kit.{part_in, full_share, refl, sym, [], ◌∷◌, ◌+◌, ◌*◌, arith, set, length-set, Some, inst_fn, vunit, ‵, ◌$◌, ! },
+  Kit.{move, use2, join, feq_i, suffices, done, whole, sub, look_in, of_opd, unit_lit, bin, load, init, stop, fld},
+  Kit.{assigns_last, first, blocks, returns, alloc_all, pass_all, free_all, look_at, get, through, sets, heard},
+  Kit.{as_written, says, El, R, args, elτ, frame},
   Called.{after_block, first_fact},
   Methods.{walked, mutable, comes_back, word, item, words},
   Regions.{scaled, Sr, Seen, near, slots_open, slots_close, item_size, place_out, place_in, place_owned},
@@ -14,12 +14,12 @@ use Rattle.arraydeque_ring.proofs.slots.Slots.write.Code as code
 
 pub write_spec : {M : Type 1} → stated.statement M
 write_spec 𝓤 𝓛 𝓜 𝓡 wired X L =
-    let E : El = record { row = X; laws = L } in let here : Fn = inst_fn (args E) code.function in
+    let E : El = record { row = X; laws = L } in let here = inst_fn (args E) code.function in
     walked 1 𝓛 (mutable (comes_back 1 𝓛 (Sr E)) (word (item E (words 0)))) 𝓜 𝓡 _ _ (f.clauses X 𝓛 𝓜.mem 𝓡.returns)
     (f.Key.name (args E)) here (code.unfolded 𝓤 𝓛.H 𝓜 𝓡 wired (X, tt)) (λ κs qs bounds a _ fit post ends.
-    let r : Seen E = a.0.now in let i : ℕ = a.1.0 in
-    let x : el_x E = a.1.1.0 in let v : Val = fit.1.0.0 in let v_fits = fit.1.0.1 in let s : ℕ = item_size E in
-    first_fact ! (λ _. heard ! _ (λ asked. let within : i < length r.places = asked.0 in
+    let r = a.0.now in let i = a.1.0 in
+    let x = a.1.1.0 in let v = fit.1.0.0 in let v_fits = fit.1.0.1 in let s = item_size E in
+    first_fact ! (λ _. heard ! _ (λ asked. let within = asked.0 in
     alloc_all ! (λ l. pass_all ! refl ((tt, tt), (fit.0, (v_fits, tt))) $ move ! (0 ∷ 1 ∷ 3 ∷ []) $
     slots_open E ! tt r (λ g b o n ok.
     let far = near E ok i (omega arith) in

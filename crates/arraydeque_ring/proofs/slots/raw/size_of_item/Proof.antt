@@ -1,8 +1,8 @@
 -- `size_of_item` answers the size of any type, capped to a word. Assumes `Logic`.
 use Rattle.arraydeque_ring.proofs.memory.{
-  Kit.{refl, [], ◌∷◌, ℕ, ◌^◌, Fn, inst_fn, w64, vint, size, capped, capped_fits, ◌$◌, !, join, fjoin, feq_i, flt_i},
-  Kit.{suffices, done, of_opd, size_word, returns, alloc_all, pass_all, free_all, look_at, sets, says, layout, Args},
-  Kit.{a_type, layouts, frame, drop},
+  Kit.{refl, [], ◌∷◌, ◌^◌, inst_fn, w64, vint, size, capped, capped_fits, ◌$◌, !, join, fjoin, feq_i, flt_i, suffices},
+  Kit.{done, of_opd, size_word, returns, alloc_all, pass_all, free_all, look_at, sets, says, layout, a_type, layouts},
+  Kit.{frame, drop},
   Methods.{walked, words},
 }
 use Rattle.arraydeque_ring.specs.contracts.slots.raw.size_of_item as f
@@ -11,8 +11,8 @@ use Rattle.arraydeque_ring.proofs.slots.raw.size_of_item.Code as code
 
 pub size_of_item_spec : {M : Type 1} → stated.statement M
 size_of_item_spec 𝓤 𝓛 𝓜 𝓡 wired X L =
-    let types : Args = layouts (a_type ∷ []) (X, tt) in let here : Fn = inst_fn types code.function in
-    let s : ℕ = capped (size (layout X)) in
+    let types = layouts (a_type ∷ []) (X, tt) in let here = inst_fn types code.function in
+    let s = capped (size (layout X)) in
     walked 0 𝓛 (words 0) 𝓜 𝓡 _ _ (f.clauses X 𝓛 𝓜.mem 𝓡.returns) (f.Key.name types) here
     (code.unfolded 𝓤 𝓛.H 𝓜 𝓡 wired (X, tt)) (λ κs qs bounds a g _ post ends.
     drop ! $ alloc_all ! (λ l. pass_all ! refl tt $
