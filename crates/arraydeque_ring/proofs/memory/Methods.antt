@@ -129,9 +129,9 @@ module _ {M : Type 1} {𝓤 : Ura M} {𝓛 : Logic 𝓤} where
     }
 
     -- one whose value tells how the machine stores it
-    abbrev pub told : (s : Slot m) → Silent 𝓛 m s yes → Bool → (v : (κs : Lfts m) → (s.row κs).Denot → List Val)
+    abbrev pub told : (s : Slot m) → Silent 𝓛 m s yes → Bool → {v : (κs : Lfts m) → (s.row κs).Denot → List Val}
         → ((κs : Lfts m) → Tells (s.row κs) (Is (s.row κs)) (v κs)) → Params 𝓛 m → Params 𝓛 m
-    told s silent b v tells = gone s yes silent b (λ κs x. Is (s.row κs) x (v κs x)) (λ κs x _. v κs x)
+    told s silent b {v} tells = gone s yes silent b (λ κs x. Is (s.row κs) x (v κs x)) (λ κs x _. v κs x)
         (λ κs x vs is. let same = tells κs x vs is in (subst (Is (s.row κs) x) same is, same))
 
     -- an item by value
@@ -145,7 +145,7 @@ module _ {M : Type 1} {𝓤 : Ura M} {𝓛 : Logic 𝓤} where
 
     -- the allocator by value
     abbrev pub handle : Params 𝓛 m → Params 𝓛 m
-    handle = told (plain (λ _. heap.the_row)) (λ _ _ _. refl) false (λ _ _. heap_val ∷ []) (λ _. heap_Tells)
+    handle = told (plain (λ _. heap.the_row)) (λ _ _ _. refl) false (λ _. heap_Tells)
 
     -- a `&mut`
     abbrev pub mutable : {j : ℕ} {ok : AllWithin m (j ∷ [])} {S : RattleType} → Fate 𝓛 m j ok S → Params 𝓛 m → Params 𝓛 m
@@ -198,8 +198,7 @@ module _ {M : Type 1} {𝓤 : Ura M} {𝓛 : Logic 𝓤} where
 
   -- a `&` at the first lifetime
   abbrev pub seen : {m : ℕ} → RattleType → Params 𝓛 (suc m) → Params 𝓛 (suc m)
-  seen S = told (shr_ref_to (0 ∷ []) tt (plain (λ _. S))) (λ _ _ _. refl) true (λ _. shr_vals)
-      (λ κs. shr_Tells (named 0) κs.0 S)
+  seen S = told (shr_ref_to (0 ∷ []) tt (plain (λ _. S))) (λ _ _ _. refl) true (λ κs. shr_Tells (named 0) κs.0 S)
 
 module _ (m : ℕ) {M : Type 1} {𝓤 : Ura M} (𝓛 : Logic 𝓤) where
   abbrev pub spent : (S : RattleType) → Fate 𝓛 (suc m) 0 tt S

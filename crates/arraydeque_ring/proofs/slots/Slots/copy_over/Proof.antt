@@ -28,7 +28,7 @@ copy_over_spec 𝓤 𝓛 𝓜 𝓡 wired X L =
     let 𝓣 = tables 𝓤 𝓛.H 𝓜 𝓡 𝓡.env in
     let Copies = triple_of 𝓛 (copy.signature X) (copy.spec X 𝓛 𝓜.mem 𝓡.returns) in
     walked 2 𝓛 (mutable (comes_back 2 𝓛 (Sr E)) (word (mutable (back 𝓛 3 1 tt (Sr E)) (words 2)))) 𝓜 𝓡 _ _
-    (f.clauses X 𝓛 𝓜.mem 𝓡.returns) (f.Key.name (args E)) here (code.unfolded 𝓤 𝓛.H 𝓜 𝓡 wired (X, tt))
+    (f.clauses X 𝓛 𝓜.mem 𝓡.returns) _ _ (code.unfolded 𝓤 𝓛.H 𝓜 𝓡 wired (X, tt))
     (λ κs qs bounds a _ fit post ends.
     let κ₂ = κs.1.1.0 in let q₂ = qs.1.1.0 in
     let r = a.0.now in

@@ -19,15 +19,14 @@ use Rattle.arraydeque_ring.proofs.slots.Slots.count.Code as code
 
 pub count_spec : {M : Type 1} → stated.statement M
 count_spec 𝓤 𝓛 𝓜 𝓡 wired X L =
-    let E : El = record { row = X; laws = L } in let here = inst_fn (args E) code.function in
-    let kind_vals = low_vals kind.enum the_laws in
-    walked 1 𝓛 (mutable (comes_back 1 𝓛 (Sr E)) (told (plain (λ _. kind.the_row)) (λ _ _ _. refl) false (λ _. kind_vals)
+    let E : El = record { row = X; laws = L } in
+    walked 1 𝓛 (mutable (comes_back 1 𝓛 (Sr E)) (told (plain (λ _. kind.the_row)) (λ _ _ _. refl) false
     (λ _. Tells-lowered kind.enum the_laws) (words 1))) 𝓜 𝓡 _ _ (f.clauses X 𝓛 𝓜.mem 𝓡.returns)
-    (f.Key.name (args E)) here (code.unfolded 𝓤 𝓛.H 𝓜 𝓡 wired (X, tt)) (λ κs qs bounds a _ fit post ends.
+    _ _ (code.unfolded 𝓤 𝓛.H 𝓜 𝓡 wired (X, tt)) (λ κs qs bounds a _ fit post ends.
     let r = a.0.now in let k = a.1.0 in
     let new : Seen E = record r { steps = counted k a.1.1.0 r.steps } in
     drop ! $ alloc_all ! (λ l. pass_all ! refl
-    ((tt, tt), (((the_row_laws.lawful 𝓛).typed k (kind_vals k) fit.0).0, fit.1)) $
+    ((tt, tt), (((the_row_laws.lawful 𝓛).typed k _ fit.0).0, fit.1)) $
     -- [obs; the borrow; its token; the other token]
     slots_open E ! tt r (λ g b o m ok.
     sets ! (of_opd ! (unit_lit !)) refl (tt, tt) $

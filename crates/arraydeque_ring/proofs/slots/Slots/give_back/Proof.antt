@@ -24,7 +24,7 @@ pub give_back_spec : {M : Type 1} → stated.statement M
 give_back_spec 𝓤 𝓛 𝓜 𝓡 wired X L =
     let E : El = record { row = X; laws = L } in let here = inst_fn (args E) code.function in
     let 𝓣 = tables 𝓤 𝓛.H 𝓜 𝓡 𝓡.env in
-    walked 1 𝓛 (whole_slots E (seen heap.the_row (words 0))) 𝓜 𝓡 _ _ (f.clauses X 𝓛 𝓜.mem 𝓡.returns) (f.Key.name (args E)) here
+    walked 1 𝓛 (whole_slots E (seen heap.the_row (words 0))) 𝓜 𝓡 _ _ (f.clauses X 𝓛 𝓜.mem 𝓡.returns) _ _
     (code.unfolded 𝓤 𝓛.H 𝓜 𝓡 wired (X, tt)) (λ κs qs bounds a _ fit post ends.
     let κ = κs.0 in let q = qs.0 in
     let r = a.0 in let hp = a.1.0.ref_ptr in let h = a.1.0.now in

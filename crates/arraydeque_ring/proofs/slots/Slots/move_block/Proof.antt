@@ -26,7 +26,7 @@ move_block_spec 𝓤 𝓛 𝓜 𝓡 wired X N L N_fits =
     let E : El = record { row = X; laws = L } in
     let types = layouts (a_type ∷ a_number ∷ []) (X, (number N, tt)) in
     let here = inst_fn types code.function in
-    method 2 3 (Sr E) 𝓛 (comes_back 2 𝓛 _) 𝓜 𝓡 _ _ (f.clauses X (number N) 𝓛 𝓜.mem 𝓡.returns) (f.Key.name types) here
+    method 2 3 (Sr E) 𝓛 (comes_back 2 𝓛 _) 𝓜 𝓡 _ _ (f.clauses X (number N) 𝓛 𝓜.mem 𝓡.returns) _ _
     (code.unfolded 𝓤 𝓛.H 𝓜 𝓡 wired (X, (number N, tt))) (λ κs qs bounds a _ fit post ends.
     let r = a.0.now in
     let ps = r.places in

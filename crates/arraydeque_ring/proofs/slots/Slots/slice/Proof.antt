@@ -21,7 +21,7 @@ use Rattle.arraydeque_ring.proofs.slots.Slots.slice.Code as code
 pub slice_spec : {M : Type 1} → stated.statement M
 slice_spec 𝓤 𝓛 𝓜 𝓡 wired X L =
     let E : El = record { row = X; laws = L } in let here = inst_fn (args E) code.function in
-    walked 1 𝓛 (seen (Sr E) (words 2)) 𝓜 𝓡 _ _ (f.clauses X 𝓛 𝓜.mem 𝓡.returns) (f.Key.name (args E)) here
+    walked 1 𝓛 (seen (Sr E) (words 2)) 𝓜 𝓡 _ _ (f.clauses X 𝓛 𝓜.mem 𝓡.returns) _ _
     (code.unfolded 𝓤 𝓛.H 𝓜 𝓡 wired (X, tt)) (λ κs qs bounds a _ fit post ends.
     let κ = κs.0 in
     let rb = a.0.ref_ptr.0 in let ro = a.0.ref_ptr.1 in let r = a.0.now in let i = a.1.0 in

@@ -28,7 +28,7 @@ with_memory_spec 𝓤 𝓛 𝓜 𝓡 wired X L =
     let E : El = record { row = X; laws = L } in let Out = results.the_row (Sr E) refusals.the_row in
     let here = inst_fn (args E) code.function in
     let 𝓣 = tables 𝓤 𝓛.H 𝓜 𝓡 𝓡.env in
-    walked 1 𝓛 (seen heap.the_row (handle (words 1))) 𝓜 𝓡 _ _ (f.clauses X 𝓛 𝓜.mem 𝓡.returns) (f.Key.name (args E)) here
+    walked 1 𝓛 (seen heap.the_row (handle (words 1))) 𝓜 𝓡 _ _ (f.clauses X 𝓛 𝓜.mem 𝓡.returns) _ _
     (code.unfolded 𝓤 𝓛.H 𝓜 𝓡 wired (X, tt)) (λ κs qs bounds a _ fit post ends.
     let κ = κs.0 in let q = qs.0 in
     let rb = a.0.ref_ptr.0 in let ro = a.0.ref_ptr.1 in let h = a.0.now in let g = a.1.0 in

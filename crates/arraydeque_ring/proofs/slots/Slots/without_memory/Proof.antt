@@ -13,8 +13,8 @@ use Rattle.arraydeque_ring.proofs.slots.Slots.without_memory.Code as code
 
 pub without_memory_spec : {M : Type 1} → stated.statement M
 without_memory_spec 𝓤 𝓛 𝓜 𝓡 wired X L =
-    let E : El = record { row = X; laws = L } in let here = inst_fn (args E) code.function in
-    walked 0 𝓛 (handle (words 1)) 𝓜 𝓡 _ _ (f.clauses X 𝓛 𝓜.mem 𝓡.returns) (f.Key.name (args E)) here
+    let E : El = record { row = X; laws = L } in
+    walked 0 𝓛 (handle (words 1)) 𝓜 𝓡 _ _ (f.clauses X 𝓛 𝓜.mem 𝓡.returns) _ _
     (code.unfolded 𝓤 𝓛.H 𝓜 𝓡 wired (X, tt)) (λ κs qs bounds a _ fit post ends.
     let g = a.0 in let n = a.1.0 in let n_fits = fit.1.0.1.fits in
     let r = empty_region n in

@@ -16,7 +16,7 @@ pub write_spec : {M : Type 1} → stated.statement M
 write_spec 𝓤 𝓛 𝓜 𝓡 wired X L =
     let E : El = record { row = X; laws = L } in let here = inst_fn (args E) code.function in
     walked 1 𝓛 (mutable (comes_back 1 𝓛 (Sr E)) (word (item E (words 0)))) 𝓜 𝓡 _ _ (f.clauses X 𝓛 𝓜.mem 𝓡.returns)
-    (f.Key.name (args E)) here (code.unfolded 𝓤 𝓛.H 𝓜 𝓡 wired (X, tt)) (λ κs qs bounds a _ fit post ends.
+    _ _ (code.unfolded 𝓤 𝓛.H 𝓜 𝓡 wired (X, tt)) (λ κs qs bounds a _ fit post ends.
     let r = a.0.now in let i = a.1.0 in
     let x = a.1.1.0 in let v = fit.1.0.0 in let v_fits = fit.1.0.1 in let s = item_size E in
     first_fact ! (λ _. heard ! _ (λ asked. let within = asked.0 in

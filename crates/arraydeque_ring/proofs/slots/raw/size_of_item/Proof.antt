@@ -11,9 +11,9 @@ use Rattle.arraydeque_ring.proofs.slots.raw.size_of_item.Code as code
 
 pub size_of_item_spec : {M : Type 1} → stated.statement M
 size_of_item_spec 𝓤 𝓛 𝓜 𝓡 wired X L =
-    let types = layouts (a_type ∷ []) (X, tt) in let here = inst_fn types code.function in
+    let types = layouts (a_type ∷ []) (X, tt) in
     let s = capped (size (layout X)) in
-    walked 0 𝓛 (words 0) 𝓜 𝓡 _ _ (f.clauses X 𝓛 𝓜.mem 𝓡.returns) (f.Key.name types) here
+    walked 0 𝓛 (words 0) 𝓜 𝓡 _ _ (f.clauses X 𝓛 𝓜.mem 𝓡.returns) _ _
     (code.unfolded 𝓤 𝓛.H 𝓜 𝓡 wired (X, tt)) (λ κs qs bounds a g _ post ends.
     drop ! $ alloc_all ! (λ l. pass_all ! refl tt $
     sets ! (of_opd ! (size_word !)) refl (tt, record { fits = capped_fits (size (layout X)) }) $
