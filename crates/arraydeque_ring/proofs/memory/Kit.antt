@@ -56,23 +56,22 @@ pub use types.{
 pub use denote.Exit.{yes, no}
 pub use denote.RattleType.{RattleType, Valss, owns}
 pub use denote.Laws.{Is, shows}
-pub use denote.Param.{param, layout, layouts, number}
+pub use denote.Param.{layout, layouts, number}
 pub use denote.Param.Laws.{param_laws}
 unfoldable pub use denote.Memory.{part_of}
 pub use denote.Memory.{part_at, cell_at, hidden_shr, mem, lone}
-pub use denote.Plain.{uint_vals, uint_Tells}
+pub use denote.Plain.{uint_vals}
 pub use denote.RawPtr.{Ptr, RawPtr, block_ptr, null_ptr, ptr_val, in_a_block}
 pub use denote.Ref.{shr_vals, shr_Tells, MutBor, NamedLft, mut_Tells, mut_vals}
-pub use denote.Builtin.{usize, RefOf}
+pub use denote.Builtin.{usize}
 pub use denote.Signature.{plain, types_at, named_lft}
 pub use denote.Steps.{heard, nothing, owned, opens, closes, peeks, looks, shuts, only}
 pub use denote.Triple.Call.{calls_at, calls_at_last}
-pub use denote.Triple.Entry.{Vals, on_entry}
 pub use denote.Triple.Spec.{triple_of}
 pub use denote.Triple.Statement.{Contract}
 pub use denote.Triple.Table.{framed}
 pub use denote.Triple.{
-  Walked.{Stays, walk_of, says, stay_dropped, stay_ref, Goes-dropped, Goes-ref, ends_at, Goes-spent_ref},
+  Walked.{Stays, walk_of, says, stay_dropped, stay_ref, Goes-dropped, Goes-ref, Goes-spent_ref},
 }
 pub use Rattle.std.proofs.Handle.{heap_val, heap_Tells}
 pub use Rattle.std.proofs.RawLayout.{as_written, as_raw}
@@ -81,7 +80,7 @@ pub use Rattle.std.proofs.VecSteps.Shapes.{after, head, arm_body}
 pub use Rattle.std.proofs.mem.Facts.{says_two}
 pub use Rattle.std.proofs.mem.Param.{El, R, args, el_x, elτ, lawful, one}
 pub use Rattle.std.proofs.ptr.Rows.{times_below}
-pub use Rattle.std.proofs.raw_atomic.Walks.{proved, proved_at}
+pub use Rattle.std.proofs.raw_atomic.Walks.{proved_at}
 pub use Rattle.std.specs.declared.alloc.Global.{Global}
 pub use types.Follow.{after₂}
 pub use denote.Array.{Array}

@@ -2,19 +2,18 @@
 -- and room for it in another region, and puts both back. Assumes `Logic`.
 use Rattle.arraydeque_ring.{
   proofs.memory.{
-    Kit.{Vals, ◌≡◌, refl, List, [], ◌∷◌, ◌++◌, ℕ, ◌+◌, ◌*◌, ◌<◌, ◌^◌, arith, length, take, drop_list, id⊢, full_share},
-    Kit.{ftrue, froom, flft, Fn, inst_fn, named, w64, ty_array, vunit, vint, tables, owns, types_at, ‵, raw, ◌⊛◌, ◌$◌},
-    Kit.{◌∵◌, !, qed, move, keep, use1, drop, split, join, fsplit, fsplit3, fjoin, fjoin3, feq_i, suffices, done},
-    Kit.{whole, sub, look_in, enter, of_opd, unit_lit, bin, load, stop, fld, no_more, and_then, first, blocks, returns},
-    Kit.{alloc_all, pass_all, free_all, look_at, get, through, sets, lands_last, yes, plain, usize, uint_vals},
-    Kit.{uint_Tells, RawPtr, block_ptr, Stays, walk_of, stay_dropped, stay_ref, Goes-dropped, Goes-ref, ends_at},
-    Kit.{nothing, heard, says_two, calls_at_last, framed, triple_of, part_at, El, R, args, el_x, elτ, proved},
-    Kit.{common_steps, split3, Array, mut_vals, mut_Tells, pure_i},
-    Regions.{Sr, Seen, near, run_fits, slots_open, slots_close, scaled, item_size, Place, array_out, array_in},
-    Regions.{room_out, room_in},
+    Kit.{◌≡◌, refl, [], ◌∷◌, ◌++◌, ◌+◌, ◌*◌, arith, length, take, drop_list, id⊢, full_share, ftrue, froom, flft},
+    Kit.{inst_fn, w64, ty_array, vunit, vint, tables, owns, ‵, raw, ◌⊛◌, ◌$◌, !, move, use1, drop, split, join, fjoin},
+    Kit.{feq_i, suffices, done, whole, sub, look_in, of_opd, unit_lit, bin, load, stop, fld, no_more, and_then, first},
+    Kit.{blocks, returns, alloc_all, pass_all, free_all, look_at, get, through, sets, lands_last, usize, RawPtr},
+    Kit.{block_ptr, heard, says_two, calls_at_last, framed, triple_of, part_at, El, R, args, elτ, common_steps, Array},
+    Kit.{pure_i, frame},
+    Regions.{Sr, Seen, near, run_fits, slots_open, slots_close, scaled, item_size, array_out, array_in, room_out},
+    Regions.{room_in},
+    Methods.{walked, mutable, comes_back, back, word, words},
     Called.{after_block, first_fact, knows, returned},
   },
-  specs.Gaps.{run_emptied},
+  specs.Gaps.run_emptied,
 }
 use denote.{Plain.Nothing-Lawful, RawPtr.rawptr_vals}
 use Rattle.std.specs.contracts.ptr.copy_nonoverlapping as copy
@@ -25,59 +24,32 @@ use Rattle.arraydeque_ring.proofs.slots.Slots.copy_over.Code as code
 
 pub copy_over_spec : {M : Type 1} → stated.statement M
 copy_over_spec 𝓤 𝓛 𝓜 𝓡 wired X L =
-    let E : El = record { row = X; laws = L } in let here : Fn = inst_fn (args E) code.function in
-    let ended = f.ended X in let stayed : Stays ended.signature.params ended.kept = (
-      stay_ref (0 ∷ []) tt (plain (λ _. Sr E)),
-      (stay_dropped _ yes, (stay_ref (1 ∷ []) tt (plain (λ _. Sr E)), (stay_dropped _ yes, (stay_dropped _ yes, tt)))),
-    ) in
-    let c = f.clauses X 𝓛 𝓜.mem 𝓡.returns in let W = walk_of 𝓛 ended stayed c in let 𝓣 = tables 𝓤 𝓛.H 𝓜 𝓡 𝓡.env in
+    let E : El = record { row = X; laws = L } in let here = inst_fn (args E) code.function in
+    let 𝓣 = tables 𝓤 𝓛.H 𝓜 𝓡 𝓡.env in
     let Copies = triple_of 𝓛 (copy.signature X) (copy.spec X 𝓛 𝓜.mem 𝓡.returns) in
-    let word = Goes-dropped 𝓛 3 (plain (λ _. usize)) yes (λ κs x w. refl) in
-    proved 𝓛 ended stayed c 𝓜 𝓡
-    (Goes-ref 𝓛 3 0 tt (plain (λ _. Sr E)), (word, (Goes-ref 𝓛 3 1 tt (plain (λ _. Sr E)), (word, (word, tt)))))
-    (f.Key.name (args E)) here (code.unfolded 𝓤 𝓛.H 𝓜 𝓡 wired (X, tt))
-    (λ κs. (mut_vals, (uint_vals w64, (mut_vals, (uint_vals w64, (uint_vals w64, tt))))))
-    (λ κs. (
-      mut_Tells (named 0) κs.0 (Sr E),
-      (uint_Tells w64, (mut_Tells (named 1) κs.1.0 (Sr E), (uint_Tells w64, (uint_Tells w64, tt)))),
-    )) (λ κs qs bounds a _ are.
+    walked 2 𝓛 (mutable (comes_back 2 𝓛 (Sr E)) (word (mutable (back 𝓛 3 1 tt (Sr E)) (words 2)))) 𝓜 𝓡 _ _
+    (f.clauses X 𝓛 𝓜.mem 𝓡.returns) _ _ (code.unfolded 𝓤 𝓛.H 𝓜 𝓡 wired (X, tt))
+    (λ κs qs bounds a _ fit post ends.
     let κ₂ = κs.1.1.0 in let q₂ = qs.1.1.0 in
-    let r : Seen E = a.0.now in
-    let ps : List (Place E) = r.places in
-    let r' : Seen E = a.1.1.0.now in
-    let ts : List (Place E) = r'.places in
-    let from : ℕ = a.1.0 in let to : ℕ = a.1.1.1.0 in let n : ℕ = a.1.1.1.1.0 in
-    let n_fits : n < 2 ^ 64 = are.1.1.1.1.0.1 in let s : ℕ = item_size E in
-    let vss : Vals ended.signature κs =
-    (mut_vals a.0, (uint_vals w64 from, (mut_vals a.1.1.0, (uint_vals w64 to, (uint_vals w64 n, tt))))) in
-    let y : W.Ghost = ((κs, qs, bounds, a, vss), tt) in
-    qed 𝓛 (((‵ (flft κs.0 qs.0) ⊛ ‵ (flft κs.1.0 qs.1.0) ⊛ ‵ (flft κ₂ q₂) ⊛ ‵ ftrue)
-    ⊛ ‵ (owns (types_at ended.signature.params κs) a vss))
-    ∷ raw ((c κs a).requires tt) ∷ []) ∵
-    move ! (1 ∷ []) $ first_fact ! (λ lives. first_fact ! (λ filled. heard ! _ (λ empty.
-    let within = filled.0 in let target = empty.0 in let xs : List (el_x E) = filled.1.0 in
-    let es : List (Place E) = run_emptied from n ps in
-    let us : List (Place E) = take to ts ++ (take n (drop_list from ps) ++ drop_list (to + n) ts) in
+    let r = a.0.now in
+    let ps = r.places in
+    let r' = a.1.1.0.now in
+    let ts = r'.places in
+    let from = a.1.0 in let to = a.1.1.1.0 in let n = a.1.1.1.1.0 in
+    let n_fits = fit.1.1.0.1 in let s = item_size E in
+    first_fact ! (λ lives. first_fact ! (λ filled. heard ! _ (λ empty.
+    let within = filled.0 in let target = empty.0 in let xs = filled.1.0 in
+    let es = run_emptied from n ps in
+    let us = take to ts ++ (take n (drop_list from ps) ++ drop_list (to + n) ts) in
     let es_long : length ps ≡ length es = grind (arith, common_steps) in
     let us_long : length ts ≡ length us = grind (arith, common_steps) in
     let new : Seen E = record { places = es; steps = r.steps } in
     let new' : Seen E = record { places = us; steps = r'.steps } in
-    split ! $ split3 ! $ move ! (3 ∷ []) $ fsplit3 ! $ move ! (2 ∷ []) $ fsplit ! $ fsplit3 ! $ move ! (4 ∷ []) $
-    fsplit3 ! $ keep ! (1 ∷ 2 ∷ 8 ∷ 4 ∷ 5 ∷ 9 ∷ 10 ∷ []) $
-    enter ! _ _ _ _ _ $
-    alloc_all ! (λ l. pass_all ! refl (
-      (tt, tt),
-      (
-        (tt, record { fits = are.1.0.1 }),
-        (
-          (tt, tt),
-          ((tt, record { fits = are.1.1.1.0.1 }), ((tt, record { fits = n_fits }), tt)),
-        ),
-      ),
-    ) $
+    move ! (5 ∷ []) $ use1 𝓛 (‵ (flft κs.1.0 qs.1.0) ⊛ ‵ (flft κ₂ q₂) ⊛ ‵ ftrue) (id⊢ 𝓤 _) $ split ! $
+    alloc_all ! (λ l. pass_all ! refl ((tt, tt), (fit.0, ((tt, tt), fit.1))) $ move ! (2 ∷ 3 ∷ 6 ∷ 4 ∷ 5 ∷ 0 ∷ []) $
     slots_open E ! tt r (λ g b o m ok. move ! (6 ∷ 7 ∷ 8 ∷ []) $ slots_open E ! tt r' (λ g' b' o' m' ok'.
     let from_near = near E ok from (omega arith) in let to_near = near E ok' to (omega arith) in
-    let src : ℕ = from * s + o in let dst : ℕ = to * s + o' in
+    let src = from * s + o in let dst = to * s + o' in
     first ! $ blocks ! $
     sets ! (of_opd ! (load ! (through ! refl (fld ! refl (stop !))) (look_in ! 8 (sub ! 0 refl (whole !)))))
     refl (tt, tt) $
@@ -103,7 +75,7 @@ copy_over_spec 𝓤 𝓛 𝓜 𝓡 wired X L =
     ) in
     knows ! (run_fits E ok n (omega arith)).1 $ join ! $ knows ! lives $ join ! $
     pure_i ! (owns (RawPtr ∷ RawPtr ∷ usize ∷ []) z.0.3 z.0.4) (tt, (tt, ((tt, tt), tt)))
-    (refl, (refl, ((refl, n_fits), tt))) $ move ! (14 ∷ 0 ∷ []) $ join ! $ join ! $
+    (refl, (refl, ((refl, n_fits.fits), tt))) $ move ! (14 ∷ 0 ∷ []) $ join ! $ join ! $
     use1 𝓛 (raw (Copies.pre z)) (id⊢ 𝓤 _) $
     calls_at_last ! (framed 𝓤 𝓛.H 𝓜 𝓣) Copies
     (copy_thm.met 𝓤 𝓛 𝓜 𝓡 (code.calls-std::ptr::copy_nonoverlapping 𝓡.env wired) X L) z
@@ -112,7 +84,7 @@ copy_over_spec 𝓤 𝓛 𝓜 𝓡 wired X L =
     lands_last ! refl v_typed.0 $ move ! (1 ∷ []) $
     use1 𝓛 (‵ (part_at (Array (R E) n) full_share xs b' dst) ⊛ ‵ (froom (ty_array (elτ E) n) b src)) (id⊢ 𝓤 _) $
     split ! $
-    after_block ! 𝓡 here l 1 (W.post y) $
+    after_block ! 𝓡 here l 1 post $
     sets ! (of_opd ! (unit_lit !)) refl (tt, tt) $
     -- [the values; the room; the token; the others here; the others there; ..]
     move ! (0 ∷ 4 ∷ []) $ array_in E ! b' o' ts to n target xs filled.1.1 $
@@ -120,11 +92,5 @@ copy_over_spec 𝓤 𝓛 𝓜 𝓡 wired X L =
     move ! (3 ∷ 5 ∷ []) $ room_in E ! b o ps from n within $
     move ! (0 ∷ 5 ∷ 6 ∷ 7 ∷ 8 ∷ 9 ∷ []) $ slots_close E ! tt new ok es_long $
     returns ! (look_at ! 0 refl) $ free_all ! refl $
-    suffices ! _ (ends_at 𝓛 ended stayed c y vunit tt (new, (tt, (new', _))) _) $ says_two ! (refl, refl) $
-    feq_i ! _ (mut_vals a.0) _ refl $ fjoin3 ! $ move ! (2 ∷ 3 ∷ []) $
-    feq_i ! _ (mut_vals a.1.1.0) _ refl $ fjoin3 ! $
-    nothing ! $ nothing ! $ nothing ! $ fjoin3 ! $ move ! (1 ∷ 0 ∷ []) $ fjoin ! $ nothing ! $
-    move ! (2 ∷ 0 ∷ 1 ∷ []) $ fjoin3 ! $
-    move ! (2 ∷ 3 ∷ []) $ join ! $ move ! (2 ∷ 0 ∷ []) $ join ! $ feq_i ! _ (vunit ∷ []) _ refl $
-    move ! (2 ∷ 0 ∷ []) $ join ! $ move ! (1 ∷ 0 ∷ []) $ join ! $
-    keep ! (0 ∷ []) $ done !)))))))))
+    suffices ! _ (ends vunit tt (new, (new', tt))) $ frame ! $ frame ! $ move ! (1 ∷ 2 ∷ []) $ frame ! $ frame ! $
+    feq_i ! _ (vunit ∷ []) _ refl $ frame ! $ says_two ! (refl, refl) $ done !)))))))))

@@ -2,14 +2,12 @@
 use Rattle.arraydeque_ring.{
   proofs.{
     memory.{
-      Kit.{frame, ◌≡◌, refl, sym, ap, List, [], ◌∷◌, ℕ, ◌+◌, ◌*◌, arith, length, full_share, fat, froom, Fn, inst_fn},
-      Kit.{ty_array, vunit, vptr, ‵, ◌⊛◌, some, ◌$◌, !, move, keep, use1, use2, split, join, pick, rewrite, fjoin3},
-      Kit.{feq_i, suffices, done, whole, sub, look_in, of_opd, unit_lit, bin, load, look, init, stop, fld},
-      Kit.{assigns_last, first, blocks, returns, alloc_all, pass_all, free_all, look_at, get, through, sets, is, heard},
-      Kit.{says, part_at, El, R, el_x, elτ, common_steps, Args, a_type, a_number, part_in, mut_vals, part_out, Array},
-      Kit.{layouts, number},
-      Regions.{Sr, Seen, near, slots_open, slots_close, scaled, item_size, Place, Row, array_out, array_in, room_out},
-      Regions.{room_in},
+      Kit.{frame, ◌≡◌, refl, sym, ap, [], ◌∷◌, ℕ, ◌+◌, ◌*◌, arith, length, full_share, fat, froom, inst_fn, ty_array},
+      Kit.{vunit, vptr, ‵, ◌⊛◌, some, ◌$◌, !, move, use1, use2, split, join, pick, rewrite, feq_i, suffices, done},
+      Kit.{whole, sub, look_in, of_opd, unit_lit, bin, load, look, init, stop, fld, assigns_last, first, blocks},
+      Kit.{returns, alloc_all, pass_all, free_all, look_at, get, through, sets, is, heard, says, part_at, El, R, elτ},
+      Kit.{common_steps, a_type, a_number, part_in, part_out, Array, layouts, number},
+      Regions.{Sr, Seen, near, slots_open, slots_close, scaled, item_size, Row, array_out, array_in, room_out, room_in},
       Called.{after_block, first_fact},
       Methods.{method, comes_back},
     },
@@ -26,20 +24,20 @@ use Rattle.arraydeque_ring.proofs.slots.Slots.move_block.Code as code
 pub move_block_spec : {M : Type 1} → stated.statement M
 move_block_spec 𝓤 𝓛 𝓜 𝓡 wired X N L N_fits =
     let E : El = record { row = X; laws = L } in
-    let types : Args = layouts (a_type ∷ a_number ∷ []) (X, (number N, tt)) in
-    let here : Fn = inst_fn types code.function in
-    method 2 3 (Sr E) 𝓛 (comes_back 2 𝓛 _) 𝓜 𝓡 _ _ (f.clauses X (number N) 𝓛 𝓜.mem 𝓡.returns) (f.Key.name types) here
+    let types = layouts (a_type ∷ a_number ∷ []) (X, (number N, tt)) in
+    let here = inst_fn types code.function in
+    method 2 3 (Sr E) 𝓛 (comes_back 2 𝓛 _) 𝓜 𝓡 _ _ (f.clauses X (number N) 𝓛 𝓜.mem 𝓡.returns) _ _
     (code.unfolded 𝓤 𝓛.H 𝓜 𝓡 wired (X, (number N, tt))) (λ κs qs bounds a _ fit post ends.
-    let r : Seen E = a.0.now in
-    let ps : List (Place E) = r.places in
-    let to : ℕ = a.1.0 in let from : ℕ = a.1.1.0 in let at : ℕ = a.1.1.1.0 in let dst : ℕ = to + at in
-    let src : ℕ = from + at in let s : ℕ = item_size E in
+    let r = a.0.now in
+    let ps = r.places in
+    let to = a.1.0 in let from = a.1.1.0 in let at = a.1.1.1.0 in let dst = to + at in
+    let src = from + at in let s = item_size E in
     first_fact ! (λ _. first_fact ! (λ _. first_fact ! (λ filled. heard ! _ (λ target.
-    let within = filled.0 in let xs : List (el_x E) = filled.1.0 in
-    let es : List (Place E) = run_emptied src N ps in
+    let within = filled.0 in let xs = filled.1.0 in
+    let es = run_emptied src N ps in
     let es_long : length es ≡ length ps = grind (arith, common_steps) in
     let new : Seen E = record { places = run_moved dst src N ps; steps = r.steps } in
-    let same_new : length ps ≡ length new.places = sym (length-moved dst src N ps) in
+    let same_new = sym (length-moved dst src N ps) in
     alloc_all ! (λ l. pass_all ! refl ((tt, tt), fit) $
     slots_open E ! tt r (λ g b o n ok.
     let to_near = near E ok to (omega arith) in let from_near = near E ok from (omega arith) in
@@ -80,6 +78,5 @@ move_block_spec 𝓤 𝓛 𝓜 𝓡 wired X N L N_fits =
     rewrite ! 0 (λ l. ‵ (Row E 𝓛 b o l)) (moved_parts ps dst src N within target) refl $
     slots_close E ! tt new ok same_new $
     returns ! (look_at ! 0 refl) $ free_all ! refl $
-    suffices ! _ (ends vunit tt new) $ feq_i ! _ (mut_vals a.0) _ refl $ fjoin3 ! $
-    frame ! $ feq_i ! _ (vunit ∷ []) _ refl $ frame ! $ join ! $ says ! refl $
-    keep ! (0 ∷ []) $ done !)))))))))
+    suffices ! _ (ends vunit tt (new, tt)) $ frame ! $ frame ! $
+    feq_i ! _ (vunit ∷ []) _ refl $ frame ! $ join ! $ says ! refl $ done !)))))))))

@@ -1,10 +1,10 @@
 -- `read` empties a filled place. Assumes `Logic`.
 use Rattle.arraydeque_ring.proofs.{
   memory.{
-    Kit.{part_out, frame, refl, sym, [], ◌∷◌, ℕ, ◌+◌, ◌*◌, ◌<◌, arith, length, set, length-set, None, full_share, fat},
-    Kit.{froom, Fn, inst_fn, ‵, ◌⊛◌, some, ◌$◌, move, !, keep, use1, split, join, pick, fjoin3, feq_i, suffices, done},
-    Kit.{whole, sub, look_in, of_opd, bin, load, look, stop, fld, first, blocks, returns, alloc_all, pass_all},
-    Kit.{free_all, look_at, get, through, sets, sets_last, heard, as_raw, says_two, mut_vals, El, R, args, el_x, elτ},
+    Kit.{part_out, frame, refl, sym, [], ◌∷◌, ◌+◌, ◌*◌, arith, set, length-set, None, full_share, fat, froom, inst_fn},
+    Kit.{‵, ◌⊛◌, some, ◌$◌, move, !, use1, split, join, pick, suffices, done, whole, sub, look_in, of_opd, bin, load},
+    Kit.{look, stop, fld, first, blocks, returns, alloc_all, pass_all, free_all, look_at, get, through, sets},
+    Kit.{sets_last, heard, as_raw, says_two, El, R, args, elτ},
     Regions.{scaled, Sr, Seen, near, slots_open, slots_close, item_size, place_out, place_in},
     Called.{after_block, first_fact},
     Methods.{method, comes_back},
@@ -18,13 +18,13 @@ use Rattle.arraydeque_ring.proofs.slots.Slots.read.Code as code
 
 pub read_spec : {M : Type 1} → stated.statement M
 read_spec 𝓤 𝓛 𝓜 𝓡 wired X L =
-    let E : El = record { row = X; laws = L } in let here : Fn = inst_fn (args E) code.function in
-    method 1 1 (Sr E) 𝓛 (comes_back 1 𝓛 _) 𝓜 𝓡 _ _ (f.clauses X 𝓛 𝓜.mem 𝓡.returns) (f.Key.name (args E)) here
+    let E : El = record { row = X; laws = L } in let here = inst_fn (args E) code.function in
+    method 1 1 (Sr E) 𝓛 (comes_back 1 𝓛 _) 𝓜 𝓡 _ _ (f.clauses X 𝓛 𝓜.mem 𝓡.returns) _ _
     (code.unfolded 𝓤 𝓛.H 𝓜 𝓡 wired (X, tt)) (λ κs qs bounds a _ fit post ends.
-    let r : Seen E = a.0.now in let i : ℕ = a.1.0 in
-    let s : ℕ = item_size E in
+    let r = a.0.now in let i = a.1.0 in
+    let s = item_size E in
     first_fact ! (λ _. heard ! _ (λ asked.
-    let x : el_x E = asked.0 in let within : i < length r.places = filled_within r.places i x asked.1 in
+    let x = asked.0 in let within = filled_within r.places i x asked.1 in
     alloc_all ! (λ l. pass_all ! refl ((tt, tt), fit) $
     slots_open E ! tt r (λ g b o n ok.
     let far = near E ok i (omega arith) in
@@ -46,5 +46,5 @@ read_spec 𝓤 𝓛 𝓜 𝓡 wired X L =
     place_in E ! b o r.places i within None $
     slots_close E ! tt new ok (sym (length-set r.places i None)) $ returns ! (look_at ! 0 refl) $
     free_all ! refl $
-    suffices ! _ (ends v x new) $ feq_i ! _ (mut_vals a.0) _ refl $ fjoin3 ! $ frame ! $
-    move ! (1 ∷ []) $ frame ! $ join ! $ keep ! (0 ∷ []) $ says_two ! (asked.1, refl) $ done !)))))))
+    suffices ! _ (ends v x (new, tt)) $ frame ! $ frame ! $
+    move ! (1 ∷ []) $ frame ! $ join ! $ says_two ! (asked.1, refl) $ done !)))))))

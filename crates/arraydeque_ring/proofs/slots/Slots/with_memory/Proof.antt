@@ -1,17 +1,16 @@
 -- `with_memory` cuts a new block into empty places, and keeps the right to free it. Assumes `Logic`.
 use Rattle.arraydeque_ring.proofs.memory.{
-  Kit.{true, false, ◌≡◌, refl, [], ◌∷◌, ℕ, ◌*◌, ◌<◌, ◌^◌, arith, lit<, Ok, Err, ftrue, flft, Fn, Body, inst_fn, named},
-  Kit.{w64, ty_array, Val, vstruct, vcons, vnil, Env, after_seq, at_return, tables, After, ‵, raw, ◌⊛◌, given, any_q},
-  Kit.{◌$◌, ◌∵◌, !, qed, move, keep, drop, use1, use2, split, join, learn, frame, fsplit, fjoin, suffices, done, whole},
-  Kit.{agg, live, vrt, in_variant, enter, of_opd, lit, align_word, stop, fld, no_more, and_then, first, switches_on},
-  Kit.{exec, returns, alloc_all, pass_all, free_all, look_at, get, get_in, get_tag, sets, sets_last, lands_as, env},
-  Kit.{yes, RattleType, owns, Is, layout, uint_vals, uint_Tells, shr_vals, shr_Tells, usize, RefOf, plain, types_at},
-  Kit.{heard, nothing, owned, calls_at, framed, Stays, walk_of, says, stay_dropped, Goes-dropped, ends_at, heap_val},
-  Kit.{heap_Tells, as_written, Good, first_Good, after, head, arm_body, El, args, elτ, proved, Struct, Global},
+  Kit.{true, false, ◌≡◌, refl, [], ◌∷◌, ◌*◌, ◌<◌, ◌^◌, arith, lit<, Ok, Err, inst_fn, ty_array, vstruct, vcons, vnil},
+  Kit.{after_seq, at_return, tables, ‵, raw, given, any_q, ◌$◌, !, move, keep, drop, use1, use2, join, learn, frame},
+  Kit.{fsplit, suffices, done, whole, agg, live, vrt, in_variant, of_opd, lit, align_word, stop, fld, no_more},
+  Kit.{and_then, first, switches_on, exec, returns, alloc_all, pass_all, free_all, look_at, get, get_in, get_tag, sets},
+  Kit.{sets_last, lands_as, env, Is, layout, heard, owned, calls_at, framed, says, as_written, first_Good, after, head},
+  Kit.{arm_body, El, args, elτ, Struct},
   Blocks.{scaled, right_at_start},
   Heap.{Allocates, to_allocate, allocate_goes, allocated},
+  Methods.{walked, seen, handle, words},
   Called.{after_block, first_fact},
-  Regions.{Sr, Seen, places, right, heap_Good, slots_val, slots_Good, slots_made, Fits-empty, item_size, of_room},
+  Regions.{Sr, places, right, heap_Good, slots_val, slots_Good, slots_made, Fits-empty, item_size, of_room},
   Regions.{empty_region},
 }
 use denote.Struct.Struct.{Struct-Makes}
@@ -26,39 +25,24 @@ use Rattle.arraydeque_ring.proofs.slots.Slots.with_memory.Code as code
 
 pub with_memory_spec : {M : Type 1} → stated.statement M
 with_memory_spec 𝓤 𝓛 𝓜 𝓡 wired X L =
-    let E : El = record { row = X; laws = L } in let Out : RattleType = results.the_row (Sr E) refusals.the_row in
-    let here : Fn = inst_fn (args E) code.function in
-    let ended = f.ended X in let stayed : Stays ended.signature.params ended.kept =
-    (stay_dropped _ yes, (stay_dropped _ yes, (stay_dropped _ yes, tt))) in
-    let c = f.clauses X 𝓛 𝓜.mem 𝓡.returns in let W = walk_of 𝓛 ended stayed c in let 𝓣 = tables 𝓤 𝓛.H 𝓜 𝓡 𝓡.env in
-    proved 𝓛 ended stayed c 𝓜 𝓡 (
-      Goes-dropped 𝓛 2 (RefOf (0 ∷ []) tt (plain (λ _. heap.the_row)) (λ _. tt)) yes (λ κs x w. refl),
-      (
-        Goes-dropped 𝓛 2 (plain (λ _. heap.the_row)) yes (λ κs x w. refl),
-        (Goes-dropped 𝓛 2 (plain (λ _. usize)) yes (λ κs x w. refl), tt),
-      ),
-    )
-    (f.Key.name (args E)) here (code.unfolded 𝓤 𝓛.H 𝓜 𝓡 wired (X, tt))
-    (λ κs. (shr_vals, ((λ _. heap_val ∷ []), (uint_vals w64, tt))))
-    (λ κs. (shr_Tells (named 0) κs.0 heap.the_row, (heap_Tells, (uint_Tells w64, tt)))) (λ κs qs bounds a _ are.
+    let E : El = record { row = X; laws = L } in let Out = results.the_row (Sr E) refusals.the_row in
+    let here = inst_fn (args E) code.function in
+    let 𝓣 = tables 𝓤 𝓛.H 𝓜 𝓡 𝓡.env in
+    walked 1 𝓛 (seen heap.the_row (handle (words 1))) 𝓜 𝓡 _ _ (f.clauses X 𝓛 𝓜.mem 𝓡.returns) _ _
+    (code.unfolded 𝓤 𝓛.H 𝓜 𝓡 wired (X, tt)) (λ κs qs bounds a _ fit post ends.
     let κ = κs.0 in let q = qs.0 in
-    let rb : ℕ = a.0.ref_ptr.0 in let ro : ℕ = a.0.ref_ptr.1 in let h : Global = a.0.now in let g : Global = a.1.0 in
-    let n : ℕ = a.1.1.0 in let n_fits : n < 2 ^ 64 = are.1.1.0.1 in
-    let y : W.Ghost = ((κs, qs, bounds, a, (shr_vals a.0, (heap_val ∷ [], (uint_vals w64 n, tt)))), tt) in
-    let s : ℕ = item_size E in
-    qed 𝓛 (((‵ (flft κ q) ⊛ ‵ (flft κs.1.0 qs.1.0) ⊛ ‵ ftrue) ⊛ ‵ (owns (types_at ended.signature.params κs) a y.0.4))
-    ∷ raw ((c κs a).requires tt) ∷ []) ∵
-    move ! (1 ∷ []) $ first_fact ! (λ _. first_fact ! (λ some. heard ! _ (λ named_by.
+    let rb = a.0.ref_ptr.0 in let ro = a.0.ref_ptr.1 in let h = a.0.now in let g = a.1.0 in
+    let n = a.1.1.0 in let n_fits = fit.1.1.0.1.fits in let s = item_size E in
+    first_fact ! (λ _. first_fact ! (λ some. heard ! _ (λ named_by.
     let bytes : n * s < 2 ^ 64 = omega arith in
-    split ! $ split ! $ move ! (2 ∷ []) $ fsplit ! $ fsplit ! $ drop ! $ keep ! (0 ∷ 2 ∷ 3 ∷ []) $
+    fsplit ! $ drop ! $
     -- [the `&`; its token; the other tokens]
-    enter ! _ _ _ _ _ $
-    alloc_all ! (λ l. pass_all ! refl ((tt, tt), (heap_Good, ((tt, record { fits = n_fits }), tt))) $
-    let En : Env 𝓤 𝓛.H = env here.locals l in
-    let arms : Body = head (after 2 here.body) in
-    let Then : After 𝓤 𝓛.H = any_q (after_seq 𝓤 𝓛.H _ (at_return 𝓤 𝓛.H En (W.post y))) in
+    alloc_all ! (λ l. pass_all ! refl ((tt, tt), (heap_Good, fit.1.1)) $
+    let En = env here.locals l in
+    let arms = head (after 2 here.body) in
+    let Then = any_q (after_seq 𝓤 𝓛.H _ (at_return 𝓤 𝓛.H En post)) in
     let Asks = Allocates 𝓛 𝓜.mem 𝓡.returns in
-    let z : Asks.Ghost = to_allocate 𝓛 𝓜.mem 𝓡.returns E n κ q (rb, ro) h in
+    let z = to_allocate 𝓛 𝓜.mem 𝓡.returns E n κ q (rb, ro) h in
     sets ! (scaled ! (get ! refl) bytes) refl (tt, record { fits = bytes }) $
     use2 𝓛 (raw (Asks.pre z)) (allocate_goes 𝓛 𝓜.mem 𝓡.returns E n κ q (rb, ro) h bytes) $
     calls_at ! (framed 𝓤 𝓛.H 𝓜 𝓣) Asks
@@ -66,8 +50,8 @@ with_memory_spec 𝓤 𝓛 𝓜 𝓡 wired X L =
     (and_then ! (get ! refl) (and_then ! (get ! refl) (and_then ! (align_word !) (no_more !)))) (λ v.
     allocated ! tt 𝓜.mem 𝓡.returns E n κ q (rb, ro) h v
     (λ b o e.
-    let r : Seen E = empty_region n in
-    let made : Val = slots_val b o n in let typed : Good (layout (Sr E)) made = slots_Good E b o n n_fits in
+    let r = empty_region n in
+    let made = slots_val b o n in let typed = slots_Good E b o n n_fits in
     let ok = first_Good (layout (Sr E)) made typed in
     lands_as ! e refl (Answer-typed true b o) $ first ! $
     switches_on ! (get_tag ! (vrt ! refl (fld ! refl (stop !))) (whole !)) $
@@ -77,19 +61,17 @@ with_memory_spec 𝓤 𝓛 𝓜 𝓡 wired X L =
     sets ! (agg ! (and_then ! (get ! refl) (and_then ! (get ! refl) (and_then ! (get ! refl) (no_more !)))))
     refl typed $
     sets_last ! (agg ! (and_then ! (lit ! tt) (and_then ! (get ! refl) (no_more !)))) refl ok $
-    after_block ! 𝓡 here l 3 (W.post y) $ sets ! (of_opd ! (get ! refl)) refl ok $
+    after_block ! 𝓡 here l 3 post $ sets ! (of_opd ! (get ! refl)) refl ok $
     as_written ! (ty_array (elτ E) n) b o $ use1 𝓛 (‵ (places E r b o)) (of_room E 𝓛 b n o) $ move ! (1 ∷ []) $
     use1 𝓛 (given (o ≡ 0) (‵ (right E g n b o))) (right_at_start E 𝓛 g n b o some) $ learn ! (λ start.
     move ! (1 ∷ 0 ∷ []) $
     slots_made E ! (Fits-empty E o n n_fits (omega arith)) $
     use1 𝓛 (‵ (Out.own_val (Ok r) (live 0 (vcons made vnil) ∷ []))) (ok_of 𝓛 (Sr E) refusals.the_row r made) $
     returns ! (look_at ! 0 refl) $ free_all ! refl $ keep ! (0 ∷ 1 ∷ 2 ∷ []) $
-    suffices ! _ (ends_at 𝓛 ended stayed c y (live 0 (vcons made vnil)) (Ok r) _ _) $ says ! refl $
-    move ! (1 ∷ 2 ∷ []) $ join ! $ frame ! $ nothing ! $ nothing ! $ fjoin ! $ nothing ! $ fjoin ! $ nothing ! $
-    fjoin ! $ done !))
+    suffices ! _ (ends (live 0 (vcons made vnil)) (Ok r) tt) $ frame ! $ join ! $ says ! refl $ done !))
     (λ e.
-    let Refusal : RattleType = Struct (Declared.shape refusals.the_type) in
-    let none : Val = live 1 (vcons (vstruct vnil) vnil) in
+    let Refusal = Struct (Declared.shape refusals.the_type) in
+    let none = live 1 (vcons (vstruct vnil) vnil) in
     lands_as ! e refl (Answer-typed false 0 0) $ first ! $
     switches_on ! (get_tag ! (vrt ! refl (fld ! refl (stop !))) (whole !)) $
     exec ! 𝓣.C 𝓣.Λ En (arm_body 1 arms) Then $
@@ -97,14 +79,11 @@ with_memory_spec 𝓤 𝓛 𝓜 𝓡 wired X L =
     refl (tt, tt) $
     sets_last ! (agg ! (and_then ! (lit ! tt) (and_then ! (get ! refl) (no_more !)))) refl
     (tt, (record { fits = lit< tt }, (tt, tt))) $
-    after_block ! 𝓡 here l 3 (W.post y) $
+    after_block ! 𝓡 here l 3 post $
     sets ! (of_opd ! (get ! refl)) refl (tt, (record { fits = lit< tt }, (tt, tt))) $
     owned ! Refusal (Is Refusal) (Struct-Makes 𝓛 (Declared.shape refusals.the_type) tt) tt (vstruct vnil ∷ [])
     (tt, (refl, tt)) $
     use1 𝓛
     (‵ (Out.own_val (Err (record {})) (none ∷ []))) (err_of 𝓛 (Sr E) refusals.the_row (record {}) (vstruct vnil)) $
     returns ! (look_at ! 0 refl) $ free_all ! refl $ keep ! (0 ∷ 1 ∷ 2 ∷ []) $
-    suffices ! _
-    (ends_at 𝓛 ended stayed c y none (Err (record {})) _ _) $ says ! tt $
-    move ! (1 ∷ 2 ∷ []) $ join ! $ frame ! $ nothing ! $ nothing ! $ fjoin ! $ nothing ! $ fjoin ! $ nothing ! $
-    fjoin ! $ done !)))))))
+    suffices ! _ (ends none (Err (record {})) tt) $ frame ! $ join ! $ says ! tt $ done !)))))))
