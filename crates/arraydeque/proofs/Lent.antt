@@ -3,7 +3,7 @@
 use Rattle.arraydeque_ring.{
   proofs.{
     memory.Kit.{◌≡◌, sym, ap, subst, ◌∙◌, List, [], ◌∷◌, ℕ, ◌+◌, ◌≤◌, length, Ura, full_share, SProp, ent, sep, ex},
-    memory.Kit.{Logic, sem, RattleType, part_at, param, param_laws, Fml, El, R, el_x, via},
+    memory.Kit.{Logic, sem, RattleType, part_at, param_laws, Fml, El, R, el_x, via},
     loans.{Placed.{as_many-same, as_many-twice, length-as_many}, Rings.Rr},
   },
   specs.{Loans.as_many, Ring.RingState},
@@ -12,7 +12,7 @@ use denote.{
   Laws.Lawfuls,
   Memory.{part_of, lone},
   Model.Fields.{plain_out, Plain-in, view_made},
-  Param.{number, Laws.Laws},
+  Param.{number, param, Laws.Laws},
   Struct.{Members.{Member, rows_of}, Parts.PartsBack, Pick.{rest_at, field_out, field_back}},
 }
 use Rattle.std.specs.contracts.marker.PhantomData as phantom
@@ -115,3 +115,7 @@ module _ (E : El) (N : ℕ) (B : RattleType) (x : Fields E N B) (d : DequeState 
     ap (λ (v : DequeState (el_x E)). v.start) seen,
     ap (λ (v : DequeState (el_x E)). v.steps) seen,
   )
+
+-- what was rewritten is rewritten by its own items: the same
+pub rewritten-twice : {X : Type 0} (d : DequeState X) (xs : List X) → rewritten d (rewritten d xs).items ≡ rewritten d xs
+rewritten-twice d xs i = record (rewritten d xs) { items = as_many-twice d.items xs i }

@@ -1,6 +1,6 @@
 -- Items that come one by one behind the last item or before the first.
 use Rattle.std.proofs.{
-  Common.{◌≡◌, ℕ, ◌+◌, ◌-◌, ◌*◌, List, ◌++◌, length, reverse, sym, ap, ◌∙◌, arith},
+  Common.{◌≡◌, ℕ, ◌-◌, ◌*◌, List, ◌++◌, length, reverse, sym, ap, ◌∙◌, arith},
   lemmas.List.{append_assoc, length-append, reverse-append},
 }
 use Rattle.arraydeque_ring.{

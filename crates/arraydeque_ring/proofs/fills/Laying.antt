@@ -1,8 +1,8 @@
 -- A run of items from an iterator that is laid behind the last item or before the first, or there in
 -- the places of others.
 use Rattle.std.proofs.{
-  Common.{◌≡◌, ℕ, zero, suc, ◌+◌, ◌-◌, ◌*◌, ◌%◌, ◌<◌, ◌≤◌, inl, inr, List, ◌++◌, length, take, drop, reverse, Option},
-  Common.{[], Bool, true, false, refl, subst, ap, ◌∙◌, arith},
+  Common.{◌≡◌, ℕ, zero, suc, ◌+◌, ◌-◌, ◌*◌, ◌%◌, ◌<◌, ◌≤◌, inl, inr, List, ◌++◌, length, take, reverse, [], Bool},
+  Common.{false, refl, subst, ap, ◌∙◌, arith},
   Math.Nat.{add-mod_right, add-mul-mod_self_right, mod-eq_of_lt},
   lemmas.{Bool.Decides.nat_tests, List.{length-append, length-drop, length-reverse, length-take, take_all}},
 }

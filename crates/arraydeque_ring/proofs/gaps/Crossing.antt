@@ -14,7 +14,7 @@ use Rattle.arraydeque_ring.{
     Ring.{place_of, rotated},
   },
   proofs.{
-    moved.{Flat.{distance_is, look, same_places}, Round.{Holds-moved, distance-rotated}},
+    moved.{Flat.{distance_is, look}, Round.{Holds-moved, distance-rotated}},
     places.{
       Held.{filled_in_run, empty_in_run},
       Holds.{Holds, Holds-filled, Holds-of_rotated, rotated-Holds},

@@ -1,8 +1,8 @@
 -- Items in two parts, with a gap of empty places between them: how it comes about, is filled and ends.
 use Rattle.std.proofs.{
   Common.{◌≡◌, ℕ, zero, suc, ◌+◌, ◌-◌, ◌<◌, ◌≤◌, List, [], ◌∷◌, ◌++◌, length, take, drop, set, slice_get, nat_lt},
-  Common.{if◌then◌else◌, Option, Some, None, sym, ap, ◌∙◌, arith},
-  lemmas.{List.{length-append, length-take-le, length-drop}},
+  Common.{if◌then◌else◌, Option, Some, None, ◌∙◌, arith},
+  lemmas.List.{length-append, length-take-le, length-drop},
 }
 use Rattle.arraydeque_ring.{
   specs.{Places.{held_at, IsEmpty}, Ring.{place_of, rotated}, Gaps.run_emptied},

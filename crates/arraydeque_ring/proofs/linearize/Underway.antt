@@ -1,7 +1,8 @@
 -- A region while its list is laid in one piece: the first values are in their places, and two runs behind them have
 -- still to change places.
 use Rattle.std.proofs.{
-  Common.{◌≡◌, ℕ, ◌+◌, ◌-◌, ◌<◌, ◌≤◌, List, length, slice_get, nat_lt, if◌then◌else◌, Option, None, refl, sym, ap, ◌∙◌, arith},
+  Common.{◌≡◌, ℕ, ◌+◌, ◌-◌, ◌<◌, ◌≤◌, List, length, slice_get, nat_lt, if◌then◌else◌, Option, None, sym, ap, ◌∙◌},
+  Common.{arith},
   lemmas.{Bool.Decides.nat_tests, List.append-nil, Option.slice_get_past},
 }
 use Rattle.arraydeque_ring.{

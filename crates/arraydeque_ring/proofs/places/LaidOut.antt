@@ -1,11 +1,10 @@
 -- What the places of a ring hold, read from its start on: first its items, then nothing.
 use Rattle.std.proofs.{
-  Common.{◌≡◌, ◌≢◌, ℕ, ◌+◌, ◌-◌, ◌<◌, ◌≤◌, List, [], ◌∷◌, ◌++◌, map, length, take, drop, set, get_or, replicate},
-  Common.{slice_get},
-  Common.{nat_lt, if◌then◌else◌, Option, Some, None, is_some, refl, sym, ap, ◌∙◌, swap, arith},
+  Common.{◌≡◌, ℕ, ◌+◌, ◌-◌, ◌<◌, ◌≤◌, List, [], map, length, take, drop, set, replicate, slice_get, nat_lt},
+  Common.{if◌then◌else◌, Option, Some, None, is_some, refl, sym, ap, ◌∙◌, swap, arith},
   lemmas.{
     Grind.common_steps,
-    List.{length-append, length-take, length-drop, length-map, length-replicate, length-set, Edits.swap_is},
+    List.{length-drop, length-map, length-replicate, length-set, Edits.swap_is},
     Option.{get_or_from_slice_get, slice_get_past},
   },
 }
@@ -22,7 +21,7 @@ use Rattle.arraydeque_ring.{
       AndEmpty.{and_empty_from},
       Held.holds_run_of,
       Holds.{Holds, Holds-each, Holds-of_rotated, Holds-rotated, rotated-Holds, Holds-from, Holds-set},
-      Items.{items, slice_get_some, slice_get-cons},
+      Items.{items, slice_get_some},
       Rotated.{MayStartAt, place_of-lt, place_of-run, place_of-zero, place_of_cases, length-rotated, rotated-map},
     },
   },

@@ -1,13 +1,19 @@
 -- The answers up to the first item that goes: at a list, and at one in two slices.
 use Rattle.std.{
   proofs.{
-    Common.{◌≡◌, ℕ, zero, suc, ◌+◌, ◌<◌, List, [], ◌∷◌, ◌++◌, length, take, replicate, get_or, slice_get, Bool, true},
-    Common.{false, cond, not, count_by, refl, ap, ◌∙◌, arith},
+    Common.{◌≡◌, ℕ, zero, suc, ◌+◌, ◌<◌, List, [], ◌∷◌, ◌++◌, length, take, replicate, get_or, Bool, true, false, cond},
+    Common.{not, count_by, refl, ap, ◌∙◌, arith},
     Retain.answers_push,
     lemmas.{
-      Bool.{Decides.nat_tests},
-      List.{append-nil, append_assoc, length-append, length-replicate, replicate-append-replicate},
-      List.{Folds.sum_by-replicate},
+      Bool.Decides.nat_tests,
+      List.{
+        append-nil,
+        append_assoc,
+        length-append,
+        length-replicate,
+        replicate-append-replicate,
+        Folds.sum_by-replicate,
+      },
       Option.slice_get_within,
     },
   },

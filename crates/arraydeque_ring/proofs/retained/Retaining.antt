@@ -4,10 +4,7 @@ use Rattle.std.{
     Common.{◌≡◌, ℕ, suc, ◌+◌, ◌<◌, ◌≤◌, List, [], ◌∷◌, ◌++◌, length, take, drop, set, get_or, replicate, slice_get},
     Common.{add-one, Option, Some, None, Bool, true, false, not, count_by, sym, ap, ◌∙◌, arith},
     Retain.{picked_push_true, picked_push_false, answers_push},
-    lemmas.{
-      List.{length_push, length-drop, length-take-le, length-replicate, take_all, drop_all},
-      Option.get_or_from_slice_get,
-    },
+    lemmas.{List.{length_push, length-take-le, length-replicate, take_all, drop_all}, Option.get_or_from_slice_get},
   },
   specs.List.{items_where_true, Retain.ReturnsInTurn},
 }

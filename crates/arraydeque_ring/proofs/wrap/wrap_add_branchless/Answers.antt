@@ -1,4 +1,4 @@
-use Rattle.std.proofs.Common.{◌+◌, inl, inr, arith}
+use Rattle.std.proofs.Common.{◌+◌, arith}
 use Rattle.arraydeque_ring.proofs.{Masks.{at_most_half, masked}, places.Rotated.place_of_cases}
 use Rattle.arraydeque_ring.proofs.wrap.wrap_add_branchless.Goals as goal
 use Rattle.arraydeque_ring.proofs.wrap.wrap_add_branchless.Goals.{then-offset-capacity, else-offset-capacity}

@@ -6,10 +6,10 @@ use Rattle.arraydeque_ring.{
       Methods.{method, spent, values},
       Kit.{◌≡◌, refl, ap, ◌∙◌, List, [], ◌∷◌, ◌++◌, ℕ, ◌+◌, ◌≤◌, arith, length, full_share, id⊢, sep, Share, GName},
       Kit.{flft, Fn, inst_fn, tables, ‵, raw, ◌⊛◌, some, later, ◌$◌, !, move, keep, use1, use2, split, split3, group},
-      Kit.{join, pick, frame, rewrite, await, fsplit, fjoin, suffices, done, addr, stop, fld, no_more, and_then},
-      Kit.{returns, alloc_all, pass_all, free_all, look_at, get, through, sets, lands_as, mem, part_at, says_two},
-      Kit.{heard, nothing, RattleType, El, R, el_x, after₂, sem, Array, both_by, number, MutBor, NamedLft, named_lft},
-      Kit.{a_type, a_number, drop},
+      Kit.{join, pick, frame, await, fsplit, fjoin, suffices, done, addr, stop, fld, no_more, and_then, returns},
+      Kit.{alloc_all, pass_all, free_all, look_at, get, through, sets, lands_as, mem, part_at, says_two, heard},
+      Kit.{nothing, RattleType, El, R, el_x, after₂, sem, Array, both_by, number, MutBor, NamedLft, named_lft, a_type},
+      Kit.{a_number, drop},
     },
     loans.{Made.{loan_lawful, loan_renamed}, Names.{hands_on, followed_both, part_lent}, Rings.Rr},
     ring.Ring.lend.Met.met,
@@ -89,13 +89,12 @@ lend_spec 𝓤 𝓛 𝓜 𝓡 wired X N B L fits LB members dict dict_met =
     await ! tt $ pick ! (λ ν. split3 ! $
     -- [half the token; what γ follows;
     -- what ν follows; what the loan's name follows; the loan; the tokens; the others]
-    let Rows = mem (Array (R E) 0) in let Put : List (el_x E) → List (el_x E) → RingState (el_x E) =
-    λ us vs. ring.rewritten x.ring (as_many it.first.now us ++ as_many it.second.now vs) in
+    let Rows = mem (Array (R E) 0) in
+    let joined : List (el_x E) → List (el_x E) → List (el_x E) =
+    λ us vs. as_many it.first.now us ++ as_many it.second.now vs in
     move ! (2 ∷ 3 ∷ []) $ use2 𝓛 (‵ (after₂ (mem (Dr E N B)) Rows Rows ν it.first.ghost_name it.second.ghost_name
-    (λ us vs. V (Put us vs)))) (followed_both 𝓛 (mem (Dr E N B)) (mem (Rr E)) Rows Rows _ _ _ _ _ _) $
-    rewrite ! 0 (λ (F : List (el_x E) → List (el_x E) → DequeState (el_x E)).
-    ‵ (after₂ (mem (Dr E N B)) Rows Rows ν it.first.ghost_name it.second.ghost_name F))
-    (λ i us vs. written E N B x d seen kept (as_many it.first.now us ++ as_many it.second.now vs) i) refl $
+    (λ us vs. rewritten d (joined us vs)))) (followed_both 𝓛 (mem (Dr E N B)) (mem (Rr E)) Rows _ _ _ _ _ _ _
+    (λ us vs. written E N B x d seen kept (joined us vs))) $
     -- [what ν follows; half the token; what γ follows; the loan; the tokens; the others]
     let out : LoanState (el_x E) = record it { name = ν } in
     move ! (2 ∷ 0 ∷ []) $ fjoin ! $ move ! (2 ∷ []) $

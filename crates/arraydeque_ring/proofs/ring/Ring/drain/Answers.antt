@@ -7,10 +7,9 @@ use Rattle.arraydeque_ring.{
   proofs.{
     gaps.Fewest.fewest_drain,
     places.{
-      Handed.all_empty,
       LaidOut.{length_within, IsFilledRun-rotated},
       Opened.{opened, bounds, Closing, run_out, Shows},
-      Rotated.{place_of-zero},
+      Rotated.place_of-zero,
     },
     ring.Ring.drain.{Given.Over, Goals.{After-take_run, After-close_gap-self-inside}},
   },

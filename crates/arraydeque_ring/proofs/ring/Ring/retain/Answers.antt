@@ -1,11 +1,8 @@
 use Rattle.std.{proofs.{Common.{refl, sym, ◌∙◌, subst, Bool, arith}, lemmas.Fn.called_at}, specs.{Fn.CalledAt}}
-use Rattle.arraydeque_ring.{
-  proofs.{
-    retained.Retaining.{all_kept, first_goes, next_filled, next_asked, room_for_next, counted, one_stays, one_goes},
-    retained.Retaining.{all_asked},
-    places.Opened.opened,
-    ring.Ring.retain.Goals.{then-keeps, else-keeps},
-  },
+use Rattle.arraydeque_ring.proofs.{
+  retained.Retaining.{all_kept, first_goes, next_filled, next_asked, counted, one_stays, one_goes, all_asked},
+  places.Opened.opened,
+  ring.Ring.retain.Goals.{then-keeps, else-keeps},
 }
 use Rattle.arraydeque_ring.proofs.ring.Ring.retain.Goals as goal
 
