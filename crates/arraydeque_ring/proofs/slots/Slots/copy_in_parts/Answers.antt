@@ -2,7 +2,7 @@ use Rattle.std.proofs.Common.{◌-◌, ◌<◌, ◌≤◌, refl, arith}
 use Rattle.arraydeque_ring.{
   specs.Moved.run_moved,
   proofs.{
-    moved.Steps.{Three, three},
+    moved.Steps.{StartsAt, Three, three},
     places.Rotated.place_of_cases,
     slots.Slots.copy_in_parts.{Given.Over, Goals.{After-wrap_add}},
   },
@@ -16,6 +16,7 @@ copies : (g : Over) (c : After-wrap_add g) → let a = c.args in let d = c.wrap_
     (a.len ≤ c.wrap_add.result
     → Three a.dst a.src near d s (far - near) e t (a.len - far) a.self.now.places after)
     × (c.wrap_add.result < a.len → Three e t (a.len - far) d s (far - near) a.dst a.src near a.self.now.places after)
+unfolding StartsAt
 copies g c =
     let n = c.capacity-capacity.result in
     let a = c.args in
@@ -27,7 +28,7 @@ copies g c =
     (grind arith)
     (grind (arith, place_of_cases a.dst near n (omega arith), place_of_cases a.src near n (omega arith)))
     (grind (arith, place_of_cases a.dst far n (omega arith), place_of_cases a.src far n (omega arith))) in
-    (λ down. both.0 (λ some. omega arith), λ up. both.1 (grind arith))
+    (λ down. both.0 (grind arith), λ up. both.1 (grind arith))
 
 pub copy-requires-then-len-wrap_add : goal.copy-requires-then-len-wrap_add
 copy-requires-then-len-wrap_add g c = rw c.copy.ensures

@@ -2,7 +2,7 @@ use Rattle.std.proofs.{Common.{◌+◌, ◌-◌, ◌<◌, length, ap, refl, arit
 use Rattle.arraydeque_ring.{
   specs.{Ring.place_of, Moved.{run_moved}},
   proofs.{
-    moved.{Flat.{distance_is, same_move, whole_run, whole_can}, Steps.{Three, three}},
+    moved.{Flat.{distance_is, same_move, whole_run, whole_can}, Steps.{StartsAt, Three, three}},
     places.Rotated.place_of_cases,
     slots.Slots.slide_down.{Given.Over, Goals.{After-capacity-last, then-len-upper, else-len-upper}},
   },
@@ -14,6 +14,7 @@ round : (g : Over) (c : After-capacity-last g) → let n = c.capacity-last.resul
     let ps = c.moved_out-slots.result.places in
     n - 1 - t < c.args.len → Three t (t + 1) (n - 1 - t) (n - 1) 0 1 0 1 (c.args.len - (n - 1 - t) - 1) ps
     (run_moved t (place_of t 1 n) c.args.len ps)
+unfolding StartsAt
 round g c wraps =
     let n = c.capacity-last.result in
     let t = c.args.dst in
@@ -23,7 +24,7 @@ round g c wraps =
     (three t next c.args.len n (n - 1 - t) (n - t) _ _ _ _ _ _ _ _ _ c.capacity-last.ensures (omega arith) (omega arith)
     (rw (c.capacity-last.ensures, c.moved_out-slots.ensures.region) c.requires.filled) (omega arith)
     (grind arith) (grind arith) (grind arith)
-    ).0 (λ far. grind (arith, distance_is next t n (omega arith) (omega arith)))
+    ).0 (grind (arith, distance_is next t n (omega arith) (omega arith)))
 
 pub move_first-requires-clause-can : goal.move_first-requires-clause-can
 move_first-requires-clause-can g c =

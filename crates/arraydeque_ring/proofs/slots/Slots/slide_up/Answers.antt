@@ -2,7 +2,7 @@ use Rattle.std.proofs.{Common.{◌+◌, ◌-◌, ◌≤◌, length, ap, refl, ar
 use Rattle.arraydeque_ring.{
   specs.{Ring.place_of, Moved.{run_moved}},
   proofs.{
-    moved.{Flat.{distance_is, same_move, whole_run, whole_can}, Steps.{Three, three}},
+    moved.{Flat.{distance_is, same_move, whole_run, whole_can}, Steps.{StartsAt, Three, three}},
     places.Rotated.place_of_cases,
     slots.Slots.slide_up.{Given.Over, Goals.{After-capacity-capacity, then-len-upper, else-len-upper}},
   },
@@ -14,6 +14,7 @@ round : (g : Over) (c : After-capacity-capacity g) → let n = c.capacity-capaci
     let ps = c.moved_out-slots.result.places in
     n - t ≤ c.args.len → Three 1 0 (c.args.len - (n - t)) 0 (n - 1) 1 (t + 1) t (n - t - 1) ps
     (run_moved (place_of t 1 n) t c.args.len ps)
+unfolding StartsAt
 round g c wraps =
     let n = c.capacity-capacity.result in
     let t = c.args.src in
