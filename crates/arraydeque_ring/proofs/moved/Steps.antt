@@ -154,19 +154,19 @@ pub record Three {X : Type 0} (d₁ s₁ l₁ d₂ s₂ l₂ d₃ s₃ l₃ : �
   pub is : run_moved d₃ s₃ l₃ (run_moved d₂ s₂ l₂ (run_moved d₁ s₁ l₁ ps)) ≡ whole
 
 -- a run that moves in three parts, none of which passes the end: up to the index a, from there to b, and from there on
-module _ {X : Type 0} (d s l n a b k m d₁ s₁ d₂ s₂ d₃ s₃ : ℕ) (ps : List (Option X)) (n_is : n ≡ length ps)
-    (d_in : d < n) (s_in : s < n) (filled : IsFilledRound s l ps) (parts : (a + k ≡ b) × (b + m ≡ l) × (l ≤ n))
+module _ {X : Type 0} (d s l n a b : ℕ) {k m d₁ s₁ d₂ s₂ d₃ s₃ : ℕ} {ps : List (Option X)} (n_is : n ≡ length ps)
+    (filled : IsFilledRound s l ps) (parts : (a + k ≡ b) × (b + m ≡ l) × (l ≤ n) × (d < n) × (s < n))
     (before : IsPart d s n 0 a d₁ s₁ × ((d₁ + a ≤ n) × (s₁ + a ≤ n)))
     (between : IsPart d s n a k d₂ s₂ × ((d₂ + k ≤ n) × (s₂ + k ≤ n)))
     (behind : IsPart d s n b m d₃ s₃ × ((d₃ + m ≤ n) × (s₃ + m ≤ n))) where
-  pub three : ((distance s d n ≡ 0) ⊎ (l ≤ distance s d n) → Three d₁ s₁ a d₂ s₂ k d₃ s₃ m ps (run_moved d s l ps))
+  pub three : (l ≤ distance s d n → Three d₁ s₁ a d₂ s₂ k d₃ s₃ m ps (run_moved d s l ps))
       × (distance s d n + l ≤ n → Three d₃ s₃ m d₂ s₂ k d₁ s₁ a ps (run_moved d s l ps))
   unfolding StartsAt InOrder
   three = let long = sym n_is in (
     λ far.
         let firsts = steps d s b 0 a a k n ps long (omega arith) (inl (omega arith, omega arith, grind arith))
         d₁ s₁ d₂ s₂ before.0 between.0 (λ x lt. filled x (omega arith)) in
-        let last = steps d s l 0 b b m n ps long (omega arith) (inl (omega arith, omega arith, far))
+        let last = steps d s l 0 b b m n ps long (omega arith) (inl (omega arith, omega arith, inr far))
         d s d₃ s₃ (grind arith) behind.0 filled in
         let same = length-moved d₁ s₁ a ps ∙ long in
         record {
