@@ -22,18 +22,6 @@ use Rattle.arraydeque_ring.{
   },
 }
 
--- after a pass of `run` values to their places, two runs have still to change places
-rotated_by_pass : {X : Type 0} (dst gap behind next run left last : ℕ) (ps : List (Option X))
-    → dst + gap + behind ≡ length ps → dst + gap ≡ next
-    → ((run ≡ behind) × (left + run ≡ gap) × (last ≡ behind)) ⊎ ((run ≡ gap) × (left ≡ gap) × (last + run ≡ behind))
-    → run_rotated (dst + run) left last (runs_exchanged dst next run ps) ≡ run_rotated dst gap behind ps
-rotated_by_pass dst gap behind next run left last ps whole here ways =
-    let long = length-runs_exchanged dst next run ps (omega arith) (omega arith) in
-    are_rotated dst gap behind ps _ (omega arith) (length-run_rotated (dst + run) left last _ (omega arith) ∙ long)
-    (λ x lt. get_or-run_rotated (dst + run) left last _ (omega arith) x
-    ∙ get_or-runs_exchanged dst next run ps (omega arith) (omega arith) (rotated_from (dst + run) left last x)
-    ∙ ap (held_at ps) (grind (arith, nat_tests)))
-
 -- a pass: of `run` values that come to their places, x do by an exchange, and the others then into empty places
 pub record Pass {X : Type 0} (dst next run x : ℕ) (ps : List (Option X)) : Type 0 where
   pub a_filled : IsFilledRun ps dst x
@@ -94,12 +82,17 @@ module _ {X : Type 0} {capacity start len dst next : ℕ} {old ps : List (Option
         (runs_exchanged (dst + x) (next + x) (run - x) (runs_exchanged dst next x ps))
     Rotating-passed next_then ways =
         let all : x + (run - x) ≡ run = omega arith in
+        let long = length-runs_exchanged dst next run ps (omega arith) (omega arith) in
+        let gap = next_then - (dst + run) in
         rw (runs_exchanged_both dst next ps x (run - x) (omega arith) (omega arith), all) (record {
           fills = t.fills;
-          length_is = length-runs_exchanged dst next run ps (omega arith) (omega arith) ∙ t.length_is;
+          length_is = long ∙ t.length_is;
           in_order = omega arith;
           in_region = omega arith;
           placed = omega arith;
-          left = t.left ∙ sym (rotated_by_pass dst (next - dst) (capacity - next) next run (next_then - (dst + run))
-              (capacity - next_then) ps (omega arith) (omega arith) (grind arith));
+          left = t.left ∙ sym (are_rotated dst (next - dst) (capacity - next) ps _ (omega arith)
+              (length-run_rotated (dst + run) gap (capacity - next_then) _ (omega arith) ∙ long) (λ y lt.
+              get_or-run_rotated (dst + run) gap (capacity - next_then) _ (omega arith) y
+              ∙ get_or-runs_exchanged dst next run ps (omega arith) (omega arith) _
+              ∙ ap (held_at ps) (grind (arith, nat_tests))));
         })

@@ -5,7 +5,7 @@ use Rattle.std.proofs.{
   Math.Nat.{mod-eq_of_lt},
   lemmas.{
     Bool.Decides.nat_tests,
-    List.{places, FromFn.{fill_by_all, length-map-range_with_len, get_or-map-range_with_len}},
+    List.{ext_get_or, places, FromFn.{length-map-range_with_len, get_or-map-range_with_len}},
   },
 }
 use Rattle.arraydeque_ring.{
@@ -45,9 +45,7 @@ module _ {X : Type 0} where
   -- two lists of places are one where each place holds the same
   pub same_places : (ps qs : List (Option X)) → length ps ≡ length qs
       → ((x : ℕ) → x < length qs → get_or ps x None ≡ get_or qs x None) → ps ≡ qs
-  same_places ps qs long same =
-      fill_by_all (λ x. get_or qs x None) ps (length qs) None long same
-      ∙ sym (fill_by_all (λ x. get_or qs x None) qs (length qs) None refl (λ x lt. refl))
+  same_places ps qs long same = ext_get_or None ps qs long (λ x lt. same x (omega arith))
 
   abbrev pub other : (ℕ → Option X) → ℕ → ℕ → ℕ → Option X
   other f j len x = if nat_lt x j then f x else (if nat_lt x (j + len) then None else f x)

@@ -1,15 +1,14 @@
 -- A run of values that moves in steps, round the end: what the first step leaves the next ones move.
 use Rattle.std.proofs.{
-  Common.{◌≡◌, ℕ, ◌+◌, ◌-◌, ◌<◌, ◌≤◌, ◌⊎◌, inl, inr, List, length, nat_lt, if◌then◌else◌, None, Option, refl, sym, ap, ap₂, subst, ◌∙◌, arith},
+  Common.{◌≡◌, ℕ, ◌+◌, ◌-◌, ◌<◌, ◌≤◌, ◌⊎◌, inl, inr, List, length, Option, refl, sym, ap, subst, ◌∙◌, arith},
   Math.Nat.mod-eq_of_lt,
-  lemmas.Bool.{cases_lt, Decides.nat_tests},
+  lemmas.Bool.Decides.nat_tests,
 }
 use Rattle.arraydeque_ring.{
   specs.{Places.{held_at, IsFilled, IsFilledRun}, Ring.place_of, Moved.{distance, IsFilledRound, CanCopy, run_moved}},
   proofs.{
-    moved.Flat.{distance_is, length-moved, moved_at, same_move, same_places},
-    places.Held.filled_run_of,
-    places.Rotated.{MayStartAt, place_of_cases, place_of-lt, place_of-sum},
+    moved.Flat.{distance_is, length-moved, moved_at, same_places},
+    places.{Held.filled_run_of, Rotated.{MayStartAt, place_of_cases, place_of-lt}},
   },
 }
 
@@ -57,69 +56,69 @@ pub record Steps {X : Type 0} (e t k f u m : ℕ) (ps whole : List (Option X)) :
 module _ {X : Type 0} (d s l i j k m n : ℕ) (ps : List (Option X)) (long : length ps ≡ n)
     (fits : (d < n) × (s < n) × (l ≤ n) × (k + m ≡ l) × (i + k ≤ l) × (j + m ≤ l))
     (order : InOrder d s l n i j k m) (e t f u : ℕ) (one : IsPart d s n i k e t) (two : IsPart d s n j m f u)
-    where
-  -- a place is among those of the run where it is among those of either step, and at the same distance
-  either : (a p q x : ℕ) → a < n → x < n → StartsAt a n i k p → StartsAt a n j m q → let first = distance p x n in
-      let second = distance q x n in
-      ((distance a x n ≡ i + first) × (first < k) × (m ≤ second))
-      ⊎ (((distance a x n ≡ j + second) × (k ≤ first) × (second < m))
-      ⊎ ((l ≤ distance a x n) × (k ≤ first) × (m ≤ second)))
-  unfolding InOrder
-  either a p q x a_in lt at_p at_q = grind (
-    arith,
-    in_part a n i k p x at_p a_in lt (omega arith),
-    in_part a n j m q x at_q a_in lt (omega arith),
-  )
+  where
+    -- a place is among those of the run where it is among those of either step, and at the same distance
+    either : (a p q x : ℕ) → a < n → x < n → StartsAt a n i k p → StartsAt a n j m q → let first = distance p x n in
+        let second = distance q x n in
+        ((distance a x n ≡ i + first) × (first < k) × (m ≤ second))
+        ⊎ (((distance a x n ≡ j + second) × (k ≤ first) × (second < m))
+        ⊎ ((l ≤ distance a x n) × (k ≤ first) × (m ≤ second)))
+    unfolding InOrder
+    either a p q x a_in lt at_p at_q = grind (
+      arith,
+      in_part a n i k p x at_p a_in lt (omega arith),
+      in_part a n j m q x at_q a_in lt (omega arith),
+    )
 
-  abbrev after_first : List (Option X)
-  after_first = run_moved e t k ps
+    abbrev after_first : List (Option X)
+    after_first = run_moved e t k ps
 
-  -- a source of the second step is no target of the first, and holds what it held
-  apart : (x : ℕ) → x < n → distance u x n < m → k ≤ distance e x n
-  unfolding InOrder
-  apart x lt a = omega (
-    arith,
-    in_part d n i k e x one.0 (omega arith) lt (omega arith),
-    in_part s n j m u x two.1 (omega arith) lt (omega arith),
-    place_of_cases d (n - s) n (omega arith),
-    place_of_cases x (n - s) n (omega arith),
-    place_of_cases x (n - d) n (omega arith),
-  )
+    -- a source of the second step is no target of the first, and holds what it held
+    apart : (x : ℕ) → x < n → distance u x n < m → k ≤ distance e x n
+    unfolding InOrder
+    apart x lt a = omega (
+      arith,
+      in_part d n i k e x one.0 (omega arith) lt (omega arith),
+      in_part s n j m u x two.1 (omega arith) lt (omega arith),
+      place_of_cases d (n - s) n (omega arith),
+      place_of_cases x (n - s) n (omega arith),
+      place_of_cases x (n - d) n (omega arith),
+    )
 
-  still_there : (x : ℕ) → x < n → distance u x n < m → held_at after_first x ≡ held_at ps x
-  still_there x lt a = moved_at e t k ps x long lt
-      ∙ grind (arith, apart x lt a, either s t u x (omega arith) lt one.1 two.1)
+    still_there : (x : ℕ) → x < n → distance u x n < m → held_at after_first x ≡ held_at ps x
+    still_there x lt a = moved_at e t k ps x long lt
+        ∙ grind (arith, apart x lt a, either s t u x (omega arith) lt one.1 two.1)
 
-  each : (x : ℕ) → x < n → held_at (run_moved f u m after_first) x ≡ held_at (run_moved d s l ps) x
-  each x lt =
-      let far = distance f x n in
-      moved_at f u m after_first x (length-moved e t k ps ∙ long) lt ∙ grind (
-        arith,
-        nat_tests,
-        either d e f x (omega arith) lt one.0 two.0,
-        either s t u x (omega arith) lt one.1 two.1,
-        apart x lt,
-        on s n i k t (distance e x n) one.1,
-        moved_at e t k ps x long lt,
-        on s n j m u far two.1,
-        place_of-lt u far n,
-        distance-up u far n,
-        still_there (place_of u far n),
-      ) ∙ sym (moved_at d s l ps x long lt)
+    each : (x : ℕ) → x < n → held_at (run_moved f u m after_first) x ≡ held_at (run_moved d s l ps) x
+    each x lt =
+        let far = distance f x n in
+        moved_at f u m after_first x (length-moved e t k ps ∙ long) lt ∙ grind (
+          arith,
+          nat_tests,
+          either d e f x (omega arith) lt one.0 two.0,
+          either s t u x (omega arith) lt one.1 two.1,
+          apart x lt,
+          on s n i k t (distance e x n) one.1,
+          moved_at e t k ps x long lt,
+          on s n j m u far two.1,
+          place_of-lt u far n,
+          distance-up u far n,
+          still_there (place_of u far n),
+        ) ∙ sym (moved_at d s l ps x long lt)
 
-  pub steps : IsFilledRound s l ps → Steps e t k f u m ps (run_moved d s l ps)
-  steps filled =
-      let at : (x : ℕ) → x < l → IsFilled ps (place_of s x n) = λ x lt. rw (← long) (filled x lt) in
-      record {
-        first = λ x lt. rw (long, (on s n i k t x one.1 (omega arith) (omega arith) lt).1) (at (i + x) (omega arith));
-        second = λ x lt. let source = on s n j m u x two.1 (omega arith) (omega arith) lt in rw (
-          length-moved e t k ps ∙ long,
-          still_there _ (place_of-lt u x n (omega arith)) (rw (distance-up u x n (omega arith) (omega arith)) lt),
-          source.1,
-        ) (at (j + x) (omega arith));
-        is = same_places _ _ (length-moved f u m _ ∙ length-moved e t k ps ∙ sym (length-moved d s l ps))
-            (λ x lt. each x (omega (arith, length-moved d s l ps)));
-      }
+    pub steps : IsFilledRound s l ps → Steps e t k f u m ps (run_moved d s l ps)
+    steps filled =
+        let at : (x : ℕ) → x < l → IsFilled ps (place_of s x n) = λ x lt. rw (← long) (filled x lt) in
+        record {
+          first = λ x lt. rw (long, (on s n i k t x one.1 (omega arith) (omega arith) lt).1) (at (i + x) (omega arith));
+          second = λ x lt. let source = on s n j m u x two.1 (omega arith) (omega arith) lt in rw (
+            length-moved e t k ps ∙ long,
+            still_there _ (place_of-lt u x n (omega arith)) (rw (distance-up u x n (omega arith) (omega arith)) lt),
+            source.1,
+          ) (at (j + x) (omega arith));
+          is = same_places _ _ (length-moved f u m _ ∙ length-moved e t k ps ∙ sym (length-moved d s l ps))
+              (λ x lt. each x (omega (arith, length-moved d s l ps)));
+        }
 
 pub can_copy : {X : Type 0} {e t l n : ℕ} {ps : List (Option X)} → length ps ≡ n → (e + l ≤ n) × (t + l ≤ n)
     → IsFilledRound t l ps → CanCopy e t l ps
@@ -134,17 +133,17 @@ round_run ps from len le filled = filled_run_of ps from len le (λ x a b.
 -- a run that passes no end, nor its target, and moves in two steps: the first k values first where it moves down, else
 -- the last m
 module _ {X : Type 0} (i j k m l : ℕ) (ps : List (Option X)) (parts : (0 < l) × (k + m ≡ l)) (can : CanCopy i j l ps)
-    where
-  pub first_block_goes : i ≤ j → Steps i j k (i + k) (j + k) m ps (run_moved i j l ps)
-  unfolding StartsAt InOrder
-  first_block_goes down = steps i j l 0 k k m (length ps) ps refl (omega arith)
-      (inl (omega arith, omega arith, grind (arith, distance_is j i (length ps) (omega arith) (omega arith))))
-      i j (i + k) (j + k) (grind arith) (grind arith) can.filled
+  where
+    pub first_block_goes : i ≤ j → Steps i j k (i + k) (j + k) m ps (run_moved i j l ps)
+    unfolding StartsAt InOrder
+    first_block_goes down = steps i j l 0 k k m (length ps) ps refl (omega arith)
+        (inl (omega arith, omega arith, grind (arith, distance_is j i (length ps) (omega arith) (omega arith))))
+        i j (i + k) (j + k) (grind arith) (grind arith) can.filled
 
-  pub last_block_goes : j ≤ i → Steps (i + k) (j + k) m i j k ps (run_moved i j l ps)
-  unfolding StartsAt InOrder
-  last_block_goes up = steps i j l k 0 m k (length ps) ps refl (omega arith)
-      (inr (omega arith, omega arith, grind arith)) (i + k) (j + k) i j (grind arith) (grind arith) can.filled
+    pub last_block_goes : j ≤ i → Steps (i + k) (j + k) m i j k ps (run_moved i j l ps)
+    unfolding StartsAt InOrder
+    last_block_goes up = steps i j l k 0 m k (length ps) ps refl (omega arith)
+        (inr (omega arith, omega arith, grind arith)) (i + k) (j + k) i j (grind arith) (grind arith) can.filled
 
 -- three copies can be made one after the other
 pub record Three {X : Type 0} (d₁ s₁ l₁ d₂ s₂ l₂ d₃ s₃ l₃ : ℕ) (ps whole : List (Option X)) : Type 0 where

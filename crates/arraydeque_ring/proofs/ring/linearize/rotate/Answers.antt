@@ -1,4 +1,4 @@
-use Rattle.std.proofs.{Common.{◌≡◌, ◌+◌, ◌-◌, inl, inr, ◌==◌, refl, if◌then◌else◌, arith}, lemmas.{Grind.common_steps}}
+use Rattle.std.proofs.{Common.{◌+◌, ◌-◌, inl, inr, ◌==◌, refl, if◌then◌else◌, arith}, lemmas.{Grind.common_steps}}
 use Rattle.arraydeque_ring.{
   specs.Steps.Rearranges,
   proofs.{

@@ -1,4 +1,4 @@
-use Rattle.std.proofs.{Common.{◌+◌, sym, arith}, lemmas.Bool.ne_eqb}
+use Rattle.std.proofs.{Common.{sym, arith}}
 use Rattle.arraydeque_ring.proofs.places.{
   Reads.{runs_exchanged_none, runs_exchanged_more, next_first, next_second},
   Held.filled_in_run,
