@@ -1,7 +1,7 @@
 -- A region while it is rotated: pass after pass, values come to their places.
 use Rattle.std.proofs.{
   Common.{◌≡◌, ℕ, ◌+◌, ◌-◌, ◌<◌, ◌≤◌, ◌⊎◌, List, length, min, Option, is_some},
-  Common.{sym, ap, ◌∙◌, subst, arith},
+  Common.{sym, ap, ◌∙◌, arith},
   lemmas.{Bool.Decides.nat_tests, List.{append-nil}},
 }
 use Rattle.arraydeque_ring.{
@@ -29,12 +29,6 @@ pub record Pass {X : Type 0} (dst next run x : ℕ) (ps : List (Option X)) : Typ
   pub empty : IsEmptyRun (runs_exchanged dst next x ps) (dst + x) (run - x)
   pub filled : IsFilledRun (runs_exchanged dst next x ps) (next + x) (run - x)
 
--- of the places read from t on the first len are filled
-FilledFrom-rotated : {X : Type 0} (t len : ℕ) (ps : List (Option X)) → FilledFrom t len (filled ps)
-    → FilledFrom 0 len (filled (rotated t ps))
-unfolding filled
-FilledFrom-rotated t len ps fills = rw (append-nil, ← rotated-map is_some t ps, length-rotated t (filled ps)) fills
-
 -- the places are on their way from `old`, where len values begin at `start`, to these read from the start on
 pub record Rotating {X : Type 0} (capacity start len dst next : ℕ) (old ps : List (Option X)) : Type 0 where
   pub fills : FilledFrom start len (filled old)
@@ -47,7 +41,8 @@ pub record Rotating {X : Type 0} (capacity start len dst next : ℕ) (old ps : L
 module _ {X : Type 0} {capacity start len dst next : ℕ} {old ps : List (Option X)}
     (t : Rotating capacity start len dst next old ps) where
   pub still_fills : FilledFrom 0 len (filled (run_rotated dst (next - dst) (capacity - next) ps))
-  still_fills = subst (λ qs. FilledFrom 0 len (filled qs)) t.left (FilledFrom-rotated start len old t.fills)
+  unfolding filled
+  still_fills = rw (← t.left, append-nil, ← rotated-map is_some start old, length-rotated start (filled old)) t.fills
 
   before : Underway dst (next - dst) (capacity - next) len ps
   before = underway still_fills (omega arith)
