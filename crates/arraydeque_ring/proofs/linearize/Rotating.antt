@@ -1,7 +1,7 @@
 -- A region while it is rotated: pass after pass, values come to their places.
 use Rattle.std.proofs.{
   Common.{◌≡◌, ℕ, ◌+◌, ◌-◌, ◌<◌, ◌≤◌, ◌⊎◌, List, length, min, Option, is_some},
-  Common.{sym, ap, ◌∙◌, subst, arith},
+  Common.{sym, ap, ◌∙◌, arith},
   lemmas.{Bool.Decides.nat_tests, List.{append-nil}},
 }
 use Rattle.arraydeque_ring.{
@@ -22,30 +22,12 @@ use Rattle.arraydeque_ring.{
   },
 }
 
--- after a pass of `run` values to their places, two runs have still to change places
-rotated_by_pass : {X : Type 0} (dst gap behind next run left last : ℕ) (ps : List (Option X))
-    → dst + gap + behind ≡ length ps → dst + gap ≡ next
-    → ((run ≡ behind) × (left + run ≡ gap) × (last ≡ behind)) ⊎ ((run ≡ gap) × (left ≡ gap) × (last + run ≡ behind))
-    → run_rotated (dst + run) left last (runs_exchanged dst next run ps) ≡ run_rotated dst gap behind ps
-rotated_by_pass dst gap behind next run left last ps whole here ways =
-    let long = length-runs_exchanged dst next run ps (omega arith) (omega arith) in
-    are_rotated dst gap behind ps _ (omega arith) (length-run_rotated (dst + run) left last _ (omega arith) ∙ long)
-    (λ x lt. get_or-run_rotated (dst + run) left last _ (omega arith) x
-    ∙ get_or-runs_exchanged dst next run ps (omega arith) (omega arith) (rotated_from (dst + run) left last x)
-    ∙ ap (held_at ps) (grind (arith, nat_tests)))
-
 -- a pass: of `run` values that come to their places, x do by an exchange, and the others then into empty places
 pub record Pass {X : Type 0} (dst next run x : ℕ) (ps : List (Option X)) : Type 0 where
   pub a_filled : IsFilledRun ps dst x
   pub b_filled : IsFilledRun ps next x
   pub empty : IsEmptyRun (runs_exchanged dst next x ps) (dst + x) (run - x)
   pub filled : IsFilledRun (runs_exchanged dst next x ps) (next + x) (run - x)
-
--- of the places read from t on the first len are filled
-FilledFrom-rotated : {X : Type 0} (t len : ℕ) (ps : List (Option X)) → FilledFrom t len (filled ps)
-    → FilledFrom 0 len (filled (rotated t ps))
-unfolding filled
-FilledFrom-rotated t len ps fills = rw (append-nil, ← rotated-map is_some t ps, length-rotated t (filled ps)) fills
 
 -- the places are on their way from `old`, where len values begin at `start`, to these read from the start on
 pub record Rotating {X : Type 0} (capacity start len dst next : ℕ) (old ps : List (Option X)) : Type 0 where
@@ -59,7 +41,8 @@ pub record Rotating {X : Type 0} (capacity start len dst next : ℕ) (old ps : L
 module _ {X : Type 0} {capacity start len dst next : ℕ} {old ps : List (Option X)}
     (t : Rotating capacity start len dst next old ps) where
   pub still_fills : FilledFrom 0 len (filled (run_rotated dst (next - dst) (capacity - next) ps))
-  still_fills = subst (λ qs. FilledFrom 0 len (filled qs)) t.left (FilledFrom-rotated start len old t.fills)
+  unfolding filled
+  still_fills = rw (← t.left, append-nil, ← rotated-map is_some start old, length-rotated start (filled old)) t.fills
 
   before : Underway dst (next - dst) (capacity - next) len ps
   before = underway still_fills (omega arith)
@@ -94,12 +77,17 @@ module _ {X : Type 0} {capacity start len dst next : ℕ} {old ps : List (Option
         (runs_exchanged (dst + x) (next + x) (run - x) (runs_exchanged dst next x ps))
     Rotating-passed next_then ways =
         let all : x + (run - x) ≡ run = omega arith in
+        let long = length-runs_exchanged dst next run ps (omega arith) (omega arith) in
+        let gap = next_then - (dst + run) in
         rw (runs_exchanged_both dst next ps x (run - x) (omega arith) (omega arith), all) (record {
           fills = t.fills;
-          length_is = length-runs_exchanged dst next run ps (omega arith) (omega arith) ∙ t.length_is;
+          length_is = long ∙ t.length_is;
           in_order = omega arith;
           in_region = omega arith;
           placed = omega arith;
-          left = t.left ∙ sym (rotated_by_pass dst (next - dst) (capacity - next) next run (next_then - (dst + run))
-              (capacity - next_then) ps (omega arith) (omega arith) (grind arith));
+          left = t.left ∙ sym (are_rotated dst (next - dst) (capacity - next) ps _ (omega arith)
+              (length-run_rotated (dst + run) gap (capacity - next_then) _ (omega arith) ∙ long) (λ y lt.
+              get_or-run_rotated (dst + run) gap (capacity - next_then) _ (omega arith) y
+              ∙ get_or-runs_exchanged dst next run ps (omega arith) (omega arith) _
+              ∙ ap (held_at ps) (grind (arith, nat_tests))));
         })

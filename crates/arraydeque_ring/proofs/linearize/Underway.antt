@@ -2,7 +2,7 @@
 -- still to change places.
 use Rattle.std.proofs.{
   Common.{◌≡◌, ℕ, ◌+◌, ◌-◌, ◌<◌, ◌≤◌, List, length, slice_get, nat_lt, if◌then◌else◌, Option, None, sym, ap, ◌∙◌},
-  Common.{arith},
+  Common.arith,
   lemmas.{Bool.Decides.nat_tests, List.append-nil, Option.slice_get_past},
 }
 use Rattle.arraydeque_ring.{
@@ -93,27 +93,32 @@ module _ {X : Type 0} {dst gap behind len : ℕ} {ps : List (Option X)} (u : Und
         (λ x a b. between x a (omega arith))
         (λ x a b. filled_now x (omega arith) (grind arith)) (λ x a b. absurd (omega arith))
 
-    made_room : (x : ℕ) → x < length ps → held_at (gap_moved (len - behind) dst behind ps) x ≡ (if nat_lt x dst then held_at ps x
+    -- what the region comes to then
+    abbrev moved_up : List (Option X)
+    moved_up = gap_moved (len - behind) dst behind ps
+
+    long : length moved_up ≡ length ps
+    long = length-gap_moved (len - behind) dst behind ps (omega arith) (omega arith)
+
+    made_room : (x : ℕ) → x < length ps → held_at moved_up x ≡ (if nat_lt x dst then held_at ps x
         else (if nat_lt x (dst + behind) then None
         else (if nat_lt x next then held_at ps (x - behind) else held_at ps x)))
     made_room x lt = get_or-gap_moved (len - behind) dst behind ps (omega arith) (omega arith) x
         ∙ grind (arith, nat_tests, between x, between (x - behind))
 
-    pub room_made : let qs = gap_moved (len - behind) dst behind ps in IsEmptyRun qs dst behind × IsFilledRun qs next behind
-    room_made =
-        let long = length-gap_moved (len - behind) dst behind ps (omega arith) (omega arith) in (
-          empty_run_of _ dst behind (omega arith) (λ x a b. made_room x (omega arith) ∙ grind arith),
-          filled_run_of _ next behind (omega arith) (λ x a b.
-              let v = filled_now x (omega arith) (grind arith) in (v.0, made_room x (omega arith) ∙ grind arith)),
-        )
+    pub room_made : IsEmptyRun moved_up dst behind × IsFilledRun moved_up next behind
+    room_made = (
+      empty_run_of _ dst behind (omega (arith, long)) (λ x a b. made_room x (omega arith) ∙ grind arith),
+      filled_run_of _ next behind (omega (arith, long)) (λ x a b.
+          let v = filled_now x (omega arith) (grind arith) in (v.0, made_room x (omega arith) ∙ grind arith)),
+    )
 
-    pub first_moved : runs_exchanged dst next behind (gap_moved (len - behind) dst behind ps)
-        ≡ run_rotated dst gap behind ps
+    pub first_moved : runs_exchanged dst next behind moved_up ≡ run_rotated dst gap behind ps
     first_moved =
-        let long = length-gap_moved (len - behind) dst behind ps (omega arith) (omega arith) in
+        let within : next + behind ≤ length moved_up = omega (arith, long) in
         are_rotated dst gap behind ps _ (omega arith)
-        (length-runs_exchanged dst next behind _ (omega arith) (omega arith) ∙ long) (λ x lt.
-        get_or-runs_exchanged dst next behind _ (omega arith) (omega arith) x ∙ grind (
+        (length-runs_exchanged dst next behind moved_up (omega arith) within ∙ long) (λ x lt.
+        get_or-runs_exchanged dst next behind moved_up (omega arith) within x ∙ grind (
           arith,
           nat_tests,
           made_room x lt,

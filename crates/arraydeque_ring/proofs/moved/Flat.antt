@@ -5,17 +5,16 @@ use Rattle.std.proofs.{
   Math.Nat.{mod-eq_of_lt},
   lemmas.{
     Bool.Decides.nat_tests,
-    List.{places, FromFn.{fill_by_all, length-map-range_with_len, get_or-map-range_with_len}},
+    List.{ext_get_or, places, FromFn.{length-map-range_with_len, get_or-map-range_with_len}},
   },
 }
-use native.Mathlib.Numerals.{unary_clauses}
 use Rattle.arraydeque_ring.{
   specs.{
     Places.{Region, held_at},
     Steps.Steps,
     Gaps.run_emptied,
     Ring.place_of,
-    Moved.{distance, held_after, run_moved, CanCopy},
+    Moved.{distance, held_after, run_moved},
   },
   proofs.places.Rotated.{place_of_cases, place_of-lt},
 }
@@ -46,9 +45,7 @@ module _ {X : Type 0} where
   -- two lists of places are one where each place holds the same
   pub same_places : (ps qs : List (Option X)) → length ps ≡ length qs
       → ((x : ℕ) → x < length qs → get_or ps x None ≡ get_or qs x None) → ps ≡ qs
-  same_places ps qs long same =
-      fill_by_all (λ x. get_or qs x None) ps (length qs) None long same
-      ∙ sym (fill_by_all (λ x. get_or qs x None) qs (length qs) None refl (λ x lt. refl))
+  same_places ps qs long same = ext_get_or None ps qs long (λ x lt. same x (omega arith))
 
   abbrev pub other : (ℕ → Option X) → ℕ → ℕ → ℕ → Option X
   other f j len x = if nat_lt x j then f x else (if nat_lt x (j + len) then None else f x)
@@ -91,21 +88,12 @@ module _ {X : Type 0} where
       (sym (ap (λ l. run_moved dst src l now.places) none ∙ moved_none dst src now.places) ∙ is) same
 
   -- and any places will do
-  pub same_move : (d s e t l : ℕ) (ps : List (Option X)) → (l ≡ 0) ⊎ ((d ≡ e) × (s ≡ t))
-      → run_moved d s l ps ≡ run_moved e t l ps
-  same_move d s e t l ps (inl none) = rw none (moved_none d s ps ∙ sym (moved_none e t ps))
-  same_move d s e t l ps (inr same) = ap₂ (λ x y. run_moved x y l ps) same.0 same.1
+  pub same_move : (d s e t l m : ℕ) (ps : List (Option X)) → (l ≡ m) × ((l ≡ 0) ⊎ ((d ≡ e) × (s ≡ t)))
+      → run_moved d s l ps ≡ run_moved e t m ps
+  same_move d s e t l m ps (same, inl none) = rw (← same, none) (moved_none d s ps ∙ sym (moved_none e t ps))
+  same_move d s e t l m ps (same, inr to) = rw (same, to.0, to.1) refl
 
   -- or where a run moves to where it is
   pub moved_nowhere : (at len : ℕ) (ps : List (Option X)) → at < length ps → run_moved at at len ps ≡ ps
   moved_nowhere at len ps lt = same_places _ _ (length-moved at at len ps)
       (λ x x_in. moved_at at at len ps x refl x_in ∙ grind (arith, up_from x at (length ps) x_in lt))
-
-  -- a run from its index 0 on is the run
-  pub whole_run : (dst src len : ℕ) (ps : List (Option X))
-      → run_moved (dst + 0) (src + 0) (len - 0) ps ≡ run_moved dst src len ps
-  whole_run dst src len ps = simp unary_clauses
-
-  pub whole_can : (dst src len : ℕ) (ps : List (Option X)) → CanCopy dst src len ps
-      → CanCopy (dst + 0) (src + 0) (len - 0) ps
-  whole_can dst src len ps can = simp unary_clauses can

@@ -4,7 +4,8 @@ use Rattle.arraydeque_ring.proofs.wrap.wrap_add_branchless.Goals as goal
 use Rattle.arraydeque_ring.proofs.wrap.wrap_add_branchless.Goals.{then-offset-capacity, else-offset-capacity}
 
 pub overflow_add-result : goal.overflow_add-result
-overflow_add-result c = omega (arith, at_most_half c.args.capacity (omega arith) c.ranges.capacity.fits c.if-capacity-eq0.true)
+overflow_add-result c =
+    omega (arith, at_most_half c.args.capacity (omega arith) c.ranges.capacity.fits c.if-capacity-eq0.true)
 
 pub returns : goal.returns
 returns c =

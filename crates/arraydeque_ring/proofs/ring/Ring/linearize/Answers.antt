@@ -1,6 +1,5 @@
 use Rattle.std.proofs.{Common.{length, ap, ◌∙◌, arith}, lemmas.List.append-nil}
 use Rattle.arraydeque_ring.{
-  specs.Places.Region,
   proofs.{
     places.{LaidOut.{rotated-LaidOut, LaidOut-from}, Opened.{opened, Shows, shows}, Rotated.length-rotated},
     ring.Ring.linearize.{Given.Over, Goals.{After-replace-nothing}},
@@ -13,11 +12,9 @@ after : (g : Over) (c : After-replace-nothing g) → let old = c.args.self.now i
     Shows old.capacity 0 c.self.inside.len old.items c.replace-nothing.new.dest.places
 after g c =
     let ring = opened c.self.inside c.self.invariant c.self.view_is in
-    let places = ap (λ (region : Region g.row.T.Denot). region.places) c.replace-nothing.ensures.after
-    ∙ (rw c.moved_out.ensures.region at c.rotate-slots.ensures.places) in
-    shows (LaidOut-from _
-    (ap length places ∙ length-rotated c.self.inside.start c.self.inside.slots.places ∙ ring.laid.length_is)
-    (omega arith) (append-nil c.replace-nothing.new.dest.places ∙ places ∙ rotated-LaidOut ring.laid)) _ ring.len
+    rw (c.replace-nothing.ensures.after, c.rotate-slots.ensures.places, c.moved_out.ensures.region) (shows (LaidOut-from
+    _ (length-rotated c.self.inside.start c.self.inside.slots.places ∙ ring.laid.length_is) (omega arith)
+    (append-nil _ ∙ rotated-LaidOut ring.laid)) _ ring.len)
 
 pub invariant_of-self : goal.invariant_of-self
 invariant_of-self g c = let now = after g (goal.at.invariant_of-self g c).After-replace-nothing in (now.1, now.2)

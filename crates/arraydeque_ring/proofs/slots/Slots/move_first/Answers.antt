@@ -9,7 +9,7 @@ move_block-requires-clause-filled g c =
 pub loop-moved-preserved : goal.loop-moved-preserved
 loop-moved-preserved g c =
     let goes = first_block_goes _ _ g.row.N (c.args.len - (c.loop-moved.moved + g.row.N)) _ _
-    (omega arith) (omega arith) c.loop-moved.invariant.can (omega arith) in
+    (omega arith) c.loop-moved.invariant.can (omega arith) in
     rw (
       c.move_block.ensures,
       ← add_assoc c.args.dst c.loop-moved.moved g.row.N,

@@ -7,14 +7,14 @@ use Rattle.arraydeque_ring.proofs.slots.Slots.move_last.Goals as goal
 
 pub move_block-requires-clause-filled : goal.move_block-requires-clause-filled
 move_block-requires-clause-filled g c =
-    let goes = (last_block_goes _ _ (c.args.len - (c.loop-moved.moved + g.row.N)) g.row.N _ _
-    (omega arith) (omega arith) c.loop-moved.invariant.can c.requires.up) in
+    let goes = last_block_goes _ _ (c.args.len - (c.loop-moved.moved + g.row.N)) g.row.N _ _
+    (omega arith) c.loop-moved.invariant.can c.requires.up in
     round_run _ _ _ (omega arith) goes.first
 
 pub loop-moved-preserved : goal.loop-moved-preserved
 loop-moved-preserved g c =
     let goes = last_block_goes _ _ (c.args.len - (c.loop-moved.moved + g.row.N)) g.row.N _ _
-    (omega arith) (omega arith) c.loop-moved.invariant.can c.requires.up in
+    (omega arith) c.loop-moved.invariant.can c.requires.up in
     rw c.move_block.ensures (record {
       within = omega arith;
       can = can_copy (length-moved _ _ _ _) (omega arith) goes.second;
