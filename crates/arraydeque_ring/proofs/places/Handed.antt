@@ -91,12 +91,3 @@ module _ {X : Type 0} (len first : ℕ) (qs : List (Option X)) (le : first ≤ l
 -- in a new region the first places are empty
 pub all_empty : {X : Type 0} (len n : ℕ) → len ≤ n → IsEmptyRun {X = X} (replicate n None) 0 len
 all_empty {X = X} len n le = (omega (arith, length-replicate {A = Option X} n None), take-replicate len n None le)
-
--- in a region that was empty the m items from the index i on are a list of their own
-pub LaidOut-handed : {X : Type 0} {n t : ℕ} {xs : List X} {ps : List (Option X)} → LaidOut n t xs ps → (i m k : ℕ)
-    → i + m ≤ length xs → m ≤ k
-    → LaidOut k 0 (take m (drop i xs)) (take m (drop i (rotated t ps)) ++ drop m (replicate k None))
-LaidOut-handed {xs = xs} l i m k within room =
-    let ys = take m (drop i xs) in
-    let many : 0 + length ys ≡ m = grind (arith, common_steps) in
-    rw (HoldsRun-rotated l i m within) (rw many at (LaidOut-new ys k (omega arith)))

@@ -85,13 +85,9 @@ module _ {X : Type 0} {n t : ℕ} {xs : List X} {ps : List (Option X)} (l : Laid
       let left : length (map is_some ps) - m ≡ n - length xs = omega (arith, length-map ps is_some) in
       rw (rotated-map is_some t ps, rotated-LaidOut, left, ← e) (filled-and_empty xs (n - length xs))
 
-  -- the place of an item is filled, and that of an index past the last one is empty
+  -- the place of an item is filled
   pub IsFilled-place_of : (k : ℕ) → k < length xs → IsFilled ps (place_of t k n)
   IsFilled-place_of k lt = let some = slice_get_some xs k lt in (some.0, l.at k (omega arith) ∙ some.1)
-
-  pub IsEmpty-place_of : (k : ℕ) → length xs ≤ k → k < n → IsEmpty ps (place_of t k n)
-  IsEmpty-place_of k past lt =
-      (omega arith, l.at k lt ∙ grind (arith, items))
 
   -- the start holds the first item
   pub held_at-start : 0 < n → held_at ps t ≡ slice_get xs 0
@@ -105,12 +101,6 @@ module _ {X : Type 0} {n t : ℕ} {xs : List X} {ps : List (Option X)} (l : Laid
   HoldsRun-rotated i len le =
       holds_run_of _ i i len xs le (omega (arith, length-rotated t ps))
       (λ k lt. Holds-rotated (holds l) (i + k) (omega arith))
-
-  pub IsFilledRun-rotated : (i len : ℕ) → i + len ≤ length xs → IsFilledRun (rotated t ps) i len
-  IsFilledRun-rotated i len le = (
-    omega (arith, length-rotated t ps),
-    (take len (drop i xs), HoldsRun-rotated i len le),
-  )
 
   -- they stand from the place p on
   pub HoldsRun-LaidOut : (i p len : ℕ) → MayStartAt t i n p → i + len ≤ length xs → p + len ≤ n
@@ -137,10 +127,6 @@ module _ {X : Type 0} {n t : ℕ} {xs : List X} {ps : List (Option X)} (l : Laid
       let past = slice_get_past xs (distance t x n) (omega arith) in
       Holds-each (holds l) x (omega (arith, length-replicate {A = Option X} (length ps) None))
       ∙ grind (arith, common_steps))
-
-  -- and the list may start at the first place as well
-  pub LaidOut-restart : length xs ≡ 0 → LaidOut {X = X} n 0 [] ps
-  LaidOut-restart none = rw (AreAllEmpty-LaidOut none, l.length_is) (LaidOut-nothing n)
 
   -- the first item is taken off
   pub LaidOut-take_front : 0 < length xs → LaidOut n (place_of t 1 n) (drop 1 xs) (set ps t None)

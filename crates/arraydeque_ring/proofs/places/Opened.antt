@@ -28,12 +28,12 @@ use Rattle.arraydeque_ring.{
     loans.Placed.length-as_many,
     places.{
       Appended.{LaidOut-appended, LaidOut-written, LaidOut-new, IsEmptyRun-behind},
-      Handed.{handed, LaidOut-handed},
+      Handed.handed,
       LaidOut.{LaidOut, LaidOut-values, values-LaidOut, FilledFrom-LaidOut, LaidOut-nothing},
-      LaidOut.{LaidOut-take_front, IsEmpty-place_of, held_at-start},
-      LaidOut.{LaidOut-restart, IsFilled-start, AreAllEmpty-LaidOut, IsFilled-place_of, IsFilledRun-rotated},
+      LaidOut.{LaidOut-take_front, held_at-start},
+      LaidOut.{IsFilled-start, AreAllEmpty-LaidOut, IsFilled-place_of, HoldsRun-rotated},
       LaidOut.{IsFilledRun-LaidOut, HoldsRun-LaidOut, same_run, LaidOut-set, LaidOut-swap},
-      Rotated.{MayStartAt, MayStartAt-place_of, place_of-first, place_of-zero, place_of-lt, one_place},
+      Rotated.{MayStartAt, MayStartAt-place_of, place_of-first, place_of-zero, place_of-lt, one_place, length-rotated},
     },
   },
 }
@@ -172,7 +172,8 @@ module _ {X : Type 0} (r : Inside X) (kept : Kept r) where
 
   pub past_items : (k : ℕ) → r.len ≤ k → k < n
       → (held_at places (place_of r.start k n) ≡ None) × (place_of r.start k n < n)
-  past_items k past lt = let empty = IsEmpty-place_of laid k (omega (arith, len)) lt in (empty.1, empty.0)
+  past_items k past lt =
+      (laid.at k lt ∙ slice_get_past items k (omega (arith, len)), place_of-lt r.start k n (omega (arith, laid.in_region)))
 
   pub next_place : r.start + 1 < n → place_of r.start 1 n ≡ r.start + 1
   next_place lt = mod-eq_of_lt lt
@@ -232,7 +233,10 @@ module _ {X : Type 0} (r : Inside X) (kept : Kept r) where
 
   -- those of a run of indexes stand in filled places
   pub run_filled : (i m : ℕ) → i + m ≤ r.len → IsFilledRun (rotated r.start places) i m
-  run_filled i m le = IsFilledRun-rotated laid i m (omega (arith, len))
+  run_filled i m le = (
+    omega (arith, len, laid.within, length-rotated r.start places),
+    (take m (drop i items), HoldsRun-rotated laid i m (omega (arith, len))),
+  )
 
   pub all_filled : IsFilledRun (rotated r.start places) 0 r.len
   all_filled = run_filled 0 r.len (omega arith)
@@ -259,14 +263,16 @@ module _ {X : Type 0} (r : Inside X) (kept : Kept r) where
 
   pub all_dropped : (ps : List (Option X)) → rotated r.start ps ≡ run_emptied 0 r.len (rotated r.start places)
       → (rotated r.start ps ≡ run_emptied 0 r.len (rotated r.start places)) × Shows n 0 0 [] ps
-  all_dropped ps out =
-      (out, shows (LaidOut-restart (laid_before ps 0 r.len (omega arith) out) refl) 0 refl)
+  all_dropped ps out = let none = laid_before ps 0 r.len (omega arith) out in
+      (out, shows (rw (AreAllEmpty-LaidOut none refl, none.length_is) (LaidOut-nothing n)) 0 refl)
 
   -- or handed over to another region, which was empty
   pub run_handed : (i m k : ℕ) → i + m ≤ r.len → m ≤ k → Become k 0 m (take m (drop i items))
       (take m (drop i (rotated r.start places)) ++ drop m (replicate k None))
-  run_handed i m k le room = become (LaidOut-handed laid i m k (omega (arith, len)) room) m
-      (length-take-le m (drop i items) (omega (arith, len, length-drop i items)))
+  run_handed i m k le room =
+      let ys = take m (drop i items) in
+      let many : 0 + length ys ≡ m = omega (arith, len, length-take m (drop i items), length-drop i items) in
+      become (rw (HoldsRun-rotated laid i m (omega (arith, len))) (rw many at (LaidOut-new ys k (omega arith)))) _ (omega arith)
 
   -- the first m items stand in one piece
   pub piece_filled : (m : ℕ) → m ≤ r.len → r.start + m ≤ n → IsFilledRun places r.start m

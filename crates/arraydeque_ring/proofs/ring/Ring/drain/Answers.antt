@@ -8,8 +8,7 @@ use Rattle.arraydeque_ring.{
     gaps.Fewest.fewest_drain,
     places.{
       Handed.all_empty,
-      LaidOut.{length_within, IsFilledRun-rotated},
-      Opened.{opened, bounds, Closing, run_out, Shows},
+      Opened.{opened, bounds, Closing, run_filled, run_out, Shows},
       Rotated.{place_of-zero},
     },
     ring.Ring.drain.{Given.Over, Goals.{After-take_run, After-close_gap-self-inside}},
@@ -27,8 +26,8 @@ returns-then-count-eq0-clause-start g c =
 
 pub take_run-requires-clause-filled : goal.take_run-requires-clause-filled
 take_run-requires-clause-filled g c =
-    let ring = opened c.self.inside c.self.invariant c.self.view_is in
-    IsFilledRun-rotated ring.laid _ _ (omega arith)
+    let ring = bounds c.self.inside _ c.self.invariant c.self.view_is in
+    run_filled c.self.inside c.self.invariant _ _ (omega arith)
 
 out : (g : Over) (c : After-take_run g) → let old = c.args.self.now in Closing c.self.inside.start old.capacity
     c.args.from (c.args.to - c.args.from) c.args.to c.self.inside.len old.items c.take_run.new.slots.places
@@ -69,7 +68,7 @@ pub returns-clause-fewest : goal.returns-clause-fewest
 returns-clause-fewest g c =
     let ring = opened c.self.inside c.self.invariant c.self.view_is in
     rw (returns-clause-start g c) (fewest_drain _ _ _ _ _ (omega arith)
-    c.requires.in_order c.requires.in_bounds (length_within ring.laid))
+    c.requires.in_order c.requires.in_bounds (omega arith))
 
 pub returns-then-count-eq0-clause-fewest : goal.returns-then-count-eq0-clause-fewest
 returns-then-count-eq0-clause-fewest g c =
@@ -77,7 +76,7 @@ returns-then-count-eq0-clause-fewest g c =
     let ring = opened c.self.inside c.self.invariant c.self.view_is in
     subst (IsFewest _ old.capacity _) (sym (returns-then-count-eq0-clause-start g c))
     (fewest_drain c.args.from c.args.to (length old.items) old.capacity old.start (omega arith) c.requires.in_order
-    c.requires.in_bounds (length_within ring.laid))
+    c.requires.in_bounds (omega arith))
 
 pub returns-then-count-eq0-clause-items : goal.returns-then-count-eq0-clause-items
 returns-then-count-eq0-clause-items g c = grind (arith, common_steps, bounds)

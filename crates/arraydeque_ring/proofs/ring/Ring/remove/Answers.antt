@@ -1,7 +1,7 @@
 use Rattle.std.{proofs.Common.{suc, ◌-◌, arith}, specs.List.remove}
 use Rattle.arraydeque_ring.proofs.{
   gaps.Fewest.fewest_remove,
-  places.{LaidOut.length_within, Opened.{opened, Closing, one_out, Shows}},
+  places.Opened.{opened, Closing, one_out, Shows},
   ring.Ring.remove.{Given.Over, Goals.{After-take-item, After-close_gap-self-inside}},
 }
 use Rattle.arraydeque_ring.proofs.ring.Ring.remove.Goals as goal
@@ -46,4 +46,4 @@ pub returns-clause-fewest : goal.returns-clause-fewest
 returns-clause-fewest g c =
     let ring = opened c.self.inside c.self.invariant c.self.view_is in
     rw (returns-clause-start g c) (fewest_remove c.args.index _ _ _ (omega arith)
-    c.requires (length_within ring.laid))
+    c.requires (omega arith))
