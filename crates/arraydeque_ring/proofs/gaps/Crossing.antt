@@ -17,7 +17,7 @@ use Rattle.arraydeque_ring.{
     moved.{Flat.{distance_is, look, same_places}, Round.{Holds-moved, distance-rotated}},
     places.{
       Held.{filled_in_run, empty_in_run},
-      Holds.{Holds, Holds-filled, Holds-of_rotated, rotated-Holds},
+      Holds.{Holds, Holds-of_rotated, rotated-Holds},
       Rotated.{place_of-lt, place_of-sum, one_place, length-rotated},
     },
   },
@@ -113,7 +113,8 @@ crosses {t = t} {len = len} {ps = ps} from to gap i j asked ways long at_d at_s 
         dst_in_region = place_of-lt t i n (omega arith);
         src_in_region = place_of-lt t j n (omega arith);
         apart = apart_by t i j len n t_in (omega arith) (omega arith);
-        filled = Holds-filled reads j len (omega arith) (λ k lt. filled_in_run qs j len k filled lt);
+        filled = λ k lt. let v = filled_in_run qs j len k filled lt in
+            (v.0, rw (place_of-sum t j k n) (reads.at (j + k) (omega arith) ∙ v.1));
         free = λ k lt. rw (place_of-sum t i k n) (elim (goes_to t from to gap i j len (i + k) n t_in (omega arith)
             ways (omega arith) (omega arith) (omega arith)) [
               | inl source ↦ inl source

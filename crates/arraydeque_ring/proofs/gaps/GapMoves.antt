@@ -27,10 +27,6 @@ use Rattle.arraydeque_ring.{
   },
 }
 
--- the start stays in the region
-start_closed-in : (i gap m n t : ℕ) → t < n → gap ≤ n → start_closed i gap m n t ≤ n - 1
-start_closed-in i gap m n t t_in le = grind arith
-
 pub may_move : {X : Type 0} (t from to gap : ℕ) (ps : List (Option X)) {ts : List (Option X)} → rotated t ps ≡ ts
     → 0 < gap → t < length ps → max from to + gap ≤ length ps
     → ((x : ℕ) → from ≤ x → x < from + gap → held_at ts x ≡ None) → ((x : ℕ) → to ≤ x → x < from → IsFilled ts x)
@@ -139,7 +135,7 @@ module _ {X : Type 0} {n t : ℕ} {xs : List X} {gap : ℕ} {ys : List X} {ps : 
       → LaidOut n s (xs ++ ys) qs
   LaidOut-closed i m s qs some front back here is =
       LaidOut-gap_last (gap_moves i (i + m) front s qs (append-nil (xs ++ ys)) (omega (arith, length-append xs ys))
-      (rw (here, p.reads.length_is) (start_closed-in i gap m n t (omega arith) (omega arith))) is)
+      (grind (arith, here)) is)
 
 -- a gap that goes before all values leaves what one does that goes behind them, from a start behind it
 pub closed_up : {X : Type 0} (t i gap m : ℕ) (ps qs : List (Option X)) → MayClose t i gap m ps

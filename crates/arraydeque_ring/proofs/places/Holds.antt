@@ -67,16 +67,10 @@ module _ {X : Type 0} {n t : ℕ} {f : ℕ → Option X} {ps : List (Option X)} 
 
   -- each place has an index
   pub Holds-each : (x : ℕ) → x < n → held_at ps x ≡ f (distance t x n)
-  Holds-each x lt = ap (held_at ps) (sym (up_from x t n lt (omega arith)))
-      ∙ h.at (distance t x n) (place_of-lt x (n - t) n (omega arith))
-
-  -- a run of indexes that have values
-  pub Holds-filled : (i len : ℕ) → i + len ≤ n → ((k : ℕ) → k < len → (x : X) × (f (i + k) ≡ Some x))
-      → IsFilledRound (place_of t i (length ps)) len ps
-  Holds-filled i len within each k lt = let some = each k lt in
-      (some.0, rw (h.length_is, place_of-sum t i k n) (h.at (i + k) (omega arith) ∙ some.1))
+  Holds-each x lt =
+      rw (up_from x t n lt (omega arith)) at (h.at (distance t x n) (place_of-lt x (n - t) n (omega arith)))
 
 -- from the first place on an index is its own place
 pub Holds-first : {X : Type 0} {n : ℕ} {f : ℕ → Option X} {ps : List (Option X)} → Holds n 0 f ps → (k : ℕ) → k < n
     → held_at ps k ≡ f k
-Holds-first {n = n} {ps = ps} h k lt = ap (held_at ps) (sym (place_of-first k n lt)) ∙ h.at k lt
+Holds-first {n = n} h k lt = rw (place_of-first k n lt) at (h.at k lt)

@@ -5,7 +5,7 @@ use Rattle.std.proofs.{
   Common.{nat_lt, if◌then◌else◌, Option, Some, None, is_some, refl, sym, ap, ◌∙◌, swap, arith},
   lemmas.{
     Grind.common_steps,
-    List.{length-append, length-take, length-drop, length-map, length-replicate, length-set, Edits.swap_is},
+    List.{append-nil, length-append, length-take, length-drop, length-map, length-replicate, length-set, Edits.swap_is},
     Option.{get_or_from_slice_get, slice_get_past},
   },
 }
@@ -51,12 +51,7 @@ module _ {X : Type 0} {n t : ℕ} {xs : List X} {ps : List (Option X)} where
 
 -- empty places hold the empty list
 pub LaidOut-nothing : {X : Type 0} (n : ℕ) → LaidOut {X = X} n 0 [] (replicate n None)
-LaidOut-nothing n = record {
-  length_is = length-replicate n None;
-  in_region = omega arith;
-  within = omega arith;
-  at = λ k lt. grind (arith, common_steps);
-}
+LaidOut-nothing n = LaidOut-from n (length-replicate n None) (omega arith) (append-nil (replicate n None))
 
 -- places of which len from the start on are filled hold the values in them
 pub LaidOut-values : {X : Type 0} (t len : ℕ) (ps : List (Option X)) → t ≤ length ps - 1 → FilledFrom t len (filled ps)

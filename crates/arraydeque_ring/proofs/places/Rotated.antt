@@ -38,22 +38,15 @@ pub place_of-place_of : (t i x n : ℕ) → place_of (place_of t i n) x n ≡ pl
 place_of-place_of t i x n = place_of-sum t i x n ∙ sym (add-mod-mod t (i + x) n)
 
 -- two indexes have two places
-pub same_index : (t i j n : ℕ) → t ≤ n → i < n → j < n → place_of t i n ≡ place_of t j n → i ≡ j
-same_index t i j n a b c e =
-    grind (arith, place_of_cases t j n (omega arith))
-
 pub one_place : (t i j n : ℕ) → t ≤ n → i < n → j < n → (place_of t i n == place_of t j n) ≡ (i == j)
-one_place t i j n a b c = grind (arith, same_index t i j n a b c)
+one_place t i j n a b c = grind (arith, place_of_cases t i n (omega arith), place_of_cases t j n (omega arith))
 
 -- a run from the index i on may start at the place p: the place of i, or the region's end in its stead
 abbrev pub MayStartAt : ℕ → ℕ → ℕ → ℕ → Type 0
 MayStartAt t i n p = (p ≡ t + i) ⊎ (p + n ≡ t + i)
 
 pub MayStartAt-place_of : (t i n : ℕ) → t + i < n + n → MayStartAt t i n (place_of t i n)
-MayStartAt-place_of t i n within = elim (place_of_cases t i n within) [
-  | inl below ↦ inl below.1
-  | inr past ↦ inr past.1
-]
+MayStartAt-place_of t i n within = grind (arith, place_of_cases t i n within)
 
 -- and its items stand side by side, as far as the end
 pub place_of-run : (t i j n p : ℕ) → MayStartAt t i n p → p + j < n → t ≤ n → i + j < n → place_of t (i + j) n ≡ p + j
