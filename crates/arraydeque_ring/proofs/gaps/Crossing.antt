@@ -84,16 +84,16 @@ goes_to : (t from to gap i j len x n : ℕ) → t < n → x < n → Passes from 
     → x < i + len → (distance (place_of t j n) (place_of t x n) n < len) ⊎ ((from ≤ x) × (x < from + gap))
 goes_to t from to gap i j len x n t_in x_in ways within a b =
     rw (distance-rotated t j x n t_in (omega arith) x_in)
-    (grind (arith, distance_is j x n (omega arith) x_in))
+    (grind arith)
 
 passed : {X : Type 0} (from to gap i j len x : ℕ) (qs : List (Option X)) → from + gap ≤ length qs
     → to + gap ≤ length qs → (from ≤ x → x < from + gap → held_at qs x ≡ None) → Passes from to gap i j len
     → look (held_at qs) i j len x ≡ held_at (gap_moved from to gap qs) x
 passed from to gap i j len x qs from_in to_in none ways = elim (cases_lt x i) [
-  | inl low ↦ grind (arith, none)
+  | inl low ↦ grind arith
   | inr high ↦ elim ways [
-    | inl up ↦ let back : j + (x - i) ≡ x - gap = omega arith in grind (arith, none, back)
-    | inr down ↦ let on : j + (x - i) ≡ x + gap = omega arith in grind (arith, none, on)
+    | inl up ↦ grind arith
+    | inr down ↦ let on : j + (x - i) ≡ x + gap = omega arith in grind arith
   ]
 ] ∙ sym (get_or-gap_moved from to gap qs from_in to_in x)
 
@@ -104,9 +104,9 @@ crosses {t = t} {len = len} {ps = ps} from to gap i j asked ways long at_d at_s 
     let t_in = asked.in_region in
     let n = length ps in
     let qs = rotated t ps in
-    let wide : length qs ≡ n = length-rotated t ps in
+    let wide = length-rotated t ps in
     let none = empty_at qs from gap asked.empty in
-    let reads : Holds n t (held_at qs) ps = Holds-of_rotated refl wide (omega arith) (λ k lt. refl) in
+    let reads = Holds-of_rotated refl wide (omega arith) (λ k lt. refl) in
     let moved = Holds-moved reads i j len t_in (omega arith) (omega arith) in
     rw (at_d, at_s, long) (record {
       may = record {

@@ -21,7 +21,7 @@ count_sides : (p : ℕ → Bool) (f b : Bool) (s e n : ℕ) → s ≤ e
     → count_below p n ≡ (if f then min s n else 0) + (if b then n - e else 0)
 count_sides p f b s e zero le each = grind arith
 count_sides p f b s e (suc n) le each = let rest = count_sides p f b s e n le (λ k lt. each k (omega arith)) in
-    grind (arith, rest)
+    grind arith
 
 -- from two starts an item has the same place only where they are one
 one_start : (c t u k : ℕ) → t < c → u < c → k ≤ c → (place_of t k c == place_of u k c) ≡ (t == u)

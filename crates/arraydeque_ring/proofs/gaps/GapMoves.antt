@@ -32,7 +32,7 @@ pub may_move : {X : Type 0} (t from to gap : ℕ) (ps : List (Option X)) {ts : L
     → ((x : ℕ) → from ≤ x → x < from + gap → held_at ts x ≡ None) → ((x : ℕ) → to ≤ x → x < from → IsFilled ts x)
     → ((x : ℕ) → from + gap ≤ x → x < to + gap → IsFilled ts x) → MayMove t from to gap ps
 may_move t from to gap ps {ts = ts} is some t_in within none before behind =
-    let wide : length ts ≡ length ps = ap length (sym is) ∙ length-rotated t ps in
+    let wide = ap length (sym is) ∙ length-rotated t ps in
     rw is (record {
       some = some;
       in_region = t_in;
@@ -151,5 +151,5 @@ closed_up t i gap m ps qs may is =
     rotated-Holds (Holds-from reads gap (omega arith) (omega arith) (λ k lt. refl))
     (length-gap_moved i (i + m) gap ts (omega arith) (omega arith) ∙ wide) (λ x lt.
     get_or-gap_moved i 0 gap ts (omega arith) (omega arith) (place_of gap x n)
-    ∙ grind (arith, nat_tests, place_of_cases gap x n (omega arith), none x, none (place_of gap x n))
+    ∙ grind (arith, nat_tests, place_of_cases gap x n (omega arith))
     ∙ sym (get_or-gap_moved i (i + m) gap ts (omega arith) (omega arith) x))

@@ -23,7 +23,7 @@ module _ {X : Type 0} where
   )
 
   pub get_or-and_empty : (xs : List X) (k i : ℕ) → get_or (and_empty xs k) i None ≡ slice_get xs i
-  get_or-and_empty xs k i = grind (arith, common_steps, get_or-map_Some xs i, slice_get_past)
+  get_or-and_empty xs k i = grind (arith, common_steps, get_or-map_Some xs i)
 
   pub values-and_empty : (xs : List X) (k : ℕ) → values (and_empty xs k) ≡ xs
   values-and_empty [] zero = refl

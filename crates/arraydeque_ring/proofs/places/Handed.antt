@@ -53,7 +53,7 @@ handed t at len n place first ps long in_region some run is cut =
     let joined : firsts ++ others ≡ take len (drop at ts) =
     same_lists (firsts ++ others) (take len (drop at ts)) (search (rules, places)) (λ j d lt.
     let on = get_or-rotated t (at + j) n ps d (sym long) (omega arith) (omega arith) in
-    grind (arith, places, on, place_of_cases t (at + j) n (omega arith), lies)) in
+    grind (arith, places)) in
     let here : firsts ≡ map Some (take first zs) =
     sym (take_at firsts others first many) ∙ ap (take first) (joined ∙ run.1.1) ∙ take-map Some first zs in
     let there : others ≡ map Some (drop first zs) =
@@ -74,7 +74,7 @@ handed t at len n place first ps long in_region some run is cut =
 module _ {X : Type 0} (len first : ℕ) (qs : List (Option X)) (le : first ≤ len) (empty : IsEmptyRun qs 0 len) where
   pub first_empty : IsEmptyRun qs 0 first
   first_empty = empty_run_of qs 0 first (omega arith)
-      (λ x from to. grind (arith, common_steps, empty_in_run qs 0 len x empty))
+      (λ x from to. grind (arith, empty_in_run qs 0 len x empty))
 
   module _ (firsts others : List (Option X)) (many : length firsts ≡ first) where
     abbrev put : List (Option X)

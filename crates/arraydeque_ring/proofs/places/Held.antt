@@ -54,8 +54,8 @@ module _ {X : Type 0} where
       → get_or (set ps i None) j None ≡ Some y
       → set (set (set (set ps i None) j None) i (Some y)) j (Some x) ≡ swap ps i j
   exchanged ps i j x y apart at_i at_j =
-      let y_was : get_or ps j None ≡ Some y = sym (get_or-set_other ps i j None None (λ e. apart (sym e))) ∙ at_j in
-      same_places _ _ (simp length-set) (λ k lt. grind (arith, common_steps, at_i, y_was))
+      let y_was = sym (get_or-set_other ps i j None None (λ e. apart (sym e))) ∙ at_j in
+      same_places _ _ (simp length-set) (λ k lt. grind (arith, common_steps))
       ∙ swap_is ps i j None (filled_within ps i x at_i) (filled_within ps j y y_was)
 
   -- a run is filled, or empty, where each of its places is
@@ -87,7 +87,7 @@ module _ {X : Type 0} where
   pub empty_run_of : (ps : List (Option X)) (from len : ℕ) → from + len ≤ length ps
       → ((x : ℕ) → from ≤ x → x < from + len → held_at ps x ≡ None) → IsEmptyRun ps from len
   empty_run_of ps from len le each =
-      (le, same_places _ _ (grind (arith, common_steps)) (λ x lt. grind (arith, common_steps, each (from + x))))
+      (le, same_places _ _ (grind (arith, common_steps)) (λ x lt. grind (arith, common_steps)))
 
   -- and holds those items that its places hold, here those from the index i on
   pub holds_run_of : (ps : List (Option X)) (from i len : ℕ) (xs : List X) → i + len ≤ length xs
@@ -96,4 +96,4 @@ module _ {X : Type 0} where
   holds_run_of ps from i len xs within le each =
       let ys = take len (drop i xs) in
       let long = length-map ys Some in same_places _ _ (grind (arith, common_steps))
-      (λ k lt. grind (arith, common_steps, items, each k) ∙ sym (get_or-map_Some ys k))
+      (λ k lt. grind (arith, common_steps, items) ∙ sym (get_or-map_Some ys k))

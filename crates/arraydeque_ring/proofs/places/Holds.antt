@@ -25,7 +25,7 @@ pub record Holds {X : Type 0} (n t : ℕ) (f : ℕ → Option X) (ps : List (Opt
 pub Holds-of_rotated : {X : Type 0} {n t : ℕ} {f : ℕ → Option X} {ps ts : List (Option X)} → rotated t ps ≡ ts
     → length ts ≡ n → t ≤ n - 1 → ((k : ℕ) → k < n → held_at ts k ≡ f k) → Holds n t f ps
 Holds-of_rotated {n = n} {t = t} {ps = ps} is long within each =
-    let whole : length ps ≡ n = sym (length-rotated t ps) ∙ ap length is ∙ long in
+    let whole = sym (length-rotated t ps) ∙ ap length is ∙ long in
     record {
       length_is = whole;
       in_region = within;
@@ -60,9 +60,9 @@ module _ {X : Type 0} {n t : ℕ} {f : ℕ → Option X} {ps : List (Option X)} 
     length_is = length-set ps (place_of t k n) c ∙ h.length_is;
     in_region = h.in_region;
     at = λ i lt. get_or-written ps (place_of t k n) (place_of t i n) c
-        (omega (arith, place_of-lt t k n (omega arith)))
+        (omega arith)
         ∙ rw (one_place t i k n (omega arith) lt k_in)
-        (grind (arith, here, h.at i lt, others i lt));
+        (grind arith);
   }
 
   -- each place has an index

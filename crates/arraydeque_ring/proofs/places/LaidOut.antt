@@ -46,7 +46,7 @@ module _ {X : Type 0} {n t : ℕ} {xs : List X} {ps : List (Option X)} where
   pub LaidOut-from : (k : ℕ) → length ps ≡ n → t ≤ n - 1 → rotated t ps ≡ and_empty xs k → LaidOut n t xs ps
   LaidOut-from k long within e =
       let all = sym (ap length e) ∙ length-rotated t ps ∙ long in
-      LaidOut-by (omega (arith, all, length-and_empty xs k))
+      LaidOut-by (omega (arith, length-and_empty xs k))
       (Holds-of_rotated e all within (λ i lt. get_or-and_empty xs k i))
 
 -- empty places hold the empty list
@@ -119,7 +119,6 @@ module _ {X : Type 0} {n t : ℕ} {xs : List X} {ps : List (Option X)} (l : Laid
   -- with no items every place is empty
   pub AreAllEmpty-LaidOut : length xs ≡ 0 → AreAllEmpty ps
   AreAllEmpty-LaidOut none = same_places _ _ (sym (length-replicate (length ps) None)) (λ x lt.
-      let past = slice_get_past xs (distance t x n) (omega arith) in
       Holds-each (holds l) x (omega (arith, length-replicate {A = Option X} (length ps) None))
       ∙ grind (arith, common_steps))
 
@@ -142,7 +141,7 @@ pub LaidOut-swap : {X : Type 0} {n t : ℕ} {xs : List X} {ps : List (Option X)}
     → i < length xs → j < length xs → LaidOut n t (swap xs i j) (swap ps (place_of t i n) (place_of t j n))
 LaidOut-swap {n = n} {t = t} {xs = xs} {ps = ps} l i j i_in j_in =
     let x = slice_get_some xs i i_in in let y = slice_get_some xs j j_in in
-    let in_region : (k : ℕ) → k < length xs → place_of t k n < length ps = λ k lt. omega (arith, place_of-lt t k n) in
+    let in_region : (k : ℕ) → k < length xs → place_of t k n < length ps = λ k lt. omega arith in
     rw (
       ← swap_is xs i j x.0 i_in j_in,
       get_or_from_slice_get xs j y.0 x.0 y.1,

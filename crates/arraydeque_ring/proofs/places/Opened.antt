@@ -300,7 +300,7 @@ module _ {X : Type 0} (r : Inside X) (kept : Kept r) where
   -- as many are written in their stead
   pub piece_written : (ws : List X) → length ws ≡ r.len → r.start + r.len ≤ n
       → Shows n r.start r.len ws (with_run r.start ws places)
-  piece_written ws many fits = shows (LaidOut-written laid ws (omega (arith, len)) (omega (arith, len))) _ many
+  piece_written ws many fits = shows (LaidOut-written laid ws (omega (arith, len)) (omega arith)) _ many
 
   -- they go
   pub piece_taken : (m : ℕ) → 0 < m → m ≤ r.len → r.start + m ≤ n
@@ -331,8 +331,8 @@ module _ {X : Type 0} (r : Inside X) (kept : Kept r) where
     piece_joined o okept some le fits' =
         let other = opened o okept refl in
         let xs = take m (values (rotated o.start o.slots.places)) in
-        let many : length xs ≡ m = length-take-le m _ (omega (arith, other.len)) in
-        let held = HoldsRun-LaidOut other.laid 0 o.start m (inl (omega arith)) (omega (arith, other.len)) fits' in
+        let many = length-take-le m _ (omega arith) in
+        let held = HoldsRun-LaidOut other.laid 0 o.start m (inl (omega arith)) (omega arith) fits' in
         let written : splice places behind (behind + m) (take m (drop o.start o.slots.places))
         ≡ with_run behind xs places = ap₂ (λ k l. splice places behind (behind + k) l) (sym many) held in
         become (rw written (LaidOut-appended laid xs behind (lies some) (omega arith) (omega (arith, len)))) _

@@ -62,12 +62,10 @@ module _ {X : Type 0} (a b : ℕ) (ps : List (Option X)) where
       sym (swap_is ps a b None (omega arith) within) ∙ same_places _ _ (omega (
         arith,
         length-set ones b (held_at ps a),
-        long,
         length-runs_exchanged a b 1 ps,
       )) (λ x lt. grind (
         arith,
         get_or-written ones b x (held_at ps a),
-        long,
         get_or-written ps a x (held_at ps b),
         get_or-runs_exchanged a b 1 ps (omega arith) (omega arith) x,
       ))

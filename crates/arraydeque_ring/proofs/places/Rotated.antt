@@ -12,7 +12,7 @@ pub place_of_cases : (t k n : ℕ) → t + k < n + n
     → ((t + k < n) × (place_of t k n ≡ t + k)) ⊎ ((n ≤ t + k) × (place_of t k n + n ≡ t + k))
 place_of_cases t k n within = elim (cases_lt (t + k) n) [
   | inl below ↦ inl (below, mod-eq_of_lt below)
-  | inr past ↦ let is : place_of t k n ≡ t + k - n = mod-eq-sub-mod past ∙ mod-eq_of_lt (omega arith) in
+  | inr past ↦ let is = mod-eq-sub-mod past ∙ mod-eq_of_lt (omega arith) in
       inr (past, omega arith)
 ]
 
