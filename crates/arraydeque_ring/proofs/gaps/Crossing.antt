@@ -93,7 +93,7 @@ passed from to gap i j len x qs from_in to_in none ways = elim (cases_lt x i) [
   | inl low ↦ grind arith
   | inr high ↦ elim ways [
     | inl up ↦ grind arith
-    | inr down ↦ let on : j + (x - i) ≡ x + gap = omega arith in grind arith
+    | inr down ↦ grind arith
   ]
 ] ∙ sym (get_or-gap_moved from to gap qs from_in to_in x)
 

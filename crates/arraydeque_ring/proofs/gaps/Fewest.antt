@@ -86,7 +86,7 @@ module _ (s e n c t : ℕ) (t_in : t ≤ c - 1) (in_order : s ≤ e) (e_in : e �
         drained (place_of t (e - s) c) (place_of-lt t (e - s) c (omega arith)),
         place_of_cases t (e - s) c (omega arith),
       )
-      | inr none ↦ let no : n ≡ 0 = omega arith in rw no (grind (arith, nat_tests))
+      | inr none ↦ let no : n ≡ 0 = omega arith in rw no (grind arith)
     ];
   }
 

@@ -95,5 +95,5 @@ module _ {X : Type 0} where
       → HoldsRun ps from len (take len (drop i xs))
   holds_run_of ps from i len xs within le each =
       let ys = take len (drop i xs) in
-      let long = length-map ys Some in same_places _ _ (grind (arith, common_steps))
+      same_places _ _ (grind (arith, common_steps))
       (λ k lt. grind (arith, common_steps, items) ∙ sym (get_or-map_Some ys k))
