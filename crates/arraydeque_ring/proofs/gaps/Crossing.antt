@@ -51,19 +51,16 @@ MayMove t from to gap ps = record {
   filled_behind : IsFilledRun (rotated t ps) (from + gap) (to - from);
 }
 
--- what `wrap_move` asks
-abbrev pub MayWrap : {X : Type 0} → ℕ → ℕ → ℕ → List (Option X) → Type 0
-MayWrap d s len ps = record {
-  dst_in_region : d < length ps;
-  src_in_region : s < length ps;
-  apart : MeetAtOneEndAtMost d s len (length ps);
-  filled : IsFilledRound s len ps;
-  free : IsFreeRound d s len ps;
-}
-
--- the len values from s on may move to the places from d on, and what that comes to, read from t on
+-- the len values from s on may move to the places from d on, as `wrap_move` asks,
+-- and what that comes to, read from t on
 pub record Crosses {X : Type 0} (t d s len : ℕ) (ps after : List (Option X)) : Type 0 where
-  pub may : MayWrap d s len ps
+  pub may : record {
+    dst_in_region : d < length ps;
+    src_in_region : s < length ps;
+    apart : MeetAtOneEndAtMost d s len (length ps);
+    filled : IsFilledRound s len ps;
+    free : IsFreeRound d s len ps;
+  }
   pub count : (if d == s then 0 else len) ≡ len
   pub is : rotated t (run_moved d s len ps) ≡ after
 

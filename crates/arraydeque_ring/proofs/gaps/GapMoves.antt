@@ -129,14 +129,6 @@ module _ {X : Type 0} {n t : ℕ} {xs : List X} {gap : ℕ} {ys : List X} {ps : 
             (λ x a b. gap_at x (omega arith) ∙ grind (arith, items));
       }
 
-  -- and what it leaves
-  pub LaidOut-closed : (i m s : ℕ) (qs : List (Option X)) → 0 < gap → length xs ≡ i → length ys ≡ m
-      → s ≡ start_closed i gap m (length ps) t → rotated s qs ≡ gap_moved i (i + m) gap (rotated t ps)
-      → LaidOut n s (xs ++ ys) qs
-  LaidOut-closed i m s qs some front back here is =
-      LaidOut-gap_last (gap_moves i (i + m) front s qs (append-nil (xs ++ ys)) (omega (arith, length-append xs ys))
-      (grind (arith, here)) is)
-
 -- a gap that goes before all values leaves what one does that goes behind them, from a start behind it
 pub closed_up : {X : Type 0} (t i gap m : ℕ) (ps qs : List (Option X)) → MayClose t i gap m ps
     → rotated t qs ≡ gap_moved i 0 gap (rotated t ps)

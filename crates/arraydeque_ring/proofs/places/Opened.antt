@@ -23,7 +23,7 @@ use Rattle.arraydeque_ring.{
   proofs.{
     gaps.{
       Gapped.{Gapped, Gapped-taken, Gapped-taken_one, LaidOut-gap_first, LaidOut-gap_last, LaidOut-put},
-      GapMoves.{MayClose, may_close, Gapped-behind, Gapped-before, LaidOut-closed},
+      GapMoves.{MayClose, may_close, Gapped-behind, Gapped-before, gap_moves},
     },
     loans.Placed.length-as_many,
     places.{
@@ -119,11 +119,12 @@ module _ {X : Type 0} {r : Inside X} {v : RingState X} (o : Opened r v) where
   gap_left a m b qs all some le p =
       let front = length-take-le a v.items (omega arith) in
       let back = length-drop b v.items in
+      let both = length-append (take a v.items) (drop b v.items) in
       record {
         long = p.reads.length_is;
         may = may_close p _ _ some front (omega arith);
-        closed = λ s ps here is. shows (LaidOut-closed p _ _ s ps some front (omega arith) here is) _
-            (omega (arith, length-append (take a v.items) (drop b v.items)));
+        closed = λ s ps here is. shows (LaidOut-gap_last (gap_moves p a (a + (r.len - m - a)) front s ps
+            (append-nil (take a v.items ++ drop b v.items)) (omega arith) (grind (arith, here)) is)) _ (omega arith);
       }
 
   pub run_out : (a b : ℕ) (qs : List (Option X)) → a < b → b ≤ length v.items
