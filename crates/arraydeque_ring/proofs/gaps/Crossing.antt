@@ -87,7 +87,8 @@ passed : {X : Type 0} (from to gap i j len x : ℕ) (qs : List (Option X)) → f
     → to + gap ≤ length qs → (from ≤ x → x < from + gap → held_at qs x ≡ None) → Passes from to gap i j len
     → look (held_at qs) i j len x ≡ held_at (gap_moved from to gap qs) x
 passed from to gap i j len x qs from_in to_in none ways =
-    elim ways [ | inl up ↦ grind arith | inr down ↦ grind arith ] ∙ sym (get_or-gap_moved from to gap qs from_in to_in x)
+    elim ways [ | inl up ↦ grind arith | inr down ↦ grind arith ]
+    ∙ sym (get_or-gap_moved from to gap qs from_in to_in x)
 
 pub crosses : {X : Type 0} {t len d s m : ℕ} {ps : List (Option X)} (from to gap i j : ℕ) → MayMove t from to gap ps
     → Passes from to gap i j len → m ≡ length ps → d ≡ place_of t i m → s ≡ place_of t j m

@@ -36,7 +36,8 @@ module _ {X : Type 0} {n t : ℕ} {f : ℕ → Option X} {ps : List (Option X)} 
   pub Holds-rotated : (k : ℕ) → k < n → get_or (rotated t ps) k None ≡ f k
   Holds-rotated k lt = get_or-rotated t k n ps None h.length_is (omega arith) lt ∙ h.at k lt
 
-  pub rotated-Holds : {ts : List (Option X)} → length ts ≡ n → ((k : ℕ) → k < n → f k ≡ held_at ts k) → rotated t ps ≡ ts
+  pub rotated-Holds : {ts : List (Option X)} → length ts ≡ n → ((k : ℕ) → k < n → f k ≡ held_at ts k)
+      → rotated t ps ≡ ts
   rotated-Holds long same = same_places _ _ (length-rotated t ps ∙ h.length_is ∙ sym long)
       (λ k lt. Holds-rotated k (omega arith) ∙ same k (omega arith))
 

@@ -173,8 +173,10 @@ module _ {X : Type 0} (r : Inside X) (kept : Kept r) where
 
   pub past_items : (k : ℕ) → r.len ≤ k → k < n
       → (held_at places (place_of r.start k n) ≡ None) × (place_of r.start k n < n)
-  past_items k past lt =
-      (laid.at k lt ∙ slice_get_past items k (omega (arith, len)), place_of-lt r.start k n (omega (arith, laid.in_region)))
+  past_items k past lt = (
+    laid.at k lt ∙ slice_get_past items k (omega (arith, len)),
+    place_of-lt r.start k n (omega (arith, laid.in_region)),
+  )
 
   pub next_place : r.start + 1 < n → place_of r.start 1 n ≡ r.start + 1
   next_place lt = mod-eq_of_lt lt
@@ -273,7 +275,8 @@ module _ {X : Type 0} (r : Inside X) (kept : Kept r) where
   run_handed i m k le room =
       let ys = take m (drop i items) in
       let many : 0 + length ys ≡ m = omega (arith, len, length-take m (drop i items), length-drop i items) in
-      become (rw (HoldsRun-rotated laid i m (omega (arith, len))) (rw many at (LaidOut-new ys k (omega arith)))) _ (omega arith)
+      become (rw (HoldsRun-rotated laid i m (omega (arith, len))) (rw many at (LaidOut-new ys k (omega arith)))) _
+      (omega arith)
 
   -- the first m items stand in one piece
   pub piece_filled : (m : ℕ) → m ≤ r.len → r.start + m ≤ n → IsFilledRun places r.start m
