@@ -4,7 +4,7 @@ use Rattle.std.proofs.{
   Common.{length-set, Option, Some, None, refl, sym, ap, ◌∙◌, subst, add-one, arith},
   lemmas.{
     Grind.common_steps,
-    List.{length-map, length-take-le, length-drop, map-append, take_more, get_or-take, get_or-drop, get_or-replicate},
+    List.{length-map, length-take, length-take-le, length-drop, map-append, take_more, get_or-take, get_or-drop, get_or-replicate},
     List.{get_or_past, get_or-set_other, Edits.swap_is},
   },
 }
@@ -20,18 +20,14 @@ module _ {X : Type 0} where
 
   -- a filled run has as many values as places
   pub length_filled : (ps : List (Option X)) (from len : ℕ) (run : IsFilledRun ps from len) → length run.1.0 ≡ len
-  length_filled ps from len run = omega (
-    arith,
-    ap length run.1.1,
-    length-map run.1.0 Some,
-    length-take-le len (drop from ps) (omega (arith, length-drop from ps)),
-  )
+  length_filled ps from len run =
+      omega (arith, simp (length-map, length-take, length-drop) at (ap length run.1.1))
 
   -- a place of a run holds what is read in the run
   in_run : (ps qs : List (Option X)) (from len k : ℕ) → take len (drop from ps) ≡ qs → k < len
       → held_at ps (from + k) ≡ held_at qs k
   in_run ps qs from len k is lt =
-      sym (get_or-take len (drop from ps) k None lt ∙ get_or-drop from ps k None) ∙ ap (λ l. held_at l k) is
+      rw (← is) (grind (arith, common_steps))
 
   -- so each place of a filled run is filled, with its value
   pub held_in_run : (ps : List (Option X)) (from len k : ℕ) (run : IsFilledRun ps from len) → k < len

@@ -54,7 +54,7 @@ place_of-run t i j n p at a b c = grind (arith, place_of_cases t (i + j) n (omeg
 
 module _ {X : Type 0} where
   pub length-rotated : (t : ℕ) (xs : List X) → length (rotated t xs) ≡ length xs
-  length-rotated t xs = omega (arith, length-append (drop t xs) (take t xs), length-drop t xs, length-take t xs)
+  length-rotated t xs = grind (arith, places)
 
   -- the item at the index k stands at the place of k
   pub get_or-rotated : (t k n : ℕ) (xs : List X) (d : X) → length xs ≡ n → t ≤ n → k < n
