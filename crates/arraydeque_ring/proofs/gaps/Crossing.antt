@@ -17,7 +17,7 @@ use Rattle.arraydeque_ring.{
     moved.{Flat.{distance_is, look}, Round.{Holds-moved, distance-rotated}},
     places.{
       Held.{filled_in_run, empty_in_run},
-      Holds.{Holds, Holds-filled, Holds-of_rotated, rotated-Holds},
+      Holds.{Holds, Holds-of_rotated, rotated-Holds},
       Rotated.{place_of-lt, place_of-sum, one_place, length-rotated},
     },
   },
@@ -51,19 +51,16 @@ MayMove t from to gap ps = record {
   filled_behind : IsFilledRun (rotated t ps) (from + gap) (to - from);
 }
 
--- what `wrap_move` asks
-abbrev pub MayWrap : {X : Type 0} → ℕ → ℕ → ℕ → List (Option X) → Type 0
-MayWrap d s len ps = record {
-  dst_in_region : d < length ps;
-  src_in_region : s < length ps;
-  apart : MeetAtOneEndAtMost d s len (length ps);
-  filled : IsFilledRound s len ps;
-  free : IsFreeRound d s len ps;
-}
-
--- the len values from s on may move to the places from d on, and what that comes to, read from t on
+-- the len values from s on may move to the places from d on, as `wrap_move` asks,
+-- and what that comes to, read from t on
 pub record Crosses {X : Type 0} (t d s len : ℕ) (ps after : List (Option X)) : Type 0 where
-  pub may : MayWrap d s len ps
+  pub may : record {
+    dst_in_region : d < length ps;
+    src_in_region : s < length ps;
+    apart : MeetAtOneEndAtMost d s len (length ps);
+    filled : IsFilledRound s len ps;
+    free : IsFreeRound d s len ps;
+  }
   pub count : (if d == s then 0 else len) ≡ len
   pub is : rotated t (run_moved d s len ps) ≡ after
 
@@ -84,18 +81,14 @@ goes_to : (t from to gap i j len x n : ℕ) → t < n → x < n → Passes from 
     → x < i + len → (distance (place_of t j n) (place_of t x n) n < len) ⊎ ((from ≤ x) × (x < from + gap))
 goes_to t from to gap i j len x n t_in x_in ways within a b =
     rw (distance-rotated t j x n t_in (omega arith) x_in)
-    (grind (arith, distance_is j x n (omega arith) x_in))
+    (grind arith)
 
 passed : {X : Type 0} (from to gap i j len x : ℕ) (qs : List (Option X)) → from + gap ≤ length qs
     → to + gap ≤ length qs → (from ≤ x → x < from + gap → held_at qs x ≡ None) → Passes from to gap i j len
     → look (held_at qs) i j len x ≡ held_at (gap_moved from to gap qs) x
-passed from to gap i j len x qs from_in to_in none ways = elim (cases_lt x i) [
-  | inl low ↦ grind (arith, none)
-  | inr high ↦ elim ways [
-    | inl up ↦ let back : j + (x - i) ≡ x - gap = omega arith in grind (arith, none, back)
-    | inr down ↦ let on : j + (x - i) ≡ x + gap = omega arith in grind (arith, none, on)
-  ]
-] ∙ sym (get_or-gap_moved from to gap qs from_in to_in x)
+passed from to gap i j len x qs from_in to_in none ways =
+    elim ways [ | inl up ↦ grind arith | inr down ↦ grind arith ]
+    ∙ sym (get_or-gap_moved from to gap qs from_in to_in x)
 
 pub crosses : {X : Type 0} {t len d s m : ℕ} {ps : List (Option X)} (from to gap i j : ℕ) → MayMove t from to gap ps
     → Passes from to gap i j len → m ≡ length ps → d ≡ place_of t i m → s ≡ place_of t j m
@@ -104,16 +97,17 @@ crosses {t = t} {len = len} {ps = ps} from to gap i j asked ways long at_d at_s 
     let t_in = asked.in_region in
     let n = length ps in
     let qs = rotated t ps in
-    let wide : length qs ≡ n = length-rotated t ps in
+    let wide = length-rotated t ps in
     let none = empty_at qs from gap asked.empty in
-    let reads : Holds n t (held_at qs) ps = Holds-of_rotated refl wide (omega arith) (λ k lt. refl) in
+    let reads = Holds-of_rotated refl wide (omega arith) (λ k lt. refl) in
     let moved = Holds-moved reads i j len t_in (omega arith) (omega arith) in
     rw (at_d, at_s, long) (record {
       may = record {
         dst_in_region = place_of-lt t i n (omega arith);
         src_in_region = place_of-lt t j n (omega arith);
         apart = apart_by t i j len n t_in (omega arith) (omega arith);
-        filled = Holds-filled reads j len (omega arith) (λ k lt. filled_in_run qs j len k filled lt);
+        filled = λ k lt. let v = filled_in_run qs j len k filled lt in
+            (v.0, rw (place_of-sum t j k n) (reads.at (j + k) (omega arith) ∙ v.1));
         free = λ k lt. rw (place_of-sum t i k n) (elim (goes_to t from to gap i j len (i + k) n t_in (omega arith)
             ways (omega arith) (omega arith) (omega arith)) [
               | inl source ↦ inl source

@@ -21,7 +21,7 @@ count_sides : (p : ℕ → Bool) (f b : Bool) (s e n : ℕ) → s ≤ e
     → count_below p n ≡ (if f then min s n else 0) + (if b then n - e else 0)
 count_sides p f b s e zero le each = grind arith
 count_sides p f b s e (suc n) le each = let rest = count_sides p f b s e n le (λ k lt. each k (omega arith)) in
-    grind (arith, rest)
+    grind arith
 
 -- from two starts an item has the same place only where they are one
 one_start : (c t u k : ℕ) → t < c → u < c → k ≤ c → (place_of t k c == place_of u k c) ≡ (t == u)
@@ -86,7 +86,7 @@ module _ (s e n c t : ℕ) (t_in : t ≤ c - 1) (in_order : s ≤ e) (e_in : e �
         drained (place_of t (e - s) c) (place_of-lt t (e - s) c (omega arith)),
         place_of_cases t (e - s) c (omega arith),
       )
-      | inr none ↦ let no : n ≡ 0 = omega arith in rw no (grind (arith, nat_tests))
+      | inr none ↦ let no : n ≡ 0 = omega arith in rw no (grind arith)
     ];
   }
 

@@ -23,16 +23,12 @@ use Rattle.arraydeque_ring.{
   },
 }
 
--- the start stays in the region
-start_closed-in : (i gap m n t : ℕ) → t < n → gap ≤ n → start_closed i gap m n t ≤ n - 1
-start_closed-in i gap m n t t_in le = grind arith
-
 pub may_move : {X : Type 0} (t from to gap : ℕ) (ps : List (Option X)) {ts : List (Option X)} → rotated t ps ≡ ts
     → 0 < gap → t < length ps → max from to + gap ≤ length ps
     → ((x : ℕ) → from ≤ x → x < from + gap → held_at ts x ≡ None) → ((x : ℕ) → to ≤ x → x < from → IsFilled ts x)
     → ((x : ℕ) → from + gap ≤ x → x < to + gap → IsFilled ts x) → MayMove t from to gap ps
 may_move t from to gap ps {ts = ts} is some t_in within none before behind =
-    let wide : length ts ≡ length ps = ap length (sym is) ∙ length-rotated t ps in
+    let wide = ap length (sym is) ∙ length-rotated t ps in
     rw is (record {
       some = some;
       in_region = t_in;
@@ -129,14 +125,6 @@ module _ {X : Type 0} {n t : ℕ} {xs : List X} {gap : ℕ} {ys : List X} {ps : 
             (λ x a b. gap_at x (omega arith) ∙ grind (arith, items));
       }
 
-  -- and what it leaves
-  pub LaidOut-closed : (i m s : ℕ) (qs : List (Option X)) → 0 < gap → length xs ≡ i → length ys ≡ m
-      → s ≡ start_closed i gap m (length ps) t → rotated s qs ≡ gap_moved i (i + m) gap (rotated t ps)
-      → LaidOut n s (xs ++ ys) qs
-  LaidOut-closed i m s qs some front back here is =
-      LaidOut-gap_last (gap_moves i (i + m) front s qs (append-nil (xs ++ ys)) (omega (arith, length-append xs ys))
-      (rw (here, p.reads.length_is) (start_closed-in i gap m n t (omega arith) (omega arith))) is)
-
 -- a gap that goes before all values leaves what one does that goes behind them, from a start behind it
 pub closed_up : {X : Type 0} (t i gap m : ℕ) (ps qs : List (Option X)) → MayClose t i gap m ps
     → rotated t qs ≡ gap_moved i 0 gap (rotated t ps)
@@ -151,5 +139,5 @@ closed_up t i gap m ps qs may is =
     rotated-Holds (Holds-from reads gap (omega arith) (omega arith) (λ k lt. refl))
     (length-gap_moved i (i + m) gap ts (omega arith) (omega arith) ∙ wide) (λ x lt.
     get_or-gap_moved i 0 gap ts (omega arith) (omega arith) (place_of gap x n)
-    ∙ grind (arith, nat_tests, place_of_cases gap x n (omega arith), none x, none (place_of gap x n))
+    ∙ grind (arith, nat_tests, place_of_cases gap x n (omega arith))
     ∙ sym (get_or-gap_moved i (i + m) gap ts (omega arith) (omega arith) x))

@@ -31,7 +31,7 @@ module _ {X : Type 0} {n t : ℕ} {xs : List X} {ps : List (Option X)} (l : Laid
   pub Gapped-taken : (from gap : ℕ) (qs : List (Option X)) → from + gap ≤ length xs
       → rotated t qs ≡ run_emptied from gap (rotated t ps) → Gapped n t (take from xs) gap (drop (from + gap) xs) qs
   Gapped-taken from gap qs le out =
-      let long : length (rotated t ps) ≡ n = length-rotated t ps ∙ l.length_is in
+      let long = length-rotated t ps ∙ l.length_is in
       let front = length-take-le from xs (omega arith) in
       record {
         within = omega (arith, length-drop (from + gap) xs);
@@ -79,7 +79,7 @@ module _ {X : Type 0} {n t : ℕ} {xs ys : List X} {ps : List (Option X)} where
       let long = length-append xs (x ∷ []) in
       record {
         within = omega arith;
-        reads = Holds-set p.reads i (Some x) (omega arith) (grind (arith, items, slice_get-cons))
+        reads = Holds-set p.reads i (Some x) (omega arith) (grind (arith, items))
             (λ k lt other. grind (arith, items));
       }
 
@@ -87,7 +87,7 @@ module _ {X : Type 0} {n t : ℕ} {xs ys : List X} {ps : List (Option X)} where
   pub LaidOut-put : (i : ℕ) (x : X) → Gapped n t xs 1 ys ps → length xs ≡ i
       → LaidOut n t (xs ++ x ∷ ys) (set ps (place_of t i n) (Some x))
   LaidOut-put i x p front = LaidOut-by (omega (arith, length-append xs (x ∷ ys))) (Holds-set p.reads i (Some x)
-      (omega arith) (grind (arith, items, slice_get-cons)) (λ k lt other. grind (arith, items, slice_get-cons)))
+      (omega arith) (grind (arith, items)) (λ k lt other. grind (arith, items)))
 
 module _ {X : Type 0} {n t : ℕ} {xs : List X} {gap : ℕ} {ps : List (Option X)} (ys : List X) (j i : ℕ)
     (p : Gapped n t xs gap (drop j ys) ps) (here : length xs + gap ≡ i) (some : j < length ys) where

@@ -15,15 +15,10 @@ module _ {X : Type 0} where
   and_empty xs k = map Some xs ++ replicate k None
 
   pub length-and_empty : (xs : List X) (k : ℕ) → length (and_empty xs k) ≡ length xs + k
-  length-and_empty xs k = omega (
-    arith,
-    length-append (map Some xs) (replicate k None),
-    length-map xs Some,
-    length-replicate {A = Option X} k None,
-  )
+  length-and_empty xs k = grind (arith, common_steps)
 
   pub get_or-and_empty : (xs : List X) (k i : ℕ) → get_or (and_empty xs k) i None ≡ slice_get xs i
-  get_or-and_empty xs k i = grind (arith, common_steps, get_or-map_Some xs i, slice_get_past)
+  get_or-and_empty xs k i = grind (arith, common_steps, get_or-map_Some xs i)
 
   pub values-and_empty : (xs : List X) (k : ℕ) → values (and_empty xs k) ≡ xs
   values-and_empty [] zero = refl

@@ -41,9 +41,8 @@ module _ {X : Type 0} where
         length_is = length-with_run place ys ps (omega arith) ∙ h.length_is;
         in_region = h.in_region;
         at = λ k lt.
-            let was = h.at k lt in
             let read = get_or-with_run place ys ps in
-            grind (arith, read, was, place_of_cases t k n (omega arith), lies);
+            grind (arith, place_of_cases t k n (omega arith));
       }
 
   module _ {n t : ℕ} {xs : List X} {ps : List (Option X)} (l : LaidOut n t xs ps) where

@@ -53,7 +53,7 @@ handed t at len n place first ps long in_region some run is cut =
     let joined : firsts ++ others ≡ take len (drop at ts) =
     same_lists (firsts ++ others) (take len (drop at ts)) (search (rules, places)) (λ j d lt.
     let on = get_or-rotated t (at + j) n ps d (sym long) (omega arith) (omega arith) in
-    grind (arith, places, on, place_of_cases t (at + j) n (omega arith), lies)) in
+    grind (arith, places)) in
     let here : firsts ≡ map Some (take first zs) =
     sym (take_at firsts others first many) ∙ ap (take first) (joined ∙ run.1.1) ∙ take-map Some first zs in
     let there : others ≡ map Some (drop first zs) =
@@ -74,7 +74,7 @@ handed t at len n place first ps long in_region some run is cut =
 module _ {X : Type 0} (len first : ℕ) (qs : List (Option X)) (le : first ≤ len) (empty : IsEmptyRun qs 0 len) where
   pub first_empty : IsEmptyRun qs 0 first
   first_empty = empty_run_of qs 0 first (omega arith)
-      (λ x from to. grind (arith, common_steps, empty_in_run qs 0 len x empty))
+      (λ x from to. grind (arith, empty_in_run qs 0 len x empty))
 
   module _ (firsts others : List (Option X)) (many : length firsts ≡ first) where
     abbrev put : List (Option X)
@@ -91,12 +91,3 @@ module _ {X : Type 0} (len first : ℕ) (qs : List (Option X)) (le : first ≤ l
 -- in a new region the first places are empty
 pub all_empty : {X : Type 0} (len n : ℕ) → len ≤ n → IsEmptyRun {X = X} (replicate n None) 0 len
 all_empty {X = X} len n le = (omega (arith, length-replicate {A = Option X} n None), take-replicate len n None le)
-
--- in a region that was empty the m items from the index i on are a list of their own
-pub LaidOut-handed : {X : Type 0} {n t : ℕ} {xs : List X} {ps : List (Option X)} → LaidOut n t xs ps → (i m k : ℕ)
-    → i + m ≤ length xs → m ≤ k
-    → LaidOut k 0 (take m (drop i xs)) (take m (drop i (rotated t ps)) ++ drop m (replicate k None))
-LaidOut-handed {xs = xs} l i m k within room =
-    let ys = take m (drop i xs) in
-    let many : 0 + length ys ≡ m = grind (arith, common_steps) in
-    rw (HoldsRun-rotated l i m within) (rw many at (LaidOut-new ys k (omega arith)))

@@ -4,7 +4,7 @@ use Rattle.std.proofs.{
   Common.{length-set, Option, Some, None, refl, sym, ap, ◌∙◌, subst, add-one, arith},
   lemmas.{
     Grind.common_steps,
-    List.{length-map, length-take-le, length-drop, map-append, take_more, get_or-take, get_or-drop, get_or-replicate},
+    List.{length-map, length-take, length-take-le, length-drop, map-append, take_more, get_or-take, get_or-drop, get_or-replicate},
     List.{get_or_past, get_or-set_other, Edits.swap_is},
   },
 }
@@ -20,18 +20,14 @@ module _ {X : Type 0} where
 
   -- a filled run has as many values as places
   pub length_filled : (ps : List (Option X)) (from len : ℕ) (run : IsFilledRun ps from len) → length run.1.0 ≡ len
-  length_filled ps from len run = omega (
-    arith,
-    ap length run.1.1,
-    length-map run.1.0 Some,
-    length-take-le len (drop from ps) (omega (arith, length-drop from ps)),
-  )
+  length_filled ps from len run =
+      omega (arith, simp (length-map, length-take, length-drop) at (ap length run.1.1))
 
   -- a place of a run holds what is read in the run
   in_run : (ps qs : List (Option X)) (from len k : ℕ) → take len (drop from ps) ≡ qs → k < len
       → held_at ps (from + k) ≡ held_at qs k
   in_run ps qs from len k is lt =
-      sym (get_or-take len (drop from ps) k None lt ∙ get_or-drop from ps k None) ∙ ap (λ l. held_at l k) is
+      rw (← is) (grind (arith, common_steps))
 
   -- so each place of a filled run is filled, with its value
   pub held_in_run : (ps : List (Option X)) (from len k : ℕ) (run : IsFilledRun ps from len) → k < len
@@ -54,8 +50,8 @@ module _ {X : Type 0} where
       → get_or (set ps i None) j None ≡ Some y
       → set (set (set (set ps i None) j None) i (Some y)) j (Some x) ≡ swap ps i j
   exchanged ps i j x y apart at_i at_j =
-      let y_was : get_or ps j None ≡ Some y = sym (get_or-set_other ps i j None None (λ e. apart (sym e))) ∙ at_j in
-      same_places _ _ (simp length-set) (λ k lt. grind (arith, common_steps, at_i, y_was))
+      let y_was = sym (get_or-set_other ps i j None None (λ e. apart (sym e))) ∙ at_j in
+      same_places _ _ (simp length-set) (λ k lt. grind (arith, common_steps))
       ∙ swap_is ps i j None (filled_within ps i x at_i) (filled_within ps j y y_was)
 
   -- a run is filled, or empty, where each of its places is
@@ -87,7 +83,7 @@ module _ {X : Type 0} where
   pub empty_run_of : (ps : List (Option X)) (from len : ℕ) → from + len ≤ length ps
       → ((x : ℕ) → from ≤ x → x < from + len → held_at ps x ≡ None) → IsEmptyRun ps from len
   empty_run_of ps from len le each =
-      (le, same_places _ _ (grind (arith, common_steps)) (λ x lt. grind (arith, common_steps, each (from + x))))
+      (le, same_places _ _ (grind (arith, common_steps)) (λ x lt. grind (arith, common_steps)))
 
   -- and holds those items that its places hold, here those from the index i on
   pub holds_run_of : (ps : List (Option X)) (from i len : ℕ) (xs : List X) → i + len ≤ length xs
@@ -95,5 +91,5 @@ module _ {X : Type 0} where
       → HoldsRun ps from len (take len (drop i xs))
   holds_run_of ps from i len xs within le each =
       let ys = take len (drop i xs) in
-      let long = length-map ys Some in same_places _ _ (grind (arith, common_steps))
-      (λ k lt. grind (arith, common_steps, items, each k) ∙ sym (get_or-map_Some ys k))
+      same_places _ _ (grind (arith, common_steps))
+      (λ k lt. grind (arith, common_steps, items) ∙ sym (get_or-map_Some ys k))

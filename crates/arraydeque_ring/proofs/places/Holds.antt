@@ -25,7 +25,7 @@ pub record Holds {X : Type 0} (n t : ℕ) (f : ℕ → Option X) (ps : List (Opt
 pub Holds-of_rotated : {X : Type 0} {n t : ℕ} {f : ℕ → Option X} {ps ts : List (Option X)} → rotated t ps ≡ ts
     → length ts ≡ n → t ≤ n - 1 → ((k : ℕ) → k < n → held_at ts k ≡ f k) → Holds n t f ps
 Holds-of_rotated {n = n} {t = t} {ps = ps} is long within each =
-    let whole : length ps ≡ n = sym (length-rotated t ps) ∙ ap length is ∙ long in
+    let whole = sym (length-rotated t ps) ∙ ap length is ∙ long in
     record {
       length_is = whole;
       in_region = within;
@@ -36,7 +36,8 @@ module _ {X : Type 0} {n t : ℕ} {f : ℕ → Option X} {ps : List (Option X)} 
   pub Holds-rotated : (k : ℕ) → k < n → get_or (rotated t ps) k None ≡ f k
   Holds-rotated k lt = get_or-rotated t k n ps None h.length_is (omega arith) lt ∙ h.at k lt
 
-  pub rotated-Holds : {ts : List (Option X)} → length ts ≡ n → ((k : ℕ) → k < n → f k ≡ held_at ts k) → rotated t ps ≡ ts
+  pub rotated-Holds : {ts : List (Option X)} → length ts ≡ n → ((k : ℕ) → k < n → f k ≡ held_at ts k)
+      → rotated t ps ≡ ts
   rotated-Holds long same = same_places _ _ (length-rotated t ps ∙ h.length_is ∙ sym long)
       (λ k lt. Holds-rotated k (omega arith) ∙ same k (omega arith))
 
@@ -60,23 +61,17 @@ module _ {X : Type 0} {n t : ℕ} {f : ℕ → Option X} {ps : List (Option X)} 
     length_is = length-set ps (place_of t k n) c ∙ h.length_is;
     in_region = h.in_region;
     at = λ i lt. get_or-written ps (place_of t k n) (place_of t i n) c
-        (omega (arith, place_of-lt t k n (omega arith)))
+        (omega arith)
         ∙ rw (one_place t i k n (omega arith) lt k_in)
-        (grind (arith, here, h.at i lt, others i lt));
+        (grind arith);
   }
 
   -- each place has an index
   pub Holds-each : (x : ℕ) → x < n → held_at ps x ≡ f (distance t x n)
-  Holds-each x lt = ap (held_at ps) (sym (up_from x t n lt (omega arith)))
-      ∙ h.at (distance t x n) (place_of-lt x (n - t) n (omega arith))
-
-  -- a run of indexes that have values
-  pub Holds-filled : (i len : ℕ) → i + len ≤ n → ((k : ℕ) → k < len → (x : X) × (f (i + k) ≡ Some x))
-      → IsFilledRound (place_of t i (length ps)) len ps
-  Holds-filled i len within each k lt = let some = each k lt in
-      (some.0, rw (h.length_is, place_of-sum t i k n) (h.at (i + k) (omega arith) ∙ some.1))
+  Holds-each x lt =
+      rw (up_from x t n lt (omega arith)) at (h.at (distance t x n) (place_of-lt x (n - t) n (omega arith)))
 
 -- from the first place on an index is its own place
 pub Holds-first : {X : Type 0} {n : ℕ} {f : ℕ → Option X} {ps : List (Option X)} → Holds n 0 f ps → (k : ℕ) → k < n
     → held_at ps k ≡ f k
-Holds-first {n = n} {ps = ps} h k lt = ap (held_at ps) (sym (place_of-first k n lt)) ∙ h.at k lt
+Holds-first {n = n} h k lt = rw (place_of-first k n lt) at (h.at k lt)

@@ -1,10 +1,11 @@
 -- What the places of a ring hold, read from its start on: first its items, then nothing.
 use Rattle.std.proofs.{
-  Common.{◌≡◌, ℕ, ◌+◌, ◌-◌, ◌<◌, ◌≤◌, List, [], map, length, take, drop, set, replicate, slice_get, nat_lt},
-  Common.{if◌then◌else◌, Option, Some, None, is_some, refl, sym, ap, ◌∙◌, swap, arith},
+  Common.{◌≡◌, ◌≢◌, ℕ, ◌+◌, ◌-◌, ◌<◌, ◌≤◌, List, [], ◌∷◌, ◌++◌, map, length, take, drop, set, get_or, replicate},
+  Common.{slice_get},
+  Common.{nat_lt, if◌then◌else◌, Option, Some, None, is_some, refl, sym, ap, ◌∙◌, swap, arith},
   lemmas.{
     Grind.common_steps,
-    List.{length-drop, length-map, length-replicate, length-set, Edits.swap_is},
+    List.{append-nil, length-append, length-take, length-drop, length-map, length-replicate, length-set, Edits.swap_is},
     Option.{get_or_from_slice_get, slice_get_past},
   },
 }
@@ -21,7 +22,7 @@ use Rattle.arraydeque_ring.{
       AndEmpty.{and_empty_from},
       Held.holds_run_of,
       Holds.{Holds, Holds-each, Holds-of_rotated, Holds-rotated, rotated-Holds, Holds-from, Holds-set},
-      Items.{items, slice_get_some},
+      Items.{items, slice_get_some, slice_get-cons},
       Rotated.{MayStartAt, place_of-lt, place_of-run, place_of-zero, place_of_cases, length-rotated, rotated-map},
     },
   },
@@ -45,17 +46,12 @@ module _ {X : Type 0} {n t : ℕ} {xs : List X} {ps : List (Option X)} where
   pub LaidOut-from : (k : ℕ) → length ps ≡ n → t ≤ n - 1 → rotated t ps ≡ and_empty xs k → LaidOut n t xs ps
   LaidOut-from k long within e =
       let all = sym (ap length e) ∙ length-rotated t ps ∙ long in
-      LaidOut-by (omega (arith, all, length-and_empty xs k))
+      LaidOut-by (omega (arith, length-and_empty xs k))
       (Holds-of_rotated e all within (λ i lt. get_or-and_empty xs k i))
 
 -- empty places hold the empty list
 pub LaidOut-nothing : {X : Type 0} (n : ℕ) → LaidOut {X = X} n 0 [] (replicate n None)
-LaidOut-nothing n = record {
-  length_is = length-replicate n None;
-  in_region = omega arith;
-  within = omega arith;
-  at = λ k lt. grind (arith, common_steps);
-}
+LaidOut-nothing n = LaidOut-from n (length-replicate n None) (omega arith) (append-nil (replicate n None))
 
 -- places of which len from the start on are filled hold the values in them
 pub LaidOut-values : {X : Type 0} (t len : ℕ) (ps : List (Option X)) → t ≤ length ps - 1 → FilledFrom t len (filled ps)
@@ -84,13 +80,9 @@ module _ {X : Type 0} {n t : ℕ} {xs : List X} {ps : List (Option X)} (l : Laid
       let left : length (map is_some ps) - m ≡ n - length xs = omega (arith, length-map ps is_some) in
       rw (rotated-map is_some t ps, rotated-LaidOut, left, ← e) (filled-and_empty xs (n - length xs))
 
-  -- the place of an item is filled, and that of an index past the last one is empty
+  -- the place of an item is filled
   pub IsFilled-place_of : (k : ℕ) → k < length xs → IsFilled ps (place_of t k n)
   IsFilled-place_of k lt = let some = slice_get_some xs k lt in (some.0, l.at k (omega arith) ∙ some.1)
-
-  pub IsEmpty-place_of : (k : ℕ) → length xs ≤ k → k < n → IsEmpty ps (place_of t k n)
-  IsEmpty-place_of k past lt =
-      (omega arith, l.at k lt ∙ grind (arith, items))
 
   -- the start holds the first item
   pub held_at-start : 0 < n → held_at ps t ≡ slice_get xs 0
@@ -104,12 +96,6 @@ module _ {X : Type 0} {n t : ℕ} {xs : List X} {ps : List (Option X)} (l : Laid
   HoldsRun-rotated i len le =
       holds_run_of _ i i len xs le (omega (arith, length-rotated t ps))
       (λ k lt. Holds-rotated (holds l) (i + k) (omega arith))
-
-  pub IsFilledRun-rotated : (i len : ℕ) → i + len ≤ length xs → IsFilledRun (rotated t ps) i len
-  IsFilledRun-rotated i len le = (
-    omega (arith, length-rotated t ps),
-    (take len (drop i xs), HoldsRun-rotated i len le),
-  )
 
   -- they stand from the place p on
   pub HoldsRun-LaidOut : (i p len : ℕ) → MayStartAt t i n p → i + len ≤ length xs → p + len ≤ n
@@ -133,13 +119,8 @@ module _ {X : Type 0} {n t : ℕ} {xs : List X} {ps : List (Option X)} (l : Laid
   -- with no items every place is empty
   pub AreAllEmpty-LaidOut : length xs ≡ 0 → AreAllEmpty ps
   AreAllEmpty-LaidOut none = same_places _ _ (sym (length-replicate (length ps) None)) (λ x lt.
-      let past = slice_get_past xs (distance t x n) (omega arith) in
       Holds-each (holds l) x (omega (arith, length-replicate {A = Option X} (length ps) None))
       ∙ grind (arith, common_steps))
-
-  -- and the list may start at the first place as well
-  pub LaidOut-restart : length xs ≡ 0 → LaidOut {X = X} n 0 [] ps
-  LaidOut-restart none = rw (AreAllEmpty-LaidOut none, l.length_is) (LaidOut-nothing n)
 
   -- the first item is taken off
   pub LaidOut-take_front : 0 < length xs → LaidOut n (place_of t 1 n) (drop 1 xs) (set ps t None)
@@ -160,7 +141,7 @@ pub LaidOut-swap : {X : Type 0} {n t : ℕ} {xs : List X} {ps : List (Option X)}
     → i < length xs → j < length xs → LaidOut n t (swap xs i j) (swap ps (place_of t i n) (place_of t j n))
 LaidOut-swap {n = n} {t = t} {xs = xs} {ps = ps} l i j i_in j_in =
     let x = slice_get_some xs i i_in in let y = slice_get_some xs j j_in in
-    let in_region : (k : ℕ) → k < length xs → place_of t k n < length ps = λ k lt. omega (arith, place_of-lt t k n) in
+    let in_region : (k : ℕ) → k < length xs → place_of t k n < length ps = λ k lt. omega arith in
     rw (
       ← swap_is xs i j x.0 i_in j_in,
       get_or_from_slice_get xs j y.0 x.0 y.1,

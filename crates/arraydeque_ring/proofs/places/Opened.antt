@@ -23,17 +23,17 @@ use Rattle.arraydeque_ring.{
   proofs.{
     gaps.{
       Gapped.{Gapped, Gapped-taken, Gapped-taken_one, LaidOut-gap_first, LaidOut-gap_last, LaidOut-put},
-      GapMoves.{MayClose, may_close, Gapped-behind, Gapped-before, LaidOut-closed},
+      GapMoves.{MayClose, may_close, Gapped-behind, Gapped-before, gap_moves},
     },
     loans.Placed.length-as_many,
     places.{
       Appended.{LaidOut-appended, LaidOut-written, LaidOut-new, IsEmptyRun-behind},
-      Handed.{handed, LaidOut-handed},
+      Handed.handed,
       LaidOut.{LaidOut, LaidOut-values, values-LaidOut, FilledFrom-LaidOut, LaidOut-nothing},
-      LaidOut.{LaidOut-take_front, IsEmpty-place_of, held_at-start},
-      LaidOut.{LaidOut-restart, IsFilled-start, AreAllEmpty-LaidOut, IsFilled-place_of, IsFilledRun-rotated},
+      LaidOut.{LaidOut-take_front, held_at-start},
+      LaidOut.{IsFilled-start, AreAllEmpty-LaidOut, IsFilled-place_of, HoldsRun-rotated},
       LaidOut.{IsFilledRun-LaidOut, HoldsRun-LaidOut, same_run, LaidOut-set, LaidOut-swap},
-      Rotated.{MayStartAt, MayStartAt-place_of, place_of-first, place_of-zero, place_of-lt, one_place},
+      Rotated.{MayStartAt, MayStartAt-place_of, place_of-first, place_of-zero, place_of-lt, one_place, length-rotated},
     },
   },
 }
@@ -119,11 +119,12 @@ module _ {X : Type 0} {r : Inside X} {v : RingState X} (o : Opened r v) where
   gap_left a m b qs all some le p =
       let front = length-take-le a v.items (omega arith) in
       let back = length-drop b v.items in
+      let both = length-append (take a v.items) (drop b v.items) in
       record {
         long = p.reads.length_is;
         may = may_close p _ _ some front (omega arith);
-        closed = λ s ps here is. shows (LaidOut-closed p _ _ s ps some front (omega arith) here is) _
-            (omega (arith, length-append (take a v.items) (drop b v.items)));
+        closed = λ s ps here is. shows (LaidOut-gap_last (gap_moves p a (a + (r.len - m - a)) front s ps
+            (append-nil (take a v.items ++ drop b v.items)) (omega arith) (grind (arith, here)) is)) _ (omega arith);
       }
 
   pub run_out : (a b : ℕ) (qs : List (Option X)) → a < b → b ≤ length v.items
@@ -172,7 +173,10 @@ module _ {X : Type 0} (r : Inside X) (kept : Kept r) where
 
   pub past_items : (k : ℕ) → r.len ≤ k → k < n
       → (held_at places (place_of r.start k n) ≡ None) × (place_of r.start k n < n)
-  past_items k past lt = let empty = IsEmpty-place_of laid k (omega (arith, len)) lt in (empty.1, empty.0)
+  past_items k past lt = (
+    laid.at k lt ∙ slice_get_past items k (omega (arith, len)),
+    place_of-lt r.start k n (omega (arith, laid.in_region)),
+  )
 
   pub next_place : r.start + 1 < n → place_of r.start 1 n ≡ r.start + 1
   next_place lt = mod-eq_of_lt lt
@@ -232,7 +236,10 @@ module _ {X : Type 0} (r : Inside X) (kept : Kept r) where
 
   -- those of a run of indexes stand in filled places
   pub run_filled : (i m : ℕ) → i + m ≤ r.len → IsFilledRun (rotated r.start places) i m
-  run_filled i m le = IsFilledRun-rotated laid i m (omega (arith, len))
+  run_filled i m le = (
+    omega (arith, len, laid.within, length-rotated r.start places),
+    (take m (drop i items), HoldsRun-rotated laid i m (omega (arith, len))),
+  )
 
   pub all_filled : IsFilledRun (rotated r.start places) 0 r.len
   all_filled = run_filled 0 r.len (omega arith)
@@ -259,14 +266,17 @@ module _ {X : Type 0} (r : Inside X) (kept : Kept r) where
 
   pub all_dropped : (ps : List (Option X)) → rotated r.start ps ≡ run_emptied 0 r.len (rotated r.start places)
       → (rotated r.start ps ≡ run_emptied 0 r.len (rotated r.start places)) × Shows n 0 0 [] ps
-  all_dropped ps out =
-      (out, shows (LaidOut-restart (laid_before ps 0 r.len (omega arith) out) refl) 0 refl)
+  all_dropped ps out = let none = laid_before ps 0 r.len (omega arith) out in
+      (out, shows (rw (AreAllEmpty-LaidOut none refl, none.length_is) (LaidOut-nothing n)) 0 refl)
 
   -- or handed over to another region, which was empty
   pub run_handed : (i m k : ℕ) → i + m ≤ r.len → m ≤ k → Become k 0 m (take m (drop i items))
       (take m (drop i (rotated r.start places)) ++ drop m (replicate k None))
-  run_handed i m k le room = become (LaidOut-handed laid i m k (omega (arith, len)) room) m
-      (length-take-le m (drop i items) (omega (arith, len, length-drop i items)))
+  run_handed i m k le room =
+      let ys = take m (drop i items) in
+      let many : 0 + length ys ≡ m = omega (arith, len, length-take m (drop i items), length-drop i items) in
+      become (rw (HoldsRun-rotated laid i m (omega (arith, len))) (rw many at (LaidOut-new ys k (omega arith)))) _
+      (omega arith)
 
   -- the first m items stand in one piece
   pub piece_filled : (m : ℕ) → m ≤ r.len → r.start + m ≤ n → IsFilledRun places r.start m
@@ -294,7 +304,7 @@ module _ {X : Type 0} (r : Inside X) (kept : Kept r) where
   -- as many are written in their stead
   pub piece_written : (ws : List X) → length ws ≡ r.len → r.start + r.len ≤ n
       → Shows n r.start r.len ws (with_run r.start ws places)
-  piece_written ws many fits = shows (LaidOut-written laid ws (omega (arith, len)) (omega (arith, len))) _ many
+  piece_written ws many fits = shows (LaidOut-written laid ws (omega (arith, len)) (omega arith)) _ many
 
   -- they go
   pub piece_taken : (m : ℕ) → 0 < m → m ≤ r.len → r.start + m ≤ n
@@ -325,8 +335,8 @@ module _ {X : Type 0} (r : Inside X) (kept : Kept r) where
     piece_joined o okept some le fits' =
         let other = opened o okept refl in
         let xs = take m (values (rotated o.start o.slots.places)) in
-        let many : length xs ≡ m = length-take-le m _ (omega (arith, other.len)) in
-        let held = HoldsRun-LaidOut other.laid 0 o.start m (inl (omega arith)) (omega (arith, other.len)) fits' in
+        let many = length-take-le m _ (omega arith) in
+        let held = HoldsRun-LaidOut other.laid 0 o.start m (inl (omega arith)) (omega arith) fits' in
         let written : splice places behind (behind + m) (take m (drop o.start o.slots.places))
         ≡ with_run behind xs places = ap₂ (λ k l. splice places behind (behind + k) l) (sym many) held in
         become (rw written (LaidOut-appended laid xs behind (lies some) (omega arith) (omega (arith, len)))) _

@@ -57,20 +57,9 @@ module _ {X : Type 0} (a b : ℕ) (ps : List (Option X)) where
   -- two places are two runs of one
   swap-runs : a < b → b < length ps → swap ps a b ≡ runs_exchanged a b 1 ps
   swap-runs before within =
-      let ones = set ps a (held_at ps b) in
-      let long = length-set ps a (held_at ps b) in
-      sym (swap_is ps a b None (omega arith) within) ∙ same_places _ _ (omega (
-        arith,
-        length-set ones b (held_at ps a),
-        long,
-        length-runs_exchanged a b 1 ps,
-      )) (λ x lt. grind (
-        arith,
-        get_or-written ones b x (held_at ps a),
-        long,
-        get_or-written ps a x (held_at ps b),
-        get_or-runs_exchanged a b 1 ps (omega arith) (omega arith) x,
-      ))
+      sym (swap_is ps a b None (omega arith) within) ∙ same_places _ _
+      (simp length-set (sym (length-runs_exchanged a b 1 ps (omega arith) (omega arith)))) (λ x lt.
+      grind (arith, common_steps, get_or-runs_exchanged a b 1 ps (omega arith) (omega arith) x))
 
 -- the pairs of two runs are exchanged one after another: the pair k comes next
 module _ {X : Type 0} (a b k : ℕ) (ps : List (Option X)) (before : a + (k + 1) ≤ b)

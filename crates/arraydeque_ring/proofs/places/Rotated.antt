@@ -12,7 +12,7 @@ pub place_of_cases : (t k n : ℕ) → t + k < n + n
     → ((t + k < n) × (place_of t k n ≡ t + k)) ⊎ ((n ≤ t + k) × (place_of t k n + n ≡ t + k))
 place_of_cases t k n within = elim (cases_lt (t + k) n) [
   | inl below ↦ inl (below, mod-eq_of_lt below)
-  | inr past ↦ let is : place_of t k n ≡ t + k - n = mod-eq-sub-mod past ∙ mod-eq_of_lt (omega arith) in
+  | inr past ↦ let is = mod-eq-sub-mod past ∙ mod-eq_of_lt (omega arith) in
       inr (past, omega arith)
 ]
 
@@ -38,22 +38,15 @@ pub place_of-place_of : (t i x n : ℕ) → place_of (place_of t i n) x n ≡ pl
 place_of-place_of t i x n = place_of-sum t i x n ∙ sym (add-mod-mod t (i + x) n)
 
 -- two indexes have two places
-pub same_index : (t i j n : ℕ) → t ≤ n → i < n → j < n → place_of t i n ≡ place_of t j n → i ≡ j
-same_index t i j n a b c e =
-    grind (arith, place_of_cases t j n (omega arith))
-
 pub one_place : (t i j n : ℕ) → t ≤ n → i < n → j < n → (place_of t i n == place_of t j n) ≡ (i == j)
-one_place t i j n a b c = grind (arith, same_index t i j n a b c)
+one_place t i j n a b c = grind (arith, place_of_cases t i n (omega arith), place_of_cases t j n (omega arith))
 
 -- a run from the index i on may start at the place p: the place of i, or the region's end in its stead
 abbrev pub MayStartAt : ℕ → ℕ → ℕ → ℕ → Type 0
 MayStartAt t i n p = (p ≡ t + i) ⊎ (p + n ≡ t + i)
 
 pub MayStartAt-place_of : (t i n : ℕ) → t + i < n + n → MayStartAt t i n (place_of t i n)
-MayStartAt-place_of t i n within = elim (place_of_cases t i n within) [
-  | inl below ↦ inl below.1
-  | inr past ↦ inr past.1
-]
+MayStartAt-place_of t i n within = grind (arith, place_of_cases t i n within)
 
 -- and its items stand side by side, as far as the end
 pub place_of-run : (t i j n p : ℕ) → MayStartAt t i n p → p + j < n → t ≤ n → i + j < n → place_of t (i + j) n ≡ p + j
@@ -61,7 +54,7 @@ place_of-run t i j n p at a b c = grind (arith, place_of_cases t (i + j) n (omeg
 
 module _ {X : Type 0} where
   pub length-rotated : (t : ℕ) (xs : List X) → length (rotated t xs) ≡ length xs
-  length-rotated t xs = omega (arith, length-append (drop t xs) (take t xs), length-drop t xs, length-take t xs)
+  length-rotated t xs = grind (arith, places)
 
   -- the item at the index k stands at the place of k
   pub get_or-rotated : (t k n : ℕ) (xs : List X) (d : X) → length xs ≡ n → t ≤ n → k < n

@@ -7,9 +7,9 @@ use Rattle.arraydeque_ring.{
   proofs.{
     gaps.Fewest.fewest_drain,
     places.{
-      LaidOut.{length_within, IsFilledRun-rotated},
-      Opened.{opened, bounds, Closing, run_out, Shows},
-      Rotated.place_of-zero,
+      Handed.all_empty,
+      Opened.{opened, bounds, Closing, run_filled, run_out, Shows},
+      Rotated.{place_of-zero},
     },
     ring.Ring.drain.{Given.Over, Goals.{After-take_run, After-close_gap-self-inside}},
   },
@@ -21,13 +21,12 @@ returns-then-count-eq0-clause-start g c =
     let ring = opened c.self.inside c.self.invariant c.self.view_is in
     let old = c.args.self.now in
     let none : c.args.to - c.args.from ≡ 0 = omega arith in
-    rw (none, place_of-zero old.start old.capacity (omega arith))
-    (grind arith)
+    grind (arith, place_of-zero old.start old.capacity (omega arith))
 
 pub take_run-requires-clause-filled : goal.take_run-requires-clause-filled
 take_run-requires-clause-filled g c =
-    let ring = opened c.self.inside c.self.invariant c.self.view_is in
-    IsFilledRun-rotated ring.laid _ _ (omega arith)
+    let ring = bounds c.self.inside _ c.self.invariant c.self.view_is in
+    run_filled c.self.inside c.self.invariant _ _ (omega arith)
 
 out : (g : Over) (c : After-take_run g) → let old = c.args.self.now in Closing c.self.inside.start old.capacity
     c.args.from (c.args.to - c.args.from) c.args.to c.self.inside.len old.items c.take_run.new.slots.places
@@ -44,8 +43,7 @@ after g c = let moved = c.close_gap-self-inside.ensures in
     (out g c.before.before.before).closed _ _ moved.start moved.places
 
 pub invariant_of-self : goal.invariant_of-self
-invariant_of-self g c =
-    let now = after g c.before in (now.1, now.2)
+invariant_of-self g c = let now = after g c.before in (now.1, now.2)
 
 pub returns-clause-items : goal.returns-clause-items
 returns-clause-items g c = (after g c.before).3
@@ -55,11 +53,7 @@ returns-clause-capacity g c = (after g c.before).0
 
 pub returns-clause-start : goal.returns-clause-start
 returns-clause-start g c =
-    let ring = opened c.self.inside c.self.invariant c.self.view_is in
-    let count = c.args.to - c.args.from in
-    let behind : length c.args.self.now.items - c.args.to ≡ c.self.inside.len - count - c.args.from = omega arith in
-    rw (behind, ← ring.start)
-    (rw (out g (goal.at.returns-clause-start g c).After-take_run).long at c.close_gap-self-inside.ensures.start)
+    grind (arith, bounds, (out g (goal.at.returns-clause-start g c).After-take_run).long)
 
 pub returns-clause-steps : goal.returns-clause-steps
 returns-clause-steps g c = grind (arith, bounds)
@@ -68,15 +62,15 @@ pub returns-clause-fewest : goal.returns-clause-fewest
 returns-clause-fewest g c =
     let ring = opened c.self.inside c.self.invariant c.self.view_is in
     rw (returns-clause-start g c) (fewest_drain _ _ _ _ _ (omega arith)
-    c.requires.in_order c.requires.in_bounds (length_within ring.laid))
+    c.requires.in_order c.requires.in_bounds (omega arith))
 
 pub returns-then-count-eq0-clause-fewest : goal.returns-then-count-eq0-clause-fewest
 returns-then-count-eq0-clause-fewest g c =
     let old = c.args.self.now in
     let ring = opened c.self.inside c.self.invariant c.self.view_is in
-    subst (IsFewest _ old.capacity _) (sym (returns-then-count-eq0-clause-start g c))
+    rw (← returns-then-count-eq0-clause-start g c) at
     (fewest_drain c.args.from c.args.to (length old.items) old.capacity old.start (omega arith) c.requires.in_order
-    c.requires.in_bounds (length_within ring.laid))
+    c.requires.in_bounds (omega arith))
 
 pub returns-then-count-eq0-clause-items : goal.returns-then-count-eq0-clause-items
 returns-then-count-eq0-clause-items g c = grind (arith, common_steps, bounds)

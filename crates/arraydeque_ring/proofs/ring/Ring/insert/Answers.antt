@@ -45,9 +45,9 @@ gap g c =
           let was = Gapped-before ring.laid c.requires.room in
           let before = rw (c.capacity-capacity.ensures, ring.laid.length_is) at w.wrap_add-before.ensures in
           rw (w.self-inside-is, before) (gap_moves was 0 c.args.index refl _ _ (take-append-drop c.args.index items)
-          (front g c) was.reads.in_region (rw before at w.move_gap.ensures.places))
+          (front g c) (omega arith) (rw before at w.move_gap.ensures.places))
       | else-index-behind w ↦ rw w.self-inside-is (gap_moves (Gapped-behind ring.laid c.requires.room) _ c.args.index
-          ring.len _ _ (take-append-drop c.args.index items ∙ sym (append-nil items)) (front g c) ring.laid.in_region
+          ring.len _ _ (take-append-drop c.args.index items ∙ sym (append-nil items)) (front g c) (omega arith)
           w.move_gap-else-index-behind.ensures.places)
     ]
 

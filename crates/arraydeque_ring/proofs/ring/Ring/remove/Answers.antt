@@ -1,7 +1,7 @@
 use Rattle.std.{proofs.Common.{suc, ◌-◌, arith}, specs.List.remove}
 use Rattle.arraydeque_ring.proofs.{
   gaps.Fewest.fewest_remove,
-  places.{LaidOut.length_within, Opened.{opened, Closing, one_out, Shows}},
+  places.Opened.{opened, bounds, Closing, one_out, Shows},
   ring.Ring.remove.{Given.Over, Goals.{After-take-item, After-close_gap-self-inside}},
 }
 use Rattle.arraydeque_ring.proofs.ring.Ring.remove.Goals as goal
@@ -27,8 +27,7 @@ after g c = let moved = c.close_gap-self-inside.ensures in
     (out g c.before.before.before).closed _ _ moved.start moved.places
 
 pub invariant_of-self : goal.invariant_of-self
-invariant_of-self g c =
-    let now = after g c.before in (now.1, now.2)
+invariant_of-self g c = let now = after g c.before in (now.1, now.2)
 
 pub returns-clause-items : goal.returns-clause-items
 returns-clause-items g c = (after g c.before).3
@@ -38,12 +37,10 @@ returns-clause-capacity g c = (after g c.before).0
 
 pub returns-clause-start : goal.returns-clause-start
 returns-clause-start g c =
-    let ring = opened c.self.inside c.self.invariant c.self.view_is in
-    rw (← ring.start, ring.len)
-    (rw (out g (goal.at.returns-clause-start g c).After-take-item).long at c.close_gap-self-inside.ensures.start)
+    grind (arith, bounds, (out g (goal.at.returns-clause-start g c).After-take-item).long)
 
 pub returns-clause-fewest : goal.returns-clause-fewest
 returns-clause-fewest g c =
     let ring = opened c.self.inside c.self.invariant c.self.view_is in
     rw (returns-clause-start g c) (fewest_remove c.args.index _ _ _ (omega arith)
-    c.requires (length_within ring.laid))
+    c.requires (omega arith))
