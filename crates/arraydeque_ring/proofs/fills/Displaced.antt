@@ -1,7 +1,7 @@
 -- Items that come one by one into a full ring, each in the place of another.
 use Rattle.std.proofs.{
   Common.{◌≡◌, List, ◌++◌, length, take, drop, reverse, arith, rules},
-  lemmas.{List.{length-append}, List.{places, same_lists}},
+  lemmas.List.{length-append, places, same_lists},
 }
 use Rattle.arraydeque_ring.{
   specs.{Ring.{RingState, up_by, down_by}, Steps.{more_puts, more_takes}},

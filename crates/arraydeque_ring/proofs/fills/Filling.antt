@@ -1,6 +1,7 @@
 -- A run of places that is written with items from an iterator, one place after another.
 use Rattle.std.proofs.{
-  Common.{◌≡◌, ℕ, ◌+◌, ◌-◌, ◌<◌, ◌≤◌, List, [], ◌∷◌, ◌++◌, length, reverse, set, Option, Some, false, ◌∙◌, arith, rules},
+  Common.{◌≡◌, ℕ, ◌+◌, ◌-◌, ◌<◌, ◌≤◌, List, [], ◌∷◌, ◌++◌, length, reverse, set, Option, Some, false, ◌∙◌, arith},
+  Common.{rules},
   lemmas.{
     Bool.Decides.nat_tests,
     List.{get_or-set_same, places, same_lists, length-map, map-append, length-append, length-reverse, reverse-append},

@@ -1,7 +1,7 @@
 use Rattle.std.proofs.{Common.{arith, rules}, lemmas.List.{append-nil, length-append}}
 use Rattle.arraydeque_ring.proofs.{
   fills.{FromIterator.Fills-as, InRows.filled_back-both, Laying.{begun, more, empty_behind, laid_back}},
-  places.Opened.{opened, closed, kept, items_within},
+  places.Opened.{opened, closed, items_within},
 }
 use Rattle.arraydeque_ring.proofs.ring.Ring.fill_back.Goals as goal
 

@@ -1,7 +1,7 @@
 use Rattle.std.{
   proofs.{
-    Common.{◌≡◌, ℕ, ◌+◌, ◌<◌, ◌≤◌, List, ◌∷◌, [], ◌++◌, length, take, slice_get, set, Option, Some, None, Vec, Global},
-    Common.{vec_len, inl, inr, sym, ap, ap₂, ◌∙◌, arith, refl},
+    Common.{◌≡◌, ℕ, ◌+◌, ◌<◌, ◌≤◌, List, ◌∷◌, [], ◌++◌, length, slice_get, set, Option, Some, None, Vec, Global},
+    Common.{vec_len, inl, inr, sym, ap, ◌∙◌, arith, refl},
     lemmas.{Grind.common_steps, List.{take_all, take_more}, Option.{get_or_from_slice_get, slice_get_past}},
   },
   specs.Vec.vec_capacity,

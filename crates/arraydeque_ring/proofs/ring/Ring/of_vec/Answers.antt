@@ -1,7 +1,4 @@
-use Rattle.std.proofs.{
-  Common.{[], ◌∷◌, ◌++◌, Option, None, refl, sym, ap, ◌∙◌, arith},
-  lemmas.{Grind.common_steps, List.{append-nil, append_assoc, length-replicate}},
-}
+use Rattle.std.proofs.{Common.{[], ◌∷◌, refl, ◌∙◌, arith}, lemmas.{Grind.common_steps, List.append-nil}}
 use Rattle.arraydeque_ring.proofs.{fills.Filling.with_run-before, places.Opened.new_laid}
 use Rattle.arraydeque_ring.proofs.ring.Ring.of_vec.Goals as goal
 

@@ -1,11 +1,8 @@
-use Rattle.std.{proofs.{Common.{refl, sym, ◌∙◌, subst, Bool, arith}, lemmas.Fn.called_at}, specs.{Fn.CalledAt}}
-use Rattle.arraydeque_ring.{
-  proofs.{
-    retained.Retaining.{all_kept, first_goes, next_filled, next_asked, room_for_next, counted, one_stays, one_goes},
-    retained.Retaining.{all_asked},
-    places.Opened.opened,
-    ring.Ring.retain.Goals.{then-keeps, else-keeps},
-  },
+use Rattle.std.{proofs.{Common.{refl, sym, ◌∙◌, subst, Bool, arith}, lemmas.Fn.called_at}, specs.Fn.CalledAt}
+use Rattle.arraydeque_ring.proofs.{
+  retained.Retaining.{all_kept, first_goes, next_filled, next_asked, counted, one_stays, one_goes, all_asked},
+  places.Opened.opened,
+  ring.Ring.retain.Goals.{then-keeps, else-keeps},
 }
 use Rattle.arraydeque_ring.proofs.ring.Ring.retain.Goals as goal
 
@@ -40,8 +37,6 @@ pub loop-index-preserved : goal.loop-index-preserved
 loop-index-preserved g c =
     let so_far = c.loop-index.invariant in
     let held = rw c.wrap_add-place.ensures at c.get.ensures in
-    let said = called_at g.F.FnMut c.f-keeps.ensures refl in
-    let answered : Bool → Type 0 = λ b. CalledAt g.F.FnMut c.loop-index.f c.get.result.now b c.f-keeps.new.self in
     elim c.if-keeps.branch [
       | then-keeps w ↦ rw (
         w.slots-is,
@@ -50,14 +45,14 @@ loop-index-preserved g c =
         w.shift.ensures.steps,
         w.wrap_add-then-keeps.ensures,
         c.wrap_add-place.ensures,
-      ) (one_stays so_far (omega arith) _ _ held (subst answered w.if-keeps.true said))
+      ) (one_stays so_far (omega arith) _ _ held (called_at g.F.FnMut c.f-keeps.ensures w.if-keeps.true))
       | else-keeps w ↦ rw (
         w.slots-is,
         w.kept-is,
         w.take-else-keeps.ensures.places,
         w.take-else-keeps.ensures.steps,
         c.wrap_add-place.ensures,
-      ) (one_goes so_far (omega arith) _ _ held (subst answered w.if-keeps.false said))
+      ) (one_goes so_far (omega arith) _ _ held (called_at g.F.FnMut c.f-keeps.ensures w.if-keeps.false))
     ]
 
 pub invariant_of-self : goal.invariant_of-self
