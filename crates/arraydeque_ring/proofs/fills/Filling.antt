@@ -40,22 +40,28 @@ module _ {X : Type 0} (at : ℕ) (xs : List X) (ps : List (Option X)) (within : 
   with_run-before here =
       same_lists _ _ (search (rules, places)) (λ j d lt. grind (arith, places, get_or-set_same))
 
--- n items came from an iterator, and then x
+-- n items that came from an iterator were written to the places ps, which are qs now
+module _ {S X : Type 0} (gives : S → Option X → S → Type 0) (from to : S) (n at : ℕ) (ps qs : List (Option X)) where
+  -- from the place `at` on
+  abbrev pub Upwards : Type 0
+  Upwards = Fills gives from to n false (λ xs. (length xs ≡ n) × (qs ≡ with_run at xs ps))
+
+  -- or downwards from there, so that they stand in reverse
+  abbrev pub Downwards : Type 0
+  Downwards = Fills gives from to n false (λ xs. (length xs ≡ n) × (qs ≡ with_run (at - n) (reverse xs) ps))
+
+-- and then x came
 module _ {S X : Type 0} {gives : S → Option X → S → Type 0} {from mid to : S} {n : ℕ} (at : ℕ)
     (ps : List (Option X)) (x : X) {qs rs : List (Option X)} (came : gives mid (Some x) to) where
-  -- they stand from the place `at` on
-  pub one_up : Fills gives from mid n false (λ xs. (length xs ≡ n) × (qs ≡ with_run at xs ps)) → at + n < length ps
-      → rs ≡ set qs (at + n) (Some x)
-      → Fills gives from to (n + 1) false (λ xs. (length xs ≡ n + 1) × (rs ≡ with_run at xs ps))
+  pub one_up : Upwards gives from mid n at ps qs → at + n < length ps → rs ≡ set qs (at + n) (Some x)
+      → Upwards gives from to (n + 1) at ps rs
   one_up was within is = Fills-one gives was x came _ (
     omega (arith, length_push was.items x),
     rw (is, was.holds.1) (with_run-behind at was.items ps (omega arith) x _ (omega arith) within),
   )
 
-  -- or from the place `at` downwards, in reverse
-  pub one_down : Fills gives from mid n false (λ xs. (length xs ≡ n) × (qs ≡ with_run (at - n) (reverse xs) ps))
-      → n < at → at ≤ length ps → rs ≡ set qs (at - 1 - n) (Some x)
-      → Fills gives from to (n + 1) false (λ xs. (length xs ≡ n + 1) × (rs ≡ with_run (at - (n + 1)) (reverse xs) ps))
+  pub one_down : Downwards gives from mid n at ps qs → n < at → at ≤ length ps → rs ≡ set qs (at - 1 - n) (Some x)
+      → Downwards gives from to (n + 1) at ps rs
   one_down was some within is = let next : at - 1 - n ≡ at - (n + 1) = omega arith in
       Fills-one gives was x came _ (
         omega (arith, length_push was.items x),

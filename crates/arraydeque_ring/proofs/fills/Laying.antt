@@ -36,7 +36,7 @@ up_by-is k s n le = grind (arith, place_of-zero s n le)
 
 -- and down by k, to that of the index n - k
 down_by-is : (k s n : ℕ) → s < n → k ≤ n → place_of s (n - k) n ≡ down_by k s n
-down_by-is zero s n lt le = ap (λ j. place_of s j n) (omega arith) ∙ add-mod_right s n ∙ mod-eq_of_lt lt
+down_by-is zero s n lt le = grind (arith, place_of_cases s n n (omega arith))
 down_by-is (suc k) s zero lt le = absurd (omega arith)
 down_by-is (suc k) s (suc p) lt le =
     let round : s + suc k * p ≡ s + (p - k) + k * suc p = omega arith in
