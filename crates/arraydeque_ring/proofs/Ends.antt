@@ -1,8 +1,8 @@
 -- A list and its last item.
 use Rattle.std.{
   proofs.{
-    Common.{◌≡◌, ◌-◌, ◌+◌, List, [], ◌∷◌, ◌++◌, length, take, slice_get, option_to_list, Option, Some, None, ap, ◌∙◌},
-    Common.{refl, arith, sym},
+    Common.{◌≡◌, ◌-◌, ◌+◌, List, [], ◌∷◌, ◌++◌, length, take, slice_get, option_to_list, Option, Some, None, refl},
+    Common.{arith, sym},
     lemmas.{List.{append-nil, take_more, take_all}, Option.{slice_get_within, slice_get-get_or, get_or_from_slice_get}},
   },
   specs.{Option.{OnSome, IfNone}, Iterator.YieldsLast},

@@ -1,40 +1,20 @@
 -- A run of places that is written with items from an iterator, one place after another.
 use Rattle.std.proofs.{
-  Common.{◌≡◌, ℕ, ◌+◌, ◌-◌, ◌<◌, ◌≤◌, List, [], ◌∷◌, ◌++◌, length, reverse, set, Option, Some, false, ◌∙◌, arith},
-  Common.{rules},
+  Common.{◌≡◌, ℕ, ◌+◌, ◌-◌, ◌<◌, ◌≤◌, List, [], ◌∷◌, ◌++◌, length, reverse, set, Option, Some, false, arith, rules},
   lemmas.{
-    Bool.Decides.nat_tests,
     List.{get_or-set_same, places, same_lists, length-map, map-append, length-append, length-reverse, reverse-append},
     List.length_push,
   },
 }
-use Rattle.arraydeque_ring.{
-  specs.{Fills.Fills, Loans.with_run},
-  proofs.{
-    fills.FromIterator.Fills-one,
-    moved.Flat.same_places,
-    places.{Appended.get_or-with_run, Emptied.get_or-written, Items.{items, slice_get-cons}},
-  },
-}
+use Rattle.arraydeque_ring.{specs.{Fills.Fills, Loans.with_run}, proofs.fills.FromIterator.Fills-one}
 
 -- one item more, in the place behind the run or before it
 module _ {X : Type 0} (at : ℕ) (xs : List X) (ps : List (Option X)) (within : at + length xs ≤ length ps) (x : X)
     (place : ℕ) where
   with_run-behind : place ≡ at + length xs → place < length ps
       → set (with_run at xs ps) place (Some x) ≡ with_run at (xs ++ x ∷ []) ps
-  with_run-behind here lt =
-      let long = length-map xs Some in
-      let more = length-append xs (x ∷ []) in
-      same_places _ _ (search (rules, places, map-append)) (λ i i_in.
-      get_or-written (with_run at xs ps) place i (Some x) (search (rules, places)) ∙ grind (
-        arith,
-        nat_tests,
-        items,
-        slice_get-cons,
-        get_or-with_run at xs ps i,
-        get_or-with_run at (xs ++ x ∷ []) ps i,
-        more,
-      ))
+  with_run-behind here lt = rw (map-append, length-append) (same_lists _ _ (search (rules, places))
+      (λ j d j_in. grind (arith, places, get_or-set_same, length-map xs Some)))
 
   pub with_run-before : place + 1 ≡ at → set (with_run at xs ps) place (Some x) ≡ with_run place (x ∷ xs) ps
   with_run-before here =

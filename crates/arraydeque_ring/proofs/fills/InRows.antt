@@ -1,6 +1,6 @@
 -- Items that come one by one behind the last item or before the first.
 use Rattle.std.proofs.{
-  Common.{◌≡◌, ℕ, ◌-◌, ◌*◌, List, ◌++◌, length, reverse, sym, ap, ◌∙◌, arith},
+  Common.{◌≡◌, ℕ, ◌-◌, ◌*◌, List, ◌++◌, length, reverse, sym, arith},
   lemmas.List.{append_assoc, length-append, reverse-append},
 }
 use Rattle.arraydeque_ring.{specs.{Ring.{RingState, down_by}, Steps.more_puts}, proofs.places.Rotated.place_of-sum}
@@ -29,9 +29,9 @@ module _ {X : Type 0} where
 
   pub filled_back-both : (v : RingState X) (xs ys : List X)
       → filled_back ys (filled_back xs v) ≡ filled_back (xs ++ ys) v
-  filled_back-both v xs ys = grind (arith, append_assoc v.items xs ys, length-append xs ys)
+  filled_back-both v xs ys = grind (arith, append_assoc, length-append)
 
   pub filled_front-both : (v : RingState X) (xs ys : List X)
       → filled_front ys (filled_front xs v) ≡ filled_front (xs ++ ys) v
   filled_front-both v xs ys =
-      grind (arith, all_before xs ys v.items, down_by-all xs ys v.start v.capacity, length-append xs ys)
+      grind (arith, all_before xs ys, down_by-all xs ys v.start, length-append)

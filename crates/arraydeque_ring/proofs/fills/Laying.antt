@@ -1,9 +1,9 @@
 -- A run of items from an iterator that is laid behind the last item or before the first, or there in
 -- the places of others.
 use Rattle.std.proofs.{
-  Common.{◌≡◌, ℕ, zero, suc, ◌+◌, ◌-◌, ◌*◌, ◌%◌, ◌<◌, ◌≤◌, inl, inr, List, ◌++◌, length, take, drop, reverse, [], Bool},
+  Common.{◌≡◌, ℕ, zero, suc, ◌+◌, ◌-◌, ◌*◌, ◌%◌, ◌<◌, ◌≤◌, inl, List, ◌++◌, length, take, drop, reverse, [], Bool},
   Common.{false, refl, subst, ap, ◌∙◌, arith},
-  Math.Nat.{add-mod_right, add-mul-mod_self_right, mod-eq_of_lt},
+  Math.Nat.add-mul-mod_self_right,
   lemmas.{Bool.Decides.nat_tests, List.{length-append, length-drop, length-reverse, length-take, take_all}},
 }
 use Rattle.std.specs.declared.iter.Iterator.{Ghosts}

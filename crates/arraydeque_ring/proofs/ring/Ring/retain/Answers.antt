@@ -1,4 +1,4 @@
-use Rattle.std.{proofs.{Common.{refl, sym, ◌∙◌, subst, Bool, arith}, lemmas.Fn.called_at}, specs.Fn.CalledAt}
+use Rattle.std.{proofs.{Common.arith, lemmas.Fn.called_at}, specs.Fn.CalledAt}
 use Rattle.arraydeque_ring.proofs.{
   retained.Retaining.{all_kept, first_goes, next_filled, next_asked, counted, one_stays, one_goes, all_asked},
   places.Opened.opened,
@@ -9,7 +9,7 @@ use Rattle.arraydeque_ring.proofs.ring.Ring.retain.Goals as goal
 pub returns-then-kept-len-clause-retains : goal.returns-then-kept-len-clause-retains
 returns-then-kept-len-clause-retains g c =
     let ring = opened _ c.self.invariant c.self.view_is in
-    all_kept (CalledAt g.F.FnMut) _ _ _ _ (c.if-kept-len.true ∙ sym ring.len) c.kept_first-kept.ensures.in_turn
+    all_kept (CalledAt g.F.FnMut) _ _ _ _ (omega arith) c.kept_first-kept.ensures.in_turn
 
 pub loop-index-init : goal.loop-index-init
 loop-index-init g c =
