@@ -1,8 +1,8 @@
 -- A list and its last item.
 use Rattle.std.{
   proofs.{
-    Common.{◌≡◌, ◌-◌, ◌+◌, List, [], ◌∷◌, ◌++◌, length, take, slice_get, option_to_list, Option, Some, None, ap, ◌∙◌},
-    Common.{refl, arith, sym},
+    Common.{◌≡◌, ◌-◌, ◌+◌, List, [], ◌∷◌, ◌++◌, length, take, slice_get, option_to_list, Option, Some, None, refl},
+    Common.{arith, sym},
     lemmas.{List.{append-nil, take_more, take_all}, Option.{slice_get_within, slice_get-get_or, get_or_from_slice_get}},
   },
   specs.{Option.{OnSome, IfNone}, Iterator.YieldsLast},
@@ -26,13 +26,11 @@ module _ {X : Type 0} where
     pub conserved-pop_back : (popped : Option X) → popped ≡ slice_get old.items (length old.items - 1)
         → OnSome popped (new ≡ record old { items = take (length old.items - 1) old.items; steps = st })
         → IfNone popped (new ≡ old) → new.items ++ option_to_list popped ≡ old.items
-    conserved-pop_back None last taken kept = append-nil new.items ∙ ap (λ (r : RingState X). r.items) kept
-    conserved-pop_back (Some x) last taken kept =
-        ap (λ (r : RingState X). r.items ++ x ∷ []) taken ∙ last_and_rest old.items x last
+    conserved-pop_back None last taken kept = grind (arith, append-nil)
+    conserved-pop_back (Some x) last taken kept = grind (arith, last_and_rest old.items x last)
 
     pub YieldsLast-pop : (popped : Option X) → popped ≡ slice_get old.items (length old.items - 1)
         → OnSome popped (new ≡ record old { items = take (length old.items - 1) old.items; steps = st })
         → IfNone popped (new ≡ old) → YieldsLast (λ (l : List X). l) old.items popped new.items
-    YieldsLast-pop None last taken kept =
-        (nothing_last old.items last, ap (λ (r : RingState X). r.items) kept ∙ nothing_last old.items last)
+    YieldsLast-pop None last taken kept = let none = nothing_last old.items last in (none, grind arith)
     YieldsLast-pop (Some x) last taken kept = sym (conserved-pop_back (Some x) last taken kept)

@@ -1,4 +1,3 @@
-pub mod Clones
 pub mod Ends
 mod Examples
 pub mod fills

@@ -1,7 +1,7 @@
 -- Items that come one by one into a full ring, each in the place of another.
 use Rattle.std.proofs.{
   Common.{◌≡◌, List, ◌++◌, length, take, drop, reverse, arith, rules},
-  lemmas.{List.{length-append}, List.{places, same_lists}},
+  lemmas.List.{length-append, places, same_lists},
 }
 use Rattle.arraydeque_ring.{
   specs.{Ring.{RingState, up_by, down_by}, Steps.{more_puts, more_takes}},
@@ -31,11 +31,11 @@ module _ {X : Type 0} where
     displaced_first-both =
         let items : drop (length ys) (drop (length xs) (r.items ++ xs) ++ ys) ≡ drop (length (xs ++ ys))
         (r.items ++ (xs ++ ys)) = same_lists _ _ (search (rules, places)) (λ j d lt. grind (arith, places)) in
-        grind (arith, up_by-both (length xs) (length ys) r.start r.capacity, length-append xs ys)
+        grind (arith, up_by-both (length xs) (length ys) r.start, length-append)
 
     pub displaced_last-both : displaced_last ys (displaced_last xs r) ≡ displaced_last (xs ++ ys) r
     displaced_last-both =
         let n = length r.items in let all = reverse xs ++ r.items in
         let items : take (length (take n all)) (reverse ys ++ take n all) ≡ take n (reverse (xs ++ ys) ++ r.items) =
         rw (← all_before xs ys r.items) (same_lists _ _ (search (rules, places)) (λ j d lt. grind (arith, places))) in
-        grind (arith, down_by-all xs ys r.start r.capacity, length-append xs ys)
+        grind (arith, down_by-all xs ys r.start, length-append)

@@ -1,61 +1,47 @@
 -- A run of places that is written with items from an iterator, one place after another.
 use Rattle.std.proofs.{
-  Common.{◌≡◌, ℕ, ◌+◌, ◌-◌, ◌<◌, ◌≤◌, List, [], ◌∷◌, ◌++◌, length, reverse, set, Option, Some, false, ◌∙◌, arith},
-  Common.{rules},
+  Common.{◌≡◌, ℕ, ◌+◌, ◌-◌, ◌<◌, ◌≤◌, List, [], ◌∷◌, ◌++◌, length, reverse, set, Option, Some, false, arith, rules},
   lemmas.{
-    Bool.Decides.nat_tests,
     List.{get_or-set_same, places, same_lists, length-map, map-append, length-append, length-reverse, reverse-append},
-    List.{length_push},
+    List.length_push,
   },
 }
-use Rattle.arraydeque_ring.{
-  specs.{Fills.Fills, Loans.with_run},
-  proofs.{
-    fills.FromIterator.Fills-one,
-    moved.Flat.same_places,
-    places.{Appended.get_or-with_run, Emptied.get_or-written, Items.{items, slice_get-cons}},
-  },
-}
+use Rattle.arraydeque_ring.{specs.{Fills.Fills, Loans.with_run}, proofs.fills.FromIterator.Fills-one}
 
 -- one item more, in the place behind the run or before it
 module _ {X : Type 0} (at : ℕ) (xs : List X) (ps : List (Option X)) (within : at + length xs ≤ length ps) (x : X)
     (place : ℕ) where
   with_run-behind : place ≡ at + length xs → place < length ps
       → set (with_run at xs ps) place (Some x) ≡ with_run at (xs ++ x ∷ []) ps
-  with_run-behind here lt =
-      let long = length-map xs Some in
-      let more = length-append xs (x ∷ []) in
-      same_places _ _ (search (rules, places, map-append)) (λ i i_in.
-      get_or-written (with_run at xs ps) place i (Some x) (search (rules, places)) ∙ grind (
-        arith,
-        nat_tests,
-        items,
-        slice_get-cons,
-        get_or-with_run at xs ps i,
-        get_or-with_run at (xs ++ x ∷ []) ps i,
-        more,
-      ))
+  with_run-behind here lt = rw (map-append, length-append) (same_lists _ _ (search (rules, places))
+      (λ j d j_in. grind (arith, places, get_or-set_same, length-map xs Some)))
 
   pub with_run-before : place + 1 ≡ at → set (with_run at xs ps) place (Some x) ≡ with_run place (x ∷ xs) ps
   with_run-before here =
       same_lists _ _ (search (rules, places)) (λ j d lt. grind (arith, places, get_or-set_same))
 
--- n items came from an iterator, and then x
+-- n items that came from an iterator were written to the places ps, which are qs now
+module _ {S X : Type 0} (gives : S → Option X → S → Type 0) (from to : S) (n at : ℕ) (ps qs : List (Option X)) where
+  -- from the place `at` on
+  abbrev pub Upwards : Type 0
+  Upwards = Fills gives from to n false (λ xs. (length xs ≡ n) × (qs ≡ with_run at xs ps))
+
+  -- or downwards from there, so that they stand in reverse
+  abbrev pub Downwards : Type 0
+  Downwards = Fills gives from to n false (λ xs. (length xs ≡ n) × (qs ≡ with_run (at - n) (reverse xs) ps))
+
+-- and then x came
 module _ {S X : Type 0} {gives : S → Option X → S → Type 0} {from mid to : S} {n : ℕ} (at : ℕ)
     (ps : List (Option X)) (x : X) {qs rs : List (Option X)} (came : gives mid (Some x) to) where
-  -- they stand from the place `at` on
-  pub one_up : Fills gives from mid n false (λ xs. (length xs ≡ n) × (qs ≡ with_run at xs ps)) → at + n < length ps
-      → rs ≡ set qs (at + n) (Some x)
-      → Fills gives from to (n + 1) false (λ xs. (length xs ≡ n + 1) × (rs ≡ with_run at xs ps))
+  pub one_up : Upwards gives from mid n at ps qs → at + n < length ps → rs ≡ set qs (at + n) (Some x)
+      → Upwards gives from to (n + 1) at ps rs
   one_up was within is = Fills-one gives was x came _ (
     omega (arith, length_push was.items x),
     rw (is, was.holds.1) (with_run-behind at was.items ps (omega arith) x _ (omega arith) within),
   )
 
-  -- or from the place `at` downwards, in reverse
-  pub one_down : Fills gives from mid n false (λ xs. (length xs ≡ n) × (qs ≡ with_run (at - n) (reverse xs) ps))
-      → n < at → at ≤ length ps → rs ≡ set qs (at - 1 - n) (Some x)
-      → Fills gives from to (n + 1) false (λ xs. (length xs ≡ n + 1) × (rs ≡ with_run (at - (n + 1)) (reverse xs) ps))
+  pub one_down : Downwards gives from mid n at ps qs → n < at → at ≤ length ps → rs ≡ set qs (at - 1 - n) (Some x)
+      → Downwards gives from to (n + 1) at ps rs
   one_down was some within is = let next : at - 1 - n ≡ at - (n + 1) = omega arith in
       Fills-one gives was x came _ (
         omega (arith, length_push was.items x),

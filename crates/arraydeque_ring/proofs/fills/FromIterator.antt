@@ -1,8 +1,7 @@
 -- Loops that take items from an iterator, while there is room.
 use Rattle.std.{
   proofs.{
-    Common.{◌≡◌, ℕ, ◌+◌, ◌≤◌, List, [], ◌∷◌, ◌++◌, length, Option, Some, Bool, true, false, refl},
-    Common.{subst, arith},
+    Common.{◌≡◌, ℕ, ◌+◌, ◌≤◌, List, [], ◌∷◌, ◌++◌, length, Option, Some, Bool, true, false, refl, subst, arith},
     iter.runs.Lists.Yields-both,
     lemmas.List.length-append,
   },
@@ -25,27 +24,27 @@ module _ {S A : Type 0} (gives : S → Option A → S → Type 0) where
     holds = holds f.items f.holds;
   }
 
-  module _ {from mid : S} {n : ℕ} {ended : Bool} {P : List A → Type 0} (first : Fills gives from mid n ended P) where
-    -- of two loops, where the iterator didn't end in the first
-    pub Fills-both : {to : S} {m : ℕ} {over : Bool} {Q : List A → Type 0} (then : Fills gives mid to m over Q)
-        (R : List A → Type 0) → ended ≡ false → R (first.items ++ then.items) → Fills gives from to (n + m) over R
-    Fills-both then R some holds =
-        let all = first.all some in let long = length-append first.items then.items in
-        record {
-          items = first.items ++ then.items;
-          last = then.last;
-          yielded = Yields-both gives first.items then.items from mid then.last
-              (subst (Yields gives from first.items) all.0 first.yielded) then.yielded;
-          at_most = omega arith;
-          none = then.none;
-          all = λ more. let rest = then.all more in (rest.0, omega arith);
-          holds = holds;
-        }
+  -- of two loops, where the iterator didn't end in the first
+  pub Fills-both : {from mid to : S} {n m : ℕ} {ended over : Bool} {P Q : List A → Type 0}
+      (first : Fills gives from mid n ended P) (then : Fills gives mid to m over Q) (R : List A → Type 0)
+      → ended ≡ false → R (first.items ++ then.items) → Fills gives from to (n + m) over R
+  Fills-both {from} {mid} {to} first then R some holds =
+      let all = first.all some in let long = length-append first.items then.items in
+      record {
+        items = first.items ++ then.items;
+        last = then.last;
+        yielded = Yields-both gives first.items then.items from mid then.last
+            (subst (Yields gives from first.items) all.0 first.yielded) then.yielded;
+        at_most = omega arith;
+        none = then.none;
+        all = λ more. let rest = then.all more in (rest.0, omega arith);
+        holds = holds;
+      }
 
   -- and of a loop and one call more
   pub Fills-one : {from mid to : S} {n : ℕ} {P : List A → Type 0} (was : Fills gives from mid n false P) (x : A)
       → gives mid (Some x) to → (Q : List A → Type 0) → Q (was.items ++ x ∷ []) → Fills gives from to (n + 1) false Q
-  Fills-one {mid = mid} {to = to} was x came Q holds = Fills-both was {Q = λ _. gives mid (Some x) to} (record {
+  Fills-one {mid = mid} {to = to} was x came Q holds = Fills-both {Q = λ _. gives mid (Some x) to} was (record {
     items = x ∷ [];
     last = to;
     yielded = (to, came, refl);

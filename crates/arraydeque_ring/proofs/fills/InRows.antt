@@ -1,12 +1,9 @@
 -- Items that come one by one behind the last item or before the first.
 use Rattle.std.proofs.{
-  Common.{◌≡◌, ℕ, ◌-◌, ◌*◌, List, ◌++◌, length, reverse, sym, ap, ◌∙◌, arith},
+  Common.{◌≡◌, ℕ, ◌-◌, ◌*◌, List, ◌++◌, length, reverse, sym, arith},
   lemmas.List.{append_assoc, length-append, reverse-append},
 }
-use Rattle.arraydeque_ring.{
-  specs.{Ring.{RingState, down_by}, Steps.{more_puts}},
-  proofs.{places.Rotated.{place_of-sum}},
-}
+use Rattle.arraydeque_ring.{specs.{Ring.{RingState, down_by}, Steps.more_puts}, proofs.places.Rotated.place_of-sum}
 
 module _ {X : Type 0} (xs ys : List X) where
   -- to go down once for each of xs and then for each of ys is to go down for all
@@ -15,7 +12,7 @@ module _ {X : Type 0} (xs ys : List X) where
 
   -- those that went in last stand first
   pub all_before : (zs : List X) → reverse ys ++ (reverse xs ++ zs) ≡ reverse (xs ++ ys) ++ zs
-  all_before zs = sym (append_assoc (reverse ys) (reverse xs) zs) ∙ ap (λ l. l ++ zs) (sym (reverse-append xs ys))
+  all_before zs = rw reverse-append (sym (append_assoc (reverse ys) (reverse xs) zs))
 
 module _ {X : Type 0} where
   -- xs came behind the last item
@@ -32,9 +29,9 @@ module _ {X : Type 0} where
 
   pub filled_back-both : (v : RingState X) (xs ys : List X)
       → filled_back ys (filled_back xs v) ≡ filled_back (xs ++ ys) v
-  filled_back-both v xs ys = grind (arith, append_assoc v.items xs ys, length-append xs ys)
+  filled_back-both v xs ys = grind (arith, append_assoc, length-append)
 
   pub filled_front-both : (v : RingState X) (xs ys : List X)
       → filled_front ys (filled_front xs v) ≡ filled_front (xs ++ ys) v
   filled_front-both v xs ys =
-      grind (arith, all_before xs ys v.items, down_by-all xs ys v.start v.capacity, length-append xs ys)
+      grind (arith, all_before xs ys, down_by-all xs ys v.start, length-append)

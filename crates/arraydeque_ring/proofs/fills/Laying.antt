@@ -1,9 +1,9 @@
 -- A run of items from an iterator that is laid behind the last item or before the first, or there in
 -- the places of others.
 use Rattle.std.proofs.{
-  Common.{◌≡◌, ℕ, zero, suc, ◌+◌, ◌-◌, ◌*◌, ◌%◌, ◌<◌, ◌≤◌, inl, inr, List, ◌++◌, length, take, reverse, [], Bool},
+  Common.{◌≡◌, ℕ, zero, suc, ◌+◌, ◌-◌, ◌*◌, ◌%◌, ◌<◌, ◌≤◌, inl, List, ◌++◌, length, take, drop, reverse, [], Bool},
   Common.{false, refl, subst, ap, ◌∙◌, arith},
-  Math.Nat.{add-mod_right, add-mul-mod_self_right, mod-eq_of_lt},
+  Math.Nat.add-mul-mod_self_right,
   lemmas.{Bool.Decides.nat_tests, List.{length-append, length-drop, length-reverse, length-take, take_all}},
 }
 use Rattle.std.specs.declared.iter.Iterator.{Ghosts}
@@ -32,12 +32,11 @@ use Rattle.arraydeque_ring.{
 
 -- to go up by k places is to go to the place of index k
 pub up_by-is : (k s n : ℕ) → s ≤ n - 1 → place_of s k n ≡ up_by k s n
-up_by-is zero s n le = place_of-zero s n le
-up_by-is (suc k) s n le = grind arith
+up_by-is k s n le = grind (arith, place_of-zero s n le)
 
 -- and down by k, to that of the index n - k
 down_by-is : (k s n : ℕ) → s < n → k ≤ n → place_of s (n - k) n ≡ down_by k s n
-down_by-is zero s n lt le = ap (λ j. place_of s j n) (omega arith) ∙ add-mod_right s n ∙ mod-eq_of_lt lt
+down_by-is zero s n lt le = grind (arith, place_of_cases s n n (omega arith))
 down_by-is (suc k) s zero lt le = absurd (omega arith)
 down_by-is (suc k) s (suc p) lt le =
     let round : s + suc k * p ≡ s + (p - k) + k * suc p = omega arith in
@@ -99,20 +98,17 @@ module _ {X : Type 0} {r : Inside X} {v : RingState X} (o : Opened r v) {n : ℕ
     (some : 0 < n) where
   -- behind the last item
   module _ {run place : ℕ} (is : place ≡ (r.start + r.len) % n) (fits : run ≤ n - place) (room : run ≤ n - r.len) where
-    lies : MayStartAt r.start (length v.items) v.capacity place × (place + run ≤ v.capacity)
-    lies = (
-      rw (is, all, ← o.len) (MayStartAt-place_of r.start (length v.items) v.capacity (omega arith)),
-      omega arith,
-    )
+    lies : MayStartAt r.start (length v.items) v.capacity place
+    lies = rw (is, all, ← o.len) (MayStartAt-place_of r.start (length v.items) v.capacity (omega arith))
 
     pub empty_behind : IsEmptyRun r.slots.places place run
-    empty_behind = IsEmptyRun-behind o.laid _ _ lies.0 lies.1 (omega arith)
+    empty_behind = IsEmptyRun-behind o.laid _ _ lies (omega arith) (omega arith)
 
     pub laid_back : (xs : List X) {new : Region X}
         → (length xs ≡ run) × (new.places ≡ with_run place xs r.slots.places)
         → new.steps ≡ more_puts run r.slots.steps → Opened record r { slots = new; len = r.len + run } (filled_back xs v)
     laid_back xs came steps = record {
-      laid = rw came.1 (LaidOut-appended o.laid xs place lies.0 (omega arith) (omega arith));
+      laid = rw came.1 (LaidOut-appended o.laid xs place lies (omega arith) (omega arith));
       len = omega (arith, length-append v.items xs);
       start = o.start;
       steps = grind arith;
@@ -126,24 +122,23 @@ module _ {X : Type 0} {r : Inside X} {v : RingState X} (o : Opened r v) {n : ℕ
       → (xs : List X) {new : Region X} → (length xs ≡ run) × (new.places ≡ with_run r.start xs r.slots.places)
       → new.steps ≡ more_puts run (more_takes run r.slots.steps)
       → Opened record r { slots = new; start = start } (displaced_first xs v)
-  laid_first full fits is xs came steps = record {
-    laid = rw (came.1, is, all, ← came.0)
-        (LaidOut-by (omega (arith, length-drop (length xs) (v.items ++ xs), length-append v.items xs))
-        (Holds-from (Holds-run (holds o.laid) 0 _ xs (inl (omega arith)) (omega arith) (omega arith)) (length xs)
-        (omega arith) (omega arith) (λ k lt. grind (arith, items, place_of_cases (length xs) k v.capacity (omega arith)))));
-    len = omega (arith, length-drop (length xs) (v.items ++ xs), length-append v.items xs);
-    start = rw (is, all, ← came.0, o.start) (up_by-is _ _ _ (rw o.start at o.laid.in_region));
-    steps = grind arith;
-  }
+  laid_first full fits is xs came steps =
+      let m = length xs in
+      let long : length (drop m (v.items ++ xs)) ≡ r.len =
+      omega (arith, length-drop m (v.items ++ xs), length-append v.items xs) in record {
+        laid = rw (came.1, is, all, ← came.0) (LaidOut-by (omega arith)
+            (Holds-from (Holds-run (holds o.laid) 0 _ xs (inl (omega arith)) (omega arith) (omega arith)) m
+            (omega arith) (omega arith) (λ k lt. grind (arith, items, place_of_cases m k v.capacity (omega arith)))));
+        len = long;
+        start = rw (is, all, ← came.0, o.start) (up_by-is _ _ _ (rw o.start at o.laid.in_region));
+        steps = grind arith;
+      }
 
   -- before the first item, or in the places of the last ones
   module _ {run place : ℕ} (above : place ≡ (r.start + (n - 1)) % n) (fits : run ≤ place + 1) where
     -- below the start, or below the region's end in its stead, lie the places of the last indexes
     before : MayStartAt r.start (v.capacity - run) v.capacity (place + 1 - run) × (place + 1 ≤ v.capacity)
-    before = elim (place_of_cases r.start (n - 1) n (omega arith)) [
-      | inl below ↦ (inl (omega arith), omega arith)
-      | inr past ↦ (inr (omega arith), omega arith)
-    ]
+    before = grind (arith, place_of_cases r.start (n - 1) n (omega arith))
 
     pub empty_before : run ≤ n - r.len → IsEmptyRun r.slots.places (place + 1 - run) run
     empty_before room = IsEmptyRun-from o.laid (v.capacity - run) _ _ (omega arith) before.0 (omega arith)

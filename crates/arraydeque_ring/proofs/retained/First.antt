@@ -6,14 +6,8 @@ use Rattle.std.{
     Retain.answers_push,
     lemmas.{
       Bool.Decides.nat_tests,
-      List.{
-        append-nil,
-        append_assoc,
-        length-append,
-        length-replicate,
-        replicate-append-replicate,
-        Folds.sum_by-replicate,
-      },
+      List.{append-nil, append_assoc, length-append, length-replicate, replicate-append-replicate},
+      List.{Folds.sum_by-replicate},
       Option.slice_get_within,
     },
   },
@@ -26,9 +20,6 @@ use Rattle.arraydeque_ring.{
 
 pub until_goes : (k n : ℕ) → k < n → answers_until k n ≡ replicate k true ++ false ∷ []
 until_goes k n lt = grind arith
-
-until_all : (n : ℕ) → answers_until n n ≡ replicate n true
-until_all n = grind (arith, append-nil (replicate n true))
 
 -- n items that stay stand before
 until_behind : (n k m : ℕ) → answers_until (n + k) (n + m) ≡ replicate n true ++ answers_until k m
@@ -81,7 +72,9 @@ module _ {X F : Type 0} (R : F → X → Bool → F → Type 0) where
   -- or all of that one stay
   pub all_stay : (f g : F) (k : ℕ) (xs : List X) → k ≡ length xs → ReturnsInTurn R f (answers_until k (length xs)) xs g
       → ReturnsInTurn R f (replicate k true) xs g
-  all_stay f g k xs all told = rw (← all, until_all k) at told
+  all_stay f g k xs all told =
+      let same : answers_until k k ≡ replicate k true = grind (arith, append-nil (replicate k true)) in
+      rw (← all, same) at told
 
   pub until_in_back : (f g h : F) (k m : ℕ) (xs ys : List X) → k ≡ length xs
       → ReturnsInTurn R f (answers_until k (length xs)) xs g → ReturnsInTurn R g (answers_until m (length ys)) ys h
@@ -96,7 +89,8 @@ module _ {X F : Type 0} (t : Mut F (Bor X × Unit {0}) Bool) (f : F) (xs ys : Li
     (may : MayBeAsked t f (xs ++ ys)) where
   pub asked_front : MayBeAsked t f xs
   asked_front answers g x here told =
-      may answers g x (grind (arith, slice_get-append xs ys (length answers), slice_get_within xs (length answers) x.now here))
+      let lt = slice_get_within xs (length answers) x.now here in
+      may answers g x (grind (arith, slice_get-append xs ys (length answers)))
       (told_longer (CalledAt t) f g answers xs ys told)
 
   pub asked_back : (g : F) (k : ℕ) → k ≡ length xs → ReturnsInTurn (CalledAt t) f (answers_until k (length xs)) xs g

@@ -2,28 +2,55 @@
 use Rattle.std.{
   proofs.{
     Common.{◌≡◌, ℕ, suc, ◌+◌, ◌<◌, ◌≤◌, List, [], ◌∷◌, ◌++◌, length, take, drop, set, get_or, replicate, slice_get},
-    Common.{add-one, Option, Some, None, Bool, true, false, not, count_by, sym, ap, ◌∙◌, arith},
+    Common.{add-one, Option, Some, None, Bool, true, false, not, count_by, sym, ap, ◌∙◌, arith, cond, refl},
     Retain.{picked_push_true, picked_push_false, answers_push},
-    lemmas.{List.{length_push, length-take-le, length-replicate, take_all, drop_all}, Option.get_or_from_slice_get},
+    lemmas.{
+      List.Sums.{sum_by_push, sum_by-cons},
+      List.{length_push, length-take-le, length-replicate, take_all, drop_all},
+      Option.get_or_from_slice_get,
+    },
   },
   specs.List.{items_where_true, Retain.ReturnsInTurn},
 }
 use Rattle.arraydeque_ring.{
   specs.{
-    Places.{held_at, IsFilled, IsEmpty},
+    Places.{held_at, IsFilled},
     Retained.{answers_until, count_moved, Retains},
     Ring.{RingState, place_of},
     Steps.{Steps, more_takes, more_moves},
   },
   proofs.{
-    gaps.Gapped.{Gapped, Gapped-taken_one, Gapped-take, Gapped-move, IsEmpty-gap, held_behind, LaidOut-gap_last},
+    gaps.Gapped.{Gapped, Gapped-taken_one, Gapped-take, Gapped-move, held_behind, LaidOut-gap_last},
     places.{Items.slice_get_some, LaidOut.LaidOut, Opened.{Shows, shows}},
-    retained.{
-      Answered.{kept_and_gone, count_by-push, moved-push_true, moved-push_false},
-      First.{until_goes, all_stay, picked_front, none_goes, none_moved},
-    },
+    retained.First.{until_goes, all_stay, picked_front, none_goes, none_moved},
   },
 }
+
+-- the items that stay and those that go are as many as the answers
+kept_and_gone : {X : Type 0} (bs : List Bool) (xs : List X) → length bs ≤ length xs
+    → length (items_where_true bs xs) + count_by not bs ≡ length bs
+kept_and_gone [] xs le = refl
+kept_and_gone (b ∷ bs) [] le = absurd (omega arith)
+kept_and_gone (true ∷ bs) (x ∷ xs) le = omega (arith, kept_and_gone bs xs (omega arith))
+kept_and_gone (false ∷ bs) (x ∷ xs) le =
+    omega (arith, kept_and_gone bs xs (omega arith), sum_by-cons (λ b. cond (not b) 1 0) false bs)
+
+-- one more to count
+count_by-push : (p : Bool → Bool) (bs : List Bool) (b : Bool)
+    → count_by p (bs ++ b ∷ []) ≡ count_by p bs + cond (p b) 1 0
+count_by-push p bs b = sum_by_push (λ x. cond (p x) 1 0) bs b
+
+-- an item that stays behind one that goes is moved
+moved-push_true : (bs : List Bool) → 0 < count_by not bs → count_moved (bs ++ true ∷ []) ≡ count_moved bs + 1
+moved-push_true [] some = absurd (omega arith)
+moved-push_true (true ∷ bs) some = moved-push_true bs some
+moved-push_true (false ∷ bs) some = count_by-push (λ b. b) bs true
+
+-- one that goes moves none
+moved-push_false : (bs : List Bool) → count_moved (bs ++ false ∷ []) ≡ count_moved bs
+moved-push_false [] = refl
+moved-push_false (true ∷ bs) = moved-push_false bs
+moved-push_false (false ∷ bs) = omega (arith, count_by-push (λ b. b) bs false)
 
 -- a retain of len items that began at f has asked about the first `index` of them and is at g:
 -- `kept` of those stay, in front, and the others, one at least, are gone
@@ -81,10 +108,6 @@ module _ {F X : Type 0} {R : F → X → Bool → F → Type 0} {f : F} {items :
   pub counted : index ≤ len → kept + count_by not s.answers ≡ index
   counted le = omega (arith, kept_and_gone s.answers items (omega arith))
 
-  -- the place behind those that stay is empty
-  pub room_for_next : IsEmpty ps (place_of t kept n)
-  room_for_next = IsEmpty-gap (count_by not s.answers) kept s.places s.stay s.some_gone
-
   -- all have been asked about
   pub all_asked : len ≤ index → Shows n t kept (items_where_true s.answers items) ps
   all_asked past = shows (LaidOut-gap_last (rw (drop_all index items (omega arith)) at s.places)) kept s.stay
@@ -119,7 +142,7 @@ module _ {F X : Type 0} {R : F → X → Bool → F → Type 0} {f : F} {items :
           let bs = s.answers in
           let ks = items_where_true bs items in
           let more : items_where_true (bs ++ true ∷ []) items ≡ ks ++ x ∷ [] =
-          picked_push_true bs items x in_list ∙ ap (λ y. ks ++ y ∷ []) (sym x_is) in
+          cc (picked_push_true bs items x in_list, x_is) in
           let gone : count_by not (bs ++ true ∷ []) ≡ count_by not bs = omega (arith, count_by-push not bs true) in
           record {
             all = s.all;

@@ -1,13 +1,15 @@
-use Rattle.std.proofs.Common.{rules, Any}
-use Rattle.arraydeque_ring.proofs.Clones.{same_second, any_second}
+use Rattle.std.proofs.{Common.{rules, Any}, lemmas.List.Elements.Contains-append_right}
 use Rattle.arraydeque_ring.proofs.ring.Ring.clone.Goals as goal
 
 pub clone_back-requires-2-clause-same : goal.clone_back-requires-2-clause-same
-clone_back-requires-2-clause-same g c = same_second _ _ _ (rw (← c.as_slices.ensures.joined) at c.requires)
+clone_back-requires-2-clause-same g c = λ x y held made.
+    c.requires x y (rw (← c.as_slices.ensures.joined) (Contains-append_right _ _ x held)) made
 
 pub returns-in_err-clone_back-2-clause-refused : goal.returns-in_err-clone_back-2-clause-refused
 returns-in_err-clone_back-2-clause-refused g c =
-    let slices = c.as_slices.result in
-    let refused : Any (λ x. ¬ g.T.Clone.is_infallible x) c.args.self.now.items = rw (← c.as_slices.ensures.joined)
-    (any_second slices.0.now slices.1.now c.in_err-clone_back-2.ensures.refused) in
+    let was = c.in_err-clone_back-2.ensures.refused in
+    let here = rw c.as_slices.ensures.joined at
+    (Contains-append_right c.as_slices.result.0.now _ was.1 (was.0, was.2, was.3)) in
+    let refused : Any (λ x. ¬ g.T.Clone.is_infallible x) c.args.self.now.items =
+    (here.0, was.1, here.1, here.2, was.4) in
     search rules

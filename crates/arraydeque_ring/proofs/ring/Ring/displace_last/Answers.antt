@@ -11,7 +11,8 @@ loop-ended-init g c = begun (opened _ c.self.invariant c.self.view_is) c.capacit
 
 pub displace_down-written-requires-clause-filled : goal.displace_down-written-requires-clause-filled
 displace_down-written-requires-clause-filled g c = let was = c.loop-ended.invariant in
-    filled_last was.so_far.holds was.all (omega arith) c.wrap_add-from.ensures (omega arith) (grind (arith, common_steps))
+    filled_last was.so_far.holds was.all (omega arith) c.wrap_add-from.ensures (omega arith)
+    (grind (arith, common_steps))
 
 pub loop-ended-preserved : goal.loop-ended-preserved
 loop-ended-preserved g c =

@@ -22,8 +22,7 @@ loop-ended-preserved g c =
 pub returns-clause-filled : goal.returns-clause-filled
 returns-clause-filled g c =
     let was = c.loop-ended.invariant.so_far in let long = length-append c.args.self.now.items was.items in
-    rw c.replace-nothing.ensures.after (Fills-as _ was _ _ (omega arith) (λ more.
-    grind (arith, c.loop-ended-test.branch)) (λ xs. closed))
+    rw c.replace-nothing.ensures.after (Fills-as _ was _ _ (omega arith) (λ more. grind arith) (λ xs. closed))
 
 pub returns-clause-within : goal.returns-clause-within
 returns-clause-within g c = rw c.replace-nothing.ensures.after (search (rules, items_within))

@@ -27,5 +27,4 @@ pub returns-clause-filled : goal.returns-clause-filled
 returns-clause-filled g c =
     let was = c.loop-ended.invariant.so_far in
     let long = length-append (reverse was.items) c.args.self.now.items in let same = length-reverse was.items in
-    rw c.replace-nothing.ensures.after (Fills-as _ was _ _ (omega arith) (λ more.
-    grind (arith, c.loop-ended-test.branch)) (λ xs. closed))
+    rw c.replace-nothing.ensures.after (Fills-as _ was _ _ (omega arith) (λ more. grind arith) (λ xs. closed))

@@ -80,6 +80,4 @@ drop-slots-requires g c =
     (Holds-same c.loop-k-2.invariant.reads (λ i lt. grind (arith, slice_get_past)))) refl
 
 pub returns-clause-items : goal.returns-clause-items
-returns-clause-items g c =
-    let ring = bounds _ _ c.self.invariant c.self.view_is in
-    c.loop-k-2.invariant.items ∙ take_all c.loop-k-2.k c.args.self.items (omega arith)
+returns-clause-items g c = grind (arith, bounds, take_all)

@@ -1,4 +1,4 @@
-use Rattle.std.proofs.{Common.{[], ◌∷◌, refl, ◌∙◌, arith}, lemmas.{Grind.common_steps, List.{append-nil}}}
+use Rattle.std.proofs.{Common.{[], ◌∷◌, refl, ◌∙◌, arith}, lemmas.{Grind.common_steps, List.append-nil}}
 use Rattle.arraydeque_ring.proofs.{fills.Filling.with_run-before, places.Opened.new_laid}
 use Rattle.arraydeque_ring.proofs.ring.Ring.of_vec.Goals as goal
 
@@ -15,7 +15,7 @@ loop-item-init g c = (
 
 pub put-requires : goal.put-requires
 put-requires g c =
-    let was = c.loop-item.invariant.1 in rw was.places (grind (arith, common_steps, c.in-Some.ensures.len))
+    rw c.loop-item.invariant.1.places (grind (arith, common_steps, c.in-Some.ensures.len))
 
 pub loop-item-preserved : goal.loop-item-preserved
 loop-item-preserved g c =

@@ -1,4 +1,4 @@
-use Rattle.std.{proofs.{Common.{refl, sym, ◌∙◌, subst, Bool, arith}, lemmas.Fn.called_at}, specs.{Fn.CalledAt}}
+use Rattle.std.{proofs.{Common.arith, lemmas.Fn.called_at}, specs.Fn.CalledAt}
 use Rattle.arraydeque_ring.proofs.{
   retained.Retaining.{all_kept, first_goes, next_filled, next_asked, counted, one_stays, one_goes, all_asked},
   places.Opened.opened,
@@ -9,7 +9,7 @@ use Rattle.arraydeque_ring.proofs.ring.Ring.retain.Goals as goal
 pub returns-then-kept-len-clause-retains : goal.returns-then-kept-len-clause-retains
 returns-then-kept-len-clause-retains g c =
     let ring = opened _ c.self.invariant c.self.view_is in
-    all_kept (CalledAt g.F.FnMut) _ _ _ _ (c.if-kept-len.true ∙ sym ring.len) c.kept_first-kept.ensures.in_turn
+    all_kept (CalledAt g.F.FnMut) _ _ _ _ (omega arith) c.kept_first-kept.ensures.in_turn
 
 pub loop-index-init : goal.loop-index-init
 loop-index-init g c =
@@ -37,8 +37,6 @@ pub loop-index-preserved : goal.loop-index-preserved
 loop-index-preserved g c =
     let so_far = c.loop-index.invariant in
     let held = rw c.wrap_add-place.ensures at c.get.ensures in
-    let said = called_at g.F.FnMut c.f-keeps.ensures refl in
-    let answered : Bool → Type 0 = λ b. CalledAt g.F.FnMut c.loop-index.f c.get.result.now b c.f-keeps.new.self in
     elim c.if-keeps.branch [
       | then-keeps w ↦ rw (
         w.slots-is,
@@ -47,14 +45,14 @@ loop-index-preserved g c =
         w.shift.ensures.steps,
         w.wrap_add-then-keeps.ensures,
         c.wrap_add-place.ensures,
-      ) (one_stays so_far (omega arith) _ _ held (subst answered w.if-keeps.true said))
+      ) (one_stays so_far (omega arith) _ _ held (called_at g.F.FnMut c.f-keeps.ensures w.if-keeps.true))
       | else-keeps w ↦ rw (
         w.slots-is,
         w.kept-is,
         w.take-else-keeps.ensures.places,
         w.take-else-keeps.ensures.steps,
         c.wrap_add-place.ensures,
-      ) (one_goes so_far (omega arith) _ _ held (subst answered w.if-keeps.false said))
+      ) (one_goes so_far (omega arith) _ _ held (called_at g.F.FnMut c.f-keeps.ensures w.if-keeps.false))
     ]
 
 pub invariant_of-self : goal.invariant_of-self

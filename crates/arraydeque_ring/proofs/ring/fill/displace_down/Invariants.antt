@@ -1,11 +1,10 @@
-use Rattle.std.{proofs.Common.{◌≡◌, ◌+◌, ◌-◌, ◌≤◌, length, reverse, false}, specs.Iterator.{IsFinite, size}}
-use Rattle.arraydeque_ring.specs.{Fills.Fills, Loans.with_run, Steps.{more_puts, more_takes}}
+use Rattle.std.{proofs.Common.{◌≡◌, ◌+◌, ◌≤◌}, specs.Iterator.{IsFinite, size}}
+use Rattle.arraydeque_ring.{specs.Steps.{more_puts, more_takes}, proofs.fills.Filling.Downwards}
 use Rattle.arraydeque_ring.proofs.ring.fill.displace_down.Given as goal
 
 abbrev pub invariant-loop-displaced : goal.invariant-loop-displaced
 invariant-loop-displaced g l = record {
-  filled : Fills g.I.Iterator.next_gives l.fn.elements l.elements l.displaced false (λ xs.
-      (length xs ≡ l.displaced) × (l.slots.places ≡ with_run (l.from - l.displaced) (reverse xs) l.fn.slots.places));
+  filled : Downwards g.I.Iterator.next_gives l.fn.elements l.elements l.displaced l.from l.fn.slots.places l.slots.places;
   steps : l.slots.steps ≡ more_puts l.displaced (more_takes l.displaced l.fn.slots.steps);
   may : g.I.Iterator.can_next l.elements;
   ends : IsFinite (g.I.Iterator.remaining l.elements);

@@ -1,7 +1,7 @@
 use Rattle.std.proofs.{Common.arith, Math.Nat.{add-sub_cancel_left, sub-zero}}
 use Rattle.arraydeque_ring.proofs.{
   places.Handed.{Handed, handed},
-  ring.retain.drop_round.{Given.Over, Goals.{After-min-first}},
+  ring.retain.drop_round.{Given.Over, Goals.After-min-first},
 }
 use Rattle.arraydeque_ring.proofs.ring.retain.drop_round.Goals as goal
 

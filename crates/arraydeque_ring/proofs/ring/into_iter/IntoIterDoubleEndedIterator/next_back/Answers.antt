@@ -4,5 +4,4 @@ use Rattle.arraydeque_ring.proofs.ring.into_iter.IntoIterDoubleEndedIterator.nex
 pub returns-clause-steps : goal.returns-clause-steps
 returns-clause-steps g c =
     let popped = c.pop_back.ensures in
-    rw (← c.self.view_is) (YieldsLast-pop c.self.inside.ring c.pop_back.new.self _ c.pop_back.result popped.value
-    popped.taken popped.none)
+    rw (← c.self.view_is) (YieldsLast-pop _ _ _ _ popped.value popped.taken popped.none)
