@@ -94,6 +94,9 @@ module _ {X : Type 0} where
                 (take-append-drop first items)
           ] ∙ ap (λ (w : RingState X). w.items) (closed o)
 
+      pub one_piece : v.start + length v.items ≤ v.capacity → ys ≡ []
+      one_piece within = nil_from_length ys (omega (arith, many'))
+
       -- once both were written the ring is whole, and its items are those that were written
       pub open_after : (us vs : List X) → Opened (with_slots r (record {
         places = with_run 0 (as_many ys vs) (with_run r.start (as_many xs us) ps);

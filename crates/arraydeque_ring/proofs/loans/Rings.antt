@@ -2,12 +2,13 @@
 use Rattle.arraydeque_ring.{
   proofs.{
     memory.{
-      Kit.{via, ◌≡◌, List, [], ◌∷◌, ℕ, ◌+◌, Ura, full_share, SProp, ent, sep, ex, w64, Logic, sem, RattleType, part_at},
-      Kit.{usize, param_laws, Fml, El, R, el_x, part_of, lone},
+      Kit.{via, ◌≡◌, List, [], ◌∷◌, ℕ, ◌+◌, Ura, full_share, SProp, ent, sep, w64, Logic, sem, RattleType, part_at},
+      Kit.{Seq, Goal, Item, some, raw, ‵, ◌⊛◌, ◌$◌, pick, use1, split3, usize, param_laws, Fml, El, R, el_x, part_of},
+      Kit.{lone},
       Regions.Sr,
     },
     loans.Lending.with_slots,
-    places.Opened.{Opened, view, Kept, closed, kept},
+    places.Opened.{Opened, opened, view, Kept, closed, kept},
   },
   specs.{Places.Region, Ring.RingState, declared.ring.Ring.TheInside.Inside},
 }
@@ -47,15 +48,6 @@ module _ (E : El) {M : Type 1} {𝓤 : Ura M} (𝓛 : Logic 𝓤) (rb ro : ℕ) 
   abbrev pub Way : SProp 𝓤
   Way = PartsBack 𝓛 full_share [] (members E) rb ro
 
-  pub fields_out : (d : RingState (el_x E)) → ent 𝓤 (sem 𝓛 (part_at (Rr E) full_share d rb ro)) (ex 𝓤
-      (λ (x : (x : Fields E) × ((view x ≡ d) × Kept x)). sem 𝓛 (part_at (inside.the_row (R E)) full_share x.0 rb ro)))
-  fields_out d = plain_out (Rr E) (inside.the_row (R E)) (ring_laws.the_opens (R E)) 𝓛 full_share d rb ro
-
-  pub slots_out : (x : Fields E) → ent 𝓤 (sem 𝓛 (part_at (inside.the_row (R E)) full_share x rb ro))
-      (sep 𝓤 (sem 𝓛 (part_at (Sr E) full_share x.slots rb (ro + 0))) (sep 𝓤 (sem 𝓛 (Others x)) Way))
-  unfolding part_of
-  slots_out x = field_out 𝓛 full_share [] (members E) lawful (x.slots, (x.start, (x.len, tt))) rb ro 0
-
   -- whatever the slots are, with which the fields hold a ring, it is whole again
   pub ring_whole : (d : RingState (el_x E)) (x : Fields E) (w : Region (el_x E)) → Opened (with_slots x w) d
       → ent 𝓤 (sep 𝓤 (sem 𝓛 (part_at (Sr E) full_share w rb (ro + 0))) (sep 𝓤 (sem 𝓛 (Others x)) Way))
@@ -67,3 +59,18 @@ module _ (E : El) {M : Type 1} {𝓤 : Ura M} (𝓛 : Logic 𝓤) (rb ro : ℕ) 
       (field_back 𝓛 full_share [] (members E) (y.slots, (y.start, (y.len, tt))) rb ro 0)
       (Plain-in (Rr E) (inside.the_row (R E)) (ring_laws.the_opens (R E)) 𝓛 full_share d y
       (view_made (inside.the_row (R E)) (RingState (el_x E)) (Rr E).coded view Kept 𝓛 d y (closed o, kept o)) rb ro)
+
+module _ (E : El) {M : Type 1} {𝓤 : Ura M} {𝓛 : Logic 𝓤} {K : Type 0} {Γ : List (Item 𝓤)} {G : Goal 𝓤 𝓛.H} where
+  -- leaves [the slots; the other fields; the way back]
+  pub ring_apart : K → (d : RingState (el_x E)) (rb ro : ℕ) → ((x : Fields E) → Opened x d
+      → Seq K 𝓛 (‵ (part_at (Sr E) full_share x.slots rb (ro + 0)) ∷ ‵ (Others E 𝓛 rb ro x) ∷ raw (Way E 𝓛 rb ro) ∷ Γ) G)
+      → Seq K 𝓛 (‵ (part_at (Rr E) full_share d rb ro) ∷ Γ) G
+  unfolding part_of
+  ring_apart t d rb ro next =
+      use1 𝓛 (some (λ (x : (x : Fields E) × ((view x ≡ d) × Kept x)).
+      ‵ (part_at (inside.the_row (R E)) full_share x.0 rb ro)))
+      (plain_out (Rr E) (inside.the_row (R E)) (ring_laws.the_opens (R E)) 𝓛 full_share d rb ro) $ pick t (λ y.
+      let x = y.0 in
+      use1 𝓛 (‵ (part_at (Sr E) full_share x.slots rb (ro + 0)) ⊛ ‵ (Others E 𝓛 rb ro x) ⊛ raw (Way E 𝓛 rb ro))
+      (field_out 𝓛 full_share [] (members E) (lawful E 𝓛 rb ro) (x.slots, (x.start, (x.len, tt))) rb ro 0) $ split3 t $
+      next x (opened x y.1.1 y.1.0))
