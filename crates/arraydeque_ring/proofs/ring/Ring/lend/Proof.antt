@@ -37,12 +37,12 @@ use Rattle.arraydeque_ring.proofs.ring.Ring.lend.Code as code
 pub lend_spec : {M : Type 1} → stated.statement M
 unfolding both_by
 lend_spec 𝓤 𝓛 𝓜 𝓡 wired X L =
-    let E : El = record { row = X; laws = L } in let here : Fn = inst_fn (args E) code.function in
+    let E : El = record { row = X; laws = L } in
     let 𝓣 = tables 𝓤 𝓛.H 𝓜 𝓡 𝓡.env in
-    method 1 0 (Rr E) 𝓛 (spent 1 𝓛 _) 𝓜 𝓡 _ _ (f.clauses X 𝓛 𝓜.mem 𝓡.returns) (f.Key.name (args E)) here
+    method 1 0 (Rr E) 𝓛 (spent 1 𝓛 _) 𝓜 𝓡 _ _ (f.clauses X 𝓛 𝓜.mem 𝓡.returns) _ _
     (code.unfolded 𝓤 𝓛.H 𝓜 𝓡 wired (X, tt)) (λ κs qs bounds a _ fit post ends.
-    let κ = κs.0 in let q = qs.0 in let l : Share = Share.left q in let r : Share = Share.right q in
-    let rb : ℕ = a.0.ref_ptr.0 in let ro : ℕ = a.0.ref_ptr.1 in let d : RingState (el_x E) = a.0.now in
+    let κ = κs.0 in let q = qs.0 in let l = Share.left q in let r = Share.right q in
+    let rb = a.0.ref_ptr.0 in let ro = a.0.ref_ptr.1 in let d = a.0.now in
     first_fact ! {P = emp 𝓤} (λ lives. drop ! $
     alloc_all ! (λ locals. pass_all ! refl ((tt, tt), fit) $
     -- [obs; the borrow; its token; the others]
@@ -79,14 +79,14 @@ lend_spec 𝓤 𝓛 𝓜 𝓡 wired X L =
     ((κs, (r, qs.1), bounds, (lent, words), vals), tt) (id⊢ 𝓤 _)
     (and_then ! (get ! refl) (and_then ! (get ! refl) (and_then ! (get ! refl) (no_more !)))) (loan_lawful E)
     (λ v it ws it_typed. lands_as ! refl refl it_typed.0 $
-    let α : NamedLft = named_lft 2 0 tt κs in
+    let α = named_lft 2 0 tt κs in
     move ! (2 ∷ []) $ use1 𝓛 (‵ (Lends.lends_loan (R E) lent x.start 0 it) ⊛ raw _) (id⊢ 𝓤 _) $ split ! $
     move ! (1 ∷ []) $ first_fact ! (λ held. heard ! _ (λ held'. fsplit ! $
     -- [what δ follows; what the loan's name follows;
     -- the loan; the tokens; the right; the open borrow; the other fields; the way back; obs γ; auth γ]
-    let Lists = mem (two_lists (R E)) in let Put : List (el_x E) × List (el_x E) → Seen E =
-    λ w. Lends.two_written (R E) lent x.start 0 it.first.now it.second.now w.0 w.1 in
-    let V : List (el_x E) × List (el_x E) → RingState (el_x E) = λ w.
+    let Lists = mem (two_lists (R E)) in let Put = λ (w : List (el_x E) × List (el_x E)).
+    Lends.two_written (R E) lent x.start 0 it.first.now it.second.now w.0 w.1 in
+    let V = λ (w : List (el_x E) × List (el_x E)).
     rewritten d (as_many it.first.now w.0 ++ as_many it.second.now w.1) in
     move ! (6 ∷ 7 ∷ []) $ join ! $ move ! (6 ∷ 7 ∷ 8 ∷ 5 ∷ 1 ∷ 0 ∷ []) $
     hands_on ! tt (mem (Rr E)) (mem (Sr E)) Lists (λ u. rewritten d u.items) V Put age rb ro rb (ro + 0) d (λ w.

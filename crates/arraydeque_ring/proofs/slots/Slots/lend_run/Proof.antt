@@ -26,13 +26,13 @@ use Rattle.arraydeque_ring.proofs.slots.Slots.lend_run.Code as code
 
 pub lend_run_spec : {M : Type 1} → stated.statement M
 lend_run_spec 𝓤 𝓛 𝓜 𝓡 wired X L =
-    let E : El = record { row = X; laws = L } in let here : Fn = inst_fn (args E) code.function in
-    method 1 2 (Sr E) 𝓛 (spent 1 𝓛 _) 𝓜 𝓡 _ _ (f.clauses X 𝓛 𝓜.mem 𝓡.returns) (f.Key.name (args E)) here
+    let E : El = record { row = X; laws = L } in let here = inst_fn (args E) code.function in
+    method 1 2 (Sr E) 𝓛 (spent 1 𝓛 _) 𝓜 𝓡 _ _ (f.clauses X 𝓛 𝓜.mem 𝓡.returns) _ _
     (code.unfolded 𝓤 𝓛.H 𝓜 𝓡 wired (X, tt)) (λ κs qs bounds a _ typed post ends.
-    let r : Seen E = a.0.now in let ps : List (Place E) = r.places in
-    let from : ℕ = a.1.0 in let len : ℕ = a.1.1.0 in let len_ok = typed.1.0.1 in
+    let r = a.0.now in let ps = r.places in
+    let from = a.1.0 in let len = a.1.1.0 in let len_ok = typed.1.0.1 in
     first_fact ! (λ _. heard ! _ (λ asked.
-    let xs : List (el_x E) = asked.1.0 in let long = length_filled ps from len asked in
+    let xs = asked.1.0 in let long = length_filled ps from len asked in
     alloc_all ! (λ l. pass_all ! refl ((tt, tt), typed) $
     slots_open E ! tt r (λ g b o n ok.
     let far = near E ok from (omega arith) in
