@@ -111,7 +111,7 @@ module _ {M : Type 1} {𝓤 : Ura M} {𝓛 : Logic 𝓤} {K : Type 0} {Γ : List
       fsplit ! $ drop ! $ fsplit ! $ fpick ! (λ z. fsplit ! $ move ! (1 ∷ 6 ∷ []) $
       use2 𝓛 (‵ (fex N.rep (Came 𝓛 T N put m z))) (came 𝓛 T N put δ m z) $ fpick ! (λ w. fsplit ! $ feq_l ! (λ e.
       -- [auth m; the part; nothing; the rest; the way of ν; that of m]
-      rewrite ! 1 (λ (y : T.rep). ‵ (T.own_at y b' o')) e refl $ move ! (1 ∷ 3 ∷ []) $
+      rewrite ! 1 (λ y. ‵ (T.own_at y b' o')) e refl $ move ! (1 ∷ 3 ∷ []) $
       use2 𝓛 (‵ (R.own_at (F (V w)) b o)) (back w) $
       move ! (1 ∷ 4 ∷ []) $ use2 𝓛 (‵ (fauth ν (R.coded.code (V w)))) (turned 𝓛 R N V ν m w) $
       move ! (0 ∷ 3 ∷ []) $ use2 𝓛 (‵ (fauth γ (R.coded.code (F (V w))))) (turned 𝓛 R R F γ ν (V w)) $

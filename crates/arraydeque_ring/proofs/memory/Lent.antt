@@ -49,7 +49,7 @@ module _ (E : El) {M : Type 1} {𝓤 : Ura M} {𝓛 : Logic 𝓤} {K : Type 0} {
   slots_lend t z {κ} {q} {γ} {u} {v} {g} {r} {b} {o} {n} {rb} {ro} {Rest} ok T new x at long back then =
       let Framed = Frame E 𝓛 rb ro g r b o n in
       move t (4 ∷ 5 ∷ 6 ∷ []) $ group t 7 $
-      use1 𝓛 (later (some (λ (ν : GName). ‵ (fobs ν (T.coded.code x)) ⊛ ‵ (fbor κ (Borrowed T b at ν)) ⊛ ‵ (flft κ q)
+      use1 𝓛 (later (some (λ ν. ‵ (fobs ν (T.coded.code x)) ⊛ ‵ (fbor κ (Borrowed T b at ν)) ⊛ ‵ (flft κ q)
       ⊛ ‵ (after (mem (Sr E)) T γ ν new))))
       (takes_part 𝓛 (mem (Sr E)) T new κ q rb ro b at γ (sep 𝓤 (sem 𝓛 Rest) (sem 𝓛 Framed))
       (λ w. qed 𝓛 (‵ (T.own_at w b at) ∷ ‵ Rest ∷ ‵ Framed ∷ []) ∵ use2 𝓛 (‵ (places E (new w) b o)) (back w) $

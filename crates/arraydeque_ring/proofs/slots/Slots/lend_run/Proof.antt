@@ -53,7 +53,7 @@ lend_run_spec 𝓤 𝓛 𝓜 𝓡 wired X L =
     qed 𝓛 (‵ ((Values E len).own_at ws b at) ∷ ‵ Others ∷ []) ∵ as_places E b o ! from ws (λ same.
     use2 𝓛 (‵ (places_owned (R E) b o (placed from len (map Some ws) ps)))
     (run_in E 𝓛 b o ps from len asked.0 (map Some ws) (length-map ws Some ∙ same)) $
-    rewrite ! 0 (λ (qs : List (Place E)). ‵ (places_owned (R E) b o qs)) (as_run from xs ws ps long same) refl $
+    rewrite ! 0 (λ qs. ‵ (places_owned (R E) b o qs)) (as_run from xs ws ps long same) refl $
     done !)) (λ δ. slice_lent (named_lft 2 0 tt κs) (R E) 𝓛 ! xs long (run_fits E ok len (omega arith)) $
     -- [the slice; its token; what the region follows; the other token]
     returns ! (look_at ! 0 refl) $ free_all ! refl $ suffices ! _ (ends (slice_val (b, at) len)
