@@ -5,11 +5,11 @@ use Rattle.arraydeque_ring.{
       Kit.{◌≡◌, refl, sym, ap, subst, ◌∙◌, List, [], ◌∷◌, map, ℕ, ◌+◌, ◌*◌, ◌≤◌, arith, length, take, drop_list},
       Kit.{length-take, Some, Ura, full_share, ent, sep, Fml, part_at, mem, Logic, sem, ‵, ◌⊛◌, ◌$◌, length-map, Goal},
       Kit.{◌∵◌, !, qed, by, move, keep, use1, use2, use3, split, fsplit, rewrite, done, nothing, El, R, el_x, inl, inr},
-      Kit.{cells, fsep, fjoin, Seq, Step, step, Item, SemTy, feq_i, feq_l},
+      Kit.{common_steps, cells, fsep, fjoin, Seq, Step, step, Item, SemTy, feq_i, feq_l},
       Owned.{item_size, Place},
       Rows.{Around, run_out, run_in},
     },
-    loans.Placed.{placed, run, placed_nothing, length-placed, take-placed, drop-placed, placed-either, run-take},
+    loans.Placed.{placed, run, placed_nothing, take-placed, drop-placed, placed-either, run-take},
     loans.Placed.{apart_cases, as_run},
   },
   specs.{Loans.{AreApart, as_many, with_run}, Ownership.places_owned, Places.IsFilledRun},
@@ -82,14 +82,13 @@ module _ (E : El) (b o : ℕ) where
         rewrite t 0 (λ qs. ‵ (Row (at i) qs)) (run-take i m j n ps low in_j) refl $
         -- [the first; around it; what is behind the second; the second]
         move t (1 ∷ 2 ∷ []) $ fjoin t $ move t (1 ∷ 2 ∷ []) $ next (fsep Before Behind) (λ us vs e e'.
-        let long = length-placed i m us ps (omega arith) e in
         qed 𝓛 (‵ (Row (at i) us) ∷ ‵ (Row (at j) vs) ∷ ‵ (fsep Before Behind) ∷ []) ∵
         move ! (2 ∷ []) $ fsplit ! $ move ! (2 ∷ 0 ∷ []) $
         use2 𝓛 (‵ (Row o (placed i m us front))) (run_in E 𝓛 b o front i m below us e) $
         -- [what is before the second; what is behind it; the second]
         rewrite ! 0 (λ qs. ‵ (Row o qs)) (sym (take-placed i m j n ps low in_j us e)) refl $
         rewrite ! 1 (λ qs. ‵ (Row behind qs)) (sym (drop-placed i m j n ps low in_j us e)) refl $
-        fjoin ! $ move ! (1 ∷ 0 ∷ []) $ by ! (run_in E 𝓛 b o (placed i m us ps) j n (omega arith) vs e'))
+        fjoin ! $ move ! (1 ∷ 0 ∷ []) $ by ! (run_in E 𝓛 b o (placed i m us ps) j n (grind (arith, common_steps, low, in_j, e)) vs e'))
 
     -- which of the two comes first is all one, where what is written into both may come in either order
     other_way : (i m j n : ℕ) → ((us vs : List (Place E)) → length us ≡ m → length vs ≡ n

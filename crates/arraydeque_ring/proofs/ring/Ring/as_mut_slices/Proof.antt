@@ -2,9 +2,9 @@
 use Rattle.arraydeque_ring.{
   proofs.{
     memory.{
-      Kit.{fact, sep, by, emp, refl, [], ◌∷◌, ◌++◌, id⊢, Fn, inst_fn, tables, ◌$◌, !, move, join, frame, suffices},
-      Kit.{addr, stop, no_more, and_then, returns, alloc_all, pass_all, free_all, look_at, get, through, sets},
-      Kit.{lands_as, mem, nothing, El, R, args, Array, both_by},
+      Kit.{fact, sep, by, emp, refl, [], ◌∷◌, ◌++◌, id⊢, tables, ◌$◌, !, move, join, frame, suffices, addr, stop},
+      Kit.{no_more, and_then, returns, alloc_all, pass_all, free_all, look_at, get, through, sets, lands_as, mem},
+      Kit.{nothing, El, R, Array, both_by},
       Methods.{passing_on, spent, values},
       Called.{calls_met, first_fact, knows},
     },

@@ -2,11 +2,11 @@
 use Rattle.arraydeque_ring.{
   proofs.{
     memory.{
-      Kit.{fjoin3, fsplit3, ◌++◌, nothing, refl, List, [], ◌∷◌, ℕ, ◌+◌, ◌≤◌, arith, length, full_share, id⊢, Share},
-      Kit.{emp, fat, flft, Fn, inst_fn, w64, tables, owns, ‵, raw, ◌⊛◌, ◌$◌, !, move, use1, use2, drop, split, join},
-      Kit.{frame, fsplit, fjoin, suffices, done, of_opd, addr, load, look, stop, fld, no_more, and_then, returns},
-      Kit.{alloc_all, pass_all, free_all, look_at, get, through, sets, lands_as, usize, mem, part_at, says_two, heard},
-      Kit.{El, R, args, el_x, after₂, Array, both_by, MutBor, NamedLft, named_lft, pure_i},
+      Kit.{fjoin3, fsplit3, ◌++◌, nothing, refl, List, [], ◌∷◌, ℕ, ◌+◌, ◌≤◌, arith, length, full_share, id⊢, emp, fat},
+      Kit.{flft, w64, tables, owns, ‵, raw, ◌⊛◌, ◌$◌, !, move, use1, use2, drop, split, join, frame, fsplit, fjoin},
+      Kit.{suffices, done, of_opd, addr, load, look, stop, fld, no_more, and_then, returns, alloc_all, pass_all},
+      Kit.{free_all, look_at, get, through, sets, lands_as, usize, mem, part_at, says_two, heard, El, R, el_x, after₂},
+      Kit.{Array, both_by, MutBor, named_lft, pure_i},
       Regions.{Sr, Seen},
       Methods.{method, spent, values},
       Called.{calls_met, first_fact, knows},
@@ -20,7 +20,7 @@ use Rattle.arraydeque_ring.{
     places.{LaidOut.length_within},
     slots.Slots.lend_round.Met.met,
   },
-  specs.{Loans.{LoanState, as_many}, Ring.RingState, RingLends.rewritten},
+  specs.{Loans.{LoanState, as_many}, RingLends.rewritten},
 }
 use types.{Late.{ages}, Mut.open_ref, Run.well_typed}
 use base.Share

@@ -2,11 +2,11 @@
 use Rattle.arraydeque_ring.{
   proofs.{
     memory.{
-      Kit.{◌≡◌, refl, ap, vint, ◌∙◌, [], ◌∷◌, ℕ, ◌<◌, ◌^◌, lit<, arith, length, id⊢, Fn, inst_fn, w64, tables, owns},
-      Kit.{◌$◌, !, move, drop, join, fsplit, fjoin, fjoin3, feq_i, feq_l, suffices, done, of_opd, lit, bin, addr, load},
-      Kit.{stop, fld, no_more, whole, sub, look_in, only, and_then, returns, alloc_all, pass_all, free_all, look_at},
-      Kit.{get, through, sets, lands_as, usize, uint_vals, mut_vals, nothing, heard, El, args, both_by, pure_i},
-      Regions.{Sr, Seen, slots_open, slots_close},
+      Kit.{◌≡◌, refl, ap, vint, ◌∙◌, [], ◌∷◌, ℕ, ◌<◌, ◌^◌, lit<, arith, length, id⊢, w64, tables, owns, ◌$◌, !, move},
+      Kit.{drop, join, fsplit, fjoin, fjoin3, feq_i, feq_l, suffices, done, of_opd, lit, bin, addr, load, stop, fld},
+      Kit.{no_more, whole, sub, look_in, only, and_then, returns, alloc_all, pass_all, free_all, look_at, get, through},
+      Kit.{sets, lands_as, usize, uint_vals, mut_vals, nothing, heard, El, both_by, pure_i},
+      Regions.{Sr, slots_open, slots_close},
       Methods.{method, spent, values},
       Called.{Called, calls_met, first_fact, knows},
     },

@@ -2,11 +2,11 @@
 use Rattle.arraydeque_ring.{
   proofs.{
     memory.{
-      Kit.{named_lft, nothing, join, refl, sym, ◌∙◌, List, [], ◌∷◌, map, ℕ, ◌+◌, ◌*◌, arith, length-map, Some, Fn},
-      Kit.{inst_fn, ‵, ◌⊛◌, ◌$◌, ◌∵◌, qed, !, move, use1, use2, split, frame, rewrite, suffices, done, whole, sub},
-      Kit.{look_in, agg, of_opd, bin, load, stop, fld, no_more, and_then, first, blocks, returns, alloc_all, pass_all},
-      Kit.{free_all, look_at, get, through, sets, sets_last, says, heard, El, R, args, el_x, slice_val},
-      Regions.{Sr, Seen, near, run_fits, slots_open, scaled, item_size, Place, places_owned, Around, run_out, run_in},
+      Kit.{named_lft, nothing, join, refl, sym, ◌∙◌, [], ◌∷◌, map, ◌+◌, ◌*◌, arith, length-map, Some, inst_fn, ‵, ◌⊛◌},
+      Kit.{◌$◌, ◌∵◌, qed, !, move, use1, use2, split, frame, rewrite, suffices, done, whole, sub, look_in, agg, of_opd},
+      Kit.{bin, load, stop, fld, no_more, and_then, first, blocks, returns, alloc_all, pass_all, free_all, look_at},
+      Kit.{get, through, sets, sets_last, says, heard, El, R, args, slice_val},
+      Regions.{Sr, near, run_fits, slots_open, scaled, item_size, places_owned, Around, run_out, run_in},
       Lent.slots_lend,
       Called.{after_block, first_fact},
       Methods.{method, spent},

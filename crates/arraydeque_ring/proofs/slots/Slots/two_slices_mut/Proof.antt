@@ -2,9 +2,9 @@
 use Rattle.arraydeque_ring.{
   proofs.{
     memory.{
-      Kit.{fact, sep, by, refl, [], ◌∷◌, id⊢, Fn, inst_fn, tables, ◌$◌, !, move, join, frame, suffices, addr, stop},
-      Kit.{no_more, and_then, returns, alloc_all, pass_all, free_all, look_at, get, through, sets, lands_as, mem},
-      Kit.{nothing, heard, El, R, args, Array, both_by},
+      Kit.{fact, sep, by, refl, [], ◌∷◌, id⊢, tables, ◌$◌, !, move, join, frame, suffices, addr, stop, no_more},
+      Kit.{and_then, returns, alloc_all, pass_all, free_all, look_at, get, through, sets, lands_as, mem, nothing},
+      Kit.{heard, El, R, Array, both_by},
       Regions.{Sr},
       Methods.{passing_on, spent, values},
       Called.{calls_met, first_fact, knows},
