@@ -81,26 +81,28 @@ module _ (T U : SemTy) (coded : Coded (T.rep × U.rep)) (b₁ o₁ b₂ o₂ : �
       pick t (λ γs. split3 t $ move t (2 ∷ []) $ split t $ move t (2 ∷ []) $ split t $ move t (4 ∷ []) $ split t $
       next γs)
 
-module _ {M : Type 1} {𝓤 : Ura M} {𝓛 : Logic 𝓤} {K : Type 0} {Γ : List (Item 𝓤)} {G : Goal 𝓤 𝓛.H} where
+module _ {M : Type 1} {𝓤 : Ura M} {𝓛 : Logic 𝓤} {K : Type 0} {Γ : List (Item 𝓤)} {G : Goal 𝓤 𝓛.H} {γ : GName}
+    {u v : Gv} where
   -- γ follows ν from here on
-  turns_to : K → Soaks G → (R S : SemTy) (F : S.rep → R.rep) (ν : GName) {γ : GName} {u v : Gv} → Step K 𝓛
+  turns_to : K → Soaks G → (R S : SemTy) (F : S.rep → R.rep) (ν : GName) → Step K 𝓛
       (‵ (after R S γ ν F) ∷ raw (Turns 𝓛 R S F γ ν) ∷ Γ) G (‵ (fobs γ u) ∷ ‵ (fauth γ v) ∷ Γ) G
-  turns_to t z R S F ν {γ} {u} {v} = step (λ s. use2 𝓛 (later (‵ (after R S γ ν F) ⊛ raw (Turns 𝓛 R S F γ ν)))
+  turns_to t z R S F ν = step (λ s. use2 𝓛 (later (‵ (after R S γ ν F) ⊛ raw (Turns 𝓛 R S F γ ν)))
       (follows_anew 𝓛 R S F γ ν u v) $ await t z $ split t $ s)
 
-module _ {M : Type 1} {𝓤 : Ura M} {𝓛 : Logic 𝓤} {K : Type 0} {Γ : List (Item 𝓤)} {G : Goal 𝓤 𝓛.H} where
+module _ {M : Type 1} {𝓤 : Ura M} {𝓛 : Logic 𝓤} {K : Type 0} {Γ : List (Item 𝓤)} {G : Goal 𝓤 𝓛.H} {κ : Lft}
+    {q : Share} {γ δ m : GName} {u v : Gv} {rest : Item 𝓤} where
   open 𝓛 use {H, A}
 
   -- The whole stays open while its part, under the name δ, is lent to a call, which says that δ follows m.
   -- The whole is then closed, and follows a new name of its own type, which follows m.
   pub hands_on : K → Soaks G → (R T N : SemTy) (F : R.rep → R.rep) (V : N.rep → R.rep) (put : N.rep → T.rep)
-      (n b o b' o' : ℕ) {κ : Lft} {q : Share} {γ δ m : GName} {u v : Gv} {rest : Item 𝓤} (x : R.rep)
+      (n b o b' o' : ℕ) (x : R.rep)
       → ((w : N.rep) → ent 𝓤 (sep 𝓤 (sem 𝓛 (T.own_at (put w) b' o')) (mean 𝓛 rest)) (sem 𝓛 (R.own_at (F (V w)) b o)))
       → ((ν : GName) → Seq K 𝓛 (‵ (flft κ q) ∷ ‵ (after R R γ ν F) ∷ ‵ (after R N ν m V) ∷ Γ) G)
       → Seq K 𝓛 (raw (aged 𝓤 H A n κ q (Body R b o γ)) ∷ ‵ (fobs γ u) ∷ ‵ (fauth γ v)
       ∷ ‵ (flent (deep n κ) (Body T b' o' δ)) ∷ ‵ (after T N δ m put) ∷ rest ∷ Γ) G
   unfolding fseps
-  hands_on t z R T N F V put n b o b' o' {κ} {q} {γ} {δ} {m} {rest = rest} x back next =
+  hands_on t z R T N F V put n b o b' o' x back next =
       let Whole = Body R b o γ in let Over = fsep (fdead κ) (fseps (Body T b' o' δ ∷ [])) in
       name_new t z (R.coded.code x) (λ ν. turns_to t z R N V m $ move t (3 ∷ 4 ∷ []) $ turns_to t z R R F ν $
       -- [what γ follows; the way of ν; what ν follows; the way of m;
@@ -123,6 +125,7 @@ module _ {M : Type 1} {𝓤 : Ura M} {𝓛 : Logic 𝓤} {K : Type 0} {Γ : List
       use1 𝓛 (later (‵ (flft κ q) ⊛ raw (wand 𝓤 (A.dead κ) (A.bor κ Whole)))) (close_deep 𝓛 n κ κ q Whole
       (Body T b' o' δ)) $ await t z $ split t $ move t (1 ∷ []) $ drop t $ next ν)
 
+module _ {M : Type 1} {𝓤 : Ura M} {𝓛 : Logic 𝓤} {K : Type 0} {Γ : List (Item 𝓤)} {G : Goal 𝓤 𝓛.H} where
   -- A part of what lies open is lent under a new name, and leaves [its `&mut`; the right to its end].
   pub part_lent : K → Soaks G → (T : RattleType) (n : ℕ) (κ : Lft) (x : T.Denot) (b o : ℕ)
       → ((δ : GName) → Seq K 𝓛 (‵ ((MutRef (named 0) κ T).own_val (record { ref_ptr = (b, o); ghost_name = δ; now = x })

@@ -15,7 +15,7 @@ use Rattle.arraydeque_ring.{
       Lending.{open_after, lent_items, one_piece, first_run_filled, second_run_filled},
       Made.{loan_lawful, loan_renamed},
       Names.{hands_on, followed_both, part_lent},
-      Rings.{Rr, ring_apart, ring_whole},
+      Rings.{Rr, ring_apart},
     },
     places.{LaidOut.length_within},
     slots.Slots.lend_round.Met.met,
@@ -47,7 +47,7 @@ lend_spec 𝓤 𝓛 𝓜 𝓡 wired X L =
     alloc_all ! (λ locals. pass_all ! refl ((tt, tt), fit) $
     -- [obs; the borrow; its token; the others]
     move ! (2 ∷ []) $ use1 𝓛 (‵ (flft κ l) ⊛ ‵ (flft κ r)) (𝓛.lfts.lft_split κ q) $ split ! $ move ! (2 ∷ 3 ∷ 0 ∷ []) $
-    open_ref ! tt (mem (Rr E)) {x = d} {b = rb} {o = ro} $ ring_apart E ! d rb ro (λ x open_ring.
+    open_ref ! tt (mem (Rr E)) {x = d} {b = rb} {o = ro} $ ring_apart E ! d rb ro (λ x open_ring whole.
     -- [the slots; the other fields; the way back; the open borrow, in three; half its token; the others]
     move ! (1 ∷ []) $ fsplit3 ! $
     -- [the start; the length; nothing; the slots; ..]
@@ -90,7 +90,7 @@ lend_spec 𝓤 𝓛 𝓜 𝓡 wired X L =
     rewritten d (as_many it.first.now w.0 ++ as_many it.second.now w.1) in
     move ! (6 ∷ 7 ∷ []) $ join ! $ move ! (6 ∷ 7 ∷ 8 ∷ 5 ∷ 1 ∷ 0 ∷ []) $
     hands_on ! tt (mem (Rr E)) (mem (Sr E)) Lists (λ u. rewritten d u.items) V Put age rb ro rb (ro + 0) d (λ w.
-    ring_whole E 𝓛 rb ro (rewritten d (V w).items) x (Put w) (open_after open_ring it.first.now it.second.now held held'
+    whole (Put w) (rewritten d (V w).items) (open_after open_ring it.first.now it.second.now held held'
     w.0 w.1)) (λ ν.
     -- [half the token; what γ follows; what ν follows; what the loan's name follows; the loan; the tokens]
     let Rows = mem (Array (R E) 0) in move ! (2 ∷ 3 ∷ []) $
