@@ -16,7 +16,7 @@ use Rattle.arraydeque_ring.{
     declared.ring.Ring.TheInside.Inside,
   },
   proofs.{
-    loans.Placed.{as_many-same, as_many-twice, length-as_many},
+    loans.Placed.{as_many-same, length-as_many},
     places.{
       Appended.{Holds-run, LaidOut-written},
       Held.length_filled,
@@ -43,7 +43,7 @@ LaidOut-round {t = t} l us vs many fits to_end = elim to_end [
 
 module _ {X : Type 0} where
   pub rewritten-twice : (v : RingState X) (xs : List X) → rewritten v (rewritten v xs).items ≡ rewritten v xs
-  rewritten-twice v xs i = record (rewritten v xs) { items = as_many-twice v.items xs i }
+  rewritten-twice v xs i = record (rewritten v xs) { items = as_many-same v.items (as_many v.items xs) (length-as_many v.items xs) i }
 
   abbrev pub with_slots : Inside X → Region X → Inside X
   with_slots r w = record { slots = w; start = r.start; len = r.len }
@@ -93,6 +93,9 @@ module _ {X : Type 0} where
             | inr end ↦ rw (front, (rest_held r (kept o) first ys (omega arith) end held').1)
                 (take-append-drop first items)
           ] ∙ ap (λ (w : RingState X). w.items) (closed o)
+
+      pub one_piece : v.start + length v.items ≤ v.capacity → ys ≡ []
+      one_piece within = nil_from_length ys (omega (arith, many'))
 
       -- once both were written the ring is whole, and its items are those that were written
       pub open_after : (us vs : List X) → Opened (with_slots r (record {

@@ -45,10 +45,6 @@ module _ (α : NamedLft) (T : RattleType) {M : Type 1} {𝓤 : Ura M} (𝓛 : Lo
   abbrev Mark : Fml
   Mark = (Struct (owned_shape (loan_name.the_type α T))).own_val (tt, tt) (mark ∷ [])
 
-  mark_made : ent 𝓤 (emp 𝓤) (sem 𝓛 Mark)
-  mark_made = makes_shadow 𝓛 Mark (λ vss. (tt, ((λ uss. (tt, tt)), tt)))
-      ((vstruct vnil ∷ [], tt), (refl, ((tt, (refl, tt)), tt)))
-
   abbrev Fits : LoanState T.Denot → Inside T.Denot → Type 0
   Fits d x = (record { first = x.first; second = x.second; name = x.name.name } ≡ d)
       × (length x.first.now + length x.second.now < 2 ^ 64)
@@ -78,7 +74,8 @@ module _ (α : NamedLft) (T : RattleType) {M : Type 1} {𝓤 : Ura M} (𝓛 : Lo
       } in
       qed 𝓛 (‵ ((MutSlice α.mir α.lft T).own_val d.first (v ∷ []))
       ∷ ‵ ((MutSlice α.mir α.lft T).own_val d.second (w ∷ [])) ∷ []) ∵
-      nothing ! $ use0 𝓛 (‵ Mark) mark_made $ fjoin ! $
+      nothing ! $ use0 𝓛 (‵ Mark) (makes_shadow 𝓛 Mark (λ vss. (tt, ((λ uss. (tt, tt)), tt)))
+      ((vstruct vnil ∷ [], tt), (refl, ((tt, (refl, tt)), tt)))) $ fjoin ! $
       nothing ! $ move ! (1 ∷ 0 ∷ []) $ fjoin ! $ move ! (2 ∷ 0 ∷ []) $ fjoin ! $ move ! (1 ∷ 0 ∷ []) $ fjoin ! $
       feq_i ! _ (loan_val v w ∷ []) _ refl $ fjoin ! $
       fpack ! _ (within sh (it.first, (it.second, (it.name, tt))) (loan_val v w ∷ []))

@@ -1,14 +1,14 @@
 -- A loan under a name of its lender's own type: how it is made, and handed on by what holds the lender.
 -- For any types in memory. Assumes `Logic`.
 use Rattle.arraydeque_ring.proofs.memory.{
-  Kit.{via, ◌≡◌, mono_r, refl, SProp, ent, sep, wand, ex, id⊢, emp, snd∗, flft, Lft, GName, Share, Fml, fsep, fobs},
-  Kit.{fauth, fbor, ‵, raw, ◌⊛◌, later, ◌$◌, ◌∵◌, !, qed, move, keep, use0, use1, use2, drop, split, fsplit, fjoin},
-  Kit.{fpick, fpack, feq_l, rewrite, suffices, updating, await, show, done, wand_i, all, apply∗, all_e, upd_i, fex},
-  Kit.{fres, fwand, fupd, fdead, flent, fseps, each, split3, assume, group, ℕ, [], ◌∷◌, Ura, Gv, Logic, sem, name_new},
-  Kit.{SemTy, after₂, some, pick, RattleType, Goal, Soaks, Seq, Item, List, named, vptr, feq_i, fjoin3, mem},
+  Kit.{via, ◌≡◌, mono_r, refl, SProp, ent, sep, wand, id⊢, emp, snd∗, flft, Lft, GName, Share, fsep, fobs, fauth, fbor},
+  Kit.{‵, raw, ◌⊛◌, later, ◌$◌, ◌∵◌, !, qed, move, keep, use0, use1, use2, drop, split, fsplit, fjoin, fpick, fpack},
+  Kit.{feq_l, rewrite, suffices, await, done, wand_i, all, apply∗, all_e, upd_i, fex, fres, fwand, fupd, fdead, flent},
+  Kit.{fseps, each, split3, assume, group, ℕ, [], ◌∷◌, Ura, Gv, Logic, sem, name_new, Step, step, SemTy, after₂, some},
+  Kit.{pick, RattleType, Goal, Soaks, Seq, Item, List, named, vptr, feq_i, fjoin3, mem},
 }
 use types.{
-  Kit.now,
+  Kit.mean,
   Late.{bor_new_deep, deep, close_deep},
   SemTy.Body,
   Follow.{after, follows_anew, came, Came, followed, followed₂, takes_two},
@@ -81,60 +81,52 @@ module _ (T U : SemTy) (coded : Coded (T.rep × U.rep)) (b₁ o₁ b₂ o₂ : �
       pick t (λ γs. split3 t $ move t (2 ∷ []) $ split t $ move t (2 ∷ []) $ split t $ move t (4 ∷ []) $ split t $
       next γs)
 
--- The whole stays open while its part, under the name δ, is lent to a call, which says that δ follows m by G.
--- The whole is then closed, and follows a new name of its own type, which follows m.
-module _ {M : Type 1} {𝓤 : Ura M} (𝓛 : Logic 𝓤) (R T N : SemTy) (F : R.rep → R.rep) (V : N.rep → R.rep)
-    (G : N.rep → T.rep) (κ : Lft) (q : Share) (b o b' o' : ℕ) (γ δ m : GName) (Rest : SProp 𝓤)
-    (back : (w : N.rep) → ent 𝓤 (sep 𝓤 (sem 𝓛 (T.own_at (G w) b' o')) Rest) (sem 𝓛 (R.own_at (F (V w)) b o))) where
+module _ {M : Type 1} {𝓤 : Ura M} {𝓛 : Logic 𝓤} {K : Type 0} {Γ : List (Item 𝓤)} {G : Goal 𝓤 𝓛.H} {γ : GName}
+    {u v : Gv} where
+  -- γ follows ν from here on
+  turns_to : K → Soaks G → (R S : SemTy) (F : S.rep → R.rep) (ν : GName) → Step K 𝓛
+      (‵ (after R S γ ν F) ∷ raw (Turns 𝓛 R S F γ ν) ∷ Γ) G (‵ (fobs γ u) ∷ ‵ (fauth γ v) ∷ Γ) G
+  turns_to t z R S F ν = step (λ s. use2 𝓛 (later (‵ (after R S γ ν F) ⊛ raw (Turns 𝓛 R S F γ ν)))
+      (follows_anew 𝓛 R S F γ ν u v) $ await t z $ split t $ s)
+
+module _ {M : Type 1} {𝓤 : Ura M} {𝓛 : Logic 𝓤} {K : Type 0} {Γ : List (Item 𝓤)} {G : Goal 𝓤 𝓛.H} {κ : Lft}
+    {q : Share} {γ δ m : GName} {u v : Gv} {rest : Item 𝓤} where
   open 𝓛 use {H, A}
 
-  abbrev Whole : Fml
-  Whole = Body R b o γ
-
-  late : (ν : GName) → ent 𝓤
-      (sep 𝓤 Rest (sep 𝓤 (Turns 𝓛 R R F γ ν) (sep 𝓤 (Turns 𝓛 R N V ν m) (sem 𝓛 (after T N δ m G)))))
-      (sem 𝓛 (fwand (fsep (fdead κ) (fseps (Body T b' o' δ ∷ []))) (fupd Whole)))
+  -- The whole stays open while its part, under the name δ, is lent to a call, which says that δ follows m.
+  -- The whole is then closed, and follows a new name of its own type, which follows m.
+  pub hands_on : K → Soaks G → (R T N : SemTy) (F : R.rep → R.rep) (V : N.rep → R.rep) (put : N.rep → T.rep)
+      (n b o b' o' : ℕ) (x : R.rep)
+      → ((w : N.rep) → ent 𝓤 (sep 𝓤 (sem 𝓛 (T.own_at (put w) b' o')) (mean 𝓛 rest)) (sem 𝓛 (R.own_at (F (V w)) b o)))
+      → ((ν : GName) → Seq K 𝓛 (‵ (flft κ q) ∷ ‵ (after R R γ ν F) ∷ ‵ (after R N ν m V) ∷ Γ) G)
+      → Seq K 𝓛 (raw (aged 𝓤 H A n κ q (Body R b o γ)) ∷ ‵ (fobs γ u) ∷ ‵ (fauth γ v)
+      ∷ ‵ (flent (deep n κ) (Body T b' o' δ)) ∷ ‵ (after T N δ m put) ∷ rest ∷ Γ) G
   unfolding fseps
-  late ν =
-      qed 𝓛 (raw Rest ∷ raw (Turns 𝓛 R R F γ ν) ∷ raw (Turns 𝓛 R N V ν m) ∷ ‵ (after T N δ m G) ∷ []) ∵
-      assume ! (‵ (fsep (fdead κ) (fseps (Body T b' o' δ ∷ [])))) $
-      suffices ! (sem 𝓛 Whole) (upd_i 𝓤 (sem 𝓛 Whole)) $
+  hands_on t z R T N F V put n b o b' o' x back next =
+      let Whole = Body R b o γ in let Over = fsep (fdead κ) (fseps (Body T b' o' δ ∷ [])) in
+      name_new t z (R.coded.code x) (λ ν. turns_to t z R N V m $ move t (3 ∷ 4 ∷ []) $ turns_to t z R R F ν $
+      -- [what γ follows; the way of ν; what ν follows; the way of m;
+      -- the open borrow; the right to the part's end; what δ follows; the rest]
+      move t (7 ∷ 1 ∷ 3 ∷ 6 ∷ []) $ group t 4 $ use1 𝓛 (‵ (fwand Over (fupd Whole)))
+      (qed 𝓛 (rest ∷ raw (Turns 𝓛 R R F γ ν) ∷ raw (Turns 𝓛 R N V ν m) ∷ ‵ (after T N δ m put) ∷ []) ∵
+      assume ! (‵ Over) $ suffices ! (sem 𝓛 Whole) (upd_i 𝓤 (sem 𝓛 Whole)) $
       fsplit ! $ drop ! $ fsplit ! $ fpick ! (λ z. fsplit ! $ move ! (1 ∷ 6 ∷ []) $
-      use2 𝓛 (‵ (fex N.rep (Came 𝓛 T N G m z))) (came 𝓛 T N G δ m z) $ fpick ! (λ w. fsplit ! $ feq_l ! (λ e.
+      use2 𝓛 (‵ (fex N.rep (Came 𝓛 T N put m z))) (came 𝓛 T N put δ m z) $ fpick ! (λ w. fsplit ! $ feq_l ! (λ e.
       -- [auth m; the part; nothing; the rest; the way of ν; that of m]
-      rewrite ! 1 (λ (t : T.rep). ‵ (T.own_at t b' o')) e refl $ move ! (1 ∷ 3 ∷ []) $
+      rewrite ! 1 (λ y. ‵ (T.own_at y b' o')) e refl $ move ! (1 ∷ 3 ∷ []) $
       use2 𝓛 (‵ (R.own_at (F (V w)) b o)) (back w) $
       move ! (1 ∷ 4 ∷ []) $ use2 𝓛 (‵ (fauth ν (R.coded.code (V w)))) (turned 𝓛 R N V ν m w) $
       move ! (0 ∷ 3 ∷ []) $ use2 𝓛 (‵ (fauth γ (R.coded.code (F (V w))))) (turned 𝓛 R R F γ ν (V w)) $
-      move ! (1 ∷ 0 ∷ []) $ fjoin ! $ fpack ! R.rep (λ t. fsep (R.own_at t b o) (fauth γ (R.coded.code t))) (F (V w)) $
-      keep ! (0 ∷ []) $ done !)))
-
-  abbrev pub Handed : GName → SProp 𝓤
-  Handed ν = sep 𝓤 (A.lft κ q) (sep 𝓤 (sem 𝓛 (after R R γ ν F)) (sem 𝓛 (after R N ν m V)))
-
-  pub hands_on : (n : ℕ) (u v : Gv) (x : R.rep)
-      → ent 𝓤 (sep 𝓤 (aged 𝓤 H A n κ q Whole) (sep 𝓤 (A.obs γ u) (sep 𝓤 (A.auth γ v)
-      (sep 𝓤 (A.lent (deep n κ) (Body T b' o' δ)) (sep 𝓤 (sem 𝓛 (after T N δ m G)) Rest))))) (H.⇛ (ex 𝓤 Handed))
-  hands_on n u v x =
-      qed 𝓛 (raw (aged 𝓤 H A n κ q Whole) ∷ ‵ (fobs γ u) ∷ ‵ (fauth γ v) ∷ ‵ (flent (deep n κ) (Body T b' o' δ))
-      ∷ ‵ (after T N δ m G) ∷ raw Rest ∷ []) ∵ updating ! $
-      name_new ! tt (R.coded.code x) (λ ν. move ! (3 ∷ 4 ∷ []) $
-      use2 𝓛 (later (‵ (after R R γ ν F) ⊛ raw (Turns 𝓛 R R F γ ν))) (follows_anew 𝓛 R R F γ ν u v) $
-      await ! tt $ split ! $ move ! (2 ∷ 3 ∷ []) $
-      use2 𝓛 (later (‵ (after R N ν m V) ⊛ raw (Turns 𝓛 R N V ν m)))
-      (follows_anew 𝓛 R N V ν m (R.coded.code x) (R.coded.code x)) $ await ! tt $ split ! $
-      -- [what ν follows; the way of m;
-      -- what γ follows; the way of ν; the open borrow; the right to the part's end; what δ follows; the rest]
-      move ! (7 ∷ 3 ∷ 1 ∷ 6 ∷ []) $ group ! 4 $
-      use1 𝓛 (‵ (fwand (fsep (fdead κ) (fseps (Body T b' o' δ ∷ []))) (fupd Whole))) (late ν) $
-      -- [the way back; what ν follows; what γ follows; the open borrow; the right]
+      move ! (1 ∷ 0 ∷ []) $ fjoin ! $ fpack ! R.rep (λ y. fsep (R.own_at y b o) (fauth γ (R.coded.code y))) (F (V w)) $
+      keep ! (0 ∷ []) $ done !)))) $
+      -- [the way back; what γ follows; what ν follows; the open borrow; the right]
       use0 𝓛 (raw (wand 𝓤 (A.dead κ) (A.dead κ))) (wand_i 𝓤 (emp 𝓤) (A.dead κ) (A.dead κ) (snd∗ 𝓤 (emp 𝓤) (A.dead κ))) $
-      move ! (4 ∷ 5 ∷ 1 ∷ 0 ∷ []) $ group ! 4 $
+      move t (4 ∷ 5 ∷ 1 ∷ 0 ∷ []) $ group t 4 $
       use1 𝓛 (later (‵ (flft κ q) ⊛ raw (wand 𝓤 (A.dead κ) (A.bor κ Whole)))) (close_deep 𝓛 n κ κ q Whole
-      (Body T b' o' δ)) $ await ! tt $ split ! $ now ! $ show ! Handed ν $ keep ! (0 ∷ 3 ∷ 2 ∷ []) $ done !)
+      (Body T b' o' δ)) $ await t z $ split t $ move t (1 ∷ []) $ drop t $ next ν)
 
--- A part of what lies open is lent under a new name, and leaves [its `&mut`; the right to its end].
 module _ {M : Type 1} {𝓤 : Ura M} {𝓛 : Logic 𝓤} {K : Type 0} {Γ : List (Item 𝓤)} {G : Goal 𝓤 𝓛.H} where
+  -- A part of what lies open is lent under a new name, and leaves [its `&mut`; the right to its end].
   pub part_lent : K → Soaks G → (T : RattleType) (n : ℕ) (κ : Lft) (x : T.Denot) (b o : ℕ)
       → ((δ : GName) → Seq K 𝓛 (‵ ((MutRef (named 0) κ T).own_val (record { ref_ptr = (b, o); ghost_name = δ; now = x })
       (vptr b o ∷ [])) ∷ ‵ (flent (deep n κ) (Body (mem T) b o δ)) ∷ Γ) G) → Seq K 𝓛 (‵ ((mem T).own_at x b o) ∷ Γ) G

@@ -2,10 +2,7 @@
 use Rattle.std.{
   proofs.{
     Common.{◌≡◌, ℕ, ◌+◌, ◌≤◌, ◌⊎◌, List, map, length, take, drop, Option, Some, refl, sym, ◌∙◌, arith},
-    lemmas.{
-      Grind.common_steps,
-      List.{places, same_lists, length-map, nil_from_length, take_at, take-append-drop, drop-drop},
-    },
+    lemmas.{Grind.common_steps, List.{places, same_lists, nil_from_length, take_at, take-append-drop, drop-drop}},
   },
   specs.List.{length_refill, splice},
 }
@@ -23,10 +20,6 @@ module _ {Y : Type 0} where
   -- no item changes nothing
   pub placed_nothing : (i : ℕ) (ws ps : List Y) → length ws ≡ 0 → placed i 0 ws ps ≡ ps
   placed_nothing i ws ps e = rw (nil_from_length ws e, sym (drop-drop 0 i ps)) (take-append-drop i ps)
-
-  pub length-placed : (i n : ℕ) (ws ps : List Y) → i + n ≤ length ps → length ws ≡ n
-      → length (placed i n ws ps) ≡ length ps
-  length-placed i n ws ps le e = grind (arith, common_steps, e, le)
 
 -- of two runs that lie in order the first leaves what is behind it, and either may be written first
 module _ {Y : Type 0} (i m j n : ℕ) (ps : List Y) (apart : i + m ≤ j) (within : j + n ≤ length ps) where
@@ -48,10 +41,6 @@ module _ {Y : Type 0} (i m j n : ℕ) (ps : List Y) (apart : i + m ≤ j) (withi
 pub apart_cases : (a m b n : ℕ) → AreApart a m b n → ((a + m ≤ b) ⊎ (b + n ≤ a)) ⊎ ((m ≡ 0) ⊎ (n ≡ 0))
 apart_cases a m b n apart = grind (arith, apart a, apart b)
 
--- so they have no more items together than there are
-pub apart_within : (a m b n k : ℕ) → AreApart a m b n → a + m ≤ k → b + n ≤ k → m + n ≤ k
-apart_within a m b n k apart in_a in_b = grind (arith, apart_cases a m b n apart)
-
 module _ {X : Type 0} where
   pub length-as_many : (xs ws : List X) → length (as_many xs ws) ≡ length xs
   length-as_many xs ws = sym (length_refill (length xs) xs ws refl)
@@ -60,9 +49,6 @@ module _ {X : Type 0} where
   pub as_many-same : (xs ws : List X) → length ws ≡ length xs → as_many xs ws ≡ ws
   as_many-same xs ws e = take_at ws (drop (length ws) xs) (length xs) e
 
-  pub as_many-twice : (xs ws : List X) → as_many xs (as_many xs ws) ≡ as_many xs ws
-  as_many-twice xs ws = as_many-same xs (as_many xs ws) (length-as_many xs ws)
-
   -- as many in the stead of m items, as `with_run` writes them
   pub as_run : (i : ℕ) (xs us : List X) (ps : List (Option X)) {m : ℕ} → length xs ≡ m → length us ≡ m
       → placed i m (map Some us) ps ≡ with_run i (as_many xs us) ps
@@ -70,4 +56,4 @@ module _ {X : Type 0} where
 
   pub length-with_run : (from : ℕ) (ws : List X) (ps : List (Option X)) → from + length ws ≤ length ps
       → length (with_run from ws ps) ≡ length ps
-  length-with_run from ws ps within = length-placed from (length ws) (map Some ws) ps within (length-map ws Some)
+  length-with_run from ws ps within = grind (arith, common_steps, within)

@@ -2,12 +2,13 @@
 use Rattle.arraydeque_ring.{
   proofs.{
     memory.{
-      Kit.{via, ◌≡◌, List, [], ◌∷◌, ℕ, ◌+◌, Ura, full_share, SProp, ent, sep, ex, w64, Logic, sem, RattleType, part_at},
-      Kit.{usize, param_laws, Fml, El, R, el_x, part_of, lone},
+      Kit.{via, ◌≡◌, List, [], ◌∷◌, ℕ, ◌+◌, Ura, full_share, SProp, ent, sep, w64, Logic, sem, RattleType, part_at},
+      Kit.{Seq, Goal, Item, some, raw, ‵, ◌⊛◌, ◌$◌, pick, use1, split3, usize, param_laws, Fml, El, R, el_x, part_of},
+      Kit.{lone},
       Regions.Sr,
     },
     loans.Lending.with_slots,
-    places.Opened.{Opened, view, Kept, closed, kept},
+    places.Opened.{Opened, opened, view, Kept, closed, kept},
   },
   specs.{Places.Region, Ring.RingState, declared.ring.Ring.TheInside.Inside},
 }
@@ -26,44 +27,34 @@ module _ (E : El) where
   abbrev pub Rr : RattleType
   Rr = ring.the_row (R E)
 
-  abbrev pub Fields : Type 0
-  Fields = Inside (el_x E)
-
   abbrev members : List Member
   members = record { row = Sr E; ty = lone (Sr E).mir } ∷ record { row = usize; ty = lone usize.mir }
       ∷ record { row = usize; ty = lone usize.mir } ∷ []
 
-module _ (E : El) {M : Type 1} {𝓤 : Ura M} (𝓛 : Logic 𝓤) (rb ro : ℕ) where
-  lawful : Lawfuls 𝓛 (rows_of (members E))
-  lawful = (
-    (slots_laws.the_row_laws (R E) (param_laws 0 E.row E.laws)).lawful 𝓛,
-    (uint_Lawful 𝓛 w64, (uint_Lawful 𝓛 w64, tt)),
-  )
-
-  -- the fields but for the slots, and the way back from all
-  abbrev pub Others : Fields E → Fml
-  Others x = rest_at full_share (members E) 0 (x.slots, (x.start, (x.len, tt))) rb ro 0
-
-  abbrev pub Way : SProp 𝓤
-  Way = PartsBack 𝓛 full_share [] (members E) rb ro
-
-  pub fields_out : (d : RingState (el_x E)) → ent 𝓤 (sem 𝓛 (part_at (Rr E) full_share d rb ro)) (ex 𝓤
-      (λ (x : (x : Fields E) × ((view x ≡ d) × Kept x)). sem 𝓛 (part_at (inside.the_row (R E)) full_share x.0 rb ro)))
-  fields_out d = plain_out (Rr E) (inside.the_row (R E)) (ring_laws.the_opens (R E)) 𝓛 full_share d rb ro
-
-  pub slots_out : (x : Fields E) → ent 𝓤 (sem 𝓛 (part_at (inside.the_row (R E)) full_share x rb ro))
-      (sep 𝓤 (sem 𝓛 (part_at (Sr E) full_share x.slots rb (ro + 0))) (sep 𝓤 (sem 𝓛 (Others x)) Way))
+module _ (E : El) {M : Type 1} {𝓤 : Ura M} {𝓛 : Logic 𝓤} {K : Type 0} {Γ : List (Item 𝓤)} {G : Goal 𝓤 𝓛.H} where
+  -- Leaves [the slots; the other fields; the way back].
+  -- Whatever the slots are, with which the fields hold a ring, it is whole again.
+  pub ring_apart : K → (d : RingState (el_x E)) (rb ro : ℕ) → ((x : Inside (el_x E)) → Opened x d
+      → let Others = rest_at full_share (members E) 0 (x.slots, (x.start, (x.len, tt))) rb ro 0 in
+      let Way = PartsBack 𝓛 full_share [] (members E) rb ro in
+      ((w : Region (el_x E)) (v : RingState (el_x E)) → Opened (with_slots x w) v
+      → ent 𝓤 (sep 𝓤 (sem 𝓛 (part_at (Sr E) full_share w rb (ro + 0))) (sep 𝓤 (sem 𝓛 Others) Way))
+      (sem 𝓛 (part_at (Rr E) full_share v rb ro)))
+      → Seq K 𝓛 (‵ (part_at (Sr E) full_share x.slots rb (ro + 0)) ∷ ‵ Others ∷ raw Way ∷ Γ) G)
+      → Seq K 𝓛 (‵ (part_at (Rr E) full_share d rb ro) ∷ Γ) G
   unfolding part_of
-  slots_out x = field_out 𝓛 full_share [] (members E) lawful (x.slots, (x.start, (x.len, tt))) rb ro 0
-
-  -- whatever the slots are, with which the fields hold a ring, it is whole again
-  pub ring_whole : (d : RingState (el_x E)) (x : Fields E) (w : Region (el_x E)) → Opened (with_slots x w) d
-      → ent 𝓤 (sep 𝓤 (sem 𝓛 (part_at (Sr E) full_share w rb (ro + 0))) (sep 𝓤 (sem 𝓛 (Others x)) Way))
-      (sem 𝓛 (part_at (Rr E) full_share d rb ro))
-  unfolding part_of
-  ring_whole d x w o =
-      let y = with_slots x w in
-      via 𝓤 (sem 𝓛 (part_at (inside.the_row (R E)) full_share y rb ro))
-      (field_back 𝓛 full_share [] (members E) (y.slots, (y.start, (y.len, tt))) rb ro 0)
-      (Plain-in (Rr E) (inside.the_row (R E)) (ring_laws.the_opens (R E)) 𝓛 full_share d y
-      (view_made (inside.the_row (R E)) (RingState (el_x E)) (Rr E).coded view Kept 𝓛 d y (closed o, kept o)) rb ro)
+  ring_apart t d rb ro next =
+      let In = inside.the_row (R E) in
+      use1 𝓛 (some (λ (x : (x : Inside (el_x E)) × ((view x ≡ d) × Kept x)). ‵ (part_at In full_share x.0 rb ro)))
+      (plain_out (Rr E) In (ring_laws.the_opens (R E)) 𝓛 full_share d rb ro) $ pick t (λ y.
+      let x = y.0 in let Way = PartsBack 𝓛 full_share [] (members E) rb ro in
+      let Others = rest_at full_share (members E) 0 (x.slots, (x.start, (x.len, tt))) rb ro 0 in
+      let word = uint_Lawful 𝓛 w64 in let lawful : Lawfuls 𝓛 (rows_of (members E)) =
+      ((slots_laws.the_row_laws (R E) (param_laws 0 E.row E.laws)).lawful 𝓛, (word, (word, tt))) in
+      use1 𝓛 (‵ (part_at (Sr E) full_share x.slots rb (ro + 0)) ⊛ ‵ Others ⊛ raw Way)
+      (field_out 𝓛 full_share [] (members E) lawful (x.slots, (x.start, (x.len, tt))) rb ro 0) $ split3 t $
+      next x (opened x y.1.1 y.1.0) (λ w v o. let z = with_slots x w in
+      via 𝓤 (sem 𝓛 (part_at In full_share z rb ro))
+      (field_back 𝓛 full_share [] (members E) (z.slots, (z.start, (z.len, tt))) rb ro 0)
+      (Plain-in (Rr E) In (ring_laws.the_opens (R E)) 𝓛 full_share v z
+      (view_made In (RingState (el_x E)) (Rr E).coded view Kept 𝓛 v z (closed o, kept o)) rb ro)))

@@ -5,11 +5,11 @@ use Rattle.arraydeque_ring.{
       Kit.{◌≡◌, refl, sym, ap, subst, ◌∙◌, List, [], ◌∷◌, map, ℕ, ◌+◌, ◌*◌, ◌≤◌, arith, length, take, drop_list},
       Kit.{length-take, Some, Ura, full_share, ent, sep, Fml, part_at, mem, Logic, sem, ‵, ◌⊛◌, ◌$◌, length-map, Goal},
       Kit.{◌∵◌, !, qed, by, move, keep, use1, use2, use3, split, fsplit, rewrite, done, nothing, El, R, el_x, inl, inr},
-      Kit.{cells, fsep, fjoin, Seq, Step, step, Item, SemTy, feq_i, feq_l},
+      Kit.{common_steps, cells, fsep, fjoin, Seq, Step, step, Item, SemTy, feq_i, feq_l},
       Owned.{item_size, Place},
       Rows.{Around, run_out, run_in},
     },
-    loans.Placed.{placed, run, placed_nothing, length-placed, take-placed, drop-placed, placed-either, run-take},
+    loans.Placed.{placed, run, placed_nothing, take-placed, drop-placed, placed-either, run-take},
     loans.Placed.{apart_cases, as_run},
   },
   specs.{Loans.{AreApart, as_many, with_run}, Ownership.places_owned, Places.IsFilledRun},
@@ -42,13 +42,13 @@ module _ (E : El) (b o : ℕ) where
     pub as_values : {ps : List (Place E)} (xs : List (el_x E)) {n : ℕ} → ps ≡ map Some xs → length xs ≡ n
         → Step K 𝓛 (‵ (Held i n xs) ∷ Γ) G (‵ (Row (at i) ps) ∷ Γ) G
     as_values xs {n} is many = step (λ s.
-        rewrite t 0 (λ (F : Fml). ‵ F) (ap (Row (at i)) is ∙ same_cells E xs b (at i)) refl $
+        rewrite t 0 (λ F. ‵ F) (ap (Row (at i)) is ∙ same_cells E xs b (at i)) refl $
         feq_i t ℕ (length xs) n many $ fjoin t $ s)
 
     pub as_places : (xs : List (el_x E)) {n : ℕ} → (length xs ≡ n → Seq K 𝓛 (‵ (Row (at i) (map Some xs)) ∷ Γ) G)
         → Seq K 𝓛 (‵ (Held i n xs) ∷ Γ) G
     as_places xs next = fsplit t $ feq_l t (λ many.
-        rewrite t 0 (λ (F : Fml). ‵ F) (sym (same_cells E xs b (at i))) refl $ next many)
+        rewrite t 0 (λ F. ‵ F) (sym (same_cells E xs b (at i))) refl $ next many)
 
   -- two runs apart are taken out
   module _ {M : Type 1} {𝓤 : Ura M} (𝓛 : Logic 𝓤) (K : Type 0) (Γ : List (Item 𝓤)) (G : Goal 𝓤 𝓛.H) (t : K)
@@ -79,17 +79,16 @@ module _ (E : El) (b o : ℕ) where
         use1 𝓛 (‵ (Row (at j) (run ps j n)) ⊛ ‵ (Around E 𝓛 b o ps j n)) (run_out E 𝓛 b o ps j n in_j) $ split t $
         move t (1 ∷ []) $ fsplit t $
         use1 𝓛 (‵ (Row (at i) (run front i m)) ⊛ ‵ Before) (run_out E 𝓛 b o front i m below) $ split t $
-        rewrite t 0 (λ (qs : List (Place E)). ‵ (Row (at i) qs)) (run-take i m j n ps low in_j) refl $
+        rewrite t 0 (λ qs. ‵ (Row (at i) qs)) (run-take i m j n ps low in_j) refl $
         -- [the first; around it; what is behind the second; the second]
         move t (1 ∷ 2 ∷ []) $ fjoin t $ move t (1 ∷ 2 ∷ []) $ next (fsep Before Behind) (λ us vs e e'.
-        let long = length-placed i m us ps (omega arith) e in
         qed 𝓛 (‵ (Row (at i) us) ∷ ‵ (Row (at j) vs) ∷ ‵ (fsep Before Behind) ∷ []) ∵
         move ! (2 ∷ []) $ fsplit ! $ move ! (2 ∷ 0 ∷ []) $
         use2 𝓛 (‵ (Row o (placed i m us front))) (run_in E 𝓛 b o front i m below us e) $
         -- [what is before the second; what is behind it; the second]
-        rewrite ! 0 (λ (qs : List (Place E)). ‵ (Row o qs)) (sym (take-placed i m j n ps low in_j us e)) refl $
-        rewrite ! 1 (λ (qs : List (Place E)). ‵ (Row behind qs)) (sym (drop-placed i m j n ps low in_j us e)) refl $
-        fjoin ! $ move ! (1 ∷ 0 ∷ []) $ by ! (run_in E 𝓛 b o (placed i m us ps) j n (omega arith) vs e'))
+        rewrite ! 0 (λ qs. ‵ (Row o qs)) (sym (take-placed i m j n ps low in_j us e)) refl $
+        rewrite ! 1 (λ qs. ‵ (Row behind qs)) (sym (drop-placed i m j n ps low in_j us e)) refl $
+        fjoin ! $ move ! (1 ∷ 0 ∷ []) $ by ! (run_in E 𝓛 b o (placed i m us ps) j n (grind (arith, common_steps, low, in_j, e)) vs e'))
 
     -- which of the two comes first is all one, where what is written into both may come in either order
     other_way : (i m j n : ℕ) → ((us vs : List (Place E)) → length us ≡ m → length vs ≡ n
@@ -97,7 +96,7 @@ module _ (E : El) (b o : ℕ) where
     other_way i m j n same next Rest back = move t (1 ∷ []) $ next Rest (λ us vs e e'.
         qed 𝓛 (‵ (Row (at i) us) ∷ ‵ (Row (at j) vs) ∷ ‵ Rest ∷ []) ∵ move ! (1 ∷ []) $
         use3 𝓛 (‵ (Row o (placed i m us (placed j n vs ps)))) (back vs us e' e) $
-        rewrite ! 0 (λ (qs : List (Place E)). ‵ (Row o qs)) (same us vs e e') refl $ done !)
+        rewrite ! 0 (λ qs. ‵ (Row o qs)) (same us vs e e') refl $ done !)
 
     two_out : (i m j n : ℕ) → i + m ≤ length ps → j + n ≤ length ps → AreApart i m j n → Next i m j n
         → Seq K 𝓛 (‵ (Row o ps) ∷ Γ) G
@@ -129,5 +128,5 @@ module _ (E : El) (b o : ℕ) where
         as_places ! i us (λ same. move ! (1 ∷ []) $ as_places ! j vs (λ same'. move ! (1 ∷ []) $
         use3 𝓛 (‵ (Row o (placed j n (map Some vs) (placed i m (map Some us) ps))))
         (back (map Some us) (map Some vs) (length-map us Some ∙ same) (length-map vs Some ∙ same')) $
-        rewrite ! 0 (λ (qs : List (Place E)). ‵ (Row o qs)) (rw (as_run i one.1.0 us ps long same)
+        rewrite ! 0 (λ qs. ‵ (Row o qs)) (rw (as_run i one.1.0 us ps long same)
         (as_run j two.1.0 vs (with_run i (as_many one.1.0 us) ps) long' same')) refl $ done !))))

@@ -35,10 +35,11 @@ module _ (E : El) {M : Type 1} {𝓤 : Ura M} {𝓛 : Logic 𝓤} {K : Type 0} {
       rewrite t 0 (λ ps. ‵ (slots_lent (R E) (block_ptr b o) ps κ)) (ap (λ (v : Seen E). v.places) x.1.0) refl $
       fsplit t $ flt_l t (λ reach. then a.ptr b o at reach)))
 
+module _ (E : El) {M : Type 1} {𝓤 : Ura M} {𝓛 : Logic 𝓤} {K : Type 0} {Γ : List (Item 𝓤)} {G : Goal 𝓤 𝓛.H} {κ : Lft}
+    {q : Share} {γ : GName} {u v : Gv} {g : Global} {r : Seen E} {b o n rb ro : ℕ} {Rest : Fml} where
   -- A part of the places is lent under a new name, which the region follows.
   -- Takes [the part; the other places; the right; the words; the open borrow, in three].
-  pub slots_lend : K → Soaks G → {κ : Lft} {q : Share} {γ : GName} {u v : Gv} {g : Global} {r : Seen E}
-      {b o n rb ro : ℕ} {Rest : Fml} → Fits E r o n → (T : SemTy) (new : T.rep → Seen E) (x : T.rep) (at : ℕ)
+  pub slots_lend : K → Soaks G → Fits E r o n → (T : SemTy) (new : T.rep → Seen E) (x : T.rep) (at : ℕ)
       → ((w : T.rep) → length r.places ≡ length (new w).places)
       → ((w : T.rep) → ent 𝓤 (sep 𝓤 (sem 𝓛 (T.own_at w b at)) (sem 𝓛 Rest)) (sem 𝓛 (places E (new w) b o)))
       → ((ν : GName) → Seq K 𝓛 (‵ (fobs ν (T.coded.code x)) ∷ ‵ (fbor κ (Borrowed T b at ν)) ∷ ‵ (flft κ q)
@@ -46,10 +47,10 @@ module _ (E : El) {M : Type 1} {𝓤 : Ura M} {𝓛 : Logic 𝓤} {K : Type 0} {
       → Seq K 𝓛 (‵ (T.own_at x b at) ∷ ‵ Rest ∷ ‵ (right E g n b o)
       ∷ ‵ (cell_at full_share (Sr E).mir (slots_val b o n ∷ []) rb ro)
       ∷ ‵ (fobor κ q (Borrowed (mem (Sr E)) rb ro γ)) ∷ ‵ (fobs γ u) ∷ ‵ (fauth γ v) ∷ Γ) G
-  slots_lend t z {κ} {q} {γ} {u} {v} {g} {r} {b} {o} {n} {rb} {ro} {Rest} ok T new x at long back then =
+  slots_lend t z ok T new x at long back then =
       let Framed = Frame E 𝓛 rb ro g r b o n in
       move t (4 ∷ 5 ∷ 6 ∷ []) $ group t 7 $
-      use1 𝓛 (later (some (λ (ν : GName). ‵ (fobs ν (T.coded.code x)) ⊛ ‵ (fbor κ (Borrowed T b at ν)) ⊛ ‵ (flft κ q)
+      use1 𝓛 (later (some (λ ν. ‵ (fobs ν (T.coded.code x)) ⊛ ‵ (fbor κ (Borrowed T b at ν)) ⊛ ‵ (flft κ q)
       ⊛ ‵ (after (mem (Sr E)) T γ ν new))))
       (takes_part 𝓛 (mem (Sr E)) T new κ q rb ro b at γ (sep 𝓤 (sem 𝓛 Rest) (sem 𝓛 Framed))
       (λ w. qed 𝓛 (‵ (T.own_at w b at) ∷ ‵ Rest ∷ ‵ Framed ∷ []) ∵ use2 𝓛 (‵ (places E (new w) b o)) (back w) $

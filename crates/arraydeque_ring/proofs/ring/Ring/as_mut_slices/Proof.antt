@@ -2,9 +2,9 @@
 use Rattle.arraydeque_ring.{
   proofs.{
     memory.{
-      Kit.{fact, sep, by, emp, refl, [], ◌∷◌, ◌++◌, id⊢, Fn, inst_fn, tables, ◌$◌, !, move, join, frame, suffices},
-      Kit.{addr, stop, no_more, and_then, returns, alloc_all, pass_all, free_all, look_at, get, through, sets},
-      Kit.{lands_as, mem, nothing, El, R, args, Array, both_by},
+      Kit.{fact, sep, by, emp, refl, [], ◌∷◌, ◌++◌, id⊢, tables, ◌$◌, !, move, join, frame, suffices, addr, stop},
+      Kit.{no_more, and_then, returns, alloc_all, pass_all, free_all, look_at, get, through, sets, lands_as, mem},
+      Kit.{nothing, El, R, Array, both_by},
       Methods.{passing_on, spent, values},
       Called.{calls_met, first_fact, knows},
     },
@@ -23,9 +23,9 @@ use Rattle.arraydeque_ring.proofs.ring.Ring.as_mut_slices.Code as code
 pub as_mut_slices_spec : {M : Type 1} → stated.statement M
 unfolding both_by
 as_mut_slices_spec 𝓤 𝓛 𝓜 𝓡 wired X L =
-    let E : El = record { row = X; laws = L } in let here : Fn = inst_fn (args E) code.function in
+    let E : El = record { row = X; laws = L } in
     let 𝓣 = tables 𝓤 𝓛.H 𝓜 𝓡 𝓡.env in
-    passing_on 1 0 (Rr E) 𝓛 (spent 1 𝓛 _) 𝓜 𝓡 _ _ (f.clauses X 𝓛 𝓜.mem 𝓡.returns) (f.Key.name (args E)) here
+    passing_on 1 0 (Rr E) 𝓛 (spent 1 𝓛 _) 𝓜 𝓡 _ _ (f.clauses X 𝓛 𝓜.mem 𝓡.returns) _ _
     (code.unfolded 𝓤 𝓛.H 𝓜 𝓡 wired (X, tt)) (λ κs qs bounds a _ fit post ends.
     move ! (1 ∷ []) $ first_fact ! {P = emp 𝓤} (λ lives. knows ! lives $ join ! $
     alloc_all ! (λ l. pass_all ! refl ((tt, tt), fit) $

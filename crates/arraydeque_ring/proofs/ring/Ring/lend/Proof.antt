@@ -2,37 +2,33 @@
 use Rattle.arraydeque_ring.{
   proofs.{
     memory.{
-      Kit.{◌++◌, nothing, ◌≡◌, refl, List, [], ◌∷◌, ℕ, ◌+◌, ◌<◌, ◌≤◌, ◌^◌, arith, length, full_share, id⊢, Share, emp},
-      Kit.{GName, fat, flft, Fn, inst_fn, w64, tables, sem, owns, ‵, raw, ◌⊛◌, some, later, ◌$◌, !, move, use1, use2},
-      Kit.{drop, split, join, pick, frame, await, fsplit, fjoin, suffices, done, of_opd, addr, load, look, stop, fld},
-      Kit.{no_more, and_then, returns, alloc_all, pass_all, free_all, look_at, get, through, sets, lands_as, usize},
-      Kit.{mem, part_at, says_two, heard, El, R, args, el_x, after₂, split3, group, Array, both_by, MutBor, NamedLft},
-      Kit.{named_lft, pure_i},
+      Kit.{fjoin3, fsplit3, ◌++◌, nothing, refl, List, [], ◌∷◌, ℕ, ◌+◌, ◌≤◌, arith, length, full_share, id⊢, emp, fat},
+      Kit.{flft, w64, tables, owns, ‵, raw, ◌⊛◌, ◌$◌, !, move, use1, use2, drop, split, join, frame, fsplit, fjoin},
+      Kit.{suffices, done, of_opd, addr, load, look, stop, fld, no_more, and_then, returns, alloc_all, pass_all},
+      Kit.{free_all, look_at, get, through, sets, lands_as, usize, mem, part_at, says_two, heard, El, R, el_x, after₂},
+      Kit.{Array, both_by, MutBor, named_lft, pure_i},
       Regions.{Sr, Seen},
       Methods.{method, spent, values},
       Called.{calls_met, first_fact, knows},
     },
     loans.{
-      Lending.{open_after, lent_items, first_run_filled, second_run_filled},
+      Lending.{open_after, lent_items, one_piece, first_run_filled, second_run_filled},
       Made.{loan_lawful, loan_renamed},
       Names.{hands_on, followed_both, part_lent},
-      Rings.{Rr, Fields, Others, Way, fields_out, slots_out, ring_whole},
+      Rings.{Rr, ring_apart},
     },
-    places.{Held.length_filled, LaidOut.length_within, Opened.{opened, view, Kept}},
+    places.{LaidOut.length_within},
     slots.Slots.lend_round.Met.met,
   },
-  specs.{Loans.{LoanState, as_many}, Ring.RingState, RingLends.rewritten},
+  specs.{Loans.{LoanState, as_many}, RingLends.rewritten},
 }
-use Rattle.std.{specs.Prelude.{◌-◌, min}, proofs.lemmas.List.nil_from_length}
-use types.{Follow.after, Late.{ages}, Mut.open_ref, Run.well_typed}
+use types.{Late.{ages}, Mut.open_ref, Run.well_typed}
 use base.Share
 use contract.Lifetimes.{toks}
-use base.Logic.{sep}
 use denote.Plain.{uint_in, uint_out}
 use Rattle.arraydeque_ring.specs.Lends as Lends
 use Rattle.arraydeque_ring.specs.Lends.{two_lists}
 use Rattle.arraydeque_ring.specs.contracts.slots.loan.Loan as loan
-use Rattle.arraydeque_ring.specs.contracts.ring.Ring.TheInside as inside
 use Rattle.arraydeque_ring.specs.contracts.slots.Slots.lend_round as g
 use Rattle.arraydeque_ring.specs.contracts.ring.Ring.lend as f
 use Rattle.arraydeque_ring.proofs.ring.Ring.lend.Statement as stated
@@ -41,38 +37,28 @@ use Rattle.arraydeque_ring.proofs.ring.Ring.lend.Code as code
 pub lend_spec : {M : Type 1} → stated.statement M
 unfolding both_by
 lend_spec 𝓤 𝓛 𝓜 𝓡 wired X L =
-    let E : El = record { row = X; laws = L } in let here : Fn = inst_fn (args E) code.function in
+    let E : El = record { row = X; laws = L } in
     let 𝓣 = tables 𝓤 𝓛.H 𝓜 𝓡 𝓡.env in
-    method 1 0 (Rr E) 𝓛 (spent 1 𝓛 _) 𝓜 𝓡 _ _ (f.clauses X 𝓛 𝓜.mem 𝓡.returns) (f.Key.name (args E)) here
+    method 1 0 (Rr E) 𝓛 (spent 1 𝓛 _) 𝓜 𝓡 _ _ (f.clauses X 𝓛 𝓜.mem 𝓡.returns) _ _
     (code.unfolded 𝓤 𝓛.H 𝓜 𝓡 wired (X, tt)) (λ κs qs bounds a _ fit post ends.
-    let κ = κs.0 in let κ₁ = κs.1.0 in let q = qs.0 in let l : Share = Share.left q in let r : Share = Share.right q in
-    let rb : ℕ = a.0.ref_ptr.0 in let ro : ℕ = a.0.ref_ptr.1 in let γ = a.0.ghost_name in
-    let d : RingState (el_x E) = a.0.now in
+    let κ = κs.0 in let q = qs.0 in let l = Share.left q in let r = Share.right q in
+    let rb = a.0.ref_ptr.0 in let ro = a.0.ref_ptr.1 in let d = a.0.now in
     first_fact ! {P = emp 𝓤} (λ lives. drop ! $
     alloc_all ! (λ locals. pass_all ! refl ((tt, tt), fit) $
     -- [obs; the borrow; its token; the others]
     move ! (2 ∷ []) $ use1 𝓛 (‵ (flft κ l) ⊛ ‵ (flft κ r)) (𝓛.lfts.lft_split κ q) $ split ! $ move ! (2 ∷ 3 ∷ 0 ∷ []) $
-    open_ref ! tt (mem (Rr E)) {x = d} {b = rb} {o = ro} $
-    use1 𝓛 (some (λ (x : (x : Fields E) × ((view x ≡ d) × Kept x)).
-    ‵ (part_at (inside.the_row (R E)) full_share x.0 rb ro))) (fields_out E 𝓛 rb ro d) $ pick ! (λ opened_ring.
-    let x : Fields E = opened_ring.0 in let seen = opened_ring.1.0 in let kept = opened_ring.1.1 in
-    use1 𝓛 (‵ (part_at (Sr E) full_share x.slots rb (ro + 0)) ⊛ ‵ (Others E 𝓛 rb ro x) ⊛ raw (Way E 𝓛 rb ro))
-    (slots_out E 𝓛 rb ro x) $ split3 ! $
+    open_ref ! tt (mem (Rr E)) {x = d} {b = rb} {o = ro} $ ring_apart E ! d rb ro (λ x open_ring whole.
     -- [the slots; the other fields; the way back; the open borrow, in three; half its token; the others]
-    move ! (1 ∷ []) $ fsplit ! $ move ! (1 ∷ []) $ fsplit ! $ move ! (1 ∷ []) $
-    -- [nothing; the length; the start; the slots; ..]
-    move ! (2 ∷ []) $ use1 𝓛 (‵ (fat _ _ _ _ _)) (uint_out 𝓛 full_share w64 x.start rb (ro + 16)) $
-    well_typed ! (λ start_ok. let fs : x.start < 2 ^ 64 = start_ok.1.fits in
-    sets ! (of_opd ! (load ! (through ! refl (fld ! refl (stop !))) (look ! 0 refl))) refl (tt, record { fits = fs }) $
-    use1 𝓛 (‵ (part_at usize full_share x.start rb (ro + 16))) (uint_in 𝓛 full_share w64 x.start rb (ro + 16)) $
-    move ! (2 ∷ []) $ use1 𝓛 (‵ (fat _ _ _ _ _)) (uint_out 𝓛 full_share w64 x.len rb (ro + 24)) $
-    well_typed ! (λ len_ok. let fl : x.len < 2 ^ 64 = len_ok.1.fits in
-    sets ! (of_opd ! (load ! (through ! refl (fld ! refl (stop !))) (look ! 0 refl))) refl (tt, record { fits = fl }) $
+    move ! (1 ∷ []) $ fsplit3 ! $
+    -- [the start; the length; nothing; the slots; ..]
+    use1 𝓛 (‵ (fat _ _ _ _ _)) (uint_out 𝓛 full_share w64 x.start rb (ro + 16)) $ well_typed ! (λ start_ok.
+    sets ! (of_opd ! (load ! (through ! refl (fld ! refl (stop !))) (look ! 0 refl))) refl start_ok $ move ! (1 ∷ []) $
+    use1 𝓛 (‵ (fat _ _ _ _ _)) (uint_out 𝓛 full_share w64 x.len rb (ro + 24)) $ well_typed ! (λ len_ok.
+    sets ! (of_opd ! (load ! (through ! refl (fld ! refl (stop !))) (look ! 0 refl))) refl len_ok $
     use1 𝓛 (‵ (part_at usize full_share x.len rb (ro + 24))) (uint_in 𝓛 full_share w64 x.len rb (ro + 24)) $
-    -- [the length; the start; nothing; the slots; ..]
-    move ! (0 ∷ 2 ∷ []) $ fjoin ! $ move ! (1 ∷ 0 ∷ []) $ fjoin ! $ move ! (1 ∷ []) $
-    let room : ℕ = length x.slots.places - x.start in let first : ℕ = min x.len room in let rest : ℕ = x.len - first in
-    let open_ring = opened x kept seen in
+    move ! (1 ∷ []) $
+    use1 𝓛 (‵ (part_at usize full_share x.start rb (ro + 16))) (uint_in 𝓛 full_share w64 x.start rb (ro + 16)) $
+    fjoin3 ! $ move ! (1 ∷ []) $
     sets ! (addr ! (through ! refl (fld ! refl (stop !)))) refl (tt, tt) $
     -- [the slots; the other fields; the way back; the open borrow, in three; half its token; the others]
     sets ! (addr ! (through ! refl (stop !))) refl (tt, tt) $
@@ -80,7 +66,7 @@ lend_spec 𝓤 𝓛 𝓜 𝓡 wired X L =
     let lent : MutBor (Seen E) = record { ref_ptr = (rb, ro + 0); ghost_name = δ; now = x.slots } in
     let words : ℕ × (ℕ × Unit {0}) = (x.start, (x.len, tt)) in
     let vals = values 1 κs 2 (lent, words) in
-    pure_i ! (owns (usize ∷ usize ∷ []) words vals.1) _ ((refl, fs), ((refl, fl), tt)) $
+    pure_i ! (owns (usize ∷ usize ∷ []) words vals.1) _ ((refl, start_ok.1.fits), ((refl, len_ok.1.fits), tt)) $
     -- [the words; the lent slots;
     -- the right; the open borrow; the other fields; the way back; obs γ; auth γ; half its token; the others]
     move ! (1 ∷ 0 ∷ []) $ fjoin ! $ move ! (7 ∷ 8 ∷ []) $ join ! $ join ! $
@@ -93,23 +79,19 @@ lend_spec 𝓤 𝓛 𝓜 𝓡 wired X L =
     ((κs, (r, qs.1), bounds, (lent, words), vals), tt) (id⊢ 𝓤 _)
     (and_then ! (get ! refl) (and_then ! (get ! refl) (and_then ! (get ! refl) (no_more !)))) (loan_lawful E)
     (λ v it ws it_typed. lands_as ! refl refl it_typed.0 $
-    let α : NamedLft = named_lft 2 0 tt κs in
+    let α = named_lft 2 0 tt κs in
     move ! (2 ∷ []) $ use1 𝓛 (‵ (Lends.lends_loan (R E) lent x.start 0 it) ⊛ raw _) (id⊢ 𝓤 _) $ split ! $
     move ! (1 ∷ []) $ first_fact ! (λ held. heard ! _ (λ held'. fsplit ! $
     -- [what δ follows; what the loan's name follows;
     -- the loan; the tokens; the right; the open borrow; the other fields; the way back; obs γ; auth γ]
-    let Lists = mem (two_lists (R E)) in let Put : List (el_x E) × List (el_x E) → Seen E =
-    λ w. Lends.two_written (R E) lent x.start 0 it.first.now it.second.now w.0 w.1 in
-    let V : List (el_x E) × List (el_x E) → RingState (el_x E) = λ w.
+    let Lists = mem (two_lists (R E)) in let Put = λ (w : List (el_x E) × List (el_x E)).
+    Lends.two_written (R E) lent x.start 0 it.first.now it.second.now w.0 w.1 in
+    let V = λ (w : List (el_x E) × List (el_x E)).
     rewritten d (as_many it.first.now w.0 ++ as_many it.second.now w.1) in
-    let Rest = sep 𝓤 (sem 𝓛 (Others E 𝓛 rb ro x)) (Way E 𝓛 rb ro) in
-    move ! (6 ∷ 7 ∷ []) $ join ! $ move ! (6 ∷ 7 ∷ 8 ∷ 5 ∷ 1 ∷ 0 ∷ []) $ group ! 6 $
-    use1 𝓛 (later (some (λ (ν : GName). ‵ (flft κ l) ⊛ ‵ (after (mem (Rr E))
-    (mem (Rr E)) γ ν (λ u. rewritten d u.items)) ⊛ ‵ (after (mem (Rr E)) Lists ν it.name V))))
-    (hands_on 𝓛 (mem (Rr E)) (mem (Sr E)) Lists (λ u. rewritten d u.items) V Put κ l rb ro rb (ro + 0) γ δ it.name Rest
-    (λ w. ring_whole E 𝓛 rb ro (rewritten d (V w).items) x (Put w) (open_after open_ring it.first.now it.second.now
-    held held' w.0 w.1)) age _ _ d) $
-    await ! tt $ pick ! (λ ν. split3 ! $
+    move ! (6 ∷ 7 ∷ []) $ join ! $ move ! (6 ∷ 7 ∷ 8 ∷ 5 ∷ 1 ∷ 0 ∷ []) $
+    hands_on ! tt (mem (Rr E)) (mem (Sr E)) Lists (λ u. rewritten d u.items) V Put age rb ro rb (ro + 0) d (λ w.
+    whole (Put w) (rewritten d (V w).items) (open_after open_ring it.first.now it.second.now held held'
+    w.0 w.1)) (λ ν.
     -- [half the token; what γ follows; what ν follows; what the loan's name follows; the loan; the tokens]
     let Rows = mem (Array (R E) 0) in move ! (2 ∷ 3 ∷ []) $
     use2 𝓛 (‵ (after₂ (mem (Rr E)) Rows Rows ν it.first.ghost_name it.second.ghost_name (λ us vs. V (us, vs))))
@@ -123,7 +105,7 @@ lend_spec 𝓤 𝓛 𝓜 𝓡 wired X L =
     use2 𝓛 (‵ (flft κ q)) (𝓛.lfts.lft_join κ q) $ join ! $
     returns ! (look_at ! 0 refl) $ free_all ! refl $
     suffices ! _ (ends v out tt) $ nothing ! $ frame ! $ move ! (1 ∷ []) $ frame ! $ frame ! $
-    let none : d.start + length d.items ≤ d.capacity → it.second.now ≡ [] =
-    λ in_one_piece. nil_from_length it.second.now
-    (omega (arith, length_filled x.slots.places 0 rest ((second_run_filled open_ring).0, (it.second.now, held')))) in
-    says_two ! (lent_items open_ring it.first.now it.second.now held held', none) $ done !))))))))))))
+    says_two ! (
+      lent_items open_ring it.first.now it.second.now held held',
+      one_piece open_ring it.first.now it.second.now held held',
+    ) $ done !))))))))))))

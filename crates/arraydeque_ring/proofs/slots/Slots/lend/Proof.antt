@@ -1,11 +1,11 @@
 -- `lend` lends the value in a filled place, and that place follows it. Assumes `Logic`.
 use Rattle.arraydeque_ring.proofs.{
   memory.{
-    Kit.{feq_i, fjoin3, nothing, join, refl, sym, [], ◌∷◌, ℕ, ◌+◌, ◌*◌, ◌<◌, arith, length, set, length-set, Some, Fn},
-    Kit.{inst_fn, vptr, ‵, ◌$◌, ◌∵◌, !, qed, move, frame, suffices, done, whole, sub, look_in, of_opd, bin, load, addr},
-    Kit.{stop, fld, first, blocks, returns, alloc_all, pass_all, free_all, look_at, get, through, sets, sets_last, mem},
-    Kit.{says, El, R, args, el_x, heard},
-    Regions.{scaled, Sr, Seen, near, slots_open, item_size, Around, place_out, place_in, place_owned},
+    Kit.{feq_i, fjoin3, nothing, join, refl, sym, [], ◌∷◌, ◌+◌, ◌*◌, arith, set, length-set, Some, inst_fn, vptr, ‵},
+    Kit.{◌$◌, ◌∵◌, !, qed, move, frame, suffices, done, whole, sub, look_in, of_opd, bin, load, addr, stop, fld, first},
+    Kit.{blocks, returns, alloc_all, pass_all, free_all, look_at, get, through, sets, sets_last, mem, says, El, R},
+    Kit.{args, heard},
+    Regions.{scaled, Sr, near, slots_open, item_size, Around, place_out, place_in, place_owned},
     Lent.slots_lend,
     Called.{after_block, first_fact},
     Methods.{method, spent},
@@ -18,12 +18,12 @@ use Rattle.arraydeque_ring.proofs.slots.Slots.lend.Code as code
 
 pub lend_spec : {M : Type 1} → stated.statement M
 lend_spec 𝓤 𝓛 𝓜 𝓡 wired X L =
-    let E : El = record { row = X; laws = L } in let here : Fn = inst_fn (args E) code.function in
-    method 1 1 (Sr E) 𝓛 (spent 1 𝓛 _) 𝓜 𝓡 _ _ (f.clauses X 𝓛 𝓜.mem 𝓡.returns) (f.Key.name (args E)) here
+    let E : El = record { row = X; laws = L } in let here = inst_fn (args E) code.function in
+    method 1 1 (Sr E) 𝓛 (spent 1 𝓛 _) 𝓜 𝓡 _ _ (f.clauses X 𝓛 𝓜.mem 𝓡.returns) _ _
     (code.unfolded 𝓤 𝓛.H 𝓜 𝓡 wired (X, tt)) (λ κs qs bounds a _ typed post ends.
-    let r : Seen E = a.0.now in let i : ℕ = a.1.0 in
+    let r = a.0.now in let i = a.1.0 in
     first_fact ! (λ _. heard ! _ (λ asked.
-    let x : el_x E = asked.0 in let within : i < length r.places = filled_within r.places i x asked.1 in
+    let x = asked.0 in let within = filled_within r.places i x asked.1 in
     alloc_all ! (λ l. pass_all ! refl ((tt, tt), typed) $
     slots_open E ! tt r (λ g b o n ok.
     let far = near E ok i (omega arith) in

@@ -2,11 +2,11 @@
 use Rattle.arraydeque_ring.{
   proofs.{
     memory.{
-      Kit.{◌≡◌, refl, ap, vint, ◌∙◌, [], ◌∷◌, ℕ, ◌<◌, ◌^◌, lit<, arith, length, id⊢, Fn, inst_fn, w64, tables, owns},
-      Kit.{◌$◌, !, move, drop, join, fsplit, fjoin, fjoin3, feq_i, feq_l, suffices, done, of_opd, lit, bin, addr, load},
-      Kit.{stop, fld, no_more, whole, sub, look_in, only, and_then, returns, alloc_all, pass_all, free_all, look_at},
-      Kit.{get, through, sets, lands_as, usize, uint_vals, mut_vals, nothing, heard, El, args, both_by, pure_i},
-      Regions.{Sr, Seen, slots_open, slots_close},
+      Kit.{◌≡◌, refl, ap, vint, ◌∙◌, [], ◌∷◌, ℕ, ◌<◌, ◌^◌, lit<, arith, length, id⊢, w64, tables, owns, ◌$◌, !, move},
+      Kit.{drop, join, fsplit, fjoin, fjoin3, feq_i, feq_l, suffices, done, of_opd, lit, bin, addr, load, stop, fld},
+      Kit.{no_more, whole, sub, look_in, only, and_then, returns, alloc_all, pass_all, free_all, look_at, get, through},
+      Kit.{sets, lands_as, usize, uint_vals, mut_vals, nothing, heard, El, both_by, pure_i},
+      Regions.{Sr, slots_open, slots_close},
       Methods.{method, spent, values},
       Called.{Called, calls_met, first_fact, knows},
     },
@@ -26,13 +26,13 @@ use denote.Plain.{uint_Lawful}
 pub lend_round_spec : {M : Type 1} → stated.statement M
 unfolding both_by
 lend_round_spec 𝓤 𝓛 𝓜 𝓡 wired X L =
-    let E : El = record { row = X; laws = L } in let here : Fn = inst_fn (args E) code.function in
+    let E : El = record { row = X; laws = L } in
     let 𝓣 = tables 𝓤 𝓛.H 𝓜 𝓡 𝓡.env in
-    method 1 2 (Sr E) 𝓛 (spent 1 𝓛 _) 𝓜 𝓡 _ _ (f.clauses X 𝓛 𝓜.mem 𝓡.returns) (f.Key.name (args E)) here
+    method 1 2 (Sr E) 𝓛 (spent 1 𝓛 _) 𝓜 𝓡 _ _ (f.clauses X 𝓛 𝓜.mem 𝓡.returns) _ _
     (code.unfolded 𝓤 𝓛.H 𝓜 𝓡 wired (X, tt)) (λ κs qs bounds a _ typed post ends.
-    let r : Seen E = a.0.now in
-    let start : ℕ = a.1.0 in let len : ℕ = a.1.1.0 in let cut : ℕ = min len (length r.places - start) in
-    let fs : start < 2 ^ 64 = typed.0.1.fits in let fl : len < 2 ^ 64 = typed.1.0.1.fits in
+    let r = a.0.now in
+    let start = a.1.0 in let len = a.1.1.0 in let cut = min len (length r.places - start) in
+    let fs = typed.0.1.fits in let fl = typed.1.0.1.fits in
     first_fact ! (λ lives. first_fact ! (λ inside. first_fact ! (λ within. first_fact ! (λ one. heard ! _ (λ two.
     alloc_all ! (λ l. pass_all ! refl ((tt, tt), typed) $
     slots_open E ! tt r (λ heap b o n ok.
@@ -40,7 +40,7 @@ lend_round_spec 𝓤 𝓛 𝓜 𝓡 wired X L =
     (tt, record { fits = ok.word }) $
     slots_close E ! tt r ok refl $
     -- [obs; the borrow; its token; the others]
-    let room : ℕ = n - start in let room_fits : room < 2 ^ 64 = omega arith in
+    let room = n - start in let room_fits : room < 2 ^ 64 = omega arith in
     sets ! (bin ! (get ! refl) (get ! refl) (omega arith)) refl
     (tt, record { fits = room_fits }) $
     let zₑ : (Called 𝓛 e.ended (e.clauses 𝓛 𝓜.mem 𝓡.returns)).Ghost =
@@ -51,7 +51,7 @@ lend_round_spec 𝓤 𝓛 𝓜 𝓡 wired X L =
     (e_met 𝓤 𝓛 𝓜 𝓡 (code.calls-core::int::usize::min 𝓡.env wired)) zₑ (id⊢ 𝓤 _)
     (and_then ! (get ! refl) (and_then ! (get ! refl) (no_more !))) (uint_Lawful 𝓛 w64) (λ u first ws _. fsplit ! $
     feq_l ! (λ is_first. drop ! $ drop ! $ heard ! _ (λ cuts.
-    let same : first ≡ cut = cuts ∙ ap (λ k. min len (k - start)) ok.capacity in let rest : ℕ = len - cut in
+    let same : first ≡ cut = cuts ∙ ap (λ k. min len (k - start)) ok.capacity in let rest = len - cut in
     let fc : cut < 2 ^ 64 = omega arith in let fr : rest < 2 ^ 64 = omega arith in
     lands_as ! (ap only is_first ∙ ap (vint w64) same) refl (tt, record { fits = fc }) $
     sets ! (addr ! (through ! refl (stop !))) refl (tt, tt) $

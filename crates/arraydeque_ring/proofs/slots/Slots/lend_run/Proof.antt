@@ -2,11 +2,11 @@
 use Rattle.arraydeque_ring.{
   proofs.{
     memory.{
-      Kit.{named_lft, nothing, join, refl, sym, ◌∙◌, List, [], ◌∷◌, map, ℕ, ◌+◌, ◌*◌, arith, length-map, Some, Fn},
-      Kit.{inst_fn, ‵, ◌⊛◌, ◌$◌, ◌∵◌, qed, !, move, use1, use2, split, frame, rewrite, suffices, done, whole, sub},
-      Kit.{look_in, agg, of_opd, bin, load, stop, fld, no_more, and_then, first, blocks, returns, alloc_all, pass_all},
-      Kit.{free_all, look_at, get, through, sets, sets_last, says, heard, El, R, args, el_x, slice_val},
-      Regions.{Sr, Seen, near, run_fits, slots_open, scaled, item_size, Place, places_owned, Around, run_out, run_in},
+      Kit.{named_lft, nothing, join, refl, sym, ◌∙◌, [], ◌∷◌, map, ◌+◌, ◌*◌, arith, length-map, Some, inst_fn, ‵, ◌⊛◌},
+      Kit.{◌$◌, ◌∵◌, qed, !, move, use1, use2, split, frame, rewrite, suffices, done, whole, sub, look_in, agg, of_opd},
+      Kit.{bin, load, stop, fld, no_more, and_then, first, blocks, returns, alloc_all, pass_all, free_all, look_at},
+      Kit.{get, through, sets, sets_last, says, heard, El, R, args, slice_val},
+      Regions.{Sr, near, run_fits, slots_open, scaled, item_size, places_owned, Around, run_out, run_in},
       Lent.slots_lend,
       Called.{after_block, first_fact},
       Methods.{method, spent},
@@ -26,13 +26,13 @@ use Rattle.arraydeque_ring.proofs.slots.Slots.lend_run.Code as code
 
 pub lend_run_spec : {M : Type 1} → stated.statement M
 lend_run_spec 𝓤 𝓛 𝓜 𝓡 wired X L =
-    let E : El = record { row = X; laws = L } in let here : Fn = inst_fn (args E) code.function in
-    method 1 2 (Sr E) 𝓛 (spent 1 𝓛 _) 𝓜 𝓡 _ _ (f.clauses X 𝓛 𝓜.mem 𝓡.returns) (f.Key.name (args E)) here
+    let E : El = record { row = X; laws = L } in let here = inst_fn (args E) code.function in
+    method 1 2 (Sr E) 𝓛 (spent 1 𝓛 _) 𝓜 𝓡 _ _ (f.clauses X 𝓛 𝓜.mem 𝓡.returns) _ _
     (code.unfolded 𝓤 𝓛.H 𝓜 𝓡 wired (X, tt)) (λ κs qs bounds a _ typed post ends.
-    let r : Seen E = a.0.now in let ps : List (Place E) = r.places in
-    let from : ℕ = a.1.0 in let len : ℕ = a.1.1.0 in let len_ok = typed.1.0.1 in
+    let r = a.0.now in let ps = r.places in
+    let from = a.1.0 in let len = a.1.1.0 in let len_ok = typed.1.0.1 in
     first_fact ! (λ _. heard ! _ (λ asked.
-    let xs : List (el_x E) = asked.1.0 in let long = length_filled ps from len asked in
+    let xs = asked.1.0 in let long = length_filled ps from len asked in
     alloc_all ! (λ l. pass_all ! refl ((tt, tt), typed) $
     slots_open E ! tt r (λ g b o n ok.
     let far = near E ok from (omega arith) in
@@ -53,7 +53,7 @@ lend_run_spec 𝓤 𝓛 𝓜 𝓡 wired X L =
     qed 𝓛 (‵ ((Values E len).own_at ws b at) ∷ ‵ Others ∷ []) ∵ as_places E b o ! from ws (λ same.
     use2 𝓛 (‵ (places_owned (R E) b o (placed from len (map Some ws) ps)))
     (run_in E 𝓛 b o ps from len asked.0 (map Some ws) (length-map ws Some ∙ same)) $
-    rewrite ! 0 (λ (qs : List (Place E)). ‵ (places_owned (R E) b o qs)) (as_run from xs ws ps long same) refl $
+    rewrite ! 0 (λ qs. ‵ (places_owned (R E) b o qs)) (as_run from xs ws ps long same) refl $
     done !)) (λ δ. slice_lent (named_lft 2 0 tt κs) (R E) 𝓛 ! xs long (run_fits E ok len (omega arith)) $
     -- [the slice; its token; what the region follows; the other token]
     returns ! (look_at ! 0 refl) $ free_all ! refl $ suffices ! _ (ends (slice_val (b, at) len)

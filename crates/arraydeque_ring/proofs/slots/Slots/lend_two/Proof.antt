@@ -2,11 +2,11 @@
 use Rattle.arraydeque_ring.{
   proofs.{
     memory.{
-      Kit.{nothing, refl, List, [], ◌∷◌, ℕ, ◌+◌, ◌*◌, arith, length, Fn, inst_fn, ‵, ◌$◌, ◌∵◌, !, qed, by, move, use2},
-      Kit.{join, frame, fsplit, fjoin, suffices, done, whole, sub, look_in, agg, of_opd, bin, load, stop, fld, no_more},
+      Kit.{◌≤◌, nothing, refl, [], ◌∷◌, ◌+◌, ◌*◌, arith, length, inst_fn, ‵, ◌$◌, ◌∵◌, !, qed, by, move, use2, join},
+      Kit.{frame, fsplit, fjoin, suffices, done, whole, sub, look_in, agg, of_opd, bin, load, stop, fld, no_more},
       Kit.{and_then, first, blocks, returns, alloc_all, pass_all, free_all, look_at, get, through, sets, sets_last},
-      Kit.{mem, says_two, El, R, args, el_x, common_steps, heard, both_by, NamedLft, named_lft, slice_val},
-      Regions.{Sr, Seen, near, run_fits, slots_open, scaled, item_size},
+      Kit.{mem, says_two, El, R, args, el_x, common_steps, heard, both_by, named_lft, slice_val},
+      Regions.{Sr, near, run_fits, slots_open, scaled, item_size},
       Lent.slots_lend,
       Called.{after_block, first_fact},
       Methods.{method, spent},
@@ -14,7 +14,7 @@ use Rattle.arraydeque_ring.{
     loans.{
       Made.{loan_val, loan_made, slice_lent},
       Names.{Pair, both_lent},
-      Placed.{apart_within, length-as_many},
+      Placed.{apart_cases, length-as_many},
       Runs.{Values, values_out},
     },
     places.Held.length_filled,
@@ -29,14 +29,14 @@ use Rattle.arraydeque_ring.proofs.slots.Slots.lend_two.Code as code
 pub lend_two_spec : {M : Type 1} → stated.statement M
 unfolding both_by
 lend_two_spec 𝓤 𝓛 𝓜 𝓡 wired X L =
-    let E : El = record { row = X; laws = L } in let here : Fn = inst_fn (args E) code.function in
-    method 1 4 (Sr E) 𝓛 (spent 1 𝓛 _) 𝓜 𝓡 _ _ (f.clauses X 𝓛 𝓜.mem 𝓡.returns) (f.Key.name (args E)) here
+    let E : El = record { row = X; laws = L } in let here = inst_fn (args E) code.function in
+    method 1 4 (Sr E) 𝓛 (spent 1 𝓛 _) 𝓜 𝓡 _ _ (f.clauses X 𝓛 𝓜.mem 𝓡.returns) _ _
     (code.unfolded 𝓤 𝓛.H 𝓜 𝓡 wired (X, tt)) (λ κs qs bounds arg _ typed post ends.
-    let r : Seen E = arg.0.now in let s : ℕ = item_size E in
-    let a : ℕ = arg.1.0 in let la : ℕ = arg.1.1.0 in let b : ℕ = arg.1.1.1.0 in let lb : ℕ = arg.1.1.1.1.0 in
+    let r = arg.0.now in let s = item_size E in
+    let a = arg.1.0 in let la = arg.1.1.0 in let b = arg.1.1.1.0 in let lb = arg.1.1.1.1.0 in
     let la_ok = typed.1.0.1 in let lb_ok = typed.1.1.1.0.1 in
     first_fact ! (λ _. first_fact ! (λ one. first_fact ! (λ two. heard ! _ (λ apart.
-    let xs : List (el_x E) = one.1.0 in let ys : List (el_x E) = two.1.0 in
+    let xs = one.1.0 in let ys = two.1.0 in
     let long = length_filled r.places a la one in let long' = length_filled r.places b lb two in
     alloc_all ! (λ l. pass_all ! refl ((tt, tt), typed) $
     slots_open E ! tt r (λ g p o n ok.
@@ -67,7 +67,7 @@ lend_two_spec 𝓤 𝓛 𝓜 𝓡 wired X L =
     (λ w. grind (arith, common_steps, length-as_many xs w.0, length-as_many ys w.1))
     (λ w. qed 𝓛 (‵ (Lent.own_at w p 0) ∷ ‵ Rest ∷ []) ∵ fsplit ! $ by ! (back w.0 w.1)) (λ ν.
     both_lent (Values E la) (Values E lb) Both.coded p pa p pb ! tt xs ys (λ γs.
-    let room = run_fits E ok in let α : NamedLft = named_lft 2 0 tt κs in
+    let few : la + lb ≤ length r.places = grind (arith, apart_cases a la b lb apart) in let room = run_fits E ok in let α = named_lft 2 0 tt κs in
     slice_lent α (R E) 𝓛 ! ys long' (room lb (omega arith)) $ move ! (1 ∷ 2 ∷ []) $
     slice_lent α (R E) 𝓛 ! xs long (room la (omega arith)) $
     let v = loan_val (slice_val (p, pa) la) (slice_val (p, pb) lb) in let seen : LoanState (el_x E) = record {
@@ -76,9 +76,7 @@ lend_two_spec 𝓤 𝓛 𝓜 𝓡 wired X L =
       name = ν;
     } in
     use2 𝓛 (‵ ((loan.the_row α (R E)).own_val seen (v ∷ [])))
-    (loan_made α (R E) 𝓛 seen (slice_val (p, pa) la) (slice_val (p, pb) lb)
-    (room (length xs + length ys) (apart_within a (length xs) b (length ys) (length r.places) (rw (long, long') apart)
-    (omega arith) (omega arith))).0) $
+    (loan_made α (R E) 𝓛 seen (slice_val (p, pa) la) (slice_val (p, pb) lb) (omega (arith, (room (la + lb) few).0))) $
     -- [the loan; the token; what the loan's name follows; what the region follows; the other token]
     returns ! (look_at ! 0 refl) $ free_all ! refl $
     suffices ! _ (ends v seen tt) $ nothing ! $ frame ! $ frame ! $ move ! (0 ∷ 3 ∷ 2 ∷ []) $ join ! $ frame ! $

@@ -2,9 +2,9 @@
 use Rattle.arraydeque_ring.{
   proofs.{
     memory.{
-      Kit.{fact, sep, by, refl, [], ◌∷◌, id⊢, Fn, inst_fn, tables, ◌$◌, !, move, join, frame, suffices, addr, stop},
-      Kit.{no_more, and_then, returns, alloc_all, pass_all, free_all, look_at, get, through, sets, lands_as, mem},
-      Kit.{nothing, heard, El, R, args, Array, both_by},
+      Kit.{fact, sep, by, refl, [], ◌∷◌, id⊢, tables, ◌$◌, !, move, join, frame, suffices, addr, stop, no_more},
+      Kit.{and_then, returns, alloc_all, pass_all, free_all, look_at, get, through, sets, lands_as, mem, nothing},
+      Kit.{heard, El, R, Array, both_by},
       Regions.{Sr},
       Methods.{passing_on, spent, values},
       Called.{calls_met, first_fact, knows},
@@ -23,9 +23,9 @@ use Rattle.arraydeque_ring.proofs.slots.Slots.two_slices_mut.Code as code
 pub two_slices_mut_spec : {M : Type 1} → stated.statement M
 unfolding both_by
 two_slices_mut_spec 𝓤 𝓛 𝓜 𝓡 wired X L =
-    let E : El = record { row = X; laws = L } in let here : Fn = inst_fn (args E) code.function in
+    let E : El = record { row = X; laws = L } in
     let 𝓣 = tables 𝓤 𝓛.H 𝓜 𝓡 𝓡.env in
-    passing_on 1 4 (Sr E) 𝓛 (spent 1 𝓛 _) 𝓜 𝓡 _ _ (f.clauses X 𝓛 𝓜.mem 𝓡.returns) (f.Key.name (args E)) here
+    passing_on 1 4 (Sr E) 𝓛 (spent 1 𝓛 _) 𝓜 𝓡 _ _ (f.clauses X 𝓛 𝓜.mem 𝓡.returns) _ _
     (code.unfolded 𝓤 𝓛.H 𝓜 𝓡 wired (X, tt)) (λ κs qs bounds arg _ fit post ends.
     move ! (1 ∷ []) $ first_fact ! (λ lives. first_fact ! (λ one. first_fact ! (λ two. heard ! _ (λ apart.
     knows ! apart $ knows ! two $ join ! $ knows ! one $ join ! $ knows ! lives $ join ! $
