@@ -70,8 +70,7 @@ module _ {M : Type 1} {𝓤 : Ura M} (𝓛 : Logic 𝓤) (at_mem : Memory → SP
     pub allocate_goes : bytes < 2 ^ 64 → ent 𝓤 (sep 𝓤 (sem 𝓛 handle) (A.lft κ q)) (Allocates.pre to_allocate)
     allocate_goes fits =
         qed 𝓛 (‵ handle ∷ ‵ (flft κ q) ∷ []) ∵ knows ! {φ = Sizes} (block_size E n fits, block_align E n) $
-        pure_i ! (owns (usize ∷ usize ∷ []) (bytes, (al, tt)) (vint w64 bytes ∷ [], (vint w64 al ∷ [], tt)))
-        ((tt, tt), ((tt, tt), tt)) ((refl, fits), ((refl, capped_fits (align (elτ E))), tt)) $
+        pure_i ! (owns (usize ∷ usize ∷ []) to_allocate.0.3.1 to_allocate.0.4.1) _ ((refl, fits), ((refl, capped_fits (align (elτ E))), tt)) $
         move ! (2 ∷ []) $ feq_i ! _ (vptr p.0 p.1 ∷ []) _ refl $ fjoin ! $ fjoin ! $
         move ! (2 ∷ []) $ nothing ! $ move ! (1 ∷ 0 ∷ []) $ join ! $ join ! $ done !
 
@@ -81,8 +80,7 @@ module _ {M : Type 1} {𝓤 : Ura M} (𝓛 : Logic 𝓤) (at_mem : Memory → SP
     deallocate_goes b o fits =
         qed 𝓛 (‵ (froom (block_ty E n) b o) ∷ ‵ (token E g n (block_ptr b o)) ∷ ‵ handle ∷ ‵ (flft κ q) ∷ []) ∵
         fjoin ! $ knows ! {φ = Sizes} (block_size E n fits, block_align E n) $ join ! $
-        pure_i ! (owns (RawPtr ∷ usize ∷ usize ∷ []) (block_ptr b o, (bytes, (al, tt)))
-        (vptr b o ∷ [], (vint w64 bytes ∷ [], (vint w64 al ∷ [], tt)))) (tt, ((tt, tt), ((tt, tt), tt)))
+        let z = to_deallocate b o in pure_i ! (owns (RawPtr ∷ usize ∷ usize ∷ []) z.0.3.1 z.0.4.1) _
         (refl, ((refl, fits), ((refl, capped_fits (align (elτ E))), tt))) $
         move ! (2 ∷ []) $ feq_i ! _ (vptr p.0 p.1 ∷ []) _ refl $ fjoin ! $ fjoin ! $
         move ! (2 ∷ []) $ nothing ! $ move ! (1 ∷ 0 ∷ []) $ join ! $ join ! $ done !

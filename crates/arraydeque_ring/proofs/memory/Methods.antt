@@ -3,11 +3,11 @@ use Rattle.arraydeque_ring.proofs.memory.{
   Kit.{stay_ref, Goes-ref, MutBor, List, [], ◌∷◌, ℕ, zero, refl, suc, Ura, SProp, ent, id⊢, Logic, Fn, Val, ◌≡◌, Bool},
   Kit.{named, w64, sem, sep, ‵, raw, ◌⊛◌, at_ret, ◌$◌, ◌∵◌, !, qed, move, split, fsplit, fsplit3, true, false, fjoin},
   Kit.{fjoin3, feq_i, suffices, done, enter, flft, fobs, fbor, Borrowed, mem, RattleType, owns, types_at, plain, usize},
-  Kit.{uint_vals, mut_vals, mut_Tells, yes, no, nothing, Stays, stay_dropped, Goes-dropped, Goes-spent_ref, heap_val},
-  Kit.{heap_Tells, El, R, elτ, one, lawful, shr_vals, shr_Tells, tables, ftrue, fsep, vint, proved_at, walk_of, use1},
-  Kit.{Item, WpFn, subst, sym, via, drop, Fml, frame, by, Good, layout, Is},
+  Kit.{uint_vals, mut_vals, mut_Tells, yes, no, nothing, Stays, stay_dropped, Goes-dropped, Goes-spent_ref, heap_Tells},
+  Kit.{El, R, elτ, one, lawful, shr_Tells, tables, ftrue, fsep, vint, proved_at, walk_of, use1, Item, WpFn, subst, sym},
+  Kit.{via, drop, Fml, frame, by, Good, layout, Is},
+  Regions.Sr,
 }
-use Rattle.arraydeque_ring.proofs.memory.Regions.{Sr}
 use base.Logic.{emp∗}
 use prog.{Model.Model, Wp.Closed}
 use mir.Syntax.{Callee}

@@ -2,8 +2,8 @@
 use Rattle.arraydeque_ring.{
   proofs.{
     memory.{
-      Kit.{refl, [], ◌∷◌, inst_fn, vunit, ◌$◌, !, join, feq_i, suffices, done, of_opd, unit_lit, returns, alloc_all},
-      Kit.{pass_all, free_all, look_at, sets, plain, says, El, args, frame, drop, false},
+      Kit.{refl, [], ◌∷◌, vunit, ◌$◌, !, join, feq_i, suffices, done, of_opd, unit_lit, returns, alloc_all, pass_all},
+      Kit.{free_all, look_at, sets, plain, says, El, frame, drop, false},
       Regions.{Sr, Seen, slots_open, slots_close},
       Methods.{walked, mutable, comes_back, told, words},
     },
@@ -11,7 +11,7 @@ use Rattle.arraydeque_ring.{
   },
   specs.Counted.counted,
 }
-use denote.Enum.Laws.{low_vals, Tells-lowered}
+use denote.Enum.Laws.{Tells-lowered}
 use Rattle.arraydeque_ring.specs.contracts.slots.StepKind as kind
 use Rattle.arraydeque_ring.specs.contracts.slots.Slots.count as f
 use Rattle.arraydeque_ring.proofs.slots.Slots.count.Statement as stated

@@ -1,7 +1,7 @@
 -- `without_memory` makes places that take no bytes out of nothing. Assumes `Logic`.
 use Rattle.arraydeque_ring.proofs.memory.{
-  Kit.{arith, refl, inst_fn, ‵, ◌$◌, !, use0, suffices, done, agg, addr, from, stop, no_more, and_then, returns},
-  Kit.{alloc_all, pass_all, free_all, look_at, get, sets, says, heard, block_ptr, El, args, frame, join},
+  Kit.{arith, refl, ‵, ◌$◌, !, use0, suffices, done, agg, addr, from, stop, no_more, and_then, returns, alloc_all},
+  Kit.{pass_all, free_all, look_at, get, sets, says, heard, block_ptr, El, frame, join},
   Blocks.no_right,
   Methods.{walked, handle, words},
   Called.first_fact,
