@@ -70,8 +70,8 @@ module _ {M : Type 1} {𝓤 : Ura M} (𝓛 : Logic 𝓤) (at_mem : Memory → SP
     pub allocate_goes : bytes < 2 ^ 64 → ent 𝓤 (sep 𝓤 (sem 𝓛 handle) (A.lft κ q)) (Allocates.pre to_allocate)
     allocate_goes fits =
         qed 𝓛 (‵ handle ∷ ‵ (flft κ q) ∷ []) ∵ knows ! {φ = Sizes} (block_size E n fits, block_align E n) $
-        pure_i ! (owns (usize ∷ usize ∷ []) to_allocate.0.3.1 to_allocate.0.4.1) _ ((refl, fits), ((refl, capped_fits (align (elτ E))), tt)) $
-        move ! (2 ∷ []) $ feq_i ! _ (vptr p.0 p.1 ∷ []) _ refl $ fjoin ! $ fjoin ! $
+        pure_i ! (owns (usize ∷ usize ∷ []) to_allocate.0.3.1 to_allocate.0.4.1) _
+        ((refl, fits), ((refl, capped_fits (align (elτ E))), tt)) $ move ! (2 ∷ []) $ feq_i ! _ (vptr p.0 p.1 ∷ []) _ refl $ fjoin ! $ fjoin ! $
         move ! (2 ∷ []) $ nothing ! $ move ! (1 ∷ 0 ∷ []) $ join ! $ join ! $ done !
 
     pub deallocate_goes : (b o : ℕ) → bytes < 2 ^ 64 → ent 𝓤 (sep 𝓤 (H.room (block_ty E n) b o)

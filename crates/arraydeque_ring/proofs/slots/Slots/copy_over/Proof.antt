@@ -2,7 +2,7 @@
 -- and room for it in another region, and puts both back. Assumes `Logic`.
 use Rattle.arraydeque_ring.{
   proofs.memory.{
-    Kit.{◌≡◌, refl, [], ◌∷◌, ◌++◌, ◌+◌, ◌*◌, arith, length, take, drop_list, id⊢, full_share, ftrue, froom, flft},
+    Kit.{vptr, ◌≡◌, refl, [], ◌∷◌, ◌++◌, ◌+◌, ◌*◌, arith, length, take, drop_list, id⊢, full_share, ftrue, froom, flft},
     Kit.{inst_fn, w64, ty_array, vunit, vint, tables, owns, ‵, raw, ◌⊛◌, ◌$◌, !, move, use1, drop, split, join, fjoin},
     Kit.{feq_i, suffices, done, whole, sub, look_in, of_opd, unit_lit, bin, load, stop, fld, no_more, and_then, first},
     Kit.{blocks, returns, alloc_all, pass_all, free_all, look_at, get, through, sets, lands_last, usize, RawPtr},
@@ -15,7 +15,7 @@ use Rattle.arraydeque_ring.{
   },
   specs.Gaps.run_emptied,
 }
-use denote.{Plain.Nothing-Lawful, RawPtr.rawptr_vals}
+use denote.Plain.{Nothing-Lawful}
 use Rattle.std.specs.contracts.ptr.copy_nonoverlapping as copy
 use Rattle.std.proofs.ptr.copy_nonoverlapping.Met as copy_thm
 use Rattle.arraydeque_ring.specs.contracts.slots.Slots.copy_over as f
@@ -69,7 +69,7 @@ copy_over_spec 𝓤 𝓛 𝓜 𝓡 wired X L =
         (q₂, tt),
         tt,
         (block_ptr b src, (block_ptr b' dst, (n, tt))),
-        (rawptr_vals (block_ptr b src), (rawptr_vals (block_ptr b' dst), (vint w64 n ∷ [], tt))),
+        (vptr b src ∷ [], (vptr b' dst ∷ [], (vint w64 n ∷ [], tt))),
       ),
       xs,
     ) in
