@@ -36,7 +36,7 @@ pub use base.{
   Fml.{fupd, fwand},
 }
 pub use mir.{
-  Syntax.{Fn, Body, Ty, named, w64, ty_array, Args, a_number, a_type},
+  Syntax.{Fn, Body, Ty, named, w64, ty_array, a_number, a_type},
   MapTy.inst_fn,
   Val.{Val, vunit, vint, vptr, vstruct, vcons, vnil, of_list},
 }
@@ -71,7 +71,7 @@ pub use denote.{
   Memory.{part_at, cell_at, hidden_shr, mem, lone},
   Plain.uint_vals,
   RawPtr.{Ptr, RawPtr, block_ptr, null_ptr, ptr_val, in_a_block},
-  Ref.{shr_vals, shr_Tells, MutBor, NamedLft, mut_Tells, mut_vals},
+  Ref.{shr_Tells, MutBor, NamedLft, mut_Tells, mut_vals},
   Builtin.usize,
   Signature.{plain, types_at, named_lft},
   Steps.{heard, nothing, owned, opens, closes, peeks, looks, shuts, only},

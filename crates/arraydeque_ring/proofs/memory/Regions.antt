@@ -14,7 +14,7 @@ use denote.Struct.{Struct.within, Owning.{Owning, shape}}
 use Rattle.std.specs.contracts.alloc.Global as heap
 pub use Rattle.arraydeque_ring.{
   specs.{
-    Places.{AreAllEmpty, HoldsRun, IsEmpty, IsFilled, IsFilledRun, empty_region},
+    Places.{HoldsRun, IsFilledRun, empty_region},
     Ownership.{owned_if, place_owned, places_owned, right_to_free},
   },
   proofs.memory.{
