@@ -64,14 +64,14 @@ module _ {M : Type 1} {𝓤 : Ura M} (𝓛 : Logic 𝓤) (at_mem : Memory → SP
     )
 
     -- the words say the block's size and alignment
-    abbrev Sizes : Type 0
-    Sizes = (capped (size (block_ty E n)) ≡ bytes) × (capped (align (block_ty E n)) ≡ al)
+    sized : bytes < 2 ^ 64 → (capped (size (block_ty E n)) ≡ bytes) × (capped (align (block_ty E n)) ≡ al)
+    sized fits = (block_size E n fits, block_align E n)
 
     pub allocate_goes : bytes < 2 ^ 64 → ent 𝓤 (sep 𝓤 (sem 𝓛 handle) (A.lft κ q)) (Allocates.pre to_allocate)
     allocate_goes fits =
-        qed 𝓛 (‵ handle ∷ ‵ (flft κ q) ∷ []) ∵ knows ! {φ = Sizes} (block_size E n fits, block_align E n) $
-        pure_i ! (owns (usize ∷ usize ∷ []) (bytes, (al, tt)) (vint w64 bytes ∷ [], (vint w64 al ∷ [], tt)))
-        ((tt, tt), ((tt, tt), tt)) ((refl, fits), ((refl, capped_fits (align (elτ E))), tt)) $
+        qed 𝓛 (‵ handle ∷ ‵ (flft κ q) ∷ []) ∵ knows ! (sized fits) $
+        pure_i ! (owns (usize ∷ usize ∷ []) to_allocate.0.3.1 to_allocate.0.4.1) _
+        ((refl, fits), ((refl, capped_fits (align (elτ E))), tt)) $
         move ! (2 ∷ []) $ feq_i ! _ (vptr p.0 p.1 ∷ []) _ refl $ fjoin ! $ fjoin ! $
         move ! (2 ∷ []) $ nothing ! $ move ! (1 ∷ 0 ∷ []) $ join ! $ join ! $ done !
 
@@ -80,45 +80,38 @@ module _ {M : Type 1} {𝓤 : Ura M} (𝓛 : Logic 𝓤) (at_mem : Memory → SP
         (Deallocates.pre (to_deallocate b o))
     deallocate_goes b o fits =
         qed 𝓛 (‵ (froom (block_ty E n) b o) ∷ ‵ (token E g n (block_ptr b o)) ∷ ‵ handle ∷ ‵ (flft κ q) ∷ []) ∵
-        fjoin ! $ knows ! {φ = Sizes} (block_size E n fits, block_align E n) $ join ! $
-        pure_i ! (owns (RawPtr ∷ usize ∷ usize ∷ []) (block_ptr b o, (bytes, (al, tt)))
-        (vptr b o ∷ [], (vint w64 bytes ∷ [], (vint w64 al ∷ [], tt)))) (tt, ((tt, tt), ((tt, tt), tt)))
+        fjoin ! $ knows ! (sized fits) $ join ! $ let z = to_deallocate b o in
+        pure_i ! (owns (RawPtr ∷ usize ∷ usize ∷ []) z.0.3.1 z.0.4.1) _
         (refl, ((refl, fits), ((refl, capped_fits (align (elτ E))), tt))) $
         move ! (2 ∷ []) $ feq_i ! _ (vptr p.0 p.1 ∷ []) _ refl $ fjoin ! $ fjoin ! $
         move ! (2 ∷ []) $ nothing ! $ move ! (1 ∷ 0 ∷ []) $ join ! $ join ! $ done !
 
-module _ {M : Type 1} {𝓤 : Ura M} {𝓛 : Logic 𝓤} {K : Type 0} {G : Goal 𝓤 𝓛.H} where
-  module _ {Γ : List (Item 𝓤)} (E : El) (n : ℕ) (g : Global) (v : Val)
-      (ok : (b o : ℕ) → v ≡ answer_val true b o
-      → Seq K 𝓛 (‵ (froom (block_ty E n) b o) ∷ ‵ (token E g n (block_ptr b o)) ∷ Γ) G)
-      (refused : v ≡ answer_val false 0 0 → Seq K 𝓛 Γ G) where
-    abbrev frees : Ptr → Fml
-    frees = impl_heap.ghosts.dealloc_token g (block_ty E n)
+-- a call of `allocate` gives the token back, and goes on with a block, or with a refusal
+module _ {M : Type 1} {𝓤 : Ura M} {𝓛 : Logic 𝓤} {K : Type 0} {Γ : List (Item 𝓤)} {G : Goal 𝓤 𝓛.H} (t : K)
+    (soaks : Soaks G) (at_mem : Memory → SProp 𝓤) (run : Routine → Fun 𝓤) (E : El) (n : ℕ) (κ : Lft) (q : Share)
+    (p : ℕ × ℕ) (g : Global) (v : Val)
+    (ok : (b o : ℕ) → v ≡ answer_val true b o
+    → Seq K 𝓛 (‵ (froom (block_ty E n) b o) ∷ ‵ (token E g n (block_ptr b o)) ∷ ‵ (flft κ q) ∷ Γ) G)
+    (refused : v ≡ answer_val false 0 0 → Seq K 𝓛 (‵ (flft κ q) ∷ Γ) G) where
+  abbrev Block : Answer.Denot → Fml
+  Block = block_if_ok (impl_heap.ghosts.dealloc_token g) (block_ty E n)
 
-    answers : K → (r : Answer.Denot) → Seq K 𝓛
-        (‵ (Answer.own_val r (v ∷ [])) ∷ ‵ (block_if_ok (impl_heap.ghosts.dealloc_token g) (block_ty E n) r) ∷ Γ) G
-    answers t (Ok block) =
-        fpick t (λ us. fsplit t $
-        feq_l t (λ tag. fpick t (λ vss. fsplit t $ feq_l t (λ fields. fsplit t $ feq_l t (λ word. drop t $
-        in_a_block t block (λ z. fsep (room_for (block_ty E n) z) (frees z)) (fst∗ 𝓤 (never 𝓤) (sem 𝓛 (frees null_ptr)))
-        (λ b o at. fsplit t $ ok b o (ap only tag ∙ ap (λ ws. live 0 (of_list ws))
-        (fields ∙ ap (λ ws. ws ++ []) (word ∙ ap (λ z. ptr_val z ∷ []) at)))))))))
-    answers t (Err refusal) =
-        fpick t (λ us. fsplit t $ feq_l t (λ tag. fpick t (λ vss. fsplit t $ feq_l t (λ fields. fsplit t $
-        fpick t (λ none. fsplit t $ feq_l t (λ word. drop t $ drop t $ drop t $
-        refused (ap only tag ∙ ap (λ ws. live 1 (of_list ws))
-        (fields ∙ ap (λ ws. ws ++ []) word))))))))
+  answers : (r : Answer.Denot) → Seq K 𝓛 (‵ (Answer.own_val r (v ∷ [])) ∷ ‵ (Block r) ∷ ‵ (flft κ q) ∷ Γ) G
+  answers (Ok block) =
+      fpick t (λ us. fsplit t $
+      feq_l t (λ tag. fpick t (λ vss. fsplit t $ feq_l t (λ fields. fsplit t $ feq_l t (λ word. drop t $
+      in_a_block t block (λ z. Block (Ok z)) (fst∗ 𝓤 (never 𝓤) (sem 𝓛 (token E g n null_ptr)))
+      (λ b o at. fsplit t $ ok b o (ap only tag ∙ ap (λ ws. live 0 (of_list ws))
+      (fields ∙ ap (λ ws. ws ++ []) (word ∙ ap (λ z. ptr_val z ∷ []) at)))))))))
+  answers (Err refusal) =
+      fpick t (λ us. fsplit t $ feq_l t (λ tag. fpick t (λ vss. fsplit t $ feq_l t (λ fields. fsplit t $
+      fpick t (λ none. fsplit t $ feq_l t (λ word. drop t $ drop t $ drop t $
+      refused (ap only tag ∙ ap (λ ws. live 1 (of_list ws))
+      (fields ∙ ap (λ ws. ws ++ []) word))))))))
 
-  -- a call of `allocate` gives the token back, and goes on with a block, or with a refusal
-  pub allocated : K → Soaks G → {Γ : List (Item 𝓤)} (at_mem : Memory → SProp 𝓤) (run : Routine → Fun 𝓤) (E : El)
-      (n : ℕ) (κ : Lft) (q : Share) (p : ℕ × ℕ) (g : Global) (v : Val)
-      → ((b o : ℕ) → v ≡ answer_val true b o
-      → Seq K 𝓛 (‵ (froom (block_ty E n) b o) ∷ ‵ (token E g n (block_ptr b o)) ∷ ‵ (flft κ q) ∷ Γ) G)
-      → (v ≡ answer_val false 0 0 → Seq K 𝓛 (‵ (flft κ q) ∷ Γ) G)
-      → Seq K 𝓛 (raw ((Allocates 𝓛 at_mem run).post (to_allocate 𝓛 at_mem run E n κ q p g) v) ∷ Γ) G
-  allocated t soaks at_mem run E n κ q p g v ok refused =
-      use1 𝓛 (later (some (λ r. ((‵ (flft κ q) ⊛ ‵ ftrue) ⊛ ‵ (Answer.own_val r (v ∷ [])))
+  pub allocated : Seq K 𝓛 (raw ((Allocates 𝓛 at_mem run).post (to_allocate 𝓛 at_mem run E n κ q p g) v) ∷ Γ) G
+  allocated = use1 𝓛 (later (some (λ r. ((‵ (flft κ q) ⊛ ‵ ftrue) ⊛ ‵ (Answer.own_val r (v ∷ [])))
       ⊛ some (λ (ws : Unit {0} × (Unit {0} × (Unit {0} × Unit {0}))). ‵ (fsep ftrue (fsep ftrue (fsep ftrue ftrue)))
-      ⊛ ‵ (block_if_ok (impl_heap.ghosts.dealloc_token g) (block_ty E n) r))))) (id⊢ 𝓤 _) $ await t soaks $
+      ⊛ ‵ (Block r))))) (id⊢ 𝓤 _) $ await t soaks $
       pick t (λ r. split t $ move t (1 ∷ []) $ pick t (λ ws. split t $ drop t $ move t (1 ∷ []) $ split t $ split t $
-      move t (1 ∷ []) $ drop t $ move t (1 ∷ 2 ∷ 0 ∷ []) $ answers E n g v ok refused t r))
+      move t (1 ∷ []) $ drop t $ move t (1 ∷ 2 ∷ 0 ∷ []) $ answers r))

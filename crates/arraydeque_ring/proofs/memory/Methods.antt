@@ -6,8 +6,8 @@ use Rattle.arraydeque_ring.proofs.memory.{
   Kit.{uint_vals, mut_vals, mut_Tells, yes, no, nothing, Stays, stay_dropped, Goes-dropped, Goes-spent_ref, heap_Tells},
   Kit.{El, R, elτ, one, lawful, shr_Tells, tables, ftrue, fsep, vint, proved_at, walk_of, use1, Item, WpFn, subst, sym},
   Kit.{via, drop, Fml, frame, by, Good, layout, Is},
+  Regions.Sr,
 }
-use Rattle.arraydeque_ring.proofs.memory.Regions.{Sr}
 use base.Logic.{emp∗}
 use prog.{Model.Model, Wp.Closed}
 use mir.Syntax.{Callee}
@@ -30,7 +30,7 @@ use Rattle.std.proofs.raw_atomic.Walks.{leaves}
 use Rattle.std.specs.contracts.alloc.Global as heap
 
 module _ {M : Type 1} {𝓤 : Ura M} (𝓛 : Logic 𝓤) (m : ℕ) where
-  -- of parameters passed as a: how the machine stores them, what a walk has of them, and what it owes of them at its end
+  -- of parameters passed as a: how the machine stores them, what a walk has of them, and what it owes at its end
   pub record Passed (ss : List (Slot m)) (ks : Kepts ss) (hs : Stays ss ks) (κs : Lfts m) (a : Denots (types_at ss κs))
       : Type 2 where
     pub Stored : Type 0
@@ -104,7 +104,8 @@ module _ {M : Type 1} {𝓤 : Ura M} {𝓛 : Logic 𝓤} where
   module _ {m : ℕ} where
     -- one that ends in the call, shown at entry or not
     abbrev pub gone : (s : Slot m) (k : Kept) → Silent 𝓛 m s k → Bool
-        → (St : (κs : Lfts m) → (s.row κs).Denot → Type 0) (v : (κs : Lfts m) (x : (s.row κs).Denot) → St κs x → List Val)
+        → (St : (κs : Lfts m) → (s.row κs).Denot → Type 0)
+        (v : (κs : Lfts m) (x : (s.row κs).Denot) → St κs x → List Val)
         → ((κs : Lfts m) (x : (s.row κs).Denot) (vs : List Val) → Is (s.row κs) x vs → (t : St κs x) × (vs ≡ v κs x t))
         → Params 𝓛 m → Params 𝓛 m
     gone s k silent b St v told ps = record {
@@ -141,14 +142,16 @@ module _ {M : Type 1} {𝓤 : Ura M} {𝓛 : Logic 𝓤} where
 
     -- a region by value
     abbrev pub whole_slots : El → Params 𝓛 m → Params 𝓛 m
-    whole_slots E = gone (plain (λ _. Sr E)) no (λ _ _ _. refl) true (λ _ _. List Val) (λ _ _ vs. vs) (λ _ _ vs _. (vs, refl))
+    whole_slots E = gone (plain (λ _. Sr E)) no (λ _ _ _. refl) true (λ _ _. List Val) (λ _ _ vs. vs)
+        (λ _ _ vs _. (vs, refl))
 
     -- the allocator by value
     abbrev pub handle : Params 𝓛 m → Params 𝓛 m
     handle = told (plain (λ _. heap.the_row)) (λ _ _ _. refl) false (λ _. heap_Tells)
 
     -- a `&mut`
-    abbrev pub mutable : {j : ℕ} {ok : AllWithin m (j ∷ [])} {S : RattleType} → Fate 𝓛 m j ok S → Params 𝓛 m → Params 𝓛 m
+    abbrev pub mutable : {j : ℕ} {ok : AllWithin m (j ∷ [])} {S : RattleType} → Fate 𝓛 m j ok S → Params 𝓛 m
+        → Params 𝓛 m
     mutable {j} {ok} {S} fate ps = record {
       slots = mut_ref_to (j ∷ []) ok (plain (λ _. S)) ∷ ps.slots;
       kept = (fate.kept, ps.kept);
@@ -230,21 +233,20 @@ module _ (m : ℕ) {M : Type 1} {𝓤 : Ura M} (𝓛 : Logic 𝓤) where
         (sem 𝓛 (owns (types_at ps.slots κs) a ((ps.passed κs a).vals s)))) ∷ raw P ∷ []
     Begins true κs qs a s P = raw P ∷ (ps.passed κs a).Had s (‵ (flft κs.0 qs.0) ∷ raw (toks 𝓛 m κs.1 qs.1) ∷ [])
 
-    -- a walk is handed how the parameters are stored, and how it ends: with what it owes of them, the result, the tokens
-    -- and what is ensured
+    -- a walk is handed how the parameters are stored, and how it ends:
+    -- with what it owes of them, the result, the tokens and what is ensured
     abbrev Walking : Bool → Type 2
     Walking apart = (𝓜 : Model 𝓤 𝓛.H) (𝓡 : Running 𝓤 𝓛.H 𝓜) (os : List (Outlives (suc m))) (res : Slot (suc m))
-        (c : Clauses 𝓤 (Method os res)) (k : Callee) (e : Fn) → let 𝓣 = tables 𝓤 𝓛.H 𝓜 𝓡 𝓡.env in
+        → let T = Method os res in (c : Clauses 𝓤 T) (k : Callee) (e : Fn) → let 𝓣 = tables 𝓤 𝓛.H 𝓜 𝓡 𝓡.env in
         Closed 𝓤 𝓛.H 𝓣.C 𝓣.Λ k e
         → ((κs : Lfts (suc m)) (qs : Shares (suc m)) (bounds : AllOutlive (suc m) os κs)
-        (a : Denots (types_at ps.slots κs)) (g : (c κs a).ghost) (s : (ps.passed κs a).Stored) (post : Val → SProp 𝓤)
-        → ((v : Val) (r : Res (Method os res).signature κs) (w : (ps.passed κs a).Lasts)
-        → ent 𝓤 ((ps.passed κs a).Owed w (sep 𝓤 (sem 𝓛 ((type_at res κs).own_val r (v ∷ [])))
-        (sep 𝓤 (toks 𝓛 (suc m) κs qs) ((c κs a).ensures g r (at_exit (Method os res) κs a ((ps.passed κs a).lasts w).0)))))
-        (post v))
+        (a : Denots (types_at ps.slots κs)) → let p = ps.passed κs a in (g : (c κs a).ghost) (s : p.Stored)
+        (post : Val → SProp 𝓤)
+        → ((v : Val) (r : Res T.signature κs) (w : p.Lasts) → ent 𝓤 (p.Owed w (sep 𝓤 (sem 𝓛 ((type_at res κs).own_val r
+        (v ∷ []))) (sep 𝓤 (toks 𝓛 (suc m) κs qs) ((c κs a).ensures g r (at_exit T κs a (p.lasts w).0))))) (post v))
         → Sq 𝓛 (Begins apart κs qs a s ((c κs a).requires g)) (allocs e.locals (λ En. params' En
-        (flat (types_at ps.slots κs) ((ps.passed κs a).vals s)) (runs 𝓣.C 𝓣.Λ En e.body (at_ret En post)))))
-        → Meets 𝓛 (Method os res).signature (𝓣.C k) (closing 𝓛 (Method os res) c)
+        (flat (types_at ps.slots κs) (p.vals s)) (runs 𝓣.C 𝓣.Λ En e.body (at_ret En post)))))
+        → Meets 𝓛 T.signature (𝓣.C k) (closing 𝓛 T c)
 
     as_whole : Walking false
     as_whole 𝓜 𝓡 os res c k e closed walk =
@@ -259,8 +261,8 @@ module _ (m : ℕ) {M : Type 1} {𝓤 : Ura M} (𝓛 : Logic 𝓤) where
         let Result : Fml = (type_at res κs).own_val r (v ∷ []) in
         let Says = (c κs a).ensures z.1 r (at_exit T κs a (p.lasts w).0) in
         via 𝓤 _ (p.owes s w (sep 𝓤 (sem 𝓛 Result) (sep 𝓤 (toks 𝓛 (suc m) κs qs) Says)))
-        (qed 𝓛 (‵ (has_of κs ps.slots ps.kept ps.stays a (p.lasts w).0 (p.vals s)) ∷ ‵ Result ∷ raw (toks 𝓛 (suc m) κs qs)
-        ∷ raw Says ∷ []) ∵ move ! (2 ∷ []) $ by ! (leaves 𝓛 T ps.stays c y v r (p.lasts w).0 (p.lasts w).1)))))
+        (qed 𝓛 (‵ (has_of κs ps.slots ps.kept ps.stays a (p.lasts w).0 (p.vals s)) ∷ ‵ Result
+        ∷ raw (toks 𝓛 (suc m) κs qs) ∷ raw Says ∷ []) ∵ move ! (2 ∷ []) $ by ! (leaves 𝓛 T ps.stays c y v r (p.lasts w).0 (p.lasts w).1)))))
 
     pub walked : Walking true
     walked 𝓜 𝓡 os res c k e closed walk = as_whole 𝓜 𝓡 os res c k e closed (λ κs qs bounds a g s post ends.
@@ -268,8 +270,8 @@ module _ (m : ℕ) {M : Type 1} {𝓤 : Ura M} (𝓛 : Logic 𝓤) where
         let P = (c κs a).requires g in
         by ! (via 𝓤 _ (qed 𝓛 (Begins false κs qs a s P) ∵
         suffices ! (sep 𝓤 P (⋆ 𝓛 (p.Had s Γ))) (push 𝓛 (raw P) (p.Had s Γ)) $ move ! (1 ∷ []) $ frame ! $
-        use1 𝓛 ((‵ (flft κs.0 qs.0) ⊛ raw (toks 𝓛 m κs.1 qs.1)) ⊛ ‵ (owns (types_at ps.slots κs) a (p.vals s))) (id⊢ 𝓤 _) $
-        split ! $ split ! $ move ! (2 ∷ []) $ p.has s Γ)
+        use1 𝓛 ((‵ (flft κs.0 qs.0) ⊛ raw (toks 𝓛 m κs.1 qs.1))
+        ⊛ ‵ (owns (types_at ps.slots κs) a (p.vals s))) (id⊢ 𝓤 _) $ split ! $ split ! $ move ! (2 ∷ []) $ p.has s Γ)
         (walk κs qs bounds a g s post ends).prf))
 
 -- for a `&mut` and n words

@@ -67,11 +67,10 @@ module _ (E : El) {M : Type 1} {𝓤 : Ura M} (𝓛 : Logic 𝓤) (b : ℕ) wher
 
     seen_from : (ps : List (Place E)) (i o at : ℕ) → at ≡ i * s + o
         → ent 𝓤 (sem 𝓛 (Shown o ps)) (sem 𝓛 (Shown at (drop_list i ps)))
-    seen_from ps zero o at e = let same : at ≡ o = omega (arith, zero-mul s) in
-        rw same (id⊢ 𝓤 (sem 𝓛 (Shown o ps)))
-    seen_from [] (suc i) o at e = id⊢ 𝓤 (sem 𝓛 (Shown o []))
+    seen_from ps zero o at e = let same : at ≡ o = omega (arith, zero-mul s) in rw same (id⊢ 𝓤 _)
+    seen_from [] (suc i) o at e = id⊢ 𝓤 _
     seen_from (p ∷ ps) (suc i) o at e =
-        via 𝓤 (sem 𝓛 (Shown (o + s) ps)) (snd∗ 𝓤 (sem 𝓛 (place_lent (R E) b o p κ)) (sem 𝓛 (Shown (o + s) ps)))
+        via 𝓤 _ (snd∗ 𝓤 (sem 𝓛 (place_lent (R E) b o p κ)) (sem 𝓛 (Shown (o + s) ps)))
         (seen_from ps i (o + s) at (omega (arith, suc-mul i s)))
 
     seen_values : (xs : List (el_x E)) (rest : List (Place E)) (o : ℕ)

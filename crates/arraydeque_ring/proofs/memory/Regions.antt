@@ -12,17 +12,19 @@ use Rattle.arraydeque_ring.{
 }
 use denote.Struct.{Struct.within, Owning.{Owning, shape}}
 use Rattle.std.specs.contracts.alloc.Global as heap
-pub use Rattle.arraydeque_ring.specs.Places.{AreAllEmpty, HoldsRun, IsEmpty, IsFilled, IsFilledRun, empty_region}
-pub use Rattle.arraydeque_ring.specs.Ownership.{owned_if, place_owned, places_owned, right_to_free}
+pub use Rattle.arraydeque_ring.{
+  specs.{
+    Places.{HoldsRun, IsFilledRun, empty_region},
+    Ownership.{owned_if, place_owned, places_owned, right_to_free},
+  },
+  proofs.memory.{
+    Blocks.scaled,
+    Owned.{Place, Row, item_size, of_nothing, of_room, run_seen},
+    Rows.{Around, run_out, run_in, place_out, place_in, row_room, array_out, array_in, room_out, room_in},
+  },
+}
 use Rattle.arraydeque_ring.specs.contracts.slots.Slots as slots
 use Rattle.arraydeque_ring.specs.contracts.slots.Slots.TheInside as inside
-pub use Rattle.arraydeque_ring.proofs.memory.Blocks.{scaled}
-pub use Rattle.arraydeque_ring.proofs.memory.{
-  Owned.{Place, Row, item_size, of_nothing, of_room, run_seen},
-}
-pub use Rattle.arraydeque_ring.proofs.memory.{
-  Rows.{Around, run_out, run_in, place_out, place_in, row_room, array_out, array_in, room_out, room_in},
-}
 
 -- the words of a `Slots`: the pointer, the capacity and the allocator
 abbrev words_val : Ptr → ℕ → Val

@@ -11,7 +11,7 @@ use Rattle.arraydeque_ring.{
   proofs.places.Held.length_filled,
   specs.{Gaps.run_emptied, Ownership.place_owned, Places.IsFilledRun},
 }
-use lib.Seq.{drop-drop}
+use Rattle.std.below.core.proofs.slots.Runs.{unspliced, run_long}
 use denote.Index.{row}
 use Rattle.std.proofs.ptr.Rows as arrays
 
@@ -38,14 +38,12 @@ module _ (E : El) {M : Type 1} {𝓤 : Ura M} (𝓛 : Logic 𝓤) (b : ℕ) wher
     run_out within =
         let run = take n (drop_list i ps) in
         let rest = drop_list (i + n) ps in
-        let long : n ≡ length run = omega (arith, length-take n (drop_list i ps), length-drop i ps) in
-        qed 𝓛 (‵ (On o ps) ∷ []) ∵
-        rewrite ! 0 (λ l. ‵ (On o l)) (sym (take-append-drop i ps) ∙ ap (λ l. take i ps ++ l)
-        (sym (take-append-drop n (drop_list i ps)) ∙ ap (λ l. run ++ l) (drop-drop n i ps))) refl $
+        qed 𝓛 (‵ (On o ps) ∷ []) ∵ rewrite ! 0 (λ l. ‵ (On o l)) (sym (unspliced ps i n)) refl $
         use1 𝓛 (‵ (On o (take i ps)) ⊛ ‵ (On (i * s + o) (run ++ rest)))
         (cut E 𝓛 b (take i ps) (run ++ rest) o (i * s + o) (at_i within)) $ split ! $ move ! (1 ∷ []) $
         use1 𝓛 (‵ (On (i * s + o) run) ⊛ ‵ (On (n * s + (i * s + o)) rest))
-        (cut E 𝓛 b run rest (i * s + o) (n * s + (i * s + o)) (ap (λ k. k * s + (i * s + o)) long)) $
+        (cut E 𝓛 b run rest (i * s + o) (n * s + (i * s + o))
+        (ap (λ k. k * s + (i * s + o)) (sym (run_long ps i n within)))) $
         split ! $ move ! (2 ∷ 1 ∷ []) $ fjoin ! $ move ! (1 ∷ []) $ done !
 
     pub run_in : i + n ≤ length ps → (qs : List (Place E)) → length qs ≡ n → ent 𝓤
@@ -116,7 +114,7 @@ module _ (E : El) {M : Type 1} {𝓤 : Ura M} {𝓛 : Logic 𝓤} {K : Type 0} {
   room_out within = let run = take n (drop_list i ps) in let at = i * item_size E + o in step (λ s.
       use1 𝓛 (‵ (Row E 𝓛 b at run) ⊛ ‵ (Around E 𝓛 b o ps i n)) (run_out E 𝓛 b o ps i n within) $ split t $
       use1 𝓛 (‵ (Room E b o i n))
-      (row_room E 𝓛 b run n at (omega (arith, length-take n (drop_list i ps), length-drop i ps))) $ s)
+      (row_room E 𝓛 b run n at (run_long ps i n within)) $ s)
 
   pub room_in : i + n ≤ length ps
       → Step K 𝓛 (‵ (Row E 𝓛 b o (run_emptied i n ps)) ∷ Γ) G (‵ (Room E b o i n) ∷ ‵ (Around E 𝓛 b o ps i n) ∷ Γ) G

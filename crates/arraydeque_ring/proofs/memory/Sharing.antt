@@ -1,8 +1,8 @@
 -- A `&` to a region can be made, copied and shortened where a `&` to an item can. Assumes `Logic`.
 use Prim.Native.Nat.{ℕ, ◌+◌}
-use Rattle.std.specs.{Prelude.{List, [], ◌∷◌, length, Option, Some, None}, Mem.type_size, declared.alloc.Global.Global}
+use Rattle.std.specs.{Prelude.{List, [], ◌∷◌, Option, Some, None}, Mem.type_size, declared.alloc.Global.Global}
 use seplogic.Ra.Ura.{Ura}
-use base.Fml.{Lft, Incl, ftrue, ffalse, fsep}
+use base.Fml.{Lft, Incl, ffalse}
 use types.Logic.{Logic}
 use denote.{
   RattleType.{RattleType, RowLaws},
@@ -14,7 +14,7 @@ use denote.{
   Struct.Lending.{Lends, Lends-both, Lends-first, Lends-nothing, Lends-said, Lends-false},
 }
 use Rattle.arraydeque_ring.specs.{
-  Ownership.{place_owned, places_owned, place_lent, places_lent, within_reach, right_to_free, slots_owned, slots_lent},
+  Ownership.{place_owned, places_owned, place_lent, places_lent, within_reach, slots_owned, slots_lent},
 }
 
 module _ (R : RattleType) (L : RowLaws R) where
@@ -31,21 +31,17 @@ module _ (R : RattleType) (L : RowLaws R) where
 module _ {M : Type 1} {𝓤 : Ura M} (𝓛 : Logic 𝓤) (l : Lft) (R : RattleType) (L : Laws R) (lives : Incl l R.lives) where
   Lends-place : (b o : ℕ) (p : Option R.Denot) → Lends 𝓛 (place_owned R b o p) (place_lent R b o p) l
   Lends-place b o (Some x) = λ κ ts. Shares-less 𝓛 R R.lives l lives (L.shares 𝓛) x κ ts b o
-  Lends-place b o None = Lends-nothing 𝓛 (place_owned R b o None) l
+  Lends-place b o None = Lends-nothing 𝓛 _ l
 
   Lends-places : (b o : ℕ) (ps : List (Option R.Denot)) → Lends 𝓛 (places_owned R b o ps) (places_lent R b o ps) l
-  Lends-places b o [] = Lends-nothing 𝓛 ftrue l
+  Lends-places b o [] = Lends-nothing 𝓛 _ l
   Lends-places b o (p ∷ ps) =
       let on = o + type_size R in
-      Lends-both 𝓛 (place_owned R b o p) (places_owned R b on ps) (place_lent R b o p)
-      (places_lent R b on ps) l (Lends-place b o p) (Lends-places b on ps)
+      Lends-both 𝓛 _ _ (place_lent R b o p) (places_lent R b on ps) l (Lends-place b o p) (Lends-places b on ps)
 
   pub Lends-slots : (alloc : Global) (at : Ptr) (ps : List (Option R.Denot))
       → Lends 𝓛 (slots_owned R alloc at ps) (slots_lent R at ps) l
   Lends-slots alloc (block_ptr b o) ps =
-      let reach = within_reach R o ps in
-      let free = right_to_free R alloc (length ps) (block_ptr b o) in
-      Lends-both 𝓛 reach (fsep (places_owned R b o ps) free) (said reach)
-      (places_lent R b o ps) l (Lends-said 𝓛 reach tt l)
-      (Lends-first 𝓛 (places_owned R b o ps) free (places_lent R b o ps) l (Lends-places b o ps))
+      let shown = places_lent R b o ps in let reach = within_reach R o ps in
+      Lends-both 𝓛 _ _ (said reach) shown l (Lends-said 𝓛 reach tt l) (Lends-first 𝓛 _ _ shown l (Lends-places b o ps))
   Lends-slots alloc null_ptr ps = Lends-false 𝓛 (said ffalse) l

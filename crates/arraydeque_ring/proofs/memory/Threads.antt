@@ -68,10 +68,8 @@ module _ (R : RattleType) where
   pub Slots-sync : IsSync R → IsSync (inside.the_row R)
   Slots-sync y =
       let O = inside.the_type R in
-      let all : AllSync (fields O) = search sendable depth 20 in
-      record {
-        shared = λ d b o κ. ((struct_sync (shape O) all).shared (to O d) b o κ, slots_lent-Common y d.ptr d.places κ);
-      }
+      let all = struct_sync (shape O) (search sendable depth 20) in
+      record { shared = λ d b o κ. (all.shared (to O d) b o κ, slots_lent-Common y d.ptr d.places κ) }
 
 -- the name of a loan names no thread
 pub LoanName-send : (κ : NamedLft) (R : RattleType) → IsSend (loan_name.the_row κ R)

@@ -2,7 +2,7 @@
 -- and room for it in another region, and puts both back. Assumes `Logic`.
 use Rattle.arraydeque_ring.{
   proofs.memory.{
-    Kit.{◌≡◌, refl, [], ◌∷◌, ◌++◌, ◌+◌, ◌*◌, arith, length, take, drop_list, id⊢, full_share, ftrue, froom, flft},
+    Kit.{vptr, ◌≡◌, refl, [], ◌∷◌, ◌++◌, ◌+◌, ◌*◌, arith, length, take, drop_list, id⊢, full_share, ftrue, froom, flft},
     Kit.{inst_fn, w64, ty_array, vunit, vint, tables, owns, ‵, raw, ◌⊛◌, ◌$◌, !, move, use1, drop, split, join, fjoin},
     Kit.{feq_i, suffices, done, whole, sub, look_in, of_opd, unit_lit, bin, load, stop, fld, no_more, and_then, first},
     Kit.{blocks, returns, alloc_all, pass_all, free_all, look_at, get, through, sets, lands_last, usize, RawPtr},
@@ -15,7 +15,7 @@ use Rattle.arraydeque_ring.{
   },
   specs.Gaps.run_emptied,
 }
-use denote.{Plain.Nothing-Lawful, RawPtr.rawptr_vals}
+use denote.Plain.{Nothing-Lawful}
 use Rattle.std.specs.contracts.ptr.copy_nonoverlapping as copy
 use Rattle.std.proofs.ptr.copy_nonoverlapping.Met as copy_thm
 use Rattle.arraydeque_ring.specs.contracts.slots.Slots.copy_over as f
@@ -31,12 +31,8 @@ copy_over_spec 𝓤 𝓛 𝓜 𝓡 wired X L =
     (f.clauses X 𝓛 𝓜.mem 𝓡.returns) _ _ (code.unfolded 𝓤 𝓛.H 𝓜 𝓡 wired (X, tt))
     (λ κs qs bounds a _ fit post ends.
     let κ₂ = κs.1.1.0 in let q₂ = qs.1.1.0 in
-    let r = a.0.now in
-    let ps = r.places in
-    let r' = a.1.1.0.now in
-    let ts = r'.places in
-    let from = a.1.0 in let to = a.1.1.1.0 in let n = a.1.1.1.1.0 in
-    let n_fits = fit.1.1.0.1 in let s = item_size E in
+    let r = a.0.now in let ps = r.places in let r' = a.1.1.0.now in let ts = r'.places in
+    let from = a.1.0 in let to = a.1.1.1.0 in let n = a.1.1.1.1.0 in let s = item_size E in
     first_fact ! (λ lives. first_fact ! (λ filled. heard ! _ (λ empty.
     let within = filled.0 in let target = empty.0 in let xs = filled.1.0 in
     let es = run_emptied from n ps in
@@ -69,13 +65,12 @@ copy_over_spec 𝓤 𝓛 𝓜 𝓡 wired X L =
         (q₂, tt),
         tt,
         (block_ptr b src, (block_ptr b' dst, (n, tt))),
-        (rawptr_vals (block_ptr b src), (rawptr_vals (block_ptr b' dst), (vint w64 n ∷ [], tt))),
+        (vptr b src ∷ [], (vptr b' dst ∷ [], (vint w64 n ∷ [], tt))),
       ),
       xs,
     ) in
     knows ! (run_fits E ok n (omega arith)).1 $ join ! $ knows ! lives $ join ! $
-    pure_i ! (owns (RawPtr ∷ RawPtr ∷ usize ∷ []) z.0.3 z.0.4) (tt, (tt, ((tt, tt), tt)))
-    (refl, (refl, ((refl, n_fits.fits), tt))) $ move ! (14 ∷ 0 ∷ []) $ join ! $ join ! $
+    pure_i ! (owns (RawPtr ∷ RawPtr ∷ usize ∷ []) z.0.3 z.0.4) _ (refl, (refl, ((refl, fit.1.1.0.1.fits), tt))) $ move ! (14 ∷ 0 ∷ []) $ join ! $ join ! $
     use1 𝓛 (raw (Copies.pre z)) (id⊢ 𝓤 _) $
     calls_at_last ! (framed 𝓤 𝓛.H 𝓜 𝓣) Copies
     (copy_thm.met 𝓤 𝓛 𝓜 𝓡 (code.calls-std::ptr::copy_nonoverlapping 𝓡.env wired) X L) z

@@ -41,7 +41,8 @@ give_back_spec 𝓤 𝓛 𝓜 𝓡 wired X L =
     let Gives = Deallocates 𝓛 𝓜.mem 𝓡.returns in
     let z = to_deallocate 𝓛 𝓜.mem 𝓡.returns E n κ q hp h b o in
     let out =
-    suffices ! _ (ends vunit tt tt) $ feq_i ! _ (vunit ∷ []) _ refl $ frame ! $ join ! $ nothing ! $ move ! (1 ∷ []) $ done ! in
+    suffices ! _ (ends vunit tt tt) $ feq_i ! _ (vunit ∷ []) _ refl $ frame ! $ join ! $ nothing ! $ move ! (1 ∷ []) $
+    done ! in
     sets ! (of_opd ! (get_in ! (fld ! refl (stop !)) (sub ! 0 refl (whole !)))) refl (tt, tt) $
     sets ! (of_opd ! (get_in ! (fld ! refl (stop !)) (sub ! 1 refl (whole !)))) refl (tt, record { fits = ok.word }) $
     sets ! (scaled ! (get ! refl) bytes) refl (tt, record { fits = bytes }) $

@@ -28,8 +28,7 @@ move_block_spec 𝓤 𝓛 𝓜 𝓡 wired X N L N_fits =
     let here = inst_fn types code.function in
     method 2 3 (Sr E) 𝓛 (comes_back 2 𝓛 _) 𝓜 𝓡 _ _ (f.clauses X (number N) 𝓛 𝓜.mem 𝓡.returns) _ _
     (code.unfolded 𝓤 𝓛.H 𝓜 𝓡 wired (X, (number N, tt))) (λ κs qs bounds a _ fit post ends.
-    let r = a.0.now in
-    let ps = r.places in
+    let r = a.0.now in let ps = r.places in let τ = ty_array (elτ E) N in let Items = Array (R E) N in
     let to = a.1.0 in let from = a.1.1.0 in let at = a.1.1.1.0 in let dst = to + at in
     let src = from + at in let s = item_size E in
     first_fact ! (λ _. first_fact ! (λ _. first_fact ! (λ filled. heard ! _ (λ target.
@@ -37,7 +36,6 @@ move_block_spec 𝓤 𝓛 𝓜 𝓡 wired X N L N_fits =
     let es = run_emptied src N ps in
     let es_long : length es ≡ length ps = grind (arith, common_steps) in
     let new : Seen E = record { places = run_moved dst src N ps; steps = r.steps } in
-    let same_new = sym (length-moved dst src N ps) in
     alloc_all ! (λ l. pass_all ! refl ((tt, tt), fit) $
     slots_open E ! tt r (λ g b o n ok.
     let to_near = near E ok to (omega arith) in let from_near = near E ok from (omega arith) in
@@ -45,9 +43,8 @@ move_block_spec 𝓤 𝓛 𝓜 𝓡 wired X N L N_fits =
     let on : (i : ℕ) → vptr b (at * s + (i * s + o)) ≡ vptr b ((i + at) * s + o) =
     λ i. ap (vptr b) (omega (arith, add-mul i at s)) in
     array_out E ! b o ps src N filled $
-    use1 𝓛 (some (λ v. ‵ (fat full_share (ty_array (elτ E) N) b (src * s + o) v)
-    ⊛ ‵ ((Array (R E) N).own_val xs (v ∷ [])))) (part_out 𝓛 (Array (R E) N) refl full_share xs b (src * s + o)) $
-    pick ! (λ v. split ! $ well_typed ! (λ v_fits.
+    use1 𝓛 (some (λ v. ‵ (fat full_share τ b (src * s + o) v) ⊛ ‵ (Items.own_val xs (v ∷ []))))
+    (part_out 𝓛 Items refl full_share xs b (src * s + o)) $ pick ! (λ v. split ! $ well_typed ! (λ v_fits.
     -- [the array; what it owns; the other places; the right; the words; the open borrow, in three; the other tokens]
     first ! $ blocks ! $
     sets ! (of_opd ! (load ! (through ! refl (fld ! refl (stop !))) (look_in ! 4 (sub ! 0 refl (whole !)))))
@@ -66,17 +63,17 @@ move_block_spec 𝓤 𝓛 𝓜 𝓡 wired X N L N_fits =
     sets ! (of_opd ! (get ! refl)) refl (tt, tt) $
     sets ! (of_opd ! (load ! (through ! refl (stop !)) (look ! 0 refl))) refl v_fits $
     -- the source is empty, and the target is room
-    use1 𝓛 (‵ (froom (ty_array (elτ E) N) b (src * s + o))) (𝓛.laws.at_room (ty_array (elτ E) N) b (src * s + o) v) $
+    use1 𝓛 (‵ (froom τ b (src * s + o))) (𝓛.laws.at_room τ b (src * s + o) v) $
     move ! (0 ∷ 2 ∷ []) $ room_in E ! b o ps src N within $ room_out E ! b o es dst N (omega arith) $
     assigns_last ! (of_opd ! (get ! refl)) (through ! refl (stop !)) (init ! 0 refl v_fits) $
     after_block ! 𝓡 here l 1 post $
     sets ! (of_opd ! (unit_lit !)) refl (tt, tt) $
     -- [the array; the other places; what the array owns; ..]
-    move ! (0 ∷ 2 ∷ []) $ use2 𝓛 (‵ (part_at (Array (R E) N) full_share xs b (dst * s + o)))
-    (part_in 𝓛 (Array (R E) N) refl full_share xs b (dst * s + o) v) $
+    move ! (0 ∷ 2 ∷ []) $ use2 𝓛 (‵ (part_at Items full_share xs b (dst * s + o)))
+    (part_in 𝓛 Items refl full_share xs b (dst * s + o) v) $
     array_in E ! b o es dst N (omega arith) xs filled.1.1 $
     rewrite ! 0 (λ l. ‵ (Row E 𝓛 b o l)) (moved_parts ps dst src N within target) refl $
-    slots_close E ! tt new ok same_new $
+    slots_close E ! tt new ok (sym (length-moved dst src N ps)) $
     returns ! (look_at ! 0 refl) $ free_all ! refl $
     suffices ! _ (ends vunit tt (new, tt)) $ frame ! $ frame ! $
     feq_i ! _ (vunit ∷ []) _ refl $ frame ! $ join ! $ says ! refl $ done !)))))))))

@@ -22,16 +22,15 @@ read_spec 𝓤 𝓛 𝓜 𝓡 wired X L =
     method 1 1 (Sr E) 𝓛 (comes_back 1 𝓛 _) 𝓜 𝓡 _ _ (f.clauses X 𝓛 𝓜.mem 𝓡.returns) _ _
     (code.unfolded 𝓤 𝓛.H 𝓜 𝓡 wired (X, tt)) (λ κs qs bounds a _ fit post ends.
     let r = a.0.now in let i = a.1.0 in
-    let s = item_size E in
     first_fact ! (λ _. heard ! _ (λ asked.
     let x = asked.0 in let within = filled_within r.places i x asked.1 in
     alloc_all ! (λ l. pass_all ! refl ((tt, tt), fit) $
     slots_open E ! tt r (λ g b o n ok.
-    let far = near E ok i (omega arith) in
+    let far = near E ok i (omega arith) in let at = i * item_size E + o in
     let new : Seen E = record r { places = set r.places i None } in
     place_out E ! b o r.places i within asked.1 $
-    use1 𝓛 (some (λ v. ‵ (fat full_share (elτ E) b (i * s + o) v) ⊛ ‵ (X.own_val x (v ∷ []))))
-    (part_out 𝓛 (R E) refl full_share x b (i * s + o)) $ pick ! (λ v. split ! $ well_typed ! (λ v_fits.
+    use1 𝓛 (some (λ v. ‵ (fat full_share (elτ E) b at v) ⊛ ‵ (X.own_val x (v ∷ []))))
+    (part_out 𝓛 (R E) refl full_share x b at) $ pick ! (λ v. split ! $ well_typed ! (λ v_fits.
     -- [the value; what x owns; the other places; the right; the words; the open borrow, in three; the other token]
     first ! $ blocks ! $
     sets ! (of_opd ! (load ! (through ! refl (fld ! refl (stop !))) (look_in ! 4 (sub ! 0 refl (whole !)))))
@@ -41,10 +40,8 @@ read_spec 𝓤 𝓛 𝓜 𝓡 wired X L =
     sets_last ! (of_opd ! (load ! (through ! refl (stop !)) (look ! 0 refl))) refl v_fits $
     after_block ! 𝓡 here l 1 post $
     sets ! (of_opd ! (get ! refl)) refl v_fits $
-    use1 𝓛 (‵ (froom (elτ E) b (i * s + o))) (𝓛.laws.at_room (elτ E) b (i * s + o) v) $ as_raw ! (elτ E) b (i * s + o) $
+    use1 𝓛 (‵ (froom (elτ E) b at)) (𝓛.laws.at_room (elτ E) b at v) $ as_raw ! (elτ E) b at $
     move ! (0 ∷ 2 ∷ 3 ∷ 4 ∷ 5 ∷ 6 ∷ 7 ∷ []) $
     place_in E ! b o r.places i within None $
-    slots_close E ! tt new ok (sym (length-set r.places i None)) $ returns ! (look_at ! 0 refl) $
-    free_all ! refl $
-    suffices ! _ (ends v x (new, tt)) $ frame ! $ frame ! $
-    move ! (1 ∷ []) $ frame ! $ join ! $ says_two ! (asked.1, refl) $ done !)))))))
+    slots_close E ! tt new ok (sym (length-set r.places i None)) $ returns ! (look_at ! 0 refl) $ free_all ! refl $
+    suffices ! _ (ends v x (new, tt)) $ frame ! $ frame ! $ move ! (1 ∷ []) $ frame ! $ join ! $ says_two ! (asked.1, refl) $ done !)))))))

@@ -23,9 +23,7 @@ slice_spec 𝓤 𝓛 𝓜 𝓡 wired X L =
     let E : El = record { row = X; laws = L } in let here = inst_fn (args E) code.function in
     walked 1 𝓛 (seen (Sr E) (words 2)) 𝓜 𝓡 _ _ (f.clauses X 𝓛 𝓜.mem 𝓡.returns) _ _
     (code.unfolded 𝓤 𝓛.H 𝓜 𝓡 wired (X, tt)) (λ κs qs bounds a _ fit post ends.
-    let κ = κs.0 in
-    let rb = a.0.ref_ptr.0 in let ro = a.0.ref_ptr.1 in let r = a.0.now in let i = a.1.0 in
-    let len = a.1.1.0 in
+    let rb = a.0.ref_ptr.0 in let ro = a.0.ref_ptr.1 in let r = a.0.now in let i = a.1.0 in let len = a.1.1.0 in
     let len_fits = fit.1.1.0.1 in let s = item_size E in
     first_fact ! (λ _. heard ! _ (λ asked.
     let within = asked.0 in let xs = asked.1.0 in let held = asked.1.1 in
@@ -33,7 +31,7 @@ slice_spec 𝓤 𝓛 𝓜 𝓡 wired X L =
     fsplit ! $ drop ! $ slots_seen E ! r rb ro (λ p b o at reach.
     let all : length r.places * s < 2 ^ 63 = omega arith in
     let far : i * s < 2 ^ 64 = omega (arith, times_below i (length r.places) s (2 ^ 63) (omega arith) all) in
-    use1 𝓛 (‵ (elements_shared (R E) xs b (i * s + o) κ)) (run_seen E 𝓛 b κ o r.places i len xs held) $
+    use1 𝓛 (‵ (elements_shared (R E) xs b (i * s + o) κs.0)) (run_seen E 𝓛 b κs.0 o r.places i len xs held) $
     hide ! $
     -- [the values; the pointer; its token; the other tokens]
     move ! (1 ∷ 2 ∷ 3 ∷ []) $
@@ -54,9 +52,7 @@ slice_spec 𝓤 𝓛 𝓜 𝓡 wired X L =
     sets ! (of_opd ! (get ! refl)) refl (tt, (tt, (len_fits, tt))) $
     returns ! (look_at ! 0 refl) $ free_all ! refl $
     suffices ! _ (ends (slice_val run len) (record { ref_ptr = run; now = xs }) tt) $
-    join ! $ move ! (1 ∷ []) $
-    flt_i ! (length xs * s) (2 ^ 63) (times_below (length xs) (length r.places) s (2 ^ 63) (omega arith) all) $
+    move ! (2 ∷ []) $ flt_i ! _ (2 ^ 63) (times_below (length xs) (length r.places) s (2 ^ 63) (omega arith) all) $
     flt_i ! (length xs) (2 ^ 64) (omega arith) $ fjoin ! $
-    feq_i ! (List Val) (slice_val run len ∷ []) (slice_val run (length xs) ∷ [])
-    (ap (λ k. slice_val run k ∷ []) (sym long)) $ fjoin ! $ fjoin ! $
-    frame ! $ says ! held $ done !)))))))
+    feq_i ! _ _ _ (ap (λ (k : ℕ). slice_val run k ∷ []) (sym long)) $ fjoin ! $ fjoin ! $
+    frame ! $ join ! $ says ! held $ done !)))))))

@@ -31,7 +31,7 @@ with_memory_spec 𝓤 𝓛 𝓜 𝓡 wired X L =
     walked 1 𝓛 (seen heap.the_row (handle (words 1))) 𝓜 𝓡 _ _ (f.clauses X 𝓛 𝓜.mem 𝓡.returns) _ _
     (code.unfolded 𝓤 𝓛.H 𝓜 𝓡 wired (X, tt)) (λ κs qs bounds a _ fit post ends.
     let κ = κs.0 in let q = qs.0 in
-    let rb = a.0.ref_ptr.0 in let ro = a.0.ref_ptr.1 in let h = a.0.now in let g = a.1.0 in
+    let p = a.0.ref_ptr in let h = a.0.now in let g = a.1.0 in
     let n = a.1.1.0 in let n_fits = fit.1.1.0.1.fits in let s = item_size E in
     first_fact ! (λ _. first_fact ! (λ some. heard ! _ (λ named_by.
     let bytes : n * s < 2 ^ 64 = omega arith in
@@ -42,13 +42,13 @@ with_memory_spec 𝓤 𝓛 𝓜 𝓡 wired X L =
     let arms = head (after 2 here.body) in
     let Then = any_q (after_seq 𝓤 𝓛.H _ (at_return 𝓤 𝓛.H En post)) in
     let Asks = Allocates 𝓛 𝓜.mem 𝓡.returns in
-    let z = to_allocate 𝓛 𝓜.mem 𝓡.returns E n κ q (rb, ro) h in
+    let z = to_allocate 𝓛 𝓜.mem 𝓡.returns E n κ q p h in
     sets ! (scaled ! (get ! refl) bytes) refl (tt, record { fits = bytes }) $
-    use2 𝓛 (raw (Asks.pre z)) (allocate_goes 𝓛 𝓜.mem 𝓡.returns E n κ q (rb, ro) h bytes) $
+    use2 𝓛 (raw (Asks.pre z)) (allocate_goes 𝓛 𝓜.mem 𝓡.returns E n κ q p h bytes) $
     calls_at ! (framed 𝓤 𝓛.H 𝓜 𝓣) Asks
     (met 𝓤 𝓛 𝓜 𝓡 (code.calls-std_heap::GlobalAllocator::allocate 𝓡.env wired)) z
     (and_then ! (get ! refl) (and_then ! (get ! refl) (and_then ! (align_word !) (no_more !)))) (λ v.
-    allocated ! tt 𝓜.mem 𝓡.returns E n κ q (rb, ro) h v
+    allocated ! tt 𝓜.mem 𝓡.returns E n κ q p h v
     (λ b o e.
     let r = empty_region n in
     let made = slots_val b o n in let typed = slots_Good E b o n n_fits in
@@ -67,7 +67,7 @@ with_memory_spec 𝓤 𝓛 𝓜 𝓡 wired X L =
     move ! (1 ∷ 0 ∷ []) $
     slots_made E ! (Fits-empty E o n n_fits (omega arith)) $
     use1 𝓛 (‵ (Out.own_val (Ok r) (live 0 (vcons made vnil) ∷ []))) (ok_of 𝓛 (Sr E) refusals.the_row r made) $
-    returns ! (look_at ! 0 refl) $ free_all ! refl $ keep ! (0 ∷ 1 ∷ 2 ∷ []) $
+    returns ! (look_at ! 0 refl) $ free_all ! refl $
     suffices ! _ (ends (live 0 (vcons made vnil)) (Ok r) tt) $ frame ! $ join ! $ says ! refl $ done !))
     (λ e.
     let Refusal = Struct (Declared.shape refusals.the_type) in
@@ -85,5 +85,5 @@ with_memory_spec 𝓤 𝓛 𝓜 𝓡 wired X L =
     (tt, (refl, tt)) $
     use1 𝓛
     (‵ (Out.own_val (Err (record {})) (none ∷ []))) (err_of 𝓛 (Sr E) refusals.the_row (record {}) (vstruct vnil)) $
-    returns ! (look_at ! 0 refl) $ free_all ! refl $ keep ! (0 ∷ 1 ∷ 2 ∷ []) $
+    returns ! (look_at ! 0 refl) $ free_all ! refl $
     suffices ! _ (ends none (Err (record {})) tt) $ frame ! $ join ! $ says ! tt $ done !)))))))

@@ -18,14 +18,14 @@ write_spec 𝓤 𝓛 𝓜 𝓡 wired X L =
     walked 1 𝓛 (mutable (comes_back 1 𝓛 (Sr E)) (word (item E (words 0)))) 𝓜 𝓡 _ _ (f.clauses X 𝓛 𝓜.mem 𝓡.returns)
     _ _ (code.unfolded 𝓤 𝓛.H 𝓜 𝓡 wired (X, tt)) (λ κs qs bounds a _ fit post ends.
     let r = a.0.now in let i = a.1.0 in
-    let x = a.1.1.0 in let v = fit.1.0.0 in let v_fits = fit.1.0.1 in let s = item_size E in
+    let x = a.1.1.0 in let v = fit.1.0.0 in let v_fits = fit.1.0.1 in
     first_fact ! (λ _. heard ! _ (λ asked. let within = asked.0 in
     alloc_all ! (λ l. pass_all ! refl ((tt, tt), (fit.0, (v_fits, tt))) $ move ! (0 ∷ 1 ∷ 3 ∷ []) $
     slots_open E ! tt r (λ g b o n ok.
-    let far = near E ok i (omega arith) in
+    let far = near E ok i (omega arith) in let at = i * item_size E + o in
     let new : Seen E = record r { places = set r.places i (Some x) } in
     place_out E ! b o r.places i within asked.1 $
-    as_written ! (elτ E) b (i * s + o) $
+    as_written ! (elτ E) b at $
     -- [the room; the other places; the right; the words; the open borrow, in three; what x owns; the other token]
     first ! $ blocks ! $
     sets ! (of_opd ! (load ! (through ! refl (fld ! refl (stop !))) (look_in ! 3 (sub ! 0 refl (whole !)))))
@@ -35,8 +35,8 @@ write_spec 𝓤 𝓛 𝓜 𝓡 wired X L =
     assigns_last ! (of_opd ! (get ! refl)) (through ! refl (stop !)) (init ! 0 refl v_fits) $
     after_block ! 𝓡 here l 1 post $
     sets ! (of_opd ! (unit_lit !)) refl (tt, tt) $
-    move ! (0 ∷ 7 ∷ []) $ use2 𝓛 (‵ (place_owned (R E) b (i * s + o) (Some x)))
-    (part_in 𝓛 (R E) refl full_share x b (i * s + o) v) $
+    move ! (0 ∷ 7 ∷ []) $ use2 𝓛 (‵ (place_owned (R E) b at (Some x)))
+    (part_in 𝓛 (R E) refl full_share x b at v) $
     place_in E ! b o r.places i within (Some x) $
     slots_close E ! tt new ok (sym (length-set r.places i (Some x))) $
     returns ! (look_at ! 0 refl) $ free_all ! refl $
