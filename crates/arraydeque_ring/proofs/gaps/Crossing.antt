@@ -1,27 +1,6 @@
 -- A run of values that moves across a run of empty places, read from the start on.
-use Rattle.std.{
-  proofs.{
-    Common.{◌≡◌, ◌≢◌, ◌==◌, ℕ, ◌+◌, ◌-◌, ◌<◌, ◌≤◌, ◌⊎◌, inl, inr, List, length, nat_lt, if◌then◌else◌},
-    Common.{Option, None, max, refl, sym, ap, ◌∙◌, arith},
-    lemmas.{Bool.{cases_lt, Decides.nat_tests}, Grind.common_steps, List.places},
-  },
-}
-use Rattle.arraydeque_ring.{
-  specs.{
-    Gaps.{IsEmptyRun, gap_moved},
-    Moved.{distance, MeetAtOneEndAtMost, IsFilledRound, IsFreeRound, run_moved},
-    Places.{held_at, IsFilledRun},
-    Ring.{place_of, rotated},
-  },
-  proofs.{
-    moved.{Flat.{distance_is, look}, Round.{Holds-moved, distance-rotated}},
-    places.{
-      Held.{filled_in_run, empty_in_run},
-      Holds.{Holds, Holds-of_rotated, rotated-Holds},
-      Rotated.{place_of-lt, place_of-sum, one_place, length-rotated},
-    },
-  },
-}
+use Rattle.std.{proofs.{Common.{◌≡◌, ◌≢◌, ◌==◌, ℕ, ◌+◌, ◌-◌, ◌<◌, ◌≤◌, ◌⊎◌, inl, inr, List, length, nat_lt, if◌then◌else◌}, Common.{Option, None, max, refl, sym, ap, ◌∙◌, arith}, lemmas.{Bool.{Decides.nat_tests}, Grind.common_steps, List.places}}}
+use Rattle.arraydeque_ring.{specs.{Gaps.{IsEmptyRun, gap_moved}, Moved.{distance, MeetAtOneEndAtMost, IsFilledRound, IsFreeRound, run_moved}, Places.{held_at, IsFilledRun}, Ring.{place_of, rotated}}, proofs.{moved.{Flat.{distance_is, look}, Round.{Holds-moved, distance-rotated}}, places.{Held.{filled_in_run, empty_in_run}, Holds.{Holds-of_rotated, rotated-Holds}, Rotated.{place_of-lt, place_of-sum, one_place, length-rotated}}}}
 
 module _ {X : Type 0} (from to gap : ℕ) (ps : List (Option X)) (from_in : from + gap ≤ length ps)
     (to_in : to + gap ≤ length ps) where

@@ -4,23 +4,7 @@ use Rattle.std.proofs.{
   Common.{sym, ap, ◌∙◌, arith},
   lemmas.{Bool.Decides.nat_tests, List.{append-nil}},
 }
-use Rattle.arraydeque_ring.{
-  specs.{
-    Gaps.{IsEmptyRun, run_rotated},
-    Places.{held_at, IsFilledRun},
-    Ring.{rotated, filled, FilledFrom},
-    Exchanged.runs_exchanged,
-  },
-  proofs.{
-    places.{
-      Reads.{rotated_from, length-run_rotated, get_or-run_rotated, exchanged_from, length-runs_exchanged},
-      Reads.{get_or-runs_exchanged, runs_exchanged_both},
-      Rotated.{length-rotated, rotated-map},
-      Held.{filled_run_of, empty_run_of},
-    },
-    linearize.Underway.{are_rotated, Underway, underway, len_within, filled_now, empty_now},
-  },
-}
+use Rattle.arraydeque_ring.{specs.{Gaps.{IsEmptyRun, run_rotated}, Places.{held_at, IsFilledRun}, Ring.{rotated, filled, FilledFrom}, Exchanged.runs_exchanged}, proofs.{places.{Reads.{length-run_rotated, get_or-run_rotated, exchanged_from, length-runs_exchanged}, Reads.{get_or-runs_exchanged, runs_exchanged_both}, Rotated.{length-rotated, rotated-map}, Held.{filled_run_of, empty_run_of}}, linearize.Underway.{are_rotated, Underway, underway, len_within, filled_now, empty_now}}}
 
 -- a pass: of `run` values that come to their places, x do by an exchange, and the others then into empty places
 pub record Pass {X : Type 0} (dst next run x : ℕ) (ps : List (Option X)) : Type 0 where

@@ -1,17 +1,5 @@
 -- A `Ring` in memory is taken apart into its slots and its other fields, and made of them again. Assumes `Logic`.
-use Rattle.arraydeque_ring.{
-  proofs.{
-    memory.{
-      Kit.{via, ◌≡◌, List, [], ◌∷◌, ℕ, ◌+◌, Ura, full_share, SProp, ent, sep, w64, Logic, sem, RattleType, part_at},
-      Kit.{Seq, Goal, Item, some, raw, ‵, ◌⊛◌, ◌$◌, pick, use1, split3, usize, param_laws, Fml, El, R, el_x, part_of},
-      Kit.{lone},
-      Regions.Sr,
-    },
-    loans.Lending.with_slots,
-    places.Opened.{Opened, opened, view, Kept, closed, kept},
-  },
-  specs.{Places.Region, Ring.RingState, declared.ring.Ring.TheInside.Inside},
-}
+use Rattle.arraydeque_ring.{proofs.{memory.{Kit.{via, ◌≡◌, List, [], ◌∷◌, ℕ, ◌+◌, Ura, full_share, ent, sep, w64, Logic, sem, RattleType, part_at}, Kit.{Seq, Goal, Item, some, raw, ‵, ◌⊛◌, ◌$◌, pick, use1, split3, usize, param_laws, El, R, el_x, part_of}, Kit.{lone}, Regions.Sr}, loans.Lending.with_slots, places.Opened.{Opened, opened, view, Kept, closed, kept}}, specs.{Places.Region, Ring.RingState, declared.ring.Ring.TheInside.Inside}}
 use denote.{
   Laws.Lawfuls,
   Model.Fields.{plain_out, Plain-in, view_made},

@@ -1,13 +1,5 @@
 -- Places and runs of them: what is filled, empty, and exchanged.
-use Rattle.std.proofs.{
-  Common.{◌≡◌, ◌≢◌, ℕ, zero, suc, ◌+◌, ◌<◌, ◌≤◌, List, [], ◌∷◌, ◌++◌, length, take, drop, set, get_or, slice_get, swap},
-  Common.{length-set, Option, Some, None, refl, sym, ap, ◌∙◌, subst, add-one, arith},
-  lemmas.{
-    Grind.common_steps,
-    List.{length-map, length-take, length-take-le, length-drop, map-append, take_more, get_or-take, get_or-drop, get_or-replicate},
-    List.{get_or_past, get_or-set_other, Edits.swap_is},
-  },
-}
+use Rattle.std.proofs.{Common.{◌≡◌, ◌≢◌, ℕ, zero, suc, ◌+◌, ◌<◌, ◌≤◌, List, [], ◌∷◌, ◌++◌, length, take, drop, set, get_or, slice_get, swap}, Common.{length-set, Option, Some, None, refl, sym, ap, ◌∙◌, subst, add-one, arith}, lemmas.{Grind.common_steps, List.{length-map, length-take, length-drop, map-append, take_more, get_or-drop, get_or-replicate}, List.{get_or_past, get_or-set_other, Edits.swap_is}}}
 use Rattle.arraydeque_ring.{
   specs.{Places.{held_at, IsFilled, HoldsRun, IsFilledRun}, Gaps.IsEmptyRun},
   proofs.{moved.Flat.same_places, places.Items.{items, get_or-map_Some, slice_get_some}},

@@ -1,32 +1,6 @@
 -- What the places of a ring hold, read from its start on: first its items, then nothing.
-use Rattle.std.proofs.{
-  Common.{◌≡◌, ◌≢◌, ℕ, ◌+◌, ◌-◌, ◌<◌, ◌≤◌, List, [], ◌∷◌, ◌++◌, map, length, take, drop, set, get_or, replicate},
-  Common.{slice_get},
-  Common.{nat_lt, if◌then◌else◌, Option, Some, None, is_some, refl, sym, ap, ◌∙◌, swap, arith},
-  lemmas.{
-    Grind.common_steps,
-    List.{append-nil, length-append, length-take, length-drop, length-map, length-replicate, length-set, Edits.swap_is},
-    Option.{get_or_from_slice_get, slice_get_past},
-  },
-}
-use Rattle.arraydeque_ring.{
-  specs.{
-    Moved.distance,
-    Places.{held_at, IsFilled, IsEmpty, HoldsRun, IsFilledRun, AreAllEmpty},
-    Ring.{place_of, rotated, values, filled, FilledFrom},
-  },
-  proofs.{
-    moved.Flat.same_places,
-    places.{
-      AndEmpty.{and_empty, length-and_empty, get_or-and_empty, values-and_empty, values-map_Some, filled-and_empty},
-      AndEmpty.{and_empty_from},
-      Held.holds_run_of,
-      Holds.{Holds, Holds-each, Holds-of_rotated, Holds-rotated, rotated-Holds, Holds-from, Holds-set},
-      Items.{items, slice_get_some, slice_get-cons},
-      Rotated.{MayStartAt, place_of-lt, place_of-run, place_of-zero, place_of_cases, length-rotated, rotated-map},
-    },
-  },
-}
+use Rattle.std.proofs.{Common.{◌≡◌, ℕ, ◌+◌, ◌-◌, ◌<◌, ◌≤◌, List, [], map, length, take, drop, set, replicate}, Common.{slice_get}, Common.{nat_lt, if◌then◌else◌, Option, Some, None, is_some, refl, sym, ap, ◌∙◌, swap, arith}, lemmas.{Grind.common_steps, List.{append-nil, length-drop, length-map, length-replicate, length-set, Edits.swap_is}, Option.{get_or_from_slice_get}}}
+use Rattle.arraydeque_ring.{specs.{Places.{held_at, IsFilled, HoldsRun, IsFilledRun, AreAllEmpty}, Ring.{place_of, rotated, values, filled, FilledFrom}}, proofs.{moved.Flat.same_places, places.{AndEmpty.{and_empty, length-and_empty, get_or-and_empty, values-and_empty, values-map_Some, filled-and_empty}, AndEmpty.{and_empty_from}, Held.holds_run_of, Holds.{Holds, Holds-each, Holds-of_rotated, Holds-rotated, rotated-Holds, Holds-from, Holds-set}, Items.{items, slice_get_some}, Rotated.{MayStartAt, place_of-run, place_of-zero, place_of_cases, length-rotated, rotated-map}}}}
 
 -- the n places hold the items from the place t on, round the end, and nothing else
 pub record LaidOut {X : Type 0} (n t : ℕ) (xs : List X) (ps : List (Option X)) : Type 0 where

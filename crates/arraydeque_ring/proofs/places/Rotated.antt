@@ -1,10 +1,5 @@
 -- A list read from an index on, round its end.
-use Rattle.std.proofs.{
-  Common.{◌≡◌, ℕ, zero, suc, ◌+◌, ◌-◌, ◌%◌, ◌<◌, ◌≤◌, ◌⊎◌, ◌==◌, inl, inr, List, map, length, take, drop, get_or},
-  Common.{sym, ap, ◌∙◌, arith},
-  Math.Nat.{mod-eq_of_lt, mod-eq-sub-mod, add-mod-mod, mod-add-mod, add_assoc},
-  lemmas.{Bool.{cases_lt}, List.{places, length-append, length-take, length-drop, map-append, drop-map, take-map}},
-}
+use Rattle.std.proofs.{Common.{◌≡◌, ℕ, zero, suc, ◌+◌, ◌-◌, ◌%◌, ◌<◌, ◌≤◌, ◌⊎◌, ◌==◌, inl, inr, List, map, length, get_or}, Common.{sym, ap, ◌∙◌, arith}, Math.Nat.{mod-eq_of_lt, mod-eq-sub-mod, add-mod-mod, mod-add-mod, add_assoc}, lemmas.{Bool.{cases_lt}, List.{places, map-append, drop-map, take-map}}}
 use Rattle.arraydeque_ring.specs.Ring.{place_of, rotated}
 
 -- a place is the sum itself below the end, and the sum less the capacity past it
