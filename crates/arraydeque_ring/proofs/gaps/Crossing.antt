@@ -1,10 +1,8 @@
 -- A run of values that moves across a run of empty places, read from the start on.
-use Rattle.std.{
-  proofs.{
-    Common.{◌≡◌, ◌≢◌, ◌==◌, ℕ, ◌+◌, ◌-◌, ◌<◌, ◌≤◌, ◌⊎◌, inl, inr, List, length, nat_lt, if◌then◌else◌},
-    Common.{Option, None, max, refl, sym, ap, ◌∙◌, arith},
-    lemmas.{Bool.{cases_lt, Decides.nat_tests}, Grind.common_steps, List.places},
-  },
+use Rattle.std.proofs.{
+  Common.{◌≡◌, ◌≢◌, ◌==◌, ℕ, ◌+◌, ◌-◌, ◌<◌, ◌≤◌, ◌⊎◌, inl, inr, List, length, nat_lt, if◌then◌else◌, Option, None, max},
+  Common.{refl, sym, ap, ◌∙◌, arith},
+  lemmas.{Bool.Decides.nat_tests, Grind.common_steps, List.places},
 }
 use Rattle.arraydeque_ring.{
   specs.{
@@ -14,10 +12,10 @@ use Rattle.arraydeque_ring.{
     Ring.{place_of, rotated},
   },
   proofs.{
-    moved.{Flat.{distance_is, look, same_places}, Round.{Holds-moved, distance-rotated}},
+    moved.{Flat.{distance_is, look}, Round.{Holds-moved, distance-rotated}},
     places.{
       Held.{filled_in_run, empty_in_run},
-      Holds.{Holds, Holds-of_rotated, rotated-Holds},
+      Holds.{Holds-of_rotated, rotated-Holds},
       Rotated.{place_of-lt, place_of-sum, one_place, length-rotated},
     },
   },
@@ -87,7 +85,7 @@ passed : {X : Type 0} (from to gap i j len x : ℕ) (qs : List (Option X)) → f
     → to + gap ≤ length qs → (from ≤ x → x < from + gap → held_at qs x ≡ None) → Passes from to gap i j len
     → look (held_at qs) i j len x ≡ held_at (gap_moved from to gap qs) x
 passed from to gap i j len x qs from_in to_in none ways =
-    elim ways [ | inl up ↦ grind arith | inr down ↦ grind arith ]
+    elim ways [ inl up ↦ grind arith | inr down ↦ grind arith ]
     ∙ sym (get_or-gap_moved from to gap qs from_in to_in x)
 
 pub crosses : {X : Type 0} {t len d s m : ℕ} {ps : List (Option X)} (from to gap i j : ℕ) → MayMove t from to gap ps

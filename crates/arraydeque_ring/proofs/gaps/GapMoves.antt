@@ -1,27 +1,17 @@
 -- A gap among the items of a ring that moves: it opens for an item, or is moved to an end of them, and so closed.
 use Rattle.std.proofs.{
-  Common.{◌≡◌, ℕ, ◌+◌, ◌-◌, ◌<◌, ◌≤◌, List, [], ◌++◌, length, slice_get, max, Option, None, refl},
-  Common.{sym, ap, ◌∙◌, arith},
-  lemmas.{Bool.Decides.nat_tests, List.{length-append, append-nil}},
+  Common.{◌≡◌, ℕ, ◌+◌, ◌-◌, ◌<◌, ◌≤◌, List, [], ◌++◌, length, slice_get, max, Option, None, refl, sym, ap, ◌∙◌, arith},
+  lemmas.{Bool.Decides.nat_tests, List.length-append},
 }
 use Rattle.arraydeque_ring.{
-  specs.{
-    Gaps.{IsEmptyRun, gap_moved},
-    Places.{held_at, IsFilled, IsFilledRun},
-    Ring.{place_of, rotated},
-    Sides.start_closed,
-  },
+  specs.{Gaps.{IsEmptyRun, gap_moved}, Places.{held_at, IsFilled, IsFilledRun}, Ring.{place_of, rotated}},
   proofs.{
-    moved.Flat.same_places,
-    gaps.{
-      Crossing.{MayMove, length-gap_moved, get_or-gap_moved, empty_at},
-      Gapped.{Gapped, gapped, LaidOut-gap_first, LaidOut-gap_last},
-    },
+    gaps.{Crossing.{MayMove, length-gap_moved, get_or-gap_moved, empty_at}, Gapped.{Gapped, gapped}},
     places.{
       Held.{filled_run_of, empty_run_of},
       Holds.{Holds-of_rotated, Holds-rotated, rotated-Holds, Holds-same, Holds-from},
       Items.{items, slice_get_some},
-      LaidOut.{LaidOut, holds, rotated-LaidOut},
+      LaidOut.{LaidOut, holds},
       Rotated.{place_of_cases, length-rotated},
     },
   },
@@ -139,7 +129,7 @@ closed_up t i gap m ps qs may is =
     let wide : length ts ≡ n = length-rotated t ps in
     let none = empty_at ts (i + gap + m) (n - (i + gap + m)) may.others_empty in
     let reads = Holds-of_rotated is (length-gap_moved i 0 gap ts (omega arith) (omega arith) ∙ wide) (omega arith)
-        (λ k lt. refl) in
+    (λ k lt. refl) in
     rotated-Holds (Holds-from reads gap (omega arith) (omega arith) (λ k lt. refl))
     (length-gap_moved i (i + m) gap ts (omega arith) (omega arith) ∙ wide) (λ x lt.
     get_or-gap_moved i 0 gap ts (omega arith) (omega arith) (place_of gap x n)

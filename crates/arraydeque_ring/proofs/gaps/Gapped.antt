@@ -1,15 +1,15 @@
 -- Items in two parts, with a gap of empty places between them: how it comes about, is filled and ends.
 use Rattle.std.proofs.{
   Common.{◌≡◌, ℕ, zero, suc, ◌+◌, ◌-◌, ◌<◌, ◌≤◌, List, [], ◌∷◌, ◌++◌, length, take, drop, set, slice_get, nat_lt},
-  Common.{if◌then◌else◌, Option, Some, None, sym, ap, ◌∙◌, arith},
-  lemmas.{List.{length-append, length-take-le, length-drop}},
+  Common.{if◌then◌else◌, Option, Some, None, ◌∙◌, arith},
+  lemmas.List.{length-append, length-take-le, length-drop},
 }
 use Rattle.arraydeque_ring.{
   specs.{Places.{held_at, IsEmpty}, Ring.{place_of, rotated}, Gaps.run_emptied},
   proofs.places.{
     Emptied.{length-run_emptied, get_or-run_emptied},
     Holds.{Holds, Holds-of_rotated, Holds-rotated, Holds-same, Holds-from, Holds-set},
-    Items.{items, slice_get-cons},
+    Items.items,
     LaidOut.{LaidOut, LaidOut-by, holds},
     Rotated.{place_of_cases, place_of-zero, length-rotated},
   },

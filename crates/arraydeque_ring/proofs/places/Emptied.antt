@@ -28,5 +28,10 @@ module _ {X : Type 0} where
 
     pub next_emptied : set (run_emptied at (i - at) ps) i None ≡ run_emptied at (i + 1 - at) ps
     next_emptied = same_places _ _ (search (rules, places)) (λ x x_in.
-        grind (arith, get_or-written, length-run_emptied at (i - at) ps, get_or-run_emptied at (i - at) ps x,
-        get_or-run_emptied at (i + 1 - at) ps x))
+        grind (
+          arith,
+          get_or-written,
+          length-run_emptied at (i - at) ps,
+          get_or-run_emptied at (i - at) ps x,
+          get_or-run_emptied at (i + 1 - at) ps x,
+        ))

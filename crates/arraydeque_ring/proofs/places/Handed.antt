@@ -11,12 +11,10 @@ use Rattle.std.{
   },
 }
 use Rattle.arraydeque_ring.{
-  specs.{Gaps.{IsEmptyRun, run_emptied}, Places.{IsFilledRun}, Ring.{place_of, rotated}},
+  specs.{Gaps.{IsEmptyRun, run_emptied}, Places.IsFilledRun, Ring.{place_of, rotated}},
   proofs.places.{
-    Appended.LaidOut-new,
     Emptied.length-run_emptied,
     Held.{empty_in_run, empty_run_of},
-    LaidOut.{LaidOut, HoldsRun-rotated},
     Rotated.{MayStartAt, MayStartAt-place_of, place_of_cases, place_of-lt, length-rotated, get_or-rotated},
   },
 }

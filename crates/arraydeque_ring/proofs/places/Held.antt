@@ -4,7 +4,7 @@ use Rattle.std.proofs.{
   Common.{length-set, Option, Some, None, refl, sym, ap, ◌∙◌, subst, add-one, arith},
   lemmas.{
     Grind.common_steps,
-    List.{length-map, length-take, length-take-le, length-drop, map-append, take_more, get_or-take, get_or-drop, get_or-replicate},
+    List.{length-map, length-take, length-drop, map-append, take_more, get_or-drop, get_or-replicate},
     List.{get_or_past, get_or-set_other, Edits.swap_is},
   },
 }

@@ -1,16 +1,16 @@
 -- What places hold, read one by one from a place on, round the region's end.
 use Rattle.std.proofs.{
-  Common.{◌≡◌, ◌≢◌, ℕ, ◌+◌, ◌-◌, ◌<◌, ◌≤◌, List, length, set, get_or, Option, Some, None, sym, ap, ◌∙◌},
-  Common.{arith},
-  lemmas.{List.length-set},
+  Common.{◌≡◌, ◌≢◌, ℕ, ◌-◌, ◌<◌, ◌≤◌, List, length, set, get_or, Option, None, sym, ap, ◌∙◌},
+  Common.arith,
+  lemmas.List.length-set,
 }
 use Rattle.arraydeque_ring.{
-  specs.{Moved.{distance, IsFilledRound}, Places.held_at, Ring.{place_of, rotated}},
+  specs.{Moved.distance, Places.held_at, Ring.{place_of, rotated}},
   proofs.{
     moved.Flat.{same_places, up_from},
     places.{
       Emptied.get_or-written,
-      Rotated.{place_of-first, place_of-lt, place_of-sum, place_of-place_of, one_place, get_or-rotated, length-rotated},
+      Rotated.{place_of-first, place_of-lt, place_of-place_of, one_place, get_or-rotated, length-rotated},
     },
   },
 }

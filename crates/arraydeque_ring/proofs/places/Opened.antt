@@ -208,7 +208,7 @@ module _ {X : Type 0} (r : Inside X) (kept : Kept r) where
 
   pub back_taken : (place : ℕ) → 0 < r.len → place ≡ place_of r.start (r.len - 1) n
       → Become n r.start (r.len - 1) (take (r.len - 1) items) (set places place None)
-  back_taken place some is = 
+  back_taken place some is =
       become (rw is (LaidOut-gap_last (rw (drop_all (suc (r.len - 1)) items (omega (arith, len))) at
       (Gapped-taken_one laid (r.len - 1) (omega (arith, len)))))) _
       (length-take-le (r.len - 1) items (omega (arith, len)))

@@ -1,9 +1,9 @@
 -- A list read from an index on, round its end.
 use Rattle.std.proofs.{
-  Common.{◌≡◌, ℕ, zero, suc, ◌+◌, ◌-◌, ◌%◌, ◌<◌, ◌≤◌, ◌⊎◌, ◌==◌, inl, inr, List, map, length, take, drop, get_or},
-  Common.{sym, ap, ◌∙◌, arith},
+  Common.{◌≡◌, ℕ, zero, suc, ◌+◌, ◌-◌, ◌%◌, ◌<◌, ◌≤◌, ◌⊎◌, ◌==◌, inl, inr, List, map, length, get_or, sym, ap, ◌∙◌},
+  Common.{arith},
   Math.Nat.{mod-eq_of_lt, mod-eq-sub-mod, add-mod-mod, mod-add-mod, add_assoc},
-  lemmas.{Bool.{cases_lt}, List.{places, length-append, length-take, length-drop, map-append, drop-map, take-map}},
+  lemmas.{Bool.cases_lt, List.{places, map-append, drop-map, take-map}},
 }
 use Rattle.arraydeque_ring.specs.Ring.{place_of, rotated}
 

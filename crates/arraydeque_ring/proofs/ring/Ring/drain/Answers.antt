@@ -1,18 +1,8 @@
-use Rattle.std.{
-  proofs.{Common.{◌≡◌, ◌-◌, length, sym, subst, arith}, lemmas.{Grind.common_steps}},
-  specs.List.remove_range,
-}
-use Rattle.arraydeque_ring.{
-  specs.Changed.IsFewest,
-  proofs.{
-    gaps.Fewest.fewest_drain,
-    places.{
-      Handed.all_empty,
-      Opened.{opened, bounds, Closing, run_filled, run_out, Shows},
-      Rotated.{place_of-zero},
-    },
-    ring.Ring.drain.{Given.Over, Goals.{After-take_run, After-close_gap-self-inside}},
-  },
+use Rattle.std.{proofs.{Common.{◌≡◌, ◌-◌, length, arith}, lemmas.{Grind.common_steps}}, specs.List.remove_range}
+use Rattle.arraydeque_ring.proofs.{
+  gaps.Fewest.fewest_drain,
+  places.{Opened.{opened, bounds, Closing, run_filled, run_out, Shows}, Rotated.place_of-zero},
+  ring.Ring.drain.{Given.Over, Goals.{After-take_run, After-close_gap-self-inside}},
 }
 use Rattle.arraydeque_ring.proofs.ring.Ring.drain.Goals as goal
 

@@ -1,4 +1,3 @@
-use Rattle.std.proofs.Common.{arith}
 use Rattle.arraydeque_ring.proofs.gaps.GapMoves.{closed_up}
 use Rattle.arraydeque_ring.proofs.ring.moves.close_gap.Goals as goal
 

@@ -52,7 +52,6 @@ returns-else-first-len-clause-places g c =
 pub returns-else-first-len-clause-taken : goal.returns-else-first-len-clause-taken
 returns-else-first-len-clause-taken g c =
     let none : c.args.len - c.min-first.result ≡ 0 = omega arith in
-    let same : c.min-first.result ≡ c.args.len = omega arith in
     let all =
     rw append-nil at (rw none at (parts g (goal.at.returns-else-first-len-clause-taken g c).After-min-first).all) in
     rw c.hand_over.ensures.there (grind arith)
