@@ -101,8 +101,8 @@ crosses {t = t} {len = len} {ps = ps} from to gap i j asked ways long at_d at_s 
     let moved = Holds-moved reads i j len t_in (omega arith) (omega arith) in
     rw (at_d, at_s, long) (record {
       may = record {
-        dst_in_region = place_of-lt t i n (omega arith);
-        src_in_region = place_of-lt t j n (omega arith);
+        dst_in_region = omega arith;
+        src_in_region = omega arith;
         apart = apart_by t i j len n t_in (omega arith) (omega arith);
         filled = λ k lt. let v = filled_in_run qs j len k filled lt in
             (v.0, rw (place_of-sum t j k n) (reads.at (j + k) (omega arith) ∙ v.1));
@@ -110,7 +110,7 @@ crosses {t = t} {len = len} {ps = ps} from to gap i j asked ways long at_d at_s 
             ways (omega arith) (omega arith) (omega arith)) [
               | inl source ↦ inl source
               | inr gap ↦ inr (
-                place_of-lt t (i + k) n (omega arith),
+                omega arith,
                 reads.at (i + k) (omega arith) ∙ none (i + k) gap.0 gap.1,
               )
             ]);

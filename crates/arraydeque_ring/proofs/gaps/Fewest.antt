@@ -33,12 +33,11 @@ module _ (i n c t : ℕ) (t_in : t < c) (i_in : i ≤ n) (room : n < c) where
       → changed_insert i n c t u ≡ (if not (t == u) then min i n else 0)
       + (if not (t == place_of u 1 c) then n - i else 0)
   inserted u u_in =
-      let next = place_of-lt u 1 c (omega arith) in
       count_sides _ (not (t == u)) (not (t == place_of u 1 c)) i i n (omega arith)
       (λ k lt. grind (
         arith,
         one_start c t u k t_in u_in (omega arith),
-        one_start c t (place_of u 1 c) k t_in next (omega arith),
+        one_start c t (place_of u 1 c) k t_in (omega arith) (omega arith),
         place_of-sum u 1 k c,
       ))
 
@@ -64,13 +63,12 @@ module _ (s e n c t : ℕ) (t_in : t ≤ c - 1) (in_order : s ≤ e) (e_in : e �
       + (if not (place_of t (e - s) c == u) then n - e else 0)
   drained u u_in =
       let gap = e - s in
-      let next = place_of-lt t gap c (omega arith) in
       count_sides _ (not (t == u)) (not (place_of t gap c == u)) s e n in_order
       (λ k lt. grind (
         arith,
         nat_tests,
         one_start c t u k (omega arith) u_in (omega arith),
-        one_start c (place_of t gap c) u (k - gap) next u_in (omega arith),
+        one_start c (place_of t gap c) u (k - gap) (omega arith) u_in (omega arith),
         place_of-sum t gap (k - gap) c,
       ))
 
@@ -83,7 +81,7 @@ module _ (s e n c t : ℕ) (t_in : t ≤ c - 1) (in_order : s ≤ e) (e_in : e �
         arith,
         nat_tests,
         drained t (omega arith),
-        drained (place_of t (e - s) c) (place_of-lt t (e - s) c (omega arith)),
+        drained (place_of t (e - s) c) (omega arith),
         place_of_cases t (e - s) c (omega arith),
       )
       | inr none ↦ let no : n ≡ 0 = omega arith in rw no (grind arith)

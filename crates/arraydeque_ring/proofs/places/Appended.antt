@@ -40,9 +40,7 @@ module _ {X : Type 0} where
       record {
         length_is = length-with_run place ys ps (omega arith) ∙ h.length_is;
         in_region = h.in_region;
-        at = λ k lt.
-            let read = get_or-with_run place ys ps in
-            grind (arith, place_of_cases t k n (omega arith));
+        at = λ k lt. grind (arith, get_or-with_run place ys ps, place_of_cases t k n (omega arith));
       }
 
   module _ {n t : ℕ} {xs : List X} {ps : List (Option X)} (l : LaidOut n t xs ps) where

@@ -43,13 +43,13 @@ handed t at len n place first ps long in_region some run is cut =
     let wide : length ts ≡ n = length-rotated t ps ∙ sym long in
     let fits : at + len ≤ n = omega arith in
     let lies : MayStartAt t at n place = rw is (MayStartAt-place_of t at n (omega arith)) in
-    let before_end : place < n = rw is (place_of-lt t at n (omega arith)) in
+    let before_end : place < n = rw is (omega arith) in
     let same : length es ≡ n = length-run_emptied place first ps (omega arith) ∙ sym long in
     let same_rs : length rs ≡ n = length-run_emptied 0 r es (omega arith) ∙ same in
     let many : length firsts ≡ first = search (rules, places) in
     let all : length (firsts ++ others) ≡ len = search (rules, places) in
     let joined : firsts ++ others ≡ take len (drop at ts) =
-    same_lists (firsts ++ others) (take len (drop at ts)) (search (rules, places)) (λ j d lt.
+    same_lists _ _ (search (rules, places)) (λ j d lt.
     let on = get_or-rotated t (at + j) n ps d (sym long) (omega arith) (omega arith) in
     grind (arith, places)) in
     let here : firsts ≡ map Some (take first zs) =
@@ -60,7 +60,7 @@ handed t at len n place first ps long in_region some run is cut =
       here = (omega arith, (take first zs, here));
       rest = (omega arith, (drop first zs, there));
       first_length = many;
-      places = same_lists (rotated t rs) (run_emptied at len ts) (search (rules, places)) (λ j d lt.
+      places = same_lists _ _ (search (rules, places)) (λ j d lt.
           let within : j < n = omega (arith, length-rotated t rs) in
           let read = get_or-rotated t j n rs d same_rs (omega arith) within in
           let was = get_or-rotated t j n ps d (sym long) (omega arith) within in

@@ -50,7 +50,7 @@ module _ {X : Type 0} {n t : ℕ} {f : ℕ → Option X} {ps : List (Option X)} 
   Holds-from j some le each = record {
     length_is = h.length_is;
     in_region = omega arith;
-    at = λ k lt. ap (held_at ps) (place_of-place_of t j k n) ∙ h.at (place_of j k n) (place_of-lt j k n (omega arith))
+    at = λ k lt. ap (held_at ps) (place_of-place_of t j k n) ∙ h.at (place_of j k n) (omega arith)
         ∙ each k lt;
   }
 
@@ -69,7 +69,7 @@ module _ {X : Type 0} {n t : ℕ} {f : ℕ → Option X} {ps : List (Option X)} 
   -- each place has an index
   pub Holds-each : (x : ℕ) → x < n → held_at ps x ≡ f (distance t x n)
   Holds-each x lt =
-      rw (up_from x t n lt (omega arith)) at (h.at (distance t x n) (place_of-lt x (n - t) n (omega arith)))
+      rw (up_from x t n lt (omega arith)) at (h.at (distance t x n) (omega arith))
 
 -- from the first place on an index is its own place
 pub Holds-first : {X : Type 0} {n : ℕ} {f : ℕ → Option X} {ps : List (Option X)} → Holds n 0 f ps → (k : ℕ) → k < n
