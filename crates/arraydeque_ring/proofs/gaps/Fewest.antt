@@ -44,16 +44,14 @@ module _ (i n c t : ℕ) (t_in : t < c) (i_in : i ≤ n) (room : n < c) where
   pub fewest_insert : IsFewest (moves_to_insert i n) c (changed_insert i n c t) (start_opened i (n - i) c t)
   fewest_insert = record {
     least = λ u lt. grind (arith, inserted u lt, place_of_cases u 1 c (omega arith));
-    met =
-        let back = place_of-lt t (c - 1) c (omega arith) in
-        grind (
-          arith,
-          inserted t t_in,
-          inserted (place_of t (c - 1) c) back,
-          place_of_cases t 1 c (omega arith),
-          place_of_cases t (c - 1) c (omega arith),
-          place_of_cases (place_of t (c - 1) c) 1 c (omega arith),
-        );
+    met = grind (
+      arith,
+      inserted t t_in,
+      inserted (place_of t (c - 1) c) (omega arith),
+      place_of_cases t 1 c (omega arith),
+      place_of_cases t (c - 1) c (omega arith),
+      place_of_cases (place_of t (c - 1) c) 1 c (omega arith),
+    );
   }
 
 module _ (s e n c t : ℕ) (t_in : t ≤ c - 1) (in_order : s ≤ e) (e_in : e ≤ n) (within : n ≤ c) where

@@ -57,8 +57,8 @@ handed t at len n place first ps long in_region some run is cut =
     let there : others ≡ map Some (drop first zs) =
     sym (drop_at firsts others first many) ∙ ap (drop first) (joined ∙ run.1.1) ∙ drop-map Some first zs in
     record {
-      here = (omega arith, (take first zs, here));
-      rest = (omega arith, (drop first zs, there));
+      here = (omega arith, (_, here));
+      rest = (omega arith, (_, there));
       first_length = many;
       places = same_lists _ _ (search (rules, places)) (λ j d lt.
           let within : j < n = omega (arith, length-rotated t rs) in
@@ -69,7 +69,7 @@ handed t at len n place first ps long in_region some run is cut =
     }
 
 -- where the first len places of a region are empty, both parts go there, one behind the other
-module _ {X : Type 0} (len first : ℕ) (qs : List (Option X)) (le : first ≤ len) (empty : IsEmptyRun qs 0 len) where
+module _ {X : Type 0} {len first : ℕ} (qs : List (Option X)) (le : first ≤ len) (empty : IsEmptyRun qs 0 len) where
   pub first_empty : IsEmptyRun qs 0 first
   first_empty = empty_run_of qs 0 first (omega arith)
       (λ x from to. grind (arith, empty_in_run qs 0 len x empty))

@@ -1,7 +1,8 @@
 -- What places hold, read one by one from a place on, round the region's end.
 use Rattle.std.proofs.{
-  Common.{◌≡◌, ◌≢◌, ℕ, ◌-◌, ◌<◌, ◌≤◌, List, length, set, get_or, Option, None, sym, ap, ◌∙◌},
+  Common.{◌≡◌, ◌≢◌, ℕ, ◌+◌, ◌-◌, ◌<◌, ◌≤◌, List, length, set, get_or, Option, None, sym, ap, ◌∙◌},
   Common.arith,
+  Math.Nat.add-mod-mod,
   lemmas.List.length-set,
 }
 use Rattle.arraydeque_ring.{
@@ -10,7 +11,7 @@ use Rattle.arraydeque_ring.{
     moved.Flat.{same_places, up_from},
     places.{
       Emptied.get_or-written,
-      Rotated.{place_of-first, place_of-lt, place_of-place_of, one_place, get_or-rotated, length-rotated},
+      Rotated.{place_of-first, place_of-lt, place_of-sum, one_place, get_or-rotated, length-rotated},
     },
   },
 }
@@ -50,8 +51,8 @@ module _ {X : Type 0} {n t : ℕ} {f : ℕ → Option X} {ps : List (Option X)} 
   Holds-from j some le each = record {
     length_is = h.length_is;
     in_region = omega arith;
-    at = λ k lt. ap (held_at ps) (place_of-place_of t j k n) ∙ h.at (place_of j k n) (omega arith)
-        ∙ each k lt;
+    at = λ k lt. ap (held_at ps) (place_of-sum t j k n ∙ sym (add-mod-mod t (j + k) n))
+        ∙ h.at (place_of j k n) (omega arith) ∙ each k lt;
   }
 
   -- with c written at the place of the index k

@@ -105,7 +105,7 @@ module _ {X : Type 0} {n t : ℕ} {xs : List X} {ps : List (Option X)} (l : Laid
   pub IsFilledRun-LaidOut : (i p len : ℕ) → MayStartAt t i n p → i + len ≤ length xs → p + len ≤ n
       → IsFilledRun ps p len
   IsFilledRun-LaidOut i p len at within fits =
-      (omega arith, (take len (drop i xs), HoldsRun-LaidOut i p len at within fits))
+      (omega arith, (_, HoldsRun-LaidOut i p len at within fits))
 
   -- and a run that is read there is of those items
   pub same_run : (i p len : ℕ) (ys : List X) → MayStartAt t i n p → i + len ≤ length xs → p + len ≤ n

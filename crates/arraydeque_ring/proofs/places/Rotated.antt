@@ -33,10 +33,6 @@ place_of-first k n lt = mod-eq_of_lt (omega arith) ∙ omega arith
 pub place_of-sum : (t i x n : ℕ) → place_of (place_of t i n) x n ≡ place_of t (i + x) n
 place_of-sum t i x n = mod-add-mod (t + i) n x ∙ ap (λ m. m % n) (add_assoc t i x)
 
--- round the end
-pub place_of-place_of : (t i x n : ℕ) → place_of (place_of t i n) x n ≡ place_of t (place_of i x n) n
-place_of-place_of t i x n = place_of-sum t i x n ∙ sym (add-mod-mod t (i + x) n)
-
 -- two indexes have two places
 pub one_place : (t i j n : ℕ) → t ≤ n → i < n → j < n → (place_of t i n == place_of t j n) ≡ (i == j)
 one_place t i j n a b c = grind (arith, place_of_cases t i n (omega arith), place_of_cases t j n (omega arith))
