@@ -16,7 +16,7 @@ use Rattle.arraydeque_ring.{
     places.{
       Held.{filled_in_run, empty_in_run},
       Holds.{Holds-of_rotated, rotated-Holds},
-      Rotated.{place_of-lt, place_of-sum, one_place, length-rotated},
+      Rotated.{place_of-sum, one_place, length-rotated},
     },
   },
 }

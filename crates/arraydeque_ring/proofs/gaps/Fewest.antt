@@ -12,7 +12,7 @@ use Rattle.arraydeque_ring.{
     Ring.place_of,
     Sides.{moves_to_insert, moves_to_remove, moves_to_drain, start_opened, start_closed},
   },
-  proofs.places.Rotated.{one_place, place_of_cases, place_of-lt, place_of-sum},
+  proofs.places.Rotated.{one_place, place_of_cases, place_of-sum},
 }
 
 -- a test that is one below s, another from e on, and fails between them

@@ -15,7 +15,7 @@ use Rattle.arraydeque_ring.{
   proofs.places.{
     Emptied.length-run_emptied,
     Held.{empty_in_run, empty_run_of},
-    Rotated.{MayStartAt, MayStartAt-place_of, place_of_cases, place_of-lt, length-rotated, get_or-rotated},
+    Rotated.{MayStartAt, MayStartAt-place_of, place_of_cases, length-rotated, get_or-rotated},
   },
 }
 
@@ -53,9 +53,9 @@ handed t at len n place first ps long in_region some run is cut =
     let on = get_or-rotated t (at + j) n ps d (sym long) (omega arith) (omega arith) in
     grind (arith, places)) in
     let here : firsts ≡ map Some (take first zs) =
-    sym (take_at firsts others first many) ∙ ap (take first) (joined ∙ run.1.1) ∙ take-map Some first zs in
+    sym (take_at _ others _ many) ∙ ap (take first) (joined ∙ run.1.1) ∙ take-map Some first zs in
     let there : others ≡ map Some (drop first zs) =
-    sym (drop_at firsts others first many) ∙ ap (drop first) (joined ∙ run.1.1) ∙ drop-map Some first zs in
+    sym (drop_at firsts _ _ many) ∙ ap (drop first) (joined ∙ run.1.1) ∙ drop-map Some first zs in
     record {
       here = (omega arith, (_, here));
       rest = (omega arith, (_, there));

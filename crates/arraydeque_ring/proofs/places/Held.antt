@@ -29,16 +29,12 @@ module _ {X : Type 0} where
   in_run ps qs from len k is lt =
       rw (← is) (grind (arith, common_steps))
 
-  -- so each place of a filled run is filled, with its value
-  pub held_in_run : (ps : List (Option X)) (from len k : ℕ) (run : IsFilledRun ps from len) → k < len
-      → held_at ps (from + k) ≡ slice_get run.1.0 k
-  held_in_run ps from len k run lt = in_run ps _ from len k run.1.1 lt ∙ get_or-map_Some run.1.0 k
-
+  -- so each place of a filled run is filled
   pub filled_in_run : (ps : List (Option X)) (from len k : ℕ) → IsFilledRun ps from len → k < len
       → IsFilled ps (from + k)
   filled_in_run ps from len k run lt =
       let some = slice_get_some run.1.0 k (omega (arith, length_filled ps from len run)) in
-      (some.0, held_in_run ps from len k run lt ∙ some.1)
+      (some.0, in_run ps _ from len k run.1.1 lt ∙ get_or-map_Some run.1.0 k ∙ some.1)
 
   -- and each place of an empty run is empty
   pub empty_in_run : (ps : List (Option X)) (from len k : ℕ) → IsEmptyRun ps from len → k < len

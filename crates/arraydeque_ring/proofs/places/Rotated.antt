@@ -1,8 +1,8 @@
 -- A list read from an index on, round its end.
 use Rattle.std.proofs.{
   Common.{◌≡◌, ℕ, zero, suc, ◌+◌, ◌-◌, ◌%◌, ◌<◌, ◌≤◌, ◌⊎◌, ◌==◌, inl, inr, List, map, length, get_or, sym, ap, ◌∙◌},
-  Common.{arith},
-  Math.Nat.{mod-eq_of_lt, mod-eq-sub-mod, add-mod-mod, mod-add-mod, add_assoc},
+  Common.arith,
+  Math.Nat.{mod-eq_of_lt, mod-eq-sub-mod, mod-add-mod, add_assoc},
   lemmas.{Bool.cases_lt, List.{places, map-append, drop-map, take-map}},
 }
 use Rattle.arraydeque_ring.specs.Ring.{place_of, rotated}
