@@ -1,6 +1,25 @@
 -- A run of values that moves across a run of empty places, read from the start on.
-use Rattle.std.{proofs.{Common.{◌≡◌, ◌≢◌, ◌==◌, ℕ, ◌+◌, ◌-◌, ◌<◌, ◌≤◌, ◌⊎◌, inl, inr, List, length, nat_lt, if◌then◌else◌}, Common.{Option, None, max, refl, sym, ap, ◌∙◌, arith}, lemmas.{Bool.{Decides.nat_tests}, Grind.common_steps, List.places}}}
-use Rattle.arraydeque_ring.{specs.{Gaps.{IsEmptyRun, gap_moved}, Moved.{distance, MeetAtOneEndAtMost, IsFilledRound, IsFreeRound, run_moved}, Places.{held_at, IsFilledRun}, Ring.{place_of, rotated}}, proofs.{moved.{Flat.{distance_is, look}, Round.{Holds-moved, distance-rotated}}, places.{Held.{filled_in_run, empty_in_run}, Holds.{Holds-of_rotated, rotated-Holds}, Rotated.{place_of-lt, place_of-sum, one_place, length-rotated}}}}
+use Rattle.std.proofs.{
+  Common.{◌≡◌, ◌≢◌, ◌==◌, ℕ, ◌+◌, ◌-◌, ◌<◌, ◌≤◌, ◌⊎◌, inl, inr, List, length, nat_lt, if◌then◌else◌, Option, None, max},
+  Common.{refl, sym, ap, ◌∙◌, arith},
+  lemmas.{Bool.Decides.nat_tests, Grind.common_steps, List.places},
+}
+use Rattle.arraydeque_ring.{
+  specs.{
+    Gaps.{IsEmptyRun, gap_moved},
+    Moved.{distance, MeetAtOneEndAtMost, IsFilledRound, IsFreeRound, run_moved},
+    Places.{held_at, IsFilledRun},
+    Ring.{place_of, rotated},
+  },
+  proofs.{
+    moved.{Flat.{distance_is, look}, Round.{Holds-moved, distance-rotated}},
+    places.{
+      Held.{filled_in_run, empty_in_run},
+      Holds.{Holds-of_rotated, rotated-Holds},
+      Rotated.{place_of-sum, one_place, length-rotated},
+    },
+  },
+}
 
 module _ {X : Type 0} (from to gap : ℕ) (ps : List (Option X)) (from_in : from + gap ≤ length ps)
     (to_in : to + gap ≤ length ps) where
@@ -66,7 +85,7 @@ passed : {X : Type 0} (from to gap i j len x : ℕ) (qs : List (Option X)) → f
     → to + gap ≤ length qs → (from ≤ x → x < from + gap → held_at qs x ≡ None) → Passes from to gap i j len
     → look (held_at qs) i j len x ≡ held_at (gap_moved from to gap qs) x
 passed from to gap i j len x qs from_in to_in none ways =
-    elim ways [ | inl up ↦ grind arith | inr down ↦ grind arith ]
+    elim ways [ inl up ↦ grind arith | inr down ↦ grind arith ]
     ∙ sym (get_or-gap_moved from to gap qs from_in to_in x)
 
 pub crosses : {X : Type 0} {t len d s m : ℕ} {ps : List (Option X)} (from to gap i j : ℕ) → MayMove t from to gap ps
@@ -82,8 +101,8 @@ crosses {t = t} {len = len} {ps = ps} from to gap i j asked ways long at_d at_s 
     let moved = Holds-moved reads i j len t_in (omega arith) (omega arith) in
     rw (at_d, at_s, long) (record {
       may = record {
-        dst_in_region = place_of-lt t i n (omega arith);
-        src_in_region = place_of-lt t j n (omega arith);
+        dst_in_region = omega arith;
+        src_in_region = omega arith;
         apart = apart_by t i j len n t_in (omega arith) (omega arith);
         filled = λ k lt. let v = filled_in_run qs j len k filled lt in
             (v.0, rw (place_of-sum t j k n) (reads.at (j + k) (omega arith) ∙ v.1));
@@ -91,7 +110,7 @@ crosses {t = t} {len = len} {ps = ps} from to gap i j asked ways long at_d at_s 
             ways (omega arith) (omega arith) (omega arith)) [
               | inl source ↦ inl source
               | inr gap ↦ inr (
-                place_of-lt t (i + k) n (omega arith),
+                omega arith,
                 reads.at (i + k) (omega arith) ∙ none (i + k) gap.0 gap.1,
               )
             ]);

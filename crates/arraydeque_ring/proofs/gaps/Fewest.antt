@@ -12,7 +12,7 @@ use Rattle.arraydeque_ring.{
     Ring.place_of,
     Sides.{moves_to_insert, moves_to_remove, moves_to_drain, start_opened, start_closed},
   },
-  proofs.places.Rotated.{one_place, place_of_cases, place_of-lt, place_of-sum},
+  proofs.places.Rotated.{one_place, place_of_cases, place_of-sum},
 }
 
 -- a test that is one below s, another from e on, and fails between them
@@ -33,28 +33,25 @@ module _ (i n c t : ℕ) (t_in : t < c) (i_in : i ≤ n) (room : n < c) where
       → changed_insert i n c t u ≡ (if not (t == u) then min i n else 0)
       + (if not (t == place_of u 1 c) then n - i else 0)
   inserted u u_in =
-      let next = place_of-lt u 1 c (omega arith) in
       count_sides _ (not (t == u)) (not (t == place_of u 1 c)) i i n (omega arith)
       (λ k lt. grind (
         arith,
         one_start c t u k t_in u_in (omega arith),
-        one_start c t (place_of u 1 c) k t_in next (omega arith),
+        one_start c t (place_of u 1 c) k t_in (omega arith) (omega arith),
         place_of-sum u 1 k c,
       ))
 
   pub fewest_insert : IsFewest (moves_to_insert i n) c (changed_insert i n c t) (start_opened i (n - i) c t)
   fewest_insert = record {
     least = λ u lt. grind (arith, inserted u lt, place_of_cases u 1 c (omega arith));
-    met =
-        let back = place_of-lt t (c - 1) c (omega arith) in
-        grind (
-          arith,
-          inserted t t_in,
-          inserted (place_of t (c - 1) c) back,
-          place_of_cases t 1 c (omega arith),
-          place_of_cases t (c - 1) c (omega arith),
-          place_of_cases (place_of t (c - 1) c) 1 c (omega arith),
-        );
+    met = grind (
+      arith,
+      inserted t t_in,
+      inserted (place_of t (c - 1) c) (omega arith),
+      place_of_cases t 1 c (omega arith),
+      place_of_cases t (c - 1) c (omega arith),
+      place_of_cases (place_of t (c - 1) c) 1 c (omega arith),
+    );
   }
 
 module _ (s e n c t : ℕ) (t_in : t ≤ c - 1) (in_order : s ≤ e) (e_in : e ≤ n) (within : n ≤ c) where
@@ -64,13 +61,12 @@ module _ (s e n c t : ℕ) (t_in : t ≤ c - 1) (in_order : s ≤ e) (e_in : e �
       + (if not (place_of t (e - s) c == u) then n - e else 0)
   drained u u_in =
       let gap = e - s in
-      let next = place_of-lt t gap c (omega arith) in
       count_sides _ (not (t == u)) (not (place_of t gap c == u)) s e n in_order
       (λ k lt. grind (
         arith,
         nat_tests,
         one_start c t u k (omega arith) u_in (omega arith),
-        one_start c (place_of t gap c) u (k - gap) next u_in (omega arith),
+        one_start c (place_of t gap c) u (k - gap) (omega arith) u_in (omega arith),
         place_of-sum t gap (k - gap) c,
       ))
 
@@ -83,7 +79,7 @@ module _ (s e n c t : ℕ) (t_in : t ≤ c - 1) (in_order : s ≤ e) (e_in : e �
         arith,
         nat_tests,
         drained t (omega arith),
-        drained (place_of t (e - s) c) (place_of-lt t (e - s) c (omega arith)),
+        drained (place_of t (e - s) c) (omega arith),
         place_of_cases t (e - s) c (omega arith),
       )
       | inr none ↦ let no : n ≡ 0 = omega arith in rw no (grind arith)

@@ -1,6 +1,21 @@
 -- A gap among the items of a ring that moves: it opens for an item, or is moved to an end of them, and so closed.
-use Rattle.std.proofs.{Common.{◌≡◌, ℕ, ◌+◌, ◌-◌, ◌<◌, ◌≤◌, List, [], ◌++◌, length, slice_get, max, Option, None, refl}, Common.{sym, ap, ◌∙◌, arith}, lemmas.{Bool.Decides.nat_tests, List.{length-append}}}
-use Rattle.arraydeque_ring.{specs.{Gaps.{IsEmptyRun, gap_moved}, Places.{held_at, IsFilled, IsFilledRun}, Ring.{place_of, rotated}}, proofs.{gaps.{Crossing.{MayMove, length-gap_moved, get_or-gap_moved, empty_at}, Gapped.{Gapped, gapped}}, places.{Held.{filled_run_of, empty_run_of}, Holds.{Holds-of_rotated, Holds-rotated, rotated-Holds, Holds-same, Holds-from}, Items.{items, slice_get_some}, LaidOut.{LaidOut, holds}, Rotated.{place_of_cases, length-rotated}}}}
+use Rattle.std.proofs.{
+  Common.{◌≡◌, ℕ, ◌+◌, ◌-◌, ◌<◌, ◌≤◌, List, [], ◌++◌, length, slice_get, max, Option, None, refl, sym, ap, ◌∙◌, arith},
+  lemmas.{Bool.Decides.nat_tests, List.length-append},
+}
+use Rattle.arraydeque_ring.{
+  specs.{Gaps.{IsEmptyRun, gap_moved}, Places.{held_at, IsFilled, IsFilledRun}, Ring.{place_of, rotated}},
+  proofs.{
+    gaps.{Crossing.{MayMove, length-gap_moved, get_or-gap_moved, empty_at}, Gapped.{Gapped, gapped}},
+    places.{
+      Held.{filled_run_of, empty_run_of},
+      Holds.{Holds-of_rotated, Holds-rotated, rotated-Holds, Holds-same, Holds-from},
+      Items.{items, slice_get_some},
+      LaidOut.{LaidOut, holds},
+      Rotated.{place_of_cases, length-rotated},
+    },
+  },
+}
 
 pub may_move : {X : Type 0} (t from to gap : ℕ) (ps : List (Option X)) {ts : List (Option X)} → rotated t ps ≡ ts
     → 0 < gap → t < length ps → max from to + gap ≤ length ps

@@ -4,7 +4,16 @@ use Rattle.std.proofs.{
   Common.{if◌then◌else◌, Option, Some, None, ◌∙◌, arith},
   lemmas.List.{length-append, length-take-le, length-drop},
 }
-use Rattle.arraydeque_ring.{specs.{Places.{held_at, IsEmpty}, Ring.{place_of, rotated}, Gaps.run_emptied}, proofs.places.{Emptied.{length-run_emptied, get_or-run_emptied}, Holds.{Holds, Holds-of_rotated, Holds-rotated, Holds-same, Holds-from, Holds-set}, Items.{items}, LaidOut.{LaidOut, LaidOut-by, holds}, Rotated.{place_of_cases, place_of-zero, length-rotated}}}
+use Rattle.arraydeque_ring.{
+  specs.{Places.{held_at, IsEmpty}, Ring.{place_of, rotated}, Gaps.run_emptied},
+  proofs.places.{
+    Emptied.{length-run_emptied, get_or-run_emptied},
+    Holds.{Holds, Holds-of_rotated, Holds-rotated, Holds-same, Holds-from, Holds-set},
+    Items.items,
+    LaidOut.{LaidOut, LaidOut-by, holds},
+    Rotated.{place_of_cases, place_of-zero, length-rotated},
+  },
+}
 
 -- what is read at an index: one of the items xs, nothing in the gap, and one of the items ys behind it
 abbrev pub gapped : {X : Type 0} → List X → ℕ → List X → ℕ → Option X

@@ -1,7 +1,7 @@
 -- Items that are laid behind a list, in one run of places.
 use Rattle.std.proofs.{
   Common.{◌≡◌, ℕ, ◌+◌, ◌-◌, ◌≤◌, List, ◌++◌, length, take, drop, get_or, slice_get, nat_lt, if◌then◌else◌, Option},
-  Common.{None, replicate, refl, inl, sym, ap, ◌∙◌, arith},
+  Common.{None, replicate, refl, inl, ◌∙◌, arith},
   lemmas.{
     Bool.Decides.nat_tests,
     Grind.common_steps,
@@ -11,7 +11,7 @@ use Rattle.std.proofs.{
   Math.Seq.take-add,
 }
 use Rattle.arraydeque_ring.{
-  specs.{Gaps.IsEmptyRun, Loans.with_run, Places.held_at, Ring.{RingState, up_by}, Steps.{more_puts, more_takes}},
+  specs.{Gaps.IsEmptyRun, Loans.with_run, Ring.{RingState, up_by}, Steps.{more_puts, more_takes}},
   proofs.{
     loans.Placed.length-with_run,
     places.{
@@ -40,9 +40,7 @@ module _ {X : Type 0} where
       record {
         length_is = length-with_run place ys ps (omega arith) ∙ h.length_is;
         in_region = h.in_region;
-        at = λ k lt.
-            let read = get_or-with_run place ys ps in
-            grind (arith, place_of_cases t k n (omega arith));
+        at = λ k lt. grind (arith, get_or-with_run place ys ps, place_of_cases t k n (omega arith));
       }
 
   module _ {n t : ℕ} {xs : List X} {ps : List (Option X)} (l : LaidOut n t xs ps) where
@@ -65,8 +63,8 @@ module _ {X : Type 0} where
         empty_run_of ps place run (omega arith) (λ x from to.
         let j = x - place in
         let on : x ≡ place + j = omega arith in
-        let at = place_of-run t i j n place lies (omega arith) (omega arith) (omega arith) in
-        ap (held_at ps) (on ∙ sym at) ∙ l.at (i + j) (omega arith) ∙ slice_get_past xs (i + j) (omega arith))
+        rw (on, ← place_of-run t i j n place lies (omega arith) (omega arith) (omega arith))
+        (l.at (i + j) (omega arith) ∙ slice_get_past xs (i + j) (omega arith)))
 
     pub IsEmptyRun-behind : (place run : ℕ) → MayStartAt t (length xs) n place →
         place + run ≤ n → length xs + run ≤ n → IsEmptyRun ps place run

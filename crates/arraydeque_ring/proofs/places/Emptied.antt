@@ -1,8 +1,8 @@
 -- A run of places that is emptied, one place after another.
 use Rattle.std.proofs.{
-  Common.{◌≡◌, ℕ, ◌+◌, ◌-◌, ◌<◌, ◌≤◌, ◌==◌, List, length, set, get_or, nat_lt, if◌then◌else◌, Option, None},
-  Common.{◌∙◌, arith, rules},
-  lemmas.{Grind.common_steps, List.{places}},
+  Common.{◌≡◌, ℕ, ◌+◌, ◌-◌, ◌<◌, ◌≤◌, ◌==◌, List, length, set, get_or, nat_lt, if◌then◌else◌, Option, None, arith},
+  Common.{rules},
+  lemmas.{Grind.common_steps, List.places},
 }
 use Rattle.arraydeque_ring.{specs.Gaps.run_emptied, proofs.moved.Flat.same_places}
 
@@ -24,9 +24,14 @@ module _ {X : Type 0} where
   module _ (ps : List (Option X)) (at i : ℕ) (le : at ≤ i) (lt : i < length ps) where
     -- the next place is as it was, and the run is longer with it
     pub next_unchanged : get_or (run_emptied at (i - at) ps) i None ≡ get_or ps i None
-    next_unchanged = get_or-run_emptied at (i - at) ps i (omega arith) ∙ grind arith
+    next_unchanged = grind (arith, get_or-run_emptied at (i - at) ps i)
 
     pub next_emptied : set (run_emptied at (i - at) ps) i None ≡ run_emptied at (i + 1 - at) ps
     next_emptied = same_places _ _ (search (rules, places)) (λ x x_in.
-        grind (arith, get_or-written, length-run_emptied at (i - at) ps, get_or-run_emptied at (i - at) ps x,
-        get_or-run_emptied at (i + 1 - at) ps x))
+        grind (
+          arith,
+          get_or-written,
+          length-run_emptied at (i - at) ps,
+          get_or-run_emptied at (i - at) ps x,
+          get_or-run_emptied at (i + 1 - at) ps x,
+        ))

@@ -10,7 +10,14 @@ use Rattle.std.{
     },
   },
 }
-use Rattle.arraydeque_ring.{specs.{Gaps.{IsEmptyRun, run_emptied}, Places.{IsFilledRun}, Ring.{place_of, rotated}}, proofs.places.{Emptied.length-run_emptied, Held.{empty_in_run, empty_run_of}, Rotated.{MayStartAt, MayStartAt-place_of, place_of_cases, place_of-lt, length-rotated, get_or-rotated}}}
+use Rattle.arraydeque_ring.{
+  specs.{Gaps.{IsEmptyRun, run_emptied}, Places.IsFilledRun, Ring.{place_of, rotated}},
+  proofs.places.{
+    Emptied.length-run_emptied,
+    Held.{empty_in_run, empty_run_of},
+    Rotated.{MayStartAt, MayStartAt-place_of, place_of_cases, length-rotated, get_or-rotated},
+  },
+}
 
 -- the len values from the index `at` on can be handed over in two parts,
 -- the first of them as far as the region's end, and what that comes to
@@ -36,24 +43,24 @@ handed t at len n place first ps long in_region some run is cut =
     let wide : length ts ≡ n = length-rotated t ps ∙ sym long in
     let fits : at + len ≤ n = omega arith in
     let lies : MayStartAt t at n place = rw is (MayStartAt-place_of t at n (omega arith)) in
-    let before_end : place < n = rw is (place_of-lt t at n (omega arith)) in
+    let before_end : place < n = rw is (omega arith) in
     let same : length es ≡ n = length-run_emptied place first ps (omega arith) ∙ sym long in
     let same_rs : length rs ≡ n = length-run_emptied 0 r es (omega arith) ∙ same in
     let many : length firsts ≡ first = search (rules, places) in
     let all : length (firsts ++ others) ≡ len = search (rules, places) in
     let joined : firsts ++ others ≡ take len (drop at ts) =
-    same_lists (firsts ++ others) (take len (drop at ts)) (search (rules, places)) (λ j d lt.
+    same_lists _ _ (search (rules, places)) (λ j d lt.
     let on = get_or-rotated t (at + j) n ps d (sym long) (omega arith) (omega arith) in
     grind (arith, places)) in
     let here : firsts ≡ map Some (take first zs) =
-    sym (take_at firsts others first many) ∙ ap (take first) (joined ∙ run.1.1) ∙ take-map Some first zs in
+    sym (take_at _ others _ many) ∙ ap (take first) (joined ∙ run.1.1) ∙ take-map Some first zs in
     let there : others ≡ map Some (drop first zs) =
-    sym (drop_at firsts others first many) ∙ ap (drop first) (joined ∙ run.1.1) ∙ drop-map Some first zs in
+    sym (drop_at firsts _ _ many) ∙ ap (drop first) (joined ∙ run.1.1) ∙ drop-map Some first zs in
     record {
-      here = (omega arith, (take first zs, here));
-      rest = (omega arith, (drop first zs, there));
+      here = (omega arith, (_, here));
+      rest = (omega arith, (_, there));
       first_length = many;
-      places = same_lists (rotated t rs) (run_emptied at len ts) (search (rules, places)) (λ j d lt.
+      places = same_lists _ _ (search (rules, places)) (λ j d lt.
           let within : j < n = omega (arith, length-rotated t rs) in
           let read = get_or-rotated t j n rs d same_rs (omega arith) within in
           let was = get_or-rotated t j n ps d (sym long) (omega arith) within in
@@ -62,7 +69,7 @@ handed t at len n place first ps long in_region some run is cut =
     }
 
 -- where the first len places of a region are empty, both parts go there, one behind the other
-module _ {X : Type 0} (len first : ℕ) (qs : List (Option X)) (le : first ≤ len) (empty : IsEmptyRun qs 0 len) where
+module _ {X : Type 0} {len first : ℕ} (qs : List (Option X)) (le : first ≤ len) (empty : IsEmptyRun qs 0 len) where
   pub first_empty : IsEmptyRun qs 0 first
   first_empty = empty_run_of qs 0 first (omega arith)
       (λ x from to. grind (arith, empty_in_run qs 0 len x empty))

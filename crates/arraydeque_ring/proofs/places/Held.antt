@@ -1,5 +1,13 @@
 -- Places and runs of them: what is filled, empty, and exchanged.
-use Rattle.std.proofs.{Common.{◌≡◌, ◌≢◌, ℕ, zero, suc, ◌+◌, ◌<◌, ◌≤◌, List, [], ◌∷◌, ◌++◌, length, take, drop, set, get_or, slice_get, swap}, Common.{length-set, Option, Some, None, refl, sym, ap, ◌∙◌, subst, add-one, arith}, lemmas.{Grind.common_steps, List.{length-map, length-take, length-drop, map-append, take_more, get_or-drop, get_or-replicate}, List.{get_or_past, get_or-set_other, Edits.swap_is}}}
+use Rattle.std.proofs.{
+  Common.{◌≡◌, ◌≢◌, ℕ, zero, suc, ◌+◌, ◌<◌, ◌≤◌, List, [], ◌∷◌, ◌++◌, length, take, drop, set, get_or, slice_get, swap},
+  Common.{length-set, Option, Some, None, refl, sym, ap, ◌∙◌, subst, add-one, arith},
+  lemmas.{
+    Grind.common_steps,
+    List.{length-map, length-take, length-drop, map-append, take_more, get_or-drop, get_or-replicate},
+    List.{get_or_past, get_or-set_other, Edits.swap_is},
+  },
+}
 use Rattle.arraydeque_ring.{
   specs.{Places.{held_at, IsFilled, HoldsRun, IsFilledRun}, Gaps.IsEmptyRun},
   proofs.{moved.Flat.same_places, places.Items.{items, get_or-map_Some, slice_get_some}},
@@ -21,16 +29,12 @@ module _ {X : Type 0} where
   in_run ps qs from len k is lt =
       rw (← is) (grind (arith, common_steps))
 
-  -- so each place of a filled run is filled, with its value
-  pub held_in_run : (ps : List (Option X)) (from len k : ℕ) (run : IsFilledRun ps from len) → k < len
-      → held_at ps (from + k) ≡ slice_get run.1.0 k
-  held_in_run ps from len k run lt = in_run ps _ from len k run.1.1 lt ∙ get_or-map_Some run.1.0 k
-
+  -- so each place of a filled run is filled
   pub filled_in_run : (ps : List (Option X)) (from len k : ℕ) → IsFilledRun ps from len → k < len
       → IsFilled ps (from + k)
   filled_in_run ps from len k run lt =
       let some = slice_get_some run.1.0 k (omega (arith, length_filled ps from len run)) in
-      (some.0, held_in_run ps from len k run lt ∙ some.1)
+      (some.0, in_run ps _ from len k run.1.1 lt ∙ get_or-map_Some run.1.0 k ∙ some.1)
 
   -- and each place of an empty run is empty
   pub empty_in_run : (ps : List (Option X)) (from len k : ℕ) → IsEmptyRun ps from len → k < len

@@ -1,6 +1,17 @@
 -- What places hold, read one by one from a place on, round the region's end.
-use Rattle.std.proofs.{Common.{◌≡◌, ◌≢◌, ℕ, ◌-◌, ◌<◌, ◌≤◌, List, length, set, get_or, Option, None, sym, ap, ◌∙◌}, Common.{arith}, lemmas.{List.length-set}}
-use Rattle.arraydeque_ring.{specs.{Moved.{distance}, Places.held_at, Ring.{place_of, rotated}}, proofs.{moved.Flat.{same_places, up_from}, places.{Emptied.get_or-written, Rotated.{place_of-first, place_of-lt, place_of-place_of, one_place, get_or-rotated, length-rotated}}}}
+use Rattle.std.proofs.{
+  Common.{◌≡◌, ◌≢◌, ℕ, ◌+◌, ◌-◌, ◌<◌, ◌≤◌, List, length, set, get_or, Option, None, sym, ap, ◌∙◌},
+  Common.arith,
+  Math.Nat.add-mod-mod,
+  lemmas.List.length-set,
+}
+use Rattle.arraydeque_ring.{
+  specs.{Moved.distance, Places.held_at, Ring.{place_of, rotated}},
+  proofs.{
+    moved.Flat.{same_places, up_from},
+    places.{Emptied.get_or-written, Rotated.{place_of-first, place_of-sum, one_place, get_or-rotated, length-rotated}},
+  },
+}
 
 -- the n places hold, from the place t on, what f says of each index
 pub record Holds {X : Type 0} (n t : ℕ) (f : ℕ → Option X) (ps : List (Option X)) : Type 0 where
@@ -37,8 +48,8 @@ module _ {X : Type 0} {n t : ℕ} {f : ℕ → Option X} {ps : List (Option X)} 
   Holds-from j some le each = record {
     length_is = h.length_is;
     in_region = omega arith;
-    at = λ k lt. ap (held_at ps) (place_of-place_of t j k n) ∙ h.at (place_of j k n) (place_of-lt j k n (omega arith))
-        ∙ each k lt;
+    at = λ k lt. ap (held_at ps) (place_of-sum t j k n ∙ sym (add-mod-mod t (j + k) n))
+        ∙ h.at (place_of j k n) (omega arith) ∙ each k lt;
   }
 
   -- with c written at the place of the index k
@@ -56,7 +67,7 @@ module _ {X : Type 0} {n t : ℕ} {f : ℕ → Option X} {ps : List (Option X)} 
   -- each place has an index
   pub Holds-each : (x : ℕ) → x < n → held_at ps x ≡ f (distance t x n)
   Holds-each x lt =
-      rw (up_from x t n lt (omega arith)) at (h.at (distance t x n) (place_of-lt x (n - t) n (omega arith)))
+      rw (up_from x t n lt (omega arith)) at (h.at (distance t x n) (omega arith))
 
 -- from the first place on an index is its own place
 pub Holds-first : {X : Type 0} {n : ℕ} {f : ℕ → Option X} {ps : List (Option X)} → Holds n 0 f ps → (k : ℕ) → k < n

@@ -1,8 +1,8 @@
 -- The item at each index of a list that is made of others.
 use Rattle.std.proofs.{
   Common.{◌≡◌, ℕ, zero, suc, ◌+◌, ◌-◌, ◌<◌, inl, inr, List, [], ◌∷◌, ◌++◌, length, map, take, drop, set, get_or},
-  Common.{slice_get, nat_lt, ◌==◌, if◌then◌else◌, Some, None, refl, ap, ◌∙◌, arith},
-  lemmas.{Option.{slice_get_cases, slice_get_past}},
+  Common.{slice_get, nat_lt, ◌==◌, if◌then◌else◌, Some, None, refl, arith},
+  lemmas.{Grind.common_steps, List.{drop-map, map-set, get_or-drop}, Option.{slice_get_cases, slice_get_past}},
 }
 
 module _ {X : Type 0} where
@@ -14,6 +14,11 @@ module _ {X : Type 0} where
       → slice_get (x ∷ xs) k ≡ (if nat_lt 0 k then slice_get xs (k - 1) else Some x)
   slice_get-cons x xs zero = grind arith
   slice_get-cons x xs (suc k) = grind arith
+
+  pub get_or-map_Some : (xs : List X) (k : ℕ) → get_or (map Some xs) k None ≡ slice_get xs k
+  get_or-map_Some [] k = refl
+  get_or-map_Some (x ∷ xs) zero = refl
+  get_or-map_Some (x ∷ xs) (suc k) = get_or-map_Some xs k
 
   pub slice_get-append : (xs ys : List X) (k : ℕ)
       → slice_get (xs ++ ys) k ≡ (if nat_lt k (length xs) then slice_get xs k else slice_get ys (k - length xs))
@@ -29,22 +34,12 @@ module _ {X : Type 0} where
   slice_get-take (suc n) (x ∷ xs) (suc k) = grind (arith, slice_get-take n xs k)
 
   pub slice_get-drop : (n : ℕ) (xs : List X) (k : ℕ) → slice_get (drop n xs) k ≡ slice_get xs (n + k)
-  slice_get-drop zero xs k = ap (slice_get xs) (omega arith)
-  slice_get-drop (suc n) [] k = refl
-  slice_get-drop (suc n) (x ∷ xs) k = slice_get-drop n xs k ∙ ap (slice_get (x ∷ xs)) {x = suc (n + k)} (omega arith)
+  slice_get-drop n xs k = rw (← get_or-map_Some (drop n xs) k, ← drop-map, get_or-drop) (get_or-map_Some xs (n + k))
 
   pub slice_get-set : (xs : List X) (i k : ℕ) (x : X) → i < length xs
       → slice_get (set xs i x) k ≡ (if k == i then Some x else slice_get xs k)
-  slice_get-set [] i k x lt = absurd (omega arith)
-  slice_get-set (y ∷ xs) zero zero x lt = grind arith
-  slice_get-set (y ∷ xs) zero (suc k) x lt = grind arith
-  slice_get-set (y ∷ xs) (suc i) zero x lt = grind arith
-  slice_get-set (y ∷ xs) (suc i) (suc k) x lt = grind (arith, slice_get-set xs i k x)
-
-  pub get_or-map_Some : (xs : List X) (k : ℕ) → get_or (map Some xs) k None ≡ slice_get xs k
-  get_or-map_Some [] k = refl
-  get_or-map_Some (x ∷ xs) zero = refl
-  get_or-map_Some (x ∷ xs) (suc k) = get_or-map_Some xs k
+  slice_get-set xs i k x lt =
+      rw (← get_or-map_Some (set xs i x) k) (grind (arith, common_steps, map-set, get_or-map_Some))
 
 -- for `grind`: the item at an index of such a list
 pub ruleset items = (slice_get-append, slice_get-take, slice_get-drop, slice_get-set, slice_get_past)

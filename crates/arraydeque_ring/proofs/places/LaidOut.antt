@@ -1,6 +1,30 @@
 -- What the places of a ring hold, read from its start on: first its items, then nothing.
-use Rattle.std.proofs.{Common.{◌≡◌, ℕ, ◌+◌, ◌-◌, ◌<◌, ◌≤◌, List, [], map, length, take, drop, set, replicate}, Common.{slice_get}, Common.{nat_lt, if◌then◌else◌, Option, Some, None, is_some, refl, sym, ap, ◌∙◌, swap, arith}, lemmas.{Grind.common_steps, List.{append-nil, length-drop, length-map, length-replicate, length-set, Edits.swap_is}, Option.{get_or_from_slice_get}}}
-use Rattle.arraydeque_ring.{specs.{Places.{held_at, IsFilled, HoldsRun, IsFilledRun, AreAllEmpty}, Ring.{place_of, rotated, values, filled, FilledFrom}}, proofs.{moved.Flat.same_places, places.{AndEmpty.{and_empty, length-and_empty, get_or-and_empty, values-and_empty, values-map_Some, filled-and_empty}, AndEmpty.{and_empty_from}, Held.holds_run_of, Holds.{Holds, Holds-each, Holds-of_rotated, Holds-rotated, rotated-Holds, Holds-from, Holds-set}, Items.{items, slice_get_some}, Rotated.{MayStartAt, place_of-run, place_of-zero, place_of_cases, length-rotated, rotated-map}}}}
+use Rattle.std.proofs.{
+  Common.{◌≡◌, ℕ, ◌+◌, ◌-◌, ◌<◌, ◌≤◌, List, [], map, length, take, drop, set, get_or, replicate, nat_lt, if◌then◌else◌},
+  Common.{slice_get, Option, Some, None, is_some, refl, sym, ap, ◌∙◌, swap, arith},
+  lemmas.{
+    Grind.common_steps,
+    List.{append-nil, length-drop, length-map, length-replicate, length-set, Edits.swap_is},
+    Option.slice_get-get_or,
+  },
+}
+use Rattle.arraydeque_ring.{
+  specs.{
+    Places.{held_at, IsFilled, HoldsRun, IsFilledRun, AreAllEmpty},
+    Ring.{place_of, rotated, values, filled, FilledFrom},
+  },
+  proofs.{
+    moved.Flat.same_places,
+    places.{
+      AndEmpty.{and_empty, length-and_empty, get_or-and_empty, values-and_empty, values-map_Some, filled-and_empty},
+      AndEmpty.and_empty_from,
+      Held.holds_run_of,
+      Holds.{Holds, Holds-each, Holds-of_rotated, Holds-rotated, rotated-Holds, Holds-from, Holds-set},
+      Items.{items, slice_get_some},
+      Rotated.{MayStartAt, place_of-run, place_of-zero, place_of_cases, length-rotated, rotated-map},
+    },
+  },
+}
 
 -- the n places hold the items from the place t on, round the end, and nothing else
 pub record LaidOut {X : Type 0} (n t : ℕ) (xs : List X) (ps : List (Option X)) : Type 0 where
@@ -81,7 +105,7 @@ module _ {X : Type 0} {n t : ℕ} {xs : List X} {ps : List (Option X)} (l : Laid
   pub IsFilledRun-LaidOut : (i p len : ℕ) → MayStartAt t i n p → i + len ≤ length xs → p + len ≤ n
       → IsFilledRun ps p len
   IsFilledRun-LaidOut i p len at within fits =
-      (omega arith, (take len (drop i xs), HoldsRun-LaidOut i p len at within fits))
+      (omega arith, (_, HoldsRun-LaidOut i p len at within fits))
 
   -- and a run that is read there is of those items
   pub same_run : (i p len : ℕ) (ys : List X) → MayStartAt t i n p → i + len ≤ length xs → p + len ≤ n
@@ -114,13 +138,11 @@ module _ {X : Type 0} {n t : ℕ} {xs : List X} {ps : List (Option X)} (l : Laid
 pub LaidOut-swap : {X : Type 0} {n t : ℕ} {xs : List X} {ps : List (Option X)} → LaidOut n t xs ps → (i j : ℕ)
     → i < length xs → j < length xs → LaidOut n t (swap xs i j) (swap ps (place_of t i n) (place_of t j n))
 LaidOut-swap {n = n} {t = t} {xs = xs} {ps = ps} l i j i_in j_in =
-    let x = slice_get_some xs i i_in in let y = slice_get_some xs j j_in in
-    let in_region : (k : ℕ) → k < length xs → place_of t k n < length ps = λ k lt. omega arith in
+    let d = (slice_get_some xs i i_in).0 in
     rw (
-      ← swap_is xs i j x.0 i_in j_in,
-      get_or_from_slice_get xs j y.0 x.0 y.1,
-      get_or_from_slice_get xs i x.0 x.0 x.1,
-      ← swap_is ps (place_of t i n) (place_of t j n) None (in_region i i_in) (in_region j j_in),
-      l.at j (omega arith) ∙ y.1,
-      l.at i (omega arith) ∙ x.1,
-    ) (LaidOut-set (LaidOut-set l i y.0 i_in) j x.0 (omega (arith, length-set xs i y.0)))
+      ← swap_is xs i j d i_in j_in,
+      ← swap_is ps (place_of t i n) (place_of t j n) None (omega arith) (omega arith),
+      l.at j (omega arith) ∙ slice_get-get_or xs j d j_in,
+      l.at i (omega arith) ∙ slice_get-get_or xs i d i_in,
+    ) (LaidOut-set (LaidOut-set l i (get_or xs j d) i_in) j (get_or xs i d)
+    (omega (arith, length-set xs i (get_or xs j d))))

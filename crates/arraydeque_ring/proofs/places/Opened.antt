@@ -175,7 +175,7 @@ module _ {X : Type 0} (r : Inside X) (kept : Kept r) where
       → (held_at places (place_of r.start k n) ≡ None) × (place_of r.start k n < n)
   past_items k past lt = (
     laid.at k lt ∙ slice_get_past items k (omega (arith, len)),
-    place_of-lt r.start k n (omega (arith, laid.in_region)),
+    omega arith,
   )
 
   pub next_place : r.start + 1 < n → place_of r.start 1 n ≡ r.start + 1
@@ -238,7 +238,7 @@ module _ {X : Type 0} (r : Inside X) (kept : Kept r) where
   pub run_filled : (i m : ℕ) → i + m ≤ r.len → IsFilledRun (rotated r.start places) i m
   run_filled i m le = (
     omega (arith, len, laid.within, length-rotated r.start places),
-    (take m (drop i items), HoldsRun-rotated laid i m (omega (arith, len))),
+    (_, HoldsRun-rotated laid i m (omega (arith, len))),
   )
 
   pub all_filled : IsFilledRun (rotated r.start places) 0 r.len

@@ -1,6 +1,16 @@
 -- Two runs that are rotated or exchanged, read place by place: where what a place holds came from.
-use Rattle.std.{proofs.{Common.{◌≡◌, ℕ, ◌+◌, ◌-◌, ◌<◌, ◌≤◌, List, length, get_or, nat_lt, if◌then◌else◌, Option, None}, Common.{sym, ap, ◌∙◌, arith, rules}, lemmas.{Bool.Decides.nat_tests, Grind.common_steps, List.{places, same_lists, length-set, Edits.swap_is}}}, specs.Prelude.swap}
-use Rattle.arraydeque_ring.{specs.{Places.{held_at, IsFilled}, Gaps.run_rotated, Exchanged.runs_exchanged}, proofs.{moved.Flat.same_places}}
+use Rattle.std.{
+  proofs.{
+    Common.{◌≡◌, ℕ, ◌+◌, ◌-◌, ◌<◌, ◌≤◌, List, length, get_or, nat_lt, if◌then◌else◌, Option, None, sym, ap, ◌∙◌, arith},
+    Common.{rules},
+    lemmas.{Bool.Decides.nat_tests, Grind.common_steps, List.{places, same_lists, length-set, Edits.swap_is}},
+  },
+  specs.Prelude.swap,
+}
+use Rattle.arraydeque_ring.{
+  specs.{Places.{held_at, IsFilled}, Gaps.run_rotated, Exchanged.runs_exchanged},
+  proofs.moved.Flat.same_places,
+}
 
 -- the place whose value the place x has, once m values from `at` on and the k behind them have changed places
 abbrev pub rotated_from : ℕ → ℕ → ℕ → ℕ → ℕ

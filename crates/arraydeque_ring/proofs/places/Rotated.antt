@@ -1,5 +1,10 @@
 -- A list read from an index on, round its end.
-use Rattle.std.proofs.{Common.{◌≡◌, ℕ, zero, suc, ◌+◌, ◌-◌, ◌%◌, ◌<◌, ◌≤◌, ◌⊎◌, ◌==◌, inl, inr, List, map, length, get_or}, Common.{sym, ap, ◌∙◌, arith}, Math.Nat.{mod-eq_of_lt, mod-eq-sub-mod, add-mod-mod, mod-add-mod, add_assoc}, lemmas.{Bool.{cases_lt}, List.{places, map-append, drop-map, take-map}}}
+use Rattle.std.proofs.{
+  Common.{◌≡◌, ℕ, zero, suc, ◌+◌, ◌-◌, ◌%◌, ◌<◌, ◌≤◌, ◌⊎◌, ◌==◌, inl, inr, List, map, length, get_or, sym, ap, ◌∙◌},
+  Common.arith,
+  Math.Nat.{mod-eq_of_lt, mod-eq-sub-mod, mod-add-mod, add_assoc},
+  lemmas.{Bool.cases_lt, List.{places, map-append, drop-map, take-map}},
+}
 use Rattle.arraydeque_ring.specs.Ring.{place_of, rotated}
 
 -- a place is the sum itself below the end, and the sum less the capacity past it
@@ -27,10 +32,6 @@ place_of-first k n lt = mod-eq_of_lt (omega arith) ∙ omega arith
 -- to go on by i and then by x is to go up by both
 pub place_of-sum : (t i x n : ℕ) → place_of (place_of t i n) x n ≡ place_of t (i + x) n
 place_of-sum t i x n = mod-add-mod (t + i) n x ∙ ap (λ m. m % n) (add_assoc t i x)
-
--- round the end
-pub place_of-place_of : (t i x n : ℕ) → place_of (place_of t i n) x n ≡ place_of t (place_of i x n) n
-place_of-place_of t i x n = place_of-sum t i x n ∙ sym (add-mod-mod t (i + x) n)
 
 -- two indexes have two places
 pub one_place : (t i j n : ℕ) → t ≤ n → i < n → j < n → (place_of t i n == place_of t j n) ≡ (i == j)

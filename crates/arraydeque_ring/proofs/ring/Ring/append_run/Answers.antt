@@ -26,4 +26,4 @@ pub invariant_of-other : goal.invariant_of-other
 invariant_of-other g c = grind (arith, there g (goal.at.invariant_of-other g c).After-hand_over)
 
 pub returns-clause-there : goal.returns-clause-there
-returns-clause-there g c = grind (arith, bounds, there g (goal.at.returns-clause-there g c).After-hand_over)
+returns-clause-there g c = grind (arith, there g (goal.at.returns-clause-there g c).After-hand_over)

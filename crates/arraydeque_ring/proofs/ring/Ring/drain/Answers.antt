@@ -1,13 +1,16 @@
 use Rattle.std.{proofs.{Common.{◌≡◌, ◌-◌, length, arith}, lemmas.{Grind.common_steps}}, specs.List.remove_range}
-use Rattle.arraydeque_ring.{proofs.{gaps.Fewest.fewest_drain, places.{Opened.{opened, bounds, Closing, run_filled, run_out, Shows}, Rotated.{place_of-zero}}, ring.Ring.drain.{Given.Over, Goals.{After-take_run, After-close_gap-self-inside}}}}
+use Rattle.arraydeque_ring.proofs.{
+  gaps.Fewest.fewest_drain,
+  places.{Opened.{opened, bounds, Closing, run_filled, run_out, Shows}, Rotated.place_of-zero},
+  ring.Ring.drain.{Given.Over, Goals.{After-take_run, After-close_gap-self-inside}},
+}
 use Rattle.arraydeque_ring.proofs.ring.Ring.drain.Goals as goal
 
 pub returns-then-count-eq0-clause-start : goal.returns-then-count-eq0-clause-start
 returns-then-count-eq0-clause-start g c =
     let ring = opened c.self.inside c.self.invariant c.self.view_is in
-    let old = c.args.self.now in
     let none : c.args.to - c.args.from ≡ 0 = omega arith in
-    grind (arith, place_of-zero old.start old.capacity (omega arith))
+    grind (arith, place_of-zero)
 
 pub take_run-requires-clause-filled : goal.take_run-requires-clause-filled
 take_run-requires-clause-filled g c =

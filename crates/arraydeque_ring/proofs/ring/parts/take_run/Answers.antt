@@ -17,7 +17,7 @@ pub hand_over-requires-clause-filled : goal.hand_over-requires-clause-filled
 hand_over-requires-clause-filled g c = (parts g c.before.before).here
 
 pub hand_over-requires-clause-empty : goal.hand_over-requires-clause-empty
-hand_over-requires-clause-empty g c = first_empty c.args.len _ c.args.taken.now.places (omega arith) c.requires.empty
+hand_over-requires-clause-empty g c = first_empty c.args.taken.now.places (omega arith) c.requires.empty
 
 pub hand_over-requires-then-first-len-clause-filled : goal.hand_over-requires-then-first-len-clause-filled
 hand_over-requires-then-first-len-clause-filled g c =
@@ -28,7 +28,7 @@ pub hand_over-requires-then-first-len-clause-empty : goal.hand_over-requires-the
 hand_over-requires-then-first-len-clause-empty g c =
     let p = parts g (goal.at.hand_over-requires-then-first-len-clause-empty g c).After-min-first in
     rw c.hand_over.ensures.there
-    (second_empty c.args.len _ c.args.taken.now.places (omega arith) c.requires.empty _ [] p.first_length)
+    (second_empty c.args.taken.now.places (omega arith) c.requires.empty _ [] p.first_length)
 
 pub returns-then-first-len-clause-places : goal.returns-then-first-len-clause-places
 returns-then-first-len-clause-places g c =
@@ -38,7 +38,7 @@ returns-then-first-len-clause-places g c =
 pub returns-then-first-len-clause-taken : goal.returns-then-first-len-clause-taken
 returns-then-first-len-clause-taken g c =
     let p = parts g (goal.at.returns-then-first-len-clause-taken g c).After-min-first in
-    let both = both_put c.args.len c.min-first.result c.args.taken.now.places (omega arith) c.requires.empty _ _
+    let both = both_put c.args.taken.now.places (omega arith) c.requires.empty _ _
     p.first_length ∙ ap (λ ps. ps ++ drop c.args.len c.args.taken.now.places) p.all in
     rw (c.hand_over-then-first-len.ensures.there, c.hand_over.ensures.there, c.hand_over.ensures.here)
     (grind arith)
@@ -52,7 +52,6 @@ returns-else-first-len-clause-places g c =
 pub returns-else-first-len-clause-taken : goal.returns-else-first-len-clause-taken
 returns-else-first-len-clause-taken g c =
     let none : c.args.len - c.min-first.result ≡ 0 = omega arith in
-    let same : c.min-first.result ≡ c.args.len = omega arith in
     let all =
     rw append-nil at (rw none at (parts g (goal.at.returns-else-first-len-clause-taken g c).After-min-first).all) in
     rw c.hand_over.ensures.there (grind arith)
