@@ -23,7 +23,7 @@ use Rattle.arraydeque_ring.{
       Holds.Holds-same,
       Items.items,
       LaidOut.{LaidOut, LaidOut-by, holds, IsFilledRun-LaidOut, same_run},
-      Opened.{Opened, view, kept, closed, piece_filled, piece_held, rest_filled, rest_held},
+      Opened.{Opened},
     },
   },
 }
@@ -90,8 +90,11 @@ module _ {X : Type 0} where
           let front = same_run o.laid 0 r.start first xs (inl (omega arith)) (omega arith) fits held in
           elim to_end [
             | inl none ↦ grind (arith, nil_from_length ys (many' ∙ none), take_all, append-nil, front, o.len)
-            | inr end ↦ rw (front, same_run o.laid first 0 rest ys (inr (omega arith)) (omega arith) (omega arith) held'
-                ∙ take_all rest (drop first v.items) (omega (arith, length-drop first v.items)))
+            | inr end ↦ rw (
+              front,
+              same_run o.laid first 0 rest ys (inr (omega arith)) (omega arith) (omega arith) held'
+                  ∙ take_all rest (drop first v.items) (omega (arith, length-drop first v.items)),
+            )
                 (take-append-drop first v.items)
           ]
 
