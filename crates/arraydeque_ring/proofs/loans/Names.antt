@@ -73,7 +73,7 @@ module _ (T U : SemTy) (coded : Coded (T.rep × U.rep)) (b₁ o₁ b₂ o₂ : �
       ⊛ (‵ (fobs γs.1 (U.coded.code y)) ⊛ ‵ (fbor κ (Body U b₂ o₂ γs.1))) ⊛ ‵ (flft κ q)
       ⊛ ‵ (after₂ Pair T U ν γs.0 γs.1 (λ s t. (s, t)))))) (takes_two 𝓛 Pair T U (λ s t. (s, t)) κ q 0 0 b₁ o₁ b₂ o₂ ν
       (emp 𝓤) (λ v w. qed 𝓛 (‵ (T.own_at v b₁ o₁) ∷ ‵ (U.own_at w b₂ o₂) ∷ raw (emp 𝓤) ∷ []) ∵ fjoin ! $
-      keep ! (0 ∷ []) $ done !) (coded.code (x, y)) (coded.code (x, y)) x y) $ await t z $
+      keep ! (0 ∷ []) $ done !) _ _ x y) $ await t z $
       pick t (λ γs. split3 t $ move t (2 ∷ []) $ split t $ move t (2 ∷ []) $ split t $ move t (4 ∷ []) $ split t $
       next γs)
 
