@@ -16,7 +16,7 @@ use Rattle.arraydeque_ring.{
     declared.ring.Ring.TheInside.Inside,
   },
   proofs.{
-    loans.Placed.{as_many-same, length-as_many},
+    loans.Placed.{as_many-same, as_many-twice, length-as_many},
     places.{
       Appended.{Holds-run, LaidOut-written},
       Held.length_filled,
@@ -43,9 +43,7 @@ LaidOut-round {t = t} l us vs many fits to_end = elim to_end [
 
 module _ {X : Type 0} where
   pub rewritten-twice : (v : RingState X) (xs : List X) → rewritten v (rewritten v xs).items ≡ rewritten v xs
-  rewritten-twice v xs i = record (rewritten v xs) {
-    items = as_many-same v.items (as_many v.items xs) (length-as_many v.items xs) i;
-  }
+  rewritten-twice v xs i = record (rewritten v xs) { items = as_many-twice v.items xs i }
 
   abbrev pub with_slots : Inside X → Region X → Inside X
   with_slots r w = record { slots = w; start = r.start; len = r.len }

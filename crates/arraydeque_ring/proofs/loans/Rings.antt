@@ -2,8 +2,8 @@
 use Rattle.arraydeque_ring.{
   proofs.{
     memory.{
-      Kit.{via, ◌≡◌, List, [], ◌∷◌, ℕ, ◌+◌, Ura, full_share, ent, sep, SProp, w64, Logic, sem, RattleType, part_at, Seq, Goal},
-      Kit.{Item, some, raw, ‵, ◌⊛◌, ◌$◌, pick, use1, split3, usize, param_laws, El, R, el_x, part_of, lone},
+      Kit.{via, ◌≡◌, List, [], ◌∷◌, ℕ, ◌+◌, Ura, full_share, ent, sep, SProp, w64, Logic, sem, RattleType, part_at},
+      Kit.{Seq, Goal, Item, some, raw, ‵, ◌⊛◌, ◌$◌, pick, use1, split3, usize, param_laws, El, R, el_x, part_of, lone},
       Regions.Sr,
     },
     loans.Lending.with_slots,

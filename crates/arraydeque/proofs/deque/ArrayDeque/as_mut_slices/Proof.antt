@@ -3,7 +3,7 @@ use Rattle.arraydeque_ring.{
   proofs.{
     memory.Called.{first_fact, returned},
     memory.Kit.{refl, List, [], ◌∷◌, ◌++◌, id⊢, flft, Fn, inst_fn, named, tables, ‵, raw, ◌⊛◌, ◌$◌, ◌∵◌, !, qed, move},
-    memory.Kit.{use1, use2, split, join, frame, rewrite, fsplit, suffices, enter, addr, stop, no_more, and_then},
+    memory.Kit.{use1, use2, split, join, frame, fsplit, suffices, enter, addr, stop, no_more, and_then},
     memory.Kit.{returns, alloc_all, pass_all, free_all, look_at, get, through, sets, lands_as, no, plain, mem, Stays},
     memory.Kit.{walk_of, stay_dropped, ends_at, nothing, fjoin, calls_at, framed, triple_of, RattleType, El, R, el_x},
     memory.Kit.{proved, after₂, Array, both_by, number, mut_vals, mut_Tells, on_entry, Goes-spent_ref, a_type},
@@ -59,16 +59,12 @@ as_mut_slices_spec 𝓤 𝓛 𝓜 𝓡 wired X N B L fits LB members dict dict_m
     move ! (2 ∷ []) $ use1 𝓛 (‵ (lends_loan (R E) (f.CAP-row X C B) (f.B-row X C B) a.0 it) ⊛ raw _) (id⊢ 𝓤 _) $
     split ! $ move ! (1 ∷ []) $ first_fact ! (λ value. heard ! _ (λ piece. fsplit ! $
     let γ = a.0.ghost_name in let Rows = mem (Array (R E) 0) in
-    let Ended : DequeState (el_x E) → DequeState (el_x E) = λ w. rewritten d w.items in
     let Put : List (el_x E) → List (el_x E) → DequeState (el_x E) =
     λ us vs. rewritten d (as_many it.first.now us ++ as_many it.second.now vs) in
-    use2 𝓛 (‵ (after₂ (mem (Dr E N B)) Rows Rows γ it.first.ghost_name it.second.ghost_name
-    (λ us vs. Ended (Put us vs)))) (followed_both 𝓛 (mem (Dr E N B)) (mem (Dr E N B)) Rows Rows _ _ _ _ _ _) $
-    rewrite ! 0 (λ (F : List (el_x E) → List (el_x E) → DequeState (el_x E)).
-    ‵ (after₂ (mem (Dr E N B)) Rows Rows γ it.first.ghost_name it.second.ghost_name F))
-    (λ i us vs. record (Put us vs) {
+    use2 𝓛 (‵ (after₂ (mem (Dr E N B)) Rows Rows γ it.first.ghost_name it.second.ghost_name Put))
+    (followed_both 𝓛 (mem (Dr E N B)) (mem (Dr E N B)) Rows _ _ _ _ _ _ _ (λ us vs i. record (Put us vs) {
       items = as_many-twice d.items (as_many it.first.now us ++ as_many it.second.now vs) i;
-    }) refl $
+    })) $
     -- [what the deque follows; the tokens; the pair]
     returns ! (look_at ! 0 refl) $ free_all ! refl $
     suffices ! _ (ends_at 𝓛 ended stayed c y u (it.first, it.second) (tt, tt) (tt, tt)) $

@@ -2,21 +2,19 @@
 use Rattle.arraydeque_ring.{
   proofs.{
     memory.Called.{calls_met, first_fact, knows},
-    memory.Kit.{◌≡◌, refl, ap, ◌∙◌, List, [], ◌∷◌, ◌++◌, ℕ, ◌+◌, ◌≤◌, arith, length, full_share, id⊢, sep, Share},
-    memory.Kit.{GName, flft, Fn, inst_fn, named, vptr, ◌⊑◌, fact, tables, owns, types_at, ‵, raw, ◌⊛◌, some, later},
-    memory.Kit.{◌$◌, ◌∵◌, !, qed, move, keep, use1, use2, split, split3, group, join, pick, frame, rewrite, await},
-    memory.Kit.{fsplit, fsplit3, fjoin, suffices, done, enter, addr, stop, fld, no_more, and_then, returns, alloc_all},
-    memory.Kit.{pass_all, free_all, look_at, get, through, sets, lands_as, no, plain, mem, part_at, Stays, walk_of},
-    memory.Kit.{says_two, stay_dropped, ends_at, heard, nothing, RattleType, El, R, el_x, proved, after₂, sem, Array},
-    memory.Kit.{both_by, number, MutBor, NamedLft, mut_vals, mut_Tells, named_lft, Goes-spent_ref, on_entry, a_type},
-    memory.Kit.{a_number},
+    memory.Kit.{◌≡◌, refl, ap, ◌∙◌, [], ◌∷◌, ◌++◌, ℕ, ◌+◌, ◌≤◌, arith, length, full_share, id⊢, Share, flft, Fn},
+    memory.Kit.{inst_fn, named, vptr, ◌⊑◌, fact, tables, owns, types_at, ‵, raw, ◌⊛◌, some, ◌$◌, ◌∵◌, !, qed, move},
+    memory.Kit.{keep, use1, use2, split, split3, join, pick, frame, fsplit, fsplit3, fjoin, suffices, done, enter},
+    memory.Kit.{addr, stop, fld, no_more, and_then, returns, alloc_all, pass_all, free_all, look_at, get, through},
+    memory.Kit.{sets, lands_as, no, plain, mem, part_at, Stays, walk_of, says_two, stay_dropped, ends_at, heard},
+    memory.Kit.{nothing, RattleType, El, R, el_x, proved, after₂, sem, Array, both_by, number, MutBor, NamedLft},
+    memory.Kit.{mut_vals, mut_Tells, named_lft, Goes-spent_ref, on_entry, a_type, a_number},
     loans.{Made.{loan_lawful, loan_renamed}, Names.{hands_on, followed_both, part_lent}, Rings.Rr},
     ring.Ring.lend.Met.met,
   },
   specs.{Loans.{LoanState, as_many}, Ring.RingState},
 }
 use base.Share
-use types.Follow as follow
 use types.{Late.{ages}, Mut.open_ref}
 use contract.Lifetimes.{Lfts, toks}
 use denote.Param.{bounded}
@@ -84,24 +82,18 @@ lend_spec 𝓤 𝓛 𝓜 𝓡 wired X N B L fits LB members dict dict_met =
     -- [what δ follows; what the loan's name follows;
     -- the loan; the tokens; the right; the open borrow; the other field; the way back; obs γ; auth γ; the others]
     let V : RingState (el_x E) → DequeState (el_x E) = λ u. view E N B (after E N B x d seen kept u.items) in
-    let Rest = sep 𝓤 (sem 𝓛 (Other E N B LB 𝓛 rb ro x)) (Way E N B LB 𝓛 rb ro) in
-    move ! (6 ∷ 7 ∷ []) $ join ! $ move ! (6 ∷ 7 ∷ 8 ∷ 5 ∷ 1 ∷ 0 ∷ []) $ group ! 6 $
-    use1 𝓛 (later (some (λ (ν : GName). ‵ (flft κ l) ⊛ ‵ (follow.after (mem (Dr E N B))
-    (mem (Dr E N B)) γ ν (λ u. rewritten d u.items)) ⊛ ‵ (follow.after (mem (Dr E N B)) (mem (Rr E)) ν it.name V))))
-    (hands_on 𝓛 (mem (Dr E N B)) (mem (Rr E)) (mem (Rr E))
-    (λ u. rewritten d u.items) V (λ u. ring.rewritten x.ring u.items) κ l rb ro rb (ro + 0) γ δ it.name Rest
+    move ! (6 ∷ 7 ∷ []) $ join ! $ move ! (6 ∷ 7 ∷ 8 ∷ 5 ∷ 1 ∷ 0 ∷ []) $
+    hands_on ! tt (mem (Dr E N B)) (mem (Rr E)) (mem (Rr E)) (λ u. rewritten d u.items) V
+    (λ u. ring.rewritten x.ring u.items) age rb ro rb (ro + 0) d
     (λ u. deque_whole E N B LB 𝓛 rb ro (rewritten d (V u).items) x (ring.rewritten x.ring u.items)
-    (seen_after E N B x d seen kept u.items) (kept_after E N B x d seen kept u.items)) age _ _ d) $
-    await ! tt $ pick ! (λ ν. split3 ! $
+    (seen_after E N B x d seen kept u.items) (kept_after E N B x d seen kept u.items)) (λ ν.
     -- [half the token; what γ follows;
     -- what ν follows; what the loan's name follows; the loan; the tokens; the others]
-    let Rows = mem (Array (R E) 0) in let Put : List (el_x E) → List (el_x E) → RingState (el_x E) =
-    λ us vs. ring.rewritten x.ring (as_many it.first.now us ++ as_many it.second.now vs) in
+    let Rows = mem (Array (R E) 0) in
     move ! (2 ∷ 3 ∷ []) $ use2 𝓛 (‵ (after₂ (mem (Dr E N B)) Rows Rows ν it.first.ghost_name it.second.ghost_name
-    (λ us vs. V (Put us vs)))) (followed_both 𝓛 (mem (Dr E N B)) (mem (Rr E)) Rows Rows _ _ _ _ _ _) $
-    rewrite ! 0 (λ (F : List (el_x E) → List (el_x E) → DequeState (el_x E)).
-    ‵ (after₂ (mem (Dr E N B)) Rows Rows ν it.first.ghost_name it.second.ghost_name F))
-    (λ i us vs. written E N B x d seen kept (as_many it.first.now us ++ as_many it.second.now vs) i) refl $
+    (λ us vs. rewritten d (as_many it.first.now us ++ as_many it.second.now vs))))
+    (followed_both 𝓛 (mem (Dr E N B)) (mem (Rr E)) Rows _ _ _ _ _ _ _
+    (λ us vs. written E N B x d seen kept (as_many it.first.now us ++ as_many it.second.now vs))) $
     -- [what ν follows; half the token; what γ follows; the loan; the tokens; the others]
     let out : LoanState (el_x E) = record it { name = ν } in
     move ! (2 ∷ 0 ∷ []) $ fjoin ! $ move ! (2 ∷ []) $
