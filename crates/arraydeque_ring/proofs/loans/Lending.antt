@@ -2,7 +2,7 @@
 use Rattle.std.{
   proofs.{
     Common.{◌≡◌, ℕ, ◌+◌, ◌-◌, ◌≤◌, ◌⊎◌, inl, inr, List, [], ◌++◌, length, take, drop, Option, ap, ◌∙◌, arith},
-    lemmas.{List.{nil_from_length, length-append, take_all, append-nil, take-append-drop}},
+    lemmas.{List.{nil_from_length, length-append, take_all, append-nil, take-append-drop, length-drop}},
   },
   specs.Prelude.min,
 }
@@ -16,14 +16,14 @@ use Rattle.arraydeque_ring.{
     declared.ring.Ring.TheInside.Inside,
   },
   proofs.{
-    loans.Placed.{as_many-same, length-as_many},
+    loans.Placed.{as_many-same, as_many-twice, length-as_many},
     places.{
       Appended.{Holds-run, LaidOut-written},
       Held.length_filled,
       Holds.Holds-same,
       Items.items,
-      LaidOut.{LaidOut, LaidOut-by, holds},
-      Opened.{Opened, view, kept, closed, piece_filled, piece_held, rest_filled, rest_held},
+      LaidOut.{LaidOut, LaidOut-by, holds, IsFilledRun-LaidOut, same_run},
+      Opened.{Opened},
     },
   },
 }
@@ -43,7 +43,7 @@ LaidOut-round {t = t} l us vs many fits to_end = elim to_end [
 
 module _ {X : Type 0} where
   pub rewritten-twice : (v : RingState X) (xs : List X) → rewritten v (rewritten v xs).items ≡ rewritten v xs
-  rewritten-twice v xs i = record (rewritten v xs) { items = as_many-same v.items (as_many v.items xs) (length-as_many v.items xs) i }
+  rewritten-twice v xs i = record (rewritten v xs) { items = as_many-twice v.items xs i }
 
   abbrev pub with_slots : Inside X → Region X → Inside X
   with_slots r w = record { slots = w; start = r.start; len = r.len }
@@ -59,25 +59,25 @@ module _ {X : Type 0} where
     abbrev rest : ℕ
     rest = r.len - first
 
-    fits : r.start + first ≤ length ps
-    fits = let inside = (kept o).0 in omega arith
+    fits : r.start + first ≤ v.capacity
+    fits = omega arith
 
-    to_end : (rest ≡ 0) ⊎ (r.start + first ≡ length ps)
-    to_end = let inside = (kept o).0 in grind arith
+    to_end : (rest ≡ 0) ⊎ (r.start + first ≡ v.capacity)
+    to_end = let long = o.laid.length_is in let inside = o.laid.in_region in grind arith
 
     -- the two runs are filled
     pub first_run_filled : IsFilledRun ps r.start first
-    first_run_filled = piece_filled r (kept o) first (omega arith) fits
+    first_run_filled = IsFilledRun-LaidOut o.laid 0 r.start first (inl (omega arith)) (omega arith) fits
 
     pub second_run_filled : IsFilledRun ps 0 rest
     second_run_filled = elim to_end [
       | inl none ↦ (omega arith, ([], ap (λ k. take k (drop 0 ps)) none))
-      | inr end ↦ rest_filled r (kept o) first (omega arith) end
+      | inr end ↦ IsFilledRun-LaidOut o.laid first 0 rest (inr (omega arith)) (omega arith) (omega arith)
     ]
 
     module _ (xs ys : List X) (held : HoldsRun ps r.start first xs) (held' : HoldsRun ps 0 rest ys) where
       many : length xs ≡ first
-      many = length_filled ps r.start first (fits, (xs, held))
+      many = length_filled ps r.start first (first_run_filled.0, (xs, held))
 
       many' : length ys ≡ rest
       many' = length_filled ps 0 rest (second_run_filled.0, (ys, held'))
@@ -85,14 +85,16 @@ module _ {X : Type 0} where
       -- what they hold, joined, are the items
       pub lent_items : xs ++ ys ≡ v.items
       lent_items =
-          let items = (view r).items in
-          let long : length items ≡ r.len = ap (λ (w : RingState X). length w.items) (closed o) ∙ o.len in
-          let front = (piece_held r (kept o) first xs (omega arith) fits held).1 in
+          let front = same_run o.laid 0 r.start first xs (inl (omega arith)) (omega arith) fits held in
           elim to_end [
-            | inl none ↦ grind (arith, nil_from_length ys (many' ∙ none), take_all, append-nil)
-            | inr end ↦ rw (front, (rest_held r (kept o) first ys (omega arith) end held').1)
-                (take-append-drop first items)
-          ] ∙ ap (λ (w : RingState X). w.items) (closed o)
+            | inl none ↦ grind (arith, nil_from_length ys (many' ∙ none), take_all, append-nil, front, o.len)
+            | inr end ↦ rw (
+              front,
+              same_run o.laid first 0 rest ys (inr (omega arith)) (omega arith) (omega arith) held'
+                  ∙ take_all rest (drop first v.items) (omega (arith, length-drop first v.items)),
+            )
+                (take-append-drop first v.items)
+          ]
 
       pub one_piece : v.start + length v.items ≤ v.capacity → ys ≡ []
       one_piece within = nil_from_length ys (omega (arith, many'))

@@ -1,5 +1,11 @@
 -- A slice is made of what is lent of a run, and a `Loan` of its two slices, under any name. Assumes `Logic`.
-use Rattle.arraydeque_ring.{proofs.memory.Kit.{◌≡◌, refl, ap, List, [], ◌∷◌, ◌+◌, ◌<◌, ◌^◌, length, Ura, ent, sep, GName, Fml, fsep, ftrue}, proofs.memory.Kit.{Val, vstruct, vcons, vnil, Logic, sem, ‵, ◌$◌, ◌∵◌, !, qed, move, use0, fjoin, fpick, fpack, Step}, proofs.memory.Kit.{step, Item, Goal, sym, subst, use2, rewrite, slice_val, fobs, fbor, Borrowed, mem, ℕ, feq_i, done}, proofs.memory.Kit.{El, R, param_laws, RattleType, nothing, NamedLft, MutSlice, MutBor, makes_shadow, Struct}, specs.{Loans.LoanState, declared.slots.loan.Loan.TheInside.Inside}}
+use Rattle.arraydeque_ring.{
+  proofs.memory.Kit.{◌≡◌, refl, ap, List, [], ◌∷◌, ◌+◌, ◌<◌, ◌^◌, length, Ura, ent, sep, GName, Fml, fsep, ftrue, Val},
+  proofs.memory.Kit.{vstruct, vcons, vnil, Logic, sem, ‵, ◌$◌, ◌∵◌, !, qed, move, use0, fjoin, fpick, fpack, Step},
+  proofs.memory.Kit.{step, Item, Goal, sym, subst, use2, rewrite, slice_val, fobs, fbor, Borrowed, mem, ℕ, feq_i, done},
+  proofs.memory.Kit.{El, R, param_laws, RattleType, nothing, NamedLft, MutSlice, MutBor, makes_shadow, Struct},
+  specs.{Loans.LoanState, declared.slots.loan.Loan.TheInside.Inside},
+}
 use types.SemTy.{Arr}
 use base.Stored.{coded_list}
 use denote.{

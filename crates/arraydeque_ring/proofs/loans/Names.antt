@@ -59,11 +59,6 @@ module _ (T U : SemTy) (coded : Coded (T.rep × U.rep)) (b₁ o₁ b₂ o₂ : �
     own_at = λ w _ _. fsep (T.own_at w.0 b₁ o₁) (U.own_at w.1 b₂ o₂);
   }
 
-  whole : {M : Type 1} {𝓤 : Ura M} (𝓛 : Logic 𝓤) (s : T.rep) (t : U.rep) → ent 𝓤 (sep 𝓤 (sem 𝓛 (T.own_at s b₁ o₁))
-      (sep 𝓤 (sem 𝓛 (U.own_at t b₂ o₂)) (emp 𝓤))) (sem 𝓛 (Pair.own_at (s, t) 0 0))
-  whole {𝓤 = 𝓤} 𝓛 s t =
-      qed 𝓛 (‵ (T.own_at s b₁ o₁) ∷ ‵ (U.own_at t b₂ o₂) ∷ raw (emp 𝓤) ∷ []) ∵ fjoin ! $ keep ! (0 ∷ []) $ done !
-
   -- what is lent of both is lent as two borrows, under new names that the pair's name follows, the second first
   pub both_lent : {M : Type 1} {𝓤 : Ura M} {𝓛 : Logic 𝓤} {K : Type 0} {Γ : List (Item 𝓤)} {G : Goal 𝓤 𝓛.H} → K
       → Soaks G → {κ : Lft} {q : Share} {ν : GName} (x : T.rep) (y : U.rep)
@@ -77,7 +72,8 @@ module _ (T U : SemTy) (coded : Coded (T.rep × U.rep)) (b₁ o₁ b₂ o₂ : �
       use1 𝓛 (later (some (λ (γs : GName × GName). (‵ (fobs γs.0 (T.coded.code x)) ⊛ ‵ (fbor κ (Body T b₁ o₁ γs.0)))
       ⊛ (‵ (fobs γs.1 (U.coded.code y)) ⊛ ‵ (fbor κ (Body U b₂ o₂ γs.1))) ⊛ ‵ (flft κ q)
       ⊛ ‵ (after₂ Pair T U ν γs.0 γs.1 (λ s t. (s, t)))))) (takes_two 𝓛 Pair T U (λ s t. (s, t)) κ q 0 0 b₁ o₁ b₂ o₂ ν
-      (emp 𝓤) (whole 𝓛) (coded.code (x, y)) (coded.code (x, y)) x y) $ await t z $
+      (emp 𝓤) (λ v w. qed 𝓛 (‵ (T.own_at v b₁ o₁) ∷ ‵ (U.own_at w b₂ o₂) ∷ raw (emp 𝓤) ∷ []) ∵ fjoin ! $
+      keep ! (0 ∷ []) $ done !) _ _ x y) $ await t z $
       pick t (λ γs. split3 t $ move t (2 ∷ []) $ split t $ move t (2 ∷ []) $ split t $ move t (4 ∷ []) $ split t $
       next γs)
 

@@ -49,6 +49,9 @@ module _ {X : Type 0} where
   pub as_many-same : (xs ws : List X) → length ws ≡ length xs → as_many xs ws ≡ ws
   as_many-same xs ws e = take_at ws (drop (length ws) xs) (length xs) e
 
+  pub as_many-twice : (xs ws : List X) → as_many xs (as_many xs ws) ≡ as_many xs ws
+  as_many-twice xs ws = as_many-same xs (as_many xs ws) (length-as_many xs ws)
+
   -- as many in the stead of m items, as `with_run` writes them
   pub as_run : (i : ℕ) (xs us : List X) (ps : List (Option X)) {m : ℕ} → length xs ≡ m → length us ≡ m
       → placed i m (map Some us) ps ≡ with_run i (as_many xs us) ps

@@ -1,5 +1,16 @@
 -- A `Ring` in memory is taken apart into its slots and its other fields, and made of them again. Assumes `Logic`.
-use Rattle.arraydeque_ring.{proofs.{memory.{Kit.{via, ◌≡◌, List, [], ◌∷◌, ℕ, ◌+◌, Ura, full_share, ent, sep, w64, Logic, sem, RattleType, part_at}, Kit.{Seq, Goal, Item, some, raw, ‵, ◌⊛◌, ◌$◌, pick, use1, split3, usize, param_laws, El, R, el_x, part_of}, Kit.{lone}, Regions.Sr}, loans.Lending.with_slots, places.Opened.{Opened, opened, view, Kept, closed, kept}}, specs.{Places.Region, Ring.RingState, declared.ring.Ring.TheInside.Inside}}
+use Rattle.arraydeque_ring.{
+  proofs.{
+    memory.{
+      Kit.{via, ◌≡◌, List, [], ◌∷◌, ℕ, ◌+◌, Ura, full_share, ent, sep, SProp, w64, Logic, sem, RattleType, part_at},
+      Kit.{Seq, Goal, Item, some, raw, ‵, ◌⊛◌, ◌$◌, pick, use1, split3, usize, param_laws, El, R, el_x, part_of, lone},
+      Regions.Sr,
+    },
+    loans.Lending.with_slots,
+    places.Opened.{Opened, opened, view, Kept, closed, kept},
+  },
+  specs.{Places.Region, Ring.RingState, declared.ring.Ring.TheInside.Inside},
+}
 use denote.{
   Laws.Lawfuls,
   Model.Fields.{plain_out, Plain-in, view_made},
@@ -23,9 +34,8 @@ module _ (E : El) {M : Type 1} {𝓤 : Ura M} {𝓛 : Logic 𝓤} {K : Type 0} {
   -- Leaves [the slots; the other fields; the way back].
   -- Whatever the slots are, with which the fields hold a ring, it is whole again.
   pub ring_apart : K → (d : RingState (el_x E)) (rb ro : ℕ) → ((x : Inside (el_x E)) → Opened x d
-      → let Others = rest_at full_share (members E) 0 (x.slots, (x.start, (x.len, tt))) rb ro 0 in
-      let Way = PartsBack 𝓛 full_share [] (members E) rb ro in
-      ((w : Region (el_x E)) (v : RingState (el_x E)) → Opened (with_slots x w) v
+      → let Others = rest_at full_share (members E) 0 (x.slots, (x.start, (x.len, tt))) rb ro 0 in (Way : SProp 𝓤)
+      → ((w : Region (el_x E)) (v : RingState (el_x E)) → Opened (with_slots x w) v
       → ent 𝓤 (sep 𝓤 (sem 𝓛 (part_at (Sr E) full_share w rb (ro + 0))) (sep 𝓤 (sem 𝓛 Others) Way))
       (sem 𝓛 (part_at (Rr E) full_share v rb ro)))
       → Seq K 𝓛 (‵ (part_at (Sr E) full_share x.slots rb (ro + 0)) ∷ ‵ Others ∷ raw Way ∷ Γ) G)
@@ -41,7 +51,7 @@ module _ (E : El) {M : Type 1} {𝓤 : Ura M} {𝓛 : Logic 𝓤} {K : Type 0} {
       ((slots_laws.the_row_laws (R E) (param_laws 0 E.row E.laws)).lawful 𝓛, (word, (word, tt))) in
       use1 𝓛 (‵ (part_at (Sr E) full_share x.slots rb (ro + 0)) ⊛ ‵ Others ⊛ raw Way)
       (field_out 𝓛 full_share [] (members E) lawful (x.slots, (x.start, (x.len, tt))) rb ro 0) $ split3 t $
-      next x (opened x y.1.1 y.1.0) (λ w v o. let z = with_slots x w in
+      next x (opened x y.1.1 y.1.0) Way (λ w v o. let z = with_slots x w in
       via 𝓤 (sem 𝓛 (part_at In full_share z rb ro))
       (field_back 𝓛 full_share [] (members E) (z.slots, (z.start, (z.len, tt))) rb ro 0)
       (Plain-in (Rr E) In (ring_laws.the_opens (R E)) 𝓛 full_share v z

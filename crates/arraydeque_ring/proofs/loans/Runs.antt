@@ -88,7 +88,8 @@ module _ (E : El) (b o : ℕ) where
         -- [what is before the second; what is behind it; the second]
         rewrite ! 0 (λ qs. ‵ (Row o qs)) (sym (take-placed i m j n ps low in_j us e)) refl $
         rewrite ! 1 (λ qs. ‵ (Row behind qs)) (sym (drop-placed i m j n ps low in_j us e)) refl $
-        fjoin ! $ move ! (1 ∷ 0 ∷ []) $ by ! (run_in E 𝓛 b o (placed i m us ps) j n (grind (arith, common_steps, low, in_j, e)) vs e'))
+        fjoin ! $ move ! (1 ∷ 0 ∷ []) $
+        by ! (run_in E 𝓛 b o (placed i m us ps) j n (grind (arith, common_steps, low, in_j, e)) vs e'))
 
     -- which of the two comes first is all one, where what is written into both may come in either order
     other_way : (i m j n : ℕ) → ((us vs : List (Place E)) → length us ≡ m → length vs ≡ n

@@ -1,8 +1,8 @@
-use Rattle.std.proofs.{Common.{◌≡◌, length, drop, refl, arith}, lemmas.List.take_at}
+use Rattle.std.proofs.Common.{◌≡◌, refl, arith}
 use Rattle.arraydeque_ring.{
   specs.Loans.as_many,
   proofs.{
-    loans.Placed.length-as_many,
+    loans.Placed.{length-as_many, as_many-same},
     places.Opened.{slice_facts, bounds, piece_written},
     ring.Ring.as_mut_slice.{Given.Over, Goals.After-slice_mut},
   },
@@ -18,7 +18,6 @@ lent g c = grind (arith, slice_facts)
 
 pub returns : goal.returns
 returns g c =
-    let items = c.args.self.now.items in
     let now = lent g (goal.at.returns g c).After-slice_mut in (
       (
         refl,
@@ -28,6 +27,6 @@ returns g c =
       record {
         writes_back = tt;
         value = now;
-        same_len = λ ws e. take_at ws (drop (length ws) items) (length items) e;
+        same_len = as_many-same c.args.self.now.items;
       },
     )

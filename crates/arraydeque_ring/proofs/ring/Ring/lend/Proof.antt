@@ -47,7 +47,7 @@ lend_spec 𝓤 𝓛 𝓜 𝓡 wired X L =
     alloc_all ! (λ locals. pass_all ! refl ((tt, tt), fit) $
     -- [obs; the borrow; its token; the others]
     move ! (2 ∷ []) $ use1 𝓛 (‵ (flft κ l) ⊛ ‵ (flft κ r)) (𝓛.lfts.lft_split κ q) $ split ! $ move ! (2 ∷ 3 ∷ 0 ∷ []) $
-    open_ref ! tt (mem (Rr E)) {x = d} {b = rb} {o = ro} $ ring_apart E ! d rb ro (λ x open_ring whole.
+    open_ref ! tt (mem (Rr E)) {x = d} {b = rb} {o = ro} $ ring_apart E ! d rb ro (λ x open_ring Way whole.
     -- [the slots; the other fields; the way back; the open borrow, in three; half its token; the others]
     move ! (1 ∷ []) $ fsplit3 ! $
     -- [the start; the length; nothing; the slots; ..]

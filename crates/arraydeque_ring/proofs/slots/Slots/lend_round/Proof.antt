@@ -32,7 +32,7 @@ lend_round_spec 𝓤 𝓛 𝓜 𝓡 wired X L =
     (code.unfolded 𝓤 𝓛.H 𝓜 𝓡 wired (X, tt)) (λ κs qs bounds a _ typed post ends.
     let r = a.0.now in
     let start = a.1.0 in let len = a.1.1.0 in let cut = min len (length r.places - start) in
-    let fs = typed.0.1.fits in let fl = typed.1.0.1.fits in
+    let fl = typed.1.0.1.fits in
     first_fact ! (λ lives. first_fact ! (λ inside. first_fact ! (λ within. first_fact ! (λ one. heard ! _ (λ two.
     alloc_all ! (λ l. pass_all ! refl ((tt, tt), typed) $
     slots_open E ! tt r (λ heap b o n ok.
@@ -60,7 +60,7 @@ lend_round_spec 𝓤 𝓛 𝓜 𝓡 wired X L =
     let words : ℕ × (ℕ × (ℕ × (ℕ × Unit {0}))) = (start, (cut, (0, (rest, tt)))) in
     let vals = values 1 κs 4 (a.0, words) in
     pure_i ! (owns (usize ∷ usize ∷ usize ∷ usize ∷ []) words vals.1) _
-    ((refl, fs), ((refl, fc), ((refl, lit< tt), ((refl, fr), tt)))) $
+    ((refl, typed.0.1.fits), ((refl, fc), ((refl, lit< tt), ((refl, fr), tt)))) $
     -- [the words; the borrow; its token; the others]
     move ! (1 ∷ 0 ∷ []) $ fjoin ! $ move ! (1 ∷ 2 ∷ []) $ join ! $ join ! $
     let apart : AreApart start cut 0 rest = λ k from to from' to'. omega arith in

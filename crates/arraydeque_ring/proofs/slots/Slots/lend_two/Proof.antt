@@ -67,7 +67,8 @@ lend_two_spec 𝓤 𝓛 𝓜 𝓡 wired X L =
     (λ w. grind (arith, common_steps, length-as_many xs w.0, length-as_many ys w.1))
     (λ w. qed 𝓛 (‵ (Lent.own_at w p 0) ∷ ‵ Rest ∷ []) ∵ fsplit ! $ by ! (back w.0 w.1)) (λ ν.
     both_lent (Values E la) (Values E lb) Both.coded p pa p pb ! tt xs ys (λ γs.
-    let few : la + lb ≤ length r.places = grind (arith, apart_cases a la b lb apart) in let room = run_fits E ok in let α = named_lft 2 0 tt κs in
+    let few : la + lb ≤ length r.places = grind (arith, apart_cases a la b lb apart) in
+    let room = run_fits E ok in let α = named_lft 2 0 tt κs in
     slice_lent α (R E) 𝓛 ! ys long' (room lb (omega arith)) $ move ! (1 ∷ 2 ∷ []) $
     slice_lent α (R E) 𝓛 ! xs long (room la (omega arith)) $
     let v = loan_val (slice_val (p, pa) la) (slice_val (p, pb) lb) in let seen : LoanState (el_x E) = record {
