@@ -52,6 +52,7 @@ pub record Laying {S X : Type 0} (it : Ghosts S X) (word : List X → RingState 
   pub count : ℕ
   pub so_far : Fills it.next_gives from to count ended (λ xs. Opened record r { slots = slots } (word xs v))
   pub goes : GoesOn it.can_next it.remaining from to ended
+  -- which is said in so_far too, but found here
   pub kept : Kept record r { slots = slots }
 
 module _ {S X : Type 0} {it : Ghosts S X} {word : List X → RingState X → RingState X} {v : RingState X} {n : ℕ}
@@ -99,7 +100,7 @@ module _ {X : Type 0} {r : Inside X} {v : RingState X} (o : Opened r v) {n : ℕ
   -- behind the last item
   module _ {run place : ℕ} (is : place ≡ (r.start + r.len) % n) (fits : run ≤ n - place) (room : run ≤ n - r.len) where
     lies : MayStartAt r.start (length v.items) v.capacity place
-    lies = rw (is, all, ← o.len) (MayStartAt-place_of r.start (length v.items) v.capacity (omega arith))
+    lies = grind (arith, place_of_cases r.start r.len n (omega arith))
 
     pub empty_behind : IsEmptyRun r.slots.places place run
     empty_behind = IsEmptyRun-behind o.laid _ _ lies (omega arith) (omega arith)
@@ -122,7 +123,7 @@ module _ {X : Type 0} {r : Inside X} {v : RingState X} (o : Opened r v) {n : ℕ
       → (xs : List X) {new : Region X} → (length xs ≡ run) × (new.places ≡ with_run r.start xs r.slots.places)
       → new.steps ≡ more_puts run (more_takes run r.slots.steps)
       → Opened record r { slots = new; start = start } (displaced_first xs v)
-  laid_first full fits is xs came steps =
+  laid_first {run} full fits is xs came steps =
       let m = length xs in
       let long : length (drop m (v.items ++ xs)) ≡ r.len =
       omega (arith, length-drop m (v.items ++ xs), length-append v.items xs) in record {
@@ -130,7 +131,7 @@ module _ {X : Type 0} {r : Inside X} {v : RingState X} (o : Opened r v) {n : ℕ
             (Holds-from (Holds-run (holds o.laid) 0 _ xs (inl (omega arith)) (omega arith) (omega arith)) m
             (omega arith) (omega arith) (λ k lt. grind (arith, items, place_of_cases m k v.capacity (omega arith)))));
         len = long;
-        start = rw (is, all, ← came.0, o.start) (up_by-is _ _ _ (rw o.start at o.laid.in_region));
+        start = grind (arith, up_by-is run r.start n);
         steps = grind arith;
       }
 
@@ -150,7 +151,7 @@ module _ {X : Type 0} {r : Inside X} {v : RingState X} (o : Opened r v) {n : ℕ
     module _ {start : ℕ} (is : start ≡ (r.start + (n - run)) % n) (xs : List X) (new : Region X)
         (came : (length xs ≡ run) × (new.places ≡ with_run (place + 1 - run) (reverse xs) r.slots.places)) where
       down : start ≡ down_by (length xs) v.start v.capacity
-      down = rw (is, all, ← came.0, o.start) (down_by-is _ _ _ (omega arith) (omega arith))
+      down = grind (arith, down_by-is run r.start n)
 
       laid : LaidOut v.capacity start (take v.capacity (reverse xs ++ v.items)) new.places
       laid = let many = length-reverse xs ∙ came.0 in let j = v.capacity - run in rw (came.1, is, all)

@@ -95,7 +95,7 @@ first_goes R f g before {items} {n} {t} {ps = ps} k l all lt told =
       answers = bs ++ false ∷ [];
       asked = omega (arith, length_push bs false);
       in_turn = rw (until_goes k (length items) (omega arith)) at told;
-      stay = ap length stay ∙ length-take-le k items (omega arith);
+      stay = grind (arith, length-take-le k items);
       some_gone = omega arith;
       places = rw (stay, one, add-one k) (Gapped-taken_one l k (omega arith));
       cost = grind (arith, moved-push_false bs, none_moved k);
@@ -149,7 +149,7 @@ module _ {F X : Type 0} {R : F → X → Bool → F → Type 0} {f : F} {items :
             answers = bs ++ true ∷ [];
             asked = omega (arith, length_push bs true);
             in_turn = answers_push R f g h bs items x true in_list x_is s.in_turn called;
-            stay = omega (arith, ap length more, length_push ks x);
+            stay = grind (arith, length_push ks x);
             some_gone = omega arith;
             places = rw (more, gone)
                 (Gapped-move items index index s.places here (omega arith) x kept (sym next_held ∙ held) s.stay);
@@ -168,7 +168,7 @@ module _ {F X : Type 0} {R : F → X → Bool → F → Type 0} {f : F} {items :
             answers = bs ++ false ∷ [];
             asked = omega (arith, length_push bs false);
             in_turn = answers_push R f g h bs items x false in_list x_is s.in_turn called;
-            stay = ap length (picked_push_false bs items) ∙ s.stay;
+            stay = grind (arith, picked_push_false bs items);
             some_gone = omega arith;
             places = rw (picked_push_false, ← gone) (Gapped-take items index index s.places here (omega arith));
             cost = grind (arith, moved-push_false bs);
