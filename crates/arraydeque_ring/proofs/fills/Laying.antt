@@ -25,7 +25,7 @@ use Rattle.arraydeque_ring.{
       Items.items,
       LaidOut.{LaidOut, LaidOut-by, holds, IsFilledRun-LaidOut},
       Opened.{Opened, Kept, kept},
-      Rotated.{MayStartAt, MayStartAt-place_of, place_of_cases, place_of-zero},
+      Rotated.{MayStartAt, place_of_cases, place_of-zero},
     },
   },
 }

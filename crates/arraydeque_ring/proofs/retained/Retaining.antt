@@ -84,7 +84,7 @@ pub first_goes : {F X : Type 0} (R : F → X → Bool → F → Type 0) (f g : F
     {items : List X} {n t len : ℕ} {ps : List (Option X)} (k : ℕ) → LaidOut n t items ps → len ≡ length items → k < len
     → ReturnsInTurn R f (answers_until k (length items)) items g
     → SoFar R f items before n t len (k + 1) k (set ps (place_of t k n) None) (more_takes 1 before) g
-first_goes R f g before {items} {n} {t} {ps = ps} k l all lt told =
+first_goes R f g before {items} k l all lt told =
     let bs = replicate k true in
     let stay : items_where_true (bs ++ false ∷ []) items ≡ take k items =
     picked_push_false bs items ∙ picked_front k items in

@@ -45,7 +45,7 @@ module _ {X : Type 0} {old : RingState X} {k : ℕ} {v : Vec X Global} {ps : Lis
 
 pub loop-k-init : goal.loop-k-init
 loop-k-init g c =
-    let ring = opened c.self.inside c.self.invariant c.self.view_is in
+    let ring = opened _ c.self.invariant c.self.view_is in
     record {
       room = grind (arith, common_steps);
       items = grind (arith, common_steps);
