@@ -10,7 +10,7 @@ use Rattle.std.{
 use Rattle.arraydeque_ring.specs.Fills.{Fills, Ends}
 
 module _ {S A : Type 0} (gives : S → Option A → S → Type 0) where
-  -- the same, said otherwise
+  -- the same said of another bound, and of Q where it follows from P
   pub Fills-as : {from to : S} {n : ℕ} {ended : Bool} {P : List A → Type 0} (f : Fills gives from to n ended P) (m : ℕ)
       (Q : List A → Type 0) → length f.items ≤ m → (ended ≡ false → length f.items ≡ m) → ((xs : List A) → P xs → Q xs)
       → Fills gives from to m ended Q

@@ -1,5 +1,5 @@
 -- A run of items from an iterator that is laid behind the last item or before the first, or there in
--- the places of others.
+-- the places of others, and the loops that lay one run after another.
 use Rattle.std.proofs.{
   Common.{◌≡◌, ℕ, zero, suc, ◌+◌, ◌-◌, ◌*◌, ◌%◌, ◌<◌, ◌≤◌, inl, List, ◌++◌, length, take, drop, reverse, [], Bool},
   Common.{false, refl, subst, ap, ◌∙◌, arith},
@@ -107,7 +107,8 @@ module _ {X : Type 0} {r : Inside X} {v : RingState X} (o : Opened r v) {n : ℕ
 
     pub laid_back : (xs : List X) {new : Region X}
         → (length xs ≡ run) × (new.places ≡ with_run place xs r.slots.places)
-        → new.steps ≡ more_puts run r.slots.steps → Opened record r { slots = new; len = r.len + run } (filled_back xs v)
+        → new.steps ≡ more_puts run r.slots.steps
+        → Opened record r { slots = new; len = r.len + run } (filled_back xs v)
     laid_back xs came steps = record {
       laid = rw came.1 (LaidOut-appended o.laid xs place lies (omega arith) (omega arith));
       len = omega (arith, length-append v.items xs);
@@ -153,6 +154,7 @@ module _ {X : Type 0} {r : Inside X} {v : RingState X} (o : Opened r v) {n : ℕ
       down : start ≡ down_by (length xs) v.start v.capacity
       down = grind (arith, down_by-is run r.start n)
 
+      -- the items go into these, before the others, and of a full list the last ones go out
       laid : LaidOut v.capacity start (take v.capacity (reverse xs ++ v.items)) new.places
       laid = let many = length-reverse xs ∙ came.0 in let j = v.capacity - run in rw (came.1, is, all)
           (LaidOut-by (omega (arith, length-take v.capacity (reverse xs ++ v.items)))

@@ -78,8 +78,9 @@ module _ {X F : Type 0} (R : F → X → Bool → F → Type 0) where
   pub until_in_back : (f g h : F) (k m : ℕ) (xs ys : List X) → k ≡ length xs
       → ReturnsInTurn R f (answers_until k (length xs)) xs g → ReturnsInTurn R g (answers_until m (length ys)) ys h
       → ReturnsInTurn R f (answers_until (k + m) (length (xs ++ ys))) (xs ++ ys) h
-  until_in_back f g h k m xs ys all told after = rw (length-append, ← all, until_behind) (told_behind f g h (replicate k true)
-      (answers_until m (length ys)) xs ys (length-replicate k true ∙ all) (all_stay f g k xs all told) after)
+  until_in_back f g h k m xs ys all told after = rw (length-append, ← all, until_behind)
+      (told_behind f g h (replicate k true) (answers_until m (length ys)) xs ys (length-replicate k true ∙ all)
+      (all_stay f g k xs all told) after)
 
 -- what may be asked about two lists, one behind the other, may be so about the first, and then about the second
 module _ {X F : Type 0} (t : Mut F (Bor X × Unit {0}) Bool) (f : F) (xs ys : List X)

@@ -26,7 +26,7 @@ use Rattle.arraydeque_ring.{
   },
 }
 
--- the items that stay and those that go are as many as the answers
+-- the items that stay by the answers and those that go are as many as these
 kept_and_gone : {X : Type 0} (bs : List Bool) (xs : List X) → length bs ≤ length xs
     → length (items_where_true bs xs) + count_by not bs ≡ length bs
 kept_and_gone [] xs le = refl
