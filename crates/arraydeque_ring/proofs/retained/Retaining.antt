@@ -2,7 +2,7 @@
 use Rattle.std.{
   proofs.{
     Common.{◌≡◌, ℕ, suc, ◌+◌, ◌<◌, ◌≤◌, List, [], ◌∷◌, ◌++◌, length, take, drop, set, get_or, replicate, slice_get},
-    Common.{add-one, Option, Some, None, Bool, true, false, not, count_by, sym, ap, ◌∙◌, arith, cond, refl},
+    Common.{add-one, Option, Some, None, Bool, true, false, not, count_by, sym, ◌∙◌, arith, cond, refl},
     Retain.{picked_push_true, picked_push_false, answers_push},
     lemmas.{
       List.Sums.{sum_by_push, sum_by-cons},
@@ -124,7 +124,7 @@ module _ {F X : Type 0} {R : F → X → Bool → F → Type 0} {f : F} {items :
 
     -- what stands there is the item in turn
     pub next_asked : (x : X) → held_at ps (place_of t index n) ≡ Some x → slice_get items (length s.answers) ≡ Some x
-    next_asked x held = ap (slice_get items) s.asked ∙ sym next_held ∙ held
+    next_asked x held = grind (arith, next_held)
 
     -- the item x is answered
     module _ (x : X) (h : F) (held : held_at ps (place_of t index n) ≡ Some x) where
