@@ -3,7 +3,7 @@ use Rattle.std.{
   proofs.{
     Common.{◌≡◌, ◌-◌, ◌+◌, List, [], ◌∷◌, ◌++◌, length, take, slice_get, option_to_list, Option, Some, None, refl},
     Common.{arith, sym},
-    lemmas.{List.{append-nil, take_more, take_all}, Option.{slice_get_within, slice_get-get_or, get_or_from_slice_get}},
+    lemmas.{List.{append-nil, take_more, take_all}, Option.{slice_get-get_or, get_or_from_slice_get}},
   },
   specs.{Option.{OnSome, IfNone}, Iterator.YieldsLast},
 }
@@ -18,8 +18,8 @@ module _ {X : Type 0} where
   -- a list is what stands before its last item, and that item
   last_and_rest : (xs : List X) (x : X) → Some x ≡ slice_get xs (length xs - 1) → take (length xs - 1) xs ++ x ∷ [] ≡ xs
   last_and_rest xs x last =
-      let k = length xs - 1 in let within = slice_get_within xs k x (sym last) in
-      grind (arith, get_or_from_slice_get xs k x x (sym last), take_more xs k x within, take_all (k + 1) xs)
+      let k = length xs - 1 in
+      grind (arith, get_or_from_slice_get xs k x x (sym last), take_more xs k x, take_all (k + 1) xs)
 
   -- what a ring's pop of its last item says: that nothing is lost, and the same in an iterator's words
   module _ (old new : RingState X) (st : Steps) where

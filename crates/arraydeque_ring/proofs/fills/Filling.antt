@@ -37,7 +37,7 @@ module _ {S X : Type 0} {gives : S → Option X → S → Type 0} {from mid to :
       → Upwards gives from to (n + 1) at ps rs
   one_up was within is = Fills-one gives was x came _ (
     omega (arith, length_push was.items x),
-    rw (is, was.holds.1) (with_run-behind at was.items ps (omega arith) x _ (omega arith) within),
+    rw (is, was.holds.1) (with_run-behind at _ ps (omega arith) x _ (omega arith) within),
   )
 
   pub one_down : Downwards gives from mid n at ps qs → n < at → at ≤ length ps → rs ≡ set qs (at - 1 - n) (Some x)

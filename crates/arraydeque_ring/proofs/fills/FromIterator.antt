@@ -10,7 +10,7 @@ use Rattle.std.{
 use Rattle.arraydeque_ring.specs.Fills.{Fills, Ends}
 
 module _ {S A : Type 0} (gives : S → Option A → S → Type 0) where
-  -- the same, said otherwise
+  -- the same said of another bound, and of Q where it follows from P
   pub Fills-as : {from to : S} {n : ℕ} {ended : Bool} {P : List A → Type 0} (f : Fills gives from to n ended P) (m : ℕ)
       (Q : List A → Type 0) → length f.items ≤ m → (ended ≡ false → length f.items ≡ m) → ((xs : List A) → P xs → Q xs)
       → Fills gives from to m ended Q
@@ -29,15 +29,14 @@ module _ {S A : Type 0} (gives : S → Option A → S → Type 0) where
       (first : Fills gives from mid n ended P) (then : Fills gives mid to m over Q) (R : List A → Type 0)
       → ended ≡ false → R (first.items ++ then.items) → Fills gives from to (n + m) over R
   Fills-both {from} {mid} {to} first then R some holds =
-      let all = first.all some in let long = length-append first.items then.items in
-      record {
+      let all = first.all some in record {
         items = first.items ++ then.items;
         last = then.last;
         yielded = Yields-both gives first.items then.items from mid then.last
             (subst (Yields gives from first.items) all.0 first.yielded) then.yielded;
-        at_most = omega arith;
+        at_most = omega (arith, length-append first.items then.items);
         none = then.none;
-        all = λ more. let rest = then.all more in (rest.0, omega arith);
+        all = λ more. let rest = then.all more in (rest.0, grind (arith, length-append));
         holds = holds;
       }
 

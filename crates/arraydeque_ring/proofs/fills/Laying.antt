@@ -1,5 +1,5 @@
 -- A run of items from an iterator that is laid behind the last item or before the first, or there in
--- the places of others.
+-- the places of others, and the loops that lay one run after another.
 use Rattle.std.proofs.{
   Common.{◌≡◌, ℕ, zero, suc, ◌+◌, ◌-◌, ◌*◌, ◌%◌, ◌<◌, ◌≤◌, inl, List, ◌++◌, length, take, drop, reverse, [], Bool},
   Common.{false, refl, subst, ap, ◌∙◌, arith},
@@ -25,7 +25,7 @@ use Rattle.arraydeque_ring.{
       Items.items,
       LaidOut.{LaidOut, LaidOut-by, holds, IsFilledRun-LaidOut},
       Opened.{Opened, Kept, kept},
-      Rotated.{MayStartAt, MayStartAt-place_of, place_of_cases, place_of-zero},
+      Rotated.{MayStartAt, place_of_cases, place_of-zero},
     },
   },
 }
@@ -52,6 +52,7 @@ pub record Laying {S X : Type 0} (it : Ghosts S X) (word : List X → RingState 
   pub count : ℕ
   pub so_far : Fills it.next_gives from to count ended (λ xs. Opened record r { slots = slots } (word xs v))
   pub goes : GoesOn it.can_next it.remaining from to ended
+  -- which is said in so_far too, but found here
   pub kept : Kept record r { slots = slots }
 
 module _ {S X : Type 0} {it : Ghosts S X} {word : List X → RingState X → RingState X} {v : RingState X} {n : ℕ}
@@ -99,14 +100,15 @@ module _ {X : Type 0} {r : Inside X} {v : RingState X} (o : Opened r v) {n : ℕ
   -- behind the last item
   module _ {run place : ℕ} (is : place ≡ (r.start + r.len) % n) (fits : run ≤ n - place) (room : run ≤ n - r.len) where
     lies : MayStartAt r.start (length v.items) v.capacity place
-    lies = rw (is, all, ← o.len) (MayStartAt-place_of r.start (length v.items) v.capacity (omega arith))
+    lies = grind (arith, place_of_cases r.start r.len n (omega arith))
 
     pub empty_behind : IsEmptyRun r.slots.places place run
     empty_behind = IsEmptyRun-behind o.laid _ _ lies (omega arith) (omega arith)
 
     pub laid_back : (xs : List X) {new : Region X}
         → (length xs ≡ run) × (new.places ≡ with_run place xs r.slots.places)
-        → new.steps ≡ more_puts run r.slots.steps → Opened record r { slots = new; len = r.len + run } (filled_back xs v)
+        → new.steps ≡ more_puts run r.slots.steps
+        → Opened record r { slots = new; len = r.len + run } (filled_back xs v)
     laid_back xs came steps = record {
       laid = rw came.1 (LaidOut-appended o.laid xs place lies (omega arith) (omega arith));
       len = omega (arith, length-append v.items xs);
@@ -122,7 +124,7 @@ module _ {X : Type 0} {r : Inside X} {v : RingState X} (o : Opened r v) {n : ℕ
       → (xs : List X) {new : Region X} → (length xs ≡ run) × (new.places ≡ with_run r.start xs r.slots.places)
       → new.steps ≡ more_puts run (more_takes run r.slots.steps)
       → Opened record r { slots = new; start = start } (displaced_first xs v)
-  laid_first full fits is xs came steps =
+  laid_first {run} full fits is xs came steps =
       let m = length xs in
       let long : length (drop m (v.items ++ xs)) ≡ r.len =
       omega (arith, length-drop m (v.items ++ xs), length-append v.items xs) in record {
@@ -130,7 +132,7 @@ module _ {X : Type 0} {r : Inside X} {v : RingState X} (o : Opened r v) {n : ℕ
             (Holds-from (Holds-run (holds o.laid) 0 _ xs (inl (omega arith)) (omega arith) (omega arith)) m
             (omega arith) (omega arith) (λ k lt. grind (arith, items, place_of_cases m k v.capacity (omega arith)))));
         len = long;
-        start = rw (is, all, ← came.0, o.start) (up_by-is _ _ _ (rw o.start at o.laid.in_region));
+        start = grind (arith, up_by-is run r.start n);
         steps = grind arith;
       }
 
@@ -150,8 +152,9 @@ module _ {X : Type 0} {r : Inside X} {v : RingState X} (o : Opened r v) {n : ℕ
     module _ {start : ℕ} (is : start ≡ (r.start + (n - run)) % n) (xs : List X) (new : Region X)
         (came : (length xs ≡ run) × (new.places ≡ with_run (place + 1 - run) (reverse xs) r.slots.places)) where
       down : start ≡ down_by (length xs) v.start v.capacity
-      down = rw (is, all, ← came.0, o.start) (down_by-is _ _ _ (omega arith) (omega arith))
+      down = grind (arith, down_by-is run r.start n)
 
+      -- the items go into these, before the others, and of a full list the last ones go out
       laid : LaidOut v.capacity start (take v.capacity (reverse xs ++ v.items)) new.places
       laid = let many = length-reverse xs ∙ came.0 in let j = v.capacity - run in rw (came.1, is, all)
           (LaidOut-by (omega (arith, length-take v.capacity (reverse xs ++ v.items)))

@@ -27,8 +27,7 @@ until_behind n k m = grind (arith, append_assoc, replicate-append-replicate n k 
 
 -- those that stay are the first ones, none goes, and none is moved
 pub picked_front : {X : Type 0} (k : ℕ) (xs : List X) → items_where_true (replicate k true) xs ≡ take k xs
-picked_front zero [] = refl
-picked_front zero (x ∷ xs) = refl
+picked_front zero xs = refl
 picked_front (suc k) [] = refl
 picked_front (suc k) (x ∷ xs) = ap (λ l. x ∷ l) (picked_front k xs)
 
@@ -43,8 +42,8 @@ module _ {X F : Type 0} (R : F → X → Bool → F → Type 0) where
   -- k items stay, and the next one is answered
   pub answer_next : (f g h : F) (k : ℕ) (xs : List X) (x : X) (b : Bool) → k < length xs → x ≡ get_or xs k x
       → ReturnsInTurn R f (replicate k true) xs g → R g x b h → ReturnsInTurn R f (replicate k true ++ b ∷ []) xs h
-  answer_next f g h k xs x b lt is told said = let long = length-replicate k true in
-      answers_push R f g h (replicate k true) xs x b (omega arith) (rw long is) told said
+  answer_next f g h k xs x b lt is told said =
+      answers_push R f g h (replicate k true) xs x b (rw length-replicate lt) (rw length-replicate is) told said
 
   -- what is answered at a list is so at a longer one
   told_longer : (f g : F) (bs : List Bool) (xs ys : List X) → ReturnsInTurn R f bs xs g
@@ -79,18 +78,16 @@ module _ {X F : Type 0} (R : F → X → Bool → F → Type 0) where
   pub until_in_back : (f g h : F) (k m : ℕ) (xs ys : List X) → k ≡ length xs
       → ReturnsInTurn R f (answers_until k (length xs)) xs g → ReturnsInTurn R g (answers_until m (length ys)) ys h
       → ReturnsInTurn R f (answers_until (k + m) (length (xs ++ ys))) (xs ++ ys) h
-  until_in_back f g h k m xs ys all told after =
-      let long : length (xs ++ ys) ≡ k + length ys = omega (arith, length-append xs ys) in
-      rw (long, until_behind) (told_behind f g h (replicate k true)
-      (answers_until m (length ys)) xs ys (length-replicate k true ∙ all) (all_stay f g k xs all told) after)
+  until_in_back f g h k m xs ys all told after = rw (length-append, ← all, until_behind)
+      (told_behind f g h (replicate k true) (answers_until m (length ys)) xs ys (length-replicate k true ∙ all)
+      (all_stay f g k xs all told) after)
 
 -- what may be asked about two lists, one behind the other, may be so about the first, and then about the second
 module _ {X F : Type 0} (t : Mut F (Bor X × Unit {0}) Bool) (f : F) (xs ys : List X)
     (may : MayBeAsked t f (xs ++ ys)) where
   pub asked_front : MayBeAsked t f xs
   asked_front answers g x here told =
-      let lt = slice_get_within xs (length answers) x.now here in
-      may answers g x (grind (arith, slice_get-append xs ys (length answers)))
+      may answers g x (grind (arith, slice_get-append, slice_get_within xs (length answers) x.now here))
       (told_longer (CalledAt t) f g answers xs ys told)
 
   pub asked_back : (g : F) (k : ℕ) → k ≡ length xs → ReturnsInTurn (CalledAt t) f (answers_until k (length xs)) xs g

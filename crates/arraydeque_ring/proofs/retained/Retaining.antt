@@ -2,7 +2,7 @@
 use Rattle.std.{
   proofs.{
     Common.{◌≡◌, ℕ, suc, ◌+◌, ◌<◌, ◌≤◌, List, [], ◌∷◌, ◌++◌, length, take, drop, set, get_or, replicate, slice_get},
-    Common.{add-one, Option, Some, None, Bool, true, false, not, count_by, sym, ap, ◌∙◌, arith, cond, refl},
+    Common.{add-one, Option, Some, None, Bool, true, false, not, count_by, sym, ◌∙◌, arith, cond, refl},
     Retain.{picked_push_true, picked_push_false, answers_push},
     lemmas.{
       List.Sums.{sum_by_push, sum_by-cons},
@@ -26,7 +26,7 @@ use Rattle.arraydeque_ring.{
   },
 }
 
--- the items that stay and those that go are as many as the answers
+-- the items that stay by the answers and those that go are as many as these
 kept_and_gone : {X : Type 0} (bs : List Bool) (xs : List X) → length bs ≤ length xs
     → length (items_where_true bs xs) + count_by not bs ≡ length bs
 kept_and_gone [] xs le = refl
@@ -84,7 +84,7 @@ pub first_goes : {F X : Type 0} (R : F → X → Bool → F → Type 0) (f g : F
     {items : List X} {n t len : ℕ} {ps : List (Option X)} (k : ℕ) → LaidOut n t items ps → len ≡ length items → k < len
     → ReturnsInTurn R f (answers_until k (length items)) items g
     → SoFar R f items before n t len (k + 1) k (set ps (place_of t k n) None) (more_takes 1 before) g
-first_goes R f g before {items} {n} {t} {ps = ps} k l all lt told =
+first_goes R f g before {items} k l all lt told =
     let bs = replicate k true in
     let stay : items_where_true (bs ++ false ∷ []) items ≡ take k items =
     picked_push_false bs items ∙ picked_front k items in
@@ -95,7 +95,7 @@ first_goes R f g before {items} {n} {t} {ps = ps} k l all lt told =
       answers = bs ++ false ∷ [];
       asked = omega (arith, length_push bs false);
       in_turn = rw (until_goes k (length items) (omega arith)) at told;
-      stay = ap length stay ∙ length-take-le k items (omega arith);
+      stay = grind (arith, length-take-le k items);
       some_gone = omega arith;
       places = rw (stay, one, add-one k) (Gapped-taken_one l k (omega arith));
       cost = grind (arith, moved-push_false bs, none_moved k);
@@ -124,7 +124,7 @@ module _ {F X : Type 0} {R : F → X → Bool → F → Type 0} {f : F} {items :
 
     -- what stands there is the item in turn
     pub next_asked : (x : X) → held_at ps (place_of t index n) ≡ Some x → slice_get items (length s.answers) ≡ Some x
-    next_asked x held = ap (slice_get items) s.asked ∙ sym next_held ∙ held
+    next_asked x held = grind (arith, next_held)
 
     -- the item x is answered
     module _ (x : X) (h : F) (held : held_at ps (place_of t index n) ≡ Some x) where
@@ -149,7 +149,7 @@ module _ {F X : Type 0} {R : F → X → Bool → F → Type 0} {f : F} {items :
             answers = bs ++ true ∷ [];
             asked = omega (arith, length_push bs true);
             in_turn = answers_push R f g h bs items x true in_list x_is s.in_turn called;
-            stay = omega (arith, ap length more, length_push ks x);
+            stay = grind (arith, length_push ks x);
             some_gone = omega arith;
             places = rw (more, gone)
                 (Gapped-move items index index s.places here (omega arith) x kept (sym next_held ∙ held) s.stay);
@@ -168,7 +168,7 @@ module _ {F X : Type 0} {R : F → X → Bool → F → Type 0} {f : F} {items :
             answers = bs ++ false ∷ [];
             asked = omega (arith, length_push bs false);
             in_turn = answers_push R f g h bs items x false in_list x_is s.in_turn called;
-            stay = ap length (picked_push_false bs items) ∙ s.stay;
+            stay = grind (arith, picked_push_false bs items);
             some_gone = omega arith;
             places = rw (picked_push_false, ← gone) (Gapped-take items index index s.places here (omega arith));
             cost = grind (arith, moved-push_false bs);

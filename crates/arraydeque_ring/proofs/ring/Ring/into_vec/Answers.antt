@@ -1,7 +1,7 @@
 use Rattle.std.{
   proofs.{
     Common.{◌≡◌, ℕ, ◌+◌, ◌<◌, ◌≤◌, List, ◌∷◌, [], ◌++◌, length, slice_get, set, Option, Some, None, Vec, Global},
-    Common.{vec_len, inl, inr, sym, ap, ◌∙◌, arith, refl},
+    Common.{vec_len, inl, inr, sym, ◌∙◌, arith, refl},
     lemmas.{Grind.common_steps, List.{take_all, take_more}, Option.{get_or_from_slice_get, slice_get_past}},
   },
   specs.Vec.vec_capacity,
@@ -29,7 +29,7 @@ module _ {X : Type 0} {old : RingState X} {k : ℕ} {v : Vec X Global} {ps : Lis
   here = grind (arith, place_of_cases old.start k old.capacity (omega (arith, was.reads.in_region)))
 
   held : held_at ps place ≡ slice_get old.items k
-  held = ap (held_at ps) (sym here) ∙ was.reads.at k (omega arith) ∙ grind arith
+  held = grind (arith, here, was.reads.at k (omega arith))
 
   next_filled : IsFilled ps place
   next_filled = let some = slice_get_some old.items k lt in (some.0, held ∙ some.1)
@@ -45,7 +45,7 @@ module _ {X : Type 0} {old : RingState X} {k : ℕ} {v : Vec X Global} {ps : Lis
 
 pub loop-k-init : goal.loop-k-init
 loop-k-init g c =
-    let ring = opened c.self.inside c.self.invariant c.self.view_is in
+    let ring = opened _ c.self.invariant c.self.view_is in
     record {
       room = grind (arith, common_steps);
       items = grind (arith, common_steps);

@@ -13,14 +13,12 @@ returns-then-kept-front-clause-in_turn g c = rw (← c.as_slices.ensures.joined)
     (until_in_front (CalledAt _) _ _ _ _ _ c.if-kept-front.true c.kept_run-kept.ensures.in_turn)
 
 pub kept_run-requires : goal.kept_run-requires
-kept_run-requires g c =
-    asked_back _ _ _ _ (rw (← c.as_slices.ensures.joined) at c.requires) _ c.kept_run-kept.result (omega arith)
-    c.kept_run-kept.ensures.in_turn
+kept_run-requires g c = let kept = c.kept_run-kept in asked_back _ _ _ _
+    (rw (← c.as_slices.ensures.joined) at c.requires) _ kept.result (omega arith) kept.ensures.in_turn
 
 pub returns-clause-in_turn : goal.returns-clause-in_turn
 returns-clause-in_turn g c =
-    let before : c.self.inside.len - length c.as_slices.result.1.now ≡ c.kept_run-kept.result =
-    grind (arith, slice_facts) in
-    rw (before, ← c.as_slices.ensures.joined) (until_in_back
-    (CalledAt _) _ _ _ c.kept_run-kept.result _ _ _ (omega arith) c.kept_run-kept.ensures.in_turn
-    c.kept_run.ensures.in_turn)
+    let kept = c.kept_run-kept in
+    let before : c.self.inside.len - length c.as_slices.result.1.now ≡ kept.result = grind (arith, slice_facts) in
+    rw (before, ← c.as_slices.ensures.joined) (until_in_back (CalledAt _) _ _ _ kept.result _ _ _
+    (omega arith) kept.ensures.in_turn c.kept_run.ensures.in_turn)

@@ -3,9 +3,8 @@ use Rattle.arraydeque_ring.proofs.{places.Opened.{copy_facts, next_free, next_pu
 use Rattle.arraydeque_ring.proofs.ring.Ring.of_copies.Goals as goal
 
 pub put-requires : goal.put-requires
-put-requires g c = grind
-    (arith, copy_facts, next_free (ring c.loop-item.slots c.loop-item.place) c.loop-item.invariant.kept)
+put-requires g c = let was = c.loop-item in grind (arith, next_free (ring was.slots was.place) was.invariant.kept)
 
 pub loop-item-preserved : goal.loop-item-preserved
-loop-item-preserved g c = grind
-    (arith, copy_facts, next_put (ring c.loop-item.slots c.loop-item.place) c.loop-item.invariant.kept)
+loop-item-preserved g c = let was = c.loop-item in
+    grind (arith, copy_facts, next_put (ring was.slots was.place) was.invariant.kept)

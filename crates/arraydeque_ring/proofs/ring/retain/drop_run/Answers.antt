@@ -9,7 +9,6 @@ take-requires g c =
 
 pub loop-place-preserved : goal.loop-place-preserved
 loop-place-preserved g c = record {
-  places = rw (c.take.ensures.places, c.loop-place.invariant.places)
-      (next_emptied _ c.args.from _ (omega arith) (omega arith));
+  places = grind (arith, next_emptied c.args.slots.now.places c.args.from c.loop-place.place);
   steps = grind arith;
 }
