@@ -3,7 +3,7 @@ use Rattle.arraydeque_ring.proofs.memory.{
   Kit.{◌≡◌, refl, ap, ◌∙◌, true, false, List, [], ◌∷◌, ◌++◌, ℕ, ◌*◌, ◌<◌, ◌^◌, Ok, Err, Ura, SProp, ent, sep, id⊢},
   Kit.{never, Lft, Share, Fml, ftrue, fsep, froom, flft, w64, Val, vint, vptr, of_list, Memory, size, align, capped},
   Kit.{capped_fits, Routine, Logic, sem, live, Goal, Soaks, Seq, Item, ‵, raw, ◌⊛◌, some, later, ◌$◌, ◌∵◌, !, qed},
-  Kit.{move, use1, drop, split, join, pick, fsplit, fjoin, fpick, feq_l, feq_i, await, done, Fun, hidden_shr, Ptr},
+  Kit.{move, use1, drop, split, join, pick, fsplit, fjoin, fpick, feq_l, feq_i, await, done, Fun, hidden_shr},
   Kit.{block_ptr, null_ptr, ptr_val, in_a_block, only, nothing, Contract, triple_of, Global, pure_i, owns, usize},
   Kit.{RawPtr, El, elτ},
   Blocks.{block_ty, block_size, block_align, token},
@@ -11,7 +11,6 @@ use Rattle.arraydeque_ring.proofs.memory.{
   Owned.item_size,
 }
 use base.Logic.{fst∗}
-use denote.RawPtr.{room_for}
 use Rattle.std.{specs.Allocator.block_if_ok, proofs.alloc.Calls.{Answer, answer_val}}
 use Rattle.std.specs.contracts.alloc.Global as heap
 use Rattle.std.specs.contracts.impls.GlobalAllocator.TheImpl as impl_heap

@@ -1,4 +1,5 @@
--- How a walk begins and ends, by the parameters of its function. Assumes `Logic`.
+-- How a walk begins and ends, by its function's parameters, told one by one: `mutable` for a `&mut`, `seen` for a `&`,
+-- `item`, `whole_slots`, `handle`, `word` or else `told` for one by value, and at the end `words n`. Assumes `Logic`.
 use Rattle.arraydeque_ring.proofs.memory.{
   Kit.{stay_ref, Goes-ref, MutBor, List, [], ◌∷◌, ℕ, zero, refl, suc, Ura, SProp, ent, id⊢, Logic, Fn, Val, ◌≡◌, Bool},
   Kit.{named, w64, sem, sep, ‵, raw, ◌⊛◌, at_ret, ◌$◌, ◌∵◌, !, qed, move, split, fsplit, fsplit3, true, false, fjoin},
@@ -262,7 +263,8 @@ module _ (m : ℕ) {M : Type 1} {𝓤 : Ura M} (𝓛 : Logic 𝓤) where
         let Says = (c κs a).ensures z.1 r (at_exit T κs a (p.lasts w).0) in
         via 𝓤 _ (p.owes s w (sep 𝓤 (sem 𝓛 Result) (sep 𝓤 (toks 𝓛 (suc m) κs qs) Says)))
         (qed 𝓛 (‵ (has_of κs ps.slots ps.kept ps.stays a (p.lasts w).0 (p.vals s)) ∷ ‵ Result
-        ∷ raw (toks 𝓛 (suc m) κs qs) ∷ raw Says ∷ []) ∵ move ! (2 ∷ []) $ by ! (leaves 𝓛 T ps.stays c y v r (p.lasts w).0 (p.lasts w).1)))))
+        ∷ raw (toks 𝓛 (suc m) κs qs) ∷ raw Says ∷ []) ∵ move ! (2 ∷ []) $
+        by ! (leaves 𝓛 T ps.stays c y v r (p.lasts w).0 (p.lasts w).1)))))
 
     pub walked : Walking true
     walked 𝓜 𝓡 os res c k e closed walk = as_whole 𝓜 𝓡 os res c k e closed (λ κs qs bounds a g s post ends.

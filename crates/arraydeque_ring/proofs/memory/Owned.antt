@@ -8,6 +8,7 @@ use Rattle.arraydeque_ring.{
   specs.{Ownership.{place_owned, places_owned, place_lent, places_lent}, Places.HoldsRun},
 }
 use prog.Align.{dv_self}
+use contract.Monad.{top}
 
 module _ (E : El) where
   -- the bytes of an item
@@ -46,7 +47,7 @@ module _ (E : El) {M : Type 1} {𝓤 : Ura M} (𝓛 : Logic 𝓤) (b : ℕ) wher
 
   -- the room of a block is that many empty places
   pub of_room : (n o : ℕ) → ent 𝓤 (H.room (ty_array (elτ E) n) b o) (sem 𝓛 (Row o (replicate n None)))
-  of_room zero o = qed 𝓛 (‵ (froom (ty_array (elτ E) 0) b o) ∷ []) ∵ keep ! [] $ done !
+  of_room zero o = top 𝓤 _
   of_room (suc n) o = qed 𝓛 (‵ (froom (ty_array (elτ E) (suc n)) b o) ∷ []) ∵
       use1 𝓛 (‵ (froom (elτ E) b o) ⊛ ‵ (froom (ty_array (elτ E) n) b (o + s))) (𝓛.laws.room_uncons (elτ E) n b o) $
       split ! $
@@ -75,7 +76,7 @@ module _ (E : El) {M : Type 1} {𝓤 : Ura M} (𝓛 : Logic 𝓤) (b : ℕ) wher
 
     seen_values : (xs : List (el_x E)) (rest : List (Place E)) (o : ℕ)
         → ent 𝓤 (sem 𝓛 (Shown o (map Some xs ++ rest))) (sem 𝓛 (elements_shared (R E) xs b o κ))
-    seen_values [] rest o = qed 𝓛 (‵ (Shown o rest) ∷ []) ∵ keep ! [] $ done !
+    seen_values [] rest o = top 𝓤 _
     seen_values (x ∷ xs) rest o = mono_r 𝓤 (sem 𝓛 (place_lent (R E) b o (Some x) κ)) (seen_values xs rest (o + s))
 
     -- the values of a filled run are seen through a `&`

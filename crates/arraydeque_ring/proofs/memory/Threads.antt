@@ -14,8 +14,7 @@ use denote.{
   RawPtr.{Ptr, block_ptr, null_ptr},
   Ref.NamedLft,
   Struct.{Struct.exits_of, Owning.{shape, fields, to}},
-  Param.Send.{IsSend, IsSync, Quiet, Common, AllSend, AllSync, part_keyless, owning_send, struct_send, struct_sync},
-  Param.Send.{sendable},
+  Param.Send.{IsSend, IsSync, Quiet, Common, AllSend, part_keyless, owning_send, struct_send, struct_sync, sendable},
 }
 use Rattle.arraydeque_ring.specs.Ownership.{owned_if, places_owned, places_lent, slots_owned, slots_lent}
 use Rattle.arraydeque_ring.specs.contracts.slots.loan.LoanName as loan_name
