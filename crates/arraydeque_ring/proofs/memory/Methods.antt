@@ -105,22 +105,22 @@ module _ {M : Type 1} {𝓤 : Ura M} {𝓛 : Logic 𝓤} where
   module _ {m : ℕ} where
     -- one that ends in the call, shown at entry or not
     abbrev pub gone : (s : Slot m) (k : Kept) → Silent 𝓛 m s k → Bool
-        → (St : (κs : Lfts m) → (s.row κs).Denot → Type 0)
-        (v : (κs : Lfts m) (x : (s.row κs).Denot) → St κs x → List Val)
-        → ((κs : Lfts m) (x : (s.row κs).Denot) (vs : List Val) → Is (s.row κs) x vs → (t : St κs x) × (vs ≡ v κs x t))
-        → Params 𝓛 m → Params 𝓛 m
-    gone s k silent b St v told ps = record {
+        → (Store : (κs : Lfts m) → (s.row κs).Denot → Type 0)
+        (spell : (κs : Lfts m) (x : (s.row κs).Denot) → Store κs x → List Val)
+        → ((κs : Lfts m) (x : (s.row κs).Denot) (vs : List Val) → Is (s.row κs) x vs
+        → (t : Store κs x) × (vs ≡ spell κs x t)) → Params 𝓛 m → Params 𝓛 m
+    gone s k silent visible Store spell told ps = record {
       slots = s ∷ ps.slots;
       kept = (k, ps.kept);
       stays = (stay_dropped s k, ps.stays);
       go = (Goes-dropped 𝓛 m s k silent, ps.go);
       passed = λ κs a. let r = ps.passed κs a.1 in record {
-        Stored = St κs a.0 × r.Stored;
-        vals = λ t. (v κs a.0 t.0, r.vals t.1);
+        Stored = Store κs a.0 × r.Stored;
+        vals = λ t. (spell κs a.0 t.0, r.vals t.1);
         told = λ vss are. let t = told κs a.0 vss.0 are.0 in let u = r.told vss.1 are.1 in
             ((t.0, u.0), λ i. (t.1 i, u.1 i));
-        Had = λ t Γ. shown b ((s.row κs).own_val a.0 (v κs a.0 t.0)) (r.Had t.1 Γ);
-        has = λ t Γ. beside (r.Had t.1 Γ) (shows b ((s.row κs).own_val a.0 (v κs a.0 t.0)) (r.Had t.1 Γ)) (r.has t.1 Γ);
+        Had = λ t Γ. shown visible ((s.row κs).own_val a.0 (spell κs a.0 t.0)) (r.Had t.1 Γ);
+        has = λ t Γ. beside (r.Had t.1 Γ) (shows visible _ _) (r.has t.1 Γ);
         Lasts = r.Lasts;
         lasts = λ w. let ws = r.lasts w in ((rest ((s.row κs).exit k) a.0, ws.0), (tt, ws.1));
         Owed = r.Owed;
@@ -131,9 +131,10 @@ module _ {M : Type 1} {𝓤 : Ura M} {𝓛 : Logic 𝓤} where
     }
 
     -- one whose value tells how the machine stores it
-    abbrev pub told : (s : Slot m) → Silent 𝓛 m s yes → Bool → {v : (κs : Lfts m) → (s.row κs).Denot → List Val}
-        → ((κs : Lfts m) → Tells (s.row κs) (Is (s.row κs)) (v κs)) → Params 𝓛 m → Params 𝓛 m
-    told s silent b {v} tells = gone s yes silent b (λ κs x. Is (s.row κs) x (v κs x)) (λ κs x _. v κs x)
+    abbrev pub told : (s : Slot m) → Silent 𝓛 m s yes → Bool → {spell : (κs : Lfts m) → (s.row κs).Denot → List Val}
+        → ((κs : Lfts m) → Tells (s.row κs) (Is (s.row κs)) (spell κs)) → Params 𝓛 m → Params 𝓛 m
+    told s silent visible {spell} tells = gone s yes silent visible (λ κs x. Is (s.row κs) x (spell κs x))
+        (λ κs x _. spell κs x)
         (λ κs x vs is. let same = tells κs x vs is in (subst (Is (s.row κs) x) same is, same))
 
     -- an item by value
@@ -154,7 +155,7 @@ module _ {M : Type 1} {𝓤 : Ura M} {𝓛 : Logic 𝓤} where
     abbrev pub mutable : {j : ℕ} {ok : AllWithin m (j ∷ [])} {S : RattleType} → Fate 𝓛 m j ok S → Params 𝓛 m
         → Params 𝓛 m
     mutable {j} {ok} {S} fate ps = record {
-      slots = mut_ref_to (j ∷ []) ok (plain (λ _. S)) ∷ ps.slots;
+      slots = Self 𝓛 m j ok S ∷ ps.slots;
       kept = (fate.kept, ps.kept);
       stays = (fate.stay, ps.stays);
       go = (fate.goes, ps.go);
@@ -166,13 +167,13 @@ module _ {M : Type 1} {𝓤 : Ura M} {𝓛 : Logic 𝓤} where
         Had = λ t Γ. ‵ (obs 𝓛 m j ok S x x.now) ∷ ‵ (bor 𝓛 m j ok S κs x) ∷ r.Had t Γ;
         has = λ t Γ. beside (r.Had t Γ) (fsplit3 ! $ drop ! $ done !) (r.has t Γ);
         Lasts = fate.And r.Lasts;
-        lasts = λ w. let l = fate.last κs x w in let ws = r.lasts l.1 in ((l.0.0, ws.0), (l.0.1, ws.1));
-        Owed = λ w P. let l = fate.last κs x w in fate.Owed κs x l.0.0 (r.Owed l.1 P);
-        owes = λ t w P. let l = fate.last κs x w in
-            let Others = has_of κs ps.slots ps.kept ps.stays a.1 (r.lasts l.1).0 (r.vals t) in
-            via 𝓤 _ (fate.owes κs x l.0.0 (r.Owed l.1 P))
-            (qed 𝓛 (‵ (fate.stay.has κs x l.0.0 (mut_vals x)) ∷ raw (r.Owed l.1 P) ∷ []) ∵ move ! (1 ∷ []) $
-            use1 𝓛 (‵ Others ⊛ raw P) (r.owes t l.1 P) $ split ! $ move ! (2 ∷ 0 ∷ []) $ fjoin ! $ done !);
+        lasts = λ w. let end = fate.last κs x w in let ws = r.lasts end.1 in ((end.0.0, ws.0), (end.0.1, ws.1));
+        Owed = λ w P. let end = fate.last κs x w in fate.Owed κs x end.0.0 (r.Owed end.1 P);
+        owes = λ t w P. let end = fate.last κs x w in
+            let Others = has_of κs ps.slots ps.kept ps.stays a.1 (r.lasts end.1).0 (r.vals t) in
+            via 𝓤 _ (fate.owes κs x end.0.0 (r.Owed end.1 P))
+            (qed 𝓛 (‵ (fate.stay.has κs x end.0.0 (mut_vals x)) ∷ raw (r.Owed end.1 P) ∷ []) ∵ move ! (1 ∷ []) $
+            use1 𝓛 (‵ Others ⊛ raw P) (r.owes t end.1 P) $ split ! $ move ! (2 ∷ 0 ∷ []) $ fjoin ! $ done !);
       };
     }
 
