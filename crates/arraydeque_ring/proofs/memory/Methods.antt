@@ -171,7 +171,7 @@ module _ {M : Type 1} {𝓤 : Ura M} {𝓛 : Logic 𝓤} where
         Owed = λ w P. let end = fate.last κs x w in fate.Owed κs x end.0.0 (r.Owed end.1 P);
         owes = λ t w P. let end = fate.last κs x w in
             let Others = has_of κs ps.slots ps.kept ps.stays a.1 (r.lasts end.1).0 (r.vals t) in
-            via 𝓤 _ (fate.owes κs x end.0.0 (r.Owed end.1 P))
+            via 𝓤 _ (fate.owes κs x end.0.0 _)
             (qed 𝓛 (‵ (fate.stay.has κs x end.0.0 (mut_vals x)) ∷ raw (r.Owed end.1 P) ∷ []) ∵ move ! (1 ∷ []) $
             use1 𝓛 (‵ Others ⊛ raw P) (r.owes t end.1 P) $ split ! $ move ! (2 ∷ 0 ∷ []) $ fjoin ! $ done !);
       };
@@ -260,11 +260,10 @@ module _ (m : ℕ) {M : Type 1} {𝓤 : Ura M} (𝓛 : Logic 𝓤) where
         subst (λ (vss : Valss (types_at ps.slots κs)). Goes ((κs, qs, z.0.2, a, vss), z.1)) (sym told.1) (
         qed 𝓛 (Begins false κs qs a s ((c κs a).requires z.1)) ∵
         enter ! _ _ _ _ _ $ walk κs qs z.0.2 a z.1 s (W.post y) (λ v r w.
-        let Result : Fml = (type_at res κs).own_val r (v ∷ []) in
-        let Says = (c κs a).ensures z.1 r (at_exit T κs a (p.lasts w).0) in
-        via 𝓤 _ (p.owes s w (sep 𝓤 (sem 𝓛 Result) (sep 𝓤 (toks 𝓛 (suc m) κs qs) Says)))
-        (qed 𝓛 (‵ (has_of κs ps.slots ps.kept ps.stays a (p.lasts w).0 (p.vals s)) ∷ ‵ Result
-        ∷ raw (toks 𝓛 (suc m) κs qs) ∷ raw Says ∷ []) ∵ move ! (2 ∷ []) $
+        via 𝓤 _ (p.owes s w _)
+        (qed 𝓛 (‵ (has_of κs ps.slots ps.kept ps.stays a (p.lasts w).0 (p.vals s))
+        ∷ ‵ ((type_at res κs).own_val r (v ∷ [])) ∷ raw (toks 𝓛 (suc m) κs qs)
+        ∷ raw ((c κs a).ensures z.1 r (at_exit T κs a (p.lasts w).0)) ∷ []) ∵ move ! (2 ∷ []) $
         by ! (leaves 𝓛 T ps.stays c y v r (p.lasts w).0 (p.lasts w).1)))))
 
     pub walked : Walking true
