@@ -9,7 +9,7 @@ pub use Prim.Native.Nat.{ℕ, zero, suc, ◌+◌, ◌*◌, ◌<◌, ◌≤◌, �
 pub use native.Mathlib.{Omega.arith, Nat.{zero-mul, suc-mul}}
 pub use lib.{
   Dec.lit<,
-  ListN.{length, take, drop as drop_list, set, get_or, replicate, take-append-drop, length-take, length-drop},
+  ListN.{length, take, drop as drop_list, set, get_or, replicate, take-append-drop, length-take},
   ListN.{length-map, length-set, length-replicate},
   Seq.{drop-cons, set_split},
 }

@@ -1,4 +1,5 @@
--- How a walk begins and ends, by the parameters of its function. Assumes `Logic`.
+-- How a walk begins and ends, by its function's parameters, told one by one: `mutable` for a `&mut`, `seen` for a `&`,
+-- `item`, `whole_slots`, `handle`, `word` or else `told` for one by value, and at the end `words n`. Assumes `Logic`.
 use Rattle.arraydeque_ring.proofs.memory.{
   Kit.{stay_ref, Goes-ref, MutBor, List, [], ◌∷◌, ℕ, zero, refl, suc, Ura, SProp, ent, id⊢, Logic, Fn, Val, ◌≡◌, Bool},
   Kit.{named, w64, sem, sep, ‵, raw, ◌⊛◌, at_ret, ◌$◌, ◌∵◌, !, qed, move, split, fsplit, fsplit3, true, false, fjoin},
@@ -104,22 +105,22 @@ module _ {M : Type 1} {𝓤 : Ura M} {𝓛 : Logic 𝓤} where
   module _ {m : ℕ} where
     -- one that ends in the call, shown at entry or not
     abbrev pub gone : (s : Slot m) (k : Kept) → Silent 𝓛 m s k → Bool
-        → (St : (κs : Lfts m) → (s.row κs).Denot → Type 0)
-        (v : (κs : Lfts m) (x : (s.row κs).Denot) → St κs x → List Val)
-        → ((κs : Lfts m) (x : (s.row κs).Denot) (vs : List Val) → Is (s.row κs) x vs → (t : St κs x) × (vs ≡ v κs x t))
-        → Params 𝓛 m → Params 𝓛 m
-    gone s k silent b St v told ps = record {
+        → (Store : (κs : Lfts m) → (s.row κs).Denot → Type 0)
+        (spell : (κs : Lfts m) (x : (s.row κs).Denot) → Store κs x → List Val)
+        → ((κs : Lfts m) (x : (s.row κs).Denot) (vs : List Val) → Is (s.row κs) x vs
+        → (t : Store κs x) × (vs ≡ spell κs x t)) → Params 𝓛 m → Params 𝓛 m
+    gone s k silent visible Store spell told ps = record {
       slots = s ∷ ps.slots;
       kept = (k, ps.kept);
       stays = (stay_dropped s k, ps.stays);
       go = (Goes-dropped 𝓛 m s k silent, ps.go);
       passed = λ κs a. let r = ps.passed κs a.1 in record {
-        Stored = St κs a.0 × r.Stored;
-        vals = λ t. (v κs a.0 t.0, r.vals t.1);
+        Stored = Store κs a.0 × r.Stored;
+        vals = λ t. (spell κs a.0 t.0, r.vals t.1);
         told = λ vss are. let t = told κs a.0 vss.0 are.0 in let u = r.told vss.1 are.1 in
             ((t.0, u.0), λ i. (t.1 i, u.1 i));
-        Had = λ t Γ. shown b ((s.row κs).own_val a.0 (v κs a.0 t.0)) (r.Had t.1 Γ);
-        has = λ t Γ. beside (r.Had t.1 Γ) (shows b ((s.row κs).own_val a.0 (v κs a.0 t.0)) (r.Had t.1 Γ)) (r.has t.1 Γ);
+        Had = λ t Γ. shown visible ((s.row κs).own_val a.0 (spell κs a.0 t.0)) (r.Had t.1 Γ);
+        has = λ t Γ. beside (r.Had t.1 Γ) (shows visible _ _) (r.has t.1 Γ);
         Lasts = r.Lasts;
         lasts = λ w. let ws = r.lasts w in ((rest ((s.row κs).exit k) a.0, ws.0), (tt, ws.1));
         Owed = r.Owed;
@@ -130,9 +131,10 @@ module _ {M : Type 1} {𝓤 : Ura M} {𝓛 : Logic 𝓤} where
     }
 
     -- one whose value tells how the machine stores it
-    abbrev pub told : (s : Slot m) → Silent 𝓛 m s yes → Bool → {v : (κs : Lfts m) → (s.row κs).Denot → List Val}
-        → ((κs : Lfts m) → Tells (s.row κs) (Is (s.row κs)) (v κs)) → Params 𝓛 m → Params 𝓛 m
-    told s silent b {v} tells = gone s yes silent b (λ κs x. Is (s.row κs) x (v κs x)) (λ κs x _. v κs x)
+    abbrev pub told : (s : Slot m) → Silent 𝓛 m s yes → Bool → {spell : (κs : Lfts m) → (s.row κs).Denot → List Val}
+        → ((κs : Lfts m) → Tells (s.row κs) (Is (s.row κs)) (spell κs)) → Params 𝓛 m → Params 𝓛 m
+    told s silent visible {spell} tells = gone s yes silent visible (λ κs x. Is (s.row κs) x (spell κs x))
+        (λ κs x _. spell κs x)
         (λ κs x vs is. let same = tells κs x vs is in (subst (Is (s.row κs) x) same is, same))
 
     -- an item by value
@@ -153,7 +155,7 @@ module _ {M : Type 1} {𝓤 : Ura M} {𝓛 : Logic 𝓤} where
     abbrev pub mutable : {j : ℕ} {ok : AllWithin m (j ∷ [])} {S : RattleType} → Fate 𝓛 m j ok S → Params 𝓛 m
         → Params 𝓛 m
     mutable {j} {ok} {S} fate ps = record {
-      slots = mut_ref_to (j ∷ []) ok (plain (λ _. S)) ∷ ps.slots;
+      slots = Self 𝓛 m j ok S ∷ ps.slots;
       kept = (fate.kept, ps.kept);
       stays = (fate.stay, ps.stays);
       go = (fate.goes, ps.go);
@@ -165,13 +167,13 @@ module _ {M : Type 1} {𝓤 : Ura M} {𝓛 : Logic 𝓤} where
         Had = λ t Γ. ‵ (obs 𝓛 m j ok S x x.now) ∷ ‵ (bor 𝓛 m j ok S κs x) ∷ r.Had t Γ;
         has = λ t Γ. beside (r.Had t Γ) (fsplit3 ! $ drop ! $ done !) (r.has t Γ);
         Lasts = fate.And r.Lasts;
-        lasts = λ w. let l = fate.last κs x w in let ws = r.lasts l.1 in ((l.0.0, ws.0), (l.0.1, ws.1));
-        Owed = λ w P. let l = fate.last κs x w in fate.Owed κs x l.0.0 (r.Owed l.1 P);
-        owes = λ t w P. let l = fate.last κs x w in
-            let Others = has_of κs ps.slots ps.kept ps.stays a.1 (r.lasts l.1).0 (r.vals t) in
-            via 𝓤 _ (fate.owes κs x l.0.0 (r.Owed l.1 P))
-            (qed 𝓛 (‵ (fate.stay.has κs x l.0.0 (mut_vals x)) ∷ raw (r.Owed l.1 P) ∷ []) ∵ move ! (1 ∷ []) $
-            use1 𝓛 (‵ Others ⊛ raw P) (r.owes t l.1 P) $ split ! $ move ! (2 ∷ 0 ∷ []) $ fjoin ! $ done !);
+        lasts = λ w. let end = fate.last κs x w in let ws = r.lasts end.1 in ((end.0.0, ws.0), (end.0.1, ws.1));
+        Owed = λ w P. let end = fate.last κs x w in fate.Owed κs x end.0.0 (r.Owed end.1 P);
+        owes = λ t w P. let end = fate.last κs x w in
+            let Others = has_of κs ps.slots ps.kept ps.stays a.1 (r.lasts end.1).0 (r.vals t) in
+            via 𝓤 _ (fate.owes κs x end.0.0 _)
+            (qed 𝓛 (‵ (fate.stay.has κs x end.0.0 (mut_vals x)) ∷ raw (r.Owed end.1 P) ∷ []) ∵ move ! (1 ∷ []) $
+            use1 𝓛 (‵ Others ⊛ raw P) (r.owes t end.1 P) $ split ! $ move ! (2 ∷ 0 ∷ []) $ fjoin ! $ done !);
       };
     }
 
@@ -258,11 +260,11 @@ module _ (m : ℕ) {M : Type 1} {𝓤 : Ura M} (𝓛 : Logic 𝓤) where
         subst (λ (vss : Valss (types_at ps.slots κs)). Goes ((κs, qs, z.0.2, a, vss), z.1)) (sym told.1) (
         qed 𝓛 (Begins false κs qs a s ((c κs a).requires z.1)) ∵
         enter ! _ _ _ _ _ $ walk κs qs z.0.2 a z.1 s (W.post y) (λ v r w.
-        let Result : Fml = (type_at res κs).own_val r (v ∷ []) in
-        let Says = (c κs a).ensures z.1 r (at_exit T κs a (p.lasts w).0) in
-        via 𝓤 _ (p.owes s w (sep 𝓤 (sem 𝓛 Result) (sep 𝓤 (toks 𝓛 (suc m) κs qs) Says)))
-        (qed 𝓛 (‵ (has_of κs ps.slots ps.kept ps.stays a (p.lasts w).0 (p.vals s)) ∷ ‵ Result
-        ∷ raw (toks 𝓛 (suc m) κs qs) ∷ raw Says ∷ []) ∵ move ! (2 ∷ []) $ by ! (leaves 𝓛 T ps.stays c y v r (p.lasts w).0 (p.lasts w).1)))))
+        via 𝓤 _ (p.owes s w _)
+        (qed 𝓛 (‵ (has_of κs ps.slots ps.kept ps.stays a (p.lasts w).0 (p.vals s))
+        ∷ ‵ ((type_at res κs).own_val r (v ∷ [])) ∷ raw (toks 𝓛 (suc m) κs qs)
+        ∷ raw ((c κs a).ensures z.1 r (at_exit T κs a (p.lasts w).0)) ∷ []) ∵ move ! (2 ∷ []) $
+        by ! (leaves 𝓛 T ps.stays c y v r (p.lasts w).0 (p.lasts w).1)))))
 
     pub walked : Walking true
     walked 𝓜 𝓡 os res c k e closed walk = as_whole 𝓜 𝓡 os res c k e closed (λ κs qs bounds a g s post ends.

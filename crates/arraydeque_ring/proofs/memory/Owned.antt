@@ -1,13 +1,15 @@
 -- The places of a block, taken apart and put together again. Assumes `Logic`.
 use Rattle.arraydeque_ring.{
-  proofs.memory.Kit.{◌≡◌, refl, sym, ap, ◌∙◌, List, [], ◌∷◌, ◌++◌, map, ℕ, zero, suc, ◌+◌, ◌*◌, arith, zero-mul},
-  proofs.memory.Kit.{suc-mul, length, drop_list, replicate, take-append-drop, Option, Some, None, type_size, Ura, ent},
-  proofs.memory.Kit.{sep, emp, wand, via, id⊢, snd∗, mono_r, Lft, Fml, froom, ty_array, align, Logic, sem, ‵, raw, ◌⊛◌},
-  proofs.memory.Kit.{◌$◌, ◌∵◌, !, qed, by, move, keep, drop, use0, use1, split, frame, fsplit, fjoin, rewrite, done},
-  proofs.memory.Kit.{nothing, El, R, el_x, elτ, elements_shared},
+  proofs.memory.{
+    Kit.{◌≡◌, refl, sym, ap, ◌∙◌, List, [], ◌∷◌, ◌++◌, map, ℕ, zero, suc, ◌+◌, ◌*◌, arith, zero-mul, suc-mul, length},
+    Kit.{drop_list, replicate, take-append-drop, Option, Some, None, type_size, Ura, ent, sep, emp, wand, via, id⊢},
+    Kit.{snd∗, mono_r, Lft, Fml, froom, ty_array, align, Logic, sem, ‵, raw, ◌⊛◌, ◌$◌, ◌∵◌, !, qed, by, move, keep},
+    Kit.{drop, use0, use1, split, frame, fsplit, fjoin, rewrite, done, nothing, El, R, el_x, elτ, elements_shared},
+  },
   specs.{Ownership.{place_owned, places_owned, place_lent, places_lent}, Places.HoldsRun},
 }
 use prog.Align.{dv_self}
+use contract.Monad.{top}
 
 module _ (E : El) where
   -- the bytes of an item
@@ -46,7 +48,7 @@ module _ (E : El) {M : Type 1} {𝓤 : Ura M} (𝓛 : Logic 𝓤) (b : ℕ) wher
 
   -- the room of a block is that many empty places
   pub of_room : (n o : ℕ) → ent 𝓤 (H.room (ty_array (elτ E) n) b o) (sem 𝓛 (Row o (replicate n None)))
-  of_room zero o = qed 𝓛 (‵ (froom (ty_array (elτ E) 0) b o) ∷ []) ∵ keep ! [] $ done !
+  of_room zero o = top 𝓤 _
   of_room (suc n) o = qed 𝓛 (‵ (froom (ty_array (elτ E) (suc n)) b o) ∷ []) ∵
       use1 𝓛 (‵ (froom (elτ E) b o) ⊛ ‵ (froom (ty_array (elτ E) n) b (o + s))) (𝓛.laws.room_uncons (elτ E) n b o) $
       split ! $
@@ -75,7 +77,7 @@ module _ (E : El) {M : Type 1} {𝓤 : Ura M} (𝓛 : Logic 𝓤) (b : ℕ) wher
 
     seen_values : (xs : List (el_x E)) (rest : List (Place E)) (o : ℕ)
         → ent 𝓤 (sem 𝓛 (Shown o (map Some xs ++ rest))) (sem 𝓛 (elements_shared (R E) xs b o κ))
-    seen_values [] rest o = qed 𝓛 (‵ (Shown o rest) ∷ []) ∵ keep ! [] $ done !
+    seen_values [] rest o = top 𝓤 _
     seen_values (x ∷ xs) rest o = mono_r 𝓤 (sem 𝓛 (place_lent (R E) b o (Some x) κ)) (seen_values xs rest (o + s))
 
     -- the values of a filled run are seen through a `&`

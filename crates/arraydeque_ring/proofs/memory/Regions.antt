@@ -1,13 +1,15 @@
 -- A `Slots` is taken apart into its words, its places and its right to free, and made of them;
 -- a `&mut` to one is opened and closed. Assumes `Logic`.
 use Rattle.arraydeque_ring.{
-  proofs.memory.Kit.{◌≡◌, sym, length-replicate, None, refl, ap, subst, ◌∙◌, List, [], ◌∷◌, ◌++◌, ℕ, ◌+◌, ◌*◌, ◌<◌},
-  proofs.memory.Kit.{◌≤◌, ◌^◌, arith, length, Ura, full_share, Gv, ent, sep, emp, id⊢, never, Lft, Share, GName, Fml},
-  proofs.memory.Kit.{fsep, flft, fobs, fauth, fbor, fobor, ftrue, w64, Val, vunit, vint, vptr, vstruct, vcons, vnil},
-  proofs.memory.Kit.{of_list, Logic, sem, Borrowed, Goal, Soaks, Step, step, Seq, Item, ‵, ◌$◌, ◌∵◌, !, qed, move},
-  proofs.memory.Kit.{drop, rewrite, use0, fsplit, fjoin, fpick, fpack, feq_l, feq_i, flt_l, flt_i, RattleType, Valss},
-  proofs.memory.Kit.{Is, shows, layout, cell_at, mem, Ptr, block_ptr, ptr_val, in_a_block, nothing, opens, closes},
-  proofs.memory.Kit.{peeks, Good, heap_val, heap_Tells, times_below, done, El, R, el_x, part_of, makes_shadow, Global},
+  proofs.memory.{
+    Kit.{◌≡◌, sym, length-replicate, None, refl, ap, subst, ◌∙◌, List, [], ◌∷◌, ◌++◌, ℕ, ◌+◌, ◌*◌, ◌<◌, ◌≤◌, ◌^◌},
+    Kit.{arith, length, Ura, full_share, Gv, ent, sep, emp, id⊢, never, Lft, Share, GName, Fml, fsep, flft, fobs},
+    Kit.{fauth, fbor, fobor, ftrue, w64, Val, vunit, vint, vptr, vstruct, vcons, vnil, of_list, Logic, sem, Borrowed},
+    Kit.{Goal, Soaks, Step, step, Seq, Item, ‵, ◌$◌, ◌∵◌, !, qed, move, drop, rewrite, use0, fsplit, fjoin, fpick},
+    Kit.{fpack, feq_l, feq_i, flt_l, flt_i, RattleType, Valss, Is, shows, layout, cell_at, mem, Ptr, block_ptr},
+    Kit.{ptr_val, in_a_block, nothing, opens, closes, peeks, Good, heap_val, heap_Tells, times_below, done, El, R},
+    Kit.{el_x, part_of, makes_shadow, Global},
+  },
   specs.{Places.Region, Ownership.slots_owned, declared.slots.Slots.TheInside.Inside},
 }
 use denote.Struct.{Struct.within, Owning.{Owning, shape}}

@@ -1,5 +1,18 @@
 -- A run of places is taken out of a block as an array of values, or as room for one, and put back. Assumes `Logic`.
-use Rattle.arraydeque_ring.{proofs.memory.{Kit.{drop, ◌≡◌, refl, sym, ap, ◌∙◌, List, [], ◌∷◌, ◌++◌, map, ℕ, ◌+◌, ◌*◌, ◌≤◌, arith, length, take, drop_list}, Kit.{length-take, Some, None, Ura, full_share, ent, sep, Fml, fsep, fat, froom}, Kit.{ty_array, Logic, sem, ‵, ◌⊛◌, some, given, ◌$◌, ◌∵◌, !, qed, by, move, keep, use1, use2, pick, learn, split}, Kit.{fsplit, fjoin, rewrite, done, part_at, El, R, el_x, elτ, Array, ◌<◌, get_or, set, drop-cons, part_out}, Kit.{set_split, nothing, suc, Item, Goal, Step, step, length-map, length-replicate, replicate}, Owned.{item_size, Place, Row, cut, glue, of_room}}, proofs.places.Held.length_filled, specs.{Gaps.run_emptied, Ownership.place_owned, Places.IsFilledRun}}
+use Rattle.arraydeque_ring.{
+  proofs.{
+    memory.{
+      Kit.{drop, ◌≡◌, refl, sym, ap, ◌∙◌, List, [], ◌∷◌, ◌++◌, map, ℕ, ◌+◌, ◌*◌, ◌≤◌, arith, length, take, drop_list},
+      Kit.{length-take, Some, None, Ura, full_share, ent, sep, Fml, fsep, fat, froom, ty_array, Logic, sem, ‵, ◌⊛◌},
+      Kit.{some, given, ◌$◌, ◌∵◌, !, qed, by, move, keep, use1, use2, pick, learn, split, fsplit, fjoin, rewrite, done},
+      Kit.{part_at, El, R, el_x, elτ, Array, ◌<◌, get_or, set, drop-cons, part_out, set_split, nothing, suc, Item},
+      Kit.{Goal, Step, step, length-map, length-replicate, replicate},
+      Owned.{item_size, Place, Row, cut, glue, of_room},
+    },
+    places.Held.length_filled,
+  },
+  specs.{Gaps.run_emptied, Ownership.place_owned, Places.IsFilledRun},
+}
 use Rattle.std.below.core.proofs.slots.Runs.{unspliced, run_long}
 use denote.Index.{row}
 use Rattle.std.proofs.ptr.Rows as arrays

@@ -8,7 +8,14 @@ use Rattle.std.{
   proofs.Crossing.frees,
 }
 use base.{Fraction.full_share, Fml.Fml, Shift.Keyless}
-use denote.{Exit.{Exit, unchanged, leaves, hidden, under}, RattleType.RattleType, RawPtr.{Ptr, block_ptr, null_ptr}, Ref.NamedLft, Struct.{Struct.exits_of, Owning.{shape, fields, to}}, Param.Send.{IsSend, IsSync, Quiet, Common, AllSend, part_keyless, owning_send, struct_send, struct_sync}, Param.Send.{sendable}}
+use denote.{
+  Exit.{Exit, unchanged, leaves, hidden, under},
+  RattleType.RattleType,
+  RawPtr.{Ptr, block_ptr, null_ptr},
+  Ref.NamedLft,
+  Struct.{Struct.exits_of, Owning.{shape, fields, to}},
+  Param.Send.{IsSend, IsSync, Quiet, Common, AllSend, part_keyless, owning_send, struct_send, struct_sync, sendable},
+}
 use Rattle.arraydeque_ring.specs.Ownership.{owned_if, places_owned, places_lent, slots_owned, slots_lent}
 use Rattle.arraydeque_ring.specs.contracts.slots.loan.LoanName as loan_name
 use Rattle.arraydeque_ring.specs.contracts.slots.Slots.TheInside as inside

@@ -70,7 +70,8 @@ copy_over_spec 𝓤 𝓛 𝓜 𝓡 wired X L =
       xs,
     ) in
     knows ! (run_fits E ok n (omega arith)).1 $ join ! $ knows ! lives $ join ! $
-    pure_i ! (owns (RawPtr ∷ RawPtr ∷ usize ∷ []) z.0.3 z.0.4) _ (refl, (refl, ((refl, fit.1.1.0.1.fits), tt))) $ move ! (14 ∷ 0 ∷ []) $ join ! $ join ! $
+    pure_i ! (owns (RawPtr ∷ RawPtr ∷ usize ∷ []) z.0.3 z.0.4) _ (refl, (refl, ((refl, fit.1.1.0.1.fits), tt))) $
+    move ! (14 ∷ 0 ∷ []) $ join ! $ join ! $
     use1 𝓛 (raw (Copies.pre z)) (id⊢ 𝓤 _) $
     calls_at_last ! (framed 𝓤 𝓛.H 𝓜 𝓣) Copies
     (copy_thm.met 𝓤 𝓛 𝓜 𝓡 (code.calls-std::ptr::copy_nonoverlapping 𝓡.env wired) X L) z

@@ -44,4 +44,5 @@ read_spec 𝓤 𝓛 𝓜 𝓡 wired X L =
     move ! (0 ∷ 2 ∷ 3 ∷ 4 ∷ 5 ∷ 6 ∷ 7 ∷ []) $
     place_in E ! b o r.places i within None $
     slots_close E ! tt new ok (sym (length-set r.places i None)) $ returns ! (look_at ! 0 refl) $ free_all ! refl $
-    suffices ! _ (ends v x (new, tt)) $ frame ! $ frame ! $ move ! (1 ∷ []) $ frame ! $ join ! $ says_two ! (asked.1, refl) $ done !)))))))
+    suffices ! _ (ends v x (new, tt)) $ frame ! $ frame ! $ move ! (1 ∷ []) $ frame ! $ join ! $
+    says_two ! (asked.1, refl) $ done !)))))))

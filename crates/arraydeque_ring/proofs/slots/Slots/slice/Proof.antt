@@ -1,5 +1,18 @@
 -- `slice` lends the values of a filled run. Assumes `Logic`.
-use Rattle.arraydeque_ring.proofs.{memory.{Kit.{refl, sym, ap, [], ◌∷◌, ℕ, ◌+◌, ◌*◌, ◌<◌, ◌^◌, arith, length, inst_fn, vptr, ‵, ◌$◌, !, move, use1}, Kit.{drop, join, fsplit, fjoin, feq_i, flt_i, suffices, done, agg, of_opd, bin, load, look, stop, fld, no_more}, Kit.{and_then, first, blocks, returns, alloc_all, pass_all, free_all, look_at, get, through, sets, sets_last, says}, Kit.{heard, El, R, args, times_below, slice_val, elements_shared, ◌∙◌, looks, shuts, RawPtr, Ptr, ptr_val, feq_l}, Kit.{rewrite, cell_at, frame}, Lent.slots_seen, Called.{after_block, first_fact}, Methods.{walked, seen, words}, Regions.{Sr, scaled, item_size, run_seen}}, places.Held.length_filled}
+use Rattle.arraydeque_ring.proofs.{
+  memory.{
+    Kit.{refl, sym, ap, [], ◌∷◌, ℕ, ◌+◌, ◌*◌, ◌<◌, ◌^◌, arith, length, inst_fn, vptr, ‵, ◌$◌, !, move, use1, drop},
+    Kit.{join, fsplit, fjoin, feq_i, flt_i, suffices, done, agg, of_opd, bin, load, look, stop, fld, no_more, and_then},
+    Kit.{first, blocks, returns, alloc_all, pass_all, free_all, look_at, get, through, sets, sets_last, says, heard},
+    Kit.{El, R, args, times_below, slice_val, elements_shared, ◌∙◌, looks, shuts, RawPtr, Ptr, ptr_val, feq_l, rewrite},
+    Kit.{cell_at, frame},
+    Lent.slots_seen,
+    Called.{after_block, first_fact},
+    Methods.{walked, seen, words},
+    Regions.{Sr, scaled, item_size, run_seen},
+  },
+  places.Held.length_filled,
+}
 use denote.{Opens.hide, Struct.Laws.RawPtr-copy}
 use Rattle.arraydeque_ring.specs.contracts.slots.Slots.slice as f
 use Rattle.arraydeque_ring.proofs.slots.Slots.slice.Statement as stated
