@@ -9,7 +9,7 @@ use Rattle.arraydeque_ring.{
 }
 use Rattle.arraydeque_ring.proofs.slots.Slots.slide_down.Goals as goal
 
--- a run that wraps: what is before the end, the value that crosses it, and what is past it
+-- a run that wraps, as the calls say it: what is before the end, the value that crosses it, and what is past it
 round : (g : Over) (c : After-capacity-last g) → let n = c.capacity-last.result in let t = c.args.dst in
     let ps = c.moved_out-slots.result.places in
     n - 1 - t < c.args.len

@@ -9,7 +9,7 @@ use Rattle.arraydeque_ring.{
 }
 use Rattle.arraydeque_ring.proofs.slots.Slots.slide_up.Goals as goal
 
--- a run that wraps: what is past the end, the value in the last place, and what is before it
+-- a run that wraps, as the calls say it: what is past the end, the value in the last place, and what is before it
 round : (g : Over) (c : After-capacity-capacity g) → let n = c.capacity-capacity.result in let t = c.args.src in
     let ps = c.moved_out-slots.result.places in
     n - t ≤ c.args.len → Three 1 0 (c.args.len - (n - t)) 0 (n - 1 + 0) 1 (t + 1) t (n - t - 1) ps
