@@ -71,11 +71,11 @@ module _ {X : Type 0} {capacity start len dst next : ℕ} {old ps : List (Option
         }
 
     -- after it the others stand where they did, or one run further on
-    pub Rotating-passed : (next_then : ℕ)
+    pub Rotating-passed : {next_then : ℕ}
         → ((capacity - next ≤ run) × (next_then ≡ next)) ⊎ ((run < capacity - next) × (next_then ≡ next + run))
         → Rotating capacity start len (dst + run) next_then old
         (runs_exchanged (dst + x) (next + x) (run - x) (runs_exchanged dst next x ps))
-    Rotating-passed next_then ways =
+    Rotating-passed {next_then} ways =
         let all : x + (run - x) ≡ run = omega arith in
         let long = length-runs_exchanged dst next run ps (omega arith) (omega arith) in
         let gap = next_then - (dst + run) in
