@@ -1,8 +1,7 @@
 -- A region while it is rotated: pass after pass, values come to their places.
 use Rattle.std.proofs.{
-  Common.{◌≡◌, ℕ, ◌+◌, ◌-◌, ◌<◌, ◌≤◌, ◌⊎◌, List, length, min, Option, is_some},
-  Common.{sym, ap, ◌∙◌, arith},
-  lemmas.{Bool.Decides.nat_tests, List.{append-nil}},
+  Common.{◌≡◌, ℕ, ◌+◌, ◌-◌, ◌<◌, ◌≤◌, ◌⊎◌, List, length, min, Option, is_some, sym, ap, ◌∙◌, arith},
+  lemmas.{Bool.Decides.nat_tests, List.append-nil},
 }
 use Rattle.arraydeque_ring.{
   specs.{
@@ -13,8 +12,8 @@ use Rattle.arraydeque_ring.{
   },
   proofs.{
     places.{
-      Reads.{rotated_from, length-run_rotated, get_or-run_rotated, exchanged_from, length-runs_exchanged},
-      Reads.{get_or-runs_exchanged, runs_exchanged_both},
+      Reads.{length-run_rotated, get_or-run_rotated, exchanged_from, length-runs_exchanged, get_or-runs_exchanged},
+      Reads.runs_exchanged_both,
       Rotated.{length-rotated, rotated-map},
       Held.{filled_run_of, empty_run_of},
     },

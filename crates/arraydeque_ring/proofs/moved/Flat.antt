@@ -1,8 +1,8 @@
 -- Runs that move where neither side passes the region's end.
 use Rattle.std.proofs.{
-  Common.{◌≡◌, ℕ, ◌+◌, ◌-◌, ◌<◌, ◌≤◌, List, ◌++◌, length, take, drop, get_or, nat_lt, if◌then◌else◌, Option, None},
-  Common.{inl, inr, ◌⊎◌, refl, sym, ap, ap₂, ◌∙◌, arith},
-  Math.Nat.{mod-eq_of_lt},
+  Common.{◌≡◌, ℕ, ◌+◌, ◌-◌, ◌<◌, ◌≤◌, ◌⊎◌, inl, inr, List, ◌++◌, length, take, drop, get_or, nat_lt, if◌then◌else◌},
+  Common.{Option, None, refl, sym, ◌∙◌, arith},
+  Math.Nat.mod-eq_of_lt,
   lemmas.{
     Bool.Decides.nat_tests,
     List.{ext_get_or, places, FromFn.{length-map-range_with_len, get_or-map-range_with_len}},
