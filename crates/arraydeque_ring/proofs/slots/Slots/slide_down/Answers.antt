@@ -1,4 +1,4 @@
-use Rattle.std.proofs.{Common.{◌+◌, ◌-◌, ◌%◌, ◌<◌, length, ap, subst, ◌∙◌, refl, arith}, Math.Nat.{mod-eq_of_lt}}
+use Rattle.std.proofs.Common.{◌+◌, ◌-◌, ◌%◌, ◌<◌, length, ap, subst, ◌∙◌, refl, arith}
 use Rattle.arraydeque_ring.{
   specs.{Places.IsFilled, Ring.place_of, Moved.run_moved},
   proofs.{
@@ -58,7 +58,7 @@ returns-clause-places g c =
     rw (c.count.ensures, ← c.moved_out-slots.ensures.region) (elim c.if-len-upper.branch [
       | then-len-upper w ↦
           rw (w.slots-is, w.move_first.ensures.all refl) (same_move _ _ _ _ _ _ _
-          (grind (arith, mod-eq_of_lt {n = c.args.dst + 1} {m = length ps})))
+          (grind (arith, place_of_cases c.args.dst 1 (length ps))))
       | else-len-upper w ↦ rw (
         w.slots-is,
         w.move_first-else-len-upper-2.ensures.all refl,
