@@ -1,10 +1,25 @@
 -- A region while it is rotated: pass after pass, values come to their places.
 use Rattle.std.proofs.{
-  Common.{◌≡◌, ℕ, ◌+◌, ◌-◌, ◌<◌, ◌≤◌, ◌⊎◌, List, length, min, Option, is_some},
-  Common.{sym, ap, ◌∙◌, arith},
-  lemmas.{Bool.Decides.nat_tests, List.{append-nil}},
+  Common.{◌≡◌, ℕ, ◌+◌, ◌-◌, ◌<◌, ◌≤◌, ◌⊎◌, List, length, min, Option, is_some, sym, ap, ◌∙◌, arith},
+  lemmas.{Bool.Decides.nat_tests, List.append-nil},
 }
-use Rattle.arraydeque_ring.{specs.{Gaps.{IsEmptyRun, run_rotated}, Places.{held_at, IsFilledRun}, Ring.{rotated, filled, FilledFrom}, Exchanged.runs_exchanged}, proofs.{places.{Reads.{length-run_rotated, get_or-run_rotated, exchanged_from, length-runs_exchanged}, Reads.{get_or-runs_exchanged, runs_exchanged_both}, Rotated.{length-rotated, rotated-map}, Held.{filled_run_of, empty_run_of}}, linearize.Underway.{are_rotated, Underway, underway, len_within, filled_now, empty_now}}}
+use Rattle.arraydeque_ring.{
+  specs.{
+    Gaps.{IsEmptyRun, run_rotated},
+    Places.{held_at, IsFilledRun},
+    Ring.{rotated, filled, FilledFrom},
+    Exchanged.runs_exchanged,
+  },
+  proofs.{
+    places.{
+      Reads.{length-run_rotated, get_or-run_rotated, exchanged_from, length-runs_exchanged, get_or-runs_exchanged},
+      Reads.runs_exchanged_both,
+      Rotated.{length-rotated, rotated-map},
+      Held.{filled_run_of, empty_run_of},
+    },
+    linearize.Underway.{are_rotated, Underway, underway, len_within, filled_now, empty_now},
+  },
+}
 
 -- a pass: of `run` values that come to their places, x do by an exchange, and the others then into empty places
 pub record Pass {X : Type 0} (dst next run x : ℕ) (ps : List (Option X)) : Type 0 where
@@ -55,11 +70,11 @@ module _ {X : Type 0} {capacity start len dst next : ℕ} {old ps : List (Option
         }
 
     -- after it the others stand where they did, or one run further on
-    pub Rotating-passed : (next_then : ℕ)
+    pub Rotating-passed : {next_then : ℕ}
         → ((capacity - next ≤ run) × (next_then ≡ next)) ⊎ ((run < capacity - next) × (next_then ≡ next + run))
         → Rotating capacity start len (dst + run) next_then old
         (runs_exchanged (dst + x) (next + x) (run - x) (runs_exchanged dst next x ps))
-    Rotating-passed next_then ways =
+    Rotating-passed {next_then} ways =
         let all : x + (run - x) ≡ run = omega arith in
         let long = length-runs_exchanged dst next run ps (omega arith) (omega arith) in
         let gap = next_then - (dst + run) in

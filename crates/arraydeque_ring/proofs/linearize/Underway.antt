@@ -104,7 +104,7 @@ module _ {X : Type 0} {dst gap behind len : ℕ} {ps : List (Option X)} (u : Und
         else (if nat_lt x (dst + behind) then None
         else (if nat_lt x next then held_at ps (x - behind) else held_at ps x)))
     made_room x lt = get_or-gap_moved (len - behind) dst behind ps (omega arith) (omega arith) x
-        ∙ grind (arith, nat_tests, between x, between (x - behind))
+        ∙ grind (arith, between x, between (x - behind))
 
     pub room_made : IsEmptyRun moved_up dst behind × IsFilledRun moved_up next behind
     room_made = (

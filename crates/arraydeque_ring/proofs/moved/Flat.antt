@@ -1,8 +1,8 @@
 -- Runs that move where neither side passes the region's end.
 use Rattle.std.proofs.{
-  Common.{◌≡◌, ℕ, ◌+◌, ◌-◌, ◌<◌, ◌≤◌, List, ◌++◌, length, take, drop, get_or, nat_lt, if◌then◌else◌, Option, None},
-  Common.{inl, inr, ◌⊎◌, refl, sym, ap, ap₂, ◌∙◌, arith},
-  Math.Nat.{mod-eq_of_lt},
+  Common.{◌≡◌, ℕ, ◌+◌, ◌-◌, ◌<◌, ◌≤◌, ◌⊎◌, inl, inr, List, ◌++◌, length, take, drop, get_or, nat_lt, if◌then◌else◌},
+  Common.{Option, None, refl, sym, ◌∙◌, arith},
+  Math.Nat.mod-eq_of_lt,
   lemmas.{
     Bool.Decides.nat_tests,
     List.{ext_get_or, places, FromFn.{length-map-range_with_len, get_or-map-range_with_len}},
@@ -84,8 +84,7 @@ module _ {X : Type 0} where
 
   pub all_moved : (dst src len : ℕ) (now : Region X) {whole : List (Option X)} {steps : Steps} → len ≡ 0
       → run_moved dst src len now.places ≡ whole → now.steps ≡ steps → now ≡ record { places = whole; steps = steps }
-  all_moved dst src len now none is same = ap₂ (λ ps s. record { places = ps; steps = s })
-      (sym (ap (λ l. run_moved dst src l now.places) none ∙ moved_none dst src now.places) ∙ is) same
+  all_moved dst src len now none is same = rw (← is, ← same, none, moved_none dst src now.places) refl
 
   -- and any places will do
   pub same_move : (d s e t l m : ℕ) (ps : List (Option X)) → (l ≡ m) × ((l ≡ 0) ⊎ ((d ≡ e) × (s ≡ t)))

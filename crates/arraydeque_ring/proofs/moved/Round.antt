@@ -1,8 +1,5 @@
 -- Runs that move round the end: what is read afterwards, from a place from which on neither side passes it.
-use Rattle.std.proofs.{
-  Common.{◌≡◌, ℕ, ◌+◌, ◌-◌, ◌<◌, ◌≤◌, List, length, Option, ◌∙◌, arith},
-  lemmas.Bool.Decides.nat_tests,
-}
+use Rattle.std.proofs.{Common.{◌≡◌, ℕ, ◌+◌, ◌<◌, ◌≤◌, List, length, Option, ◌∙◌, arith}, lemmas.Bool.Decides.nat_tests}
 use Rattle.arraydeque_ring.{
   specs.{Ring.place_of, Moved.{distance, run_moved}},
   proofs.{
@@ -39,5 +36,5 @@ Holds-moved {n = n} {t = t} {ps = ps} h i j len t_in i_in j_in = record {
     place_of-sum t j (distance i x n) n,
     distance_is i x n (omega arith) lt,
     distance_is j x n (omega arith) lt,
-  ) (grind (arith, nat_tests, h.at x lt, h.at (j + (x - i))));
+  ) (grind (arith, nat_tests));
 }

@@ -14,8 +14,7 @@ use Rattle.arraydeque_ring.{
 
 -- the place k on is at the distance k
 distance-up : (i k n : ℕ) → i < n → k < n → distance i (place_of i k n) n ≡ k
-distance-up i k n a b = let at = place_of-lt i k n (omega arith) in
-    grind arith
+distance-up i k n a b = grind (arith, place_of-lt i k n (omega arith))
 
 -- of the l values of a run that moves from s to d, k from the index i on move first, and then the m others, from the
 -- index j on: the first ones first, where none of the others is in their way, or the last ones

@@ -1,9 +1,7 @@
 use Rattle.std.proofs.{Common.{length, ap, ◌∙◌, arith}, lemmas.List.append-nil}
-use Rattle.arraydeque_ring.{
-  proofs.{
-    places.{LaidOut.{rotated-LaidOut, LaidOut-from}, Opened.{opened, Shows, shows}, Rotated.length-rotated},
-    ring.Ring.linearize.{Given.Over, Goals.{After-replace-nothing}},
-  },
+use Rattle.arraydeque_ring.proofs.{
+  places.{LaidOut.{rotated-LaidOut, LaidOut-from}, Opened.{opened, Shows, shows}, Rotated.length-rotated},
+  ring.Ring.linearize.{Given.Over, Goals.After-replace-nothing},
 }
 use Rattle.arraydeque_ring.proofs.ring.Ring.linearize.Goals as goal
 

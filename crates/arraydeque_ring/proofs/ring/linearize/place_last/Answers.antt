@@ -1,5 +1,7 @@
 use Rattle.std.proofs.{Common.{◌∙◌, arith}, lemmas.List.append-nil}
-use Rattle.arraydeque_ring.proofs.linearize.Underway.{underway, last_may_move, last_moved, room_for_first, room_made, first_moved}
+use Rattle.arraydeque_ring.proofs.{
+  linearize.Underway.{underway, last_may_move, last_moved, room_for_first, room_made, first_moved},
+}
 use Rattle.arraydeque_ring.proofs.ring.linearize.place_last.Goals as goal
 
 -- the others stand in one piece

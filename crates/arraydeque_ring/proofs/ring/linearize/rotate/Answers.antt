@@ -41,7 +41,7 @@ pub loop-next-preserved-then-run-first : goal.loop-next-preserved-then-run-first
 loop-next-preserved-then-run-first g c = record {
   walk = rw (c.move_down-slots.ensures.places, c.exchange_runs-slots.ensures.places)
       (Rotating-passed c.loop-next.invariant.walk c.if-capacity-next.true c.min-run.ensures c.min-past_end.ensures
-      _ (inr (c.if-run-first.true, refl)));
+      (inr (c.if-run-first.true, refl)));
   steps = steps g (goal.at.loop-next-preserved-then-run-first g c).After-move_down-slots;
 }
 
@@ -49,7 +49,7 @@ pub loop-next-preserved : goal.loop-next-preserved
 loop-next-preserved g c = record {
   walk = rw (c.move_down-slots.ensures.places, c.exchange_runs-slots.ensures.places)
       (Rotating-passed c.loop-next.invariant.walk c.if-capacity-next.true c.min-run.ensures c.min-past_end.ensures
-      _ (inl (c.if-run-first.false, refl)));
+      (inl (c.if-run-first.false, refl)));
   steps = steps g (goal.at.loop-next-preserved g c).After-move_down-slots;
 }
 

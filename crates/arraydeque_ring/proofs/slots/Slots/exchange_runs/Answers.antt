@@ -1,4 +1,4 @@
-use Rattle.std.proofs.{Common.{sym, arith}}
+use Rattle.std.proofs.Common.{sym, arith}
 use Rattle.arraydeque_ring.proofs.places.{
   Reads.{runs_exchanged_none, runs_exchanged_more, next_first, next_second},
   Held.filled_in_run,
@@ -25,5 +25,5 @@ pub loop-k-preserved : goal.loop-k-preserved
 loop-k-preserved g c = record {
   places = rw (c.exchange.ensures.places, c.loop-k.invariant.places)
       (runs_exchanged_more c.args.a c.args.b c.loop-k.k c.args.self.places (omega arith) (omega arith));
-  steps = rw (c.exchange.ensures.steps, c.loop-k.invariant.steps) (grind arith);
+  steps = rw c.exchange.ensures.steps (grind arith);
 }

@@ -11,14 +11,12 @@ use Rattle.arraydeque_ring.proofs.{
 use Rattle.arraydeque_ring.proofs.slots.Slots.move_down.Goals as goal
 
 pub move_first-requires-clause-can : goal.move_first-requires-clause-can
-move_first-requires-clause-can g c =
-    let filled = c.requires.filled in
-    simp unary_clauses (record {
-      target = omega arith;
-      source = omega arith;
-      filled = λ k lt. rw (mod-eq_of_lt {n = c.args.src + k} {m = length c.args.self.places} (omega arith))
-          (filled_in_run c.args.self.places c.args.src c.args.len k filled lt);
-    })
+move_first-requires-clause-can g c = simp unary_clauses (record {
+  target = omega arith;
+  source = omega arith;
+  filled = λ k lt. rw (mod-eq_of_lt {n = c.args.src + k} {m = length c.args.self.places} (omega arith))
+      (filled_in_run _ _ _ k c.requires.filled lt);
+})
 
 -- to move values to empty places is to exchange them with nothing
 pub returns-clause-places : goal.returns-clause-places

@@ -1,4 +1,4 @@
-use Rattle.std.proofs.{Common.{◌+◌, ◌-◌, ◌%◌, ◌<◌, length, ap, subst, ◌∙◌, refl, arith}, Math.Nat.{mod-eq_of_lt}}
+use Rattle.std.proofs.Common.{◌+◌, ◌-◌, ◌%◌, ◌<◌, length, ap, subst, ◌∙◌, refl, arith}
 use Rattle.arraydeque_ring.{
   specs.{Places.IsFilled, Ring.place_of, Moved.run_moved},
   proofs.{
@@ -9,7 +9,7 @@ use Rattle.arraydeque_ring.{
 }
 use Rattle.arraydeque_ring.proofs.slots.Slots.slide_down.Goals as goal
 
--- a run that wraps: what is before the end, the value that crosses it, and what is past it
+-- a run that wraps, as the calls say it: what is before the end, the value that crosses it, and what is past it
 round : (g : Over) (c : After-capacity-last g) → let n = c.capacity-last.result in let t = c.args.dst in
     let ps = c.moved_out-slots.result.places in
     n - 1 - t < c.args.len
@@ -58,7 +58,7 @@ returns-clause-places g c =
     rw (c.count.ensures, ← c.moved_out-slots.ensures.region) (elim c.if-len-upper.branch [
       | then-len-upper w ↦
           rw (w.slots-is, w.move_first.ensures.all refl) (same_move _ _ _ _ _ _ _
-          (grind (arith, mod-eq_of_lt {n = c.args.dst + 1} {m = length ps})))
+          (grind (arith, place_of_cases c.args.dst 1 (length ps))))
       | else-len-upper w ↦ rw (
         w.slots-is,
         w.move_first-else-len-upper-2.ensures.all refl,

@@ -1,4 +1,4 @@
-use Rattle.std.proofs.{Common.{◌+◌, ◌-◌, ◌≤◌, length, ap, refl, arith}, Math.Nat.{mod-eq_of_lt}}
+use Rattle.std.proofs.Common.{◌+◌, ◌-◌, ◌≤◌, length, ap, refl, arith}
 use Rattle.arraydeque_ring.{
   specs.{Ring.place_of, Moved.{run_moved}},
   proofs.{
@@ -9,7 +9,7 @@ use Rattle.arraydeque_ring.{
 }
 use Rattle.arraydeque_ring.proofs.slots.Slots.slide_up.Goals as goal
 
--- a run that wraps: what is past the end, the value in the last place, and what is before it
+-- a run that wraps, as the calls say it: what is past the end, the value in the last place, and what is before it
 round : (g : Over) (c : After-capacity-capacity g) → let n = c.capacity-capacity.result in let t = c.args.src in
     let ps = c.moved_out-slots.result.places in
     n - t ≤ c.args.len → Three 1 0 (c.args.len - (n - t)) 0 (n - 1 + 0) 1 (t + 1) t (n - t - 1) ps
@@ -50,7 +50,7 @@ returns-clause-places g c =
     let ps = c.moved_out-slots.result.places in
     rw (c.count.ensures, ← c.moved_out-slots.ensures.region) (elim c.if-len-upper.branch [
       | then-len-upper w ↦ rw (w.slots-is, w.move_last.ensures.all refl) (same_move _ _ _ _ _ _ _
-          (grind (arith, mod-eq_of_lt {n = c.args.src + 1} {m = length ps})))
+          (grind (arith, place_of_cases c.args.src 1 (length ps))))
       | else-len-upper w ↦ rw (
         w.slots-is,
         w.move_last-else-len-upper-2.ensures.all refl,
