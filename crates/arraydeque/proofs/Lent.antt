@@ -117,5 +117,6 @@ module _ (E : El) (N : ℕ) (B : RattleType) (x : Fields E N B) (d : DequeState 
   )
 
 -- what was rewritten is rewritten by its own items: the same
-pub rewritten-twice : {X : Type 0} (d : DequeState X) (xs : List X) → rewritten d (rewritten d xs).items ≡ rewritten d xs
+pub rewritten-twice : {X : Type 0} (d : DequeState X) (xs : List X)
+    → rewritten d (rewritten d xs).items ≡ rewritten d xs
 rewritten-twice d xs i = record (rewritten d xs) { items = as_many-twice d.items xs i }

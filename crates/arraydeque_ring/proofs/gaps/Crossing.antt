@@ -15,7 +15,7 @@ use Rattle.arraydeque_ring.{
     moved.{Flat.{distance_is, look}, Round.{Holds-moved, distance-rotated}},
     places.{
       Held.{filled_in_run, empty_in_run},
-      Holds.{Holds-of_rotated, rotated-Holds},
+      Holds.{Holds, Holds-of_rotated, rotated-Holds},
       Rotated.{place_of-sum, one_place, length-rotated},
     },
   },
@@ -97,7 +97,7 @@ crosses {t = t} {len = len} {ps = ps} from to gap i j asked ways long at_d at_s 
     let qs = rotated t ps in
     let wide = length-rotated t ps in
     let none = empty_at qs from gap asked.empty in
-    let reads = Holds-of_rotated refl wide (omega arith) (λ k lt. refl) in
+    let reads : Holds n t (held_at qs) ps = Holds-of_rotated refl wide (omega arith) (λ k lt. refl) in
     let moved = Holds-moved reads i j len t_in (omega arith) (omega arith) in
     rw (at_d, at_s, long) (record {
       may = record {

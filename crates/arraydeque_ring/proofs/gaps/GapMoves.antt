@@ -9,7 +9,7 @@ use Rattle.arraydeque_ring.{
     gaps.{Crossing.{MayMove, length-gap_moved, get_or-gap_moved, empty_at}, Gapped.{Gapped, gapped}},
     places.{
       Held.{filled_run_of, empty_run_of},
-      Holds.{Holds-of_rotated, Holds-rotated, rotated-Holds, Holds-same, Holds-from},
+      Holds.{Holds, Holds-of_rotated, Holds-rotated, rotated-Holds, Holds-same, Holds-from},
       Items.{items, slice_get_some},
       LaidOut.{LaidOut, holds},
       Rotated.{place_of_cases, length-rotated},
@@ -128,8 +128,8 @@ closed_up t i gap m ps qs may is =
     let ts = rotated t ps in
     let wide : length ts ≡ n = length-rotated t ps in
     let none = empty_at ts (i + gap + m) (n - (i + gap + m)) may.others_empty in
-    let reads = Holds-of_rotated is (length-gap_moved i 0 gap ts (omega arith) (omega arith) ∙ wide) (omega arith)
-    (λ k lt. refl) in
+    let reads : Holds n t (held_at (gap_moved i 0 gap ts)) qs =
+    Holds-of_rotated is (length-gap_moved i 0 gap ts (omega arith) (omega arith) ∙ wide) (omega arith) (λ k lt. refl) in
     rotated-Holds (Holds-from reads gap (omega arith) (omega arith) (λ k lt. refl))
     (length-gap_moved i (i + m) gap ts (omega arith) (omega arith) ∙ wide) (λ x lt.
     get_or-gap_moved i 0 gap ts (omega arith) (omega arith) (place_of gap x n)

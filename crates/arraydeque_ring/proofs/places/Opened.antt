@@ -335,7 +335,7 @@ module _ {X : Type 0} (r : Inside X) (kept : Kept r) where
     piece_joined o okept some le fits' =
         let other = opened o okept refl in
         let xs = take m (values (rotated o.start o.slots.places)) in
-        let many = length-take-le m _ (omega arith) in
+        let many : length xs ≡ m = length-take-le m _ (omega arith) in
         let held = HoldsRun-LaidOut other.laid 0 o.start m (inl (omega arith)) (omega arith) fits' in
         let written : splice places behind (behind + m) (take m (drop o.start o.slots.places))
         ≡ with_run behind xs places = ap₂ (λ k l. splice places behind (behind + k) l) (sym many) held in

@@ -4,9 +4,9 @@ use Rattle.arraydeque_ring.{
     memory.{
       Called.{calls_met, first_fact, knows},
       Methods.{passing_on, spent, values},
-      Kit.{refl, [], ◌∷◌, ◌++◌, id⊢, Fn, inst_fn, tables, raw, ◌⊛◌, ◌$◌, !, move, use1, use2, split, join, frame},
-      Kit.{suffices, addr, stop, no_more, and_then, returns, alloc_all, pass_all, free_all, look_at, get, through},
-      Kit.{sets, lands_as, mem, nothing, RattleType, El, R, Array, both_by, number, a_type, a_number, by, sep, fact},
+      Kit.{refl, [], ◌∷◌, ◌++◌, id⊢, tables, raw, ◌⊛◌, ◌$◌, !, move, use1, use2, split, join, frame, suffices, addr},
+      Kit.{stop, no_more, and_then, returns, alloc_all, pass_all, free_all, look_at, get, through, sets, lands_as, mem},
+      Kit.{nothing, RattleType, El, R, Array, both_by, number, by, sep, fact},
     },
     loans.{Made.loan_lawful, Names.followed_both, Slices.in_slices},
     slots.loan.Loan.into_slices.Met.met as into_met,
@@ -14,9 +14,7 @@ use Rattle.arraydeque_ring.{
   specs.Loans.as_many,
 }
 use contract.Lifetimes.{toks}
-use denote.{Param.bounded}
 use base.Logic.{mono_l}
-use mir.Syntax.{dcons, dnil}
 use Rattle.arraydeque.proofs.{
   Called.{Asked, OfTwo, Others, Two, set_apart, come_back},
   Lent.{Dr, rewritten-twice},
@@ -32,10 +30,8 @@ unfolding both_by
 as_mut_slices_spec 𝓤 𝓛 𝓜 𝓡 wired X N B L fits LB members dict dict_met =
     let E : El = record { row = X; laws = L } in let C : RattleType = number N in
     let 𝓣 = tables 𝓤 𝓛.H 𝓜 𝓡 𝓡.env in
-    let args = bounded (a_type ∷ a_number ∷ a_type ∷ []) (X, (C, (B, tt))) (dcons dict dnil) in
-    let here : Fn = inst_fn args code.function in
     passing_on 3 0 (Dr E N B) 𝓛 (spent 3 𝓛 _) 𝓜 𝓡 _ _ (f.clauses X C B members dict 𝓛 𝓜.mem 𝓡.returns)
-    (f.Key.name args) here (code.unfolded 𝓤 𝓛.H 𝓜 𝓡 wired (X, (C, (B, tt))) dict) (λ κs qs bounds a _ fit post ends.
+    _ _ (code.unfolded 𝓤 𝓛.H 𝓜 𝓡 wired (X, (C, (B, tt))) dict) (λ κs qs bounds a _ fit post ends.
     move ! (1 ∷ []) $ first_fact ! {P = Asked 𝓤 κs.1.1.0 κs.1.1.1.0 B} (λ lives. knows ! lives $ join ! $
     alloc_all ! (λ l. pass_all ! refl ((tt, tt), fit) $
     sets ! (addr ! (through ! refl (stop !))) refl (tt, tt) $

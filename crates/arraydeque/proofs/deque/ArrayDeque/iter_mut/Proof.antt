@@ -4,18 +4,16 @@ use Rattle.arraydeque_ring.{
     memory.{
       Called.{calls_met, first_fact, knows},
       Methods.{passing_on, spent, values},
-      Kit.{refl, sym, ap, ◌∙◌, [], ◌∷◌, id⊢, Fn, inst_fn, tables, ‵, raw, ◌⊛◌, ◌$◌, !, move, keep, use1, use2, split},
-      Kit.{join, frame, rewrite, fsplit, fjoin, suffices, done, addr, stop, no_more, and_then, returns, alloc_all},
-      Kit.{pass_all, free_all, look_at, get, through, sets, lands_as, says, nothing, heard, param_laws, RattleType, El},
-      Kit.{R, el_x, number, named_lft, a_type, a_number},
+      Kit.{refl, sym, ap, ◌∙◌, [], ◌∷◌, id⊢, tables, ‵, raw, ◌⊛◌, ◌$◌, !, move, keep, use1, use2, split, join, frame},
+      Kit.{rewrite, fsplit, fjoin, suffices, done, addr, stop, no_more, and_then, returns, alloc_all, pass_all},
+      Kit.{free_all, look_at, get, through, sets, lands_as, says, nothing, heard, param_laws, RattleType, El, R, el_x},
+      Kit.{number, named_lft},
     },
     loans.Made.loan_lawful,
   },
   specs.Loans.{LoanState, remaining},
 }
 use contract.Lifetimes.{toks}
-use denote.{Param.bounded}
-use mir.Syntax.{dcons, dnil}
 use Rattle.arraydeque.{
   specs.DequeLends.{lends_items, lends_loan},
   proofs.{
@@ -36,10 +34,8 @@ pub iter_mut_spec : {M : Type 1} → stated.statement M
 iter_mut_spec 𝓤 𝓛 𝓜 𝓡 wired X N B L fits LB members dict dict_met =
     let E : El = record { row = X; laws = L } in let C : RattleType = number N in
     let 𝓣 = tables 𝓤 𝓛.H 𝓜 𝓡 𝓡.env in
-    let args = bounded (a_type ∷ a_number ∷ a_type ∷ []) (X, (C, (B, tt))) (dcons dict dnil) in
-    let here : Fn = inst_fn args code.function in
     passing_on 3 0 (Dr E N B) 𝓛 (spent 3 𝓛 _) 𝓜 𝓡 _ _ (f.clauses X C B members dict 𝓛 𝓜.mem 𝓡.returns)
-    (f.Key.name args) here (code.unfolded 𝓤 𝓛.H 𝓜 𝓡 wired (X, (C, (B, tt))) dict) (λ κs qs bounds a _ fit post ends.
+    _ _ (code.unfolded 𝓤 𝓛.H 𝓜 𝓡 wired (X, (C, (B, tt))) dict) (λ κs qs bounds a _ fit post ends.
     move ! (1 ∷ []) $ first_fact ! {P = Asked 𝓤 κs.1.1.0 κs.1.1.1.0 B} (λ lives. knows ! lives $ join ! $
     alloc_all ! (λ l. pass_all ! refl ((tt, tt), fit) $
     sets ! (addr ! (through ! refl (stop !))) refl (tt, tt) $

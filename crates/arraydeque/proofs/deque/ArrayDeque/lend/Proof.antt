@@ -4,12 +4,11 @@ use Rattle.arraydeque_ring.{
     memory.{
       Called.{calls_met, first_fact, knows},
       Methods.{method, spent, values},
-      Kit.{◌≡◌, refl, ap, ◌∙◌, List, [], ◌∷◌, ◌++◌, ℕ, ◌+◌, ◌≤◌, arith, length, full_share, id⊢, sep, Share, GName},
-      Kit.{flft, Fn, inst_fn, tables, ‵, raw, ◌⊛◌, some, later, ◌$◌, !, move, keep, use1, use2, split, split3, group},
-      Kit.{join, pick, frame, await, fsplit, fjoin, suffices, done, addr, stop, fld, no_more, and_then, returns},
-      Kit.{alloc_all, pass_all, free_all, look_at, get, through, sets, lands_as, mem, part_at, says_two, heard},
-      Kit.{nothing, RattleType, El, R, el_x, after₂, sem, Array, both_by, number, MutBor, NamedLft, named_lft, a_type},
-      Kit.{a_number, drop},
+      Kit.{◌≡◌, refl, ap, ◌∙◌, List, [], ◌∷◌, ◌++◌, ℕ, ◌+◌, ◌≤◌, arith, length, full_share, id⊢, Share, flft, tables},
+      Kit.{‵, raw, ◌⊛◌, some, ◌$◌, !, move, keep, use1, use2, split, split3, join, pick, frame, fsplit, fjoin},
+      Kit.{suffices, done, addr, stop, fld, no_more, and_then, returns, alloc_all, pass_all, free_all, look_at, get},
+      Kit.{through, sets, lands_as, mem, part_at, says_two, heard, nothing, RattleType, El, R, el_x, after₂, Array},
+      Kit.{both_by, number, MutBor, NamedLft, named_lft, drop},
     },
     loans.{Made.{loan_lawful, loan_renamed}, Names.{hands_on, followed_both, part_lent}, Rings.Rr},
     ring.Ring.lend.Met.met,
@@ -17,11 +16,8 @@ use Rattle.arraydeque_ring.{
   specs.{Loans.{LoanState, as_many}, Ring.RingState},
 }
 use base.Share
-use types.Follow as follow
 use types.{Late.{ages}, Mut.open_ref}
 use contract.Lifetimes.{toks}
-use denote.Param.{bounded}
-use mir.Syntax.{dcons, dnil}
 use Rattle.arraydeque_ring.specs.RingLends as ring
 use Rattle.arraydeque_ring.specs.contracts.slots.loan.Loan as loan
 use Rattle.arraydeque_ring.specs.contracts.ring.Ring.lend as g
@@ -39,10 +35,8 @@ unfolding both_by
 lend_spec 𝓤 𝓛 𝓜 𝓡 wired X N B L fits LB members dict dict_met =
     let E : El = record { row = X; laws = L } in let C : RattleType = number N in
     let 𝓣 = tables 𝓤 𝓛.H 𝓜 𝓡 𝓡.env in
-    let args = bounded (a_type ∷ a_number ∷ a_type ∷ []) (X, (C, (B, tt))) (dcons dict dnil) in
-    let here : Fn = inst_fn args code.function in
     method 3 0 (Dr E N B) 𝓛 (spent 3 𝓛 _) 𝓜 𝓡 _ _ (f.clauses X C B members dict 𝓛 𝓜.mem 𝓡.returns)
-    (f.Key.name args) here (code.unfolded 𝓤 𝓛.H 𝓜 𝓡 wired (X, (C, (B, tt))) dict) (λ κs qs bounds a _ fit post ends.
+    _ _ (code.unfolded 𝓤 𝓛.H 𝓜 𝓡 wired (X, (C, (B, tt))) dict) (λ κs qs bounds a _ fit post ends.
     let κ = κs.0 in let κ₁ = κs.1.0 in let q = qs.0 in let q₁ = qs.1.0 in
     let l : Share = Share.left q in let r : Share = Share.right q in
     let rb : ℕ = a.0.ref_ptr.0 in let ro : ℕ = a.0.ref_ptr.1 in let γ = a.0.ghost_name in
@@ -78,15 +72,11 @@ lend_spec 𝓤 𝓛 𝓜 𝓡 wired X N B L fits LB members dict dict_met =
     -- [what δ follows; what the loan's name follows;
     -- the loan; the tokens; the right; the open borrow; the other field; the way back; obs γ; auth γ; the others]
     let V : RingState (el_x E) → DequeState (el_x E) = λ u. view E N B (after E N B x d seen kept u.items) in
-    let Rest = sep 𝓤 (sem 𝓛 (Other E N B LB 𝓛 rb ro x)) (Way E N B LB 𝓛 rb ro) in
-    move ! (6 ∷ 7 ∷ []) $ join ! $ move ! (6 ∷ 7 ∷ 8 ∷ 5 ∷ 1 ∷ 0 ∷ []) $ group ! 6 $
-    use1 𝓛 (later (some (λ (ν : GName). ‵ (flft κ l) ⊛ ‵ (follow.after (mem (Dr E N B))
-    (mem (Dr E N B)) γ ν (λ u. rewritten d u.items)) ⊛ ‵ (follow.after (mem (Dr E N B)) (mem (Rr E)) ν it.name V))))
-    (hands_on 𝓛 (mem (Dr E N B)) (mem (Rr E)) (mem (Rr E))
-    (λ u. rewritten d u.items) V (λ u. ring.rewritten x.ring u.items) κ l rb ro rb (ro + 0) γ δ it.name Rest
+    move ! (6 ∷ 7 ∷ []) $ join ! $ move ! (6 ∷ 7 ∷ 8 ∷ 5 ∷ 1 ∷ 0 ∷ []) $
+    hands_on ! tt (mem (Dr E N B)) (mem (Rr E)) (mem (Rr E)) (λ u. rewritten d u.items) V
+    (λ u. ring.rewritten x.ring u.items) age rb ro rb (ro + 0) d
     (λ u. deque_whole E N B LB 𝓛 rb ro (rewritten d (V u).items) x (ring.rewritten x.ring u.items)
-    (seen_after E N B x d seen kept u.items) (kept_after E N B x d seen kept u.items)) age _ _ d) $
-    await ! tt $ pick ! (λ ν. split3 ! $
+    (seen_after E N B x d seen kept u.items) (kept_after E N B x d seen kept u.items)) (λ ν.
     -- [half the token; what γ follows;
     -- what ν follows; what the loan's name follows; the loan; the tokens; the others]
     let Rows = mem (Array (R E) 0) in

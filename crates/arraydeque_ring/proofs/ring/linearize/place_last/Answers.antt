@@ -1,6 +1,6 @@
-use Rattle.std.proofs.{Common.{◌∙◌, arith}, lemmas.List.append-nil}
+use Rattle.std.proofs.{Common.{◌-◌, ◌∙◌, length, arith}, lemmas.List.append-nil}
 use Rattle.arraydeque_ring.proofs.{
-  linearize.Underway.{underway, last_may_move, last_moved, room_for_first, room_made, first_moved},
+  linearize.Underway.{Underway, underway, last_may_move, last_moved, room_for_first, room_made, first_moved},
 }
 use Rattle.arraydeque_ring.proofs.ring.linearize.place_last.Goals as goal
 
@@ -20,9 +20,13 @@ move_gap-requires-2 g c = rw c.capacity.ensures
 
 pub move_down-requires : goal.move_down-requires
 move_down-requires g c =
-    let moved = room_made (underway c.requires.filled (omega arith)) c.args.next (omega arith) in
+    let ps = c.args.slots.places in
+    let behind = length ps - c.args.next in
+    let u : Underway c.args.dst (c.args.next - c.args.dst) behind c.args.len ps =
+    underway c.requires.filled (omega arith) in
+    let room = room_made u c.args.next (omega arith) in
     rw (simp append-nil at c.move_gap-2.ensures.places, c.capacity.ensures)
-    (record { apart = omega arith; empty = moved.0; filled = moved.1 })
+    (record { apart = omega arith; empty = room.0; filled = room.1 })
 
 pub returns-clause-places : goal.returns-clause-places
 returns-clause-places g c =
