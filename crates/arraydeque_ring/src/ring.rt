@@ -22,7 +22,7 @@ mod retain;
 mod swaps;
 
 use crate::slots::Slots;
-use crate::wrap::{wrap_add, wrap_add_branchless};
+use crate::wrap::wrap_add;
 use std::alloc::{AllocError, Global};
 use std::marker::Model;
 
@@ -191,9 +191,32 @@ impl<T> Ring<T> {
         if index >= self.len {
             return None;
         }
-        let place = wrap_add_branchless(self.start, index, self.slots.capacity());
+        let place = self.place(index);
         let slots = &mut self.slots;
         Some(slots.get_mut(place))
+    }
+
+    /// The place of an item. Whether it is past the region's end is no branch, since indexes may
+    /// come at random: off the sum goes the capacity, or nothing. A capacity whose sums might pass
+    /// `usize::MAX`, as only items of size zero allow, keeps the branch.
+    #[inline(always)]
+    fn place(&self, index: usize) -> usize
+        requires { index < length self.now.items }
+        ensures { result ≡ place_of self.now.start index self.now.capacity }
+    {
+        let capacity = self.slots.capacity();
+        if capacity & (capacity - 1) == 0 {
+            return (self.start + index) & (capacity - 1);
+        }
+        if capacity > isize::MAX as usize {
+            return wrap_add(self.start, index, capacity);
+        }
+        let past = if index < capacity - self.start {
+            0
+        } else {
+            capacity
+        };
+        self.start + index - past
     }
 }
 

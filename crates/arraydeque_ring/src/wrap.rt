@@ -19,25 +19,3 @@ pub(crate) fn wrap_add(place: usize, offset: usize, capacity: usize) -> usize
         offset - to_end
     }
 }
-
-/// The same without that branch, for places at random: off the sum goes the capacity, or nothing. A
-/// capacity whose sums might pass `usize::MAX`, as only items of size zero allow, keeps the branch.
-#[inline(always)]
-pub(crate) fn wrap_add_branchless(place: usize, offset: usize, capacity: usize) -> usize
-    requires in_region { place < capacity }
-    requires in_reach { offset ≤ capacity }
-    ensures { result ≡ (place + offset) % capacity }
-{
-    if capacity & (capacity - 1) == 0 {
-        return (place + offset) & (capacity - 1);
-    }
-    if capacity > isize::MAX as usize {
-        return wrap_add(place, offset, capacity);
-    }
-    let past = if offset < capacity - place {
-        0
-    } else {
-        capacity
-    };
-    place + offset - past
-}

@@ -127,16 +127,16 @@ module _ {X : Type 0} {r : Inside X} {v : RingState X} (o : Opened r v) where
             (append-nil (take a v.items ++ drop b v.items)) (omega arith) (grind (arith, here)) is)) _ (omega arith);
       }
 
-  pub run_out : (a b : ℕ) (qs : List (Option X)) → a < b → b ≤ length v.items
+  pub run_taken : (a b : ℕ) (qs : List (Option X)) → a < b → b ≤ length v.items
       → rotated r.start qs ≡ run_emptied a (b - a) (rotated r.start r.slots.places)
       → Closing r.start v.capacity a (b - a) b r.len v.items qs
-  run_out a b qs some le out = let on : a + (b - a) ≡ b = omega arith in
+  run_taken a b qs some le out = let on : a + (b - a) ≡ b = omega arith in
       gap_left a (b - a) b qs on (omega arith) le (rw on at (Gapped-taken o.laid a (b - a) qs (omega arith) out))
 
-  pub one_out : (k : ℕ) (qs : List (Option X)) → k < length v.items
+  pub one_taken : (k : ℕ) (qs : List (Option X)) → k < length v.items
       → qs ≡ set r.slots.places (place_of r.start k v.capacity) None
       → Closing r.start v.capacity k 1 (suc k) r.len v.items qs
-  one_out k qs lt out = gap_left k 1 (suc k) qs (omega arith) (omega arith) lt (rw out (Gapped-taken_one o.laid k lt))
+  one_taken k qs lt out = gap_left k 1 (suc k) qs (omega arith) (omega arith) lt (rw out (Gapped-taken_one o.laid k lt))
 
 -- what is known of the fields alone, for goals that have no answer by hand
 module _ {X : Type 0} (r : Inside X) (kept : Kept r) where

@@ -255,7 +255,8 @@ fn displace_down<T: Drop, I: Iterator<Item = T>>(
     (slots, run)
 }
 
-/// Asks an iterator once.
+/// Asks an iterator once. A loop that called `next` itself would have to know that the iterator
+/// ends.
 #[inline]
 fn ask<T, I: Iterator<Item = T>>(elements: &mut I) -> Option<T>
     requires { I.can_next elements.old }

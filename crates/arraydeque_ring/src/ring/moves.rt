@@ -58,7 +58,7 @@ impl<T> Ring<T> {
         ensures fewest { RemoveMovesFewest
             index (length self.old.items) self.old.capacity self.old.start self.new.start }
     {
-        let place = wrap_add(self.start, index, self.slots.capacity());
+        let place = self.place(index);
         let item = self.slots.take(place);
         self.len -= 1;
         self.start = close_gap(&mut self.slots, self.start, index, 1, self.len - index);

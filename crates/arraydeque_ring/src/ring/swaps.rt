@@ -4,7 +4,6 @@ ghost use Rattle.arraydeque_ring.specs.Ring.{place_of};
 ghost use Rattle.arraydeque_ring.specs.Steps.{more_takes, more_exchanges};
 
 use super::Ring;
-use crate::wrap::wrap_add_branchless;
 
 impl<T> Ring<T> {
     /// Exchanges two items. Nothing happens where the two are one.
@@ -18,9 +17,7 @@ impl<T> Ring<T> {
           steps = more_exchanges (if i == j then 0 else 1) self.old.steps;
         } }
     {
-        let capacity = self.slots.capacity();
-        let a = wrap_add_branchless(self.start, i, capacity);
-        let b = wrap_add_branchless(self.start, j, capacity);
+        let (a, b) = (self.place(i), self.place(j));
         self.slots.exchange(a, b);
     }
 

@@ -1,7 +1,7 @@
 use Rattle.std.{proofs.{Common.{◌≡◌, ◌-◌, length, arith}, lemmas.{Grind.common_steps}}, specs.List.remove_range}
 use Rattle.arraydeque_ring.proofs.{
   gaps.Fewest.fewest_drain,
-  places.{Opened.{opened, bounds, Closing, run_filled, run_out, Shows}, Rotated.place_of-zero},
+  places.{Opened.{opened, bounds, Closing, run_filled, run_taken, Shows}, Rotated.place_of-zero},
   ring.Ring.drain.{Given.Over, Goals.{After-take_run, After-close_gap-self-inside}},
 }
 use Rattle.arraydeque_ring.proofs.ring.Ring.drain.Goals as goal
@@ -19,7 +19,7 @@ take_run-requires-clause-filled g c =
 
 out : (g : Over) (c : After-take_run g) → let old = c.args.self.now in Closing c.self.inside.start old.capacity
     c.args.from (c.args.to - c.args.from) c.args.to c.self.inside.len old.items c.take_run.new.slots.places
-out g c = run_out (opened c.self.inside c.self.invariant c.self.view_is) _ _ _ (omega arith) c.requires.in_bounds
+out g c = run_taken (opened c.self.inside c.self.invariant c.self.view_is) _ _ _ (omega arith) c.requires.in_bounds
     c.take_run.ensures.places
 
 pub close_gap-self-inside-requires : goal.close_gap-self-inside-requires

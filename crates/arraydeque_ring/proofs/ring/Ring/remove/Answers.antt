@@ -1,7 +1,7 @@
 use Rattle.std.{proofs.Common.{suc, ◌-◌, arith}, specs.List.remove}
 use Rattle.arraydeque_ring.proofs.{
   gaps.Fewest.fewest_remove,
-  places.Opened.{opened, bounds, Closing, one_out, Shows},
+  places.Opened.{opened, bounds, Closing, one_taken, Shows},
   ring.Ring.remove.{Given.Over, Goals.{After-take-item, After-close_gap-self-inside}},
 }
 use Rattle.arraydeque_ring.proofs.ring.Ring.remove.Goals as goal
@@ -10,11 +10,10 @@ out : (g : Over) (c : After-take-item g) → let old = c.args.self.now in Closin
     c.args.index 1 (suc c.args.index) c.self.inside.len old.items c.take-item.new.self.places
 out g c =
     let ring = opened c.self.inside c.self.invariant c.self.view_is in
-    one_out ring _ _ c.requires (rw (
+    one_taken ring _ _ c.requires (rw (
       c.take-item.ensures.places,
-      c.wrap_add-place.ensures,
-      c.capacity.ensures,
-      ring.laid.length_is,
+      c.place-place.ensures,
+      ← ring.start,
     ))
 
 pub close_gap-self-inside-requires : goal.close_gap-self-inside-requires
