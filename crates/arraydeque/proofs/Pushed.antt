@@ -16,7 +16,7 @@ use Rattle.arraydeque.{
 }
 
 -- what is seen of a deque over a ring
-abbrev pub of_ring : {X : Type 0} → RingState X → DequeState X
+abbrev of_ring : {X : Type 0} → RingState X → DequeState X
 of_ring ring = record { items = ring.items; start = ring.start; steps = ring.steps }
 
 -- where there are no places, all is as it was

@@ -71,7 +71,7 @@ count_by : (t i j len n : ℕ) → t < n → i + len ≤ n → j + len ≤ n →
 count_by t i j len n t_in a b other = grind (arith, one_place t i j n (omega arith))
 
 -- a gap goes from one index to another where the len values between them, from the index j on, go the other way, to i
-abbrev pub Passes : ℕ → ℕ → ℕ → ℕ → ℕ → ℕ → Type 0
+abbrev Passes : ℕ → ℕ → ℕ → ℕ → ℕ → ℕ → Type 0
 Passes from to gap i j len = ((i ≡ to + gap) × (j ≡ to) × (to + len ≡ from))
     ⊎ ((i ≡ from) × (j ≡ from + gap) × (from + len ≡ to))
 

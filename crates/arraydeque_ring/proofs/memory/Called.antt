@@ -24,8 +24,8 @@ module _ {M : Type 1} {𝓤 : Ura M} (𝓛 : Logic 𝓤) (T : Ended) (c : Clause
   Result y = type_at T.signature.result y.0.0
 
   -- how a caller goes on once v came back: it has the result, which is typed, the tokens, and what is ensured
-  abbrev pub GoesOn : (K : Type 0) (Γ : List (Item 𝓤)) → Called.Ghost → Val → Goal 𝓤 𝓛.H → Type 1
-  GoesOn K Γ y v G = (r : Res T.signature y.0.0) (ws : Lasts T y.0.0 y.0.3) → Typed (Result y).mir (v ∷ [])
+  abbrev pub Continues : (K : Type 0) (Γ : List (Item 𝓤)) → Called.Ghost → Val → Goal 𝓤 𝓛.H → Type 1
+  Continues K Γ y v G = (r : Res T.signature y.0.0) (ws : Lasts T y.0.0 y.0.3) → Typed (Result y).mir (v ∷ [])
       → Seq K 𝓛 (‵ ((Result y).own_val r (v ∷ [])) ∷ raw (alive 𝓛 T.signature y.0.0 y.0.1)
       ∷ raw ((c y.0.0 y.0.3).ensures y.1 r (at_exit T y.0.0 y.0.3 ws)) ∷ Γ) G
 
@@ -47,7 +47,7 @@ module _ {M : Type 1} {𝓤 : Ura M} {K : Type 0} {Γ : List (Item 𝓤)} where
   after_block t 𝓡 e l k q = exec t _ _ _ _ _
 
   pub returned : (𝓛 : Logic 𝓤) {G : Goal 𝓤 𝓛.H} → K → Soaks G → (T : Ended) (c : Clauses 𝓤 T)
-      (y : (Called 𝓛 T c).Ghost) (v : Val) → Lawful 𝓛 (Result 𝓛 T c y) → GoesOn 𝓛 T c K Γ y v G
+      (y : (Called 𝓛 T c).Ghost) (v : Val) → Lawful 𝓛 (Result 𝓛 T c y) → Continues 𝓛 T c K Γ y v G
       → Seq K 𝓛 (raw ((Called 𝓛 T c).post y v) ∷ Γ) G
   returned 𝓛 t soaks T c y v laws next =
       let R = Result 𝓛 T c y in
@@ -63,7 +63,7 @@ module _ {M : Type 1} {𝓤 : Ura M} {K : Type 0} {Γ : List (Item 𝓤)} where
         (𝓣 : MachineTables 𝓤 𝓛.H 𝓜) (T : Ended) (c : Clauses 𝓤 T) → Triple 𝓤 (𝓣.C f) (Called 𝓛 T c)
         → (y : (Called 𝓛 T c).Ghost) → ent 𝓤 (sep 𝓤 (mean 𝓛 j) (mean 𝓛 i)) ((Called 𝓛 T c).pre y)
         → Opds K 𝓛 (raw ((Called 𝓛 T c).pre y) ∷ Γ) En os ((Called 𝓛 T c).args y) → Lawful 𝓛 (Result 𝓛 T c y)
-        → ((v : Val) → GoesOn 𝓛 T c K Γ y v (lands 𝓣.C 𝓣.Λ En d v rest q))
+        → ((v : Val) → Continues 𝓛 T c K Γ y v (lands 𝓣.C 𝓣.Λ En d v rest q))
         → Seq K 𝓛 (i ∷ j ∷ Γ) (runs 𝓣.C 𝓣.Λ En (seq (call f os d) rest) q)
     calls_met 𝓛 t 𝓜 𝓣 T c met y asks args laws next =
         move t (1 ∷ 0 ∷ []) $ use2 𝓛 (raw ((Called 𝓛 T c).pre y)) asks $

@@ -78,7 +78,7 @@ module _ {X : Type 0} where
       grind (arith, nat_tests, places, held x) ∙ sym (flat_at dst src len ps x b a in_it))
 
   -- where no value moves, or all of a run have, nothing is left to move
-  pub moved_none : (dst src : ℕ) (ps : List (Option X)) → run_moved dst src 0 ps ≡ ps
+  moved_none : (dst src : ℕ) (ps : List (Option X)) → run_moved dst src 0 ps ≡ ps
   moved_none dst src ps = same_places _ _ (length-moved dst src 0 ps)
       (λ x lt. moved_at dst src 0 ps x refl lt ∙ grind arith)
 

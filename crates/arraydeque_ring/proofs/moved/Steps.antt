@@ -43,7 +43,7 @@ unfolding StartsAt
 in_part a n i l p x at a_in x_in fits = grind (arith, distance_is a x n (omega arith) x_in, distance_is p x n)
 
 -- the l values from t on, which go to e, are those from the index i on
-abbrev pub IsPart : ℕ → ℕ → ℕ → ℕ → ℕ → ℕ → ℕ → Type 0
+abbrev IsPart : ℕ → ℕ → ℕ → ℕ → ℕ → ℕ → ℕ → Type 0
 IsPart d s n i l e t = StartsAt d n i l e × StartsAt s n i l t
 
 -- k values can move from t to e, and then m from u to f, which gives the places `whole`
