@@ -18,7 +18,7 @@ use Rattle.std.{
 use lib.Utf8.{encode}
 use Rattle.adq.specs.Line.{words_of}
 
--- spaces cut off the front of a text part no words
+-- cutting spaces off the front of a text changes none of its words
 pub words_of-cut : (s : List ℕ) (ns : List ℕ) (r : List ℕ) → CutsPrefixes (FindsCharPrefix 32) s ns r
     → words_of s ≡ words_of r
 words_of-cut s [] r e = ap words_of (sym e)

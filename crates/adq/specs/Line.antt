@@ -89,7 +89,7 @@ abbrev pub LinesName : List (List ℕ) → List (Call ℤ) → Type 0
 LinesName lines calls = (named : List (Option (Call ℤ))) × AllZip LineNames lines named
     × (calls ≡ filter_map (λ o. o) named)
 
--- the line at k is bad, which means nothing, and those before it name calls
+-- the line at k is bad: `LineNames` holds for no o; none before it is bad
 abbrev pub IsFirstBad : List (List ℕ) → ℕ → Type 0
 IsFirstBad lines k = (k < length lines)
     × HoldsAt (λ line. (o : Option (Call ℤ)) → ¬ (LineNames line o)) lines k

@@ -22,9 +22,9 @@ mod tests;
 /// How many bytes of the input a read may give.
 const PIECE: usize = 8192;
 
-/// Runs the program on the words after its name, and answers its status.
+/// Runs the program on the words after its name, and returns its status.
 ///
-/// Bad words read nothing, and a bad line runs nothing.
+/// With bad arguments nothing is read, and with a bad line no call is made.
 pub fn drive<R: Read + Drop, W: Write + Drop, F: Write + Drop>(
     alloc: Global,
     args: &[String],
@@ -44,7 +44,7 @@ pub fn drive<R: Read + Drop, W: Write + Drop, F: Write + Drop>(
     }
 }
 
-/// Reads the text into `text`, and answers what it prints.
+/// Reads the text into `text`, and returns what it prints.
 fn dispatch<R: Read>(
     alloc: Global,
     args: &[String],

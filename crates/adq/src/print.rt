@@ -36,7 +36,7 @@ pub fn print_reply<const CAP: usize, B: Behavior>(
     }
 }
 
-/// Appends an item, if there is one.
+/// Appends an item as a line, or `none`.
 fn print_item(text: &mut String, item: Option<i64>) -> Result<(), AllocError>
     ensures { OnOk result (string_bytes text.new
         ≡ string_bytes text.old ++ option_map_or signed_decimal item (codes "none") ++ 10 ∷ []) }

@@ -7,7 +7,7 @@ use Rattle.arraydeque_ring.proofs.memory.{
 use contract.Lifetimes.{Lfts, Shares, toks}
 
 module _ {M : Type 1} (𝓤 : Ura M) (κ₂ κ₃ : Lft) (B : RattleType) where
-  -- what `lend` and its callers require, but that the items outlive the loan
+  -- what `lend` and its callers require, except that the items outlive the loan
   abbrev pub Asked : SProp 𝓤
   Asked = sep 𝓤 (fact 𝓤 (κ₂ ⊑ []))
       (sep 𝓤 (fact 𝓤 (κ₃ ⊑ B.lives)) (sep 𝓤 (fact 𝓤 (32 < 9223372036854775808)) (emp 𝓤)))

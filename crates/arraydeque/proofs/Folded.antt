@@ -15,7 +15,8 @@ use Rattle.std.{
   },
 }
 
--- a fold of `whole` from f and `init` on called at the items before `rest`, which led to g and `total`, and goes on
+-- a fold of `whole` from f and `init` on has called at the items before `rest`, which led to g and `total`, and may
+-- go on
 pub record Folded {X A F : Type 0} (call : Mut F (A × (Bor X × Unit {0})) A) (whole : List X) (f : F) (init : A)
     (rest : List X) (g : F) (total : A) : Type 0 where
   pub items : List (Bor X)

@@ -17,7 +17,7 @@ keep_last-append n xs ys =
     let first = length xs - n in let then = length (keep_last n xs ++ ys) - n in grind
     (arith, length-append, length-drop, drop-append-le first xs ys, drop-drop then first (xs ++ ys))
 
--- where there are n already, an item more goes behind them, and the first of them goes
+-- where there are n already, one more comes behind them, and their first goes
 pub keep_last-full : {X : Type 0} (n : ℕ) (xs : List X) (y : X) → 0 < n → n ≤ length xs →
     keep_last n (xs ++ y ∷ []) ≡ drop 1 (keep_last n xs) ++ y ∷ []
 keep_last-full n xs y some full = grind (

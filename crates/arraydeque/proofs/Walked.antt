@@ -1,4 +1,4 @@
--- A walk over one source of items after another, as one walk over a source that has the items of both.
+-- A loop over one iterator after another, as one over an iterator that has the items of both.
 use Rattle.std.proofs.Common.{◌≡◌, Option, List, [], ◌∷◌, ◌++◌, length, Some, sym, ap, ◌∙◌, subst}
 use Rattle.std.proofs.{lemmas.List.{nil_from_length}, iter.runs.Lists.{Yields-both}}
 use Rattle.std.specs.{List.FoldsTo, Option.MatchOption, Iterator.{Yields, YieldsFirstBy, Drains, CallableAtEachTurn}}

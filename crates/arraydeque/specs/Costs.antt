@@ -41,8 +41,8 @@ abbrev pub work_of : Steps → ℕ
 work_of steps = steps.moves + steps.exchanges
 
 module _ {X : Type 0} where
-  -- how many items of the list l a call so answered moves: those on the side with fewer of them of
-  -- what comes in or goes out, or all where it lays them in one piece, though some by exchanges
+  -- how many items of the list l a call so answered moves: those on the side of the gap that has
+  -- fewer; of a Linearize at most all, exchanges included
   abbrev pub moves_of : Call X → Answer X → List X → ℕ
   moves_of (Insert i x) done l = moves_to_insert i (length l)
   moves_of (Remove i) (item (Some x)) l = moves_to_remove i (length l)

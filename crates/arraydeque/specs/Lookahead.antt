@@ -90,7 +90,7 @@ module _ {S A : Type 0} (steps : S → Option A → S → Type 0) where
     pub none : IfNone item (new.ended ≡ true)
     pub over : IfNone item (HasRest old [])
 
-  -- a look at the item k places ahead saw `seen`, and left new
+  -- a look at item k of the rest saw `seen`, and left new
   pub record Peeks (remaining : S → Count) (old : ScannerState S A) (k : ℕ) (seen : Option A)
       (new : ScannerState S A) : Type 0 where
     pub hands_out : HandsOut old [] new

@@ -32,7 +32,7 @@
 //! - No memory: only in `new`, `from_iter`, `from_vec`, `from_array`, `clone`, `drain`,
 //!   `split_off`, `into_vec`, `run` and `Scanner::new`. The `from_` calls, `into_vec`, `run` and
 //!   `Scanner::new` hand back what they consumed, as it was, in a [`MakeError`].
-//! - No such item: a pop, `front`, `back`, `get`, `remove`, `swap_remove_back` or
+//! - No such item: a pop, `front`, `back`, `get`, their `_mut`, `remove`, `swap_remove_back` or
 //!   `swap_remove_front` returns `None`.
 //!
 //! After each of these the deque is as it was. `deque[index]`, `insert`, `swap`, `drain` and
@@ -52,7 +52,7 @@
 //! | `linearize` | in place, by no more moves and exchanges, taken together, than items |
 //! | a conversion to the other policy | no item |
 //!
-//! On a tie the items behind the gap move. Each item that moves moves once, but in `linearize`.
+//! On a tie the items behind the gap move. Each item that moves moves once, except in `linearize`.
 #![tactic(auto)]
 
 pub mod behavior;

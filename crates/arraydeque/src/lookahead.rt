@@ -83,9 +83,8 @@ impl<I: Iterator, const CAP: usize> Scanner<I, CAP> {
         }
     }
 
-    /// Returns the item `k` places ahead, or `None` if the input ends before it. At 0 it is the
-    /// item that `next` will return. Requires `k` below `CAP`. What was read for it is kept in the
-    /// buffer.
+    /// Returns item `k` of what is left, or `None` if the input ends before it. Item 0 is what
+    /// `next` will return. Requires `k` below `CAP`. What was read for it is kept in the buffer.
     ///
     /// A function over any iterator names `CAP` by a const parameter, and requires that `k` is
     /// below it: with a number there the prover doesn't see that.

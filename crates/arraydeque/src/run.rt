@@ -367,7 +367,7 @@ impl<T: Drop, const CAP: usize, B: Behavior> ArrayDeque<T, CAP, B> {
         }
     }
 
-    /// The items of a range, if it is in range and memory is granted.
+    /// The items of a range, if it is within the list and memory is granted.
     fn answer_drain(&mut self, from: usize, to: usize) -> Reply<T, CAP, B>
         ensures makes { (p : Policy) →
             Makes p CAP (type_size T.row) (Drain from to) result self.old self.new }

@@ -3,7 +3,7 @@ use crate::items::{Item, deque_at, scrambled};
 use arraydeque::{ArrayDeque, Saturating};
 use std::alloc::{AllocError, Global};
 
-/// A row of indices below `CAP` that look random.
+/// An index below `CAP`, of a state that looks random.
 #[inline]
 fn place_of<const CAP: usize>(state: u64) -> usize {
     (state >> 32) as usize % CAP.max(1)

@@ -1,5 +1,5 @@
 //! The workloads by their exported names. Each is handed the bytes of an item, the capacity and the
-//! number of rounds, and answers a sum, or 0 where it has no such item or capacity or memory is
+//! number of rounds, and returns a sum, or 0 where it has no such item or capacity or memory is
 //! refused. A box goes by `BOX` bytes, a text by `TEXT`; a pipe's piece by its own.
 use crate::items::Block;
 use crate::{ends, exchanges, lent, lists, middle, owned, parts, tasks, turns, walks};
@@ -255,7 +255,7 @@ pub extern "C" fn arraydeque_bench_split_off(
     every!(parts, split_off, alloc, rounds, (bytes, capacity))
 }
 
-/// New random items to the brim, and those of odd numbers kept.
+/// New random items to the brim, and those that have a bit set kept, another bit each round.
 #[unsafe(no_mangle)]
 pub extern "C" fn arraydeque_bench_retain(
     alloc: Global,
@@ -299,7 +299,7 @@ pub extern "C" fn arraydeque_bench_linearize_full(
     every!(lists, linearize_full, alloc, rounds, (bytes, capacity))
 }
 
-/// Two equal lists at different starts, compared.
+/// Two lists at different starts, compared for equality.
 #[unsafe(no_mangle)]
 pub extern "C" fn arraydeque_bench_equal(
     alloc: Global,

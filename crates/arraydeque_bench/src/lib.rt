@@ -1,6 +1,6 @@
 //! Workloads on the deque, for a program in another language to time. Each is exported under its
-//! own name and makes its rounds on a deque of items of 1, 8 or 64 bytes; what it answers is a sum
-//! over what it read, so that no work can be left out.
+//! own name and makes its rounds on a deque of items of 1, 8 or 64 bytes, of boxes or of texts;
+//! what it answers is a sum over what it read, so that no work can be left out.
 #![tactic(auto)]
 
 mod ends;

@@ -95,7 +95,8 @@ pub(crate) fn linearize_full<T: Item, const CAP: usize>(
     Ok(sum)
 }
 
-/// Two deques of equal lists, the one in one piece and the other not: each round they are compared.
+/// Two lists, the one in one piece and the other not: each round they are compared, and every
+/// second round their last items differ.
 pub(crate) fn equal<T: Item + Eq, const CAP: usize>(
     alloc: Global,
     rounds: usize,

@@ -241,7 +241,7 @@ pub(crate) fn run<const CAP: usize>(alloc: Global, rounds: usize) -> Result<u64,
     Ok(sum)
 }
 
-/// Calls of eight kinds, in an order that looks random.
+/// Calls of seven kinds, in an order that looks random.
 fn mixed_calls(alloc: Global, capacity: usize, seed: u64) -> Result<Vec<Call<u64>>, AllocError> {
     let mut calls = Vec::with_capacity(alloc, 100000)?;
     let mut state = seed.wrapping_add(1);

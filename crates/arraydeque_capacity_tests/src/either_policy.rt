@@ -204,7 +204,7 @@ enum Out {
     Retain,
 }
 
-/// Takes the item at index 0 out in that way. Answers it, where the call does.
+/// Takes the item at index 0 out in that way. Returns it, or 6 where the call returns nothing.
 fn take_out<B: Behavior>(deque: &mut ArrayDeque<i64, 1, B>, out: Out) -> Option<i64> {
     match out {
         Out::Front => deque.pop_front(),

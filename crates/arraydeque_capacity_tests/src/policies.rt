@@ -19,7 +19,7 @@ fn stays_empty<B: Behavior>(mut deque: ArrayDeque<i64, 0, B>) -> bool {
     is_cleared && is_empty
 }
 
-/// Whether no places hand each element back.
+/// Whether a deque of no places hands each element back.
 fn refuses_all(alloc: Global) -> Result<bool, Fail> {
     let mut deque = Refusing::<0>::new(alloc)?;
     let is_refused = deque.push_back(5) == Err(CapacityError { element: 5 });
@@ -34,7 +34,7 @@ fn refuses_all(alloc: Global) -> Result<bool, Fail> {
     )
 }
 
-/// Whether no places give each item up at once.
+/// Whether a deque of no places gives each item up.
 fn displaces_all(alloc: Global) -> Result<bool, Fail> {
     let mut deque = Displacing::<0>::new(alloc)?;
     let is_given_up = deque.push_back(5) == Some(5);

@@ -92,7 +92,7 @@ fn moves_and_swaps(deque: &mut ArrayDeque<i64, 4, Saturating>) -> bool {
 }
 
 /// Whether an item goes in and out at each index of six, whose list starts at each of eight places,
-/// so that all slides cross the region's end.
+/// so that slides also cross the region's end.
 fn slides_from_each_start(deque: &mut ArrayDeque<i64, 8, Saturating>) -> bool {
     for _ in 0..8 {
         for index in 0..7 {
@@ -139,7 +139,8 @@ fn doubles_each(deque: &mut Deque) -> bool {
     holds(deque, &[2, 4, 6, 8])
 }
 
-/// Whether two items are left alone where nothing is to be handed out, and no list is made of none.
+/// Whether two items are left alone where nothing is to be handed out, and whether a vector of none
+/// is empty.
 fn hands_out_nothing(alloc: Global, mut deque: Deque) -> Result<bool, Fail> {
     let is_left_alone = deque.len() == 2
         && deque.drain(1..1)?.next().is_none()
@@ -235,8 +236,8 @@ fn gives_all_from_the_back(deque: Deque) -> bool {
         && (items.next_back(), items.next(), items.len()) == (None, None, 0)
 }
 
-/// Whether an iterator lends the items 1 to 4 for writing, from the front, the back and the front,
-/// and then nothing. The first three that it lends become 5, 6 and 7.
+/// Whether an iterator lends the items 1 to 4 for writing, from the front, the back and the front
+/// twice, and then nothing. The first three that it lends become 5, 6 and 7.
 fn writes_three(mut items: IterMut<'_, i64>) -> bool {
     let hint = (items.len(), items.size_hint());
     if let Some(item) = items.next() {
@@ -345,7 +346,7 @@ fn reads_a_hundred(deque: &Hundred, other: &Hundred) -> bool {
         && hash_of(deque) == hash_of(other)
 }
 
-/// The regions of two deques, of which one has 100 items on either side of the region's end.
+/// The regions of two deques, of which one has its 100 items at several starts.
 #[test]
 fn reads_of_a_hundred_items_2_requests_2048_bytes(rt: HostRuntime) -> Result<(), Fail> {
     let mut deque = deque_at::<128>(rt.alloc(), 0, &[])?;

@@ -1,5 +1,5 @@
-//! What comes back where memory is refused. Each test holds where none is, and whichever request of
-//! the calls that it is of is refused; where one is refused that its set-up makes, it ends there.
+//! What comes back where memory is refused. Each test holds where none is, and where any one
+//! request of the tested calls is; where one of its set-up is, it ends there.
 mod compared;
 
 use crate::asked::{Count, Script};

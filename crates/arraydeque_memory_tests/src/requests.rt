@@ -157,8 +157,8 @@ fn a_run_3_requests_352_bytes(rt: HostRuntime) -> Result<(), Fail> {
     Ok(())
 }
 
-/// The calls that ask for no memory, but an `Insert`, which only one policy offers. Those that take
-/// items out leave one of three.
+/// The calls that ask for no memory, but an `Insert`, which only one policy offers. They leave no
+/// item.
 fn calls_in_place(alloc: Global) -> Result<Vec<Call<i64>>, AllocError> {
     Ok(vec![in alloc;
         Call::Len,

@@ -158,7 +158,7 @@ fn order_of(order: Option<Ordering>) -> u64 {
     }
 }
 
-/// The items of a number and those behind it.
+/// The items of `number ^ k`, for k from 0 to 4.
 fn five<T: Item>(alloc: Global, alive: &Rc<Alive>, number: u64) -> Result<[T; 5], AllocError> {
     Ok([
         T::make(alloc, alive, number)?,

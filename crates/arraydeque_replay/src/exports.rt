@@ -1,8 +1,8 @@
 //! The players by their exported names, one for each kind of items and each policy. Each plays a
 //! script on a deque of the capacity that is asked for, and writes for each call the reply and what
-//! is told of the list behind it. It answers the sum of the items that are alive when the deque is
-//! dropped, which is 0; or `REFUSED`, where it gets no memory for a deque; or `BROKEN`, where it
-//! has no such capacity.
+//! is told of the list afterwards. It returns the sum of the names of the items that are alive once
+//! the deque is dropped, which is 0; or `REFUSED`, where it gets no memory for a deque; or
+//! `BROKEN`, where it has no such capacity.
 use crate::calls::list_of;
 use crate::copies::Answers;
 use crate::items::{Alive, Block, Item, Owned};

@@ -157,7 +157,7 @@ fn turned<T: Item, const CAP: usize>(
     Ok(reply)
 }
 
-/// What is behind an index taken out and put in at the front, by a deque or by a drain.
+/// The items from an index on, taken out and put in at the front, by a deque or by a drain.
 fn rejoined<T: Item, const CAP: usize>(
     deque: &mut Deque<T, CAP>,
     call: Call,

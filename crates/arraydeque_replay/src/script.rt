@@ -4,7 +4,8 @@ use std::alloc::AllocError;
 /// What is told of a call for which memory was refused, and which left all as it was.
 pub(crate) const REFUSED: u64 = 0xFFFF_FFFF_FFFF_FFFF;
 
-/// What is told of a call for which memory was refused, and whose source came back as another.
+/// What is told of a call for which memory was refused, and whose source came back as another; or
+/// of a script, where there is no such capacity.
 pub(crate) const BROKEN: u64 = 0xFFFF_FFFF_FFFF_FFFE;
 
 /// A call: which one, two numbers below 4096, and the number of an item.

@@ -29,7 +29,7 @@ at_most_half n some within e = let k = power_of_two n some e in elim (cases_lt k
   | inr high ↦ absurd (omega (arith, pow_mono high))
 ]
 
--- and the one below it masks what is left of a number by a division
+-- and a number masked by the one below it is its remainder
 pub masked : (x n : ℕ) → 0 < n → bit_and n (n - 1) ≡ 0 → bit_and x (n - 1) ≡ x % n
 masked x n some e = let k = power_of_two n some e in
     ap (λ m. bit_and x (m - 1)) k.1 ∙ and_mask x k.0 ∙ ap (λ m. x % m) (sym k.1)

@@ -1,5 +1,5 @@
--- How many kept items have other places after an edit, wherever the new list starts, and that
--- an edit moves the fewest. Items are told apart by their indexes.
+-- How many kept items have other places after an insert, a removal or a drain, wherever the new
+-- list starts, and that each moves the fewest. Items are told apart by their indexes.
 use Rattle.std.specs.{
   Prelude.{◌≡◌, ℕ, zero, suc, ◌+◌, ◌-◌, ◌<◌, ◌≤◌, Bool, false, not, nat_lt, ◌==◌, if◌then◌else◌},
 }

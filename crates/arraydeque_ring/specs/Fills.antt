@@ -22,6 +22,6 @@ module _ {S A : Type 0} (gives : S → Option A → S → Type 0) (from : S) whe
     pub drains : Drains gives from items
     pub holds : P items
 
--- an iterator that hasn't ended may be called on, and ends if it did before
+-- an iterator that hasn't ended may be called further, and is finite if it was before
 abbrev pub GoesOn : {S : Type 0} → (S → Type 0) → (S → Count) → S → S → Bool → Type 0
 GoesOn can left from to ended = ended ≡ false → can to × (IsFinite (left from) → IsFinite (left to))

@@ -60,8 +60,7 @@ module _ (R : RattleType) (region : MutBor (Region R.Denot)) where
     lends_two_runs r = LendsBoth (the_row R) (Array R 0) (Array R 0) region r
         (two_written r.0.now r.1.now)
 
-    -- the region follows the name of a loan of two runs, that of a pair of lists, which follows the
-    -- two slices
+    -- the region follows the name of a loan of two runs, and that name follows the two slices
     abbrev pub lends_loan : LoanState R.Denot → Fml
     lends_loan loan = fsep
         (follows (the_row R) (two_lists R) region.ghost_name loan.name

@@ -40,7 +40,7 @@ module _ (R : RattleType) where
   places_lent b o [] = nothing
   places_lent b o (p ∷ ps) = beside (place_lent b o p) (places_lent b (o + type_size R) ps)
 
-  -- no place ends past the offset 2 ^ 63
+  -- every place ends before the offset 2 ^ 63
   abbrev pub within_reach : ℕ → List (Option R.Denot) → Fml
   within_reach o ps = flt (length ps * type_size R + o) (2 ^ 63)
 

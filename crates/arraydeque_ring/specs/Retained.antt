@@ -30,7 +30,7 @@ count_moved [] = 0
 count_moved (true ∷ bs) = count_moved bs
 count_moved (false ∷ bs) = count_by (λ b. b) bs
 
--- what is answered at `kept` of n items that stay, and then at the first that goes, unless all stay
+-- of n items: true for the first `kept`, and then false for the one that goes, unless all stay
 abbrev pub answers_until : ℕ → ℕ → List Bool
 answers_until kept n = replicate kept true ++ (if kept == n then [] else false ∷ [])
 

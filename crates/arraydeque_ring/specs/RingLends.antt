@@ -1,4 +1,4 @@
--- What a `Ring` ends as, once a `&mut` to one of its items has ended.
+-- What a `Ring` ends as, once a `&mut` into it has ended.
 use Rattle.std.specs.{
   Prelude.{ℕ, List, ◌++◌, slice_set, Option},
   Borrow.{

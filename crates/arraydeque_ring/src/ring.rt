@@ -1,7 +1,7 @@
 //! A list of items in the places of a region, from the start on and round the region's end.
 //!
 //! A contract sees a [`Ring`] as its items from front to back, its capacity, the place of its first
-//! item and the steps of its region. A ring knows no policy: a push asks for room.
+//! item and the steps of its region. A ring knows no policy: a push requires room.
 #![tactic(auto, using(crate::proofs::places::Opened::ring_facts))]
 
 ghost use Rattle.std.specs.Prelude.{◌≡◌, ◌-◌, ◌*◌, ◌+◌, ◌<◌, ◌≤◌, ◌==◌, [], ◌∷◌, ◌++◌, length, take, drop, slice_get, Some, if◌then◌else◌, option_copied, IfOk, OnErr, OnSome, IfNone};
@@ -196,9 +196,10 @@ impl<T> Ring<T> {
         Some(slots.get_mut(place))
     }
 
-    /// The place of an item. Whether it is past the region's end is no branch, since indexes may
-    /// come at random: off the sum goes the capacity, or nothing. A capacity whose sums might pass
-    /// `usize::MAX`, as only items of size zero allow, keeps the branch.
+    /// The place of an item. No branch depends on the index, since indexes may come at random: it
+    /// is found by a mask where the capacity is a power of two, else by taking the capacity or 0
+    /// off the sum. Where sums might pass `usize::MAX`, as only items of size zero allow, it is
+    /// found by `wrap_add`.
     #[inline(always)]
     fn place(&self, index: usize) -> usize
         requires { index < length self.now.items }

@@ -153,7 +153,7 @@ impl<T> Slots<T> {
         self.count(StepKind::Exchange, 1);
     }
 
-    /// The region itself, in whose place one of no places is left.
+    /// Takes the region out, and leaves one of no places in its stead.
     pub(crate) fn moved_out(&mut self) -> Slots<T>
         ensures region { result ≡ self.old }
         ensures left { self.new ≡ empty_region 0 }

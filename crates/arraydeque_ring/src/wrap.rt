@@ -1,8 +1,9 @@
 //! Places counted round the end of a region.
 ghost use Rattle.std.specs.Prelude.{◌≡◌, ◌+◌, ◌%◌, ◌<◌, ◌≤◌};
 
-/// The place `offset` places after `place` in a region of `capacity` places, round its end. Whether
-/// that is past the end is a branch, which a processor foresees where places come in a row.
+/// The place `offset` places after `place` in a region of `capacity` places, round its end: by a
+/// mask where the capacity is a power of two, else by a branch, which a processor foresees where
+/// places come in a row.
 #[inline(always)]
 pub(crate) fn wrap_add(place: usize, offset: usize, capacity: usize) -> usize
     requires in_region { place < capacity }

@@ -1,6 +1,6 @@
-//! What each call of the region and of the ring asks of the items. A function here has just the
-//! bounds that the calls in it may ask for: one that asks for more is an error at it. Where no item
-//! may be dropped, whatever the calls hand out is handed on.
+//! What each call of the region and of the ring, but `lend`, asks of the items. A function here has
+//! just the bounds that the calls in it may ask for: one that asks for more is an error at it.
+//! Where no item may be dropped, whatever the calls hand out is handed on.
 ghost use Rattle.std.specs.Prelude.{◌≡◌, ◌<◌, length, Some};
 ghost use Rattle.std.specs.Borrow.{sem};
 ghost use Rattle.std.specs.Iterator.{IsFinite};
@@ -198,6 +198,11 @@ fn move_run<T>(slots: &mut Slots<T>, dst: usize, src: usize, len: usize)
     requires free { IsFreeRound dst src len slots.old.places }
 {
     slots.wrap_move(dst, src, len);
+}
+
+/// The allocator of a region.
+fn region_alloc<T>(slots: &Slots<T>) -> Global {
+    slots.alloc()
 }
 
 /// The value in a place.

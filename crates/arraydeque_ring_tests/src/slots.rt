@@ -3,10 +3,11 @@ use crate::bounds::{lent, run_lent};
 use arraydeque_ring::slots::Slots;
 use std::test::Fail;
 
-/// Each call of a region but `two_slices_mut`, of which only the first asks for memory.
+/// Each call of a region but `two_slices_mut`: only `new` asks for memory.
 #[test]
 fn calls_of_a_region_1_request_4_bytes(rt: HostRuntime) -> Result<(), Fail> {
     let mut slots = Slots::<u8>::new(rt.alloc(), 4)?;
+    let _alloc = slots.alloc();
     slots.put(0, 10);
     slots.put(1, 20);
     slots.shift(3, 1);

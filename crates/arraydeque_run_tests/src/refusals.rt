@@ -1,13 +1,12 @@
 //! What comes back where memory is refused to a run, or to a call of it. The test holds where none
-//! is, and whichever request of the run is refused; where one is refused that its set-up makes, it
-//! ends there.
+//! is, and where any one request of the run is; where one of its set-up is, it ends there.
 use arraydeque::Saturating;
 use arraydeque::run::{Call, Reply};
 use arraydeque_samples::build::{deque_at, holds};
 use std::process::Abort;
 use std::test::Fail;
 
-/// The replies, of which the one to the drain may be that memory was refused. Answers what is left
+/// Compares the replies, of which that to the drain may be `NoMemory`, and returns what is left
 /// then.
 fn compare_replies(rt: &impl Abort, replies: Vec<Reply<i64, 5, Saturating>>) -> &'static [i64] {
     let mut replies = replies.into_iter();

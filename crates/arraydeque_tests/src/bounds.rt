@@ -1,6 +1,6 @@
-//! What each call asks of its types. A function here has just the bounds that the calls in it may
-//! ask for: one that asks for more is an error at it. Where no item may be dropped, whatever the
-//! calls hand out is handed on.
+//! What each call but `run` asks of its types. A function here has just the bounds that the calls
+//! in it may ask for: one that asks for more is an error at it. Where no item may be dropped,
+//! whatever the calls hand out is handed on.
 ghost use Rattle.std.specs.Prelude.{◌≡◌, Contains, None};
 ghost use Rattle.std.specs.Iterator.{IsFiniteIterable};
 ghost use Rattle.arraydeque.specs.Sources.{IsIterable};
@@ -247,6 +247,13 @@ fn accepted<I: Iterator, const CAP: usize>(scanner: &mut Scanner<I, CAP>) -> Opt
     scanner.next_if(|_| true)
 }
 
+/// The next item of a scanner, as of any iterator.
+fn next_of<I: Iterator<Item: Drop>, const CAP: usize>(
+    scanner: &mut Scanner<I, CAP>,
+) -> Option<I::Item> {
+    Iterator::next(scanner)
+}
+
 /// The bounds that the ranges between two values name.
 fn named<T: Copy>(start: T, end: T) -> [(Option<T>, Option<T>); 3] {
     let (from, to, both) = (start.., ..end, start..end);
@@ -430,6 +437,11 @@ fn errors<S: Drop>(refused: MakeError<S>, other: MakeError<S>) -> (AllocError, i
     (refused.into(), other.into())
 }
 
+/// The error of a full deque as one of the system's.
+fn io_error<T: Drop>(refusal: CapacityError<T>) -> io::Error {
+    refusal.into()
+}
+
 /// A range that is neither copied nor cloned.
 #[derive(Drop)]
 struct All;
@@ -507,7 +519,7 @@ fn asks_for_traits(alloc: Global) -> Result<bool, Fail> {
     feed(&deque, &mut hasher);
     let mut other = DefaultHasher::new();
     feed(&copy, &mut other);
-    let (error, io_error) = errors(MakeError { source: 1 }, MakeError { source: 2 });
+    let (error, out_of_memory) = errors(MakeError { source: 1 }, MakeError { source: 2 });
     Ok(
         partial_order(&deque, deque_itself(&copy)) == Some(Ordering::Equal)
             && order(&deque, &copy) == Ordering::Equal
@@ -519,14 +531,19 @@ fn asks_for_traits(alloc: Global) -> Result<bool, Fail> {
                 &MakeError { source: 1 },
             )?
             && error == AllocError
-            && io_error.kind() == io::ErrorKind::OutOfMemory,
+            && out_of_memory.kind() == io::ErrorKind::OutOfMemory
+            && io_error(CapacityError { element: 1 }).kind() == io::ErrorKind::StorageFull,
     )
 }
 
 /// Whether a scanner of any items does.
 fn scans(alloc: Global) -> Result<bool, Fail> {
     let mut scanner = made(scanner::<_, 1>(alloc, [1_u8, 2].into_iter()))?;
-    Ok(scanned(&mut scanner, 3) == (Some(1), Ok(())) && accepted(&mut scanner) == Some(3))
+    Ok(
+        scanned(&mut scanner, 3) == (Some(1), Ok(()))
+            && accepted(&mut scanner) == Some(3)
+            && next_of(&mut scanner) == Some(2),
+    )
 }
 
 #[test]

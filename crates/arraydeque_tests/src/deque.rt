@@ -6,7 +6,7 @@ use std::alloc::Global;
 use std::process::Abort;
 use std::test::Fail;
 
-/// The documented examples, and then a push and two pops.
+/// The examples of the Rust crate's documentation, and then a push and two pops.
 #[test]
 fn pushes_and_pops_in_turn(rt: HostRuntime) -> Result<(), Fail> {
     let rows: [Row; 14] = [

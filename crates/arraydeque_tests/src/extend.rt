@@ -131,7 +131,7 @@ fn an_extend_asks_for_what_it_has_room_for(rt: HostRuntime) -> Result<(), Fail> 
 }
 
 /// Whether the trait's extend under either policy, and the others under the one that displaces, ask
-/// so often, and leave the list so.
+/// so often.
 fn asks_to_the_end<const CAP: usize>(
     alloc: Global,
     items: &[i64],

@@ -1,4 +1,4 @@
-//! Deques made of other collections, and collections made of a deque.
+//! Deques made of other collections, a vector of a deque, and the other policy.
 use crate::build::{deque_at, holds, is_cut, made, numbers, wrapping_at};
 use arraydeque::behavior::Behavior;
 use arraydeque::{ArrayDeque, CapacityError, MakeError, Saturating, Wrapping};

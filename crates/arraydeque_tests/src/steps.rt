@@ -57,8 +57,8 @@ pub(crate) fn pop<const CAP: usize, B: Behavior>(
     }
 }
 
-/// Makes the steps, after each of which all that speaks of the length says the row's. The ends of
-/// what is left are those of the list.
+/// Makes the steps. After each, all calls that tell the length agree with the row. The ends of what
+/// is left are those of the list.
 pub(crate) fn walk<const CAP: usize, B: Policy<CAP>>(
     rt: &impl Abort,
     mut deque: ArrayDeque<i64, CAP, B>,

@@ -1,7 +1,8 @@
 //! A history of states with at most `CAP` steps to undo.
 //!
-//! It uses `arraydeque` under `Wrapping`, and is proved over the deque's public contract alone: an
-//! undo after a step gives the state before it back, and no state is lost by an undo or a redo.
+//! It uses `arraydeque` under `Wrapping`, and is proved over the deque's public contract alone:
+//! with `CAP` above 0 an undo after a step gives the state before it back, and no state is lost by
+//! an undo or a redo.
 ghost use Rattle.std.specs.Prelude.{◌≡◌, ◌<◌, ◌++◌, ◌∷◌, [], ◌↔◌, length, IsTrue, IfOk, OnErr, ◌*◌};
 ghost use Rattle.std.specs.Mem.{type_size};
 ghost use Rattle.arraydeque.specs.Deque.{keep_last};

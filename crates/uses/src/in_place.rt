@@ -31,8 +31,8 @@ pub fn fill<const CAP: usize, B: Behavior>(deque: &mut ArrayDeque<i64, CAP, B>, 
     deque.as_mut_slice().fill(value);
 }
 
-/// Writes another value over one item that equals `wanted`, and answers its index. Serves a sorted
-/// list.
+/// Writes `value` over one item that equals `wanted`, and returns its index, or `Err` where a
+/// binary search finds none. The list should be sorted.
 pub fn replace_found<const CAP: usize, B: Behavior>(
     deque: &mut ArrayDeque<i64, CAP, B>,
     wanted: i64,

@@ -10,7 +10,7 @@ use arraydeque::{ArrayDeque, Saturating, Wrapping};
 use std::alloc::{AllocError, Global};
 use std::marker::Model;
 
-/// Jobs that wait, in the order in which they were submitted.
+/// Jobs that wait, the next one first.
 #[derive(Drop)]
 pub struct Jobs<T, const CAP: usize, B: Behavior> {
     waiting: ArrayDeque<T, CAP, B>,
@@ -41,9 +41,9 @@ impl<T, const CAP: usize, B: Behavior> Jobs<T, CAP, B> {
         self.waiting.len()
     }
 
-    /// Takes the job that has waited longest.
+    /// Takes the next job, if one waits.
     pub fn take(&mut self) -> Option<T>
-        ensures longest { result ≡ slice_get self.old 0 }
+        ensures value { result ≡ slice_get self.old 0 }
         ensures none_lost { option_to_list result ++ self.new ≡ self.old }
     {
         self.waiting.pop_front()
@@ -64,7 +64,7 @@ impl<T, const CAP: usize> Jobs<T, CAP, Saturating> {
         }
     }
 
-    /// Puts the job that has waited longest behind the others.
+    /// Puts the next job behind the others.
     pub fn defer(&mut self)
         ensures { self.new ≡ drop 1 self.old ++ take 1 self.old }
     {

@@ -5,7 +5,7 @@ ghost use Rattle.arraydeque.specs.Lookahead.{HasRest, TakesOff};
 
 use arraydeque::lookahead::Scanner;
 
-/// Takes the next item, or answers another where none is left.
+/// Takes the next item, or returns another where none is left.
 pub fn next_or<I: Iterator<Item: Drop>, const AHEAD: usize>(
     scanner: &mut Scanner<I, AHEAD>,
     other: I::Item,

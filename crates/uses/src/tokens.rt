@@ -33,7 +33,7 @@ pub struct Token {
 
 /// Cuts all that a scanner has left into tokens: runs of letters, runs of digits, and single signs.
 ///
-/// The scanner can look at least one byte ahead.
+/// It requires a scanner that can look at least one byte ahead.
 pub fn tokenize<I: Iterator<Item = u8>, const AHEAD: usize>(
     alloc: Global,
     scanner: &mut Scanner<I, AHEAD>,
@@ -64,7 +64,7 @@ pub fn tokenize_text(alloc: Global, text: &[u8]) -> Result<Vec<Token>, AllocErro
     tokenize(alloc, &mut scanner)
 }
 
-/// Takes the next token, or answers `None` at the end.
+/// Takes the next token, or returns `None` at the end.
 fn next_token<I: Iterator<Item = u8>, const AHEAD: usize>(
     alloc: Global,
     scanner: &mut Scanner<I, AHEAD>,

@@ -28,7 +28,7 @@ impl<const CAP: usize> Model for Window<CAP> {
 }
 
 impl<const CAP: usize> Window<CAP> {
-    /// A window that has seen no sample. `CAP` is small enough for the sum to fit.
+    /// A window that has seen no sample. It requires a `CAP` small enough for the sum to fit.
     pub fn new(alloc: Global) -> Result<Self, AllocError>
         requires fits { CAP ≤ 2 ^ 32 }
         ensures empty { IfOk result (λ window. window ≡ []) }

@@ -15,7 +15,7 @@ pub fn fill<T: Copy + Drop, const CAP: usize, B: Behavior>(deque: &mut ArrayDequ
     }
 }
 
-/// Writes over each item from the back, and answers how many there are.
+/// Writes over each item from the back, and returns how many there are.
 pub fn fill_from_the_back<T: Copy + Drop, const CAP: usize, B: Behavior>(
     deque: &mut ArrayDeque<T, CAP, B>,
     x: T,
@@ -30,7 +30,7 @@ pub fn fill_from_the_back<T: Copy + Drop, const CAP: usize, B: Behavior>(
     deque.len()
 }
 
-/// Writes over each item of a deque that a `for` walks itself.
+/// Writes over each item, by a `for` over the deque itself.
 pub fn fill_walked<T: Copy + Drop, const CAP: usize, B: Behavior>(
     deque: &mut ArrayDeque<T, CAP, B>,
     x: T,
@@ -43,7 +43,7 @@ pub fn fill_walked<T: Copy + Drop, const CAP: usize, B: Behavior>(
     }
 }
 
-/// Writes over one item after the other, and answers how many there are.
+/// Writes over one item after the other, and returns how many there are.
 pub fn fill_by_hand<const CAP: usize, B: Behavior>(deque: &mut ArrayDeque<i64, CAP, B>) -> usize
     ensures len { length deque.new.items ≡ length deque.old.items }
     ensures result { result ≡ length deque.old.items }
@@ -55,7 +55,7 @@ pub fn fill_by_hand<const CAP: usize, B: Behavior>(deque: &mut ArrayDeque<i64, C
     deque.len()
 }
 
-/// Writes 0 over each item before the first that is `stop`, or answers `false` and writes 1 over
+/// Writes 0 over each item before the first that is `stop`, or returns `false` and writes 1 over
 /// all where there is none.
 pub fn fill_until<const CAP: usize, B: Behavior>(
     deque: &mut ArrayDeque<i64, CAP, B>,
@@ -95,7 +95,7 @@ pub fn write_ends_and_push<const CAP: usize>(
     deque.push_back(len as i64)
 }
 
-/// Writes over the first item of each of the two slices, pushes, and answers how many items there
+/// Writes over the first item of each of the two slices, pushes, and returns how many items there
 /// were.
 pub fn write_slices_and_push<const CAP: usize>(deque: &mut ArrayDeque<i64, CAP, Wrapping>) -> usize
     ensures len { length deque.old.items < CAP →

@@ -24,7 +24,7 @@ fn a_long_text_comes_out_unchanged(rt: HostRuntime) -> Result<(), Fail> {
     Ok(())
 }
 
-/// A writer that takes so many bytes at a call, and fails at the last.
+/// A writer that takes at most so many bytes at each call, and fails once there is no number left.
 #[derive(Drop)]
 struct Slow<'a> {
     takes: &'a [usize],

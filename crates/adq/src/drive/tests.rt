@@ -118,8 +118,8 @@ fn is_bad(alloc: Global, word: &str, count: usize) -> Result<bool, AllocError> {
     blames(alloc, "sat 3", line_of(alloc, word, count)?.as_bytes(), 1)
 }
 
-/// Each word names a call with its count of numbers alone, and neither in capitals nor cut short by
-/// a letter.
+/// Each word names a call with its count of numbers alone, an extend with any, and neither in
+/// capitals nor cut short by a letter.
 #[test]
 fn each_word_has_its_spelling(rt: HostRuntime) -> Result<(), Fail> {
     let alloc = rt.alloc();
@@ -220,7 +220,7 @@ fn a_read_or_a_write_that_fails_ends_the_run(rt: HostRuntime) -> Result<(), Fail
 }
 
 /// More lines, replies and numbers than a reader's piece or a writer's buffer holds, some 200,000
-/// bytes, and each write of the replies fails in turn.
+/// bytes, and each of the first twenty writes of the replies fails in turn.
 #[test]
 fn a_long_run_is_whole(rt: HostRuntime) -> Result<(), Fail> {
     let mut lines = String::from_str(rt.alloc(), "push_back 0\n")?;

@@ -17,8 +17,8 @@ const BLOCK_PAIRS: usize = 32;
 /// The size in bytes of the largest items that are compared in blocks.
 const SMALL_BYTES: usize = 16;
 
-/// The size in bytes of the smallest items whose equal blocks equality and a total order skip here.
-/// For 1, 2 or 4 bytes std does so.
+/// The least bytes of an item for which equality and a total order skip equal blocks here. For 1, 2
+/// or 4 bytes std does so.
 const LEAST_BYTES: usize = 5;
 
 /// Whether some item equals `x`. Small items are compared block by block, and others one by one.

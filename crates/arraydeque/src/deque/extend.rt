@@ -54,7 +54,7 @@ impl<T, const CAP: usize> ArrayDeque<T, CAP, Saturating> {
 
 impl<T, const CAP: usize, B: Behavior> ArrayDeque<T, CAP, B> {
     /// Puts what the iterator gives behind the last item while there is room. Returns whether the
-    /// iterator ended before that.
+    /// iterator ended before the deque was full.
     #[inline(always)]
     fn fill_back<I: Iterator<Item = T>>(&mut self, elements: &mut I) -> bool
         requires { I.can_next elements.old }
@@ -71,7 +71,7 @@ impl<T, const CAP: usize, B: Behavior> ArrayDeque<T, CAP, B> {
     }
 
     /// Puts what the iterator gives before the first item, one by one, while there is room. Returns
-    /// whether the iterator ended before that.
+    /// whether the iterator ended before the deque was full.
     #[inline(always)]
     fn fill_front<I: Iterator<Item = T>>(&mut self, elements: &mut I) -> bool
         requires { I.can_next elements.old }

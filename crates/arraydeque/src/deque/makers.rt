@@ -1,4 +1,4 @@
-//! Deques made of other collections, and collections made of a deque.
+//! Deques made of other collections, a vector of a deque, and the other policy.
 ghost use Rattle.std.specs.Prelude.{◌≡◌, ◌<◌, ◌*◌, length, take, IfOk, IfErr, OnErr};
 ghost use Rattle.std.specs.Iterator.{IsFiniteIterable};
 ghost use Rattle.std.specs.Mem.{type_size};

@@ -100,8 +100,8 @@ impl<T, const CAP: usize, B: Behavior> ArrayDeque<T, CAP, B> {
 }
 
 impl<T, const CAP: usize> ArrayDeque<T, CAP, Saturating> {
-    /// Takes the first items of another deque behind the last one, as many as there is room for.
-    /// The others stay there. No memory is taken, and no item that stays moves.
+    /// Takes the first items of another deque behind the last of this one, as many as there is room
+    /// for. The others stay there. No memory is taken, and no item that stays moves.
     ///
     /// ```
     /// let mut deque = ArrayDeque::<i64, 3, Saturating>::new(alloc)?;

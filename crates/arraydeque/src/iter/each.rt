@@ -1,4 +1,4 @@
-//! A closure called on all items of a source.
+//! A closure called on all items of an iterator.
 ghost use Rattle.std.specs.Prelude.{List};
 ghost use Rattle.std.specs.Fn.{Called};
 ghost use Rattle.std.specs.List.{FoldsTo};

@@ -81,10 +81,10 @@ goes_to t from to gap i j len x n t_in x_in ways within a b =
     rw (distance-rotated t j x n t_in (omega arith) x_in)
     (grind arith)
 
-passed : {X : Type 0} (from to gap i j len x : ℕ) (qs : List (Option X)) → from + gap ≤ length qs
+look-gap_moved : {X : Type 0} (from to gap i j len x : ℕ) (qs : List (Option X)) → from + gap ≤ length qs
     → to + gap ≤ length qs → (from ≤ x → x < from + gap → held_at qs x ≡ None) → Passes from to gap i j len
     → look (held_at qs) i j len x ≡ held_at (gap_moved from to gap qs) x
-passed from to gap i j len x qs from_in to_in none ways =
+look-gap_moved from to gap i j len x qs from_in to_in none ways =
     elim ways [ inl up ↦ grind arith | inr down ↦ grind arith ]
     ∙ sym (get_or-gap_moved from to gap qs from_in to_in x)
 
@@ -117,9 +117,9 @@ crosses {t = t} {len = len} {ps = ps} from to gap i j asked ways long at_d at_s 
       };
       count = count_by t i j len n t_in (omega arith) (omega arith) (omega arith);
       is = rotated-Holds moved (length-gap_moved from to gap qs (omega arith) (omega arith) ∙ wide)
-          (λ x lt. passed from to gap i j len x qs (omega arith) (omega arith) (none x) ways);
+          (λ x lt. look-gap_moved from to gap i j len x qs (omega arith) (omega arith) (none x) ways);
     })
 
--- a gap of one place goes by one place
+-- behind a gap of one place comes the next place
 pub one_on : {gap s m n : ℕ} (t i : ℕ) → s ≡ place_of t i m → m ≡ n → gap ≡ 1 → place_of s 1 n ≡ place_of t (i + gap) m
 one_on {n = n} t i at long one = rw (at, one, long) (place_of-sum t i 1 n)

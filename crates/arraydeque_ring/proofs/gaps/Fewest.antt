@@ -1,5 +1,5 @@
--- No placement of a list after an edit gives fewer items another place than the lesser side has,
--- and the one that the ring leaves just so many.
+-- After an insert, a removal or a drain no placement of the list gives fewer items another place
+-- than the lesser side has, and the ring's gives just so many.
 use Rattle.std.proofs.{
   Common.{◌≡◌, ℕ, zero, suc, ◌+◌, ◌-◌, ◌<◌, ◌≤◌, inl, inr, min, Bool, false, not, nat_lt, ◌==◌, if◌then◌else◌},
   Common.arith,
@@ -15,7 +15,7 @@ use Rattle.arraydeque_ring.{
   proofs.places.Rotated.{one_place, place_of_cases, place_of-sum},
 }
 
--- a test that is one below s, another from e on, and fails between them
+-- a test that is f below s and b from e on, and fails between them
 count_sides : (p : ℕ → Bool) (f b : Bool) (s e n : ℕ) → s ≤ e
     → ((k : ℕ) → k < n → p k ≡ (if nat_lt k s then f else (if nat_lt k e then false else b)))
     → count_below p n ≡ (if f then min s n else 0) + (if b then n - e else 0)

@@ -119,7 +119,7 @@ module _ {X : Type 0} {n t : ℕ} {xs : List X} {gap : ℕ} {ys : List X} {ps : 
             (λ x a b. gap_at x (omega arith) ∙ grind (arith, items));
       }
 
--- a gap that goes before all values leaves what one does that goes behind them, from a start behind it
+-- moving a gap before all values leaves, read from behind the gap, what moving it behind them leaves
 pub closed_up : {X : Type 0} (t i gap m : ℕ) (ps qs : List (Option X)) → MayClose t i gap m ps
     → rotated t qs ≡ gap_moved i 0 gap (rotated t ps)
     → rotated (place_of t gap (length ps)) qs ≡ gap_moved i (i + m) gap (rotated t ps)

@@ -56,7 +56,7 @@ module _ {X : Type 0} {n t : ℕ} {xs : List X} {ps : List (Option X)} where
   pub LaidOut-gap_last : {gap : ℕ} → Gapped n t xs gap [] ps → LaidOut n t xs ps
   LaidOut-gap_last p = LaidOut-by (omega arith) (Holds-same p.reads (λ k lt. grind (arith, items)))
 
-  -- before all items it puts off the start
+  -- one before all items moves the start up by as many places
   pub LaidOut-gap_first : (gap : ℕ) → Gapped n t [] gap xs ps → LaidOut n (place_of t gap n) xs ps
   LaidOut-gap_first zero p = rw (place_of-zero t n p.reads.in_region)
       (LaidOut-by (omega arith) (Holds-same p.reads (λ k lt. grind arith)))

@@ -21,14 +21,14 @@ use Rattle.arraydeque_ring.{
   },
 }
 
--- a pass: of `run` values that come to their places, x do by an exchange, and the others then into empty places
+-- a pass: of `run` values that come to their places, x do by an exchange, and the others move into empty places
 pub record Pass {X : Type 0} (dst next run x : ℕ) (ps : List (Option X)) : Type 0 where
   pub a_filled : IsFilledRun ps dst x
   pub b_filled : IsFilledRun ps next x
   pub empty : IsEmptyRun (runs_exchanged dst next x ps) (dst + x) (run - x)
   pub filled : IsFilledRun (runs_exchanged dst next x ps) (next + x) (run - x)
 
--- the places are on their way from `old`, where len values begin at `start`, to these read from the start on
+-- the places are on their way from `old`, where len values begin at `start`, to `old` read from `start` on
 pub record Rotating {X : Type 0} (capacity start len dst next : ℕ) (old ps : List (Option X)) : Type 0 where
   pub fills : FilledFrom start len (filled old)
   pub length_is : length ps ≡ capacity

@@ -25,7 +25,7 @@ use Rattle.arraydeque_ring.{
   },
 }
 
--- places that hold what two runs come to that change places are these
+-- places that each hold what `rotated_from` says are the rotated ones
 pub are_rotated : {X : Type 0} (at m k : ℕ) (ps qs : List (Option X)) → at + m + k ≤ length ps → length qs ≡ length ps
     → ((x : ℕ) → x < length ps → held_at qs x ≡ held_at ps (rotated_from at m k x)) → qs ≡ run_rotated at m k ps
 are_rotated at m k ps qs within long each = let wide = length-run_rotated at m k ps within in
@@ -81,8 +81,8 @@ module _ {X : Type 0} {dst gap behind len : ℕ} {ps : List (Option X)} (u : Und
         (λ x lt. get_or-gap_moved dst len gap ps (omega arith) (omega arith) x
         ∙ grind (arith, nat_tests, empty_now x, empty_now (x + gap), empty_now (x - behind)))
 
-  -- or there is room for the values behind the gap:
-  -- the ones in front of it move up by as many places, and they take their place
+  -- or there is room for the values behind the gap: the ones in front of it move up by as many
+  -- places, and those behind it come into their places
   module _ (next : ℕ) (room : (dst + gap ≡ next) × (dst + behind ≤ len) × (len ≤ next) × (0 < behind)) where
     between : (x : ℕ) → len - behind ≤ x → x < next → held_at ps x ≡ None
     between x a b = empty_now x (omega arith) (grind arith)

@@ -28,8 +28,8 @@ use Rattle.arraydeque_ring.{
   },
 }
 
--- as many items as there are, written in two runs, of which the second goes on from the first place where the first
--- comes to the region's end
+-- as many items as there are, written in two runs: where the first ends at the region's end, the second goes on at
+-- place 0
 LaidOut-round : {X : Type 0} {n t : ℕ} {xs : List X} {ps : List (Option X)} → LaidOut n t xs ps → (us vs : List X)
     → length us + length vs ≡ length xs → t + length us ≤ n → (length vs ≡ 0) ⊎ (t + length us ≡ n)
     → LaidOut n t (us ++ vs) (with_run 0 vs (with_run t us ps))
@@ -76,18 +76,18 @@ module _ {X : Type 0} where
     ]
 
     module _ (xs ys : List X) (held : HoldsRun ps r.start first xs) (held' : HoldsRun ps 0 rest ys) where
-      many : length xs ≡ first
-      many = length_filled ps r.start first (first_run_filled.0, (xs, held))
+      first_length : length xs ≡ first
+      first_length = length_filled ps r.start first (first_run_filled.0, (xs, held))
 
-      many' : length ys ≡ rest
-      many' = length_filled ps 0 rest (second_run_filled.0, (ys, held'))
+      rest_length : length ys ≡ rest
+      rest_length = length_filled ps 0 rest (second_run_filled.0, (ys, held'))
 
       -- what they hold, joined, are the items
       pub lent_items : xs ++ ys ≡ v.items
       lent_items =
           let front = same_run o.laid 0 r.start first xs (inl (omega arith)) (omega arith) fits held in
           elim to_end [
-            | inl none ↦ grind (arith, nil_from_length ys (many' ∙ none), take_all, append-nil, front, o.len)
+            | inl none ↦ grind (arith, nil_from_length ys (rest_length ∙ none), take_all, append-nil, front, o.len)
             | inr end ↦ rw (
               front,
               same_run o.laid first 0 rest ys (inr (omega arith)) (omega arith) (omega arith) held'
@@ -97,7 +97,7 @@ module _ {X : Type 0} where
           ]
 
       pub one_piece : v.start + length v.items ≤ v.capacity → ys ≡ []
-      one_piece within = nil_from_length ys (omega (arith, many'))
+      one_piece within = nil_from_length ys (omega (arith, rest_length))
 
       -- once both were written the ring is whole, and its items are those that were written
       pub open_after : (us vs : List X) → Opened (with_slots r (record {
@@ -106,8 +106,8 @@ module _ {X : Type 0} where
       })) (rewritten v (rewritten v (as_many xs us ++ as_many ys vs)).items)
       open_after us vs =
           let us' = as_many xs us in let vs' = as_many ys vs in
-          let front : length us' ≡ first = length-as_many xs us ∙ many in
-          let behind : length vs' ≡ rest = length-as_many ys vs ∙ many' in
+          let front : length us' ≡ first = length-as_many xs us ∙ first_length in
+          let behind : length vs' ≡ rest = length-as_many ys vs ∙ rest_length in
           let same : length (us' ++ vs') ≡ length v.items = omega (arith, length-append us' vs') in
           let whole = as_many-same v.items (us' ++ vs') same in
           rw (whole, whole) (record {

@@ -17,7 +17,7 @@ module _ {Y : Type 0} where
   abbrev pub run : List Y → ℕ → ℕ → List Y
   run ps i n = take n (drop i ps)
 
-  -- no item changes nothing
+  -- to place no items changes nothing
   pub placed_nothing : (i : ℕ) (ws ps : List Y) → length ws ≡ 0 → placed i 0 ws ps ≡ ps
   placed_nothing i ws ps e = rw (nil_from_length ws e, sym (drop-drop 0 i ps)) (take-append-drop i ps)
 

@@ -91,7 +91,7 @@ module _ (E : El) (b o : ℕ) where
         fjoin ! $ move ! (1 ∷ 0 ∷ []) $
         by ! (run_in E 𝓛 b o (placed i m us ps) j n (grind (arith, common_steps, low, in_j, e)) vs e'))
 
-    -- which of the two comes first is all one, where what is written into both may come in either order
+    -- the two may come in either order, where what is written into both may
     other_way : (i m j n : ℕ) → ((us vs : List (Place E)) → length us ≡ m → length vs ≡ n
         → placed i m us (placed j n vs ps) ≡ placed j n vs (placed i m us ps)) → Next i m j n → Next j n i m
     other_way i m j n same next Rest back = move t (1 ∷ []) $ next Rest (λ us vs e e'.

@@ -85,7 +85,7 @@ module _ {M : Type 1} {𝓤 : Ura M} (𝓛 : Logic 𝓤) (at_mem : Memory → SP
         move ! (2 ∷ []) $ feq_i ! _ (vptr p.0 p.1 ∷ []) _ refl $ fjoin ! $ fjoin ! $
         move ! (2 ∷ []) $ nothing ! $ move ! (1 ∷ 0 ∷ []) $ join ! $ join ! $ done !
 
--- a call of `allocate` gives the token back, and goes on with a block, or with a refusal
+-- a call of `allocate` gives the lifetime's token back, and goes on with a block, or with a refusal
 module _ {M : Type 1} {𝓤 : Ura M} {𝓛 : Logic 𝓤} {K : Type 0} {Γ : List (Item 𝓤)} {G : Goal 𝓤 𝓛.H} (t : K)
     (soaks : Soaks G) (at_mem : Memory → SProp 𝓤) (run : Routine → Fun 𝓤) (E : El) (n : ℕ) (κ : Lft) (q : Share)
     (p : ℕ × ℕ) (g : Global) (v : Val)

@@ -129,8 +129,8 @@ pub round_run : {X : Type 0} (ps : List (Option X)) (from len : ℕ) → from + 
 round_run ps from len le filled = filled_run_of ps from len le (λ x a b.
     subst (IsFilled ps) (mod-eq_of_lt {m = length ps} (omega arith) ∙ omega arith) (filled (x - from) (omega arith)))
 
--- a run that passes no end, nor its target, and moves in two steps: the first k values first where it moves down, else
--- the last m
+-- a run of which neither source nor target passes the end, and which moves in two steps: the first k values first
+-- where it moves down, else the last m
 module _ {X : Type 0} (i j k m l : ℕ) (ps : List (Option X)) (parts : (0 < l) × (k + m ≡ l)) (can : CanCopy i j l ps)
   where
     pub first_block_goes : i ≤ j → Steps i j k (i + k) (j + k) m ps (run_moved i j l ps)

@@ -81,7 +81,7 @@ module _ {X : Type 0} where
   empty_run_of ps from len le each =
       (le, same_places _ _ (grind (arith, common_steps)) (λ x lt. grind (arith, common_steps)))
 
-  -- and holds those items that its places hold, here those from the index i on
+  -- a run holds the items that its places hold, here those from the index i on
   pub holds_run_of : (ps : List (Option X)) (from i len : ℕ) (xs : List X) → i + len ≤ length xs
       → from + len ≤ length ps → ((k : ℕ) → k < len → held_at ps (from + k) ≡ slice_get xs (i + k))
       → HoldsRun ps from len (take len (drop i xs))

@@ -106,7 +106,7 @@ new_laid xs n within = shows (LaidOut-new xs n within) _ refl
 
 -- the gap that m items from the index a up to b left in the places qs: it may be closed, and what is shown then
 pub record Closing {X : Type 0} (t n a m b len : ℕ) (items : List X) (qs : List (Option X)) : Type 0 where
-  pub long : length qs ≡ n
+  pub length_is : length qs ≡ n
   pub may : MayClose t a m (len - m - a) qs
   pub closed : (s : ℕ) (ps : List (Option X)) → s ≡ start_closed a m (len - m - a) (length qs) t
       → rotated s ps ≡ gap_moved a (a + (len - m - a)) m (rotated t qs)
@@ -121,7 +121,7 @@ module _ {X : Type 0} {r : Inside X} {v : RingState X} (o : Opened r v) where
       let back = length-drop b v.items in
       let both = length-append (take a v.items) (drop b v.items) in
       record {
-        long = p.reads.length_is;
+        length_is = p.reads.length_is;
         may = may_close p _ _ some front (omega arith);
         closed = λ s ps here is. shows (LaidOut-gap_last (gap_moves p a (a + (r.len - m - a)) front s ps
             (append-nil (take a v.items ++ drop b v.items)) (omega arith) (grind (arith, here)) is)) _ (omega arith);
@@ -306,7 +306,7 @@ module _ {X : Type 0} (r : Inside X) (kept : Kept r) where
       → Shows n r.start r.len ws (with_run r.start ws places)
   piece_written ws many fits = shows (LaidOut-written laid ws (omega (arith, len)) (omega arith)) _ many
 
-  -- they go
+  -- the first m items go
   pub piece_taken : (m : ℕ) → 0 < m → m ≤ r.len → r.start + m ≤ n
       → Shows n (place_of r.start m n) (r.len - m) (drop m items) (run_emptied r.start m places)
   piece_taken m some le fits =

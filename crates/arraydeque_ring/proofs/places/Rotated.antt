@@ -29,7 +29,7 @@ place_of-zero t (suc n) le = mod-eq_of_lt (omega arith) ∙ omega arith
 pub place_of-first : (k n : ℕ) → k < n → place_of 0 k n ≡ k
 place_of-first k n lt = mod-eq_of_lt (omega arith) ∙ omega arith
 
--- to go on by i and then by x is to go up by both
+-- to go up by i and then by x is to go up by both
 pub place_of-sum : (t i x n : ℕ) → place_of (place_of t i n) x n ≡ place_of t (i + x) n
 place_of-sum t i x n = mod-add-mod (t + i) n x ∙ ap (λ m. m % n) (add_assoc t i x)
 

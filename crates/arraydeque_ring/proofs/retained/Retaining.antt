@@ -134,7 +134,7 @@ module _ {F X : Type 0} {R : F → X → Bool → F → Type 0} {f : F} {items :
       x_is : x ≡ get_or items (length s.answers) x
       x_is = sym (get_or_from_slice_get items (length s.answers) x x (next_asked x held))
 
-      -- the next item stays, and is moved up
+      -- the next item stays, and moves to the gap's first place
       pub one_stays : R g x true h → let src = place_of t index n in let dst = place_of t kept n in
           SoFar R f items before n t len (index + 1) (kept + 1) (set (set ps src None) dst (held_at ps src))
           (more_moves 1 steps) h

@@ -109,7 +109,7 @@ impl<T> Ring<T> {
         }) }
         ensures refused { OnErr result (Any (λ x. ¬ T.is_infallible x) items.now) }
     {
-        // That no sum passes `usize::MAX` is known of the capacity.
+        // Reading the capacity tells the prover that no sum passes `usize::MAX`.
         let _capacity = self.slots.capacity();
         for item in items {
             let clone = item.clone()?;
@@ -119,8 +119,8 @@ impl<T> Ring<T> {
         Ok(())
     }
 
-    /// A vector of the items, front to back. Where its memory is refused, which it never is for no
-    /// items, the ring comes back as it was.
+    /// A vector of the items, front to back. Where its memory is refused, which never happens to an
+    /// empty ring, the ring comes back as it was.
     pub fn into_vec(self) -> Result<Vec<T>, Ring<T>>
         ensures items { IfOk result (λ v. v.items ≡ self.items) }
         ensures source { IfErr result (λ ring. ring ≡ self) }

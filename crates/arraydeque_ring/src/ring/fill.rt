@@ -16,7 +16,7 @@ use std::mem::replace;
 
 impl<T> Ring<T> {
     /// Puts what the iterator gives behind the last item, one by one, while there is room. Returns
-    /// whether the iterator ended before that; else it wasn't asked for more.
+    /// whether the iterator ended before the ring was full; else it wasn't asked for more.
     #[inline(always)]
     pub fn fill_back<I: Iterator<Item = T>>(&mut self, elements: &mut I) -> bool
         requires { I.can_next elements.old }
@@ -45,8 +45,8 @@ impl<T> Ring<T> {
     }
 
     /// Puts what the iterator gives before the first item, one by one, while there is room: the
-    /// last one stands first then. Returns whether the iterator ended before that; else it wasn't
-    /// asked for more.
+    /// last one stands first then. Returns whether the iterator ended before the ring was full;
+    /// else it wasn't asked for more.
     #[inline(always)]
     pub fn fill_front<I: Iterator<Item = T>>(&mut self, elements: &mut I) -> bool
         requires { I.can_next elements.old }
@@ -151,7 +151,7 @@ fn fill_up<T, I: Iterator<Item = T>>(
     ensures steps { result.0.steps ≡ more_puts result.1 slots.steps }
     ensures goes { GoesOn I.can_next I.remaining elements.old elements.new (nat_lt result.1 run) }
 {
-    // That no sum passes `usize::MAX` is known of the capacity.
+    // Reading the capacity tells the prover that no sum passes `usize::MAX`.
     let _capacity = slots.capacity();
     for filled in 0..run {
         let Some(element) = ask(elements) else {
@@ -208,7 +208,7 @@ fn displace_up<T: Drop, I: Iterator<Item = T>>(
     ensures goes { nat_lt result.1 run ≡ false →
         IsNearerEnd I.can_next I.remaining elements.old elements.new }
 {
-    // That no sum passes `usize::MAX` is known of the capacity.
+    // Reading the capacity tells the prover that no sum passes `usize::MAX`.
     let _capacity = slots.capacity();
     for displaced in 0..run {
         let Some(element) = ask(elements) else {

@@ -13,7 +13,7 @@ use std::marker::Model;
 #[derive(Drop)]
 pub struct IntoIter<T> {
     ring: Ring<T>,
-    /// The most items that [`Ring::take_before_end`] can't take.
+    /// An upper bound on the items that [`Ring::take_before_end`] can't take.
     from_last_place: usize,
 }
 
@@ -100,7 +100,7 @@ impl<T> Ring<T> {
     }
 
     /// Takes the first item off, as [`Ring::pop_front`] does, where the next place is before the
-    /// region's end. Many such in a row empty places in a row.
+    /// region's end. Many such calls together empty a run of places.
     #[tactic(auto, using(crate::proofs::places::Opened::end_facts))]
     #[inline(always)]
     fn take_before_end(&mut self) -> T
@@ -113,7 +113,7 @@ impl<T> Ring<T> {
           steps = more_takes 1 self.old.steps;
         } }
     {
-        // That no sum passes `usize::MAX` is known of the capacity.
+        // Reading the capacity tells the prover that no sum passes `usize::MAX`.
         let _capacity = self.slots.capacity();
         let place = self.start;
         self.start = place + 1;

@@ -1,5 +1,4 @@
-//! Calls that open or close a gap in the middle of a ring, by moving the items on the nearer side
-//! of it.
+//! Calls that open or close a gap in the middle of a ring, by moving the side with fewer items.
 ghost use Rattle.std.specs.Prelude.{◌≡◌, ◌-◌, ◌+◌, ◌<◌, ◌≤◌, length, slice_get, min, max};
 ghost use Rattle.std.specs.List.{insert, remove};
 ghost use Rattle.arraydeque_ring.specs.Gaps.{IsEmptyRun, gap_moved};
@@ -14,9 +13,8 @@ use crate::slots::Slots;
 use crate::wrap::wrap_add;
 
 impl<T> Ring<T> {
-    /// Adds an element before the item at an index, or behind the last one. The fewer items on
-    /// either side of it move: those before it where they are the fewer, and the start with them,
-    /// else those behind it.
+    /// Adds an element before the item at an index, or behind the last one. The items before it
+    /// move, and the start with them, where they are the fewer, else those behind it.
     pub fn insert(&mut self, index: usize, element: T)
         requires in_bounds { index ≤ length self.old.items }
         requires room { length self.old.items < self.old.capacity }
@@ -43,8 +41,8 @@ impl<T> Ring<T> {
         self.slots.put(place, element);
     }
 
-    /// Takes out the item at an index. The fewer items on either side of it move: those before it
-    /// where they are the fewer, and the start with them, else those behind it.
+    /// Takes out the item at an index. The items before it move, and the start with them, where
+    /// they are the fewer, else those behind it.
     #[tactic(auto, using(crate::proofs::places::Opened::end_facts))]
     pub fn remove(&mut self, index: usize) -> T
         requires { index < length self.old.items }
@@ -68,7 +66,7 @@ impl<T> Ring<T> {
 
 /// Closes the `gap` empty places between the `before` values from the place `start` on and the
 /// `behind` values that follow the gap. The values on one side move: those before it where they are
-/// the fewer, else those behind it. The answer is the place where the list starts then.
+/// the fewer, else those behind it. Returns the place where the list starts then.
 #[inline(always)]
 pub(super) fn close_gap<T>(
     slots: &mut Slots<T>,

@@ -17,9 +17,9 @@ use crate::wrap::wrap_add;
 use std::alloc::AllocError;
 
 impl<T> Ring<T> {
-    /// Takes out the items from the index `from` up to `to`, which is not among them. The fewer
-    /// items on either side of them move: those before where they are the fewer, and the start with
-    /// them, else those behind. Nothing moves for an empty range.
+    /// Takes out the items from the index `from` up to `to`, which is not among them. The items
+    /// before these move, and the start with them, where they are the fewer, else those behind
+    /// them. Nothing moves for an empty range.
     ///
     /// The items go into a ring of their own, whose region is taken first and has no place to
     /// spare. Where that is refused nothing has changed. A range of no items, or of items of size

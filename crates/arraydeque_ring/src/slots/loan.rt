@@ -113,8 +113,8 @@ impl<T> Slots<T> {
         self.lend_two(a, a_len, b, b_len).into_slices()
     }
 
-    /// The values of a run of `len` places, for writing: it starts at the place `start`, and goes
-    /// on from the first place where it comes to the region's end.
+    /// The values of a run of `len` places, for writing: it starts at the place `start`, and may
+    /// wrap.
     ///
     /// Whatever is written, no place is filled or emptied, and no place outside the run changes.
     pub(crate) fn lend_round(&mut self, start: usize, len: usize) -> Loan<'_, T>

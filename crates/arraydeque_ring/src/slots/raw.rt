@@ -1,7 +1,6 @@
 //! The raw memory of a region: the one file with pointers.
 //!
-//! Each leaf changes what the places hold, or the memory that they lie in, and counts no step, but
-//! for `lend_two`, which counts its two lends.
+//! No leaf counts a step, but for `lend_two`, which counts its two lends.
 ghost use Rattle.std.specs.Prelude.{◌≡◌, ◌+◌, ◌*◌, ◌^◌, ◌<◌, ◌≤◌, length, take, drop, slice_set, Some, None, IfOk};
 ghost use Rattle.std.specs.Borrow.{sem};
 ghost use Rattle.std.specs.List.{splice};

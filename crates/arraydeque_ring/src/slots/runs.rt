@@ -74,8 +74,8 @@ impl<T> Slots<T> {
     }
 
     /// Moves the values in the `len` places from `src` on to those from `dst` on, all at once.
-    /// Either run goes on at the first place after the last. The two may share places, as long as
-    /// one doesn't meet the other at both its ends.
+    /// Either run may wrap. The two may share places, as long as one doesn't meet the other at both
+    /// its ends.
     pub fn wrap_move(&mut self, dst: usize, src: usize, len: usize)
         requires dst_in_region { dst < length self.old.places }
         requires src_in_region { src < length self.old.places }
@@ -100,7 +100,7 @@ impl<T> Slots<T> {
     /// Moves the values in the `len` places from `src` on up by one place, round the region's end:
     /// first those past the end, then the one in the last place, then those before it.
     ///
-    /// They move one after the other, of which the compiler makes one `memmove`.
+    /// Each part moves value by value, of which the compiler makes one `memmove`.
     pub(crate) fn slide_up(&mut self, src: usize, len: usize)
         requires in_region { src < length self.old.places }
         requires room { len < length self.old.places }
@@ -182,8 +182,8 @@ impl<T> Slots<T> {
         }
     }
 
-    /// Copies a run to where neither side passes the end, in blocks, the largest first: from the
-    /// first value on where the run moves down, else from the last on.
+    /// Copies a run where neither side passes the end, in blocks, the largest first: from the first
+    /// value on where the run moves down, else from the last on.
     #[inline(never)]
     fn copy(&mut self, dst: usize, src: usize, len: usize)
         requires { CanCopy dst src len self.old.places }
@@ -206,8 +206,8 @@ impl<T> Slots<T> {
         }
     }
 
-    /// Moves the last values of a run in blocks of `N`, as long as there are so many. The answer is
-    /// how many are left. Blocks that are too large are not tried, unless `N` is 1.
+    /// Moves the last values of a run in blocks of `N`, as long as there are so many. Returns how
+    /// many are left. Blocks that are too large are not tried, unless `N` is 1.
     #[inline(always)]
     fn move_last<const N: usize>(&mut self, dst: usize, src: usize, len: usize) -> usize
         requires some { 0 < N }
@@ -232,7 +232,7 @@ impl<T> Slots<T> {
     }
 
     /// Moves the values of a run from the index `from` on in blocks of `N`, as long as there are so
-    /// many. The answer is the index of the first that is left.
+    /// many. Returns the index of the first that is left.
     #[inline(always)]
     fn move_first<const N: usize>(
         &mut self,

@@ -42,7 +42,7 @@ returns-clause-capacity g c = (after g c.before).0
 
 pub returns-clause-start : goal.returns-clause-start
 returns-clause-start g c =
-    grind (arith, bounds, (out g (goal.at.returns-clause-start g c).After-take_run).long)
+    grind (arith, bounds, (out g (goal.at.returns-clause-start g c).After-take_run).length_is)
 
 pub returns-clause-steps : goal.returns-clause-steps
 returns-clause-steps g c = grind (arith, bounds)

@@ -36,7 +36,7 @@ returns-clause-capacity g c = (after g c.before).0
 
 pub returns-clause-start : goal.returns-clause-start
 returns-clause-start g c =
-    grind (arith, bounds, (out g (goal.at.returns-clause-start g c).After-take-item).long)
+    grind (arith, bounds, (out g (goal.at.returns-clause-start g c).After-take-item).length_is)
 
 pub returns-clause-fewest : goal.returns-clause-fewest
 returns-clause-fewest g c =
