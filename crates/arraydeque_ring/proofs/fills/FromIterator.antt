@@ -10,6 +10,18 @@ use Rattle.std.{
 use Rattle.arraydeque_ring.specs.Fills.{Fills, Ends}
 
 module _ {S A : Type 0} (gives : S → Option A → S → Type 0) where
+  -- before the first call
+  pub Fills-none : {from : S} {n : ℕ} {P : List A → Type 0} → n ≡ 0 → P [] → Fills gives from from n false P
+  Fills-none none holds = record {
+    items = [];
+    last = _;
+    yielded = refl;
+    at_most = omega arith;
+    none = λ e. absurd (grind arith);
+    all = λ _. (refl, omega arith);
+    holds = holds;
+  }
+
   -- the same said of another bound, and of Q where it follows from P
   pub Fills-as : {from to : S} {n : ℕ} {ended : Bool} {P : List A → Type 0} (f : Fills gives from to n ended P) (m : ℕ)
       (Q : List A → Type 0) → length f.items ≤ m → (ended ≡ false → length f.items ≡ m) → ((xs : List A) → P xs → Q xs)

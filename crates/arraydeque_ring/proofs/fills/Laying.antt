@@ -18,7 +18,11 @@ use Rattle.arraydeque_ring.{
     Steps.{more_puts, more_takes},
   },
   proofs.{
-    fills.{FromIterator.Fills-both, Displaced.{displaced_first, displaced_last}, InRows.{filled_back, filled_front}},
+    fills.{
+      FromIterator.{Fills-both, Fills-none},
+      Displaced.{displaced_first, displaced_last},
+      InRows.{filled_back, filled_front},
+    },
     places.{
       Appended.{Holds-run, LaidOut-appended, IsEmptyRun-from, IsEmptyRun-behind},
       Holds.Holds-from,
@@ -65,15 +69,7 @@ module _ {S X : Type 0} {it : Ghosts S X} {word : List X → RingState X → Rin
     all = omega arith;
     out = moved.left;
     count = 0;
-    so_far = record {
-      items = [];
-      last = _;
-      yielded = refl;
-      at_most = omega arith;
-      none = λ e. absurd (grind arith);
-      all = λ _. (refl, refl);
-      holds = rw moved.region (subst (Opened _) none o);
-    };
+    so_far = Fills-none _ refl (rw moved.region (subst (Opened _) none o));
     goes = λ _. (may, λ f. f);
     kept = rw moved.region (kept o);
   }
@@ -95,12 +91,12 @@ module _ {S X : Type 0} {it : Ghosts S X} {word : List X → RingState X → Rin
   }
 
 -- in an open ring, whose region has n places; the region is taken out, written, and put back
-module _ {X : Type 0} {r : Inside X} {v : RingState X} (o : Opened r v) {n : ℕ} (all : n ≡ v.capacity)
-    (some : 0 < n) where
+module _ {X : Type 0} {r : Inside X} {v : RingState X} (o : Opened r v) {n : ℕ} (all : n ≡ v.capacity) where
   -- behind the last item
-  module _ {run place : ℕ} (is : place ≡ (r.start + r.len) % n) (fits : run ≤ n - place) (room : run ≤ n - r.len) where
+  module _ (run : ℕ) {place : ℕ} (at : MayStartAt r.start r.len n place) (fits : place + run ≤ n)
+      (room : r.len + run ≤ n) where
     lies : MayStartAt r.start (length v.items) v.capacity place
-    lies = grind (arith, place_of_cases r.start r.len n (omega arith))
+    lies = rw (all, ← o.len) at at
 
     pub empty_behind : IsEmptyRun r.slots.places place run
     empty_behind = IsEmptyRun-behind o.laid _ _ lies (omega arith) (omega arith)
@@ -116,6 +112,9 @@ module _ {X : Type 0} {r : Inside X} {v : RingState X} (o : Opened r v) {n : ℕ
       steps = grind arith;
     }
 
+-- and in one of some places
+module _ {X : Type 0} {r : Inside X} {v : RingState X} (o : Opened r v) {n : ℕ} (all : n ≡ v.capacity)
+    (some : 0 < n) where
   -- in the places of the first items
   pub filled_first : r.len ≡ n → IsFilledRun r.slots.places r.start (n - r.start)
   filled_first full = IsFilledRun-LaidOut o.laid 0 _ _ (inl (omega arith)) (omega arith) (omega arith)
@@ -136,21 +135,21 @@ module _ {X : Type 0} {r : Inside X} {v : RingState X} (o : Opened r v) {n : ℕ
         steps = grind arith;
       }
 
-  -- before the first item, or in the places of the last ones
-  module _ {run place : ℕ} (above : place ≡ (r.start + (n - 1)) % n) (fits : run ≤ place + 1) where
-    -- below the start, or below the region's end in its stead, lie the places of the last indexes
-    before : MayStartAt r.start (v.capacity - run) v.capacity (place + 1 - run) × (place + 1 ≤ v.capacity)
-    before = grind (arith, place_of_cases r.start (n - 1) n (omega arith))
+  -- in the places below `from`: before the first item, or in the places of the last ones
+  module _ {run from : ℕ} (at : MayStartAt r.start (n - run) n (from - run)) (fits : run ≤ from)
+      (within : from ≤ n) where
+    last : MayStartAt r.start (v.capacity - run) v.capacity (from - run)
+    last = rw all at at
 
-    pub empty_before : run ≤ n - r.len → IsEmptyRun r.slots.places (place + 1 - run) run
-    empty_before room = IsEmptyRun-from o.laid (v.capacity - run) _ _ (omega arith) before.0 (omega arith)
+    pub empty_before : run ≤ n - r.len → IsEmptyRun r.slots.places (from - run) run
+    empty_before room = IsEmptyRun-from o.laid (v.capacity - run) _ _ (omega arith) last (omega arith)
         (omega arith)
 
-    pub filled_last : r.len ≡ n → IsFilledRun r.slots.places (place + 1 - run) run
-    filled_last full = IsFilledRun-LaidOut o.laid (v.capacity - run) _ _ before.0 (omega arith) (omega arith)
+    pub filled_last : r.len ≡ n → IsFilledRun r.slots.places (from - run) run
+    filled_last full = IsFilledRun-LaidOut o.laid (v.capacity - run) _ _ last (omega arith) (omega arith)
 
     module _ {start : ℕ} (is : start ≡ (r.start + (n - run)) % n) (xs : List X) (new : Region X)
-        (came : (length xs ≡ run) × (new.places ≡ with_run (place + 1 - run) (reverse xs) r.slots.places)) where
+        (came : (length xs ≡ run) × (new.places ≡ with_run (from - run) (reverse xs) r.slots.places)) where
       down : start ≡ down_by (length xs) v.start v.capacity
       down = grind (arith, down_by-is run r.start n)
 
@@ -158,7 +157,7 @@ module _ {X : Type 0} {r : Inside X} {v : RingState X} (o : Opened r v) {n : ℕ
       laid : LaidOut v.capacity start (take v.capacity (reverse xs ++ v.items)) new.places
       laid = let many = length-reverse xs ∙ came.0 in let j = v.capacity - run in rw (came.1, is, all)
           (LaidOut-by (omega (arith, length-take v.capacity (reverse xs ++ v.items)))
-          (Holds-from (Holds-run (holds o.laid) j _ (reverse xs) before.0 (omega (arith, before.1)) (omega arith)) j
+          (Holds-from (Holds-run (holds o.laid) j _ (reverse xs) last (omega arith) (omega arith)) j
           (omega arith) (omega arith)
           (λ k lt. grind (arith, nat_tests, items, place_of_cases j k v.capacity (omega arith)))))
 

@@ -30,12 +30,19 @@ impl<T> Ring<T> {
         ensures goes { GoesOn I.can_next I.remaining elements.old elements.new result }
     {
         let capacity = self.slots.capacity();
+        let to_end = capacity - self.start;
         let mut slots = self.slots.moved_out();
         let mut ended = false;
-        while !ended && self.len < capacity {
-            let from = wrap_add(self.start, self.len, capacity);
-            let run = (capacity - self.len).min(capacity - from);
-            let (written, filled) = fill_up(slots, from, run, elements);
+        if self.len < to_end {
+            let run = to_end - self.len;
+            let (written, filled) = fill_up(slots, self.start + self.len, run, elements);
+            slots = written;
+            self.len += filled;
+            ended = filled < run;
+        }
+        if !ended && self.len < capacity {
+            let run = capacity - self.len;
+            let (written, filled) = fill_up(slots, self.len - to_end, run, elements);
             slots = written;
             self.len += filled;
             ended = filled < run;
@@ -63,10 +70,17 @@ impl<T> Ring<T> {
         let capacity = self.slots.capacity();
         let mut slots = self.slots.moved_out();
         let mut ended = false;
-        while !ended && self.len < capacity {
-            let from = wrap_add(self.start, capacity - 1, capacity) + 1;
-            let run = (capacity - self.len).min(from);
-            let (written, filled) = fill_down(slots, from, run, elements);
+        if self.start > 0 {
+            let run = (capacity - self.len).min(self.start);
+            let (written, filled) = fill_down(slots, self.start, run, elements);
+            slots = written;
+            self.start -= filled;
+            self.len += filled;
+            ended = filled < run;
+        }
+        if !ended && self.len < capacity {
+            let run = capacity - self.len;
+            let (written, filled) = fill_down(slots, capacity, run, elements);
             slots = written;
             self.start = wrap_add(self.start, capacity - filled, capacity);
             self.len += filled;
@@ -99,8 +113,8 @@ impl<T> Ring<T> {
             let run = capacity - self.start;
             let (written, displaced) = displace_up(slots, self.start, run, &mut elements);
             slots = written;
-            self.start = wrap_add(self.start, displaced, capacity);
             ended = displaced < run;
+            self.start = if ended { self.start + displaced } else { 0 };
         }
         let _nothing = replace(&mut self.slots, slots);
     }
@@ -125,7 +139,11 @@ impl<T> Ring<T> {
         let mut slots = self.slots.moved_out();
         let mut ended = false;
         while !ended {
-            let from = wrap_add(self.start, capacity - 1, capacity) + 1;
+            let from = if self.start == 0 {
+                capacity
+            } else {
+                self.start
+            };
             let (written, displaced) = displace_down(slots, from, from, &mut elements);
             slots = written;
             self.start = wrap_add(self.start, capacity - displaced, capacity);

@@ -1,9 +1,14 @@
-use Rattle.std.proofs.{Common.arith, lemmas.{Grind.common_steps, List.append-nil}}
+use Rattle.std.proofs.{
+  Common.{◌≡◌, ◌+◌, sym, arith},
+  Math.Nat.{mod-eq_of_lt, mod_self},
+  lemmas.{Grind.common_steps, List.append-nil},
+}
 use Rattle.arraydeque_ring.proofs.{
   fills.{Displaced.displaced_first-both, FromIterator.Ends-fills, Laying.{begun, more, filled_first, laid_first}},
   places.Opened.{opened, closed},
 }
 use Rattle.arraydeque_ring.proofs.ring.Ring.displace_first.Goals as goal
+use Rattle.arraydeque_ring.proofs.ring.Ring.displace_first.Goals.{then-ended, else-ended}
 
 pub loop-ended-init : goal.loop-ended-init
 loop-ended-init g c = begun (opened _ c.self.invariant c.self.view_is) c.capacity-capacity.ensures
@@ -18,7 +23,13 @@ loop-ended-preserved g c =
     let was = c.loop-ended.invariant in let done = c.displace_up-written.ensures in let now = done.filled in
     more was c.loop-ended-test.true now (λ some. let goes = done.goes some in (goes.0, λ _. goes.1))
     (displaced_first-both _) (laid_first was.so_far.holds was.all (omega arith)
-    (grind (arith, common_steps)) (omega arith) c.wrap_add-self-inside.ensures now.items now.holds done.steps)
+    (grind (arith, common_steps)) (omega arith) (elim c.if-ended.branch [
+      | then-ended w ↦ rw w.self-is (sym (mod-eq_of_lt (omega arith)))
+      | else-ended w ↦
+          let to_end : c.loop-ended.self-inside.start + c.displace_up-written.result.1 ≡ c.capacity-capacity.result =
+          omega arith in
+          rw (w.self-is, to_end) (sym (mod_self c.capacity-capacity.result))
+    ]) now.items now.holds done.steps)
 
 pub returns : goal.returns
 returns g c = rw c.replace-nothing.ensures.after

@@ -1,24 +1,40 @@
-use Rattle.std.proofs.{Common.arith, lemmas.{Grind.common_steps, List.take_all}}
+use Rattle.std.proofs.{
+  Common.{ℕ, ◌-◌, ◌≤◌, inl, inr, arith},
+  lemmas.{Grind.common_steps, List.take_all},
+}
 use Rattle.arraydeque_ring.proofs.{
   fills.{Displaced.displaced_last-both, FromIterator.Ends-fills, Laying.{begun, more, filled_last, laid_last}},
-  places.Opened.{opened, closed},
+  places.{Opened.{opened, closed}, Rotated.MayStartAt},
 }
+use Rattle.arraydeque_ring.proofs.ring.Ring.displace_last.Given.{Over}
 use Rattle.arraydeque_ring.proofs.ring.Ring.displace_last.Goals as goal
+use Rattle.arraydeque_ring.proofs.ring.Ring.displace_last.Goals.{Joined-self-eq0, then-self-eq0, else-self-eq0}
 
 pub loop-ended-init : goal.loop-ended-init
 loop-ended-init g c = begun (opened _ c.self.invariant c.self.view_is) c.capacity-capacity.ensures
     c.moved_out-slots.ensures c.requires.may (grind (arith, take_all))
 
+-- below the start, or below the region's end in its stead, are the places of the last indexes
+below : (g : Over) (c : Joined-self-eq0 g) (run : ℕ) → run ≤ c.if-self-eq0.from → let n = c.capacity-capacity.result in
+    MayStartAt c.loop-ended.self-inside.start (n - run) n (c.if-self-eq0.from - run)
+below g c run le = elim c.if-self-eq0.branch [
+  | then-self-eq0 w ↦ inl (omega arith)
+  | else-self-eq0 w ↦ inr (omega arith)
+]
+
 pub displace_down-written-requires-clause-filled : goal.displace_down-written-requires-clause-filled
-displace_down-written-requires-clause-filled g c = let was = c.loop-ended.invariant in
-    filled_last was.so_far.holds was.all (omega arith) c.wrap_add-from.ensures (omega arith)
+displace_down-written-requires-clause-filled g c =
+    let at = (goal.at.displace_down-written-requires-clause-filled g c).Joined-self-eq0 in
+    let was = c.loop-ended.invariant in
+    filled_last was.so_far.holds was.all (omega arith) (below g at _ (omega arith)) (omega arith) (omega arith)
     (grind (arith, common_steps))
 
 pub loop-ended-preserved : goal.loop-ended-preserved
 loop-ended-preserved g c =
+    let at = (goal.at.loop-ended-preserved g c).Joined-self-eq0 in
     let was = c.loop-ended.invariant in let done = c.displace_down-written.ensures in let now = done.filled in
     more was c.loop-ended-test.true now (λ some. let goes = done.goes some in (goes.0, λ _. goes.1))
-    (displaced_last-both _) (laid_last was.so_far.holds was.all (omega arith) c.wrap_add-from.ensures
+    (displaced_last-both _) (laid_last was.so_far.holds was.all (omega arith) (below g at _ (omega arith)) (omega arith)
     (omega arith) c.wrap_add-self-inside.ensures now.items _ now.holds (grind (arith, common_steps)) done.steps)
 
 pub returns : goal.returns

@@ -1,30 +1,108 @@
-use Rattle.std.proofs.{Common.{arith, reverse, rules}, lemmas.List.{length-append, length-reverse}}
-use Rattle.arraydeque_ring.proofs.{
-  fills.{FromIterator.Fills-as, InRows.filled_front-both, Laying.{begun, more, empty_before, laid_front}},
-  places.Opened.{opened, closed, items_within},
+use Rattle.std.proofs.{
+  Common.{◌≡◌, ◌-◌, ◌<◌, ◌≤◌, ◌∙◌, reverse, false, inl, inr, refl, arith},
+  lemmas.{Bool.Decides.nat_tests, List.{length-append, length-reverse}},
 }
+use Rattle.arraydeque_ring.proofs.{
+  fills.{
+    FromIterator.Fills-as,
+    InRows.{filled_front, filled_front-both},
+    Laying.{Laying, begun, more, empty_before, laid_front},
+  },
+  places.{Opened.{opened, closed, items_within}, Rotated.place_of_cases},
+}
+use Rattle.arraydeque_ring.proofs.ring.Ring.fill_front.Given.{Over}
 use Rattle.arraydeque_ring.proofs.ring.Ring.fill_front.Goals as goal
-
-pub loop-ended-init : goal.loop-ended-init
-loop-ended-init g c = begun (opened _ c.self.invariant c.self.view_is) c.capacity-capacity.ensures
-    c.moved_out-slots.ensures c.requires (grind arith)
+use Rattle.arraydeque_ring.proofs.ring.Ring.fill_front.Goals.{
+  After-drop-nothing,
+  Joined-self-gt0,
+  then-self-gt0,
+  else-self-gt0,
+  then-not-ended+then-self-capacity,
+  else-not-ended,
+  else-not-ended-via-then-not-ended+else-self-capacity,
+  else-not-ended-via-else-not-ended,
+}
 
 pub fill_down-written-requires-clause-empty : goal.fill_down-written-requires-clause-empty
-fill_down-written-requires-clause-empty g c = let was = c.loop-ended.invariant in
-    empty_before was.so_far.holds was.all (omega arith) c.wrap_add-from.ensures (omega arith) (omega arith)
+fill_down-written-requires-clause-empty g c =
+    let o = opened _ c.self.invariant c.self.view_is in
+    rw c.moved_out-slots.ensures.region (empty_before o (c.capacity-capacity.ensures ∙ o.laid.length_is) (omega arith)
+    (inr (omega arith)) (omega arith) (omega arith) (omega arith))
 
-pub loop-ended-preserved : goal.loop-ended-preserved
-loop-ended-preserved g c =
-    let was = c.loop-ended.invariant in let fill = c.fill_down-written.ensures in let now = fill.filled in
-    more was c.loop-ended-test.true now fill.goes (filled_front-both _)
-    (laid_front was.so_far.holds was.all (omega arith) c.wrap_add-from.ensures (omega arith)
-    c.wrap_add-self-inside.ensures now.items _ now.holds (omega arith) fill.steps)
+-- with the places below the start written
+module _ (g : Over) (c : Joined-self-gt0 g) where
+  first : Laying g.I.Iterator filled_front c.args.self.now c.args.elements.now c.if-self-gt0.elements
+      c.if-self-gt0.ended c.capacity-capacity.result c.if-self-gt0.self-inside c.if-self-gt0.slots
+  first =
+      let none = begun {it = g.I.Iterator} {word = filled_front} (opened _ c.self.invariant c.self.view_is)
+      c.capacity-capacity.ensures c.moved_out-slots.ensures c.requires (grind arith) in
+      elim c.if-self-gt0.branch [
+        | then-self-gt0 w ↦
+            let fill = w.fill_down-written.ensures in let now = fill.filled in
+            let n = c.capacity-capacity.result in
+            let down = place_of_cases c.self.inside.start (n - w.fill_down-written.result.1) n (omega arith) in
+            rw (w.elements-is, w.slots-is, w.ended-is, w.self-inside-is) (more none refl now fill.goes
+            (filled_front-both _) (laid_front none.so_far.holds none.all (omega arith) (inr (omega arith)) (omega arith)
+            (omega arith) (grind (arith, down)) now.items _ now.holds (omega arith) fill.steps))
+        | else-self-gt0 w ↦ rw (w.elements-is, w.slots-is, w.ended-is, w.self-inside-is) none
+      ]
 
-pub returns-clause-within : goal.returns-clause-within
-returns-clause-within g c = rw c.replace-nothing.ensures.after (search (rules, items_within))
+  -- now the first item is in place 0
+  all_below : c.if-self-gt0.ended ≡ false → c.if-self-gt0.self-inside.len < c.capacity-capacity.result
+      → c.if-self-gt0.self-inside.start ≡ 0
+  all_below on room = elim c.if-self-gt0.branch [
+    | then-self-gt0 w ↦ grind (arith, nat_tests, on, room, w.ended-is, w.self-inside-is)
+    | else-self-gt0 w ↦ rw w.self-inside-is (omega arith)
+  ]
+
+pub fill_down-written-requires-then-self-capacity-clause-empty :
+    goal.fill_down-written-requires-then-self-capacity-clause-empty
+fill_down-written-requires-then-self-capacity-clause-empty g c =
+    let at = (goal.at.fill_down-written-requires-then-self-capacity-clause-empty g c).Joined-self-gt0 in
+    let was = first g at in
+    let start = all_below g at c.if-not-ended.true c.if-self-capacity.true in
+    empty_before was.so_far.holds was.all (omega arith) (inl (omega arith)) (omega arith) (omega arith) (omega arith)
+
+-- and with those below the region's end
+module _ (g : Over) (c : After-drop-nothing g) where
+  last : Laying g.I.Iterator filled_front c.args.self.now c.args.elements.now c.if-not-ended.elements
+      c.if-not-ended.ended c.capacity-capacity.result c.if-not-ended.self-inside c.if-not-ended.slots
+  last =
+      let at = (goal.at.invariant_of-self g c).Joined-self-gt0 in
+      let was = first g at in
+      elim c.if-not-ended.branch [
+        | then-not-ended+then-self-capacity w ↦
+            let on = w.if-not-ended.true in
+            let start = all_below g at on w.if-self-capacity.true in
+            let fill = w.fill_down-written-then-self-capacity.ensures in let now = fill.filled in
+            rw (w.elements-is, w.slots-is, w.ended-is, w.self-inside-is) (more was on now fill.goes
+            (filled_front-both _) (laid_front was.so_far.holds was.all (omega arith) (inl (omega arith)) (omega arith)
+            (omega arith) w.wrap_add-self-inside.ensures now.items _ now.holds (omega arith) fill.steps))
+        | else-not-ended w ↦ rw (w.elements-is, w.slots-is, w.ended-is, w.self-inside-is) was
+      ]
+
+  full : c.if-not-ended.ended ≡ false → c.capacity-capacity.result ≤ c.if-not-ended.self-inside.len
+  full on = elim c.if-not-ended.branch [
+    | then-not-ended+then-self-capacity w ↦ grind (arith, nat_tests, on, w.ended-is, w.self-inside-is)
+    | else-not-ended w ↦ elim w.else-not-ended.branch [
+      | else-not-ended-via-then-not-ended+else-self-capacity x ↦ rw w.self-inside-is (omega arith)
+      | else-not-ended-via-else-not-ended x ↦ absurd (grind (arith, on, w.ended-is, x.if-not-ended.false))
+    ]
+  ]
+
+pub invariant_of-self : goal.invariant_of-self
+invariant_of-self g c = rw c.replace-nothing.ensures.after (last g c).kept
 
 pub returns-clause-filled : goal.returns-clause-filled
 returns-clause-filled g c =
-    let was = c.loop-ended.invariant.so_far in
-    let long = length-append (reverse was.items) c.args.self.now.items in let same = length-reverse was.items in
-    rw c.replace-nothing.ensures.after (Fills-as _ was _ _ (omega arith) (λ more. grind arith) (λ xs. closed))
+    let laid = last g c in let was = laid.so_far in let same = laid.all in
+    let long = length-append (reverse was.items) c.args.self.now.items in let as_long = length-reverse was.items in
+    rw c.replace-nothing.ensures.after (Fills-as _ was _ _ (omega arith)
+    (λ on. let all = full g c on in omega arith) (λ xs. closed))
+
+pub returns-clause-within : goal.returns-clause-within
+returns-clause-within g c = rw c.replace-nothing.ensures.after
+    (items_within record c.if-not-ended.self-inside { slots = c.if-not-ended.slots } (last g c).kept)
+
+pub returns-clause-goes : goal.returns-clause-goes
+returns-clause-goes g c = (last g c).goes
