@@ -1,14 +1,14 @@
 -- Two runs that are rotated or exchanged, read place by place: where what a place holds came from.
 use Rattle.std.{
   proofs.{
-    Common.{◌≡◌, ℕ, ◌+◌, ◌-◌, ◌<◌, ◌≤◌, List, length, get_or, nat_lt, if◌then◌else◌, Option, None, sym, ap, ◌∙◌, arith},
-    Common.{rules},
-    lemmas.{Bool.Decides.nat_tests, Grind.common_steps, List.{places, same_lists, length-set, Edits.swap_is}},
+    Common.{◌≡◌, ℕ, ◌+◌, ◌-◌, ◌<◌, ◌≤◌, List, length, get_or, set, nat_lt, if◌then◌else◌, Option, None, sym, ap},
+    Common.{◌∙◌, arith, rules},
+    lemmas.{Bool.Decides.nat_tests, Grind.common_steps, List.{places, same_lists, length-set, set_comm, Edits.swap_is}},
   },
   specs.Prelude.swap,
 }
 use Rattle.arraydeque_ring.{
-  specs.{Places.{held_at, IsFilled}, Gaps.run_rotated, Exchanged.runs_exchanged},
+  specs.{Places.{held_at, IsFilled, IsEmpty}, Gaps.run_rotated, Exchanged.runs_exchanged},
   proofs.moved.Flat.same_places,
 }
 
@@ -80,3 +80,21 @@ module _ {X : Type 0} (a b k : ℕ) (ps : List (Option X)) (before : a + (k + 1)
   runs_exchanged_more =
       swap-runs (a + k) (b + k) _ (omega arith) (omega (arith, length-runs_exchanged a b k ps))
       ∙ runs_exchanged_both a b ps k 1 before within
+
+  module _ (empty : held_at ps (a + k) ≡ None) where
+    still_empty : held_at (runs_exchanged a b k ps) (a + k) ≡ None
+    still_empty = get_or-runs_exchanged a b k ps (omega arith) (omega arith) (a + k)
+        ∙ ap (held_at ps) (grind arith) ∙ empty
+
+    pub next_empty : IsEmpty (runs_exchanged a b k ps) (a + k)
+    next_empty = (omega (arith, length-runs_exchanged a b k ps), still_empty)
+
+    -- and to move a value to an empty place is to exchange it with nothing
+    pub runs_moved_more : let now = runs_exchanged a b k ps in
+        set (set now (b + k) None) (a + k) (held_at now (b + k)) ≡ runs_exchanged a b (k + 1) ps
+    runs_moved_more =
+        let now = runs_exchanged a b k ps in
+        let long = length-runs_exchanged a b k ps (omega arith) (omega arith) in
+        set_comm now (b + k) (a + k) None (held_at now (b + k)) (λ same. omega arith)
+        ∙ ap (λ q. set (set now (a + k) (held_at now (b + k))) (b + k) q) (sym still_empty)
+        ∙ swap_is now (a + k) (b + k) None (omega arith) (omega arith) ∙ runs_exchanged_more

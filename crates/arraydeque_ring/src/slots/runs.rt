@@ -68,8 +68,9 @@ impl<T> Slots<T> {
         ensures steps { result.steps ≡ more_moves len self.steps }
     {
         let mut slots = self;
-        slots.move_first::<1>(dst, src, len, 0);
-        slots.count(StepKind::Move, len);
+        for k in 0..len {
+            slots.shift(dst + k, src + k);
+        }
         slots
     }
 

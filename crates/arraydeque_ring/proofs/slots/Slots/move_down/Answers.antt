@@ -1,34 +1,30 @@
-use Rattle.std.proofs.{
-  Common.{◌+◌, ◌-◌, length, refl, sym, ◌∙◌, arith},
-  Math.Nat.{mod-eq_of_lt},
-  lemmas.Bool.Decides.nat_tests,
-}
-use native.Mathlib.Numerals.{unary_clauses}
-use Rattle.arraydeque_ring.proofs.{
-  moved.Flat.{flat_at, length-moved, same_places},
-  places.{Held.{filled_in_run, empty_in_run}, Reads.{length-runs_exchanged, get_or-runs_exchanged}},
+use Rattle.std.proofs.Common.{sym, arith}
+use Rattle.arraydeque_ring.proofs.places.{
+  Reads.{runs_exchanged_none, runs_moved_more, next_empty, next_second},
+  Held.{filled_in_run, empty_in_run},
 }
 use Rattle.arraydeque_ring.proofs.slots.Slots.move_down.Goals as goal
 
-pub move_first-requires-clause-can : goal.move_first-requires-clause-can
-move_first-requires-clause-can g c = simp unary_clauses (record {
-  target = omega arith;
-  source = omega arith;
-  filled = λ k lt. rw (mod-eq_of_lt {n = c.args.src + k} {m = length c.args.self.places} (omega arith))
-      (filled_in_run _ _ _ k c.requires.filled lt);
-})
+pub loop-k-init : goal.loop-k-init
+loop-k-init g c = record {
+  places = sym (runs_exchanged_none c.args.dst c.args.src c.args.self.places (omega arith) (omega arith));
+  steps = grind arith;
+}
 
--- to move values to empty places is to exchange them with nothing
-pub returns-clause-places : goal.returns-clause-places
-returns-clause-places g c =
-    let dst = c.args.dst in
-    let src = c.args.src in
-    let len = c.args.len in
-    let ps = c.args.self.places in
-    let within = c.requires.filled.0 in
-    let long = length-runs_exchanged dst src len ps c.requires.apart within in
-    rw (c.count.ensures, c.move_first.ensures.all refl)
-    (simp unary_clauses (same_places _ _ (length-moved dst src len ps ∙ sym long) (λ x lt.
-    flat_at dst src len ps x c.requires.empty.0 within (omega arith)
-    ∙ grind (arith, nat_tests, empty_in_run ps dst len (x - src) c.requires.empty)
-    ∙ sym (get_or-runs_exchanged dst src len ps c.requires.apart within x))))
+pub shift-requires-clause-filled : goal.shift-requires-clause-filled
+shift-requires-clause-filled g c =
+    rw c.loop-k.invariant.places (next_second c.args.dst c.args.src c.loop-k.k _ (omega arith) (omega arith)
+    (filled_in_run _ _ _ _ c.requires.filled (omega arith)))
+
+pub shift-requires-clause-empty : goal.shift-requires-clause-empty
+shift-requires-clause-empty g c =
+    rw c.loop-k.invariant.places (next_empty c.args.dst c.args.src c.loop-k.k _ (omega arith) (omega arith)
+    (empty_in_run _ _ _ _ c.requires.empty (omega arith)))
+
+pub loop-k-preserved : goal.loop-k-preserved
+loop-k-preserved g c = record {
+  places = rw (c.shift.ensures.places, c.loop-k.invariant.places)
+      (runs_moved_more c.args.dst c.args.src c.loop-k.k c.args.self.places (omega arith) (omega arith)
+      (empty_in_run _ _ _ _ c.requires.empty (omega arith)));
+  steps = rw c.shift.ensures.steps (grind arith);
+}
