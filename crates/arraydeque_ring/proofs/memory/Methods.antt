@@ -98,9 +98,9 @@ module _ {M : Type 1} {𝓤 : Ura M} {𝓛 : Logic 𝓤} where
   beside {F} Δ first others = suffices ! (sep 𝓤 (sem 𝓛 F) (⋆ 𝓛 Δ)) (via 𝓤 (⋆ 𝓛 (‵ F ∷ Δ)) (push 𝓛 (‵ F) Δ) first.prf) $
       fsplit ! $ frame ! $ others
 
-  pub shows : (b : Bool) (F : Fml) (Γ : List (Item 𝓤)) → Sq 𝓛 (‵ F ∷ Γ) (prop (⋆ 𝓛 (shown b F Γ)))
-  shows true F Γ = done !
-  shows false F Γ = drop ! $ done !
+  pub is_shown : (b : Bool) (F : Fml) (Γ : List (Item 𝓤)) → Sq 𝓛 (‵ F ∷ Γ) (prop (⋆ 𝓛 (shown b F Γ)))
+  is_shown true F Γ = done !
+  is_shown false F Γ = drop ! $ done !
 
   module _ {m : ℕ} where
     -- one that ends in the call, shown at entry or not
@@ -120,7 +120,7 @@ module _ {M : Type 1} {𝓤 : Ura M} {𝓛 : Logic 𝓤} where
         told = λ vss are. let t = told κs a.0 vss.0 are.0 in let u = r.told vss.1 are.1 in
             ((t.0, u.0), λ i. (t.1 i, u.1 i));
         Had = λ t Γ. shown visible ((s.row κs).own_val a.0 (spell κs a.0 t.0)) (r.Had t.1 Γ);
-        has = λ t Γ. beside (r.Had t.1 Γ) (shows visible _ _) (r.has t.1 Γ);
+        has = λ t Γ. beside (r.Had t.1 Γ) (is_shown visible _ _) (r.has t.1 Γ);
         Lasts = r.Lasts;
         lasts = λ w. let ws = r.lasts w in ((rest ((s.row κs).exit k) a.0, ws.0), (tt, ws.1));
         Owed = r.Owed;
@@ -294,5 +294,5 @@ module _ (m : ℕ) (κs : Lfts (suc m)) where
   word_vals zero a = tt
   word_vals (suc n) a = (uint_vals w64 a.0, word_vals n a.1)
 
-  abbrev pub values : {X : Type 0} (n : ℕ) → MutBor X × Denots (usizes n) → List Val × Valss (usizes n)
-  values n a = (mut_vals a.0, word_vals n a.1)
+  abbrev pub machine_values : {X : Type 0} (n : ℕ) → MutBor X × Denots (usizes n) → List Val × Valss (usizes n)
+  machine_values n a = (mut_vals a.0, word_vals n a.1)

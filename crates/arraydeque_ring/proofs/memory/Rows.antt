@@ -83,8 +83,8 @@ module _ (E : El) {M : Type 1} {𝓤 : Ura M} (𝓛 : Logic 𝓤) (b : ℕ) wher
 
 -- the n places from the i-th on, as an array of values, and as room for one
 module _ (E : El) (b o i n : ℕ) where
-  abbrev Values : List (el_x E) → Fml
-  Values xs = part_at (Array (R E) n) full_share xs b (i * item_size E + o)
+  abbrev Filled : List (el_x E) → Fml
+  Filled xs = part_at (Array (R E) n) full_share xs b (i * item_size E + o)
 
   abbrev Room : Fml
   Room = froom (ty_array (elτ E) n) b (i * item_size E + o)
@@ -93,17 +93,17 @@ module _ (E : El) (b o i n : ℕ) where
 module _ (E : El) {M : Type 1} {𝓤 : Ura M} {𝓛 : Logic 𝓤} {K : Type 0} {Γ : List (Item 𝓤)} {G : Goal 𝓤 𝓛.H} (t : K)
     (b o : ℕ) (ps : List (Place E)) (i n : ℕ) where
   pub array_out : (filled : IsFilledRun ps i n)
-      → Step K 𝓛 (‵ (Values E b o i n filled.1.0) ∷ ‵ (Around E 𝓛 b o ps i n) ∷ Γ) G (‵ (Row E 𝓛 b o ps) ∷ Γ) G
+      → Step K 𝓛 (‵ (Filled E b o i n filled.1.0) ∷ ‵ (Around E 𝓛 b o ps i n) ∷ Γ) G (‵ (Row E 𝓛 b o ps) ∷ Γ) G
   array_out filled = let xs = filled.1.0 in let at = i * item_size E + o in step (λ s.
       use1 𝓛 (‵ (Row E 𝓛 b at (take n (drop_list i ps))) ⊛ ‵ (Around E 𝓛 b o ps i n))
       (run_out E 𝓛 b o ps i n filled.0) $ split t $
       rewrite t 0 (λ F. ‵ F) (ap (Row E 𝓛 b at) filled.1.1 ∙ same_row E 𝓛 b xs at) refl $
-      use1 𝓛 (‵ (Values E b o i n xs))
+      use1 𝓛 (‵ (Filled E b o i n xs))
       (arrays.whole (Cells E 𝓛 b) 𝓛 full_share n xs b at (length_filled ps i n filled)) $ s)
 
   pub array_in : i + n ≤ length ps → (xs : List (el_x E)) {qs : List (Place E)} → qs ≡ map Some xs
       → Step K 𝓛 (‵ (Row E 𝓛 b o (take i ps ++ (qs ++ drop_list (i + n) ps))) ∷ Γ) G
-      (‵ (Values E b o i n xs) ∷ ‵ (Around E 𝓛 b o ps i n) ∷ Γ) G
+      (‵ (Filled E b o i n xs) ∷ ‵ (Around E 𝓛 b o ps i n) ∷ Γ) G
   array_in within xs {qs} e = let at = i * item_size E + o in step (λ s.
       use1 𝓛 (given (length xs ≡ n) (‵ (row (R E) full_share xs b at)))
       (arrays.apart (Cells E 𝓛 b) 𝓛 full_share n xs b at) $ learn t (λ long.

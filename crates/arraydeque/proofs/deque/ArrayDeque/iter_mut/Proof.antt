@@ -3,7 +3,7 @@ use Rattle.arraydeque_ring.{
   proofs.{
     memory.{
       Called.{calls_met, first_fact, knows},
-      Methods.{passing_on, spent, values},
+      Methods.{passing_on, spent, machine_values},
       Kit.{refl, sym, ap, ◌∙◌, [], ◌∷◌, id⊢, tables, ‵, raw, ◌⊛◌, ◌$◌, !, move, keep, use1, use2, split, join, frame},
       Kit.{rewrite, fsplit, fjoin, suffices, done, addr, stop, no_more, and_then, returns, alloc_all, pass_all},
       Kit.{free_all, look_at, get, through, sets, lands_as, says, nothing, heard, param_laws, RattleType, El, R, el_x},
@@ -41,7 +41,7 @@ iter_mut_spec 𝓤 𝓛 𝓜 𝓡 wired X N B L fits LB members dict dict_met =
     sets ! (addr ! (through ! refl (stop !))) refl (tt, tt) $
     calls_met 𝓛 ! 𝓜 𝓣 (g.ended X C B members dict) (g.clauses X C B members dict 𝓛 𝓜.mem 𝓡.returns)
     (met 𝓤 𝓛 𝓜 𝓡 (code.calls-arraydeque::deque::ArrayDeque::lend 𝓡.env wired) X N B L fits LB members dict dict_met)
-    ((κs, qs, bounds, a, values 3 κs 0 a), tt) (id⊢ 𝓤 _) (and_then ! (get ! refl) (no_more !)) (loan_lawful E)
+    ((κs, qs, bounds, a, machine_values 3 κs 0 a), tt) (id⊢ 𝓤 _) (and_then ! (get ! refl) (no_more !)) (loan_lawful E)
     (λ v it ws typed. lands_as ! refl refl typed.0 $ move ! (1 ∷ []) $
     use1 𝓛 (raw (OfTwo 𝓛 κs qs) ⊛ raw (Others 𝓛 κs qs)) (set_apart 𝓛 κs qs) $ split ! $ move ! (2 ∷ []) $
     -- [the loan; two tokens; the others; what `lend` says]

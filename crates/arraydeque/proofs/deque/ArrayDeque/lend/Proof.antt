@@ -3,7 +3,7 @@ use Rattle.arraydeque_ring.{
   proofs.{
     memory.{
       Called.{calls_met, first_fact, knows},
-      Methods.{method, spent, values},
+      Methods.{method, spent, machine_values},
       Kit.{◌≡◌, refl, ap, ◌∙◌, List, [], ◌∷◌, ◌++◌, ℕ, ◌+◌, ◌≤◌, arith, length, full_share, id⊢, Share, flft, tables},
       Kit.{‵, raw, ◌⊛◌, some, ◌$◌, !, move, keep, use1, use2, split, split3, join, pick, frame, fsplit, fjoin},
       Kit.{suffices, done, addr, stop, fld, no_more, and_then, returns, alloc_all, pass_all, free_all, look_at, get},
@@ -64,7 +64,7 @@ lend_spec 𝓤 𝓛 𝓜 𝓡 wired X N B L fits LB members dict dict_met =
     nothing ! $ knows ! lives $ join ! $
     calls_met 𝓛 ! 𝓜 𝓣 (g.ended X) (g.clauses X 𝓛 𝓜.mem 𝓡.returns)
     (met 𝓤 𝓛 𝓜 𝓡 (code.calls-arraydeque_ring::ring::Ring::lend 𝓡.env wired) X L)
-    ((Two κs, (r, (q₁, tt)), (bounds.0, tt), (lent, tt), values 1 (Two κs) 0 (lent, tt)), tt) (id⊢ 𝓤 _)
+    ((Two κs, (r, (q₁, tt)), (bounds.0, tt), (lent, tt), machine_values 1 (Two κs) 0 (lent, tt)), tt) (id⊢ 𝓤 _)
     (and_then ! (get ! refl) (no_more !)) (loan_lawful E) (λ v it ws typed. lands_as ! refl refl typed.0 $
     let α : NamedLft = named_lft 2 0 tt (Two κs) in let It = loan.the_row α (R E) in
     move ! (2 ∷ []) $ use1 𝓛 (‵ (ring.lends_loan (R E) lent it) ⊛ raw _) (id⊢ 𝓤 _) $

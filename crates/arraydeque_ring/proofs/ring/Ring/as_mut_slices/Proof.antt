@@ -5,7 +5,7 @@ use Rattle.arraydeque_ring.{
       Kit.{fact, sep, by, emp, refl, [], ◌∷◌, ◌++◌, id⊢, tables, ◌$◌, !, move, join, frame, suffices, addr, stop},
       Kit.{no_more, and_then, returns, alloc_all, pass_all, free_all, look_at, get, through, sets, lands_as, mem},
       Kit.{nothing, El, R, Array, both_by},
-      Methods.{passing_on, spent, values},
+      Methods.{passing_on, spent, machine_values},
       Called.{calls_met, first_fact, knows},
     },
     loans.{Lending.rewritten-twice, Made.loan_lawful, Names.followed_both, Rings.Rr, Slices.in_slices},
@@ -32,7 +32,7 @@ as_mut_slices_spec 𝓤 𝓛 𝓜 𝓡 wired X L =
     sets ! (addr ! (through ! refl (stop !))) refl (tt, tt) $
     calls_met 𝓛 ! 𝓜 𝓣 (g.ended X) (g.clauses X 𝓛 𝓜.mem 𝓡.returns)
     (met 𝓤 𝓛 𝓜 𝓡 (code.calls-arraydeque_ring::ring::Ring::lend 𝓡.env wired) X L)
-    ((κs, qs, bounds, a, values 1 κs 0 a), tt) (id⊢ 𝓤 _) (and_then ! (get ! refl) (no_more !)) (loan_lawful E)
+    ((κs, qs, bounds, a, machine_values 1 κs 0 a), tt) (id⊢ 𝓤 _) (and_then ! (get ! refl) (no_more !)) (loan_lawful E)
     (λ v it ws it_typed. lands_as ! refl refl it_typed.0 $
     in_slices 𝓛 𝓜 𝓡 E κs !
     (into_met 𝓤 𝓛 𝓜 𝓡 (code.calls-arraydeque_ring::slots::loan::Loan::into_slices 𝓡.env wired) X L) qs bounds lives it v

@@ -8,7 +8,7 @@ use Rattle.arraydeque_ring.{
       Kit.{free_all, look_at, get, through, sets, lands_as, usize, mem, part_at, says_two, heard, El, R, el_x, after₂},
       Kit.{Array, both_by, MutBor, named_lft, pure_i},
       Regions.{Sr, Seen},
-      Methods.{method, spent, values},
+      Methods.{method, spent, machine_values},
       Called.{calls_met, first_fact, knows},
     },
     loans.{
@@ -65,7 +65,7 @@ lend_spec 𝓤 𝓛 𝓜 𝓡 wired X L =
     move ! (3 ∷ []) $ ages ! (λ age. move ! (1 ∷ []) $ part_lent ! tt (Sr E) age κ x.slots rb (ro + 0) (λ δ.
     let lent : MutBor (Seen E) = record { ref_ptr = (rb, ro + 0); ghost_name = δ; now = x.slots } in
     let words : ℕ × (ℕ × Unit {0}) = (x.start, (x.len, tt)) in
-    let vals = values 1 κs 2 (lent, words) in
+    let vals = machine_values 1 κs 2 (lent, words) in
     pure_i ! (owns (usize ∷ usize ∷ []) words vals.1) _ ((refl, start_ok.1.fits), ((refl, len_ok.1.fits), tt)) $
     -- [the words; the lent slots;
     -- the right; the open borrow; the other fields; the way back; obs γ; auth γ; half its token; the others]

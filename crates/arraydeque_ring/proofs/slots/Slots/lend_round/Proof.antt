@@ -7,7 +7,7 @@ use Rattle.arraydeque_ring.{
       Kit.{no_more, whole, sub, look_in, only, and_then, returns, alloc_all, pass_all, free_all, look_at, get, through},
       Kit.{sets, lands_as, usize, uint_vals, mut_vals, nothing, heard, El, both_by, pure_i},
       Regions.{Sr, slots_open, slots_close},
-      Methods.{method, spent, values},
+      Methods.{method, spent, machine_values},
       Called.{Called, calls_met, first_fact, knows},
     },
     loans.Made.loan_lawful,
@@ -58,7 +58,7 @@ lend_round_spec 𝓤 𝓛 𝓜 𝓡 wired X L =
     sets ! (bin ! (get ! refl) (get ! refl) (omega arith)) refl (tt, record { fits = fr }) $
     feq_i ! _ (mut_vals a.0) _ refl $ fjoin3 ! $
     let words : ℕ × (ℕ × (ℕ × (ℕ × Unit {0}))) = (start, (cut, (0, (rest, tt)))) in
-    let vals = values 1 κs 4 (a.0, words) in
+    let vals = machine_values 1 κs 4 (a.0, words) in
     pure_i ! (owns (usize ∷ usize ∷ usize ∷ usize ∷ []) words vals.1) _
     ((refl, typed.0.1.fits), ((refl, fc), ((refl, lit< tt), ((refl, fr), tt)))) $
     -- [the words; the borrow; its token; the others]

@@ -6,7 +6,7 @@ use Rattle.arraydeque_ring.{
       Kit.{and_then, returns, alloc_all, pass_all, free_all, look_at, get, through, sets, lands_as, mem, nothing},
       Kit.{heard, El, R, Array, both_by},
       Regions.{Sr},
-      Methods.{passing_on, spent, values},
+      Methods.{passing_on, spent, machine_values},
       Called.{calls_met, first_fact, knows},
     },
     loans.{Made.loan_lawful, Names.followed_both, Slices.in_slices},
@@ -33,7 +33,7 @@ two_slices_mut_spec 𝓤 𝓛 𝓜 𝓡 wired X L =
     sets ! (addr ! (through ! refl (stop !))) refl (tt, tt) $
     calls_met 𝓛 ! 𝓜 𝓣 (g.ended X) (g.clauses X 𝓛 𝓜.mem 𝓡.returns)
     (met 𝓤 𝓛 𝓜 𝓡 (code.calls-arraydeque_ring::slots::Slots::lend_two 𝓡.env wired) X L)
-    ((κs, qs, bounds, arg, values 1 κs 4 arg), tt) (id⊢ 𝓤 _) (and_then ! (get ! refl) (and_then ! (get ! refl)
+    ((κs, qs, bounds, arg, machine_values 1 κs 4 arg), tt) (id⊢ 𝓤 _) (and_then ! (get ! refl) (and_then ! (get ! refl)
     (and_then ! (get ! refl) (and_then ! (get ! refl) (and_then ! (get ! refl) (no_more !)))))) (loan_lawful E)
     (λ v it ws it_typed. lands_as ! refl refl it_typed.0 $
     in_slices 𝓛 𝓜 𝓡 E κs !
