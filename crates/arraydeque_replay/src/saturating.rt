@@ -1,4 +1,7 @@
 //! The calls that the policy `Saturating` has alone, or in its own way.
+//!
+//! Each policy has a file, and each kind of items an `impl`, though they are alike: the gate
+//! refuses a macro that writes an `impl`.
 use crate::calls::{list_of, slice_of, told};
 use crate::items::{Alive, Item, counted};
 use crate::script::{Call, folded, refused};

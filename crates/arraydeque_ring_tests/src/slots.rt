@@ -3,7 +3,9 @@ use crate::bounds::{lent, run_lent};
 use arraydeque_ring::slots::Slots;
 use std::test::Fail;
 
-/// Each call of a region but `two_slices_mut`: only `new` asks for memory.
+/// Each call of a region but `two_slices_mut`: only `new` asks for memory. That one is called on
+/// empty runs alone (in `capacities`): after values were lent by such a pair, no test could show
+/// that every place is empty at the end, as the region's drop requires.
 #[test]
 fn calls_of_a_region_1_request_4_bytes(rt: HostRuntime) -> Result<(), Fail> {
     let mut slots = Slots::<u8>::new(rt.alloc(), 4)?;

@@ -26,6 +26,9 @@ impl<T, const CAP: usize, B: Behavior> ArrayDeque<T, CAP, B> {
         ensures value { result ≡ self.now.items }
         ensures within { length self.now.items ≤ CAP }
     {
+        // No clause speaks of all calls of the iterator, as one of `drain` does: with it in reach
+        // the prover's search misses what a plain loop over the iterator keeps.
+
         // This call makes it known that the two slices fit the capacity.
         let _len = self.len();
         let (first, second) = self.as_slices();

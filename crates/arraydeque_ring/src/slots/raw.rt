@@ -1,6 +1,7 @@
 //! The raw memory of a region: the one file with pointers.
 //!
-//! No leaf counts a step, but for `lend_two`, which counts its two lends.
+//! A leaf is a function of this file: it touches the memory, and its callers know its contract
+//! alone. No leaf counts a step, but for `lend_two`, which counts its two lends.
 ghost use Rattle.std.specs.Prelude.{◌≡◌, ◌+◌, ◌*◌, ◌^◌, ◌<◌, ◌≤◌, length, take, drop, slice_set, Some, None, IfOk};
 ghost use Rattle.std.specs.Borrow.{sem};
 ghost use Rattle.std.specs.List.{splice};
