@@ -38,7 +38,13 @@ fn writes<T>(ring: &mut Ring<T>) -> bool {
     ring.linearize();
     let (first, second) = ring.as_mut_slices();
     let is_cut = (first.len(), second.len()) == (2, 0);
-    is_cut && len_in_one_piece(ring) == 2 && ring.get_mut(1).is_some()
+    is_cut && len_lent(ring) == 2 && len_in_one_piece(ring) == 2 && ring.get_mut(1).is_some()
+}
+
+/// How many items the first slice of a loan of all has.
+fn len_lent<T>(ring: &mut Ring<T>) -> usize {
+    let (first, _second) = ring.lend_items().into_slices();
+    first.len()
 }
 
 /// How many items one slice lends.

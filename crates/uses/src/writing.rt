@@ -1,9 +1,10 @@
-//! Callers of what a deque lends for writing, proved with no proof file: by the deque's contracts
+//! Callers of what a deque or a ring lends for writing, proved with no proof file: by its contracts
 //! alone each knows the length and the start afterwards, whatever it wrote.
 ghost use Rattle.std.specs.Prelude.{◌≡◌, ◌+◌, ◌-◌, ◌<◌, length};
 
 use arraydeque::behavior::Behavior;
 use arraydeque::{ArrayDeque, CapacityError, IterMut, Saturating, Wrapping};
+use arraydeque_ring::ring::Ring;
 
 /// Writes over each item.
 pub fn fill<T: Copy + Drop, const CAP: usize, B: Behavior>(deque: &mut ArrayDeque<T, CAP, B>, x: T)
@@ -139,4 +140,20 @@ pub fn wipe_and_pop<const CAP: usize, B: Behavior>(
 {
     wipe(deque.iter_mut());
     deque.pop_front()
+}
+
+/// Writes over the first item of each of a ring's two slices, and returns how many items it has.
+pub fn write_ring_slices(ring: &mut Ring<i64>) -> usize
+    ensures len { length ring.new.items ≡ length ring.old.items }
+    ensures start { ring.new.start ≡ ring.old.start }
+    ensures result { result ≡ length ring.old.items }
+{
+    let (front, back) = ring.lend_items().into_slices();
+    if let Some(first) = front.first_mut() {
+        *first = 1;
+    }
+    if let Some(first) = back.first_mut() {
+        *first = 2;
+    }
+    ring.len()
 }

@@ -1,10 +1,11 @@
 //! What is written over items that wrap, or that don't.
 use arraydeque::{ArrayDeque, Wrapping};
+use arraydeque_ring::ring::Ring;
 use arraydeque_samples::build::{deque_at, holds};
 use std::test::Fail;
 use uses::writing::{
     count_in_slices, fill, fill_by_hand, fill_from_the_back, fill_until, fill_walked, wipe_and_pop,
-    write_ends_and_push, write_slices_and_push,
+    write_ends_and_push, write_ring_slices, write_slices_and_push,
 };
 
 #[test]
@@ -65,6 +66,26 @@ fn wiped_items_are_zeros(rt: HostRuntime) -> Result<(), Fail> {
                 "start {start}"
             );
         }
+    }
+    Ok(())
+}
+
+#[test]
+fn each_slice_of_a_ring_is_written(rt: HostRuntime) -> Result<(), Fail> {
+    for (behind, ahead, left) in [
+        (
+            [8, 9].as_slice(),
+            [].as_slice(),
+            ([1, 9].as_slice(), [].as_slice()),
+        ),
+        (&[8], &[9], (&[1], &[2])),
+        (&[], &[], (&[], &[])),
+    ] {
+        let mut ring = Ring::new(rt.alloc(), 3)?;
+        ring.fill_back(&mut behind.iter().copied());
+        ring.fill_front(&mut ahead.iter().copied());
+        let written = write_ring_slices(&mut ring);
+        assert!(rt; written == behind.len() + ahead.len() && ring.as_slices() == left);
     }
     Ok(())
 }

@@ -4,7 +4,7 @@ ghost use Rattle.std.specs.List.{refill};
 ghost use Rattle.std.specs.Borrow.{sem};
 ghost use Rattle.arraydeque_ring.specs.Loans.{remaining};
 ghost use Rattle.arraydeque_ring.specs.Ring.{IsInOnePiece};
-ghost use Rattle.arraydeque_ring.specs.RingLends.{lends_list, lends_slices, lends_loan};
+ghost use Rattle.arraydeque_ring.specs.RingLends.{lends_items, lends_list, lends_slices, lends_loan};
 
 use super::Ring;
 use crate::slots::loan::Loan;
@@ -49,8 +49,8 @@ impl<T> Ring<T> {
     /// past it.
     ///
     /// Whatever is written, there are as many items as before, and they start where they did. A
-    /// caller whose proof needs that writes `lend().into_slices()`: the prover follows the one name
-    /// of that loan, and not a pair.
+    /// caller whose proof needs that writes `lend_items().into_slices()`: the prover follows the one
+    /// name of that loan, and not a pair.
     #[inline]
     pub fn as_mut_slices(&mut self) -> (&mut [T], &mut [T])
         ensures* writes_back { sem 𝓛 (lends_slices T.row self.entry result) }
@@ -61,7 +61,8 @@ impl<T> Ring<T> {
     }
 
     /// The items for writing, as one loan of two slices: its clause says what
-    /// [`Ring::as_mut_slices`] says, and that the ring follows the loan's name.
+    /// [`Ring::as_mut_slices`] says, and that the ring follows the loan's name. A caller of this one
+    /// is proved by hand; [`Ring::lend_items`] is for all others.
     pub fn lend(&mut self) -> Loan<'_, T>
         ensures* writes_back { sem 𝓛 (lends_loan T.row self.entry result) }
         ensures value { remaining result ≡ self.old.items }
@@ -71,5 +72,26 @@ impl<T> Ring<T> {
         let len = self.len;
         let slots = &mut self.slots;
         slots.lend_round(start, len)
+    }
+
+    /// The items for writing, as one loan of two slices.
+    ///
+    /// Whatever is written, there are as many items as before, and they start where they did.
+    ///
+    /// ```
+    /// let mut ring = Ring::<i64>::new(alloc, 3)?;
+    /// assert!(rt; ring.fill_back(&mut [1, 2].into_iter()));
+    /// let (first, second) = ring.lend_items().into_slices();
+    /// first.fill(7);
+    /// second.fill(7);
+    /// assert!(rt; ring.len() == 2 && ring.pop_front() == Some(7));
+    /// ```
+    #[inline]
+    pub fn lend_items(&mut self) -> Loan<'_, T>
+        ensures* writes_back { sem 𝓛 (lends_items T.row self.entry result.name) }
+        ensures value { remaining result ≡ self.old.items }
+        ensures one_piece { IsInOnePiece self.old → result.second.now ≡ [] }
+    {
+        self.lend()
     }
 }

@@ -1,0 +1,39 @@
+-- `lend_items` is `lend`, of which it says what the loan's name tells. Assumes `Logic`.
+use Rattle.arraydeque_ring.{
+  proofs.{
+    memory.{
+      Kit.{emp, refl, [], ◌∷◌, id⊢, tables, ‵, raw, ◌⊛◌, ◌$◌, !, move, keep, use1, split, join, frame, fsplit},
+      Kit.{suffices, done, addr, stop, no_more, and_then, returns, alloc_all, pass_all, free_all, look_at, get},
+      Kit.{through, sets, lands_as, says_two, nothing, heard, El, R},
+      Methods.{passing_on, spent, machine_values},
+      Called.{calls_met, first_fact, knows},
+    },
+    loans.{Made.loan_lawful, Rings.Rr},
+    ring.Ring.lend.Met.met,
+  },
+  specs.RingLends.{lends_loan},
+}
+use Rattle.arraydeque_ring.specs.contracts.ring.Ring.lend as g
+use Rattle.arraydeque_ring.specs.contracts.ring.Ring.lend_items as f
+use Rattle.arraydeque_ring.proofs.ring.Ring.lend_items.Statement as stated
+use Rattle.arraydeque_ring.proofs.ring.Ring.lend_items.Code as code
+
+pub lend_items_spec : {M : Type 1} → stated.statement M
+lend_items_spec 𝓤 𝓛 𝓜 𝓡 wired X L =
+    let E : El = record { row = X; laws = L } in
+    let 𝓣 = tables 𝓤 𝓛.H 𝓜 𝓡 𝓡.env in
+    passing_on 1 0 (Rr E) 𝓛 (spent 1 𝓛 _) 𝓜 𝓡 _ _ (f.clauses X 𝓛 𝓜.mem 𝓡.returns) _ _
+    (code.unfolded 𝓤 𝓛.H 𝓜 𝓡 wired (X, tt)) (λ κs qs bounds a _ fit post ends.
+    move ! (1 ∷ []) $ first_fact ! {P = emp 𝓤} (λ lives. knows ! lives $ join ! $
+    alloc_all ! (λ l. pass_all ! refl ((tt, tt), fit) $
+    sets ! (addr ! (through ! refl (stop !))) refl (tt, tt) $
+    calls_met 𝓛 ! 𝓜 𝓣 (g.ended X) (g.clauses X 𝓛 𝓜.mem 𝓡.returns)
+    (met 𝓤 𝓛 𝓜 𝓡 (code.calls-arraydeque_ring::ring::Ring::lend 𝓡.env wired) X L)
+    ((κs, qs, bounds, a, machine_values 1 κs 0 a), tt) (id⊢ 𝓤 _) (and_then ! (get ! refl) (no_more !)) (loan_lawful E)
+    (λ v it ws it_typed. lands_as ! refl refl it_typed.0 $
+    move ! (2 ∷ []) $ use1 𝓛 (‵ (lends_loan (R E) a.0 it) ⊛ raw _) (id⊢ 𝓤 _) $ split ! $
+    move ! (1 ∷ []) $ first_fact ! (λ value. heard ! _ (λ piece. fsplit ! $
+    -- [what the ring follows; what the loan's name follows; the loan; the tokens]
+    returns ! (look_at ! 0 refl) $ free_all ! refl $ keep ! (2 ∷ 3 ∷ 0 ∷ []) $
+    suffices ! _ (ends v it tt) $ nothing ! $ frame ! $ frame ! $ frame ! $
+    says_two ! (value, piece) $ done !))))))
