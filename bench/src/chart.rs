@@ -1,5 +1,5 @@
 //! The figures as a picture: a line for each workload, with our time as a part of either peer's.
-use crate::figures::{Span, Summary};
+use crate::tables::{Span, Summary};
 use std::fmt::Write;
 use std::ops::RangeInclusive;
 
@@ -104,7 +104,7 @@ fn put_row(svg: &mut String, scale: &Scale, middle: f64, summary: &Summary) {
         middle + 4.0,
         summary.name
     );
-    for (peer, Span { mean, least, greatest }) in summary.beside.iter().enumerate() {
+    for (peer, Span { mean, least, greatest, .. }) in summary.beside.iter().enumerate() {
         let (class, _) = PEERS[peer];
         let y = middle - 2.5 + 5.0 * peer as f64;
         let (from, to) = (scale.along(*least), scale.along(*greatest));

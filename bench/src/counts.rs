@@ -1,6 +1,7 @@
 //! Instructions of a round, as valgrind counts them.
 use crate::all_workloads;
 use crate::figures::{self, Figures};
+use crate::times;
 use std::hint::black_box;
 use std::process::Command;
 
@@ -76,10 +77,13 @@ pub fn count(wanted: &str) {
 }
 
 /// Counts the rows that take long beside the better peer, and writes the counts.
-pub fn count_slow() -> std::io::Result<()> {
-    let slow = figures::slow()?;
-    let counts = slow.iter().map(|name| Figures { name: name.clone(), columns: counted(name) });
-    figures::save(figures::COUNTS, &counts.collect::<Vec<_>>())
+pub fn count_long() -> std::io::Result<()> {
+    let mut rows = figures::load(figures::TIMES)?;
+    rows.retain(Figures::is_long);
+    for row in &mut rows {
+        row.columns = counted(&row.name);
+    }
+    std::fs::write(figures::COUNTS, times::csv(&rows))
 }
 
 /// Prints the instructions of a round of ours at four capacities.

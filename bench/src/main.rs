@@ -1,9 +1,9 @@
 //! Times the proved deque beside the Rust crate arraydeque and std's `VecDeque`, all in one process.
-mod chart;
 mod counts;
 mod figures;
 mod items;
 mod peers;
+mod times;
 mod works;
 
 use figures::Figures;
@@ -69,8 +69,8 @@ macro_rules! of_all_items {
     };
 }
 
-/// Those that make the first mean.
-fn first_workloads() -> Vec<Workload> {
+/// The calls that most users make, at a large capacity.
+fn common_workloads() -> Vec<Workload> {
     let mut list = Vec::new();
     of_all_items!(list, queue, arraydeque_bench_queue, (8, u64, 64), (8, u64, 1000000));
     of_all_items!(list, ends, arraydeque_bench_ends);
@@ -133,7 +133,7 @@ macro_rules! of_pieces {
     };
 }
 
-/// The first workloads again at other capacities, and what else users do.
+/// The same at other capacities, and what else users do.
 fn further_workloads() -> Vec<Workload> {
     let mut list = Vec::new();
     workloads!(list, queue, arraydeque_bench_queue, true, (8, u64, 16));
@@ -258,14 +258,12 @@ fn measured(workload: &Workload, repetitions: usize) -> Figures {
     Figures { name: workload.name.clone(), columns: nanoseconds }
 }
 
-/// Measures, and keeps the least of what was measured at the shifts so far. The last prints and writes the figures.
+/// Measures, and keeps the least of what was measured at the shifts so far. The last prints and writes the times.
 ///
 /// The shift is read when the program runs: the code is not to depend on it.
 fn measure(wanted: &str, repetitions: usize, writes: bool) -> std::io::Result<()> {
-    let (first, further) = (first_workloads(), further_workloads());
-    let fits = |workload: &Workload| workload.name.contains(wanted);
-    let count_first = first.iter().filter(|workload| fits(workload)).count();
-    let workloads: Vec<Workload> = first.into_iter().chain(further).filter(fits).collect();
+    let mut workloads = all_workloads();
+    workloads.retain(|workload| workload.name.contains(wanted));
     let is_watched = std::io::stderr().is_terminal();
     let shift = std::env::var("ARRAYDEQUE_BENCH_SHIFT").unwrap_or_default();
     let mut all = Vec::new();
@@ -279,19 +277,19 @@ fn measure(wanted: &str, repetitions: usize, writes: bool) -> std::io::Result<()
         }
     }
     if shift != "0" {
-        figures::keep_least(&mut all)?;
+        times::keep_least(&mut all)?;
     }
     if shift != LAST_SHIFT {
-        return figures::keep(&all);
+        return times::keep(&all);
     }
-    println!("{}", figures::HEAD);
-    all.iter().for_each(|figures| println!("{}", figures.line()));
-    print!("{}", figures::mean_lines(&all, count_first));
-    if writes && wanted.is_empty() { figures::write(&all, count_first) } else { Ok(()) }
+    println!("{}", times::HEAD);
+    all.iter().for_each(|row| println!("{}", times::line(row)));
+    println!("{}", times::mean_line(&all));
+    if writes && wanted.is_empty() { std::fs::write(figures::TIMES, times::csv(&all)) } else { Ok(()) }
 }
 
 fn all_workloads() -> Vec<Workload> {
-    first_workloads().into_iter().chain(further_workloads()).collect()
+    common_workloads().into_iter().chain(further_workloads()).collect()
 }
 
 fn main() {
@@ -304,18 +302,16 @@ fn main() {
 fn work(words: &[String]) {
     let word = |place: usize| words.get(place).map_or("", String::as_str);
     match word(0) {
-        "--draw" => figures::draw(first_workloads().len()).expect("figures.csv can be read, and what is drawn be written"),
         "--scale" => counts::scale(),
         "--count" if words.len() == 1 => {
-            let counted = counts::count_slow().and_then(|()| figures::draw(first_workloads().len()));
-            counted.expect("figures.csv can be read, and what was counted be written");
+            counts::count_long().expect("figures.csv can be read, and what was counted be written");
         }
         "--count" => counts::count(word(1)),
         "--once" => counts::once(word(1), word(2), word(3).parse().expect("a number of rounds")),
         wanted => {
             let repetitions = word(1).parse().unwrap_or(13);
             let writes = std::env::var_os("ARRAYDEQUE_BENCH_CPU").is_none();
-            measure(wanted, repetitions, writes).expect("the figures can be written");
+            measure(wanted, repetitions, writes).expect("the times can be written");
         }
     }
 }
