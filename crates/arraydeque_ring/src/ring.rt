@@ -55,6 +55,12 @@ impl<T> Ring<T> {
 
     /// An empty ring that starts at the first place. It is refused where its region is, which is
     /// never at capacity 0 or for items of size zero.
+    ///
+    /// ```
+    /// let mut ring = Ring::<i64>::new(alloc, 2)?;
+    /// assert!(rt; (ring.len(), ring.capacity()) == (0, 2));
+    /// assert!(rt; ring.pop_front() == None);
+    /// ```
     pub fn new(alloc: Global, capacity: usize) -> Result<Ring<T>, AllocError>
         ensures ok { IfOk result (λ ring. ring ≡ empty_ring capacity) }
         ensures refused { OnErr result (0 < capacity * type_size T.row) }
@@ -68,6 +74,11 @@ impl<T> Ring<T> {
     }
 
     /// How many items there are.
+    ///
+    /// ```
+    /// let ring = Ring::of_copies(alloc, 4, &[1, 2, 3])?;
+    /// assert!(rt; ring.len() == 3);
+    /// ```
     #[inline]
     pub fn len(&self) -> usize
         ensures len { result ≡ length self.now.items }
@@ -78,6 +89,11 @@ impl<T> Ring<T> {
     }
 
     /// How many items there may be.
+    ///
+    /// ```
+    /// let ring = Ring::of_copies(alloc, 4, &[1, 2, 3])?;
+    /// assert!(rt; ring.capacity() == 4);
+    /// ```
     #[inline]
     pub fn capacity(&self) -> usize
         ensures capacity { result ≡ self.now.capacity }
@@ -87,11 +103,24 @@ impl<T> Ring<T> {
     }
 
     /// The allocator that the region came from.
+    ///
+    /// ```
+    /// let ring = Ring::<i64>::new(alloc, 4)?;
+    /// let other = Ring::<i64>::new(ring.alloc(), 2)?;
+    /// assert!(rt; other.capacity() == 2);
+    /// ```
     pub fn alloc(&self) -> Global {
         self.slots.alloc()
     }
 
     /// Adds an element behind the last item. No kept item moves.
+    ///
+    /// ```
+    /// let mut ring = Ring::new(alloc, 2)?;
+    /// ring.push_back(1);
+    /// ring.push_back(2);
+    /// assert!(rt; (ring.get(0), ring.get(1)) == (Some(&1), Some(&2)));
+    /// ```
     #[tactic(auto, using(crate::proofs::places::Opened::end_facts))]
     #[inline]
     pub fn push_back(&mut self, element: T)
@@ -107,6 +136,13 @@ impl<T> Ring<T> {
     }
 
     /// Adds an element before the first item. The start goes down to its place. No kept item moves.
+    ///
+    /// ```
+    /// let mut ring = Ring::new(alloc, 2)?;
+    /// ring.push_front(1);
+    /// ring.push_front(2);
+    /// assert!(rt; (ring.get(0), ring.get(1)) == (Some(&2), Some(&1)));
+    /// ```
     #[tactic(auto, using(crate::proofs::places::Opened::end_facts))]
     #[inline]
     pub fn push_front(&mut self, element: T)
@@ -126,6 +162,12 @@ impl<T> Ring<T> {
 
     /// Takes the first item off, if there is one. The start goes up to the next place, and no kept
     /// item moves.
+    ///
+    /// ```
+    /// let mut ring = Ring::of_copies(alloc, 3, &[1, 2])?;
+    /// assert!(rt; (ring.pop_front(), ring.pop_front()) == (Some(1), Some(2)));
+    /// assert!(rt; ring.pop_front() == None);
+    /// ```
     #[tactic(auto, using(crate::proofs::places::Opened::end_facts))]
     #[inline]
     pub fn pop_front(&mut self) -> Option<T>
@@ -148,6 +190,12 @@ impl<T> Ring<T> {
     }
 
     /// Takes the last item off, if there is one. The start stays, and no kept item moves.
+    ///
+    /// ```
+    /// let mut ring = Ring::of_copies(alloc, 3, &[1, 2])?;
+    /// assert!(rt; (ring.pop_back(), ring.pop_back()) == (Some(2), Some(1)));
+    /// assert!(rt; ring.pop_back() == None);
+    /// ```
     #[tactic(auto, using(crate::proofs::places::Opened::end_facts))]
     #[inline]
     pub fn pop_back(&mut self) -> Option<T>
@@ -168,6 +216,13 @@ impl<T> Ring<T> {
     }
 
     /// The item at an index, if there is one. Index 0 is the front.
+    ///
+    /// ```
+    /// let mut ring = Ring::of_copies(alloc, 3, &[1, 2])?;
+    /// ring.push_front(0);
+    /// assert!(rt; (ring.get(0), ring.get(2)) == (Some(&0), Some(&2)));
+    /// assert!(rt; ring.get(3) == None);
+    /// ```
     #[tactic(auto, using(crate::proofs::places::Opened::end_facts))]
     #[inline]
     pub fn get(&self, index: usize) -> Option<&T>
@@ -182,6 +237,14 @@ impl<T> Ring<T> {
 
     /// The item at an index for writing, if there is one. What is written through it changes that
     /// item and no other.
+    ///
+    /// ```
+    /// let mut ring = Ring::of_copies(alloc, 3, &[1, 2])?;
+    /// if let Some(item) = ring.get_mut(1) {
+    ///     *item = 5;
+    /// }
+    /// assert!(rt; (ring.get(0), ring.get(1)) == (Some(&1), Some(&5)));
+    /// ```
     #[tactic(auto, using(crate::proofs::places::Opened::end_facts))]
     #[inline]
     pub fn get_mut(&mut self, index: usize) -> Option<&mut T>

@@ -12,6 +12,12 @@ use std::alloc::{AllocError, Global};
 impl<T> Ring<T> {
     /// A ring of copies of items, in order from the first place on. It is refused where its region
     /// is.
+    ///
+    /// ```
+    /// let ring = Ring::of_copies(alloc, 3, &[1, 2])?;
+    /// assert!(rt; (ring.len(), ring.capacity()) == (2, 3));
+    /// assert!(rt; (ring.get(0), ring.get(1)) == (Some(&1), Some(&2)));
+    /// ```
     #[tactic(auto, using(crate::proofs::places::Opened::copy_facts))]
     pub fn of_copies(alloc: Global, capacity: usize, items: &[T]) -> Result<Ring<T>, AllocError>
     where
@@ -41,6 +47,13 @@ impl<T> Ring<T> {
     /// A ring of the items of a vector, in order from the first place on, as many as there are
     /// places for. The others are dropped, front to back. It is refused where its region is; then
     /// the vector comes back as it was.
+    ///
+    /// ```
+    /// let items = vec![in alloc; 1, 2, 3]?;
+    /// let ring = Ring::of_vec(alloc, 2, items).map_err(|_| "refused")?;
+    /// assert!(rt; (ring.len(), ring.capacity()) == (2, 2));
+    /// assert!(rt; (ring.get(0), ring.get(1)) == (Some(&1), Some(&2)));
+    /// ```
     pub fn of_vec(alloc: Global, capacity: usize, v: Vec<T>) -> Result<Ring<T>, Vec<T>>
     where
         T: Drop,
@@ -73,6 +86,14 @@ impl<T> Ring<T> {
     /// A ring of a clone of each item, of the same capacity, from the first place on. The region is
     /// taken first, and then the items are cloned front to back. It is refused where its region or
     /// the clone of an item is; the clones that were made are dropped then.
+    ///
+    /// ```
+    /// let ring = Ring::of_copies(alloc, 3, &[1, 2])?;
+    /// let mut copy = ring.clone()?;
+    /// copy.push_back(3);
+    /// assert!(rt; (ring.len(), copy.len()) == (2, 3));
+    /// assert!(rt; IntoIter::of(copy).eq([1, 2, 3]));
+    /// ```
     pub fn clone(&self) -> Result<Ring<T>, AllocError>
     where
         T: Clone,
@@ -121,6 +142,13 @@ impl<T> Ring<T> {
 
     /// A vector of the items, front to back. Where its memory is refused, which never happens to an
     /// empty ring, the ring comes back as it was.
+    ///
+    /// ```
+    /// let mut ring = Ring::of_copies(alloc, 3, &[2, 3])?;
+    /// ring.push_front(1);
+    /// let items = ring.into_vec().map_err(|_| "refused")?;
+    /// assert!(rt; items.as_slice() == [1, 2, 3].as_slice());
+    /// ```
     pub fn into_vec(self) -> Result<Vec<T>, Ring<T>>
         ensures items { IfOk result (λ v. v.items ≡ self.items) }
         ensures source { IfErr result (λ ring. ring ≡ self) }

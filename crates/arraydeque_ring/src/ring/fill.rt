@@ -17,6 +17,14 @@ use std::mem::replace;
 impl<T> Ring<T> {
     /// Puts what the iterator gives behind the last item, one by one, while there is room. Returns
     /// whether the iterator ended before the ring was full; else it wasn't asked for more.
+    ///
+    /// ```
+    /// let mut ring = Ring::of_copies(alloc, 3, &[1])?;
+    /// let mut numbers = 2..9;
+    /// assert!(rt; !ring.fill_back(&mut numbers));
+    /// assert!(rt; numbers.next() == Some(4));
+    /// assert!(rt; IntoIter::of(ring).eq([1, 2, 3]));
+    /// ```
     #[inline(always)]
     pub fn fill_back<I: Iterator<Item = T>>(&mut self, elements: &mut I) -> bool
         requires { I.can_next elements.old }
@@ -54,6 +62,12 @@ impl<T> Ring<T> {
     /// Puts what the iterator gives before the first item, one by one, while there is room: the
     /// last one stands first then. Returns whether the iterator ended before the ring was full;
     /// else it wasn't asked for more.
+    ///
+    /// ```
+    /// let mut ring = Ring::of_copies(alloc, 4, &[1])?;
+    /// assert!(rt; ring.fill_front(&mut (2..4)));
+    /// assert!(rt; IntoIter::of(ring).eq([3, 2, 1]));
+    /// ```
     #[inline(always)]
     pub fn fill_front<I: Iterator<Item = T>>(&mut self, elements: &mut I) -> bool
         requires { I.can_next elements.old }
@@ -92,6 +106,12 @@ impl<T> Ring<T> {
 
     /// Puts what the iterator gives behind the last item of a full ring, one by one. Each takes the
     /// place of the first item, which is dropped.
+    ///
+    /// ```
+    /// let mut ring = Ring::of_copies(alloc, 3, &[1, 2, 3])?;
+    /// ring.displace_first(4..6);
+    /// assert!(rt; IntoIter::of(ring).eq([3, 4, 5]));
+    /// ```
     #[inline]
     pub fn displace_first<I: Iterator<Item = T>>(&mut self, mut elements: I)
     where
@@ -121,6 +141,12 @@ impl<T> Ring<T> {
 
     /// Puts what the iterator gives before the first item of a full ring, one by one. Each takes
     /// the place of the last item, which is dropped.
+    ///
+    /// ```
+    /// let mut ring = Ring::of_copies(alloc, 3, &[1, 2, 3])?;
+    /// ring.displace_last(4..6);
+    /// assert!(rt; IntoIter::of(ring).eq([5, 4, 1]));
+    /// ```
     #[inline]
     pub fn displace_last<I: Iterator<Item = T>>(&mut self, mut elements: I)
     where

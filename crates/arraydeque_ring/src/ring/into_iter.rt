@@ -30,6 +30,12 @@ impl<T> Model for IntoIter<T> {
 
 impl<T> IntoIter<T> {
     /// The iterator over the items of a ring.
+    ///
+    /// ```
+    /// let mut items = IntoIter::of(Ring::of_copies(alloc, 4, &[1, 2, 3])?);
+    /// assert!(rt; (items.next(), items.next_back()) == (Some(1), Some(3)));
+    /// assert!(rt; (items.len(), items.next()) == (1, Some(2)));
+    /// ```
     #[inline]
     pub fn of(ring: Ring<T>) -> IntoIter<T>
         ensures { result ≡ ring.items }
@@ -49,6 +55,11 @@ impl<T: Drop> Iterator for IntoIter<T> {
 
     ghost remaining = { item_count (λ remaining. remaining) };
 
+    /// ```
+    /// let mut items = IntoIter::of(Ring::of_copies(alloc, 4, &[1, 2, 3])?);
+    /// assert!(rt; (items.next(), items.size_hint()) == (Some(1), (2, Some(2))));
+    /// assert!(rt; (items.next(), items.next(), items.next()) == (Some(2), Some(3), None));
+    /// ```
     #[inline]
     fn next(&mut self) -> Option<T> {
         if self.ring.len() > self.from_last_place {
@@ -73,6 +84,11 @@ impl<T: Drop> Iterator for IntoIter<T> {
 impl<T: Drop> DoubleEndedIterator for IntoIter<T> {
     ghost next_back_gives = { YieldsLast (λ remaining. remaining) };
 
+    /// ```
+    /// let mut items = IntoIter::of(Ring::of_copies(alloc, 4, &[1, 2])?);
+    /// assert!(rt; (items.next_back(), items.next_back()) == (Some(2), Some(1)));
+    /// assert!(rt; items.next_back() == None);
+    /// ```
     #[inline]
     fn next_back(&mut self) -> Option<T> {
         self.ring.pop_back()
@@ -80,6 +96,10 @@ impl<T: Drop> DoubleEndedIterator for IntoIter<T> {
 }
 
 impl<T: Drop> ExactSizeIterator for IntoIter<T> {
+    /// ```
+    /// let items = IntoIter::of(Ring::of_copies(alloc, 4, &[1, 2, 3])?);
+    /// assert!(rt; items.len() == 3);
+    /// ```
     #[inline]
     fn len(&self) -> usize {
         self.ring.len()

@@ -11,6 +11,12 @@ use crate::slots::loan::Loan;
 
 impl<T> Ring<T> {
     /// The items in two slices: those from the start to the region's end, then those past it.
+    ///
+    /// ```
+    /// let mut ring = Ring::of_copies(alloc, 4, &[2, 3])?;
+    /// ring.push_front(1);
+    /// assert!(rt; ring.as_slices() == ([1].as_slice(), [2, 3].as_slice()));
+    /// ```
     #[tactic(auto, using(crate::proofs::places::Opened::slice_facts))]
     #[inline]
     pub fn as_slices(&self) -> (&[T], &[T])
@@ -30,6 +36,12 @@ impl<T> Ring<T> {
 
     /// The items for writing in one slice. The list ends as it was written, and starts where it
     /// did.
+    ///
+    /// ```
+    /// let mut ring = Ring::of_copies(alloc, 4, &[3, 1, 2])?;
+    /// ring.as_mut_slice().reverse();
+    /// assert!(rt; IntoIter::of(ring).eq([2, 1, 3]));
+    /// ```
     #[tactic(auto, using(crate::proofs::places::Opened::slice_facts))]
     #[inline]
     pub fn as_mut_slice(&mut self) -> &mut [T]
@@ -51,6 +63,14 @@ impl<T> Ring<T> {
     /// Whatever is written, there are as many items as before, and they start where they did. A
     /// caller whose proof needs that writes `lend_items().into_slices()`: the prover follows the one
     /// name of that loan, and not a pair.
+    ///
+    /// ```
+    /// let mut ring = Ring::of_copies(alloc, 4, &[2, 3])?;
+    /// ring.push_front(1);
+    /// let (_front, rest) = ring.as_mut_slices();
+    /// rest.fill(0);
+    /// assert!(rt; IntoIter::of(ring).eq([1, 0, 0]));
+    /// ```
     #[inline]
     pub fn as_mut_slices(&mut self) -> (&mut [T], &mut [T])
         ensures* writes_back { sem 𝓛 (lends_slices T.row self.entry result) }
@@ -63,6 +83,14 @@ impl<T> Ring<T> {
     /// The items for writing, as one loan of two slices: its clause says what
     /// [`Ring::as_mut_slices`] says, and that the ring follows the loan's name. A caller of this one
     /// is proved by hand; [`Ring::lend_items`] is for all others.
+    ///
+    /// ```
+    /// let mut ring = Ring::of_copies(alloc, 4, &[2, 3])?;
+    /// ring.push_front(1);
+    /// let (front, _rest) = ring.lend().into_slices();
+    /// front.fill(0);
+    /// assert!(rt; IntoIter::of(ring).eq([0, 2, 3]));
+    /// ```
     pub fn lend(&mut self) -> Loan<'_, T>
         ensures* writes_back { sem 𝓛 (lends_loan T.row self.entry result) }
         ensures value { remaining result ≡ self.old.items }

@@ -12,6 +12,13 @@ use std::mem::replace;
 impl<T> Ring<T> {
     /// Lays the list in one piece that starts at the first place, by no more moves and exchanges
     /// than there are items. Nothing happens where it lies in one piece already, wherever that is.
+    ///
+    /// ```
+    /// let mut ring = Ring::of_copies(alloc, 4, &[2, 3])?;
+    /// ring.push_front(1);
+    /// ring.linearize();
+    /// assert!(rt; ring.as_slices() == ([1, 2, 3].as_slice(), [].as_slice()));
+    /// ```
     pub fn linearize(&mut self)
         ensures items { self.new.items ≡ self.old.items }
         ensures capacity { self.new.capacity ≡ self.old.capacity }

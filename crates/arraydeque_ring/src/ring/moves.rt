@@ -15,6 +15,13 @@ use crate::wrap::wrap_add;
 impl<T> Ring<T> {
     /// Adds an element before the item at an index, or behind the last one. The items before it
     /// move, and the start with them, where they are the fewer, else those behind it.
+    ///
+    /// ```
+    /// let mut ring = Ring::of_copies(alloc, 4, &[1, 3])?;
+    /// ring.insert(1, 2);
+    /// ring.insert(3, 4);
+    /// assert!(rt; IntoIter::of(ring).eq([1, 2, 3, 4]));
+    /// ```
     pub fn insert(&mut self, index: usize, element: T)
         requires in_bounds { index ≤ length self.old.items }
         requires room { length self.old.items < self.old.capacity }
@@ -43,6 +50,12 @@ impl<T> Ring<T> {
 
     /// Takes out the item at an index. The items before it move, and the start with them, where
     /// they are the fewer, else those behind it.
+    ///
+    /// ```
+    /// let mut ring = Ring::of_copies(alloc, 4, &[1, 2, 3])?;
+    /// assert!(rt; ring.remove(1) == 2);
+    /// assert!(rt; IntoIter::of(ring).eq([1, 3]));
+    /// ```
     #[tactic(auto, using(crate::proofs::places::Opened::end_facts))]
     pub fn remove(&mut self, index: usize) -> T
         requires { index < length self.old.items }

@@ -29,6 +29,13 @@ impl<T> Ring<T> {
     ///     before, from 5 on     d e . . . a b c
     ///     without 1..3, from 7  d e . . . . . a
     ///     without 2..4, from 5  . . . . . a b e
+    ///
+    /// ```
+    /// let mut ring = Ring::of_copies(alloc, 4, &[1, 2, 3, 4])?;
+    /// let drained = ring.drain(1, 3)?;
+    /// assert!(rt; IntoIter::of(drained).eq([2, 3]));
+    /// assert!(rt; IntoIter::of(ring).eq([1, 4]));
+    /// ```
     #[tactic(auto, using(crate::proofs::places::Opened::part_facts))]
     pub fn drain(&mut self, from: usize, to: usize) -> Result<Ring<T>, AllocError>
         requires in_order { from ≤ to }
@@ -70,6 +77,14 @@ impl<T> Ring<T> {
     /// Takes out the items from the index `at` on, into a ring of the same capacity, whose region
     /// is taken first. Where that is refused nothing has changed; it never is at capacity 0 or for
     /// items of size zero. No kept item moves.
+    ///
+    /// ```
+    /// let mut ring = Ring::of_copies(alloc, 4, &[1, 2, 3])?;
+    /// let tail = ring.split_off(1)?;
+    /// assert!(rt; tail.capacity() == 4);
+    /// assert!(rt; IntoIter::of(tail).eq([2, 3]));
+    /// assert!(rt; IntoIter::of(ring).eq([1]));
+    /// ```
     #[tactic(auto, using(crate::proofs::places::Opened::part_facts))]
     pub fn split_off(&mut self, at: usize) -> Result<Ring<T>, AllocError>
         requires { at ≤ length self.old.items }
@@ -99,6 +114,14 @@ impl<T> Ring<T> {
 
     /// Takes the first `len` items of another ring behind the last one. They go over in at most
     /// three copies, since either ring may wrap once.
+    ///
+    /// ```
+    /// let mut ring = Ring::of_copies(alloc, 4, &[1, 2])?;
+    /// let mut other = Ring::of_copies(alloc, 3, &[3, 4, 5])?;
+    /// ring.append(&mut other, 2);
+    /// assert!(rt; IntoIter::of(ring).eq([1, 2, 3, 4]));
+    /// assert!(rt; IntoIter::of(other).eq([5]));
+    /// ```
     pub fn append(&mut self, other: &mut Ring<T>, len: usize)
         requires room { length self.old.items + len ≤ self.old.capacity }
         requires within { len ≤ length other.old.items }

@@ -14,6 +14,12 @@ use crate::wrap::wrap_add;
 
 impl<T> Ring<T> {
     /// Drops every item, front to back. The list starts at the first place again.
+    ///
+    /// ```
+    /// let mut ring = Ring::of_copies(alloc, 4, &[1, 2, 3])?;
+    /// ring.clear();
+    /// assert!(rt; (ring.len(), ring.capacity()) == (0, 4));
+    /// ```
     #[tactic(auto, using(crate::proofs::places::Opened::drop_facts))]
     pub fn clear(&mut self)
     where
@@ -31,6 +37,12 @@ impl<T> Ring<T> {
 
     /// Keeps the first `len` items, or all if there are no more. The others are dropped, front to
     /// back.
+    ///
+    /// ```
+    /// let mut ring = Ring::of_copies(alloc, 4, &[1, 2, 3])?;
+    /// ring.truncate(2);
+    /// assert!(rt; IntoIter::of(ring).eq([1, 2]));
+    /// ```
     #[tactic(auto, using(crate::proofs::places::Opened::drop_facts))]
     pub fn truncate(&mut self, len: usize)
     where
@@ -49,6 +61,12 @@ impl<T> Ring<T> {
 
     /// Keeps the last `len` items, or all if there are no more. The others are dropped, front to
     /// back, and the start goes up by as many places.
+    ///
+    /// ```
+    /// let mut ring = Ring::of_copies(alloc, 4, &[1, 2, 3])?;
+    /// ring.truncate_front(2);
+    /// assert!(rt; IntoIter::of(ring).eq([2, 3]));
+    /// ```
     #[tactic(auto, using(crate::proofs::places::Opened::drop_facts))]
     pub fn truncate_front(&mut self, len: usize)
     where
@@ -72,6 +90,12 @@ impl<T> Ring<T> {
     /// Keeps the items at which `f` answers true, in their order, and drops the others, in place.
     /// `f` is called once on each item, front to back. Each item that stays behind the first that
     /// goes moves once.
+    ///
+    /// ```
+    /// let mut ring = Ring::of_copies(alloc, 4, &[1, 2, 3])?;
+    /// ring.retain(|item| *item % 2 == 1);
+    /// assert!(rt; IntoIter::of(ring).eq([1, 3]));
+    /// ```
     #[tactic(auto, using(crate::proofs::places::Opened::end_facts))]
     pub fn retain<F: FnMut(&T) -> bool>(&mut self, mut f: F)
     where

@@ -7,6 +7,12 @@ use super::Ring;
 
 impl<T> Ring<T> {
     /// Exchanges two items. Nothing happens where the two are one.
+    ///
+    /// ```
+    /// let mut ring = Ring::of_copies(alloc, 4, &[1, 2, 3])?;
+    /// ring.swap(0, 2);
+    /// assert!(rt; IntoIter::of(ring).eq([3, 2, 1]));
+    /// ```
     #[tactic(auto, using(crate::proofs::places::Opened::end_facts))]
     #[inline]
     pub fn swap(&mut self, i: usize, j: usize)
@@ -23,6 +29,13 @@ impl<T> Ring<T> {
 
     /// Takes the item at an index off, if there is one, and puts the last item in its place, by one
     /// exchange at most.
+    ///
+    /// ```
+    /// let mut ring = Ring::of_copies(alloc, 4, &[1, 2, 3])?;
+    /// assert!(rt; ring.swap_remove_back(0) == Some(1));
+    /// assert!(rt; ring.swap_remove_back(2) == None);
+    /// assert!(rt; IntoIter::of(ring).eq([3, 2]));
+    /// ```
     #[inline]
     pub fn swap_remove_back(&mut self, index: usize) -> Option<T>
         ensures value { result ≡ slice_get self.old.items index }
@@ -43,6 +56,13 @@ impl<T> Ring<T> {
 
     /// Takes the item at an index off, if there is one, and puts the first item in its place, by
     /// one exchange at most. The start goes up to the next place.
+    ///
+    /// ```
+    /// let mut ring = Ring::of_copies(alloc, 4, &[1, 2, 3])?;
+    /// assert!(rt; ring.swap_remove_front(2) == Some(3));
+    /// assert!(rt; ring.swap_remove_front(2) == None);
+    /// assert!(rt; IntoIter::of(ring).eq([2, 1]));
+    /// ```
     #[inline]
     pub fn swap_remove_front(&mut self, index: usize) -> Option<T>
         ensures value { result ≡ slice_get self.old.items index }
