@@ -61,8 +61,8 @@ impl<T> Ring<T> {
     /// past it.
     ///
     /// Whatever is written, there are as many items as before, and they start where they did. A
-    /// caller whose proof needs that writes `lend_items().into_slices()`: the prover follows the one
-    /// name of that loan, and not a pair.
+    /// caller whose proof needs that writes `lend_items().into_slices()`: the prover follows the
+    /// one name of that loan, and not a pair.
     ///
     /// ```
     /// let mut ring = Ring::of_copies(alloc, 4, &[2, 3])?;
@@ -81,8 +81,8 @@ impl<T> Ring<T> {
     }
 
     /// The items for writing, as one loan of two slices: its clause says what
-    /// [`Ring::as_mut_slices`] says, and that the ring follows the loan's name. A caller of this one
-    /// is proved by hand; [`Ring::lend_items`] is for all others.
+    /// [`Ring::as_mut_slices`] says, and that the ring follows the loan's name. A caller of this
+    /// one is proved by hand; [`Ring::lend_items`] is for all others.
     ///
     /// ```
     /// let mut ring = Ring::of_copies(alloc, 4, &[2, 3])?;
