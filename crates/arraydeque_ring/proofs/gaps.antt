@@ -2,3 +2,4 @@ pub mod Crossing
 pub mod Fewest
 pub mod GapMoves
 pub mod Gapped
+pub mod Turned

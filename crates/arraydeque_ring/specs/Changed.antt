@@ -1,11 +1,11 @@
--- How many kept items have other places after an insert, a removal or a drain, wherever the new
--- list starts, and that each moves the fewest. Items are told apart by their indexes.
+-- How many kept items have other places after an insert, a removal, a drain or a rotation, wherever
+-- the new list starts, and that each moves the fewest. Items are told apart by their indexes.
 use Rattle.std.specs.{
   Prelude.{◌≡◌, ℕ, zero, suc, ◌+◌, ◌-◌, ◌<◌, ◌≤◌, Bool, false, not, nat_lt, ◌==◌, if◌then◌else◌},
 }
 use Rattle.arraydeque_ring.specs.{
   Ring.place_of,
-  Sides.{moves_to_insert, moves_to_remove, moves_to_drain},
+  Sides.{moves_to_insert, moves_to_remove, moves_to_drain, moves_to_rotate},
 }
 
 -- how many numbers below n pass the test
@@ -38,6 +38,12 @@ abbrev pub changed_remove : ℕ → ℕ → ℕ → ℕ → ℕ → ℕ
 changed_remove index len capacity start new_start =
     changed_drain index (index + 1) len capacity start new_start
 
+-- how many, once the first `count` stand behind the others
+abbrev pub changed_rotate : ℕ → ℕ → ℕ → ℕ → ℕ → ℕ
+changed_rotate count len capacity start new_start =
+    count_below (λ k. is_elsewhere capacity start k new_start
+    (if nat_lt k count then k + (len - count) else k - count)) len
+
 -- wherever the new list starts, no fewer items change their places than `count`, and just so many
 -- do where it starts at `start`
 pub record IsFewest (count capacity : ℕ) (changed : ℕ → ℕ) (start : ℕ) : Type 0 where
@@ -61,4 +67,10 @@ RemoveMovesFewest index len capacity start new_start =
 abbrev pub DrainMovesFewest : ℕ → ℕ → ℕ → ℕ → ℕ → ℕ → Type 0
 DrainMovesFewest from to len capacity start new_start =
     IsFewest (moves_to_drain from to len) capacity (changed_drain from to len capacity start)
+    new_start
+
+-- so does a rotation that puts the first `count` items behind the others
+abbrev pub RotateMovesFewest : ℕ → ℕ → ℕ → ℕ → ℕ → Type 0
+RotateMovesFewest count len capacity start new_start =
+    IsFewest (moves_to_rotate count len capacity) capacity (changed_rotate count len capacity start)
     new_start

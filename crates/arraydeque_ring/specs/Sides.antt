@@ -23,3 +23,13 @@ start_opened before behind capacity start =
 abbrev pub start_closed : ℕ → ℕ → ℕ → ℕ → ℕ → ℕ
 start_closed before gap behind capacity start =
     if nat_lt before behind then place_of start gap capacity else start
+
+-- how many of len items move so that the first `count` stand behind the others: none where the ring
+-- is full
+abbrev pub moves_to_rotate : ℕ → ℕ → ℕ → ℕ
+moves_to_rotate count len capacity = if nat_lt len capacity then min count (len - count) else 0
+
+-- the start once they do: where the others move, down by as many places, round the end
+abbrev pub start_rotated : ℕ → ℕ → ℕ → ℕ → ℕ
+start_rotated count len capacity start = let others = len - count in
+    place_of start (if nat_lt others count then capacity - others else count) capacity

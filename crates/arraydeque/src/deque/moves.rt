@@ -1,9 +1,8 @@
-//! Calls that open or close a gap in the middle: an insert, which only one policy offers, and a
-//! removal.
-ghost use Rattle.std.specs.Prelude.{◌≡◌, ◌<◌, ◌≤◌, ◌-◌, length, slice_get, IfErr, OnOk, OnErr, OnSome, IfNone, IsOk, ◌↔◌};
+//! Calls that open or close a gap: an insert, which only one policy offers, a removal and rotations.
+ghost use Rattle.std.specs.Prelude.{◌≡◌, ◌<◌, ◌≤◌, ◌-◌, ◌++◌, length, take, drop, slice_get, IfErr, OnOk, OnErr, OnSome, IfNone, IsOk, ◌↔◌};
 ghost use Rattle.std.specs.List.{insert, remove};
-ghost use Rattle.arraydeque_ring.specs.Changed.{InsertMovesFewest, RemoveMovesFewest};
-ghost use Rattle.arraydeque_ring.specs.Sides.{moves_to_insert, moves_to_remove, start_opened, start_closed};
+ghost use Rattle.arraydeque_ring.specs.Changed.{InsertMovesFewest, RemoveMovesFewest, RotateMovesFewest};
+ghost use Rattle.arraydeque_ring.specs.Sides.{moves_to_insert, moves_to_remove, moves_to_rotate, start_opened, start_closed, start_rotated};
 ghost use Rattle.arraydeque_ring.specs.Steps.{more_moves, more_puts, more_takes};
 
 use super::ArrayDeque;
@@ -79,5 +78,61 @@ impl<T, const CAP: usize, B: Behavior> ArrayDeque<T, CAP, B> {
             return None;
         }
         Some(self.ring.remove(index))
+    }
+
+    /// Puts the first `count` items behind the others. Requires a count up to the length.
+    ///
+    /// In a full deque no item moves. Else the first `count` items or the others move, whichever
+    /// are fewer, and on a tie the first: at most half of the items.
+    ///
+    /// ```
+    /// let mut deque = ArrayDeque::<i64, 5, Saturating>::new(alloc)?;
+    /// deque.extend_back([1, 2, 3, 4]);
+    /// assert!(rt; deque.len() == 4);
+    /// // Only 1 moves.
+    /// deque.rotate_left(1);
+    /// assert!(rt; deque.into_vec()?.as_slice() == [2, 3, 4, 1].as_slice());
+    /// ```
+    pub fn rotate_left(&mut self, count: usize)
+        requires { count ≤ length self.old.items }
+        ensures items { self.new.items ≡ drop count self.old.items ++ take count self.old.items }
+        ensures within { length self.new.items ≤ CAP }
+        ensures start { self.new.start ≡
+            start_rotated count (length self.old.items) CAP self.old.start }
+        ensures steps { self.new.steps ≡ more_moves
+            (moves_to_rotate count (length self.old.items) CAP) self.old.steps }
+        ensures fewest { RotateMovesFewest
+            count (length self.old.items) CAP self.old.start self.new.start }
+    {
+        self.ring.rotate_left(count);
+    }
+
+    /// Puts the last `count` items before the others. Requires a count up to the length.
+    ///
+    /// In a full deque no item moves. Else the last `count` items or the others move, whichever are
+    /// fewer, and on a tie the others: at most half of the items.
+    ///
+    /// ```
+    /// let mut deque = ArrayDeque::<i64, 5, Saturating>::new(alloc)?;
+    /// deque.extend_back([1, 2, 3, 4]);
+    /// assert!(rt; deque.len() == 4);
+    /// // Only 4 moves.
+    /// deque.rotate_right(1);
+    /// assert!(rt; deque.into_vec()?.as_slice() == [4, 1, 2, 3].as_slice());
+    /// ```
+    pub fn rotate_right(&mut self, count: usize)
+        requires { count ≤ length self.old.items }
+        ensures items { let others = length self.old.items - count in
+            self.new.items ≡ drop others self.old.items ++ take others self.old.items }
+        ensures within { length self.new.items ≤ CAP }
+        ensures start { let len = length self.old.items in
+            self.new.start ≡ start_rotated (len - count) len CAP self.old.start }
+        ensures steps { let len = length self.old.items in self.new.steps ≡
+            more_moves (moves_to_rotate (len - count) len CAP) self.old.steps }
+        ensures fewest { let len = length self.old.items in
+            RotateMovesFewest (len - count) len CAP self.old.start self.new.start }
+    {
+        let others = self.len() - count;
+        self.ring.rotate_left(others);
     }
 }

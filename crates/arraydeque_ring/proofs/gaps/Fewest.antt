@@ -16,7 +16,7 @@ use Rattle.arraydeque_ring.{
 }
 
 -- a test that is f below s and b from e on, and fails between them
-count_sides : (p : ℕ → Bool) (f b : Bool) (s e n : ℕ) → s ≤ e
+pub count_sides : (p : ℕ → Bool) (f b : Bool) (s e n : ℕ) → s ≤ e
     → ((k : ℕ) → k < n → p k ≡ (if nat_lt k s then f else (if nat_lt k e then false else b)))
     → count_below p n ≡ (if f then min s n else 0) + (if b then n - e else 0)
 count_sides p f b s e zero le each = grind arith
@@ -24,7 +24,7 @@ count_sides p f b s e (suc n) le each = let rest = count_sides p f b s e n le (�
     grind arith
 
 -- from two starts an item has the same place only where they are one
-one_start : (c t u k : ℕ) → t < c → u < c → k ≤ c → (place_of t k c == place_of u k c) ≡ (t == u)
+pub one_start : (c t u k : ℕ) → t < c → u < c → k ≤ c → (place_of t k c == place_of u k c) ≡ (t == u)
 one_start c t u k a b le = rw (add_comm t k, add_comm u k) (one_place k t u c le a b)
 
 module _ (i n c t : ℕ) (t_in : t < c) (i_in : i ≤ n) (room : n < c) where

@@ -1,11 +1,12 @@
-//! Calls that open or close a gap in the middle of a ring, by moving the side with fewer items.
-ghost use Rattle.std.specs.Prelude.{◌≡◌, ◌-◌, ◌+◌, ◌<◌, ◌≤◌, length, slice_get, min, max};
+//! Calls that open or close a gap in a ring by moving the side with fewer items. Such a gap are also
+//! the empty places that a rotation has items cross.
+ghost use Rattle.std.specs.Prelude.{◌≡◌, ◌-◌, ◌+◌, ◌<◌, ◌≤◌, ◌++◌, length, take, drop, slice_get, min, max};
 ghost use Rattle.std.specs.List.{insert, remove};
 ghost use Rattle.arraydeque_ring.specs.Gaps.{IsEmptyRun, gap_moved};
 ghost use Rattle.arraydeque_ring.specs.Places.{IsFilledRun};
 ghost use Rattle.arraydeque_ring.specs.Ring.{rotated};
-ghost use Rattle.arraydeque_ring.specs.Sides.{moves_to_insert, moves_to_remove, start_opened, start_closed};
-ghost use Rattle.arraydeque_ring.specs.Changed.{InsertMovesFewest, RemoveMovesFewest};
+ghost use Rattle.arraydeque_ring.specs.Sides.{moves_to_insert, moves_to_remove, moves_to_rotate, start_opened, start_closed, start_rotated};
+ghost use Rattle.arraydeque_ring.specs.Changed.{InsertMovesFewest, RemoveMovesFewest, RotateMovesFewest};
 ghost use Rattle.arraydeque_ring.specs.Steps.{more_puts, more_takes, more_moves};
 
 use super::Ring;
@@ -74,6 +75,34 @@ impl<T> Ring<T> {
         self.len -= 1;
         self.start = close_gap(&mut self.slots, self.start, index, 1, self.len - index);
         item
+    }
+
+    /// Puts the first `count` items behind the others. In a full ring no item moves. Else the first
+    /// `count` or the others move across the empty places, whichever are fewer, and on a tie the
+    /// first.
+    #[tactic(auto, using(crate::proofs::places::Opened::end_facts))]
+    pub fn rotate_left(&mut self, count: usize)
+        requires { count ≤ length self.old.items }
+        ensures items { self.new.items ≡ drop count self.old.items ++ take count self.old.items }
+        ensures capacity { self.new.capacity ≡ self.old.capacity }
+        ensures start { self.new.start ≡
+            start_rotated count (length self.old.items) self.old.capacity self.old.start }
+        ensures steps { self.new.steps ≡ more_moves
+            (moves_to_rotate count (length self.old.items) self.old.capacity) self.old.steps }
+        ensures fewest { RotateMovesFewest
+            count (length self.old.items) self.old.capacity self.old.start self.new.start }
+    {
+        let capacity = self.slots.capacity();
+        if count == 0 {
+            return;
+        }
+        let has_room = self.len < capacity;
+        let first = wrap_add(self.start, count, capacity);
+        self.start = first;
+        if has_room {
+            let (others, gap) = (self.len - count, capacity - self.len);
+            self.start = close_gap(&mut self.slots, first, others, gap, count);
+        }
     }
 }
 

@@ -1,0 +1,119 @@
+-- A rotation is a gap that closes: read from the first item that goes to the front, the ring's empty places stand
+-- before the items that go behind. And no placement of the list gives fewer items another place.
+use Rattle.std.proofs.{
+  Common.{◌≡◌, ℕ, ◌+◌, ◌-◌, ◌<◌, ◌≤◌, ◌==◌, ◌++◌, length, take, drop, inl, inr, min, not, if◌then◌else◌},
+  Common.{List, Option, arith},
+  lemmas.{Bool.{cases_lt, Decides.nat_tests}, List.{length-append, length-take-le, length-drop, append-nil}},
+}
+use Rattle.arraydeque_ring.{
+  specs.{
+    declared.ring.Ring.TheInside.Inside,
+    Changed.{changed_rotate, IsFewest},
+    Gaps.gap_moved,
+    Ring.{RingState, place_of, rotated},
+    Sides.{moves_to_rotate, start_closed, start_rotated},
+  },
+  proofs.{
+    gaps.{Fewest.{count_sides, one_start}, Gapped.{Gapped, LaidOut-gap_last}, GapMoves.{MayClose, may_close, gap_moves}},
+    places.{
+      Holds.{Holds-from, Holds-same},
+      Items.items,
+      LaidOut.{LaidOut-by, holds},
+      Opened.{Opened, Shows, shows},
+      Rotated.{place_of_cases, place_of-sum},
+    },
+  },
+}
+
+module _ {X : Type 0} {r : Inside X} {v : RingState X} (o : Opened r v) (m : ℕ) (le : m ≤ length v.items)
+    (some : 0 < v.capacity) where
+  abbrev t : ℕ
+  t = place_of r.start m v.capacity
+
+  turned_gap : Gapped v.capacity t (drop m v.items) (v.capacity - r.len) (take m v.items) r.slots.places
+  turned_gap =
+      let front = length-take-le m v.items le in
+      let back = length-drop m v.items in
+      let within = o.laid.within in
+      record {
+        within = omega (arith, o.len);
+        reads = Holds-from (holds o.laid) m some (omega arith)
+            (λ k lt. grind (arith, items, o.len, place_of_cases m k v.capacity));
+      }
+
+  many : length (drop m v.items ++ take m v.items) ≡ r.len
+  many = omega (
+    arith,
+    length-append (drop m v.items) (take m v.items),
+    length-drop m v.items,
+    length-take-le m v.items le,
+    o.len,
+  )
+
+  pub may_turn : r.len < v.capacity → MayClose t (r.len - m) (v.capacity - r.len) m r.slots.places
+  may_turn room = may_close turned_gap _ _ (omega arith) (omega (arith, length-drop m v.items, o.len))
+      (length-take-le m v.items le)
+
+  pub turned : (s : ℕ) (ps : List (Option X))
+      → s ≡ start_closed (r.len - m) (v.capacity - r.len) m v.capacity t
+      → rotated s ps ≡ gap_moved (r.len - m) (r.len - m + m) (v.capacity - r.len) (rotated t r.slots.places)
+      → Shows v.capacity s r.len (drop m v.items ++ take m v.items) ps
+  turned s ps here is = shows (LaidOut-gap_last (gap_moves turned_gap (r.len - m) (r.len - m + m)
+      (omega (arith, length-drop m v.items, o.len)) s ps (append-nil (drop m v.items ++ take m v.items))
+      (omega (arith, many, o.len)) (grind (arith, here)) is)) _ many
+
+  -- in a full ring there is no gap to close
+  pub turned_full : r.len ≡ v.capacity
+      → Shows v.capacity t r.len (drop m v.items ++ take m v.items) r.slots.places
+  turned_full full = shows (LaidOut-by (omega (arith, many))
+      (Holds-same turned_gap.reads (λ k lt. grind (arith, items)))) _ many
+
+  pub start_turned : start_closed (r.len - m) (v.capacity - r.len) m v.capacity t
+      ≡ start_rotated m (length v.items) v.capacity v.start
+  start_turned =
+      let within = o.laid.within in
+      let on : m + (v.capacity - r.len) ≡ v.capacity - (length v.items - m) = omega (arith, o.len) in
+      grind (arith, nat_tests, on, o.len, o.start, place_of-sum r.start m (v.capacity - r.len) v.capacity)
+
+module _ (m n c t : ℕ) (t_in : t ≤ c - 1) (m_in : m ≤ n) (within : n ≤ c) where
+  -- the others stay where the start goes up by the first m, and these where it goes down by the others
+  rotated_changes : (u : ℕ) → u < c → changed_rotate m n c t u
+      ≡ (if not (t == place_of u (n - m) c) then min m n else 0)
+      + (if not (place_of t m c == u) then n - m else 0)
+  rotated_changes u u_in =
+      count_sides _ (not (t == place_of u (n - m) c)) (not (place_of t m c == u)) m m n (omega arith)
+      (λ k lt. grind (
+        arith,
+        nat_tests,
+        one_start c t (place_of u (n - m) c) k (omega arith) (omega arith) (omega arith),
+        one_start c (place_of t m c) u (k - m) (omega arith) u_in (omega arith),
+        place_of-sum t m (k - m) c,
+        place_of-sum u (n - m) k c,
+      ))
+
+  pub fewest_rotate : IsFewest (moves_to_rotate m n c) c (changed_rotate m n c t) (start_rotated m n c t)
+  fewest_rotate = record {
+    least = λ u lt. grind (
+      arith,
+      nat_tests,
+      rotated_changes u lt,
+      place_of_cases t m c (omega arith),
+      place_of_cases u (n - m) c (omega arith),
+    );
+    met = elim (cases_lt 0 c) [
+      | inl some ↦
+          let up = place_of t m c in
+          let down = place_of t (c - (n - m)) c in
+          grind (
+            arith,
+            nat_tests,
+            rotated_changes up (omega arith),
+            rotated_changes down (omega arith),
+            place_of_cases t m c (omega arith),
+            place_of_cases t (c - (n - m)) c (omega arith),
+            place_of_cases up (n - m) c (omega arith),
+            place_of_cases down (n - m) c (omega arith),
+          )
+      | inr none ↦ let no : n ≡ 0 = omega arith in rw no (grind arith)
+    ];
+  }

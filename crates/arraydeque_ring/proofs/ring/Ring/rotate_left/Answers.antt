@@ -1,0 +1,79 @@
+use Rattle.std.proofs.Common.{◌++◌, length, take, drop, ◌∙◌, arith}
+use Rattle.arraydeque_ring.proofs.{
+  gaps.Turned.{fewest_rotate, may_turn, start_turned, turned, turned_full},
+  places.{Opened.{opened, bounds, Shows}, Rotated.place_of-zero},
+  ring.Ring.rotate_left.{Given.Over, Goals.{After-close_gap-self-inside, Else-has_room}},
+}
+use Rattle.arraydeque_ring.proofs.ring.Ring.rotate_left.Goals as goal
+
+pub returns-then-count-eq0-clause-start : goal.returns-then-count-eq0-clause-start
+returns-then-count-eq0-clause-start g c = grind (arith, bounds, place_of-zero)
+
+pub returns-then-count-eq0-clause-fewest : goal.returns-then-count-eq0-clause-fewest
+returns-then-count-eq0-clause-fewest g c =
+    let old = c.args.self.now in
+    let ring = opened c.self.inside c.self.invariant c.self.view_is in
+    rw (← returns-then-count-eq0-clause-start g c) at
+    (fewest_rotate c.args.count (length old.items) old.capacity old.start (omega arith) c.requires (omega arith))
+
+pub close_gap-self-inside-requires : goal.close_gap-self-inside-requires
+close_gap-self-inside-requires g c =
+    let ring = opened c.self.inside c.self.invariant c.self.view_is in
+    rw (c.wrap_add-first.ensures, c.capacity-capacity.ensures ∙ ring.laid.length_is)
+    (may_turn ring c.args.count c.requires (omega arith) (omega arith))
+
+after : (g : Over) (c : After-close_gap-self-inside g) → let old = c.args.self.now in
+    Shows old.capacity c.close_gap-self-inside.result c.self.inside.len
+    (drop c.args.count old.items ++ take c.args.count old.items) c.close_gap-self-inside.new.slots.places
+after g c =
+    let ring = opened c.self.inside c.self.invariant c.self.view_is in
+    let moved = c.close_gap-self-inside.ensures in
+    turned ring c.args.count c.requires (omega arith) _ _
+    (rw (c.wrap_add-first.ensures, c.capacity-capacity.ensures, ring.laid.length_is) at moved.start)
+    (rw (c.wrap_add-first.ensures, c.capacity-capacity.ensures, ring.laid.length_is) at moved.places)
+
+full : (g : Over) (c : Else-has_room g) → let old = c.args.self.now in
+    Shows old.capacity c.wrap_add-first.result c.self.inside.len
+    (drop c.args.count old.items ++ take c.args.count old.items) c.self.inside.slots.places
+full g c =
+    let ring = opened c.self.inside c.self.invariant c.self.view_is in
+    rw (c.wrap_add-first.ensures, c.capacity-capacity.ensures ∙ ring.laid.length_is)
+    (turned_full ring c.args.count c.requires (omega arith) (omega arith))
+
+pub invariant_of-self : goal.invariant_of-self
+invariant_of-self g c = let now = after g c.before in (now.1, now.2)
+
+pub invariant_of-self-else-has_room : goal.invariant_of-self-else-has_room
+invariant_of-self-else-has_room g c = let now = full g c in (now.1, now.2)
+
+pub returns-then-has_room-clause-items : goal.returns-then-has_room-clause-items
+returns-then-has_room-clause-items g c = (after g c.before).3
+
+pub returns-then-has_room-clause-capacity : goal.returns-then-has_room-clause-capacity
+returns-then-has_room-clause-capacity g c = (after g c.before).0
+
+pub returns-then-has_room-clause-start : goal.returns-then-has_room-clause-start
+returns-then-has_room-clause-start g c =
+    let ring = opened c.self.inside c.self.invariant c.self.view_is in
+    rw (
+      c.close_gap-self-inside.ensures.start,
+      c.wrap_add-first.ensures,
+      c.capacity-capacity.ensures,
+      ring.laid.length_is,
+    ) (start_turned ring c.args.count c.requires (omega arith))
+
+pub returns-then-has_room-clause-fewest : goal.returns-then-has_room-clause-fewest
+returns-then-has_room-clause-fewest g c =
+    let ring = opened c.self.inside c.self.invariant c.self.view_is in
+    rw (returns-then-has_room-clause-start g c) (fewest_rotate c.args.count _ _ _ (omega arith) c.requires (omega arith))
+
+pub returns-else-has_room-clause-items : goal.returns-else-has_room-clause-items
+returns-else-has_room-clause-items g c = (full g c).3
+
+pub returns-else-has_room-clause-start : goal.returns-else-has_room-clause-start
+returns-else-has_room-clause-start g c = grind (arith, bounds)
+
+pub returns-else-has_room-clause-fewest : goal.returns-else-has_room-clause-fewest
+returns-else-has_room-clause-fewest g c =
+    let ring = opened c.self.inside c.self.invariant c.self.view_is in
+    rw (returns-else-has_room-clause-start g c) (fewest_rotate c.args.count _ _ _ (omega arith) c.requires (omega arith))
