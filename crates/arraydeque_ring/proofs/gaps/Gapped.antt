@@ -73,7 +73,7 @@ module _ {X : Type 0} {n t : ℕ} {xs ys : List X} {ps : List (Option X)} where
   )
 
   -- an item put there
-  Gapped-put : {gap : ℕ} (i : ℕ) (x : X) → Gapped n t xs (suc gap) ys ps → length xs ≡ i
+  pub Gapped-put : {gap : ℕ} (i : ℕ) (x : X) → Gapped n t xs (suc gap) ys ps → length xs ≡ i
       → Gapped n t (xs ++ x ∷ []) gap ys (set ps (place_of t i n) (Some x))
   Gapped-put i x p front =
       let long = length-append xs (x ∷ []) in

@@ -46,7 +46,7 @@ module _ {X F : Type 0} (R : F → X → Bool → F → Type 0) where
       answers_push R f g h (replicate k true) xs x b (rw length-replicate lt) (rw length-replicate is) told said
 
   -- what is answered at a list is so at a longer one
-  told_longer : (f g : F) (bs : List Bool) (xs ys : List X) → ReturnsInTurn R f bs xs g
+  pub told_longer : (f g : F) (bs : List Bool) (xs ys : List X) → ReturnsInTurn R f bs xs g
       → ReturnsInTurn R f bs (xs ++ ys) g
   told_longer f g [] xs ys told = told
   told_longer f g (b ∷ bs) [] ys told = absurd told

@@ -1,11 +1,12 @@
 //! Dropping items where they stand: all, those at one end, and those that a closure doesn't want.
 ghost use Rattle.std.specs.Prelude.{◌≡◌, ◌-◌, ◌≤◌, [], length, take, drop};
-ghost use Rattle.std.specs.Fn.{CalledAt};
+ghost use Rattle.std.specs.Fn.{CalledAt, CalledAtMut};
 ghost use Rattle.std.specs.List.Retain.{ReturnsInTurn};
 ghost use Rattle.arraydeque_ring.specs.Gaps.{run_emptied};
 ghost use Rattle.arraydeque_ring.specs.Places.{IsFilledRun};
 ghost use Rattle.arraydeque_ring.specs.Ring.{rotated, up_by};
 ghost use Rattle.arraydeque_ring.specs.Retained.{Retains, MayBeAsked, answers_until};
+ghost use Rattle.arraydeque_ring.specs.Retained.{RetainsMut, MayWrite};
 ghost use Rattle.arraydeque_ring.specs.Steps.{more_takes};
 
 use super::Ring;
@@ -118,6 +119,37 @@ impl<T> Ring<T> {
             let keeps = f(slots.get(place));
             if keeps {
                 slots.shift(wrap_add(start, kept, capacity), place);
+                kept += 1;
+            } else {
+                drop(slots.take(place));
+            }
+        }
+        self.len = kept;
+    }
+
+    /// Keeps the items at which `f` answers true, as it left them and in their order, and drops the
+    /// others, in place. `f` is called once on each item, front to back. Each item that stays
+    /// behind the first that goes moves once.
+    #[tactic(auto, using(crate::proofs::places::Opened::end_facts))]
+    pub fn retain_mut<F: FnMut(&mut T) -> bool>(&mut self, mut f: F)
+    where
+        T: Drop,
+        F: Drop,
+        requires { MayWrite F.FnMut f self.old.items }
+        ensures retains { RetainsMut (CalledAtMut F.FnMut) f self.old self.new }
+        ensures no_longer { length self.new.items ≤ length self.old.items }
+    {
+        let (start, len) = (self.start, self.len);
+        let slots = &mut self.slots;
+        let capacity = slots.capacity();
+        let mut kept = 0;
+        for index in 0..len {
+            let place = wrap_add(start, index, capacity);
+            let keeps = f(slots.get_mut(place));
+            if keeps {
+                if kept < index {
+                    slots.shift(wrap_add(start, kept, capacity), place);
+                }
                 kept += 1;
             } else {
                 drop(slots.take(place));
