@@ -48,7 +48,7 @@
 //! | `insert` | the items before the index or those from it on, whichever are fewer |
 //! | `remove`, `drain` | the items before what goes or those behind it, whichever are fewer |
 //! | `swap`, `swap_remove_back`, `swap_remove_front` | two items, by one exchange at most |
-//! | `retain` | each kept item behind the first that goes, once |
+//! | `retain`, `retain_mut` | each kept item behind the first that goes, once |
 //! | `linearize` | in place, by no more moves and exchanges, taken together, than items |
 //! | a conversion to the other policy | no item |
 //!

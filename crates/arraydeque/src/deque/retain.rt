@@ -1,10 +1,10 @@
 //! Dropping items at their places: all, those at one end, or those that a closure rejects.
-ghost use Rattle.std.specs.Prelude.{◌≡◌, ◌-◌, ◌≤◌, Bool, [], length, take};
+ghost use Rattle.std.specs.Prelude.{◌≡◌, ◌-◌, ◌≤◌, Bool, [], length, map, take};
 ghost use Rattle.std.specs.List.{filter};
-ghost use Rattle.std.specs.Fn.{CalledAt};
-ghost use Rattle.std.specs.List.Retain.{IsFiltered};
+ghost use Rattle.std.specs.Fn.{CalledAt, CalledAtMut};
+ghost use Rattle.std.specs.List.Retain.{IsFiltered, RetainsInTurn};
 ghost use Rattle.arraydeque_ring.specs.Ring.{up_by};
-ghost use Rattle.arraydeque_ring.specs.Retained.{Retains, MayBeAsked};
+ghost use Rattle.arraydeque_ring.specs.Retained.{Retains, RetainsMut, MayBeAsked, MayWrite};
 ghost use Rattle.arraydeque_ring.specs.Steps.{more_takes};
 ghost use Rattle.arraydeque.specs.Deque.{as_ring, keep_last};
 
@@ -101,5 +101,39 @@ impl<T, const CAP: usize, B: Behavior> ArrayDeque<T, CAP, B> {
         ensures within { length self.new.items ≤ CAP }
     {
         self.ring.retain(f);
+    }
+
+    /// Keeps the items for which `f` returns true, in order and as `f` left them, and drops the
+    /// others. `f` is called once on each item, front to back.
+    ///
+    /// It works in place and takes no memory: each kept item behind the first that goes moves once.
+    ///
+    /// ```
+    /// let mut deque = ArrayDeque::<i64, 4, Saturating>::new(alloc)?;
+    /// deque.extend_back([3, 1, 4, 2]);
+    /// // Each item comes down by one, and what is then 0 goes.
+    /// deque.retain_mut(|item| {
+    ///     *item = item.saturating_sub(1);
+    ///     *item != 0
+    /// });
+    /// assert!(rt; deque.into_vec()?.as_slice() == [2, 3, 1].as_slice());
+    /// ```
+    pub fn retain_mut<F: FnMut(&mut T) -> bool>(&mut self, f: F)
+    where
+        T: Drop,
+        F: Drop,
+        requires { MayWrite F.FnMut f self.old.items }
+        ensures retains { RetainsMut (CalledAtMut F.FnMut) f
+            (as_ring CAP self.old) (as_ring CAP self.new) }
+        ensures filtered { RetainsInTurn (CalledAtMut F.FnMut) f self.old.items self.new.items }
+        ensures tested { (test : T → Bool) (change : T → T) →
+            ((item : T) (answer : Bool) (after : F) (left : T) →
+            CalledAtMut F.FnMut f item answer after left →
+            (answer ≡ test item) × (left ≡ change item) × (after ≡ f))
+            → map change (filter test self.old.items) ≡ self.new.items }
+        ensures no_longer { length self.new.items ≤ length self.old.items }
+        ensures within { length self.new.items ≤ CAP }
+    {
+        self.ring.retain_mut(f);
     }
 }
