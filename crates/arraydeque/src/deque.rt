@@ -21,6 +21,7 @@ mod linearize;
 mod makers;
 mod moves;
 mod parts;
+mod pop_if;
 mod pushes;
 mod retain;
 mod swaps;

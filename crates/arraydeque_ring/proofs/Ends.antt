@@ -16,7 +16,8 @@ module _ {X : Type 0} where
   nothing_last (x ∷ xs) none = let some = slice_get-get_or (x ∷ xs) (length (x ∷ xs) - 1) x (omega arith) in cc
 
   -- a list is what stands before its last item, and that item
-  last_and_rest : (xs : List X) (x : X) → Some x ≡ slice_get xs (length xs - 1) → take (length xs - 1) xs ++ x ∷ [] ≡ xs
+  pub last_and_rest : (xs : List X) (x : X) → Some x ≡ slice_get xs (length xs - 1)
+      → take (length xs - 1) xs ++ x ∷ [] ≡ xs
   last_and_rest xs x last =
       let k = length xs - 1 in
       grind (arith, get_or_from_slice_get xs k x x (sym last), take_more xs k x, take_all (k + 1) xs)

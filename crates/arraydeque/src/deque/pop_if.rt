@@ -1,0 +1,80 @@
+//! Pops of an item that a closure wants.
+ghost use Rattle.std.specs.Prelude.{◌≡◌, ◌<◌, ◌≤◌, Some, length, min, slice_get, OnSome, IfNone};
+ghost use Rattle.std.specs.Fn.{FnOnceTakesAtMut};
+ghost use Rattle.std.specs.List.Retain.{PopsIf, PopsFrontIf};
+ghost use Rattle.arraydeque_ring.specs.Ring.{place_of};
+ghost use Rattle.arraydeque_ring.specs.Steps.{more_lends, more_takes};
+ghost use Rattle.arraydeque.specs.Deque.{last_item};
+
+use super::ArrayDeque;
+use crate::behavior::Behavior;
+
+impl<T, const CAP: usize, B: Behavior> ArrayDeque<T, CAP, B> {
+    /// Removes the first item and returns it, if `predicate` returns true for it. Else returns
+    /// `None`, and the item stays, as `predicate` left it. No other item moves. An empty deque
+    /// doesn't call `predicate`.
+    ///
+    /// ```
+    /// let mut deque = ArrayDeque::<i64, 3, Saturating>::new(alloc)?;
+    /// deque.extend_back([1, 2, 3]);
+    /// assert!(rt; deque.pop_front_if(|item| *item < 2) == Some(1));
+    /// assert!(rt; deque.pop_front_if(|item| *item < 2) == None);
+    /// assert!(rt; deque.into_vec()?.as_slice() == [2, 3].as_slice());
+    /// ```
+    pub fn pop_front_if<P: FnOnce(&mut T) -> bool>(&mut self, predicate: P) -> Option<T>
+        requires { (item : T) → slice_get self.old.items 0 ≡ Some item →
+            FnOnceTakesAtMut P.FnOnce predicate item }
+        ensures cases { PopsFrontIf P.FnOnce self.old.items self.new.items predicate result }
+        ensures shorter { OnSome result (length self.new.items < length self.old.items) }
+        ensures within { length self.new.items ≤ CAP }
+        ensures start { OnSome result (self.new.start ≡ place_of self.old.start 1 CAP) }
+        ensures steps { OnSome result (self.new.steps ≡
+            more_takes 1 (more_lends 1 self.old.steps)) }
+        ensures none { IfNone result (self.new ≡ record self.old {
+          items = self.new.items;
+          steps = more_lends (min 1 (length self.old.items)) self.old.steps;
+        }) }
+    {
+        // This call makes it known that the list fits the capacity.
+        let _len = self.len();
+        let item = self.front_mut()?;
+        if predicate(item) {
+            self.pop_front()
+        } else {
+            None
+        }
+    }
+
+    /// Removes the last item and returns it, if `predicate` returns true for it. Else returns
+    /// `None`, and the item stays, as `predicate` left it. No other item moves. An empty deque
+    /// doesn't call `predicate`.
+    ///
+    /// ```
+    /// let mut deque = ArrayDeque::<i64, 3, Saturating>::new(alloc)?;
+    /// deque.extend_back([5, 2, 3]);
+    /// while deque.pop_back_if(|item| *item < 4).is_some() {}
+    /// assert!(rt; deque.into_vec()?.as_slice() == [5].as_slice());
+    /// ```
+    pub fn pop_back_if<P: FnOnce(&mut T) -> bool>(&mut self, predicate: P) -> Option<T>
+        requires { (item : T) → last_item self.old.items ≡ Some item →
+            FnOnceTakesAtMut P.FnOnce predicate item }
+        ensures cases { PopsIf P.FnOnce self.old.items self.new.items predicate result }
+        ensures shorter { OnSome result (length self.new.items < length self.old.items) }
+        ensures within { length self.new.items ≤ CAP }
+        ensures start { self.new.start ≡ self.old.start }
+        ensures steps { OnSome result (self.new.steps ≡
+            more_takes 1 (more_lends 1 self.old.steps)) }
+        ensures none { IfNone result (self.new ≡ record self.old {
+          items = self.new.items;
+          steps = more_lends (min 1 (length self.old.items)) self.old.steps;
+        }) }
+    {
+        let _len = self.len();
+        let item = self.back_mut()?;
+        if predicate(item) {
+            self.pop_back()
+        } else {
+            None
+        }
+    }
+}
