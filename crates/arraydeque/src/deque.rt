@@ -13,6 +13,7 @@ use std::marker::{Model, PhantomData};
 
 mod access;
 mod blocks;
+mod bytes;
 mod clone;
 mod compare;
 mod extend;

@@ -1,0 +1,19 @@
+-- Bytes copied from one list and then from another into a third, as many as there is room for.
+use Rattle.std.proofs.{
+  Common.{◌≡◌, ℕ, ◌+◌, ◌-◌, List, ◌++◌, length, take, drop, min, arith},
+  lemmas.List.{places, same_lists},
+}
+
+module _ {X : Type 0} (xs ys bs : List X) (m k : ℕ) (first : m ≡ min (length xs) (length bs))
+    (second : k ≡ min (length ys) (length bs - m)) where
+  abbrev front : List X
+  front = take m xs ++ drop (0 + m) bs
+
+  pub both_read : take m front ++ take k ys ++ drop (m + k) front
+      ≡ take (length bs) (xs ++ ys) ++ drop (length (xs ++ ys)) bs
+  both_read = same_lists _ _ (grind (arith, places)) (λ i d lt. grind (arith, places))
+
+-- what was read, and what is left
+pub read_rest : {X : Type 0} (xs bs : List X) (n : ℕ) → n ≡ min (length xs) (length bs)
+    → take n (take (length bs) xs ++ drop (length xs) bs) ++ drop n xs ≡ xs
+read_rest xs bs n is = same_lists _ _ (grind (arith, places)) (λ i d lt. grind (arith, places))

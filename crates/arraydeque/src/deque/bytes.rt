@@ -1,0 +1,142 @@
+//! A deque of bytes as a stream: read at its front, and under `Saturating` written at its back.
+ghost use Rattle.std.specs.Prelude.{◌≡◌, ◌+◌, ◌-◌, ◌≤◌, [], ◌++◌, length, take, drop, min, None, Some, Ok, IsOk, IfOk};
+ghost use Rattle.std.specs.Borrow.{sem, u8 as byte};
+ghost use Rattle.std.specs.Io.{ReadsAtMost, WritesAtMost, StartsWith};
+ghost use Rattle.std.specs.Io.BufRead.{Rests, FillKeeps, DropsConsumable};
+ghost use Rattle.std.specs.Io.KnownBytes.{Keeps, ReadConsumes, WriteAppends};
+ghost use Rattle.arraydeque_ring.specs.Ring.{up_by};
+ghost use Rattle.arraydeque_ring.specs.Steps.{more_takes};
+ghost use Rattle.arraydeque.specs.Deque.{with_back};
+ghost use Rattle.arraydeque.specs.contracts.deque.ArrayDeque.{the_row};
+
+use super::ArrayDeque;
+use crate::behavior::{Behavior, Saturating};
+use std::io::{BufRead, Read, Result, Write};
+
+impl<const CAP: usize, B: Behavior> Read for ArrayDeque<u8, CAP, B> {
+    ghost remaining = { λ deque. Some deque.items };
+
+    /// Takes the first bytes out, as many as `buf` has room for, and returns their number. No byte
+    /// that stays moves. It always returns `Ok`.
+    ///
+    /// ```
+    /// let mut deque = ArrayDeque::<u8, 4, Wrapping>::new(alloc)?;
+    /// deque.extend_back([1, 2, 3]);
+    /// let mut buf = [0; 2];
+    /// assert!(rt; deque.read(&mut buf)? == 2 && buf == [1, 2]);
+    /// assert!(rt; deque.read(&mut buf)? == 1 && buf == [3, 2]);
+    /// ```
+    fn read(&mut self, buf: &mut [u8]) -> Result<usize>
+        ensures bound { ReadsAtMost result buf.new }
+        ensures bytes { ReadConsumes (Some self.old.items) (Some self.new.items) result buf.new }
+        ensures count { result ≡ Ok (min (length self.old.items) (length buf.old)) }
+        ensures read { buf.new ≡ take (length buf.old) self.old.items
+            ++ drop (length self.old.items) buf.old }
+        ensures items { self.new.items ≡ drop (length buf.old) self.old.items }
+        ensures within { length self.new.items ≤ CAP }
+        ensures start { let count = min (length self.old.items) (length buf.old) in
+            self.new.start ≡ up_by count self.old.start CAP }
+        ensures steps { let count = min (length self.old.items) (length buf.old) in
+            self.new.steps ≡ more_takes count self.old.steps }
+    {
+        let (front, back) = self.as_slices();
+        let first = copy_to(front, buf, 0);
+        let second = copy_to(back, buf, first);
+        self.consume(first + second);
+        Ok(first + second)
+    }
+}
+
+impl<const CAP: usize, B: Behavior> BufRead for ArrayDeque<u8, CAP, B> {
+    /// Lends the bytes up to the region's end, and those behind it where there are none: only an
+    /// empty deque lends none. It always returns `Ok`.
+    ///
+    /// ```
+    /// let mut deque = ArrayDeque::<u8, 4, Saturating>::new(alloc)?;
+    /// deque.extend_back([1, 2, 3]);
+    /// assert!(rt; deque.fill_buf()? == [1, 2, 3].as_slice());
+    /// deque.consume(2);
+    /// assert!(rt; deque.into_vec()?.as_slice() == [3].as_slice());
+    /// ```
+    fn fill_buf(&mut self) -> Result<&[u8]>
+        ensures front { IfOk result (λ bytes. StartsWith self.old.items bytes.now) }
+        ensures end { IfOk result (λ bytes. length bytes.now ≡ 0 → self.old.items ≡ []) }
+        ensures* after_borrow { sem 𝓛 (Rests (the_row byte CAP.row B.row) self.entry (λ new.
+            FillKeeps (Some self.old.items) (Some new.items) None result)) }
+        ensures ok { IsOk result }
+    {
+        Ok(self.filled())
+    }
+
+    /// Drops the first `amount` bytes, or all if there are no more. No other byte moves.
+    fn consume(&mut self, amount: usize)
+        ensures bytes { DropsConsumable (Some self.old.items) (Some self.new.items) None amount }
+        ensures items { self.new.items ≡ drop amount self.old.items }
+        ensures within { length self.new.items ≤ CAP }
+        ensures start { let count = min amount (length self.old.items) in
+            self.new.start ≡ up_by count self.old.start CAP }
+        ensures steps { let count = min amount (length self.old.items) in
+            self.new.steps ≡ more_takes count self.old.steps }
+    {
+        self.truncate_front(self.len().saturating_sub(amount));
+    }
+}
+
+/// Copies as many bytes as there is room for from the index `at` on, and returns their number.
+fn copy_to(from: &[u8], to: &mut [u8], at: usize) -> usize
+    requires { at ≤ length to.old }
+    ensures count { result ≡ min (length from.now) (length to.old - at) }
+    ensures copied { to.new ≡
+        take at to.old ++ take result from.now ++ drop (at + result) to.old }
+{
+    let count = from.len().min(to.len() - at);
+    to[at..at + count].copy_from_slice(&from[..count]);
+    count
+}
+
+impl<const CAP: usize, B: Behavior> ArrayDeque<u8, CAP, B> {
+    /// The bytes up to the region's end, or those behind it where there are none.
+    fn filled(&self) -> &[u8]
+        ensures front { StartsWith self.now.items result.now }
+        ensures end { length result.now ≡ 0 → self.now.items ≡ [] }
+    {
+        let (first, second) = self.as_slices();
+        if first.is_empty() { second } else { first }
+    }
+}
+
+impl<const CAP: usize> Write for ArrayDeque<u8, CAP, Saturating> {
+    ghost contents = { λ deque. Some deque.items };
+
+    /// Adds the first bytes of `buf` at the back, as many as there is room for, and returns their
+    /// number, which is 0 where the deque is full. No byte moves. It always returns `Ok`; a
+    /// `write_all` that finds too little room fails with `WriteZero`.
+    ///
+    /// ```
+    /// let mut deque = ArrayDeque::<u8, 3, Saturating>::new(alloc)?;
+    /// assert!(rt; deque.write(&[1, 2])? == 2 && deque.write(&[3, 4])? == 1);
+    /// assert!(rt; deque.write(&[4])? == 0 && deque.write_all(&[4]).is_err());
+    /// assert!(rt; deque.into_vec()?.as_slice() == [1, 2, 3].as_slice());
+    /// ```
+    fn write(&mut self, buf: &[u8]) -> Result<usize>
+        ensures bound { WritesAtMost result buf.now }
+        ensures bytes { WriteAppends (Some self.old.items) (Some self.new.items) result buf.now }
+        ensures count { result ≡ Ok (min (length buf.now) (CAP - length self.old.items)) }
+        ensures written { self.new ≡ with_back
+            (take (CAP - length self.old.items) buf.now) self.old }
+        ensures within { length self.new.items ≤ CAP }
+    {
+        let before = self.len();
+        self.extend_back(buf.iter().copied());
+        Ok(self.len() - before)
+    }
+
+    /// Does nothing: what was written is there. It always returns `Ok`.
+    fn flush(&mut self) -> Result<()>
+        ensures bytes { Keeps (Some self.old.items) (Some self.new.items) }
+        ensures ok { IsOk result }
+        ensures unchanged { self.new ≡ self.old }
+    {
+        Ok(())
+    }
+}
