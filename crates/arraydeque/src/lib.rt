@@ -17,10 +17,10 @@
 //!
 //! - [`Saturating`]: a push or an insert into a full deque returns its element in a
 //!   [`CapacityError`]. `extend_back`, `extend_front`, `append` and `from_iter` take no more items
-//!   than there is room for.
+//!   than there is room for, and so does `write` of a deque of bytes.
 //! - [`Wrapping`]: a push into a full deque removes the item at the other end, and returns it. An
 //!   extend pushes each of its items so, and drops what goes. `append` keeps the last items of both
-//!   deques. There is no `insert`.
+//!   deques. There is no `insert`, and no `write`.
 //!
 //! A deque of capacity 0 is always empty and always full, and takes no memory. A push returns its
 //! element: in the error under `Saturating`, in place of an item under `Wrapping`.
@@ -40,11 +40,16 @@
 //! `len`. `run` makes that test itself. `as_mut_slice` requires a list in one piece, as `linearize`
 //! leaves it. `truncate` and `truncate_front` take any length.
 //!
+//! A `pop_front_if` or `pop_back_if` also returns `None` where its closure rejects the item, which
+//! stays as the closure left it. `read` and `write` of a deque of bytes always return `Ok`, with how
+//! many bytes went, which may be none: `read_exact` and `write_all` fail then.
+//!
 //! # What a call moves
 //!
 //! | Call | Moves |
 //! |---|---|
 //! | pushes, pops, extends, `append`, `split_off`, `clear`, truncates | no item that stays |
+//! | `read`, `consume` and `write` of a deque of bytes | no byte that stays |
 //! | `insert` | the items before the index or those from it on, whichever are fewer |
 //! | `remove`, `drain` | the items before what goes or those behind it, whichever are fewer |
 //! | `swap`, `swap_remove_back`, `swap_remove_front` | two items, by one exchange at most |

@@ -1,5 +1,5 @@
 //! Adding the items of an iterator.
-ghost use Rattle.std.specs.Prelude.{◌≡◌, ◌≤◌, ◌-◌, length, take, false, IsOk};
+ghost use Rattle.std.specs.Prelude.{◌≡◌, ◌≤◌, ◌-◌, length, map, take, false, IsOk};
 ghost use Rattle.std.specs.Iterator.{IsFinite, IsFiniteIterable, ExtendsWithItems};
 ghost use Rattle.arraydeque.specs.Deque.{with_back, with_front, WrapsBack, WrapsFront};
 ghost use Rattle.arraydeque.specs.Sources.{IsIterable, TakesFrom, TakesAll};
@@ -212,6 +212,59 @@ impl<T: Drop, const CAP: usize> Extend<T> for ArrayDeque<T, CAP, Wrapping> {
         ensures ok { IsOk result }
     {
         self.extend_back(iter);
+        Ok(())
+    }
+}
+
+impl<'a, T: Copy + 'a, const CAP: usize> Extend<&'a T> for ArrayDeque<T, CAP, Saturating> {
+    ghost extend_gives = { λ old xs new.
+        new ≡ with_back (take (CAP - length old.items) (map (λ x. x.now) xs)) old };
+
+    /// Adds copies of the items of an iterator at the back, in order, while there is room, and runs
+    /// the iterator to its end. Requires an iterator that ends. It always returns `Ok`.
+    ///
+    /// ```
+    /// let mut deque = ArrayDeque::<i64, 3, Saturating>::new(alloc)?;
+    /// deque.extend(&[1, 2, 3, 4])?;
+    /// assert!(rt; deque.into_vec()?.as_slice() == [1, 2, 3].as_slice());
+    /// ```
+    fn extend<I: IntoIterator<Item = &'a T>>(&mut self, iter: I) -> Result<(), AllocError>
+        requires { IsFiniteIterable
+            I.into_iter_gives I.IntoIter.can_next I.IntoIter.remaining iter }
+        ensures ran { ExtendsWithItems I.into_iter_gives I.IntoIter.next_gives
+            (λ old xs new. new ≡ with_back (take (CAP - length old.items) (map (λ x. x.now) xs)) old)
+            iter self.old self.new result }
+        ensures taken { TakesAll I.into_iter_gives I.IntoIter.next_gives iter (λ xs. self.new ≡
+            with_back (take (CAP - length self.old.items) (map (λ x. x.now) xs)) self.old) }
+        ensures ok { IsOk result }
+    {
+        let _ = Extend::<T>::extend(self, iter.into_iter().copied());
+        Ok(())
+    }
+}
+
+impl<'a, T: Copy + 'a, const CAP: usize> Extend<&'a T> for ArrayDeque<T, CAP, Wrapping> {
+    ghost extend_gives = { λ old xs new. WrapsBack CAP old (map (λ x. x.now) xs) new };
+
+    /// Adds copies of the items of an iterator at the back, as `extend_back` does: a full deque
+    /// drops its first item for each. Requires an iterator that ends. It always returns `Ok`.
+    ///
+    /// ```
+    /// let mut deque = ArrayDeque::<i64, 3, Wrapping>::new(alloc)?;
+    /// deque.extend(&[1, 2, 3, 4])?;
+    /// assert!(rt; deque.into_vec()?.as_slice() == [2, 3, 4].as_slice());
+    /// ```
+    fn extend<I: IntoIterator<Item = &'a T>>(&mut self, iter: I) -> Result<(), AllocError>
+        requires { IsFiniteIterable
+            I.into_iter_gives I.IntoIter.can_next I.IntoIter.remaining iter }
+        ensures ran { ExtendsWithItems I.into_iter_gives I.IntoIter.next_gives
+            (λ old xs new. WrapsBack CAP old (map (λ x. x.now) xs) new)
+            iter self.old self.new result }
+        ensures taken { TakesAll I.into_iter_gives I.IntoIter.next_gives iter
+            (λ xs. WrapsBack CAP self.old (map (λ x. x.now) xs) self.new) }
+        ensures ok { IsOk result }
+    {
+        self.extend_back(iter.into_iter().copied());
         Ok(())
     }
 }
