@@ -8,7 +8,7 @@ ghost use Rattle.std.specs.Io.KnownBytes.{WriteAppends};
 
 use arraydeque::{ArrayDeque, Saturating};
 use std::alloc::{AllocError, Global};
-use std::io::{self, Write};
+use std::io::{self, BufRead, Write};
 use std::marker::Model;
 
 /// The bytes that were written and not yet read, in order.
@@ -40,16 +40,7 @@ impl<const CAP: usize> Pipe<CAP> {
         ensures count { result ≡ min (length from.now) (CAP - length self.old) }
         ensures written { self.new ≡ self.old ++ take result from.now }
     {
-        let room = self.bytes.capacity() - self.bytes.len();
-        let count = room.min(from.len());
-        let piece = &from[..count];
-        for &byte in piece {
-            match self.bytes.push_back(byte) {
-                Ok(()) => {}
-                Err(_) => unreachable!(),
-            }
-        }
-        count
+        self.bytes.write(from).unwrap_or(0)
     }
 
     /// Appends all waiting bytes to `into`. Those for which memory is refused stay.
@@ -58,10 +49,11 @@ impl<const CAP: usize> Pipe<CAP> {
         ensures all { OnOk result (self.new ≡ []) }
         ensures refused { OnErr result (0 < length self.new) }
     {
-        while let Some(&byte) = self.bytes.front() {
-            into.push(byte)?;
-            self.bytes.pop_front();
-        }
+        into.reserve(self.bytes.len())?;
+        let (first, second) = self.bytes.as_slices();
+        into.extend_from_slice(first)?;
+        into.extend_from_slice(second)?;
+        self.bytes.clear();
         Ok(())
     }
 
@@ -74,9 +66,8 @@ impl<const CAP: usize> Pipe<CAP> {
             result self.old }
         ensures unchanged { OnErr result (self.new ≡ self.old) }
     {
-        let (first, _wrapped) = self.bytes.as_slices();
-        let count = writer.write(first)?;
-        self.bytes.truncate_front(self.bytes.len() - count);
+        let count = writer.write(self.bytes.fill_buf()?)?;
+        self.bytes.consume(count);
         Ok(count)
     }
 

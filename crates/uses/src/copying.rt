@@ -1,0 +1,32 @@
+//! Bytes copied out of a deque, and into one.
+//!
+//! It uses `arraydeque` as a reader and a writer, and is proved over the deque's public contract
+//! alone: what was copied is all that was there.
+ghost use Rattle.std.specs.Prelude.{◌≡◌, ◌++◌, [], OnOk};
+
+use arraydeque::behavior::Behavior;
+use arraydeque::{ArrayDeque, Saturating};
+use std::io;
+
+/// Moves all bytes behind those of a vector, and returns their number.
+pub fn pour<const CAP: usize, B: Behavior>(
+    from: &mut ArrayDeque<u8, CAP, B>,
+    into: &mut Vec<u8>,
+) -> io::Result<u64>
+    ensures bytes { OnOk result (into.new.items ≡ into.old.items ++ from.old.items) }
+    ensures emptied { OnOk result (from.new.items ≡ []) }
+{
+    io::copy(from, into)
+}
+
+/// Moves all bytes behind those of another deque, and returns their number. Where that one has too
+/// little room it fails, full, and the other bytes are lost.
+pub fn pour_over<const CAP: usize, const N: usize, B: Behavior>(
+    from: &mut ArrayDeque<u8, CAP, B>,
+    into: &mut ArrayDeque<u8, N, Saturating>,
+) -> io::Result<u64>
+    ensures bytes { OnOk result (into.new.items ≡ into.old.items ++ from.old.items) }
+    ensures emptied { OnOk result (from.new.items ≡ []) }
+{
+    io::copy(from, into)
+}
