@@ -69,7 +69,7 @@ macro_rules! of_all_items {
     };
 }
 
-/// The calls that most users make, at a large capacity.
+/// The calls that most users make, mostly at a large capacity.
 fn common_workloads() -> Vec<Workload> {
     let mut list = Vec::new();
     of_all_items!(list, queue, arraydeque_bench_queue, (8, u64, 64), (8, u64, 1000000));
