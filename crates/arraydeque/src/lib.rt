@@ -41,8 +41,8 @@
 //! leaves it. `truncate` and `truncate_front` take any length.
 //!
 //! A `pop_front_if` or `pop_back_if` also returns `None` where its closure rejects the item, which
-//! stays as the closure left it. `read` and `write` of a deque of bytes always return `Ok`, with how
-//! many bytes went, which may be none: `read_exact` and `write_all` fail then.
+//! stays as the closure left it. `read` and `write` of a deque of bytes always return `Ok`, with
+//! how many bytes went, which may be none: `read_exact` and `write_all` fail then.
 //!
 //! # What a call moves
 //!

@@ -232,7 +232,8 @@ impl<'a, T: Copy + 'a, const CAP: usize> Extend<&'a T> for ArrayDeque<T, CAP, Sa
         requires { IsFiniteIterable
             I.into_iter_gives I.IntoIter.can_next I.IntoIter.remaining iter }
         ensures ran { ExtendsWithItems I.into_iter_gives I.IntoIter.next_gives
-            (λ old xs new. new ≡ with_back (take (CAP - length old.items) (map (λ x. x.now) xs)) old)
+            (λ old xs new.
+            new ≡ with_back (take (CAP - length old.items) (map (λ x. x.now) xs)) old)
             iter self.old self.new result }
         ensures taken { TakesAll I.into_iter_gives I.IntoIter.next_gives iter (λ xs. self.new ≡
             with_back (take (CAP - length self.old.items) (map (λ x. x.now) xs)) self.old) }

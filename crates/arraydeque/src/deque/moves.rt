@@ -1,4 +1,5 @@
-//! Calls that open or close a gap: an insert, which only one policy offers, a removal and rotations.
+//! Calls that open or close a gap: an insert, which only one policy offers, a removal, and
+//! rotations.
 ghost use Rattle.std.specs.Prelude.{◌≡◌, ◌<◌, ◌≤◌, ◌-◌, ◌++◌, length, take, drop, slice_get, IfErr, OnOk, OnErr, OnSome, IfNone, IsOk, ◌↔◌};
 ghost use Rattle.std.specs.List.{insert, remove};
 ghost use Rattle.arraydeque_ring.specs.Changed.{InsertMovesFewest, RemoveMovesFewest, RotateMovesFewest};

@@ -1,5 +1,5 @@
-//! Calls that open or close a gap in a ring by moving the side with fewer items. Such a gap are also
-//! the empty places that a rotation has items cross.
+//! Calls that open or close a gap in a ring by moving the side with fewer items. A rotation closes
+//! one too: the empty places, seen from its new first item on.
 ghost use Rattle.std.specs.Prelude.{◌≡◌, ◌-◌, ◌+◌, ◌<◌, ◌≤◌, ◌++◌, length, take, drop, slice_get, min, max};
 ghost use Rattle.std.specs.List.{insert, remove};
 ghost use Rattle.arraydeque_ring.specs.Gaps.{IsEmptyRun, gap_moved};
@@ -80,6 +80,13 @@ impl<T> Ring<T> {
     /// Puts the first `count` items behind the others. In a full ring no item moves. Else the first
     /// `count` or the others move across the empty places, whichever are fewer, and on a tie the
     /// first.
+    ///
+    /// ```
+    /// let mut ring = Ring::of_copies(alloc, 4, &[1, 2, 3])?;
+    /// assert!(rt; ring.len() == 3);
+    /// ring.rotate_left(1);
+    /// assert!(rt; IntoIter::of(ring).eq([2, 3, 1]));
+    /// ```
     #[tactic(auto, using(crate::proofs::places::Opened::end_facts))]
     pub fn rotate_left(&mut self, count: usize)
         requires { count ≤ length self.old.items }

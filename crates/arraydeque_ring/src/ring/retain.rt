@@ -130,6 +130,15 @@ impl<T> Ring<T> {
     /// Keeps the items at which `f` answers true, as it left them and in their order, and drops the
     /// others, in place. `f` is called once on each item, front to back. Each item that stays
     /// behind the first that goes moves once.
+    ///
+    /// ```
+    /// let mut ring = Ring::of_copies(alloc, 3, &[1, 2, 3])?;
+    /// ring.retain_mut(|item| {
+    ///     *item *= 2;
+    ///     *item != 4
+    /// });
+    /// assert!(rt; IntoIter::of(ring).eq([2, 6]));
+    /// ```
     #[tactic(auto, using(crate::proofs::places::Opened::end_facts))]
     pub fn retain_mut<F: FnMut(&mut T) -> bool>(&mut self, mut f: F)
     where

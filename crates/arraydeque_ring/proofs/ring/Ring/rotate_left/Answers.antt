@@ -65,7 +65,8 @@ returns-then-has_room-clause-start g c =
 pub returns-then-has_room-clause-fewest : goal.returns-then-has_room-clause-fewest
 returns-then-has_room-clause-fewest g c =
     let ring = opened c.self.inside c.self.invariant c.self.view_is in
-    rw (returns-then-has_room-clause-start g c) (fewest_rotate c.args.count _ _ _ (omega arith) c.requires (omega arith))
+    rw (returns-then-has_room-clause-start g c)
+        (fewest_rotate c.args.count _ _ _ (omega arith) c.requires (omega arith))
 
 pub returns-else-has_room-clause-items : goal.returns-else-has_room-clause-items
 returns-else-has_room-clause-items g c = (full g c).3
@@ -76,4 +77,5 @@ returns-else-has_room-clause-start g c = grind (arith, bounds)
 pub returns-else-has_room-clause-fewest : goal.returns-else-has_room-clause-fewest
 returns-else-has_room-clause-fewest g c =
     let ring = opened c.self.inside c.self.invariant c.self.view_is in
-    rw (returns-else-has_room-clause-start g c) (fewest_rotate c.args.count _ _ _ (omega arith) c.requires (omega arith))
+    rw (returns-else-has_room-clause-start g c)
+        (fewest_rotate c.args.count _ _ _ (omega arith) c.requires (omega arith))
