@@ -18,6 +18,7 @@ use std::error::Error;
 use std::fmt::Debug;
 use std::hash::{DefaultHasher, Hash, Hasher};
 use std::io;
+use std::io::{BufRead, Read};
 use std::test::Fail;
 
 /// Whether a deque of two items is read.
@@ -118,10 +119,12 @@ fn lent<T, const CAP: usize, B: Behavior>(deque: &mut ArrayDeque<T, CAP, B>) -> 
 }
 
 /// What the calls that take an item out make of a deque.
-fn taken<T, const CAP: usize, B: Behavior>(deque: &mut ArrayDeque<T, CAP, B>) -> [Option<T>; 5] {
+fn taken<T, const CAP: usize, B: Behavior>(deque: &mut ArrayDeque<T, CAP, B>) -> [Option<T>; 7] {
     [
         deque.pop_front(),
         deque.pop_back(),
+        deque.pop_front_if(|_| true),
+        deque.pop_back_if(|_| true),
         deque.remove(0),
         deque.swap_remove_back(0),
         deque.swap_remove_front(0),
@@ -310,6 +313,27 @@ fn add<T: Drop, const CAP: usize>(
     wrapping.extend(fourth)
 }
 
+/// Adds copies to deques of either policy.
+fn add_copies<T: Copy, const CAP: usize>(
+    saturating: &mut ArrayDeque<T, CAP, Saturating>,
+    wrapping: &mut ArrayDeque<T, CAP, Wrapping>,
+    item: &T,
+) -> Result<(), AllocError> {
+    saturating.extend(Some(item))?;
+    wrapping.extend(Some(item))
+}
+
+/// The first byte of a deque under any policy, read, and what is left of it, dropped.
+fn read_from<const CAP: usize, B: Behavior>(
+    deque: &mut ArrayDeque<u8, CAP, B>,
+) -> io::Result<(usize, u8, usize)> {
+    let mut byte = [0];
+    let count = deque.read(&mut byte)?;
+    let left = deque.fill_buf()?.len();
+    deque.consume(left);
+    Ok((count, byte[0], left))
+}
+
 /// Puts another deque's items behind the last one, in the places of the first ones.
 fn join_all<T: Drop, const CAP: usize, const N: usize, B: Behavior>(
     deque: &mut ArrayDeque<T, CAP, Wrapping>,
@@ -484,7 +508,7 @@ fn asks_nothing(alloc: Global) -> Result<bool, Fail> {
                 ]
             && given_up == [Some(1), Some(6)]
             && items.as_slice() == [3, 2, 7].as_slice()
-            && out == [Some(8), None, None, None, None]
+            && out == [Some(8), None, None, None, None, None, None]
             && made(listed(new::<u8, 3, Wrapping>(alloc)?))?.is_empty(),
     )
 }
@@ -497,6 +521,7 @@ fn asks_to_drop(alloc: Global) -> Result<bool, Fail> {
         vec![in alloc; 1, 2, 3]?,
     ).map_err(|_| "refused")?;
     add(&mut first, &mut last, [Some(4), Some(5), Some(6), None])?;
+    add_copies(&mut first, &mut last, &7)?;
     let (copies, mut other) = of_arrays::<u8, 2, 3>(alloc, [1, 2, 3]).map_err(|_| "refused")?;
     let all = made(last_of::<u8, 2, _>(alloc, Some(7)))?.drain(..)?;
     let are_told_apart = are_equal(&first, &copies, &2) && !are_equal(&last, &other, &2);
@@ -509,6 +534,12 @@ fn asks_to_drop(alloc: Global) -> Result<bool, Fail> {
             && named(1, 2) == [(Some(1), None), (None, Some(2)), (Some(1), Some(2))]
             && unnamed::<u8>() == (None, None),
     )
+}
+
+/// Whether calls on bytes do, under any policy.
+fn asks_for_bytes(alloc: Global) -> Result<bool, Fail> {
+    let mut deque = made(last_of::<u8, 2, _>(alloc, [1, 2, 3]))?;
+    Ok(read_from(&mut deque)? == (1, 2, 1) && deque.is_empty())
 }
 
 /// Whether comparisons, texts and clones do.
@@ -552,6 +583,7 @@ fn no_call_asks_for_more_than_it_may(rt: HostRuntime) -> Result<(), Fail> {
         asks_nothing(rt.alloc())?
             && asks_to_drop(rt.alloc())?
             && asks_for_traits(rt.alloc())?
+            && asks_for_bytes(rt.alloc())?
             && scans(rt.alloc())?
     );
     Ok(())

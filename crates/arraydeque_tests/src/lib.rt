@@ -10,6 +10,8 @@ mod access;
 #[cfg(test)]
 mod bounds;
 #[cfg(test)]
+mod bytes;
+#[cfg(test)]
 mod deque;
 #[cfg(test)]
 mod extend;
@@ -21,6 +23,8 @@ mod makers;
 mod moves;
 #[cfg(test)]
 mod parts;
+#[cfg(test)]
+mod pop_if;
 #[cfg(test)]
 mod pushes;
 #[cfg(test)]
