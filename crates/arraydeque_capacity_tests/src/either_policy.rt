@@ -27,6 +27,7 @@ fn takes_nothing_out<const CAP: usize, B: Behavior>(deque: &mut ArrayDeque<i64, 
     deque.clear();
     deque.linearize();
     (deque.pop_front(), deque.pop_back()) == (None, None)
+        && (deque.pop_front_if(|_| true), deque.pop_back_if(|_| true)) == (None, None)
         && (deque.remove(0), deque.swap_remove_back(0)) == (None, None)
         && deque.swap_remove_front(0).is_none()
         && is_cut(deque, &[], &[])
@@ -195,6 +196,8 @@ fn debug_texts(rt: HostRuntime) -> Result<(), Fail> {
 enum Out {
     Front,
     Back,
+    FrontIf,
+    BackIf,
     Remove,
     SwapBack,
     SwapFront,
@@ -209,6 +212,8 @@ fn take_out<B: Behavior>(deque: &mut ArrayDeque<i64, 1, B>, out: Out) -> Option<
     match out {
         Out::Front => deque.pop_front(),
         Out::Back => deque.pop_back(),
+        Out::FrontIf => deque.pop_front_if(|item| *item == 6),
+        Out::BackIf => deque.pop_back_if(|item| *item == 6),
         Out::Remove => deque.remove(0),
         Out::SwapBack => deque.swap_remove_back(0),
         Out::SwapFront => deque.swap_remove_front(0),
@@ -252,6 +257,8 @@ fn one_place_is_free_once_its_item_goes(rt: HostRuntime) -> Result<(), Fail> {
     let ways = [
         Out::Front,
         Out::Back,
+        Out::FrontIf,
+        Out::BackIf,
         Out::Remove,
         Out::SwapBack,
         Out::SwapFront,

@@ -8,7 +8,7 @@
 //! |---|---|---|
 //! | | in `either_policy`: | |
 //! | lengths, `as_slices`, all of `access` | `reads_nothing` | `reads_one`, `writes_one` |
-//! | pops, `remove`, removals by exchange | `takes_nothing_out` | `is_free_after` |
+//! | pops, of `pop_if` too, `remove`, removals by exchange | `takes_nothing_out` | `is_free_after` |
 //! | all of `retain` | `takes_nothing_out` | `is_free_after`, `reads_one` |
 //! | `swap` and `[i]`, which ask for an item | | `reads_one`, `writes_one` |
 //! | `linearize` | `takes_nothing_out` | `reads_one` |
@@ -19,6 +19,9 @@
 //! | `lends`, both ends of `Iter`, `IterMut` | `lends_nothing` | `lends_one`, `writes_over_one` |
 //! | `fold` of `Iter`, `for_each` of both | `calls_on_nothing` | `calls_on_one` |
 //! | both ends of `IntoIter`, `into_vec` | `gives_nothing` | `gives_one` |
+//! | | in `bytes`: | |
+//! | reads under either policy | `reads_nothing` | `reads_one` |
+//! | writes under `Saturating` | `writes_nothing` | `writes_one` |
 //! | | in `policies`: | |
 //! | pushes and `insert` under `Saturating` | `refuses_all` | `refuses_at_one` |
 //! | pushes under `Wrapping` | `displaces_all` | `displaces_at_one` |
@@ -31,6 +34,8 @@
 //! | both conversions | `are_converted` | `are_converted` |
 #![tactic(auto)]
 
+#[cfg(test)]
+mod bytes;
 #[cfg(test)]
 mod either_policy;
 #[cfg(test)]

@@ -80,10 +80,13 @@ fn refusing_extends<const CAP: usize>(
     let mut back = deque_at::<CAP>(alloc, 0, items)?;
     let mut front = deque_at::<CAP>(alloc, 0, items)?;
     let mut by_trait = deque_at::<CAP>(alloc, 0, items)?;
+    let mut by_copies = deque_at::<CAP>(alloc, 0, items)?;
     back.extend_back([3, 4]);
     front.extend_front([3, 4]);
     by_trait.extend([3, 4])?;
-    Ok(holds(&back, left) && holds(&front, left) && holds(&by_trait, left))
+    by_copies.extend(&[3, 4])?;
+    let by_itself = holds(&back, left) && holds(&front, left);
+    Ok(by_itself && holds(&by_trait, left) && holds(&by_copies, left))
 }
 
 /// The same under the policy that displaces.
@@ -95,10 +98,13 @@ fn displacing_extends<const CAP: usize>(
     let mut back = wrapping_at::<CAP>(alloc, 0, items)?;
     let mut front = wrapping_at::<CAP>(alloc, 0, items)?;
     let mut by_trait = wrapping_at::<CAP>(alloc, 0, items)?;
+    let mut by_copies = wrapping_at::<CAP>(alloc, 0, items)?;
     back.extend_back([3, 4]);
     front.extend_front([3, 4]);
     by_trait.extend([3, 4])?;
-    Ok(holds(&back, left) && holds(&front, left) && holds(&by_trait, left))
+    by_copies.extend(&[3, 4])?;
+    let by_itself = holds(&back, left) && holds(&front, left);
+    Ok(by_itself && holds(&by_trait, left) && holds(&by_copies, left))
 }
 
 /// Whether a deque of these items takes from another what leaves these two lists.

@@ -197,6 +197,26 @@ fn pops_and_refused_pushes_drop_nothing(rt: HostRuntime) -> Result<(), Fail> {
 }
 
 #[test]
+fn pops_that_ask_first_drop_nothing(rt: HostRuntime) -> Result<(), Fail> {
+    let drops = Drops::new();
+    for start in 0..3 {
+        let mut deque = deque_at::<3>(rt.alloc(), &drops, start, 3)?;
+        drops.since();
+        let kept = deque.pop_front_if(|item| is_even(item));
+        let popped = deque.pop_back_if(|item| !is_even(item));
+        let before = drops.since();
+        let seen = [
+            before,
+            drops.with(kept),
+            drops.with(popped),
+            drops.with(deque),
+        ];
+        assert!(rt; seen == [0, 0, 3, 12], "start {start}");
+    }
+    Ok(())
+}
+
+#[test]
 fn surplus_and_displaced_items_are_dropped(rt: HostRuntime) -> Result<(), Fail> {
     let drops = Drops::new();
     let mut deque: ArrayDeque<_, 3, Wrapping> = deque_at::<3>(rt.alloc(), &drops, 0, 3)?.into();

@@ -8,6 +8,7 @@ use arraydeque::{ArrayDeque, IterMut, RangeArgument, Saturating, Wrapping};
 use std::alloc::{AllocError, Global};
 use std::cmp::Ordering;
 use std::hash::{DefaultHasher, Hash, Hasher};
+use std::io::{BufRead, Read, Write};
 use std::test::Fail;
 
 type Deque = ArrayDeque<i64, 4, Saturating>;
@@ -184,6 +185,32 @@ fn calls_in_place_1_request_32_bytes(rt: HostRuntime) -> Result<(), Fail> {
     refill(&mut deque, &[1, 2]);
     let are_edited = is_written && is_moved && is_retained && is_truncated && is_doubled;
     assert!(rt; hands_out_nothing(rt.alloc(), deque)? && are_edited);
+    Ok(())
+}
+
+/// Whether bytes go in and out by each call of a stream, where the list wraps, and by pops that ask.
+fn streams(deque: &mut ArrayDeque<u8, 4, Saturating>) -> Result<bool, Fail> {
+    let mut buf = [0; 3];
+    let is_read = deque.write(&[1, 2, 3])? == 3 && deque.read(&mut buf)? == 3 && buf == [1, 2, 3];
+    deque.extend(&[4, 5])?;
+    let is_lent = deque.fill_buf()? == [4].as_slice();
+    deque.consume(1);
+    let is_written = deque.write_all(&[6, 7]).is_ok() && deque.write_all(&[8, 9]).is_err();
+    Ok(
+        is_read
+            && is_lent
+            && is_written
+            && deque.pop_front_if(|byte| *byte == 5) == Some(5)
+            && deque.pop_back_if(|byte| *byte == 5).is_none()
+            && deque.read_exact(&mut buf).is_ok()
+            && buf == [6, 7, 8],
+    )
+}
+
+#[test]
+fn bytes_as_a_stream_1_request_4_bytes(rt: HostRuntime) -> Result<(), Fail> {
+    let mut deque = ArrayDeque::<u8, 4, Saturating>::new(rt.alloc())?;
+    assert!(rt; streams(&mut deque)? && deque.is_empty());
     Ok(())
 }
 
