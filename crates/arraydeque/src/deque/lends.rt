@@ -1,15 +1,17 @@
-//! All items of a deque, lent for reading or for writing.
-ghost use Rattle.std.specs.Prelude.{◌≡◌, ◌≤◌, ◌++◌, [], List, length};
+//! Items of a deque, all or a part, lent for reading or for writing.
+ghost use Rattle.std.specs.Prelude.{◌≡◌, ◌≤◌, ◌++◌, [], List, length, slice_range};
 ghost use Rattle.std.specs.List.{refill};
 ghost use Rattle.std.specs.Borrow.{sem};
 ghost use Rattle.arraydeque_ring.specs.Loans.{remaining};
 ghost use Rattle.arraydeque_ring.specs.Ring.{IsInOnePiece};
 ghost use Rattle.arraydeque.specs.Deque.{as_ring};
+ghost use Rattle.arraydeque.specs.Range.{span_of};
 ghost use Rattle.arraydeque.specs.DequeLends.{lends_items, lends_list, lends_slices, lends_loan};
 
 use super::ArrayDeque;
 use crate::behavior::Behavior;
 use crate::iter::{Iter, IterMut};
+use crate::range::RangeArgument;
 use arraydeque_ring::slots::loan::Loan;
 
 impl<T, const CAP: usize, B: Behavior> ArrayDeque<T, CAP, B> {
@@ -33,6 +35,40 @@ impl<T, const CAP: usize, B: Behavior> ArrayDeque<T, CAP, B> {
         let _len = self.len();
         let (first, second) = self.as_slices();
         Iter { first, second }
+    }
+
+    /// Returns an iterator over the items of a range, from both ends. Requires a range that is in
+    /// order and ends within the list.
+    ///
+    /// ```
+    /// let mut deque = ArrayDeque::<i64, 3, Wrapping>::new(alloc)?;
+    /// deque.extend_back([1, 2, 3, 4]);
+    /// assert!(rt; deque.len() == 3);
+    /// let last: Vec<i64> = deque.range(1..).copied().collect(alloc)?;
+    /// assert!(rt; last.as_slice() == [3, 4].as_slice());
+    /// ```
+    pub fn range<R: RangeArgument<usize>>(&self, range: R) -> Iter<'_, T>
+    where
+        R: Drop,
+        requires in_order { let span =
+            span_of (R.names_start range) (R.names_end range) self.now.items in
+            span.from ≤ span.to }
+        requires in_bounds { let span =
+            span_of (R.names_start range) (R.names_end range) self.now.items in
+            span.to ≤ length self.now.items }
+        ensures value { let span =
+            span_of (R.names_start range) (R.names_end range) self.now.items in
+            result ≡ slice_range self.now.items span.from span.to }
+        ensures within { length result ≤ CAP }
+    {
+        let from = range.start().unwrap_or(0);
+        let to = range.end().unwrap_or(self.len());
+        let (first, second) = self.as_slices();
+        let cut = first.len();
+        Iter {
+            first: &first[from.min(cut)..to.min(cut)],
+            second: &second[from.saturating_sub(cut)..to.saturating_sub(cut)],
+        }
     }
 
     /// Returns an iterator over mutable references to the items, from both ends.
@@ -72,6 +108,24 @@ impl<T, const CAP: usize, B: Behavior> ArrayDeque<T, CAP, B> {
         ensures one_piece { IsInOnePiece (as_ring CAP self.now) → result.1.now ≡ [] }
     {
         self.ring.as_slices()
+    }
+
+    /// Returns the items in one slice. Requires a list in one piece, as [`ArrayDeque::linearize`]
+    /// leaves it.
+    ///
+    /// ```
+    /// let mut deque = ArrayDeque::<i64, 3, Saturating>::new(alloc)?;
+    /// deque.extend_back([3, 1]);
+    /// deque.extend_front([2]);
+    /// deque.linearize();
+    /// assert!(rt; deque.as_slice() == [2, 3, 1].as_slice());
+    /// ```
+    #[inline]
+    pub fn as_slice(&self) -> &[T]
+        requires { IsInOnePiece (as_ring CAP self.now) }
+        ensures { result.now ≡ self.now.items }
+    {
+        self.ring.as_slice()
     }
 
     /// Returns the items in two mutable slices: those from the front to the region's end, and the

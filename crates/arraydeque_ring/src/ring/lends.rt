@@ -34,6 +34,16 @@ impl<T> Ring<T> {
         }
     }
 
+    /// The items in one slice.
+    #[inline]
+    pub fn as_slice(&self) -> &[T]
+        requires { IsInOnePiece self.now }
+        ensures { result.now ≡ self.now.items }
+    {
+        let (items, _) = self.as_slices();
+        items
+    }
+
     /// The items for writing in one slice. The list ends as it was written, and starts where it
     /// did.
     ///
