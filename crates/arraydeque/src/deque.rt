@@ -25,6 +25,7 @@ mod parts;
 mod pop_if;
 mod pushes;
 mod retain;
+mod searches;
 mod swaps;
 
 /// A double-ended queue of at most `CAP` items, in one region of memory that is taken when the

@@ -1,0 +1,125 @@
+//! Binary searches of a list in order. What the order is, the caller says.
+ghost use Rattle.std.specs.Prelude.{◌≡◌, ◌≤◌, Bool, true, false, length, IfOk};
+ghost use Rattle.std.specs.declared.cmp.Ordering.{Ordering};
+ghost use Rattle.std.specs.Fn.{ComputesKey};
+ghost use Rattle.std.specs.List.{HoldsAt};
+ghost use Rattle.std.specs.List.Sorted.{IsBinarySearchResult, IsPartitionedBy, IsPartitionPoint, IsSearchInRange};
+
+use super::ArrayDeque;
+use crate::behavior::Behavior;
+use std::cmp::Ordering;
+
+impl<T, const CAP: usize, B: Behavior> ArrayDeque<T, CAP, B> {
+    /// Returns how many items `pred` accepts, where it accepts none behind one that it does not:
+    /// the index where the others begin.
+    ///
+    /// ```
+    /// let mut deque = ArrayDeque::<i64, 3, Wrapping>::new(alloc)?;
+    /// deque.extend_back([1, 2, 3, 4]);
+    /// assert!(rt; deque.partition_point(|item| *item < 4) == 2);
+    /// ```
+    pub fn partition_point<P: FnMut(&T) -> bool>(&self, mut pred: P) -> usize
+        requires { P.IsAlwaysCallable pred }
+        ensures bound { result ≤ length self.now.items }
+        ensures partitioned { (p : T → Bool) → ComputesKey P.FnMut p pred
+            → IsPartitionedBy p self.now.items
+            → IsPartitionPoint (λ y. p y ≡ true) (λ y. p y ≡ false) self.now.items result }
+    {
+        let (front, back) = self.as_slices();
+        let cut = self.len() - back.len();
+        let passes = match back.first() {
+            Some(item) => pred(item),
+            None => false,
+        };
+        if passes {
+            cut + back.partition_point(pred)
+        } else {
+            front.partition_point(pred)
+        }
+    }
+
+    /// Returns the index of an item that equals `x`, where the items rise. If none does, returns in
+    /// the error the index where `x` would go.
+    ///
+    /// ```
+    /// let mut deque = ArrayDeque::<i64, 3, Wrapping>::new(alloc)?;
+    /// deque.extend_back([1, 2, 4, 5]);
+    /// assert!(rt; deque.binary_search(&4) == Ok(1));
+    /// assert!(rt; deque.binary_search(&3) == Err(1));
+    /// ```
+    pub fn binary_search(&self, x: &T) -> Result<usize, usize>
+    where
+        T: Ord,
+        ensures bound { IsSearchInRange result (length self.now.items) }
+        ensures ok { IfOk result (HoldsAt (λ y. T.cmp y x.now ≡ Ordering.Equal) self.now.items) }
+        ensures position { IsBinarySearchResult (λ y. T.cmp y x.now) self.now.items result }
+    {
+        self.binary_search_by(|item| item.cmp(x))
+    }
+
+    /// Returns the index of an item at which `f` answers `Equal`, where its answers rise. If none
+    /// is so, returns in the error the index where such an item would go.
+    ///
+    /// ```
+    /// let mut deque = ArrayDeque::<i64, 3, Wrapping>::new(alloc)?;
+    /// deque.extend_back([1, 2, 4, 5]);
+    /// assert!(rt; deque.binary_search_by(|item| item.cmp(&5)) == Ok(2));
+    /// ```
+    pub fn binary_search_by<F: FnMut(&T) -> Ordering>(&self, mut f: F) -> Result<usize, usize>
+        requires { F.IsAlwaysCallable f }
+        ensures bound { IsSearchInRange result (length self.now.items) }
+        ensures position { (ord : T → Ordering) → ComputesKey F.FnMut ord f
+            → IsBinarySearchResult ord self.now.items result }
+    {
+        let (front, back) = self.as_slices();
+        let cut = self.len() - back.len();
+        let order = match back.first() {
+            Some(item) => f(item),
+            None => Ordering::Greater,
+        };
+        let is_before = order.is_gt();
+        if is_before {
+            return front.binary_search_by(f);
+        }
+        match back.binary_search_by(f) {
+            Ok(index) => Ok(cut + index),
+            Err(index) => Err(cut + index),
+        }
+    }
+
+    /// Returns the index of an item whose key, which `f` tells, equals `key`, where the keys rise.
+    /// If none does, returns in the error the index where such an item would go.
+    ///
+    /// ```
+    /// let mut deque = ArrayDeque::<(i64, bool), 3, Saturating>::new(alloc)?;
+    /// deque.extend_back([(1, true), (4, false)]);
+    /// assert!(rt; deque.binary_search_by_key(&4, |item| item.0) == Ok(1));
+    /// ```
+    pub fn binary_search_by_key<K: Ord, F: FnMut(&T) -> K>(
+        &self,
+        key: &K,
+        mut f: F,
+    ) -> Result<usize, usize>
+    where
+        K: Drop,
+        requires { F.IsAlwaysCallable f }
+        ensures bound { IsSearchInRange result (length self.now.items) }
+        ensures position { (key_of : T → K) → ComputesKey F.FnMut key_of f
+            → IsBinarySearchResult (λ y. K.cmp (key_of y) key.now) self.now.items result }
+    {
+        let (front, back) = self.as_slices();
+        let cut = self.len() - back.len();
+        let order = match back.first() {
+            Some(item) => f(item).cmp(key),
+            None => Ordering::Greater,
+        };
+        let is_before = order.is_gt();
+        if is_before {
+            return front.binary_search_by_key(key, f);
+        }
+        match back.binary_search_by_key(key, f) {
+            Ok(index) => Ok(cut + index),
+            Err(index) => Err(cut + index),
+        }
+    }
+}
