@@ -130,6 +130,33 @@ fn an_extend_asks_for_what_it_has_room_for(rt: HostRuntime) -> Result<(), Fail> 
     Ok(())
 }
 
+/// An endless count is asked once, for the one free place, and then not at all.
+#[test]
+fn asks_no_more(rt: HostRuntime) -> Result<(), Fail> {
+    let mut deque = deque_at::<3>(rt.alloc(), 0, &[1, 2])?;
+    let mut count = Count::from(10);
+    for _ in 0..2 {
+        deque.extend_back(&mut count);
+        assert!(rt; count.asked == 1 && holds(&deque, &[1, 2, 10]));
+    }
+    Ok(())
+}
+
+/// A source that ends early is asked for what it gives, and once more.
+#[test]
+fn asks_to_an_early_end(rt: HostRuntime) -> Result<(), Fail> {
+    for (way, list) in [(Way::Back, [1, 7]), (Way::Front, [7, 1])] {
+        let mut deque = deque_at::<4>(rt.alloc(), 0, &[1])?;
+        let mut script = Script::of(&[Some(7)]);
+        match way {
+            Way::Front => deque.extend_front(&mut script),
+            _ => deque.extend_back(&mut script),
+        }
+        assert!(rt; script.asked == 2 && holds(&deque, &list), "{list:?}");
+    }
+    Ok(())
+}
+
 /// Whether the trait's extend under either policy, and the others under the one that displaces, ask
 /// so often.
 fn asks_to_the_end<const CAP: usize>(

@@ -1,4 +1,5 @@
 //! Deques made of other collections, a vector of a deque, and the other policy.
+use crate::asked::Script;
 use crate::build::{deque_at, holds, is_cut, made, numbers, wrapping_at};
 use arraydeque::behavior::Behavior;
 use arraydeque::{ArrayDeque, CapacityError, MakeError, Saturating, Wrapping};
@@ -61,6 +62,34 @@ fn deques_of_other_collections(rt: HostRuntime) -> Result<(), Fail> {
             && keeps_of_vector(rt.alloc(), &[1, 2], &[1, 2], &[1, 2])?
             && keeps_of_vector(rt.alloc(), &[1, 2, 3, 4], &[1, 2], &[3, 4])?
     );
+    Ok(())
+}
+
+/// A source that ends before, at and after the capacity: how often the deques of its first and of
+/// its last items ask it, and which they have.
+#[test]
+fn makers_ask_as_often_as_they_have_to(rt: HostRuntime) -> Result<(), Fail> {
+    let answers = [Some(5), Some(6), Some(7), Some(8), Some(9)];
+    let rows: [(usize, usize, &[i64], usize, &[i64]); 6] = [
+        (0, 1, &[], 1, &[]),
+        (1, 2, &[5], 2, &[5]),
+        (2, 3, &[5, 6], 3, &[5, 6]),
+        (3, 3, &[5, 6, 7], 4, &[5, 6, 7]),
+        (4, 3, &[5, 6, 7], 5, &[6, 7, 8]),
+        (5, 3, &[5, 6, 7], 6, &[7, 8, 9]),
+    ];
+    for (count, asked_first, first, asked_last, last) in rows {
+        let mut kept = Script::of(answers.get(..count).unwrap_or(&[]));
+        let mut displaced = Script::of(answers.get(..count).unwrap_or(&[]));
+        let refusing = made(Refusing::<3>::from_iter(rt.alloc(), &mut kept))?;
+        let displacing = made(Displacing::<3>::from_iter(rt.alloc(), &mut displaced))?;
+        assert!(rt;
+            (kept.asked, displaced.asked) == (asked_first, asked_last)
+                && holds(&refusing, first)
+                && holds(&displacing, last),
+            "{count}"
+        );
+    }
     Ok(())
 }
 
@@ -202,6 +231,15 @@ fn vectors_of_every_start_and_length(rt: HostRuntime) -> Result<(), Fail> {
     list_all::<6>(&rt, rt.alloc())?;
     list_all::<7>(&rt, rt.alloc())?;
     list_all::<8>(&rt, rt.alloc())
+}
+
+#[test]
+fn vectors_of_long_lists(rt: HostRuntime) -> Result<(), Fail> {
+    for len in [16, 17, 64, 65, 128, 1000] {
+        let list = numbers(rt.alloc(), len)?;
+        assert!(rt; vectors_alike::<1000>(rt.alloc(), 990, &list)?, "{len}");
+    }
+    Ok(())
 }
 
 #[test]
