@@ -1,6 +1,6 @@
-//! What each call but `run` asks of its types. A function here has just the bounds that the calls
+//! What each call asks of its types. A function here has just the bounds that the calls
 //! in it may ask for: one that asks for more is an error at it. Where no item may be dropped,
-//! whatever the calls hand out is handed on.
+//! whatever the calls hand out is handed on. No closure here can be cloned.
 ghost use Rattle.std.specs.Prelude.{◌≡◌, Contains, None};
 ghost use Rattle.std.specs.Iterator.{IsFiniteIterable};
 ghost use Rattle.arraydeque.specs.Sources.{IsIterable};
@@ -8,6 +8,7 @@ ghost use Rattle.arraydeque.specs.Sources.{IsIterable};
 use crate::build::made;
 use arraydeque::behavior::Behavior;
 use arraydeque::lookahead::Scanner;
+use arraydeque::run::{Call, Reply};
 use arraydeque::{
     ArrayDeque, CapacityError, Drain, IntoIter, IterMut, MakeError, RangeArgument, Saturating,
     Wrapping,
@@ -19,6 +20,7 @@ use std::fmt::Debug;
 use std::hash::{DefaultHasher, Hash, Hasher};
 use std::io;
 use std::io::{BufRead, Read};
+use std::iter::FusedIterator;
 use std::test::Fail;
 
 /// Whether a deque of two items is read.
@@ -28,15 +30,20 @@ fn reads<T, const CAP: usize, B: Behavior>(
     let (first, second) = deque.as_slices();
     let mut items = deque.iter();
     let mut copy = items.clone()?;
-    let are_lent = (items.len(), items.size_hint()) == (2, (2, Some(2)))
+    let are_lent = is_fused(&items)
+        && (items.len(), items.size_hint()) == (2, (2, Some(2)))
         && items.next().is_some()
         && items.next_back().is_some();
-    deque.iter().for_each(|_| {});
-    let count = deque.into_iter().fold(0_u8, |count, _| count | 1);
+    let (mut is_called, mut is_folded) = (false, false);
+    deque.iter().for_each(|_| is_called = true);
+    let count = deque.into_iter().fold(0_u8, |count, _| {
+        is_folded = true;
+        count | 1
+    });
     Ok(
         are_lent
             && copy.next().is_some()
-            && count == 1
+            && (is_called, is_folded, count) == (true, true, 1)
             && (first.len(), second.len()) == (2, 0)
             && (deque.len(), deque.capacity()) == (2, CAP)
             && !deque.is_empty()
@@ -48,6 +55,11 @@ fn reads<T, const CAP: usize, B: Behavior>(
     )
 }
 
+/// Whether an iterator gives nothing after its first `None`: its type says so.
+fn is_fused<I: FusedIterator>(_items: &I) -> bool {
+    true
+}
+
 /// Whether an item is lent: it is.
 fn is_there<T>(_item: &T) -> bool {
     true
@@ -55,7 +67,8 @@ fn is_there<T>(_item: &T) -> bool {
 
 /// Whether an iterator over two items that are lent for writing walks them from both ends.
 fn walks<T>(mut items: IterMut<'_, T>) -> bool {
-    (items.len(), items.size_hint()) == (2, (2, Some(2)))
+    is_fused(&items)
+        && (items.len(), items.size_hint()) == (2, (2, Some(2)))
         && items.next().is_some()
         && items.next_back().is_some()
         && items.next().is_none()
@@ -88,9 +101,10 @@ fn is_cut<T, const CAP: usize, B: Behavior>(deque: &mut ArrayDeque<T, CAP, B>) -
 
 /// Whether a slice lends two items for writing, and a walk goes over them.
 fn is_in_one_piece<T, const CAP: usize, B: Behavior>(deque: &mut ArrayDeque<T, CAP, B>) -> bool {
-    deque.iter_mut().for_each(|_| {});
+    let mut is_called = false;
+    deque.iter_mut().for_each(|_| is_called = true);
     deque.linearize();
-    deque.as_mut_slice().len() == 2
+    is_called && deque.as_mut_slice().len() == 2
 }
 
 /// Whether a deque of two items lends them for writing, and has them change places.
@@ -247,7 +261,11 @@ fn accepted<I: Iterator, const CAP: usize>(scanner: &mut Scanner<I, CAP>) -> Opt
     if CAP == 0 {
         return None;
     }
-    scanner.next_if(|_| true)
+    let all = All;
+    scanner.next_if(move |_| {
+        drop(all);
+        true
+    })
 }
 
 /// The next item of a scanner, as of any iterator.
@@ -280,25 +298,47 @@ fn unnamed<T>() -> (Option<T>, Option<T>) {
 fn lets_go<T: Drop, const CAP: usize, B: Behavior>(mut deque: ArrayDeque<T, CAP, B>) -> bool {
     deque.truncate(2);
     deque.truncate_front(1);
-    deque.retain(|_| false);
+    let mut is_asked = false;
+    deque.retain(|_| {
+        is_asked = true;
+        false
+    });
     let is_empty = deque.is_empty();
     deque.clear();
-    is_empty
+    is_asked && is_empty
 }
 
 /// Whether an owned iterator walks two items from both ends.
 fn gives<T: Drop, const CAP: usize, B: Behavior>(deque: ArrayDeque<T, CAP, B>) -> bool {
     let mut items: IntoIter<T, CAP, B> = deque.into_iter();
-    (items.len(), items.size_hint()) == (2, (2, Some(2)))
+    is_fused(&items)
+        && (items.len(), items.size_hint()) == (2, (2, Some(2)))
         && items.next().is_some()
         && items.next_back().is_some()
 }
 
 /// The same of a drain.
 fn drains<T: Drop>(mut items: Drain<T>) -> bool {
-    (items.len(), items.size_hint()) == (2, (2, Some(2)))
+    is_fused(&items)
+        && (items.len(), items.size_hint()) == (2, (2, Some(2)))
         && items.next().is_some()
         && items.next_back().is_some()
+}
+
+/// The replies to a list of calls, of a deque that refuses.
+fn replies<T: Drop, const CAP: usize>(
+    saturating: &mut ArrayDeque<T, CAP, Saturating>,
+    calls: Vec<Call<T>>,
+) -> Result<Vec<Reply<T, CAP, Saturating>>, MakeError<Vec<Call<T>>>> {
+    saturating.run(calls)
+}
+
+/// The same of one that displaces.
+fn other_replies<T: Drop, const CAP: usize>(
+    wrapping: &mut ArrayDeque<T, CAP, Wrapping>,
+    calls: Vec<Call<T>>,
+) -> Result<Vec<Reply<T, CAP, Wrapping>>, MakeError<Vec<Call<T>>>> {
+    wrapping.run(calls)
 }
 
 /// Adds what comes to deques of either policy.
@@ -522,12 +562,15 @@ fn asks_to_drop(alloc: Global) -> Result<bool, Fail> {
     ).map_err(|_| "refused")?;
     add(&mut first, &mut last, [Some(4), Some(5), Some(6), None])?;
     add_copies(&mut first, &mut last, &7)?;
+    let answered = made(replies(&mut first, vec![in alloc; Call::Len]?))?.len();
+    let also_answered = made(other_replies(&mut last, vec![in alloc; Call::Len]?))?.len();
     let (copies, mut other) = of_arrays::<u8, 2, 3>(alloc, [1, 2, 3]).map_err(|_| "refused")?;
     let all = made(last_of::<u8, 2, _>(alloc, Some(7)))?.drain(..)?;
     let are_told_apart = are_equal(&first, &copies, &2) && !are_equal(&last, &other, &2);
     join_all(&mut last, &mut other);
     Ok(
         are_told_apart
+            && (answered, also_answered) == (1, 1)
             && gives(first)
             && lets_go(last)
             && !drains(all)

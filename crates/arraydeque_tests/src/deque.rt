@@ -115,3 +115,15 @@ fn every_start_and_length(rt: HostRuntime) -> Result<(), Fail> {
     compare_all::<10>(&rt, rt.alloc())?;
     Ok(())
 }
+
+#[test]
+fn a_long_list_is_cut_at_the_end(rt: HostRuntime) -> Result<(), Fail> {
+    for len in [399, 400, 401, 1000] {
+        assert!(rt;
+            is_alike::<1000>(rt.alloc(), 600, len, End::Front)?
+                && is_alike::<1000>(rt.alloc(), 600, len, End::Back)?,
+            "{len}"
+        );
+    }
+    Ok(())
+}
