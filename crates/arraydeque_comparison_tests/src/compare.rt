@@ -340,6 +340,15 @@ fn a_long_deque_prints_as_a_list(rt: HostRuntime) -> Result<(), Fail> {
 }
 
 #[test]
+fn a_thousand_items_print_as_a_list(rt: HostRuntime) -> Result<(), Fail> {
+    let list = numbers(rt.alloc(), 1000)?;
+    let text = format!(in rt.alloc(); "{:?}", list.as_slice())?;
+    let deque = deque_at::<1000>(rt.alloc(), 600, &list)?;
+    assert!(rt; prints(rt.alloc(), &deque, text.as_str())?);
+    Ok(())
+}
+
+#[test]
 fn a_deque_prints_as_a_list(rt: HostRuntime) -> Result<(), Fail> {
     let mut deque = Deque::<5>::new(rt.alloc())?;
     let is_empty = prints(rt.alloc(), &deque, "[]")?;

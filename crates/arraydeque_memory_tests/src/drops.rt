@@ -1,5 +1,6 @@
 //! Which items are dropped, and in which order.
 mod handed_out;
+mod long;
 
 use arraydeque::{ArrayDeque, Saturating, Wrapping};
 use std::alloc::{AllocError, Global};

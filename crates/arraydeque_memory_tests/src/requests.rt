@@ -157,8 +157,8 @@ fn a_run_3_requests_352_bytes(rt: HostRuntime) -> Result<(), Fail> {
     Ok(())
 }
 
-/// The calls that ask for no memory, but an `Insert`, which only one policy offers. They leave no
-/// item.
+/// The calls that ask for no memory, also where they are refused, but an `Insert` that succeeds,
+/// which only one policy offers. They leave no item.
 fn calls_in_place(alloc: Global) -> Result<Vec<Call<i64>>, AllocError> {
     Ok(vec![in alloc;
         Call::Len,
@@ -167,6 +167,15 @@ fn calls_in_place(alloc: Global) -> Result<Vec<Call<i64>>, AllocError> {
         Call::IsFull,
         Call::Swap(0, 2),
         Call::Replace(1, 7),
+        Call::Swap(0, 3),
+        Call::Replace(3, 7),
+        Call::Remove(3),
+        Call::SwapRemoveBack(3),
+        Call::SwapRemoveFront(3),
+        Call::Drain(2, 4),
+        Call::Drain(2, 1),
+        Call::SplitOff(4),
+        Call::Insert(4, 7),
         Call::Linearize,
         Call::Drain(1, 1),
         Call::PushFront(8),
@@ -189,13 +198,13 @@ fn answers_in_place(alloc: Global) -> Result<bool, Fail> {
     let replies = made(refusing.run(calls_in_place(alloc)?))?.len();
     let other = made(displacing.run(calls_in_place(alloc)?))?.len();
     let inserted = made(refusing.run(vec![in alloc; Call::Insert(0, 5)]?))?.len();
-    Ok((replies, other, inserted) == (18, 18, 1) && holds(&refusing, &[5]) && displacing.is_empty())
+    Ok((replies, other, inserted) == (27, 27, 1) && holds(&refusing, &[5]) && displacing.is_empty())
 }
 
-/// The two regions of 32 bytes, two lists of 18 calls of 32 bytes and one of one, and room for as
+/// The two regions of 32 bytes, two lists of 27 calls of 32 bytes and one of one, and room for as
 /// many replies of 48.
 #[test]
-fn calls_in_place_by_run_8_requests_3024_bytes(rt: HostRuntime) -> Result<(), Fail> {
+fn calls_in_place_by_run_8_requests_4464_bytes(rt: HostRuntime) -> Result<(), Fail> {
     assert!(rt; answers_in_place(rt.alloc())?);
     Ok(())
 }
