@@ -250,6 +250,46 @@ fn a_long_run_is_whole(rt: HostRuntime) -> Result<(), Fail> {
     Ok(())
 }
 
+/// A hundred thousand lines, and one of as many values. A bad line behind them is blamed, and where
+/// the flush fails, some beginning was written.
+#[test]
+fn a_hundred_thousand_lines_are_run(rt: HostRuntime) -> Result<(), Fail> {
+    let mut lines = String::new(rt.alloc());
+    let mut extend = String::from_str(rt.alloc(), "extend_back")?;
+    let mut refused = String::from_str(rt.alloc(), "ok\nok\nok\n")?;
+    let mut displaced = String::from_str(rt.alloc(), "none\nnone\nnone\n")?;
+    for number in 0..100_000 {
+        write!(lines, "push_back {number}\n")?;
+        write!(extend, " {number}")?;
+        if number >= 3 {
+            write!(refused, "full {number}\n")?;
+            write!(displaced, "{}\n", number - 3)?;
+        }
+    }
+    write!(lines, "{extend}\n")?;
+    write!(refused, "ok\nlist: [0, 1, 2]\n")?;
+    write!(displaced, "ok\nlist: [99997, 99998, 99999]\n")?;
+    for (words, text) in [("sat 3", refused.as_str()), ("wrap 3", displaced.as_str())] {
+        let unflushed = Calls::failing(usize::MAX, 1, 1, ErrorKind::Other);
+        assert!(rt;
+            prints(rt.alloc(), words, lines.as_bytes(), text)?,
+            "{words}"
+        );
+        assert!(rt;
+            fails(rt.alloc(), words, lines.as_bytes(), text, unflushed)?,
+            "{words}"
+        );
+    }
+    write!(lines, "drain 0 x")?;
+    for words in ["sat 3", "wrap 3"] {
+        assert!(rt;
+            blames(rt.alloc(), words, lines.as_bytes(), 100_002)?,
+            "{words}"
+        );
+    }
+    Ok(())
+}
+
 /// A line whose word is behind so many spaces that a read ends within it, or beside it.
 #[test]
 fn an_input_is_read_to_its_end(rt: HostRuntime) -> Result<(), Fail> {

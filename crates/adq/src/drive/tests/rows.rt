@@ -195,7 +195,7 @@ pub(crate) const WORDS: [(&str, usize); 21] = [
 ];
 
 /// Inputs that have a bad line, and the number of that line.
-pub(crate) const BAD: [(&str, usize); 23] = [
+pub(crate) const BAD: [(&str, usize); 33] = [
     ("push_back 1\npush_back x\n", 2),
     ("\n  \npush_back 1\r\npush_back 007\nremove x", 5),
     ("push_back", 1),
@@ -219,6 +219,16 @@ pub(crate) const BAD: [(&str, usize); 23] = [
     ("push_back 1\r\r", 1),
     ("push_back \u{661}", 1),
     ("len;len", 1),
+    ("insert x 1", 1),
+    ("insert 0 x", 1),
+    ("swap_remove_back x", 1),
+    ("swap_remove_front x", 1),
+    ("swap x 0", 1),
+    ("swap 0 x", 1),
+    ("replace x 1", 1),
+    ("drain x 1", 1),
+    ("drain 0 x", 1),
+    ("split_off x", 1),
 ];
 
 /// Inputs that aren't UTF-8 in the line of this number.
