@@ -8,7 +8,7 @@
 //! |---|---|---|
 //! | | in `either_policy`: | |
 //! | lengths, `as_slices`, all of `access` | `reads_nothing` | `reads_one`, `writes_one` |
-//! | pops, of `pop_if` too, `remove`, removals by exchange | `takes_nothing_out` | `is_free_after` |
+//! | pops, `pop_if`, `remove`, removals by exchange | `takes_nothing_out` | `is_free_after` |
 //! | all of `retain` | `takes_nothing_out` | `is_free_after`, `reads_one` |
 //! | `swap` and `[i]`, which ask for an item | | `reads_one`, `writes_one` |
 //! | `linearize` | `takes_nothing_out` | `reads_one` |

@@ -188,7 +188,8 @@ fn calls_in_place_1_request_32_bytes(rt: HostRuntime) -> Result<(), Fail> {
     Ok(())
 }
 
-/// Whether bytes go in and out by each call of a stream, where the list wraps, and by pops that ask.
+/// Whether bytes go in and out by each call of a stream, where the list wraps, and by pops that
+/// ask.
 fn streams(deque: &mut ArrayDeque<u8, 4, Saturating>) -> Result<bool, Fail> {
     let mut buf = [0; 3];
     let is_read = deque.write(&[1, 2, 3])? == 3 && deque.read(&mut buf)? == 3 && buf == [1, 2, 3];
