@@ -57,8 +57,9 @@ impl<T, const CAP: usize, B: Behavior> ArrayDeque<T, CAP, B> {
         self.binary_search_by(|item| item.cmp(x))
     }
 
-    /// Returns the index of an item at which `f` answers `Equal`, where its answers rise. If none
-    /// is so, returns in the error the index where such an item would go.
+    /// Returns the index of an item for which `f` returns `Equal`, where what it returns rises from
+    /// `Less` to `Greater`. If there is none, returns in the error the index where such an item
+    /// would go.
     ///
     /// ```
     /// let mut deque = ArrayDeque::<i64, 3, Wrapping>::new(alloc)?;

@@ -35,6 +35,13 @@ impl<T> Ring<T> {
     }
 
     /// The items in one slice.
+    ///
+    /// ```
+    /// let mut ring = Ring::of_copies(alloc, 3, &[3, 1])?;
+    /// ring.push_front(2);
+    /// ring.linearize();
+    /// assert!(rt; ring.as_slice() == [2, 3, 1].as_slice());
+    /// ```
     #[inline]
     pub fn as_slice(&self) -> &[T]
         requires { IsInOnePiece self.now }
