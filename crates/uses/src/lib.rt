@@ -7,6 +7,7 @@ pub mod history;
 pub mod in_place;
 pub mod jobs;
 pub mod limiter;
+pub mod log;
 pub mod pipe;
 pub mod scanning;
 pub mod tokens;

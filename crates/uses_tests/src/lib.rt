@@ -12,6 +12,8 @@ mod jobs;
 #[cfg(test)]
 mod limiter;
 #[cfg(test)]
+mod log;
+#[cfg(test)]
 mod pipe;
 #[cfg(test)]
 mod scanning;
