@@ -1,3 +1,4 @@
+pub mod Ageing
 pub mod History
 pub mod Limiter
 pub mod Tokens

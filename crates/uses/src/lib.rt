@@ -2,6 +2,7 @@
 //! alone, to keep what its users care about.
 #![tactic(auto)]
 
+pub mod ageing;
 pub mod copying;
 pub mod history;
 pub mod in_place;

@@ -2,6 +2,8 @@
 #![tactic(auto)]
 
 #[cfg(test)]
+mod ageing;
+#[cfg(test)]
 mod copying;
 #[cfg(test)]
 mod history;
