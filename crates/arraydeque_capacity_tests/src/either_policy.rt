@@ -22,6 +22,7 @@ fn reads_nothing<const CAP: usize, B: Behavior>(deque: &mut ArrayDeque<i64, CAP,
 /// Whether nothing can be taken out of it, and nothing is there to be moved.
 fn takes_nothing_out<const CAP: usize, B: Behavior>(deque: &mut ArrayDeque<i64, CAP, B>) -> bool {
     deque.retain(|_| true);
+    deque.retain_mut(|_| true);
     deque.truncate(0);
     deque.truncate_front(0);
     deque.clear();
@@ -126,11 +127,21 @@ fn writes_one<B: Behavior>(deque: &mut ArrayDeque<i64, 1, B>) -> bool {
         *item = 9;
     }
     let by_get = holds(deque, &[9]);
+    deque.retain_mut(|item| {
+        *item = 5;
+        true
+    });
+    let by_retain_mut = holds(deque, &[5]);
     if deque.len() == 1 {
         deque[0] = 6;
         deque.swap(0, 0);
     }
-    by_the_front && by_the_back && by_get && deque.get_mut(1).is_none() && holds(deque, &[6])
+    by_the_front
+        && by_the_back
+        && by_get
+        && by_retain_mut
+        && deque.get_mut(1).is_none()
+        && holds(deque, &[6])
 }
 
 /// Whether a drain gives the one item.
@@ -205,6 +216,7 @@ enum Out {
     Truncate,
     TruncateFront,
     Retain,
+    RetainMut,
 }
 
 /// Takes the item at index 0 out in that way. Returns it, or 6 where the call returns nothing.
@@ -231,6 +243,10 @@ fn take_out<B: Behavior>(deque: &mut ArrayDeque<i64, 1, B>, out: Out) -> Option<
         }
         Out::Retain => {
             deque.retain(|item| *item != 6);
+            Some(6)
+        }
+        Out::RetainMut => {
+            deque.retain_mut(|item| *item != 6);
             Some(6)
         }
     }
@@ -266,6 +282,7 @@ fn one_place_is_free_once_its_item_goes(rt: HostRuntime) -> Result<(), Fail> {
         Out::Truncate,
         Out::TruncateFront,
         Out::Retain,
+        Out::RetainMut,
     ];
     for out in ways {
         assert!(rt; is_free_after(rt.alloc(), out)?, "{out:?}");

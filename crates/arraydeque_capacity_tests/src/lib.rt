@@ -9,7 +9,7 @@
 //! | | in `either_policy`: | |
 //! | lengths, `as_slices`, all of `access` | `reads_nothing` | `reads_one`, `writes_one` |
 //! | pops, `pop_if`, `remove`, removals by exchange | `takes_nothing_out` | `is_free_after` |
-//! | all of `retain` | `takes_nothing_out` | `is_free_after`, `reads_one` |
+//! | all of `retain` | `takes_nothing_out` | `is_free_after`, `reads_one`, `writes_one` |
 //! | `swap` and `[i]`, which ask for an item | | `reads_one`, `writes_one` |
 //! | `linearize` | `takes_nothing_out` | `reads_one` |
 //! | `drain`, its both ends, `split_off` | `has_no_parts` | `has_two_parts`, `drains_one` |

@@ -102,6 +102,24 @@ fn whole_deques_drop_front_to_back(rt: HostRuntime) -> Result<(), Fail> {
     Ok(())
 }
 
+#[test]
+fn each_written_item_that_goes_drops_once(rt: HostRuntime) -> Result<(), Fail> {
+    let drops = Drops::new();
+    for start in 0..5 {
+        let mut deque = deque_at::<5>(rt.alloc(), &drops, start, 5)?;
+        drops.since();
+        deque.retain_mut(|item| {
+            let stays = is_even(item);
+            item.name = item.name.wrapping_add(4);
+            stays
+        });
+        let (gone, left) = (drops.since(), drops.with(deque));
+        let is_each_once = [579, 597, 759, 795, 957, 975].contains(&gone);
+        assert!(rt; is_each_once && left == 68, "{gone}, start {start}");
+    }
+    Ok(())
+}
+
 /// What a truncate to the first two of the items 1 to 5 drops, one to the last two, and the deques
 /// that are left.
 #[test]

@@ -117,12 +117,18 @@ fn slides_across_the_end_1_request_64_bytes(rt: HostRuntime) -> Result<(), Fail>
     Ok(())
 }
 
-/// Whether the even ones of the items 8, 9, 6 and 7 are retained, and then cleared.
+/// Whether the even ones of the items 8, 9, 6 and 7 are retained, then halved but for one that
+/// goes, and then cleared.
 fn retains_and_clears(deque: &mut ArrayDeque<i64, 4, Saturating>) -> bool {
     deque.retain(|item| *item % 2 == 0);
     let is_retained = holds(deque, &[8, 6]);
+    deque.retain_mut(|item| {
+        *item /= 2;
+        *item > 3
+    });
+    let is_halved = holds(deque, &[4]);
     deque.clear();
-    is_retained && deque.is_empty()
+    is_retained && is_halved && deque.is_empty()
 }
 
 /// Whether two of the items 6, 7, 8 and 9 stay after an item goes at either end.

@@ -127,6 +127,7 @@ fn gives<T: Drop>(mut items: IntoIter<T>) -> bool {
 fn lets_go<T: Drop>(mut ring: Ring<T>) -> bool {
     ring.truncate(2);
     ring.truncate_front(1);
+    ring.retain_mut(|_| true);
     ring.retain(|_| false);
     let is_empty = ring.len() == 0;
     ring.clear();

@@ -36,8 +36,8 @@ fn edits(ring: &mut Ring<u8>) -> bool {
     removed == 4 && ring.pop_front() == Some(3)
 }
 
-/// Whether the items are dropped, and two of three others are retained, after these were written
-/// over in two slices and laid in one piece.
+/// Whether the items are dropped, and two of three others are retained and halved, after these were
+/// written over in two slices and laid in one piece.
 fn passes(ring: &mut Ring<u8>) -> bool {
     ring.clear();
     if ring.capacity() != 3 {
@@ -57,7 +57,12 @@ fn passes(ring: &mut Ring<u8>) -> bool {
     let is_one_piece = ring.as_slices() == ([6, 7, 2].as_slice(), [].as_slice());
     ring.as_mut_slice().reverse();
     ring.retain(|item| *item % 2 == 0);
-    is_one_piece && ring.as_slices() == ([2, 6].as_slice(), [].as_slice())
+    let is_retained = ring.as_slices() == ([2, 6].as_slice(), [].as_slice());
+    ring.retain_mut(|item| {
+        *item /= 2;
+        true
+    });
+    is_one_piece && is_retained && ring.as_slices() == ([1, 3].as_slice(), [].as_slice())
 }
 
 /// Whether a ring takes over from another what it has room for, and both are cut to one item.

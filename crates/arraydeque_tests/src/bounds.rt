@@ -298,6 +298,7 @@ fn unnamed<T>() -> (Option<T>, Option<T>) {
 fn lets_go<T: Drop, const CAP: usize, B: Behavior>(mut deque: ArrayDeque<T, CAP, B>) -> bool {
     deque.truncate(2);
     deque.truncate_front(1);
+    deque.retain_mut(|_| true);
     let mut is_asked = false;
     deque.retain(|_| {
         is_asked = true;

@@ -109,6 +109,40 @@ fn retain_asks_once_at_each_item_in_order(rt: HostRuntime) -> Result<(), Fail> {
     Ok(())
 }
 
+/// Whether the mask has an item, which becomes the digits so far and its own.
+fn is_masked(item: &mut i64, mask: i64, digits: &mut i64) -> bool {
+    let stays = *item & mask != 0;
+    *digits = with_digit(*digits, *item);
+    *item = *digits;
+    stays
+}
+
+/// Whether a closure that writes is called on the items of a vector, and leaves those that the
+/// vector's own `retain_mut` leaves.
+fn is_written_alike(alloc: Global, start: usize, items: &[i64], mask: i64) -> Result<bool, Fail> {
+    let mut deque = deque_at::<4>(alloc, start, items)?;
+    let mut list = Vec::from_slice(alloc, items)?;
+    let (mut asked, mut asked_of_list) = (0, 0);
+    deque.retain_mut(|item| is_masked(item, mask, &mut asked));
+    list.retain_mut(|item| is_masked(item, mask, &mut asked_of_list));
+    Ok(asked == asked_of_list && holds(&deque, &list))
+}
+
+#[test]
+fn retain_mut_leaves_what_a_vector_does(rt: HostRuntime) -> Result<(), Fail> {
+    for start in 0..4 {
+        for len in 0..5 {
+            for mask in 0..16 {
+                assert!(rt;
+                    is_written_alike(rt.alloc(), start, &[1, 2, 4, 8][..len], mask)?,
+                    "mask {mask} of {len}, start {start}"
+                );
+            }
+        }
+    }
+    Ok(())
+}
+
 #[test]
 fn clear_leaves_an_empty_deque(rt: HostRuntime) -> Result<(), Fail> {
     for start in 0..3 {
