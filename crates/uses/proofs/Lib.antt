@@ -1,3 +1,4 @@
 pub mod Cut
+pub mod Rising
 pub mod Taken
 pub mod Totals

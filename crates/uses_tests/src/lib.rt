@@ -16,6 +16,8 @@ mod limiter;
 #[cfg(test)]
 mod log;
 #[cfg(test)]
+mod peaks;
+#[cfg(test)]
 mod pipe;
 #[cfg(test)]
 mod scanning;
