@@ -8,7 +8,7 @@ pub const REFUSED: u64 = u64::MAX;
 pub const BROKEN: u64 = u64::MAX - 1;
 
 /// How many of the calls don't ask for items that can be copied.
-const COPIED: usize = 44;
+const COPIED: usize = 48;
 
 /// Which calls there are, by kind, with how often one is chosen.
 const CALLS: [(u64, &str, u64); COPIED + 6] = [
@@ -56,6 +56,10 @@ const CALLS: [(u64, &str, u64); COPIED + 6] = [
     (41, "a push under the other policy", 10),
     (42, "split_off, extend_front", 5),
     (43, "drain, extend_front", 5),
+    (44, "rotate_left", 10),
+    (45, "rotate_right", 10),
+    (46, "retain_mut", 4),
+    (47, "pop_front_if, pop_back_if", 20),
     (48, "contains", 10),
     (49, "clone", 5),
     (50, "==, partial_cmp, cmp", 5),

@@ -140,6 +140,20 @@ fn shared<T: Item, const CAP: usize, B: Behavior>(deque: &mut ArrayDeque<T, CAP,
             drop(deque.drain(..len - index.min(len)));
             1
         }
+        46 => {
+            deque.iter_mut().for_each(|item| item.set(item.told() ^ call.second as u64));
+            deque.retain(|item| item.told() % 3 != 0);
+            deque.len() as u64
+        }
+        47 => {
+            let is_wanted = |item: &mut T| {
+                item.set(item.told() ^ call.second as u64);
+                item.told().is_multiple_of(2)
+            };
+            let first = if deque.front_mut().is_some_and(is_wanted) { deque.pop_front() } else { None };
+            let last = if deque.back_mut().is_some_and(is_wanted) { deque.pop_back() } else { None };
+            folded(told(first), told(last))
+        }
         _ => list_reply(deque, call),
     }
 }
@@ -264,13 +278,22 @@ fn saturating<T: Item, const CAP: usize>(
             deque.extend_front(rest);
             1
         }
+        44 | 45 if index <= deque.len() => {
+            for _ in 0..index {
+                let _ = match call.kind {
+                    44 => deque.pop_front().map(|item| deque.push_back(item)),
+                    _ => deque.pop_back().map(|item| deque.push_front(item)),
+                };
+            }
+            1
+        }
         _ => shared(deque, call),
     }
 }
 
 /// The calls of `Wrapping`.
 fn wrapping<T: Item, const CAP: usize>(alive: &Alive, deque: &mut ArrayDeque<T, CAP, Wrapping>, call: Call) -> u64 {
-    let place = call.place(deque.len());
+    let (index, place) = (call.index(deque.len()), call.place(deque.len()));
     let source = || counted(alive, call.number, call.first);
     match call.kind {
         32 => told(deque.push_back(T::make(alive, call.number))),
@@ -307,6 +330,15 @@ fn wrapping<T: Item, const CAP: usize>(alive: &Alive, deque: &mut ArrayDeque<T, 
             let rest: Vec<T> =
                 if call.kind == 42 { deque.split_off(place).into() } else { deque.drain(place..).collect() };
             deque.extend_front(rest);
+            1
+        }
+        44 | 45 if index <= deque.len() => {
+            for _ in 0..index {
+                let _ = match call.kind {
+                    44 => deque.pop_front().map(|item| deque.push_back(item)),
+                    _ => deque.pop_back().map(|item| deque.push_front(item)),
+                };
+            }
             1
         }
         _ => shared(deque, call),

@@ -71,6 +71,7 @@ pub(crate) fn answer<T: Item, const CAP: usize, B: Behavior>(
         20 => split(deque, call),
         21 => vector_of(alloc, deque),
         22 => taken_apart(alloc, deque, call),
+        44..=47 => Ok(rotated_or_asked(deque, call)),
         _ => Ok(list_reply(deque, call)),
     }
 }
@@ -135,6 +136,51 @@ fn swapped<T: Item, const CAP: usize, B: Behavior>(
     } else {
         0
     }
+}
+
+/// Rotations, and calls that ask a closure about items that it writes.
+fn rotated_or_asked<T: Item, const CAP: usize, B: Behavior>(
+    deque: &mut ArrayDeque<T, CAP, B>,
+    call: Call,
+) -> u64 {
+    let count = call.index(deque.len());
+    let bits = call.second as u64;
+    match call.kind {
+        44 if count <= deque.len() => {
+            deque.rotate_left(count);
+            1
+        }
+        45 if count <= deque.len() => {
+            deque.rotate_right(count);
+            1
+        }
+        46 => {
+            deque.retain_mut(|item| {
+                item.set(item.told() ^ bits);
+                item.told() % 3 != 0
+            });
+            deque.len() as u64
+        }
+        47 => popped_if(deque, call),
+        _ => 0,
+    }
+}
+
+/// The first item and the last one, written, each if it is wanted then.
+fn popped_if<T: Item, const CAP: usize, B: Behavior>(
+    deque: &mut ArrayDeque<T, CAP, B>,
+    call: Call,
+) -> u64 {
+    let bits = call.second as u64;
+    let first = told(deque.pop_front_if(|item| {
+        item.set(item.told() ^ bits);
+        item.told() % 2 == 0
+    }));
+    let last = told(deque.pop_back_if(|item| {
+        item.set(item.told() ^ bits);
+        item.told() % 2 == 0
+    }));
+    folded(first, last)
 }
 
 /// A drain of a range with each kind of bounds.
