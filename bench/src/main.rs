@@ -184,6 +184,11 @@ fn further_workloads() -> Vec<Workload> {
     of_all_lists!(list, split_append, arraydeque_bench_split_append);
     of_all_lists!(list, split_rejoin, arraydeque_bench_split_rejoin);
     of_all_lists!(list, truncate, arraydeque_bench_truncate);
+    of_all_lists!(list, retain_mut, arraydeque_bench_retain_mut);
+    of_all_lists!(list, rotate_full_one, arraydeque_bench_rotate_full_one);
+    of_all_lists!(list, rotate_full_half, arraydeque_bench_rotate_full_half);
+    of_all_lists!(list, rotate_half_one, arraydeque_bench_rotate_half_one);
+    of_all_lists!(list, rotate_half_half, arraydeque_bench_rotate_half_half);
     of_owned_items!(list, owned_queue, arraydeque_bench_owned_queue);
     of_owned_items!(list, owned_clone, arraydeque_bench_owned_clone);
     of_owned_items!(list, owned_clear, arraydeque_bench_owned_clear);
@@ -195,11 +200,13 @@ fn further_workloads() -> Vec<Workload> {
     of_pieces!(list, pipe_truncating, arraydeque_bench_pipe_truncating);
     of_pieces!(list, pipe_popping, arraydeque_bench_pipe_popping);
     of_pieces!(list, pipe_wrapping, arraydeque_bench_pipe_wrapping);
+    of_pieces!(list, stream, arraydeque_bench_stream);
     workloads!(list, linearize_1, arraydeque_bench_linearize_1, true, (1, u8, 1024), (8, u64, 1024), (64, Block, 1024));
     workloads!(list, linearize_8, arraydeque_bench_linearize_8, true, (1, u8, 1024), (8, u64, 1024), (64, Block, 1024));
     workloads!(list, linearize_64, arraydeque_bench_linearize_64, true, (1, u8, 1024), (8, u64, 1024), (64, Block, 1024));
     of_all_items!(list, linearize_full, arraydeque_bench_linearize_full);
     workloads!(list, window, arraydeque_bench_window, true, (8, u64, 64), (8, u64, 1000), (8, u64, 1024));
+    workloads!(list, window_largest, arraydeque_bench_window_largest, true, (8, u64, 64), (8, u64, 1000), (8, u64, 1024));
     workloads!(list, run, arraydeque_bench_run, true, (8, u64, 64), (8, u64, 1000), (8, u64, 1024));
     workloads!(list, scan, arraydeque_bench_scan, true, (1, u8, 1));
     list

@@ -2,6 +2,7 @@
 use arraydeque::{ArrayDeque, Saturating, Wrapping};
 use std::collections::VecDeque;
 use std::hash::Hash;
+use std::io::{Read, Write};
 use std::ops::Range;
 
 /// A deque of at most `CAP` items. A push into a full one is refused.
@@ -41,6 +42,11 @@ pub trait Peer<T>: Sized {
     fn truncate(&mut self, len: usize);
     fn into_items(self) -> impl DoubleEndedIterator<Item = T>;
     fn retain(&mut self, keeps: impl FnMut(&T) -> bool);
+    /// Writes each item, and keeps those that are wanted then.
+    fn retain_mut(&mut self, writes: impl FnMut(&mut T), keeps: impl FnMut(&T) -> bool);
+    fn rotate_left(&mut self, count: usize);
+    fn pop_back_if(&mut self, is_wanted: impl FnOnce(&mut T) -> bool) -> Option<T>;
+    fn pop_front_if(&mut self, is_wanted: impl FnOnce(&mut T) -> bool) -> Option<T>;
     fn iter<'a>(&'a self) -> impl DoubleEndedIterator<Item = &'a T>
     where
         T: 'a;
@@ -50,6 +56,13 @@ pub trait Peer<T>: Sized {
     fn linearize(&mut self);
     fn first_slice(&self) -> &[T];
     fn second_slice(&self) -> &[T];
+}
+
+/// A deque of bytes as a stream.
+pub trait Stream: Peer<u8> {
+    fn write(&mut self, bytes: &[u8]) -> usize;
+    /// Reads as many bytes as there are, or as there is room for.
+    fn read(&mut self, room: &mut [u8]) -> usize;
 }
 
 /// A deque whose oldest item goes when a new one comes.
@@ -225,6 +238,46 @@ impl<T, const CAP: usize> Peer<T> for Crate<T, CAP> {
     fn linearize(&mut self) {
         self.0.linearize();
     }
+    #[inline]
+    fn retain_mut(&mut self, writes: impl FnMut(&mut T), keeps: impl FnMut(&T) -> bool) {
+        self.0.iter_mut().for_each(writes);
+        self.0.retain(keeps);
+    }
+    #[inline]
+    fn rotate_left(&mut self, count: usize) {
+        for _ in 0..count {
+            if let Some(item) = self.0.pop_front() {
+                let _ = self.0.push_back(item);
+            }
+        }
+    }
+    #[inline]
+    fn pop_back_if(&mut self, is_wanted: impl FnOnce(&mut T) -> bool) -> Option<T> {
+        if is_wanted(self.0.back_mut()?) { self.0.pop_back() } else { None }
+    }
+    #[inline]
+    fn pop_front_if(&mut self, is_wanted: impl FnOnce(&mut T) -> bool) -> Option<T> {
+        if is_wanted(self.0.front_mut()?) { self.0.pop_front() } else { None }
+    }
+}
+
+impl<const CAP: usize> Stream for Crate<u8, CAP> {
+    #[inline]
+    fn write(&mut self, bytes: &[u8]) -> usize {
+        let before = self.0.len();
+        self.0.extend_back(bytes.iter().copied());
+        self.0.len() - before
+    }
+    #[inline]
+    fn read(&mut self, room: &mut [u8]) -> usize {
+        let (front, back) = self.0.as_slices();
+        let first = front.len().min(room.len());
+        room[..first].copy_from_slice(&front[..first]);
+        let second = back.len().min(room.len() - first);
+        room[first..first + second].copy_from_slice(&back[..second]);
+        self.0.drain(..first + second);
+        first + second
+    }
 }
 
 impl<T, const CAP: usize> History<T> for ArrayDeque<T, CAP, Wrapping> {
@@ -305,6 +358,39 @@ impl<T, const CAP: usize> Peer<T> for Bounded<T, CAP> {
     #[inline]
     fn linearize(&mut self) {
         self.0.make_contiguous();
+    }
+    #[inline]
+    fn retain_mut(&mut self, mut writes: impl FnMut(&mut T), mut keeps: impl FnMut(&T) -> bool) {
+        self.0.retain_mut(|item| {
+            writes(item);
+            keeps(item)
+        });
+    }
+    #[inline]
+    fn rotate_left(&mut self, count: usize) {
+        self.0.rotate_left(count);
+    }
+    #[inline]
+    fn pop_back_if(&mut self, is_wanted: impl FnOnce(&mut T) -> bool) -> Option<T> {
+        self.0.pop_back_if(is_wanted)
+    }
+    #[inline]
+    fn pop_front_if(&mut self, is_wanted: impl FnOnce(&mut T) -> bool) -> Option<T> {
+        self.0.pop_front_if(is_wanted)
+    }
+}
+
+impl<const CAP: usize> Stream for Bounded<u8, CAP> {
+    #[inline]
+    fn write(&mut self, bytes: &[u8]) -> usize {
+        let count = bytes.len().min(CAP - self.0.len());
+        self.0.write(&bytes[..count]).unwrap_or(0)
+    }
+    #[inline]
+    fn read(&mut self, room: &mut [u8]) -> usize {
+        // Its `read` gives the bytes of the first slice alone.
+        let first = self.0.read(room).unwrap_or(0);
+        if first < room.len() { first + self.0.read(&mut room[first..]).unwrap_or(0) } else { first }
     }
 }
 

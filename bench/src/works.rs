@@ -1,6 +1,6 @@
 //! The workloads, each as in the proved crate, over a peer.
 use crate::items::{Item, Owned, Piece, counted, scrambled};
-use crate::peers::{History, Peer};
+use crate::peers::{History, Peer, Stream};
 use std::hash::{DefaultHasher, Hash, Hasher};
 use std::hint::black_box;
 
@@ -278,6 +278,21 @@ pub fn retain<T: Item, D: Peer<T>, const CAP: usize>(rounds: usize) -> u64 {
     sum
 }
 
+pub fn retain_mut<T: Item, D: Peer<T>, const CAP: usize>(rounds: usize) -> u64 {
+    let mut deque: D = peer_at(CAP / 2, 0);
+    let mut sum = 0u64;
+    let mut state = 1u64;
+    for _ in 0..rounds {
+        while deque.len() < CAP {
+            state = scrambled(state);
+            deque.push_back(T::of(state));
+        }
+        deque.retain_mut(|item| *item = T::of(item.number() >> 1), |item| item.number() & 1 != 0);
+        sum = sum.wrapping_mul(3).wrapping_add(last_number(&deque));
+    }
+    sum
+}
+
 pub fn linearize<T: Item, D: Peer<T>, const CAP: usize>(rounds: usize) -> u64 {
     let mut deque: D = peer_at(CAP / 2, CAP - CAP / 4);
     let mut sum = 0u64;
@@ -508,6 +523,33 @@ pub fn get_mut<T: Item, D: Peer<T>, const CAP: usize>(rounds: usize) -> u64 {
         }
     }
     sum_of(&deque)
+}
+
+#[inline(always)]
+fn rotated<T: Item, D: Peer<T>, const CAP: usize>(rounds: usize, len: usize, count: usize) -> u64 {
+    let mut deque: D = peer_at(CAP / 3, len);
+    let mut sum = 0u64;
+    for _ in 0..rounds {
+        deque.rotate_left(count);
+        sum = sum.wrapping_mul(3).wrapping_add(last_number(&deque));
+    }
+    sum
+}
+
+pub fn rotate_full_one<T: Item, D: Peer<T>, const CAP: usize>(rounds: usize) -> u64 {
+    rotated::<T, D, CAP>(rounds, CAP, 1)
+}
+
+pub fn rotate_full_half<T: Item, D: Peer<T>, const CAP: usize>(rounds: usize) -> u64 {
+    rotated::<T, D, CAP>(rounds, CAP, CAP / 2)
+}
+
+pub fn rotate_half_one<T: Item, D: Peer<T>, const CAP: usize>(rounds: usize) -> u64 {
+    rotated::<T, D, CAP>(rounds, CAP / 2, 1)
+}
+
+pub fn rotate_half_half<T: Item, D: Peer<T>, const CAP: usize>(rounds: usize) -> u64 {
+    rotated::<T, D, CAP>(rounds, CAP / 2, CAP / 4)
 }
 
 pub fn from_vec<T: Item, D: Peer<T>, const CAP: usize>(rounds: usize) -> u64 {
@@ -850,6 +892,20 @@ pub fn pipe_wrapping<T: Piece, D: Peer<u8>, const CAP: usize>(rounds: usize) -> 
     sum
 }
 
+pub fn stream<T: Piece, D: Stream, const CAP: usize>(rounds: usize) -> u64 {
+    let piece = counted::<u8>(T::LEN);
+    let mut buffer = counted::<u8>(T::LEN);
+    let mut deque: D = peer_at(0, 100);
+    let mut sum = 0u64;
+    for _ in 0..rounds {
+        let written = deque.write(&piece) as u64;
+        let read = deque.read(&mut buffer) as u64;
+        let last = buffer.last().map_or(0, |byte| u64::from(*byte));
+        sum = sum.wrapping_mul(3).wrapping_add(written + read + last);
+    }
+    sum
+}
+
 pub fn window<T: Item, D: Peer<T>, const CAP: usize>(rounds: usize) -> u64 {
     let samples = counted::<T>(1_000_000);
     let mut recent = D::History::new();
@@ -864,6 +920,25 @@ pub fn window<T: Item, D: Peer<T>, const CAP: usize>(rounds: usize) -> u64 {
                 total = total.wrapping_sub(oldest.number());
             }
             sum ^= total;
+        }
+    }
+    sum
+}
+
+pub fn window_largest<T: Item, D: Peer<u64>, const CAP: usize>(rounds: usize) -> u64 {
+    let mut falling = D::new();
+    let (mut state, mut sum) = (1u64, 0u64);
+    for _ in 0..rounds {
+        falling.clear();
+        for position in 0..100_000 {
+            state = scrambled(state);
+            let entry = state << 32 | position;
+            while falling.pop_back_if(|last| *last >> 32 <= entry >> 32).is_some() {}
+            falling.pop_front_if(|first| position - (*first & 0xFFFF_FFFF) >= CAP as u64);
+            falling.push_back(entry);
+            if let Some(largest) = falling.get(0) {
+                sum = sum.wrapping_add(*largest);
+            }
         }
     }
     sum

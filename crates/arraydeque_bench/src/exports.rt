@@ -2,7 +2,7 @@
 //! number of rounds, and returns a sum, or 0 where it has no such item or capacity or memory is
 //! refused. A box goes by `BOX` bytes, a text by `TEXT`; a pipe's piece by its own.
 use crate::items::Block;
-use crate::{ends, exchanges, lent, lists, middle, owned, parts, tasks, turns, walks};
+use crate::{ends, exchanges, lent, lists, middle, owned, parts, rotations, tasks, turns, walks};
 use std::alloc::Global;
 
 /// A workload at the item and the capacity that were asked for.
@@ -266,6 +266,17 @@ pub extern "C" fn arraydeque_bench_retain(
     every!(parts, retain, alloc, rounds, (bytes, capacity))
 }
 
+/// New random items to the brim, the number of each halved, and those kept whose half is odd.
+#[unsafe(no_mangle)]
+pub extern "C" fn arraydeque_bench_retain_mut(
+    alloc: Global,
+    bytes: usize,
+    capacity: usize,
+    rounds: usize,
+) -> u64 {
+    every!(parts, retain_mut, alloc, rounds, (bytes, capacity))
+}
+
 /// A list that wraps in its midst, brought into one piece.
 #[unsafe(no_mangle)]
 pub extern "C" fn arraydeque_bench_linearize(
@@ -480,6 +491,62 @@ pub extern "C" fn arraydeque_bench_get_mut(
     rounds: usize,
 ) -> u64 {
     every!(exchanges, get_mut, alloc, rounds, (bytes, capacity))
+}
+
+/// The first item of a full list behind the others.
+#[unsafe(no_mangle)]
+pub extern "C" fn arraydeque_bench_rotate_full_one(
+    alloc: Global,
+    bytes: usize,
+    capacity: usize,
+    rounds: usize,
+) -> u64 {
+    every!(rotations, rotate_full_one, alloc, rounds, (bytes, capacity))
+}
+
+/// The front half of a full list behind the other.
+#[unsafe(no_mangle)]
+pub extern "C" fn arraydeque_bench_rotate_full_half(
+    alloc: Global,
+    bytes: usize,
+    capacity: usize,
+    rounds: usize,
+) -> u64 {
+    every!(
+        rotations,
+        rotate_full_half,
+        alloc,
+        rounds,
+        (bytes, capacity)
+    )
+}
+
+/// The first item of a half-full list behind the others.
+#[unsafe(no_mangle)]
+pub extern "C" fn arraydeque_bench_rotate_half_one(
+    alloc: Global,
+    bytes: usize,
+    capacity: usize,
+    rounds: usize,
+) -> u64 {
+    every!(rotations, rotate_half_one, alloc, rounds, (bytes, capacity))
+}
+
+/// The front half of a half-full list behind the other.
+#[unsafe(no_mangle)]
+pub extern "C" fn arraydeque_bench_rotate_half_half(
+    alloc: Global,
+    bytes: usize,
+    capacity: usize,
+    rounds: usize,
+) -> u64 {
+    every!(
+        rotations,
+        rotate_half_half,
+        alloc,
+        rounds,
+        (bytes, capacity)
+    )
 }
 
 /// A deque of a new `Vec`.
@@ -755,6 +822,22 @@ pub extern "C" fn arraydeque_bench_pipe_wrapping(
     }
 }
 
+/// A piece of bytes written, and as many read.
+#[unsafe(no_mangle)]
+pub extern "C" fn arraydeque_bench_stream(
+    alloc: Global,
+    bytes: usize,
+    capacity: usize,
+    rounds: usize,
+) -> u64 {
+    match (bytes, capacity) {
+        (16, 8192) => tasks::stream::<16, 8192>(alloc, rounds).unwrap_or(0),
+        (256, 8192) => tasks::stream::<256, 8192>(alloc, rounds).unwrap_or(0),
+        (4096, 8192) => tasks::stream::<4096, 8192>(alloc, rounds).unwrap_or(0),
+        _ => 0,
+    }
+}
+
 /// A deque of an array of 16 numbers.
 #[unsafe(no_mangle)]
 pub extern "C" fn arraydeque_bench_from_array(
@@ -784,6 +867,22 @@ pub extern "C" fn arraydeque_bench_window(
         (8, 64) => tasks::window::<64>(alloc, rounds).unwrap_or(0),
         (8, 1000) => tasks::window::<1000>(alloc, rounds).unwrap_or(0),
         (8, 1024) => tasks::window::<1024>(alloc, rounds).unwrap_or(0),
+        _ => 0,
+    }
+}
+
+/// A hundred thousand samples through a window with its largest.
+#[unsafe(no_mangle)]
+pub extern "C" fn arraydeque_bench_window_largest(
+    alloc: Global,
+    bytes: usize,
+    capacity: usize,
+    rounds: usize,
+) -> u64 {
+    match (bytes, capacity) {
+        (8, 64) => tasks::window_largest::<64>(alloc, rounds).unwrap_or(0),
+        (8, 1000) => tasks::window_largest::<1000>(alloc, rounds).unwrap_or(0),
+        (8, 1024) => tasks::window_largest::<1024>(alloc, rounds).unwrap_or(0),
         _ => 0,
     }
 }

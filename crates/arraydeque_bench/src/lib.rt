@@ -12,6 +12,7 @@ mod lists;
 mod middle;
 mod owned;
 mod parts;
+mod rotations;
 mod scale;
 mod tasks;
 mod turns;

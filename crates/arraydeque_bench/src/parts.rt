@@ -216,3 +216,27 @@ pub(crate) fn retain<T: Item, const CAP: usize>(
     }
     Ok(sum)
 }
+
+/// Each round the deque is filled with new random items, and the number of each is halved: those
+/// stay whose half is odd, half of all.
+pub(crate) fn retain_mut<T: Item, const CAP: usize>(
+    alloc: Global,
+    rounds: usize,
+) -> Result<u64, AllocError> {
+    let mut deque = deque_at::<T, CAP>(alloc, CAP / 2, 0)?;
+    let mut sum = 0u64;
+    let mut state = 1u64;
+    for _ in 0..rounds {
+        for _ in deque.len()..CAP {
+            state = scrambled(state);
+            let _ = deque.push_back(T::of(state));
+        }
+        deque.retain_mut(|item| {
+            let half = item.number() >> 1;
+            *item = T::of(half);
+            half & 1 != 0
+        });
+        sum = sum.wrapping_mul(3).wrapping_add(last_number(&deque));
+    }
+    Ok(sum)
+}

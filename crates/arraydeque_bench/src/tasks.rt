@@ -1,9 +1,11 @@
-//! Small tasks: pipes of bytes, a window's sum, a few items drained, a text scanned, calls run.
+//! Small tasks: pipes and streams of bytes, a window's sum and its largest, a few items drained, a
+//! text scanned, calls run.
 use crate::items::{Item, counted, deque_at, scrambled};
 use arraydeque::lookahead::Scanner;
 use arraydeque::run::{Call, Reply};
 use arraydeque::{ArrayDeque, Saturating, Wrapping};
 use std::alloc::{AllocError, Global};
+use std::io::{Read, Write};
 
 /// A pipe that holds a hundred bytes: each round a piece goes in, all bytes are read where they
 /// stand, and as many as went in are drained.
@@ -92,6 +94,41 @@ pub(crate) fn pipe_wrapping<const PIECE: usize, const CAP: usize>(
     Ok(sum)
 }
 
+/// A stream that holds a hundred bytes: each round a piece is written, and as many bytes are read.
+pub(crate) fn stream<const PIECE: usize, const CAP: usize>(
+    alloc: Global,
+    rounds: usize,
+) -> Result<u64, AllocError> {
+    let piece = counted::<u8>(alloc, PIECE)?;
+    let mut buffer = counted::<u8>(alloc, PIECE)?;
+    let mut deque = deque_at::<u8, CAP>(alloc, 0, 100)?;
+    let mut sum = 0u64;
+    for _ in 0..rounds {
+        sum = sum
+            .wrapping_mul(3)
+            .wrapping_add(streamed(&mut deque, &piece, &mut buffer));
+    }
+    Ok(sum)
+}
+
+/// A piece written, and as many bytes read as there is room for: their number and the last one.
+#[inline]
+fn streamed<const CAP: usize>(
+    deque: &mut ArrayDeque<u8, CAP, Saturating>,
+    piece: &[u8],
+    buffer: &mut [u8],
+) -> u64 {
+    let written = deque.write(piece).unwrap_or(0);
+    let read = deque.read(buffer).unwrap_or(0);
+    let last = match buffer.last() {
+        Some(byte) => *byte as u64,
+        None => 0,
+    };
+    (written as u64)
+        .wrapping_add(read as u64)
+        .wrapping_add(last)
+}
+
 /// Each round a million samples go through a window of the last ones, whose sum is kept.
 pub(crate) fn window<const CAP: usize>(alloc: Global, rounds: usize) -> Result<u64, AllocError> {
     let samples = counted::<u64>(alloc, 1000000)?;
@@ -104,6 +141,38 @@ pub(crate) fn window<const CAP: usize>(alloc: Global, rounds: usize) -> Result<u
                 total = total.wrapping_sub(oldest);
             }
             sum ^= total;
+        }
+    }
+    Ok(sum)
+}
+
+/// Each round a hundred thousand random samples go through a window of the last ones, whose largest
+/// is kept: a sample stays with its position until a later one is as large.
+pub(crate) fn window_largest<const CAP: usize>(
+    alloc: Global,
+    rounds: usize,
+) -> Result<u64, AllocError> {
+    let mut falling = deque_at::<u64, CAP>(alloc, 0, 0)?;
+    let (mut state, mut sum) = (1u64, 0u64);
+    for _ in 0..rounds {
+        falling.clear();
+        for position in 0..100000 {
+            state = scrambled(state);
+            let entry = state << 32 | position;
+            for _ in 0..falling.len() {
+                if falling
+                    .pop_back_if(|last| *last >> 32 <= entry >> 32)
+                    .is_none()
+                {
+                    break;
+                }
+            }
+            let _ = falling.pop_front_if(|first| position.wrapping_sub(*first & 0xFFFF_FFFF)
+                >= CAP as u64);
+            let _ = falling.push_back(entry);
+            if let Some(largest) = falling.front() {
+                sum = sum.wrapping_add(*largest);
+            }
         }
     }
     Ok(sum)
