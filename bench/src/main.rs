@@ -113,6 +113,16 @@ macro_rules! of_all_lists {
     };
 }
 
+/// Items whose numbers rise in a list of any capacity.
+macro_rules! of_rising_items {
+    ($list:ident, $work:ident, $export:ident) => {
+        workloads!(
+            $list, $work, $export, true,
+            (8, u64, 1024), (8, u64, 1000), (64, Block, 1024), (8, u64, 64), (8, u64, 16), (8, u64, 1000000)
+        )
+    };
+}
+
 /// Boxes and texts.
 macro_rules! of_owned_items {
     ($list:ident, $work:ident, $export:ident) => {
@@ -189,6 +199,8 @@ fn further_workloads() -> Vec<Workload> {
     of_all_lists!(list, rotate_full_half, arraydeque_bench_rotate_full_half);
     of_all_lists!(list, rotate_half_one, arraydeque_bench_rotate_half_one);
     of_all_lists!(list, rotate_half_half, arraydeque_bench_rotate_half_half);
+    of_rising_items!(list, search, arraydeque_bench_search);
+    of_rising_items!(list, partition_point, arraydeque_bench_partition_point);
     of_owned_items!(list, owned_queue, arraydeque_bench_owned_queue);
     of_owned_items!(list, owned_clone, arraydeque_bench_owned_clone);
     of_owned_items!(list, owned_clear, arraydeque_bench_owned_clear);

@@ -1,5 +1,6 @@
 //! The two peers, by one set of calls.
 use arraydeque::{ArrayDeque, Saturating, Wrapping};
+use std::cmp::Ordering;
 use std::collections::VecDeque;
 use std::hash::Hash;
 use std::io::{Read, Write};
@@ -45,6 +46,8 @@ pub trait Peer<T>: Sized {
     /// Writes each item, and keeps those that are wanted then.
     fn retain_mut(&mut self, writes: impl FnMut(&mut T), keeps: impl FnMut(&T) -> bool);
     fn rotate_left(&mut self, count: usize);
+    fn binary_search_by(&self, order: impl FnMut(&T) -> Ordering) -> Result<usize, usize>;
+    fn partition_point(&self, is_before: impl FnMut(&T) -> bool) -> usize;
     fn pop_back_if(&mut self, is_wanted: impl FnOnce(&mut T) -> bool) -> Option<T>;
     fn pop_front_if(&mut self, is_wanted: impl FnOnce(&mut T) -> bool) -> Option<T>;
     fn iter<'a>(&'a self) -> impl DoubleEndedIterator<Item = &'a T>
@@ -252,6 +255,25 @@ impl<T, const CAP: usize> Peer<T> for Crate<T, CAP> {
         }
     }
     #[inline]
+    fn binary_search_by(&self, mut order: impl FnMut(&T) -> Ordering) -> Result<usize, usize> {
+        let (front, back) = self.0.as_slices();
+        if back.first().is_some_and(|item| order(item).is_le()) {
+            let shifted = |index| front.len() + index;
+            back.binary_search_by(order).map(shifted).map_err(shifted)
+        } else {
+            front.binary_search_by(order)
+        }
+    }
+    #[inline]
+    fn partition_point(&self, mut is_before: impl FnMut(&T) -> bool) -> usize {
+        let (front, back) = self.0.as_slices();
+        if back.first().is_some_and(&mut is_before) {
+            front.len() + back.partition_point(is_before)
+        } else {
+            front.partition_point(is_before)
+        }
+    }
+    #[inline]
     fn pop_back_if(&mut self, is_wanted: impl FnOnce(&mut T) -> bool) -> Option<T> {
         if is_wanted(self.0.back_mut()?) { self.0.pop_back() } else { None }
     }
@@ -369,6 +391,14 @@ impl<T, const CAP: usize> Peer<T> for Bounded<T, CAP> {
     #[inline]
     fn rotate_left(&mut self, count: usize) {
         self.0.rotate_left(count);
+    }
+    #[inline]
+    fn binary_search_by(&self, order: impl FnMut(&T) -> Ordering) -> Result<usize, usize> {
+        self.0.binary_search_by(order)
+    }
+    #[inline]
+    fn partition_point(&self, is_before: impl FnMut(&T) -> bool) -> usize {
+        self.0.partition_point(is_before)
     }
     #[inline]
     fn pop_back_if(&mut self, is_wanted: impl FnOnce(&mut T) -> bool) -> Option<T> {

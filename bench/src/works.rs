@@ -552,6 +552,33 @@ pub fn rotate_half_half<T: Item, D: Peer<T>, const CAP: usize>(rounds: usize) ->
     rotated::<T, D, CAP>(rounds, CAP / 2, CAP / 4)
 }
 
+pub fn search<T: Item, D: Peer<T>, const CAP: usize>(rounds: usize) -> u64 {
+    let deque: D = peer_at(CAP / 2, CAP);
+    let mut sum = 0u64;
+    let mut state = 1u64;
+    for _ in 0..rounds {
+        state = scrambled(state);
+        let sought = (state >> 32) % (2 * CAP as u64);
+        match deque.binary_search_by(|item| item.number().wrapping_mul(2).cmp(&sought)) {
+            Ok(index) => sum = sum.wrapping_add(index as u64),
+            Err(index) => sum = sum.wrapping_sub(index as u64),
+        }
+    }
+    sum
+}
+
+pub fn partition_point<T: Item, D: Peer<T>, const CAP: usize>(rounds: usize) -> u64 {
+    let deque: D = peer_at(CAP / 2, CAP);
+    let mut sum = 0u64;
+    let mut state = 1u64;
+    for _ in 0..rounds {
+        state = scrambled(state);
+        let bound = place_of::<CAP>(state) as u64;
+        sum = sum.wrapping_add(deque.partition_point(|item| item.number() < bound) as u64);
+    }
+    sum
+}
+
 pub fn from_vec<T: Item, D: Peer<T>, const CAP: usize>(rounds: usize) -> u64 {
     let items = counted::<T>(CAP / 2);
     let mut sum = 0u64;

@@ -2,7 +2,9 @@
 //! number of rounds, and returns a sum, or 0 where it has no such item or capacity or memory is
 //! refused. A box goes by `BOX` bytes, a text by `TEXT`; a pipe's piece by its own.
 use crate::items::Block;
-use crate::{ends, exchanges, lent, lists, middle, owned, parts, rotations, tasks, turns, walks};
+use crate::{
+    ends, exchanges, lent, lists, middle, owned, parts, rotations, searches, tasks, turns, walks,
+};
 use std::alloc::Global;
 
 /// A workload at the item and the capacity that were asked for.
@@ -43,6 +45,17 @@ macro_rules! every {
             $module, $work, $alloc, $rounds, $asked,
             (1, u8, 1024), (8, u64, 1024), (8, u64, 1000), (64, Block, 1024), (8, u64, 64),
             (8, u64, 16), (8, u64, 1000000)
+        )
+    };
+}
+
+/// Items whose numbers rise in a list of any capacity.
+macro_rules! rising {
+    ($module:ident, $work:ident, $alloc:ident, $rounds:ident, $asked:expr) => {
+        chosen!(
+            $module, $work, $alloc, $rounds, $asked,
+            (8, u64, 1024), (8, u64, 1000), (64, Block, 1024), (8, u64, 64), (8, u64, 16),
+            (8, u64, 1000000)
         )
     };
 }
@@ -547,6 +560,28 @@ pub extern "C" fn arraydeque_bench_rotate_half_half(
         rounds,
         (bytes, capacity)
     )
+}
+
+/// A binary search for an item.
+#[unsafe(no_mangle)]
+pub extern "C" fn arraydeque_bench_search(
+    alloc: Global,
+    bytes: usize,
+    capacity: usize,
+    rounds: usize,
+) -> u64 {
+    rising!(searches, search, alloc, rounds, (bytes, capacity))
+}
+
+/// The items below a number counted.
+#[unsafe(no_mangle)]
+pub extern "C" fn arraydeque_bench_partition_point(
+    alloc: Global,
+    bytes: usize,
+    capacity: usize,
+    rounds: usize,
+) -> u64 {
+    rising!(searches, partition_point, alloc, rounds, (bytes, capacity))
 }
 
 /// A deque of a new `Vec`.

@@ -14,6 +14,7 @@ mod owned;
 mod parts;
 mod rotations;
 mod scale;
+mod searches;
 mod tasks;
 mod turns;
 mod walks;
