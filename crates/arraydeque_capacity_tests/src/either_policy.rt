@@ -19,6 +19,17 @@ fn reads_nothing<const CAP: usize, B: Behavior>(deque: &mut ArrayDeque<i64, CAP,
         && deque.get_mut(0).is_none()
 }
 
+/// Whether nothing is lent or found in it.
+fn finds_nothing<const CAP: usize, B: Behavior>(deque: &mut ArrayDeque<i64, CAP, B>) -> bool {
+    deque.linearize();
+    deque.as_slice().is_empty()
+        && deque.range(..).next().is_none()
+        && deque.partition_point(|_| true) == 0
+        && deque.binary_search(&6) == Err(0)
+        && deque.binary_search_by(|item| item.cmp(&6)) == Err(0)
+        && deque.binary_search_by_key(&6, |item| *item) == Err(0)
+}
+
 /// Whether nothing can be taken out of it, and nothing is there to be moved.
 fn takes_nothing_out<const CAP: usize, B: Behavior>(deque: &mut ArrayDeque<i64, CAP, B>) -> bool {
     deque.retain(|_| true);
@@ -26,6 +37,8 @@ fn takes_nothing_out<const CAP: usize, B: Behavior>(deque: &mut ArrayDeque<i64, 
     deque.truncate(0);
     deque.truncate_front(0);
     deque.clear();
+    deque.rotate_left(0);
+    deque.rotate_right(0);
     deque.linearize();
     (deque.pop_front(), deque.pop_back()) == (None, None)
         && (deque.pop_front_if(|_| true), deque.pop_back_if(|_| true)) == (None, None)
@@ -86,6 +99,7 @@ fn is_nothing<const CAP: usize, B: Behavior>(alloc: Global) -> Result<bool, Fail
     let mut deque = ArrayDeque::<i64, CAP, B>::new(alloc)?;
     Ok(
         reads_nothing(&mut deque)
+            && finds_nothing(&mut deque)
             && takes_nothing_out(&mut deque)
             && has_no_parts(&mut deque)?
             && compares_as(&deque, &[])?,
@@ -111,6 +125,28 @@ fn reads_one<B: Behavior>(deque: &mut ArrayDeque<i64, 1, B>) -> bool {
         && (deque.front(), deque.back()) == (Some(&6), Some(&6))
         && (deque.get(0), deque.get(1)) == (Some(&6), None)
         && (deque.len() == 1 && deque[0] == 6)
+}
+
+/// Whether the one item is lent and found, also once it has changed ends.
+fn finds_one<B: Behavior>(deque: &mut ArrayDeque<i64, 1, B>) -> bool {
+    for count in [0, 1] {
+        if count <= deque.len() {
+            deque.rotate_left(count);
+        }
+        if count <= deque.len() {
+            deque.rotate_right(count);
+        }
+    }
+    deque.linearize();
+    deque.as_slice() == [6].as_slice()
+        && deque.range(..).next() == Some(&6)
+        && (
+            deque.partition_point(|_| true),
+            deque.partition_point(|_| false),
+        ) == (1, 0)
+        && (deque.binary_search(&6), deque.binary_search(&7)) == (Ok(0), Err(1))
+        && deque.binary_search_by(|item| item.cmp(&6)) == Ok(0)
+        && deque.binary_search_by_key(&5, |item| *item) == Err(0)
 }
 
 /// Whether the one item is written over where it stands, and is 6 again.
@@ -172,6 +208,7 @@ fn has_two_parts<B: Behavior>(mut deque: ArrayDeque<i64, 1, B>) -> Result<bool, 
 fn is_one<B: Behavior>(mut deque: ArrayDeque<i64, 1, B>) -> Result<bool, Fail> {
     Ok(
         reads_one(&mut deque)
+            && finds_one(&mut deque)
             && writes_one(&mut deque)
             && compares_as(&deque, &[6])?
             && has_two_parts(deque)?,

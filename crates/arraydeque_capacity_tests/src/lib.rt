@@ -8,6 +8,8 @@
 //! |---|---|---|
 //! | | in `either_policy`: | |
 //! | lengths, `as_slices`, all of `access` | `reads_nothing` | `reads_one`, `writes_one` |
+//! | `as_slice`, `range`, all of `searches` | `finds_nothing` | `finds_one` |
+//! | rotations | `takes_nothing_out` | `finds_one` |
 //! | pops, `pop_if`, `remove`, removals by exchange | `takes_nothing_out` | `is_free_after` |
 //! | all of `retain` | `takes_nothing_out` | `is_free_after`, `reads_one`, `writes_one` |
 //! | `swap` and `[i]`, which ask for an item | | `reads_one`, `writes_one` |

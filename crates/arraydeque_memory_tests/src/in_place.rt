@@ -117,6 +117,32 @@ fn slides_across_the_end_1_request_64_bytes(rt: HostRuntime) -> Result<(), Fail>
     Ok(())
 }
 
+/// Whether the items 0, 1 and 3 change ends, in a full deque too, are found, and are lent in one
+/// slice and by a range.
+fn rotates_and_searches(deque: &mut Deque) -> bool {
+    for count in 0..4 {
+        if count > deque.len() {
+            return false;
+        }
+        deque.rotate_left(count);
+        if count > deque.len() {
+            return false;
+        }
+        deque.rotate_right(count);
+    }
+    let is_found = deque.binary_search(&1) == Ok(1)
+        && deque.binary_search_by(|item| item.cmp(&2)) == Err(2)
+        && deque.binary_search_by_key(&3, |item| *item) == Ok(2)
+        && deque.partition_point(|item| *item < 1) == 1
+        && deque.range(..).next_back() == Some(&3);
+    let is_full = deque.push_back(4).is_ok() && deque.len() == 4;
+    if deque.len() == 4 {
+        deque.rotate_left(3);
+    }
+    deque.linearize();
+    is_found && is_full && deque.as_slice() == [4, 0, 1, 3].as_slice()
+}
+
 /// Whether the even ones of the items 8, 9, 6 and 7 are retained, then halved but for one that
 /// goes, and then cleared.
 fn retains_and_clears(deque: &mut ArrayDeque<i64, 4, Saturating>) -> bool {
@@ -182,6 +208,8 @@ fn calls_in_place_1_request_32_bytes(rt: HostRuntime) -> Result<(), Fail> {
     let is_written = reads(&deque) && deque.push_back(2).is_ok() && writes(&mut deque);
     refill(&mut deque, &[7, 6, 8]);
     let is_moved = moves_and_swaps(&mut deque);
+    refill(&mut deque, &[0, 1, 3]);
+    let is_rotated = rotates_and_searches(&mut deque);
     refill(&mut deque, &[8, 9, 6, 7]);
     let is_retained = retains_and_clears(&mut deque);
     refill(&mut deque, &[6, 7, 8, 9]);
@@ -189,7 +217,12 @@ fn calls_in_place_1_request_32_bytes(rt: HostRuntime) -> Result<(), Fail> {
     refill(&mut deque, &[1, 2, 3, 4]);
     let is_doubled = doubles_each(&mut deque);
     refill(&mut deque, &[1, 2]);
-    let are_edited = is_written && is_moved && is_retained && is_truncated && is_doubled;
+    let are_edited = is_written
+        && is_moved
+        && is_rotated
+        && is_retained
+        && is_truncated
+        && is_doubled;
     assert!(rt; hands_out_nothing(rt.alloc(), deque)? && are_edited);
     Ok(())
 }

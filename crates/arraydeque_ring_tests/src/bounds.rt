@@ -35,6 +35,9 @@ fn writes<T>(ring: &mut Ring<T>) -> bool {
         return false;
     }
     ring.swap(0, 1);
+    if ring.len() == 2 {
+        ring.rotate_left(2);
+    }
     ring.linearize();
     let (first, second) = ring.as_mut_slices();
     let is_cut = (first.len(), second.len()) == (2, 0);
@@ -50,7 +53,7 @@ fn len_lent<T>(ring: &mut Ring<T>) -> usize {
 /// How many items one slice lends.
 fn len_in_one_piece<T>(ring: &mut Ring<T>) -> usize {
     ring.linearize();
-    ring.as_mut_slice().len()
+    ring.as_slice().len().min(ring.as_mut_slice().len())
 }
 
 /// Puts three elements in, or hands them back where there is no room.

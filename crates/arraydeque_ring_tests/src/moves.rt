@@ -63,6 +63,16 @@ fn insert_and_remove<T: Numbered>(rt: &impl Abort, mut ring: Ring<T>, index: u8,
     assert!(rt; holds(&ring, &[(0, len)]), "remove at {index}");
 }
 
+/// Puts the items before an index behind the others.
+fn rotate<T: Numbered>(rt: &impl Abort, mut ring: Ring<T>, count: u8, len: u8) {
+    assert!(rt; usize::from(count) <= ring.len());
+    ring.rotate_left(usize::from(count));
+    assert!(rt;
+        holds(&ring, &[(count, len), (0, count)]),
+        "rotate by {count}"
+    );
+}
+
 /// Drains the items from one index up to another.
 fn drain_between<T: Numbered>(
     rt: &impl Abort,
@@ -78,11 +88,14 @@ fn drain_between<T: Numbered>(
     Ok(())
 }
 
-/// Inserts, removes and drains at each index of a list of six that starts at each of eight places.
+/// Inserts, removes, rotates and drains at each index of a list of six that starts at each of eight
+/// places, and rotates a full ring.
 fn move_across_the_end<T: Numbered>(rt: &impl Abort, alloc: Global) -> Result<(), Fail> {
     for start in 0..8 {
         for from in 0..=6 {
             insert_and_remove(rt, ring_at::<T>(rt, alloc, 8, start, 6)?, from, 6);
+            rotate(rt, ring_at::<T>(rt, alloc, 8, start, 6)?, from, 6);
+            rotate(rt, ring_at::<T>(rt, alloc, 8, start, 8)?, from, 8);
             for to in from..=6 {
                 drain_between(rt, ring_at::<T>(rt, alloc, 8, start, 6)?, from, to, 6)?;
             }
@@ -104,6 +117,12 @@ fn items_of_every_size_move_across_the_end(rt: HostRuntime) -> Result<(), Fail> 
 fn long_runs_move_across_the_end(rt: HostRuntime) -> Result<(), Fail> {
     for start in [0, 20, 60] {
         for index in [25, 33, 40] {
+            rotate(
+                &rt,
+                ring_at::<Three>(&rt, rt.alloc(), 70, start, 66)?,
+                index,
+                66,
+            );
             insert_and_remove(
                 &rt,
                 ring_at::<Three>(&rt, rt.alloc(), 70, start, 66)?,

@@ -51,13 +51,21 @@ fn reads<T, const CAP: usize, B: Behavior>(
             && deque.front().is_some()
             && deque.back().is_some()
             && deque.get(2).is_none()
-            && is_there(&deque[1]),
+            && is_there(&deque[1])
+            && deque.range(..).len() == 2,
     )
 }
 
 /// Whether an iterator gives nothing after its first `None`: its type says so.
 fn is_fused<I: FusedIterator>(_items: &I) -> bool {
     true
+}
+
+/// Whether searches by closures alone find one of two items.
+fn searches<T, const CAP: usize, B: Behavior>(deque: &ArrayDeque<T, CAP, B>) -> bool {
+    deque.partition_point(|_| true) == 2
+        && deque.binary_search_by(|_| Ordering::Equal).is_ok()
+        && deque.binary_search_by_key(&0, |_| 0).is_ok()
 }
 
 /// Whether an item is lent: it is.
@@ -104,7 +112,17 @@ fn is_in_one_piece<T, const CAP: usize, B: Behavior>(deque: &mut ArrayDeque<T, C
     let mut is_called = false;
     deque.iter_mut().for_each(|_| is_called = true);
     deque.linearize();
-    is_called && deque.as_mut_slice().len() == 2
+    is_called && deque.as_slice().len() == 2 && deque.as_mut_slice().len() == 2
+}
+
+/// Has the first item change ends, and come back.
+fn rotates<T, const CAP: usize, B: Behavior>(deque: &mut ArrayDeque<T, CAP, B>) {
+    if deque.len() != 0 {
+        deque.rotate_left(1);
+    }
+    if deque.len() != 0 {
+        deque.rotate_right(1);
+    }
 }
 
 /// Whether a deque of two items lends them for writing, and has them change places.
@@ -113,6 +131,7 @@ fn writes<T, const CAP: usize, B: Behavior>(deque: &mut ArrayDeque<T, CAP, B>) -
         return false;
     }
     deque.swap(0, 1);
+    rotates(deque);
     deque.linearize();
     is_walked(deque)
         && is_walked_over(deque)
@@ -453,6 +472,14 @@ fn order<T: Ord, const CAP: usize, B: Behavior>(
     left.cmp(right)
 }
 
+/// Where an item is, in order.
+fn found<T: Ord, const CAP: usize, B: Behavior>(
+    deque: &ArrayDeque<T, CAP, B>,
+    item: &T,
+) -> Result<usize, usize> {
+    deque.binary_search(item)
+}
+
 /// Feeds a deque to a hasher.
 fn feed<T: Hash, const CAP: usize, B: Behavior>(
     deque: &ArrayDeque<T, CAP, B>,
@@ -531,7 +558,10 @@ fn asks_nothing(alloc: Global) -> Result<bool, Fail> {
     fill(&mut deque, Some(2), None);
     join(&mut deque, &mut new::<u8, 2, Wrapping>(alloc)?);
     let mut deque = converted(deque);
-    let is_held = reads(&deque)? && writes(&mut deque) && lent(&mut deque) == Some(&mut 2);
+    let is_held = reads(&deque)?
+        && searches(&deque)
+        && writes(&mut deque)
+        && lent(&mut deque) == Some(&mut 2);
     let refusals = refused(&mut deque, (3, 4, 5));
     let mut wrapping: ArrayDeque<u8, 3, Wrapping> = deque.into();
     let given_up = displaced(&mut wrapping, (6, 7));
@@ -598,6 +628,7 @@ fn asks_for_traits(alloc: Global) -> Result<bool, Fail> {
     Ok(
         partial_order(&deque, deque_itself(&copy)) == Some(Ordering::Equal)
             && order(&deque, &copy) == Ordering::Equal
+            && found(&deque, &2) == Ok(1)
             && hasher.finish() == other.finish()
             && text(alloc, &copy)?.as_str() == "[1, 2]"
             && have_texts(

@@ -30,6 +30,8 @@ mod pushes;
 #[cfg(test)]
 mod retain;
 #[cfg(test)]
+mod searches;
+#[cfg(test)]
 mod steps;
 #[cfg(test)]
 mod swaps;

@@ -2,7 +2,7 @@
 ghost use Rattle.std.specs.Prelude.{Some, ◌+◌};
 
 use crate::build::{deque_at, holds, numbers, wrapping_at};
-use crate::moves::{inserts_alike, removes_alike};
+use crate::moves::{inserts_alike, removes_alike, rotates_alike};
 use arraydeque::RangeArgument;
 use std::alloc::Global;
 use std::process::Abort;
@@ -166,19 +166,41 @@ fn parts_alike<const CAP: usize>(
     Ok(splits && drains)
 }
 
-/// Edits, drains and splits beside a plain list, at each start and length, for each part.
+/// Whether a range from `from` up to `to`, and one slice, lend what a plain list does.
+fn lends_alike<const CAP: usize>(
+    alloc: Global,
+    start: usize,
+    len: usize,
+    from: usize,
+    to: usize,
+) -> Result<bool, Fail> {
+    let list = numbers(alloc, len)?;
+    let mut deque = deque_at::<CAP>(alloc, start, &list)?;
+    if from > to || to > deque.len() {
+        return Ok(false);
+    }
+    let part: Vec<i64> = deque.range(from..to).copied().collect(alloc)?;
+    let is_lent = part.as_slice() == &list[from..to];
+    deque.linearize();
+    Ok(is_lent && deque.as_slice() == list.as_slice())
+}
+
+/// Edits, rotations, drains, splits and ranges beside a plain list, at each start and length, for
+/// each part.
 fn compare_all<const CAP: usize>(rt: &impl Abort, alloc: Global) -> Result<(), Fail> {
     for start in 0..CAP {
         for len in 0..=CAP {
             for to in 0..=len {
                 assert!(rt;
                     inserts_alike::<CAP>(alloc, start, len, to)?
-                        && removes_alike::<CAP>(alloc, start, len, to)?,
+                        && removes_alike::<CAP>(alloc, start, len, to)?
+                        && rotates_alike::<CAP>(alloc, start, len, to)?,
                     "index {to} of {CAP}, start {start}, length {len}"
                 );
                 for from in 0..=to {
                     assert!(rt;
-                        parts_alike::<CAP>(alloc, start, len, from, to)?,
+                        parts_alike::<CAP>(alloc, start, len, from, to)?
+                            && lends_alike::<CAP>(alloc, start, len, from, to)?,
                         "{from} to {to} of {CAP}, start {start}, length {len}"
                     );
                 }

@@ -11,6 +11,7 @@ pub mod limiter;
 pub mod log;
 pub mod peaks;
 pub mod pipe;
+pub mod reorder;
 pub mod scanning;
 pub mod tokens;
 pub mod window;

@@ -20,6 +20,8 @@ mod peaks;
 #[cfg(test)]
 mod pipe;
 #[cfg(test)]
+mod reorder;
+#[cfg(test)]
 mod scanning;
 #[cfg(test)]
 mod tokens;
