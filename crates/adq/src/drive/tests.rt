@@ -11,6 +11,7 @@ use std::alloc::{AllocError, Global};
 use std::fmt::Write;
 use std::io;
 use std::io::ErrorKind;
+use std::ops::Range;
 use std::test::Fail;
 
 /// The words after the program's name.
@@ -250,37 +251,62 @@ fn a_long_run_is_whole(rt: HostRuntime) -> Result<(), Fail> {
     Ok(())
 }
 
-/// A hundred thousand lines, and one of as many values. A bad line behind them is blamed, and where
-/// the flush fails, some beginning was written.
+/// A hundred thousand lines that push a number each, and one that adds them all.
+fn long_lines(alloc: Global) -> Result<String, AllocError> {
+    let mut lines = String::new(alloc);
+    for number in 0..100_000 {
+        writeln!(lines, "push_back {number}")?;
+    }
+    lines.push_str("extend_back")?;
+    for number in 0..100_000 {
+        write!(lines, " {number}")?;
+    }
+    lines.push_str("\n")?;
+    Ok(lines)
+}
+
+/// What they print: three replies alike, this word with each number, and the list.
+fn long_replies(
+    alloc: Global,
+    first: &str,
+    word: &str,
+    numbers: Range<i64>,
+    list: &str,
+) -> Result<String, AllocError> {
+    let mut text = String::new(alloc);
+    for _ in 0..3 {
+        writeln!(text, "{first}")?;
+    }
+    for number in numbers {
+        writeln!(text, "{word}{number}")?;
+    }
+    writeln!(text, "ok\nlist: {list}")?;
+    Ok(text)
+}
+
+/// A bad line behind many others is blamed, and where the flush fails, some beginning was written.
 #[test]
 fn a_hundred_thousand_lines_are_run(rt: HostRuntime) -> Result<(), Fail> {
-    let mut lines = String::new(rt.alloc());
-    let mut extend = String::from_str(rt.alloc(), "extend_back")?;
-    let mut refused = String::from_str(rt.alloc(), "ok\nok\nok\n")?;
-    let mut displaced = String::from_str(rt.alloc(), "none\nnone\nnone\n")?;
-    for number in 0..100_000 {
-        write!(lines, "push_back {number}\n")?;
-        write!(extend, " {number}")?;
-        if number >= 3 {
-            write!(refused, "full {number}\n")?;
-            write!(displaced, "{}\n", number - 3)?;
-        }
-    }
-    write!(lines, "{extend}\n")?;
-    write!(refused, "ok\nlist: [0, 1, 2]\n")?;
-    write!(displaced, "ok\nlist: [99997, 99998, 99999]\n")?;
-    for (words, text) in [("sat 3", refused.as_str()), ("wrap 3", displaced.as_str())] {
-        let unflushed = Calls::failing(usize::MAX, 1, 1, ErrorKind::Other);
+    let mut lines = long_lines(rt.alloc())?;
+    let unflushed = Calls::failing(usize::MAX, 1, 1, ErrorKind::Other);
+    for (words, first, word, numbers, list) in [
+        ("sat 3", "ok", "full ", 3..100_000, "[0, 1, 2]"),
+        ("wrap 3", "none", "", 0..99_997, "[99997, 99998, 99999]"),
+    ] {
+        let text = long_replies(rt.alloc(), first, word, numbers, list)?;
         assert!(rt;
-            prints(rt.alloc(), words, lines.as_bytes(), text)?,
-            "{words}"
-        );
-        assert!(rt;
-            fails(rt.alloc(), words, lines.as_bytes(), text, unflushed)?,
+            prints(rt.alloc(), words, lines.as_bytes(), text.as_str())?
+                && fails(
+                    rt.alloc(),
+                    words,
+                    lines.as_bytes(),
+                    text.as_str(),
+                    unflushed
+                )?,
             "{words}"
         );
     }
-    write!(lines, "drain 0 x")?;
+    lines.push_str("drain 0 x")?;
     for words in ["sat 3", "wrap 3"] {
         assert!(rt;
             blames(rt.alloc(), words, lines.as_bytes(), 100_002)?,
