@@ -27,7 +27,10 @@ fn the_largest_of_the_last_three(rt: HostRuntime) -> Result<(), Fail> {
             peaks.leave(oldest);
         }
         let is_entered = peaks.enter(sample).is_ok();
-        assert!(rt; is_new && is_entered && peaks.largest() == Some(largest), "{sample}");
+        assert!(rt;
+            is_new && is_entered && peaks.largest() == Some(largest),
+            "{sample}"
+        );
     }
     Ok(())
 }

@@ -45,20 +45,20 @@ loop-index-preserved g c =
     let held = rw c.wrap_add-place.ensures at c.get_mut.ensures.value in
     elim c.if-keeps.branch [
       | then-keeps w ↦
-        let called = Called-Mut g.F.FnMut w.if-keeps.ensures in
-        elim w.if-kept-index.branch [
-          | then-kept-index v ↦ rw (
-            w.slots-is,
-            w.kept-is,
-            v.slots-is,
-            v.shift.ensures.places,
-            v.shift.ensures.steps,
-            v.wrap_add.ensures,
-            c.wrap_add-place.ensures,
-          ) (moves_up so_far (omega arith) _ _ _ held called (omega arith))
-          | else-kept-index v ↦ rw (w.slots-is, w.kept-is, v.slots-is, c.wrap_add-place.ensures)
-            (stays_there so_far (omega arith) _ _ _ held called (omega arith))
-        ]
+          let called = Called-Mut g.F.FnMut w.if-keeps.ensures in
+          elim w.if-kept-index.branch [
+            | then-kept-index v ↦ rw (
+              w.slots-is,
+              w.kept-is,
+              v.slots-is,
+              v.shift.ensures.places,
+              v.shift.ensures.steps,
+              v.wrap_add.ensures,
+              c.wrap_add-place.ensures,
+            ) (moves_up so_far (omega arith) _ _ _ held called (omega arith))
+            | else-kept-index v ↦ rw (w.slots-is, w.kept-is, v.slots-is, c.wrap_add-place.ensures)
+                (stays_there so_far (omega arith) _ _ _ held called (omega arith))
+          ]
       | else-keeps w ↦ rw (
         w.slots-is,
         w.kept-is,

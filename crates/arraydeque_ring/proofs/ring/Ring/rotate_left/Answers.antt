@@ -66,7 +66,7 @@ pub returns-then-has_room-clause-fewest : goal.returns-then-has_room-clause-fewe
 returns-then-has_room-clause-fewest g c =
     let ring = opened c.self.inside c.self.invariant c.self.view_is in
     rw (returns-then-has_room-clause-start g c)
-        (fewest_rotate c.args.count _ _ _ (omega arith) c.requires (omega arith))
+    (fewest_rotate c.args.count _ _ _ (omega arith) c.requires (omega arith))
 
 pub returns-else-has_room-clause-items : goal.returns-else-has_room-clause-items
 returns-else-has_room-clause-items g c = (full g c).3
@@ -78,4 +78,4 @@ pub returns-else-has_room-clause-fewest : goal.returns-else-has_room-clause-fewe
 returns-else-has_room-clause-fewest g c =
     let ring = opened c.self.inside c.self.invariant c.self.view_is in
     rw (returns-else-has_room-clause-start g c)
-        (fewest_rotate c.args.count _ _ _ (omega arith) c.requires (omega arith))
+    (fewest_rotate c.args.count _ _ _ (omega arith) c.requires (omega arith))
