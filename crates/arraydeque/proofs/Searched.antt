@@ -3,7 +3,7 @@
 use Rattle.std.{
   proofs.{
     Common.{◌≡◌, ℕ, ◌+◌, ◌-◌, ◌<◌, ◌≤◌, inl, inr, List, ◌∷◌, [], ◌++◌, length, get_or, Bool, true, false, Ok, Err},
-    Common.{refl, sym, ap, ◌∙◌, arith},
+    Common.{refl, ap, arith},
     lemmas.{Bool.{cases_lt, false_from_ne_true}, List.{length-append, get_or_append_left, get_or-append-add}},
     lemmas.{Cmp.is_gt_index, List.get_or-append_right},
   },

@@ -1,7 +1,4 @@
-use Rattle.std.{
-  proofs.{Common.{◌≡◌, ◌<◌, length, ap, sym, ◌∙◌, of_calls, arith}, lemmas.List.length-append},
-  specs.Ordering.is_gt,
-}
+use Rattle.std.proofs.{Common.{length, ap, sym, ◌∙◌, of_calls, arith}, lemmas.List.length-append}
 use Rattle.arraydeque.proofs.{
   Searched.{answers_first, found_behind, missed_behind, searched_before},
   deque.ArrayDeque.binary_search_by_key.{Goals.{in-Some, in-None}},

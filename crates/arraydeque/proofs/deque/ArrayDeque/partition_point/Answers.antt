@@ -1,4 +1,4 @@
-use Rattle.std.proofs.{Common.{◌≡◌, ◌<◌, length, ap, sym, ◌∙◌, arith}, lemmas.List.length-append}
+use Rattle.std.proofs.{Common.{length, ap, sym, ◌∙◌, arith}, lemmas.List.length-append}
 use Rattle.arraydeque.proofs.{
   Searched.{answers_first, parted_behind, parted_before},
   deque.ArrayDeque.partition_point.{Goals.{in-Some, in-None}},
