@@ -9,6 +9,7 @@ pub mod in_place;
 pub mod jobs;
 pub mod limiter;
 pub mod log;
+pub mod moving;
 pub mod peaks;
 pub mod pipe;
 pub mod reorder;

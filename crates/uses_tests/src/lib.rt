@@ -16,6 +16,8 @@ mod limiter;
 #[cfg(test)]
 mod log;
 #[cfg(test)]
+mod moving;
+#[cfg(test)]
 mod peaks;
 #[cfg(test)]
 mod pipe;
