@@ -98,8 +98,8 @@ fn prints<const CAP: usize, B: Behavior>(
 fn is_nothing<const CAP: usize, B: Behavior>(alloc: Global) -> Result<bool, Fail> {
     let mut deque = ArrayDeque::<i64, CAP, B>::new(alloc)?;
     Ok(
-        reads_nothing(&mut deque)
-            && finds_nothing(&mut deque)
+        finds_nothing(&mut deque)
+            && reads_nothing(&mut deque)
             && takes_nothing_out(&mut deque)
             && has_no_parts(&mut deque)?
             && compares_as(&deque, &[])?,
@@ -207,8 +207,8 @@ fn has_two_parts<B: Behavior>(mut deque: ArrayDeque<i64, 1, B>) -> Result<bool, 
 /// Whether one item is there in every way, and is parted at last.
 fn is_one<B: Behavior>(mut deque: ArrayDeque<i64, 1, B>) -> Result<bool, Fail> {
     Ok(
-        reads_one(&mut deque)
-            && finds_one(&mut deque)
+        finds_one(&mut deque)
+            && reads_one(&mut deque)
             && writes_one(&mut deque)
             && compares_as(&deque, &[6])?
             && has_two_parts(deque)?,
