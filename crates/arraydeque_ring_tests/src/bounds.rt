@@ -162,6 +162,11 @@ fn of_copies<T: Copy>(alloc: Global, items: &[T]) -> Result<Ring<T>, AllocError>
     Ring::of_copies(alloc, items.len(), items)
 }
 
+/// Puts copies behind the last item. Answers how many found room.
+fn copy_back<T: Copy>(ring: &mut Ring<T>, items: &[T]) -> usize {
+    ring.copy_back(items)
+}
+
 /// A ring of clones.
 fn cloned<T: Clone>(ring: &Ring<T>) -> Result<Ring<T>, AllocError>
     requires { ClonesAreSame T.is_clone ring.now.items }
@@ -283,9 +288,12 @@ fn asks_nothing(alloc: Global) -> Result<bool, Fail> {
 fn asks_to_drop(alloc: Global) -> Result<bool, Fail> {
     let mut ring = of_vec(alloc, 2, vec![in alloc; 1_u8, 2, 3]?).map_err(|_| "refused")?;
     displace(&mut ring, Some(4).into_iter(), Some(5).into_iter());
-    let copies = of_copies(alloc, &[5_u8, 2])?;
+    let mut copies = of_copies(alloc, &[5_u8, 2, 9])?;
+    copies.truncate(1);
+    let copied = copy_back(&mut copies, &[7, 8, 9]);
     Ok(
-        ring.as_slices() == ([5, 2].as_slice(), [].as_slice())
+        copied == 2
+            && ring.as_slices() == ([5, 2].as_slice(), [].as_slice())
             && gives(owned(ring))
             && lets_go(cloned(&copies)?),
     )

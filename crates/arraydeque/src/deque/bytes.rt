@@ -126,9 +126,7 @@ impl<const CAP: usize> Write for ArrayDeque<u8, CAP, Saturating> {
             (take (CAP - length self.old.items) buf.now) self.old }
         ensures within { length self.new.items ≤ CAP }
     {
-        let before = self.len();
-        self.extend_back(buf.iter().copied());
-        Ok(self.len() - before)
+        Ok(self.ring.copy_back(buf))
     }
 
     /// Does nothing: what was written is there. It always returns `Ok`.

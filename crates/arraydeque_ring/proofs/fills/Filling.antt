@@ -11,7 +11,7 @@ use Rattle.arraydeque_ring.{specs.{Fills.Fills, Loans.with_run}, proofs.fills.Fr
 -- one item more, in the place behind the run or before it
 module _ {X : Type 0} (at : ℕ) (xs : List X) (ps : List (Option X)) (within : at + length xs ≤ length ps) (x : X)
     (place : ℕ) where
-  with_run-behind : place ≡ at + length xs → place < length ps
+  pub with_run-behind : place ≡ at + length xs → place < length ps
       → set (with_run at xs ps) place (Some x) ≡ with_run at (xs ++ x ∷ []) ps
   with_run-behind here lt = rw (map-append, length-append) (same_lists _ _ (search (rules, places))
       (λ j d j_in. grind (arith, places, get_or-set_same, length-map xs Some)))

@@ -328,7 +328,13 @@ module _ {X : Type 0} (r : Inside X) (kept : Kept r) where
     pub behind_empty : 0 < m → IsEmptyRun places behind m
     behind_empty some = IsEmptyRun-behind laid behind m (lies some) fits (omega (arith, len))
 
-    -- the first m items of another ring come there
+    -- items come there
+    pub piece_laid : (xs : List X) → length xs ≡ m → 0 < m
+        → Become n r.start (r.len + m) (items ++ xs) (with_run behind xs places)
+    piece_laid xs many some = become (LaidOut-appended laid xs behind (lies some) (omega arith) (omega (arith, len))) _
+        (omega (arith, len, length-append items xs))
+
+    -- the first m of another ring
     pub piece_joined : (o : Inside X) → Kept o → 0 < m → m ≤ o.len → o.start + m ≤ length o.slots.places
         → Become n r.start (r.len + m) (items ++ take m (values (rotated o.start o.slots.places)))
         (splice places behind (behind + m) (take m (drop o.start o.slots.places)))
@@ -339,8 +345,7 @@ module _ {X : Type 0} (r : Inside X) (kept : Kept r) where
         let held = HoldsRun-LaidOut other.laid 0 o.start m (inl (omega arith)) (omega arith) fits' in
         let written : splice places behind (behind + m) (take m (drop o.start o.slots.places))
         ≡ with_run behind xs places = ap₂ (λ k l. splice places behind (behind + k) l) (sym many) held in
-        become (rw written (LaidOut-appended laid xs behind (lies some) (omega arith) (omega (arith, len)))) _
-        (omega (arith, len, length-append items xs))
+        rw written (piece_laid xs many some)
 
 -- for the goals of the ring that have no answer by hand
 pub ruleset ring_facts = (bounds, items_within, nothing_laid, slice_get_past, place_of-lt)
@@ -373,6 +378,9 @@ pub ruleset part_facts = (bounds, last_dropped, run_handed, take_rest)
 
 -- or to another ring
 pub ruleset join_facts = (bounds, behind_empty, piece_joined)
+
+-- or come as copies
+pub ruleset copied_facts = (bounds, behind_empty, piece_laid)
 
 -- items that come one by one from the first place on
 pub ruleset copy_facts = (

@@ -1,12 +1,14 @@
-//! The items once more: a second ring of clones or copies, a ring of a vector's items, and a vector
-//! of a ring's.
-ghost use Rattle.std.specs.Prelude.{◌≡◌, ◌⊎◌, ◌*◌, ◌+◌, ◌<◌, ◌≤◌, ◌++◌, length, take, Any, IfOk, IfErr, OnOk, OnErr};
+//! Items once more: copies behind the last one, a second ring of clones or copies, a ring of a
+//! vector's items, and a vector of a ring's.
+ghost use Rattle.std.specs.Prelude.{◌≡◌, ◌⊎◌, ◌*◌, ◌+◌, ◌-◌, ◌<◌, ◌≤◌, ◌++◌, length, min, take, Any, IfOk, IfErr, OnOk, OnErr};
 ghost use Rattle.std.specs.Mem.{type_size};
 ghost use Rattle.arraydeque_ring.specs.Cloned.{ClonesAreSame};
+ghost use Rattle.arraydeque_ring.specs.Ring.{place_of};
 ghost use Rattle.arraydeque_ring.specs.Steps.{no_steps, more_puts};
 
 use super::Ring;
 use crate::slots::Slots;
+use crate::wrap::wrap_add;
 use std::alloc::{AllocError, Global};
 
 impl<T> Ring<T> {
@@ -18,7 +20,6 @@ impl<T> Ring<T> {
     /// assert!(rt; (ring.len(), ring.capacity()) == (2, 3));
     /// assert!(rt; (ring.get(0), ring.get(1)) == (Some(&1), Some(&2)));
     /// ```
-    #[tactic(auto, using(crate::proofs::places::Opened::copy_facts))]
     pub fn of_copies(alloc: Global, capacity: usize, items: &[T]) -> Result<Ring<T>, AllocError>
     where
         T: Copy,
@@ -31,17 +32,61 @@ impl<T> Ring<T> {
         }) }
         ensures refused { OnErr result (0 < capacity * type_size T.row) }
     {
-        let mut slots = Slots::new(alloc, capacity)?;
-        let mut place = 0;
-        for item in items {
-            slots.put(place, *item);
-            place += 1;
+        let mut ring = Ring::new(alloc, capacity)?;
+        ring.copy_back(items);
+        Ok(ring)
+    }
+
+    /// Puts copies of the first of some items behind the last one, as many as there is room for.
+    /// Returns their number.
+    ///
+    /// ```
+    /// let mut ring = Ring::of_copies(alloc, 4, &[1])?;
+    /// assert!(rt; ring.copy_back(&[2, 3]) == 2 && ring.copy_back(&[4, 5]) == 1);
+    /// assert!(rt; IntoIter::of(ring).eq([1, 2, 3, 4]));
+    /// ```
+    pub fn copy_back(&mut self, items: &[T]) -> usize
+    where
+        T: Copy,
+        ensures count { result ≡
+            min (length items.now) (self.old.capacity - length self.old.items) }
+        ensures ring { self.new ≡ record self.old {
+          items = self.old.items ++ take result items.now;
+          steps = more_puts result self.old.steps;
+        } }
+        ensures within { length self.new.items ≤ self.new.capacity }
+    {
+        let capacity = self.slots.capacity();
+        let count = items.len().min(capacity - self.len);
+        if count == 0 {
+            return 0;
         }
-        Ok(Ring {
-            slots,
-            start: 0,
-            len: place,
-        })
+        let behind = wrap_add(self.start, self.len, capacity);
+        let first = count.min(capacity - behind);
+        self.copy_run(&items[..first]);
+        self.copy_run(&items[first..count]);
+        count
+    }
+
+    /// Puts copies of items behind the last one, into places that don't go round the end.
+    #[tactic(auto, using(crate::proofs::places::Opened::copied_facts))]
+    fn copy_run(&mut self, items: &[T])
+    where
+        T: Copy,
+        requires fits { place_of self.old.start (length self.old.items) self.old.capacity
+            + length items.now ≤ self.old.capacity }
+        requires room { length self.old.items + length items.now ≤ self.old.capacity }
+        ensures { self.new ≡ record self.old {
+          items = self.old.items ++ items.now;
+          steps = more_puts (length items.now) self.old.steps;
+        } }
+    {
+        if items.is_empty() {
+            return;
+        }
+        let place = wrap_add(self.start, self.len, self.slots.capacity());
+        self.slots.put_copies(place, items);
+        self.len += items.len();
     }
 
     /// A ring of the items of a vector, in order from the first place on, as many as there are

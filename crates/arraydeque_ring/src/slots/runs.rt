@@ -8,6 +8,7 @@ ghost use Rattle.std.specs.Prelude.{◌≡◌, ◌+◌, ◌-◌, ◌<◌, ◌≤
 ghost use Rattle.std.specs.List.{splice};
 ghost use Rattle.arraydeque_ring.specs.Exchanged.{runs_exchanged};
 ghost use Rattle.arraydeque_ring.specs.Gaps.{IsEmptyRun, run_emptied};
+ghost use Rattle.arraydeque_ring.specs.Loans.{with_run};
 ghost use Rattle.arraydeque_ring.specs.Moved.{MeetAtOneEndAtMost, IsFilledRound, IsFreeRound, CanCopy, CanMove, run_moved};
 ghost use Rattle.arraydeque_ring.specs.Places.{IsFilledRun};
 ghost use Rattle.arraydeque_ring.specs.Ring.{place_of};
@@ -38,6 +39,21 @@ impl<T> Slots<T> {
         self.copy_over(from, other, to, len);
         self.count(StepKind::Take, len);
         other.count(StepKind::Put, len);
+    }
+
+    /// Puts copies of items into the empty places from `from` on, in order.
+    pub(crate) fn put_copies(&mut self, from: usize, items: &[T])
+    where
+        T: Copy,
+        requires { IsEmptyRun self.old.places from (length items.now) }
+        ensures places { self.new.places ≡ with_run from items.now self.old.places }
+        ensures steps { self.new.steps ≡ more_puts (length items.now) self.old.steps }
+    {
+        let mut slots = self.moved_out();
+        for k in 0..items.len() {
+            slots.put(from + k, items[k]);
+        }
+        *self = slots;
     }
 
     /// Exchanges the values in the `len` places from `a` on with those in the `len` places from `b`
