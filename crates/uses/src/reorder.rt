@@ -36,6 +36,7 @@ impl<T, const CAP: usize> Reorder<T, CAP> {
     }
 
     /// Has a piece wait behind those of its number and of lesser ones. A full buffer hands it back.
+    #[tactic(auto, using(arraydeque::proofs::SortedInsert::insert_rules))]
     pub fn put(&mut self, number: u64, piece: T) -> Result<(), T>
         ensures room { IsOk result ↔ (length self.old < CAP) }
         ensures none_lost { OnOk result (IsPermutation ((number, piece) ∷ self.old) self.new) }
