@@ -4,7 +4,7 @@ ghost use Rattle.std.specs.Prelude.{◌≡◌, ◌-◌, ◌+◌, ◌*◌, ◌<�
 ghost use Rattle.std.specs.List.{remove_range};
 ghost use Rattle.std.specs.Mem.{type_size};
 ghost use Rattle.arraydeque_ring.specs.Places.{IsFilledRun};
-ghost use Rattle.arraydeque_ring.specs.Ring.{place_of, rotated, up_by};
+ghost use Rattle.arraydeque_ring.specs.Ring.{rotated, up_by};
 ghost use Rattle.arraydeque_ring.specs.Sides.{moves_to_drain, start_closed};
 ghost use Rattle.arraydeque_ring.specs.Changed.{DrainMovesFewest};
 ghost use Rattle.arraydeque_ring.specs.Gaps.{IsEmptyRun, run_emptied};
@@ -137,43 +137,39 @@ impl<T> Ring<T> {
     {
         let mut left = len;
         while 0 < left {
-            let capacity = self.slots.capacity();
-            let behind = wrap_add(self.start, self.len, capacity);
-            let to_end = other.slots.capacity() - other.start;
-            let run = left.min(capacity - behind).min(to_end);
-            self.append_run(other, run);
-            left -= run;
+            left -= self.append_run(other, left);
         }
     }
 
-    /// Takes the first `run` items of another ring behind the last one, by one copy. They go round
-    /// the end in neither ring.
+    /// Takes the first items of another ring behind the last one, by one copy: `len`, or as many as
+    /// go round the end in neither ring. Returns how many.
     #[tactic(auto, using(crate::proofs::places::Opened::join_facts))]
-    fn append_run(&mut self, other: &mut Ring<T>, run: usize)
-        requires some { 0 < run }
-        requires fits_here { place_of self.old.start (length self.old.items) self.old.capacity + run
-            ≤ self.old.capacity }
-        requires fits_there { other.old.start + run ≤ other.old.capacity }
-        requires room { length self.old.items + run ≤ self.old.capacity }
-        requires within { run ≤ length other.old.items }
+    fn append_run(&mut self, other: &mut Ring<T>, len: usize) -> usize
+        requires some { 0 < len }
+        requires room { length self.old.items + len ≤ self.old.capacity }
+        requires within { len ≤ length other.old.items }
+        ensures some { 0 < result }
+        ensures within { result ≤ len }
         ensures here { self.new ≡ record self.old {
-          items = self.old.items ++ take run other.old.items;
-          steps = more_puts run self.old.steps;
+          items = self.old.items ++ take result other.old.items;
+          steps = more_puts result self.old.steps;
         } }
         ensures there { other.new ≡ record other.old {
-          items = drop run other.old.items;
-          start = place_of other.old.start run other.old.capacity;
-          steps = more_takes run other.old.steps;
+          items = drop result other.old.items;
+          start = up_by result other.old.start other.old.capacity;
+          steps = more_takes result other.old.steps;
         } }
     {
         let capacity = self.slots.capacity();
         let other_capacity = other.slots.capacity();
         let place = wrap_add(self.start, self.len, capacity);
         let from = other.start;
+        let run = len.min(capacity - place).min(other_capacity - from);
         other.slots.hand_over(from, &mut self.slots, place, run);
         self.len += run;
         other.start = wrap_add(from, run, other_capacity);
         other.len -= run;
+        run
     }
 }
 
