@@ -47,8 +47,7 @@ pub(crate) fn list_of<T: Item, const CAP: usize, B: Behavior>(
 }
 
 /// The items of a slice, behind a sum.
-pub(crate) fn slice_of<T: Item>(sum: u64, items: &[T]) -> u64 {
-    let mut sum = sum;
+pub(crate) fn slice_of<T: Item>(mut sum: u64, items: &[T]) -> u64 {
     for item in items {
         sum = folded(sum, item.told());
     }

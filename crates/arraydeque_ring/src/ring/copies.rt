@@ -203,8 +203,11 @@ impl<T> Ring<T> {
             Ok(v) => v,
             Err(_) => return Err(self),
         };
-        let Ring { slots, start, len } = self;
-        let mut slots = slots;
+        let Ring {
+            mut slots,
+            start,
+            len,
+        } = self;
         let first = len.min(slots.capacity() - start);
         for k in 0..first {
             v.push_reserved(slots.take(start + k));

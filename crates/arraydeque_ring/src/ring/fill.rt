@@ -12,7 +12,6 @@ ghost use Rattle.arraydeque_ring.specs.Steps.{more_puts, more_takes};
 use super::Ring;
 use crate::slots::Slots;
 use crate::wrap::wrap_add;
-use std::mem::replace;
 
 impl<T> Ring<T> {
     /// Puts what the iterator gives behind the last item, one by one, while there is room. Returns
@@ -55,7 +54,7 @@ impl<T> Ring<T> {
             self.len += filled;
             ended = filled < run;
         }
-        let _nothing = replace(&mut self.slots, slots);
+        self.slots = slots;
         ended
     }
 
@@ -100,7 +99,7 @@ impl<T> Ring<T> {
             self.len += filled;
             ended = filled < run;
         }
-        let _nothing = replace(&mut self.slots, slots);
+        self.slots = slots;
         ended
     }
 
@@ -136,7 +135,7 @@ impl<T> Ring<T> {
             ended = displaced < run;
             self.start = if ended { self.start + displaced } else { 0 };
         }
-        let _nothing = replace(&mut self.slots, slots);
+        self.slots = slots;
     }
 
     /// Puts what the iterator gives before the first item of a full ring, one by one. Each takes
@@ -175,7 +174,7 @@ impl<T> Ring<T> {
             self.start = wrap_add(self.start, capacity - displaced, capacity);
             ended = displaced < from;
         }
-        let _nothing = replace(&mut self.slots, slots);
+        self.slots = slots;
     }
 }
 

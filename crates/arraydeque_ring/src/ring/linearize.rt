@@ -7,7 +7,6 @@ ghost use Rattle.arraydeque_ring.specs.Steps.{more_moves, Rearranges};
 use super::Ring;
 use super::moves::move_gap;
 use crate::slots::Slots;
-use std::mem::replace;
 
 impl<T> Ring<T> {
     /// Lays the list in one piece that starts at the first place, by no more moves and exchanges
@@ -30,8 +29,7 @@ impl<T> Ring<T> {
         if self.len <= self.slots.capacity() - self.start {
             return;
         }
-        let slots = rotate(self.slots.moved_out(), self.start, self.len);
-        let _nothing = replace(&mut self.slots, slots);
+        self.slots = rotate(self.slots.moved_out(), self.start, self.len);
         self.start = 0;
     }
 }
@@ -44,14 +42,13 @@ impl<T> Ring<T> {
 ///     0-2 with 5-7      a b c g . d e f
 ///     3 with 5, 6 to 4  a b c d e g . f
 ///     5 to 6, 7 to 5    a b c d e f g .
-fn rotate<T>(slots: Slots<T>, start: usize, len: usize) -> Slots<T>
+fn rotate<T>(mut slots: Slots<T>, start: usize, len: usize) -> Slots<T>
     requires in_region { start < length slots.places }
     requires filled { FilledFrom start len (filled slots.places) }
     ensures places { result.places ≡ rotated start slots.places }
     ensures steps { Rearranges len slots.steps result.steps }
 {
     let capacity = slots.capacity();
-    let mut slots = slots;
     // The values before `dst` are in their places. The ones that come next are in the places from
     // `next` to the end, and those after them in the places from `dst` on.
     let mut dst = 0;
@@ -88,6 +85,7 @@ fn place_last<T>(slots: Slots<T>, dst: usize, next: usize, len: usize) -> Slots<
     if dst == next {
         return slots;
     }
+    // With `mut` in the head, the region would be stored anew before the return above, too.
     let mut slots = slots;
     let first = slots.capacity() - next;
     let left = len - dst;

@@ -60,34 +60,32 @@ impl<T> Slots<T> {
     /// on, which come later: the first with the first, and so on.
     ///
     /// It takes the region by value, so that its memory need not be looked up anew for each pair.
-    pub(crate) fn exchange_runs(self, a: usize, b: usize, len: usize) -> Slots<T>
+    pub(crate) fn exchange_runs(mut self, a: usize, b: usize, len: usize) -> Slots<T>
         requires apart { a + len ≤ b }
         requires a_filled { IsFilledRun self.places a len }
         requires b_filled { IsFilledRun self.places b len }
         ensures places { result.places ≡ runs_exchanged a b len self.places }
         ensures steps { result.steps ≡ more_exchanges len self.steps }
     {
-        let mut slots = self;
         for k in 0..len {
-            slots.exchange(a + k, b + k);
+            self.exchange(a + k, b + k);
         }
-        slots
+        self
     }
 
     /// Moves the values in the `len` places from `src` on to the empty places from `dst` on, which
     /// come before: the first to the first, and so on.
-    pub(crate) fn move_down(self, dst: usize, src: usize, len: usize) -> Slots<T>
+    pub(crate) fn move_down(mut self, dst: usize, src: usize, len: usize) -> Slots<T>
         requires apart { dst + len ≤ src }
         requires empty { IsEmptyRun self.places dst len }
         requires filled { IsFilledRun self.places src len }
         ensures places { result.places ≡ runs_exchanged dst src len self.places }
         ensures steps { result.steps ≡ more_moves len self.steps }
     {
-        let mut slots = self;
         for k in 0..len {
-            slots.shift(dst + k, src + k);
+            self.shift(dst + k, src + k);
         }
-        slots
+        self
     }
 
     /// Moves the values in the `len` places from `src` on to those from `dst` on, all at once.

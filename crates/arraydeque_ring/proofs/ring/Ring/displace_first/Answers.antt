@@ -32,5 +32,4 @@ loop-ended-preserved g c =
     ]) now.items now.holds done.steps)
 
 pub returns : goal.returns
-returns g c = rw c.replace-nothing.ensures.after
-    (Ends-fills _ c.loop-ended.invariant.so_far c.loop-ended-test.false (λ xs. closed))
+returns g c = Ends-fills _ c.loop-ended.invariant.so_far c.loop-ended-test.false (λ xs. closed)

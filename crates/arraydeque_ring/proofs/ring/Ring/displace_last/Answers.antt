@@ -38,5 +38,4 @@ loop-ended-preserved g c =
     (omega arith) c.wrap_add-self-inside.ensures now.items _ now.holds (grind (arith, common_steps)) done.steps)
 
 pub returns : goal.returns
-returns g c = rw c.replace-nothing.ensures.after
-    (Ends-fills _ c.loop-ended.invariant.so_far c.loop-ended-test.false (λ xs. closed))
+returns g c = Ends-fills _ c.loop-ended.invariant.so_far c.loop-ended-test.false (λ xs. closed)

@@ -13,7 +13,7 @@ use Rattle.arraydeque_ring.proofs.{
 use Rattle.arraydeque_ring.proofs.ring.Ring.fill_back.Given.{Over}
 use Rattle.arraydeque_ring.proofs.ring.Ring.fill_back.Goals as goal
 use Rattle.arraydeque_ring.proofs.ring.Ring.fill_back.Goals.{
-  After-drop-nothing,
+  After-drop-self-inside,
   Joined-self-to_end,
   then-self-to_end,
   else-self-to_end,
@@ -61,7 +61,7 @@ fill_up-written-requires-then-self-capacity-clause-empty g c =
     empty_behind was.so_far.holds was.all _ (inr (next g at c.if-not-ended.true)) (omega arith) (omega arith)
 
 -- and with those from the region's first one on
-module _ (g : Over) (c : After-drop-nothing g) where
+module _ (g : Over) (c : After-drop-self-inside g) where
   last : Laying g.I.Iterator filled_back c.args.self.now c.args.elements.now c.if-not-ended.elements
       c.if-not-ended.ended c.capacity-capacity.result c.if-not-ended.self-inside c.if-not-ended.slots
   last =
@@ -87,18 +87,17 @@ module _ (g : Over) (c : After-drop-nothing g) where
   ]
 
 pub invariant_of-self : goal.invariant_of-self
-invariant_of-self g c = rw c.replace-nothing.ensures.after (last g c).kept
+invariant_of-self g c = (last g c).kept
 
 pub returns-clause-filled : goal.returns-clause-filled
 returns-clause-filled g c =
     let laid = last g c in let was = laid.so_far in
     let same = laid.all in let long = length-append c.args.self.now.items was.items in
-    rw c.replace-nothing.ensures.after (Fills-as _ was _ _ (omega arith)
-    (λ on. let all = full g c on in omega arith) (λ xs. closed))
+    Fills-as _ was _ _ (omega arith) (λ on. let all = full g c on in omega arith) (λ xs. closed)
 
 pub returns-clause-within : goal.returns-clause-within
-returns-clause-within g c = rw c.replace-nothing.ensures.after
-    (items_within record c.if-not-ended.self-inside { slots = c.if-not-ended.slots } (last g c).kept)
+returns-clause-within g c =
+    items_within record c.if-not-ended.self-inside { slots = c.if-not-ended.slots } (last g c).kept
 
 pub returns-clause-goes : goal.returns-clause-goes
 returns-clause-goes g c = (last g c).goes

@@ -4,6 +4,6 @@ use Rattle.arraydeque_ring.proofs.slots.Slots.exchange_runs.Given as goal
 
 abbrev pub invariant-loop-k : goal.invariant-loop-k
 invariant-loop-k g l = record {
-  places : l.slots.places ≡ runs_exchanged l.a l.b l.k l.fn.self.places;
-  steps : l.slots.steps ≡ more_exchanges l.k l.fn.self.steps;
+  places : l.self.places ≡ runs_exchanged l.a l.b l.k l.fn.self.places;
+  steps : l.self.steps ≡ more_exchanges l.k l.fn.self.steps;
 }
