@@ -55,6 +55,7 @@ impl<T, const CAP: usize, B: Behavior> ArrayDeque<T, CAP, B> {
             IfOk result (λ drained. Drains CAP span.from span.to self.old drained self.new) }
         ensures runs { YieldsInOrder (YieldsFirst {A = T} (λ remaining. remaining))
             (λ remaining. remaining) }
+        ensures within { length self.new.items ≤ CAP }
         ensures unchanged { OnErr result (self.new ≡ self.old) }
         ensures refused { let span =
             span_of (R.names_start range) (R.names_end range) self.old.items in
@@ -91,6 +92,7 @@ impl<T, const CAP: usize, B: Behavior> ArrayDeque<T, CAP, B> {
         ensures start { self.new.start ≡ self.old.start }
         ensures steps { OnOk result (self.new.steps ≡
             more_takes (length self.old.items - at) self.old.steps) }
+        ensures within { length self.new.items ≤ CAP }
         ensures unchanged { OnErr result (self.new ≡ self.old) }
         ensures refused { OnErr result (0 < CAP * type_size T.row) }
     {
