@@ -1,6 +1,7 @@
 //! The iterator that owns what a drain removed.
-ghost use Rattle.std.specs.Prelude.{◌≡◌, length, Some};
-ghost use Rattle.std.specs.Iterator.{YieldsFirst, YieldsLast, item_count};
+ghost use Rattle.std.specs.Prelude.{◌≡◌, length, Some, IfSome};
+ghost use Rattle.std.specs.Iterator.{YieldsFirst, YieldsLast, UpTo, item_count};
+ghost use Rattle.std.specs.Iterator.SizeHint.{IsWithinCount};
 
 use arraydeque_ring::ring::{Ring, into_iter};
 use std::iter::FusedIterator;
@@ -60,8 +61,11 @@ impl<T: Drop> Iterator for Drain<T> {
         self.items.next()
     }
 
+    #[inline]
     fn size_hint(&self) -> (usize, Option<usize>)
         ensures exact { result ≡ (length self.now, Some (length self.now)) }
+        ensures lower { IsWithinCount result.0 (item_count (λ remaining. remaining) self.now) }
+        ensures upper { IfSome result.1 (UpTo (item_count (λ remaining. remaining) self.now)) }
     {
         let len = self.len();
         (len, Some(len))
@@ -89,6 +93,7 @@ impl<T: Drop> ExactSizeIterator for Drain<T> {
     /// deque.extend_back([1, 2, 3]);
     /// assert!(rt; deque.drain(1..)?.len() == 2);
     /// ```
+    #[inline]
     fn len(&self) -> usize {
         self.items.len()
     }
