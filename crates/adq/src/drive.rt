@@ -157,7 +157,8 @@ fn read<R: Read>(input: &mut R, text: &mut Vec<u8>) -> Result<(), Fault>
             Err(_) => return Err(Fault::Io),
         }
     }
-    Err(Fault::Memory)
+    // Most of so many reads were interrupted: no memory holds as many bytes.
+    Err(Fault::Io)
 }
 
 /// The text of the replies, and then of the list.
