@@ -8,3 +8,7 @@
 pub mod ring;
 pub mod slots;
 mod wrap;
+
+pub use ring::Ring;
+pub use ring::into_iter::IntoIter;
+pub use slots::Slots;

@@ -22,6 +22,7 @@ mod retain;
 mod swaps;
 
 use crate::slots::Slots;
+pub use crate::slots::loan::{Loan, LoanName};
 use crate::wrap::wrap_add;
 use std::alloc::{AllocError, Global};
 use std::marker::Model;

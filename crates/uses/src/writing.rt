@@ -4,7 +4,7 @@ ghost use Rattle.std.specs.Prelude.{◌≡◌, ◌+◌, ◌-◌, ◌<◌, length
 
 use arraydeque::behavior::Behavior;
 use arraydeque::{ArrayDeque, CapacityError, IterMut, Saturating, Wrapping};
-use arraydeque_ring::ring::Ring;
+use arraydeque_ring::Ring;
 
 /// Writes over each item.
 pub fn fill<T: Copy + Drop, const CAP: usize, B: Behavior>(deque: &mut ArrayDeque<T, CAP, B>, x: T)

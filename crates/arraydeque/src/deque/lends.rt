@@ -12,7 +12,7 @@ use super::ArrayDeque;
 use crate::behavior::Behavior;
 use crate::iter::{Iter, IterMut};
 use crate::range::RangeArgument;
-use arraydeque_ring::slots::loan::Loan;
+use arraydeque_ring::ring::Loan;
 
 impl<T, const CAP: usize, B: Behavior> ArrayDeque<T, CAP, B> {
     /// Returns an iterator over the items, from both ends.

@@ -11,7 +11,7 @@ ghost use Rattle.arraydeque.specs.DequeLends.{lends_items};
 use super::each::call_on_each;
 use crate::behavior::Behavior;
 use crate::deque::ArrayDeque;
-use arraydeque_ring::slots::loan::{Loan, LoanName};
+use arraydeque_ring::ring::{Loan, LoanName};
 use std::iter::FusedIterator;
 use std::marker::Model;
 use std::mem;
