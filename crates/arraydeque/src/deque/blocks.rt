@@ -68,6 +68,7 @@ pub(super) fn are_equal<T: PartialEq>(left: &[T], right: &[T]) -> bool
 pub(super) fn partial_order<T: PartialOrd>(left: &[T], right: &[T]) -> Option<Ordering>
     ensures { result ≡ slice_partial_cmp T.partial_cmp left.now right.now }
 {
+    // Of items of any size: std's own partial order takes one pair after the other.
     let (left, right) = behind_equal(left, right, 0);
     left.partial_cmp(&right)
 }

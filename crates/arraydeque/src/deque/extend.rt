@@ -22,7 +22,7 @@ impl<T, const CAP: usize> ArrayDeque<T, CAP, Saturating> {
     /// assert!(rt; numbers.next() == Some(4));
     /// assert!(rt; deque.into_vec()?.as_slice() == [1, 2, 3].as_slice());
     /// ```
-    #[inline(never)]
+    #[inline(never)] // Inlined, it was slower for items of 64 bytes (bench/README).
     pub fn extend_back<I: IntoIterator<Item = T>>(&mut self, iter: I)
         requires { IsIterable I.into_iter_gives I.IntoIter.can_next iter }
         ensures { TakesFrom I.into_iter_gives I.IntoIter.next_gives iter

@@ -175,7 +175,7 @@ impl<T> Slots<T> {
     ///     e f from 0 to 2    . . e f a b c d
     ///     c d from 6 to 0    c d e f a b . .
     ///     a b from 4 to 6    c d e f . . a b
-    #[inline(never)]
+    #[inline(never)] // Inlined, it made a move that passes no end longer (bench/README).
     fn copy_in_parts(&mut self, dst: usize, src: usize, len: usize)
         requires { CanMove dst src len self.old.places }
         ensures { self.new ≡ record self.old { places = run_moved dst src len self.old.places } }
@@ -199,7 +199,7 @@ impl<T> Slots<T> {
 
     /// Copies a run where neither side passes the end, in blocks, the largest first: from the first
     /// value on where the run moves down, else from the last on.
-    #[inline(never)]
+    #[inline(never)] // Its twelve loops have seven callers.
     fn copy(&mut self, dst: usize, src: usize, len: usize)
         requires { CanCopy dst src len self.old.places }
         ensures { self.new ≡ record self.old { places = run_moved dst src len self.old.places } }
