@@ -6,7 +6,7 @@ use Rattle.arraydeque_ring.{
     memory.Kit.{Logic, sem, RattleType, part_at, param_laws, Fml, El, R, el_x, via},
     loans.{Placed.{as_many-same, as_many-twice, length-as_many}, Rings.Rr},
   },
-  specs.{Loans.as_many, Ring.RingState},
+  specs.{Ring.RingState, Runs.as_many},
 }
 use denote.{
   Laws.Lawfuls,

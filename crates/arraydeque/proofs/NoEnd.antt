@@ -3,7 +3,7 @@ use Rattle.std.{
   proofs.Common.{◌≡◌, ◌-◌, List, [], ◌∷◌, length, slice_get, Option, Some, None, refl},
   specs.Option.{option_map, IfNone},
 }
-use Rattle.arraydeque_ring.proofs.Ends.{nothing_last}
+use Rattle.arraydeque_ring.proofs.LastPopped.{nothing_last}
 
 module _ {B X : Type 0} (v : B → X) where
   pub no_first : (r : Option B) (xs : List X) → option_map v r ≡ slice_get xs 0 → IfNone r (xs ≡ [])

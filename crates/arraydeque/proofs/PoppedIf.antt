@@ -13,7 +13,7 @@ use Rattle.std.{
     Prelude.{if◌then◌else◌},
   },
 }
-use Rattle.arraydeque_ring.proofs.{Ends.last_and_rest, places.Items.slice_get-set}
+use Rattle.arraydeque_ring.proofs.{LastPopped.last_and_rest, places.Items.slice_get-set}
 
 module _ {X : Type 0} where
   -- another item in the stead of the first

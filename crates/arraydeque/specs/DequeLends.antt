@@ -15,7 +15,7 @@ use Rattle.std.specs.{
     follows_both,
   },
 }
-use Rattle.arraydeque_ring.specs.{Loans.{LoanState, as_many}, Steps.more_lends}
+use Rattle.arraydeque_ring.specs.{Loans.LoanState, Runs.as_many, Steps.more_lends}
 use Rattle.arraydeque.specs.{Deque.DequeState, contracts.deque.ArrayDeque.the_row}
 
 module _ (T CAP B : RattleType) (deque : MutBor (DequeState T.Denot)) (index : ℕ) where

@@ -1,3 +1,4 @@
 pub mod Flat
+pub mod Reads
 pub mod Round
-pub mod Steps
+pub mod TwoMoves

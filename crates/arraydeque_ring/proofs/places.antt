@@ -1,11 +1,9 @@
 pub mod AndEmpty
+pub mod Appended
 pub mod Emptied
+pub mod Filled
 pub mod Handed
-pub mod Held
 pub mod Holds
 pub mod Items
 pub mod LaidOut
-pub mod Opened
-pub mod Reads
 pub mod Rotated
-pub mod Appended

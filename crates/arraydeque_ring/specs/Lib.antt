@@ -1,10 +1,7 @@
 pub mod Changed
-pub mod Cloned
 pub mod Counted
-pub mod Exchanged
 pub mod Fills
 pub mod Gaps
-pub mod Lends
 pub mod Loans
 pub mod Moved
 pub mod Ownership
@@ -12,5 +9,7 @@ pub mod Places
 pub mod Retained
 pub mod Ring
 pub mod RingLends
+pub mod Runs
 pub mod Sides
+pub mod SlotsLends
 pub mod Steps

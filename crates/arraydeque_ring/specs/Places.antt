@@ -1,22 +1,15 @@
 -- What the places of a region hold.
-use Rattle.std.specs.{
-  Prelude.{
-    ◌≡◌,
-    ℕ,
-    ◌+◌,
-    ◌<◌,
-    ◌≤◌,
-    List,
-    length,
-    map,
-    take,
-    drop,
-    replicate,
-    slice_index_or,
-    Option,
-    Some,
-    None,
-  },
+use Rattle.std.specs.Prelude.{
+  ◌≡◌,
+  ℕ,
+  ◌<◌,
+  List,
+  length,
+  replicate,
+  slice_index_or,
+  Option,
+  Some,
+  None,
 }
 use Rattle.arraydeque_ring.specs.Steps.{Steps, no_steps}
 
@@ -41,14 +34,6 @@ module _ {X : Type 0} where
   -- the region has the place, and it holds nothing
   abbrev pub IsEmpty : List (Option X) → ℕ → Type 0
   IsEmpty ps place = (place < length ps) × (held_at ps place ≡ None)
-
-  -- the len places from the place `from` on hold the values xs
-  abbrev pub HoldsRun : List (Option X) → ℕ → ℕ → List X → Type 0
-  HoldsRun ps from len xs = take len (drop from ps) ≡ map Some xs
-
-  -- the region has the len places from the place `from` on, and each holds a value
-  abbrev pub IsFilledRun : List (Option X) → ℕ → ℕ → Type 0
-  IsFilledRun ps from len = (from + len ≤ length ps) × ((xs : List X) × HoldsRun ps from len xs)
 
   -- no place holds a value
   abbrev pub AreAllEmpty : List (Option X) → Type 0

@@ -20,6 +20,7 @@ use Rattle.std.specs.{
     drop,
   },
   Prelude.{replicate, Option, Some, None, Bool, true, false, is_some},
+  List.Contains,
 }
 use Rattle.arraydeque_ring.specs.Steps.{Steps, no_steps}
 
@@ -69,3 +70,7 @@ module _ {X : Type 0} where
 -- no others
 abbrev pub FilledFrom : ℕ → ℕ → List Bool → Type 0
 FilledFrom start len fs = rotated start fs ≡ replicate len true ++ replicate (length fs - len) false
+
+-- each clone that may be made of an item of the list is that item once more
+abbrev pub ClonesAreSame : {X : Type 0} → (X → X → Type 0) → List X → Type 0
+ClonesAreSame {X} IsClone xs = (x y : X) → Contains xs x → IsClone x y → y ≡ x

@@ -16,8 +16,9 @@ use Rattle.std.specs.{
   },
 }
 use Rattle.arraydeque_ring.specs.{
-  Loans.{LoanState, as_many},
+  Loans.LoanState,
   Ring.RingState,
+  Runs.as_many,
   Steps.more_lends,
   contracts.ring.Ring.the_row,
 }

@@ -2,7 +2,7 @@
 //!
 //! A contract sees a [`Ring`] as its items from front to back, its capacity, the place of its first
 //! item and the steps of its region. A ring knows no policy: a push requires room.
-#![tactic(auto, using(crate::proofs::places::Opened::ring_facts))]
+#![tactic(auto, using(crate::proofs::Opened::ring_facts))]
 
 ghost use Rattle.std.specs.Prelude.{◌≡◌, ◌-◌, ◌*◌, ◌+◌, ◌<◌, ◌≤◌, ◌==◌, [], ◌∷◌, ◌++◌, length, take, drop, slice_get, Some, if◌then◌else◌, option_copied, IfOk, OnErr, OnSome, IfNone};
 ghost use Rattle.std.specs.Borrow.{sem};
@@ -122,7 +122,7 @@ impl<T> Ring<T> {
     /// ring.push_back(2);
     /// assert!(rt; (ring.get(0), ring.get(1)) == (Some(&1), Some(&2)));
     /// ```
-    #[tactic(auto, using(crate::proofs::places::Opened::end_facts))]
+    #[tactic(auto, using(crate::proofs::Opened::end_facts))]
     #[inline]
     pub fn push_back(&mut self, element: T)
         requires { length self.old.items < self.old.capacity }
@@ -144,7 +144,7 @@ impl<T> Ring<T> {
     /// ring.push_front(2);
     /// assert!(rt; (ring.get(0), ring.get(1)) == (Some(&2), Some(&1)));
     /// ```
-    #[tactic(auto, using(crate::proofs::places::Opened::end_facts))]
+    #[tactic(auto, using(crate::proofs::Opened::end_facts))]
     #[inline]
     pub fn push_front(&mut self, element: T)
         requires { length self.old.items < self.old.capacity }
@@ -169,7 +169,7 @@ impl<T> Ring<T> {
     /// assert!(rt; (ring.pop_front(), ring.pop_front()) == (Some(1), Some(2)));
     /// assert!(rt; ring.pop_front() == None);
     /// ```
-    #[tactic(auto, using(crate::proofs::places::Opened::end_facts))]
+    #[tactic(auto, using(crate::proofs::Opened::end_facts))]
     #[inline]
     pub fn pop_front(&mut self) -> Option<T>
         ensures value { result ≡ slice_get self.old.items 0 }
@@ -197,7 +197,7 @@ impl<T> Ring<T> {
     /// assert!(rt; (ring.pop_back(), ring.pop_back()) == (Some(2), Some(1)));
     /// assert!(rt; ring.pop_back() == None);
     /// ```
-    #[tactic(auto, using(crate::proofs::places::Opened::end_facts))]
+    #[tactic(auto, using(crate::proofs::Opened::end_facts))]
     #[inline]
     pub fn pop_back(&mut self) -> Option<T>
         ensures value { result ≡ slice_get self.old.items (length self.old.items - 1) }
@@ -224,7 +224,7 @@ impl<T> Ring<T> {
     /// assert!(rt; (ring.get(0), ring.get(2)) == (Some(&0), Some(&2)));
     /// assert!(rt; ring.get(3) == None);
     /// ```
-    #[tactic(auto, using(crate::proofs::places::Opened::end_facts))]
+    #[tactic(auto, using(crate::proofs::Opened::end_facts))]
     #[inline]
     pub fn get(&self, index: usize) -> Option<&T>
         ensures { option_copied result ≡ slice_get self.now.items index }
@@ -246,7 +246,7 @@ impl<T> Ring<T> {
     /// }
     /// assert!(rt; (ring.get(0), ring.get(1)) == (Some(&1), Some(&5)));
     /// ```
-    #[tactic(auto, using(crate::proofs::places::Opened::end_facts))]
+    #[tactic(auto, using(crate::proofs::Opened::end_facts))]
     #[inline]
     pub fn get_mut(&mut self, index: usize) -> Option<&mut T>
         ensures* writes_back { sem 𝓛 (lends_item T.row self.entry index result) }
@@ -287,7 +287,7 @@ impl<T> Ring<T> {
 
 impl<T: Drop> Drop for Ring<T> {
     /// Drops each item, front to back, and gives the region back.
-    #[tactic(auto, using(crate::proofs::places::Opened::end_facts))]
+    #[tactic(auto, using(crate::proofs::Opened::end_facts))]
     fn drop(mut self) {
         self.clear();
         let Ring {

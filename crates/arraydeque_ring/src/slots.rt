@@ -6,8 +6,9 @@
 ghost use Rattle.std.specs.Prelude.{◌≡◌, ◌*◌, ◌+◌, ◌<◌, ◌≤◌, List, Option, Some, None, length, slice_set, swap, if◌then◌else◌, ◌==◌, IfOk, OnErr};
 ghost use Rattle.std.specs.Borrow.{sem};
 ghost use Rattle.std.specs.Mem.{type_size};
-ghost use Rattle.arraydeque_ring.specs.Places.{empty_region, held_at, IsFilled, IsEmpty, HoldsRun, IsFilledRun, AreAllEmpty};
+ghost use Rattle.arraydeque_ring.specs.Places.{empty_region, held_at, IsFilled, IsEmpty, AreAllEmpty};
 ghost use Rattle.arraydeque_ring.specs.Counted.{counted};
+ghost use Rattle.arraydeque_ring.specs.Runs.{HoldsRun, IsFilledRun};
 ghost use Rattle.arraydeque_ring.specs.Steps.{Steps, more_puts, more_takes, more_moves, more_exchanges};
 
 pub mod loan;
@@ -64,7 +65,7 @@ unsafe impl<T: Send> Send for Slots<T> {}
 unsafe impl<T: Sync> Sync for Slots<T> {}
 
 impl<T> Slots<T> {
-    ghost use Rattle.arraydeque_ring.specs.Lends.{lends_place};
+    ghost use Rattle.arraydeque_ring.specs.SlotsLends.{lends_place};
 
     /// A region of `capacity` empty places.
     ///

@@ -4,10 +4,11 @@
 ghost use Rattle.std.specs.Prelude.{◌≡◌, ◌<◌, length, Some};
 ghost use Rattle.std.specs.Borrow.{sem};
 ghost use Rattle.std.specs.Iterator.{IsFinite};
-ghost use Rattle.arraydeque_ring.specs.Cloned.{ClonesAreSame};
-ghost use Rattle.arraydeque_ring.specs.Lends.{lends_place, lends_run};
 ghost use Rattle.arraydeque_ring.specs.Moved.{MeetAtOneEndAtMost, IsFilledRound, IsFreeRound};
-ghost use Rattle.arraydeque_ring.specs.Places.{held_at, HoldsRun, IsEmpty, IsFilled, IsFilledRun};
+ghost use Rattle.arraydeque_ring.specs.Places.{held_at, IsEmpty, IsFilled};
+ghost use Rattle.arraydeque_ring.specs.Ring.{ClonesAreSame};
+ghost use Rattle.arraydeque_ring.specs.Runs.{HoldsRun, IsFilledRun};
+ghost use Rattle.arraydeque_ring.specs.SlotsLends.{lends_place, lends_run};
 
 use arraydeque_ring::ring::Ring;
 use arraydeque_ring::ring::into_iter::IntoIter;

@@ -1,7 +1,7 @@
 //! A second deque of clones of the items.
 ghost use Rattle.std.specs.Prelude.{◌≡◌, ◌⊎◌, ◌<◌, ◌*◌, Any, IfOk, OnErr};
 ghost use Rattle.std.specs.Mem.{type_size};
-ghost use Rattle.arraydeque_ring.specs.Cloned.{ClonesAreSame};
+ghost use Rattle.arraydeque_ring.specs.Ring.{ClonesAreSame};
 ghost use Rattle.arraydeque.specs.Deque.{empty_deque, with_back};
 
 use super::ArrayDeque;

@@ -6,7 +6,7 @@ use Rattle.std.proofs.{
     List.length_push,
   },
 }
-use Rattle.arraydeque_ring.{specs.{Fills.Fills, Loans.with_run}, proofs.fills.FromIterator.Fills-one}
+use Rattle.arraydeque_ring.{specs.{Fills.Fills, Runs.with_run}, proofs.fills.FromIterator.Fills-one}
 
 -- one item more, in the place behind the run or before it
 module _ {X : Type 0} (at : ℕ) (xs : List X) (ps : List (Option X)) (within : at + length xs ≤ length ps) (x : X)

@@ -11,10 +11,9 @@ use Rattle.arraydeque_ring.{
   specs.{
     Fills.{Fills, GoesOn},
     declared.ring.Ring.TheInside.Inside,
-    Gaps.IsEmptyRun,
-    Loans.with_run,
-    Places.{Region, IsFilledRun, empty_region},
+    Places.{Region, empty_region},
     Ring.{RingState, place_of, up_by, down_by},
+    Runs.{IsEmptyRun, with_run, IsFilledRun},
     Steps.{more_puts, more_takes},
   },
   proofs.{
@@ -23,12 +22,12 @@ use Rattle.arraydeque_ring.{
       Displaced.{displaced_first, displaced_last},
       InRows.{filled_back, filled_front},
     },
+    Opened.{Opened, Kept, kept},
     places.{
       Appended.{Holds-run, LaidOut-appended, IsEmptyRun-from, IsEmptyRun-behind},
       Holds.Holds-from,
       Items.items,
       LaidOut.{LaidOut, LaidOut-by, holds, IsFilledRun-LaidOut},
-      Opened.{Opened, Kept, kept},
       Rotated.{MayStartAt, place_of_cases, place_of-zero},
     },
   },

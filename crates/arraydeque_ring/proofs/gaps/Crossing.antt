@@ -6,15 +6,16 @@ use Rattle.std.proofs.{
 }
 use Rattle.arraydeque_ring.{
   specs.{
-    Gaps.{IsEmptyRun, gap_moved},
+    Gaps.gap_moved,
     Moved.{distance, MeetAtOneEndAtMost, IsFilledRound, IsFreeRound, run_moved},
-    Places.{held_at, IsFilledRun},
+    Places.held_at,
     Ring.{place_of, rotated},
+    Runs.{IsEmptyRun, IsFilledRun},
   },
   proofs.{
     moved.{Flat.{distance_is, look}, Round.{Holds-moved, distance-rotated}},
     places.{
-      Held.{filled_in_run, empty_in_run},
+      Filled.{filled_in_run, empty_in_run},
       Holds.{Holds, Holds-of_rotated, rotated-Holds},
       Rotated.{place_of-sum, one_place, length-rotated},
     },

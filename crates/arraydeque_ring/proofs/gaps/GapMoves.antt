@@ -4,11 +4,11 @@ use Rattle.std.proofs.{
   lemmas.{Bool.Decides.nat_tests, List.length-append},
 }
 use Rattle.arraydeque_ring.{
-  specs.{Gaps.{IsEmptyRun, gap_moved}, Places.{held_at, IsFilled, IsFilledRun}, Ring.{place_of, rotated}},
+  specs.{Gaps.gap_moved, Places.{held_at, IsFilled}, Ring.{place_of, rotated}, Runs.{IsEmptyRun, IsFilledRun}},
   proofs.{
     gaps.{Crossing.{MayMove, length-gap_moved, get_or-gap_moved, empty_at}, Gapped.{Gapped, gapped}},
     places.{
-      Held.{filled_run_of, empty_run_of},
+      Filled.{filled_run_of, empty_run_of},
       Holds.{Holds, Holds-of_rotated, Holds-rotated, rotated-Holds, Holds-same, Holds-from},
       Items.{items, slice_get_some},
       LaidOut.{LaidOut, holds},

@@ -5,7 +5,7 @@ use Rattle.std.proofs.{
   lemmas.List.{length-append, length-take-le, length-drop},
 }
 use Rattle.arraydeque_ring.{
-  specs.{Places.{held_at, IsEmpty}, Ring.{place_of, rotated}, Gaps.run_emptied},
+  specs.{Places.{held_at, IsEmpty}, Ring.{place_of, rotated}, Runs.run_emptied},
   proofs.places.{
     Emptied.{length-run_emptied, get_or-run_emptied},
     Holds.{Holds, Holds-of_rotated, Holds-rotated, Holds-same, Holds-from, Holds-set},

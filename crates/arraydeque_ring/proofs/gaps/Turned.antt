@@ -14,13 +14,16 @@ use Rattle.arraydeque_ring.{
     Sides.{moves_to_rotate, start_closed, start_rotated},
   },
   proofs.{
-    gaps.{Fewest.{count_sides, one_start}, Gapped.{Gapped, LaidOut-gap_last}},
-    gaps.GapMoves.{MayClose, may_close, gap_moves},
+    gaps.{
+      Fewest.{count_sides, one_start},
+      Gapped.{Gapped, LaidOut-gap_last},
+      GapMoves.{MayClose, may_close, gap_moves},
+    },
+    Opened.{Opened, Shows, shows},
     places.{
       Holds.{Holds-from, Holds-same},
       Items.items,
       LaidOut.{LaidOut-by, holds},
-      Opened.{Opened, Shows, shows},
       Rotated.{place_of_cases, place_of-sum},
     },
   },

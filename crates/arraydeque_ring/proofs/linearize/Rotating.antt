@@ -5,18 +5,14 @@ use Rattle.std.proofs.{
 }
 use Rattle.arraydeque_ring.{
   specs.{
-    Gaps.{IsEmptyRun, run_rotated},
-    Places.{held_at, IsFilledRun},
+    Places.held_at,
     Ring.{rotated, filled, FilledFrom},
-    Exchanged.runs_exchanged,
+    Runs.{IsEmptyRun, run_rotated, IsFilledRun, runs_exchanged},
   },
   proofs.{
-    places.{
-      Reads.{length-run_rotated, get_or-run_rotated, exchanged_from, length-runs_exchanged, get_or-runs_exchanged},
-      Reads.runs_exchanged_both,
-      Rotated.{length-rotated, rotated-map},
-      Held.{filled_run_of, empty_run_of},
-    },
+    moved.Reads.{length-run_rotated, get_or-run_rotated, exchanged_from, length-runs_exchanged, get_or-runs_exchanged},
+    moved.Reads.runs_exchanged_both,
+    places.{Filled.{filled_run_of, empty_run_of}, Rotated.{length-rotated, rotated-map}},
     linearize.Underway.{are_rotated, Underway, underway, len_within, filled_now, empty_now},
   },
 }

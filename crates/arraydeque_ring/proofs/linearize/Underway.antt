@@ -7,20 +7,19 @@ use Rattle.std.proofs.{
 }
 use Rattle.arraydeque_ring.{
   specs.{
-    Gaps.{IsEmptyRun, gap_moved, run_rotated},
-    Places.{held_at, IsFilled, IsFilledRun},
+    Gaps.gap_moved,
+    Places.{held_at, IsFilled},
     Ring.{rotated, values, filled, FilledFrom},
-    Exchanged.runs_exchanged,
+    Runs.{IsEmptyRun, run_rotated, IsFilledRun, runs_exchanged},
   },
   proofs.{
     gaps.{Crossing.{MayMove, length-gap_moved, get_or-gap_moved}, GapMoves.may_move},
-    moved.Flat.same_places,
+    moved.Reads.{rotated_from, length-run_rotated, get_or-run_rotated, length-runs_exchanged, get_or-runs_exchanged},
     places.{
-      Held.{filled_run_of, empty_run_of},
+      Filled.{filled_run_of, empty_run_of},
       Holds.Holds-first,
-      Items.slice_get_some,
+      Items.{slice_get_some, same_places},
       LaidOut.{LaidOut, holds, LaidOut-values},
-      Reads.{rotated_from, length-run_rotated, get_or-run_rotated, length-runs_exchanged, get_or-runs_exchanged},
     },
   },
 }

@@ -8,22 +8,22 @@ use Rattle.std.{
 }
 use Rattle.arraydeque_ring.{
   specs.{
-    Loans.{as_many, with_run},
-    Places.{HoldsRun, IsFilledRun, Region},
+    Places.Region,
     Ring.RingState,
     RingLends.rewritten,
+    Runs.{as_many, with_run, HoldsRun, IsFilledRun},
     Steps.more_lends,
     declared.ring.Ring.TheInside.Inside,
   },
   proofs.{
     loans.Placed.{as_many-same, as_many-twice, length-as_many},
+    Opened.Opened,
     places.{
       Appended.{Holds-run, LaidOut-written},
-      Held.length_filled,
+      Filled.length_filled,
       Holds.Holds-same,
       Items.items,
       LaidOut.{LaidOut, LaidOut-by, holds, IsFilledRun-LaidOut, same_run},
-      Opened.{Opened},
     },
   },
 }

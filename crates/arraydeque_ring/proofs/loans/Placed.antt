@@ -6,7 +6,7 @@ use Rattle.std.{
   },
   specs.List.{length_refill, splice},
 }
-use Rattle.arraydeque_ring.specs.Loans.{as_many, with_run, AreApart}
+use Rattle.arraydeque_ring.specs.{Loans.AreApart, Runs.{as_many, with_run}}
 
 module _ {Y : Type 0} where
   -- the list, with ws in the stead of the n items from the index i on

@@ -7,7 +7,7 @@ use Rattle.arraydeque_ring.{
       Regions.Sr,
     },
     loans.Lending.with_slots,
-    places.Opened.{Opened, opened, view, Kept, closed, kept},
+    Opened.{Opened, opened, view, Kept, closed, kept},
   },
   specs.{Places.Region, Ring.RingState, declared.ring.Ring.TheInside.Inside},
 }

@@ -9,10 +9,9 @@ use Rattle.arraydeque_ring.{
       Owned.{item_size, Place},
       Rows.{Around, run_out, run_in},
     },
-    loans.Placed.{placed, run, placed_nothing, take-placed, drop-placed, placed-either, run-take},
-    loans.Placed.{apart_cases, as_run},
+    loans.Placed.{placed, run, placed_nothing, take-placed, drop-placed, placed-either, run-take, apart_cases, as_run},
   },
-  specs.{Loans.{AreApart, as_many, with_run}, Ownership.places_owned, Places.IsFilledRun},
+  specs.{Loans.AreApart, Ownership.places_owned, Runs.{as_many, with_run, IsFilledRun}},
 }
 use types.SemTy.{Arr}
 

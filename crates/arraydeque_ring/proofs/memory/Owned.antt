@@ -6,7 +6,7 @@ use Rattle.arraydeque_ring.{
     Kit.{snd∗, mono_r, Lft, Fml, froom, ty_array, align, Logic, sem, ‵, raw, ◌⊛◌, ◌$◌, ◌∵◌, !, qed, by, move, keep},
     Kit.{drop, use0, use1, split, frame, fsplit, fjoin, rewrite, done, nothing, El, R, el_x, elτ, elements_shared},
   },
-  specs.{Ownership.{place_owned, places_owned, place_lent, places_lent}, Places.HoldsRun},
+  specs.{Ownership.{place_owned, places_owned, place_lent, places_lent}, Runs.HoldsRun},
 }
 use prog.Align.{dv_self}
 use contract.Monad.{top}

@@ -16,8 +16,9 @@ use denote.Struct.{Struct.within, Owning.{Owning, shape}}
 use Rattle.std.specs.contracts.alloc.Global as heap
 pub use Rattle.arraydeque_ring.{
   specs.{
-    Places.{HoldsRun, IsFilledRun, empty_region},
+    Places.empty_region,
     Ownership.{owned_if, place_owned, places_owned, right_to_free},
+    Runs.{HoldsRun, IsFilledRun},
   },
   proofs.memory.{
     Blocks.scaled,

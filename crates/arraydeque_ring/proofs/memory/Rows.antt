@@ -9,9 +9,9 @@ use Rattle.arraydeque_ring.{
       Kit.{Goal, Step, step, length-map, length-replicate, replicate},
       Owned.{item_size, Place, Row, cut, glue, of_room},
     },
-    places.Held.length_filled,
+    places.Filled.length_filled,
   },
-  specs.{Gaps.run_emptied, Ownership.place_owned, Places.IsFilledRun},
+  specs.{Ownership.place_owned, Runs.{run_emptied, IsFilledRun}},
 }
 use Rattle.std.below.core.proofs.slots.Runs.{unspliced, run_long}
 use denote.Index.{row}

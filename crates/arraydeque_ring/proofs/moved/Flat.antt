@@ -5,30 +5,24 @@ use Rattle.std.proofs.{
   Math.Nat.mod-eq_of_lt,
   lemmas.{
     Bool.Decides.nat_tests,
-    List.{ext_get_or, places, FromFn.{length-map-range_with_len, get_or-map-range_with_len}},
+    List.{places, FromFn.{length-map-range_with_len, get_or-map-range_with_len}},
   },
 }
 use Rattle.arraydeque_ring.{
   specs.{
     Places.{Region, held_at},
+    Runs.run_emptied,
     Steps.Steps,
-    Gaps.run_emptied,
     Ring.place_of,
     Moved.{distance, held_after, run_moved},
   },
-  proofs.places.Rotated.{place_of_cases, place_of-lt},
+  proofs.places.{Items.same_places, Rotated.{place_of_cases, up_from}},
 }
 
 -- the distance between two places, of which the first may be the end
 pub distance_is : (from to n : ℕ) → from ≤ n → to < n
     → distance from to n ≡ (if nat_lt to from then to + n - from else to - from)
 distance_is from to n a b = grind (arith, place_of_cases to (n - from) n (omega arith))
-
--- to go up from src by the distance to dst is to come there
-pub up_from : (dst src n : ℕ) → dst < n → src < n → place_of src (distance src dst n) n ≡ dst
-up_from dst src n a b =
-    let d = place_of-lt dst (n - src) n (omega arith) in
-    grind arith
 
 module _ {X : Type 0} where
   pub length-moved : (dst src len : ℕ) (ps : List (Option X)) → length (run_moved dst src len ps) ≡ length ps
@@ -41,11 +35,6 @@ module _ {X : Type 0} where
       else (if nat_lt (distance src x n) len then None else held_at ps x))
   moved_at dst src len ps x long lt = rw (← long) (get_or-map-range_with_len (held_after dst src len ps) 0 (length ps) x
       x None (omega arith) (omega arith))
-
-  -- two lists of places are one where each place holds the same
-  pub same_places : (ps qs : List (Option X)) → length ps ≡ length qs
-      → ((x : ℕ) → x < length qs → get_or ps x None ≡ get_or qs x None) → ps ≡ qs
-  same_places ps qs long same = ext_get_or None ps qs long (λ x lt. same x (omega arith))
 
   abbrev pub other : (ℕ → Option X) → ℕ → ℕ → ℕ → Option X
   other f j len x = if nat_lt x j then f x else (if nat_lt x (j + len) then None else f x)

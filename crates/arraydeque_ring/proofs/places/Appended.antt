@@ -11,12 +11,12 @@ use Rattle.std.proofs.{
   Math.Seq.take-add,
 }
 use Rattle.arraydeque_ring.{
-  specs.{Gaps.IsEmptyRun, Loans.with_run, Ring.{RingState, up_by}, Steps.{more_puts, more_takes}},
+  specs.{Ring.{RingState, up_by}, Runs.{IsEmptyRun, with_run}, Steps.{more_puts, more_takes}},
   proofs.{
     loans.Placed.length-with_run,
     places.{
+      Filled.empty_run_of,
       Items.{items, get_or-map_Some},
-      Held.empty_run_of,
       Holds.{Holds, Holds-same},
       LaidOut.{LaidOut, LaidOut-by, LaidOut-nothing, holds},
       Rotated.{MayStartAt, place_of_cases, place_of-run, place_of-sum},

@@ -4,7 +4,7 @@ use Rattle.std.proofs.{
   Common.{rules},
   lemmas.{Grind.common_steps, List.places},
 }
-use Rattle.arraydeque_ring.{specs.Gaps.run_emptied, proofs.moved.Flat.same_places}
+use Rattle.arraydeque_ring.{proofs.places.Items.same_places, specs.Runs.run_emptied}
 
 module _ {X : Type 0} where
   -- what a place holds once c is written to the place i

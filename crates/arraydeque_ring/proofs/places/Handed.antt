@@ -11,10 +11,10 @@ use Rattle.std.{
   },
 }
 use Rattle.arraydeque_ring.{
-  specs.{Gaps.{IsEmptyRun, run_emptied}, Places.IsFilledRun, Ring.{place_of, rotated}},
+  specs.{Ring.{place_of, rotated}, Runs.{IsEmptyRun, run_emptied, IsFilledRun}},
   proofs.places.{
     Emptied.length-run_emptied,
-    Held.{empty_in_run, empty_run_of},
+    Filled.{empty_in_run, empty_run_of},
     Rotated.{MayStartAt, MayStartAt-place_of, place_of_cases, length-rotated, get_or-rotated},
   },
 }

@@ -7,9 +7,10 @@ use Rattle.std.proofs.{
 }
 use Rattle.arraydeque_ring.{
   specs.{Moved.distance, Places.held_at, Ring.{place_of, rotated}},
-  proofs.{
-    moved.Flat.{same_places, up_from},
-    places.{Emptied.get_or-written, Rotated.{place_of-first, place_of-sum, one_place, get_or-rotated, length-rotated}},
+  proofs.places.{
+    Emptied.get_or-written,
+    Items.same_places,
+    Rotated.{place_of-first, place_of-sum, one_place, get_or-rotated, length-rotated, up_from},
   },
 }
 

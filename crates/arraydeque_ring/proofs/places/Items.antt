@@ -1,8 +1,12 @@
--- The item at each index of a list that is made of others.
+-- The item at each index of a list that is made of others, and two lists that have the same at each.
 use Rattle.std.proofs.{
   Common.{◌≡◌, ℕ, zero, suc, ◌+◌, ◌-◌, ◌<◌, inl, inr, List, [], ◌∷◌, ◌++◌, length, map, take, drop, set, get_or},
-  Common.{slice_get, nat_lt, ◌==◌, if◌then◌else◌, Some, None, refl, arith},
-  lemmas.{Grind.common_steps, List.{drop-map, map-set, get_or-drop}, Option.{slice_get_cases, slice_get_past}},
+  Common.{slice_get, nat_lt, ◌==◌, if◌then◌else◌, Option, Some, None, refl, arith},
+  lemmas.{
+    Grind.common_steps,
+    List.{drop-map, map-set, get_or-drop, ext_get_or},
+    Option.{slice_get_cases, slice_get_past},
+  },
 }
 
 module _ {X : Type 0} where
@@ -40,6 +44,11 @@ module _ {X : Type 0} where
       → slice_get (set xs i x) k ≡ (if k == i then Some x else slice_get xs k)
   slice_get-set xs i k x lt =
       rw (← get_or-map_Some (set xs i x) k) (grind (arith, common_steps, map-set, get_or-map_Some))
+
+  -- two lists of places are one where each place holds the same
+  pub same_places : (ps qs : List (Option X)) → length ps ≡ length qs
+      → ((x : ℕ) → x < length qs → get_or ps x None ≡ get_or qs x None) → ps ≡ qs
+  same_places ps qs long same = ext_get_or None ps qs long (λ x lt. same x (omega arith))
 
 -- for `grind`: the item at an index of such a list
 pub ruleset items = (slice_get-append, slice_get-take, slice_get-drop, slice_get-set, slice_get_past)

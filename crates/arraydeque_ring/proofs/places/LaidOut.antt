@@ -10,19 +10,17 @@ use Rattle.std.proofs.{
 }
 use Rattle.arraydeque_ring.{
   specs.{
-    Places.{held_at, IsFilled, HoldsRun, IsFilledRun, AreAllEmpty},
+    Places.{held_at, IsFilled, AreAllEmpty},
     Ring.{place_of, rotated, values, filled, FilledFrom},
+    Runs.{HoldsRun, IsFilledRun},
   },
-  proofs.{
-    moved.Flat.same_places,
-    places.{
-      AndEmpty.{and_empty, length-and_empty, get_or-and_empty, values-and_empty, values-map_Some, filled-and_empty},
-      AndEmpty.and_empty_from,
-      Held.holds_run_of,
-      Holds.{Holds, Holds-each, Holds-of_rotated, Holds-rotated, rotated-Holds, Holds-from, Holds-set},
-      Items.{items, slice_get_some},
-      Rotated.{MayStartAt, place_of-run, place_of-zero, place_of_cases, length-rotated, rotated-map},
-    },
+  proofs.places.{
+    AndEmpty.{and_empty, length-and_empty, get_or-and_empty, values-and_empty, values-map_Some, filled-and_empty},
+    AndEmpty.and_empty_from,
+    Filled.holds_run_of,
+    Holds.{Holds, Holds-each, Holds-of_rotated, Holds-rotated, rotated-Holds, Holds-from, Holds-set},
+    Items.{items, slice_get_some, same_places},
+    Rotated.{MayStartAt, place_of-run, place_of-zero, place_of_cases, length-rotated, rotated-map},
   },
 }
 

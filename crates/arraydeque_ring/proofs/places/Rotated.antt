@@ -5,7 +5,7 @@ use Rattle.std.proofs.{
   Math.Nat.{mod-eq_of_lt, mod-eq-sub-mod, mod-add-mod, add_assoc},
   lemmas.{Bool.cases_lt, List.{places, map-append, drop-map, take-map}},
 }
-use Rattle.arraydeque_ring.specs.Ring.{place_of, rotated}
+use Rattle.arraydeque_ring.specs.{Moved.distance, Ring.{place_of, rotated}}
 
 -- a place is the sum itself below the end, and the sum less the capacity past it
 pub place_of_cases : (t k n : ℕ) → t + k < n + n
@@ -19,6 +19,12 @@ place_of_cases t k n within = elim (cases_lt (t + k) n) [
 -- a place lies in the region
 pub place_of-lt : (t k n : ℕ) → t + k < n + n → place_of t k n < n
 place_of-lt t k n within = grind arith
+
+-- to go up from src by the distance to dst is to come there
+pub up_from : (dst src n : ℕ) → dst < n → src < n → place_of src (distance src dst n) n ≡ dst
+up_from dst src n a b =
+    let d = place_of-lt dst (n - src) n (omega arith) in
+    grind arith
 
 -- the index 0 has the start itself
 pub place_of-zero : (t n : ℕ) → t ≤ n - 1 → place_of t 0 n ≡ t

@@ -21,7 +21,8 @@ use Rattle.arraydeque_ring.{
   },
   proofs.{
     gaps.Gapped.{Gapped, Gapped-taken_one, Gapped-take, Gapped-move, held_behind, LaidOut-gap_last},
-    places.{Items.slice_get_some, LaidOut.LaidOut, Opened.{Shows, shows}},
+    Opened.{Shows, shows},
+    places.{Items.slice_get_some, LaidOut.LaidOut},
     retained.First.{until_goes, all_stay, picked_front, none_goes, none_moved},
   },
 }

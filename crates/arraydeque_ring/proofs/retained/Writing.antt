@@ -23,7 +23,8 @@ use Rattle.arraydeque_ring.{
   },
   proofs.{
     gaps.Gapped.{Gapped, Gapped-put, Gapped-take, IsEmpty-gap, held_behind, LaidOut-gap_last},
-    places.{Holds.Holds-same, Items.{items, slice_get_some}, LaidOut.{LaidOut, holds}, Opened.{Shows, shows}},
+    Opened.{Shows, shows},
+    places.{Holds.Holds-same, Items.{items, slice_get_some}, LaidOut.{LaidOut, holds}},
     retained.{First.told_longer, Retaining.{kept_and_gone, count_by-push, moved-push_true, moved-push_false}},
   },
 }

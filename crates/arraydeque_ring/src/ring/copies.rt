@@ -2,8 +2,7 @@
 //! vector's items, and a vector of a ring's.
 ghost use Rattle.std.specs.Prelude.{◌≡◌, ◌⊎◌, ◌*◌, ◌+◌, ◌-◌, ◌<◌, ◌≤◌, ◌++◌, length, min, take, Any, IfOk, IfErr, OnOk, OnErr};
 ghost use Rattle.std.specs.Mem.{type_size};
-ghost use Rattle.arraydeque_ring.specs.Cloned.{ClonesAreSame};
-ghost use Rattle.arraydeque_ring.specs.Ring.{place_of};
+ghost use Rattle.arraydeque_ring.specs.Ring.{place_of, ClonesAreSame};
 ghost use Rattle.arraydeque_ring.specs.Steps.{no_steps, more_puts};
 
 use super::Ring;
@@ -69,7 +68,7 @@ impl<T> Ring<T> {
     }
 
     /// Puts copies of items behind the last one, into places that don't go round the end.
-    #[tactic(auto, using(crate::proofs::places::Opened::copied_facts))]
+    #[tactic(auto, using(crate::proofs::Opened::copied_facts))]
     fn copy_run(&mut self, items: &[T])
     where
         T: Copy,
@@ -161,7 +160,7 @@ impl<T> Ring<T> {
 
     /// Puts a clone of each item behind the last one, where the list starts at the first place and
     /// there is room.
-    #[tactic(auto, using(crate::proofs::places::Opened::copy_facts))]
+    #[tactic(auto, using(crate::proofs::Opened::copy_facts))]
     #[inline]
     fn clone_back(&mut self, items: &[T]) -> Result<(), AllocError>
     where

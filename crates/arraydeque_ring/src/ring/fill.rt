@@ -3,10 +3,8 @@
 ghost use Rattle.std.specs.Prelude.{◌≡◌, ◌-◌, ◌<◌, ◌≤◌, ◌∷◌, ◌++◌, length, take, drop, reverse, nat_lt, false};
 ghost use Rattle.std.specs.Iterator.{IsFinite, IsNearerEnd, MakesProgress};
 ghost use Rattle.arraydeque_ring.specs.Fills.{Fills, Ends, GoesOn};
-ghost use Rattle.arraydeque_ring.specs.Gaps.{IsEmptyRun};
-ghost use Rattle.arraydeque_ring.specs.Loans.{with_run};
-ghost use Rattle.arraydeque_ring.specs.Places.{IsFilledRun};
 ghost use Rattle.arraydeque_ring.specs.Ring.{up_by, down_by};
+ghost use Rattle.arraydeque_ring.specs.Runs.{IsEmptyRun, with_run, IsFilledRun};
 ghost use Rattle.arraydeque_ring.specs.Steps.{more_puts, more_takes};
 
 use super::Ring;

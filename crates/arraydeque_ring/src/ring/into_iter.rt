@@ -121,7 +121,7 @@ impl<T> Ring<T> {
 
     /// Takes the first item off, as [`Ring::pop_front`] does, where the next place is before the
     /// region's end. Many such calls together empty a run of places.
-    #[tactic(auto, using(crate::proofs::places::Opened::end_facts))]
+    #[tactic(auto, using(crate::proofs::Opened::end_facts))]
     #[inline(always)]
     fn take_before_end(&mut self) -> T
         requires some { 0 < length self.old.items }

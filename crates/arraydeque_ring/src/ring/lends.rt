@@ -17,7 +17,7 @@ impl<T> Ring<T> {
     /// ring.push_front(1);
     /// assert!(rt; ring.as_slices() == ([1].as_slice(), [2, 3].as_slice()));
     /// ```
-    #[tactic(auto, using(crate::proofs::places::Opened::slice_facts))]
+    #[tactic(auto, using(crate::proofs::Opened::slice_facts))]
     #[inline]
     pub fn as_slices(&self) -> (&[T], &[T])
         ensures joined { result.0.now ++ result.1.now ≡ self.now.items }
@@ -59,7 +59,7 @@ impl<T> Ring<T> {
     /// ring.as_mut_slice().reverse();
     /// assert!(rt; IntoIter::of(ring).eq([2, 1, 3]));
     /// ```
-    #[tactic(auto, using(crate::proofs::places::Opened::slice_facts))]
+    #[tactic(auto, using(crate::proofs::Opened::slice_facts))]
     #[inline]
     pub fn as_mut_slice(&mut self) -> &mut [T]
         requires { IsInOnePiece self.old }

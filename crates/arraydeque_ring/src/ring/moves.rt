@@ -2,9 +2,9 @@
 //! one too: the empty places, seen from its new first item on.
 ghost use Rattle.std.specs.Prelude.{◌≡◌, ◌-◌, ◌+◌, ◌<◌, ◌≤◌, ◌++◌, length, take, drop, slice_get, min, max};
 ghost use Rattle.std.specs.List.{insert, remove};
-ghost use Rattle.arraydeque_ring.specs.Gaps.{IsEmptyRun, gap_moved};
-ghost use Rattle.arraydeque_ring.specs.Places.{IsFilledRun};
+ghost use Rattle.arraydeque_ring.specs.Gaps.{gap_moved};
 ghost use Rattle.arraydeque_ring.specs.Ring.{rotated};
+ghost use Rattle.arraydeque_ring.specs.Runs.{IsEmptyRun, IsFilledRun};
 ghost use Rattle.arraydeque_ring.specs.Sides.{moves_to_insert, moves_to_remove, moves_to_rotate, start_opened, start_closed, start_rotated};
 ghost use Rattle.arraydeque_ring.specs.Changed.{InsertMovesFewest, RemoveMovesFewest, RotateMovesFewest};
 ghost use Rattle.arraydeque_ring.specs.Steps.{more_puts, more_takes, more_moves};
@@ -57,7 +57,7 @@ impl<T> Ring<T> {
     /// assert!(rt; ring.remove(1) == 2);
     /// assert!(rt; IntoIter::of(ring).eq([1, 3]));
     /// ```
-    #[tactic(auto, using(crate::proofs::places::Opened::end_facts))]
+    #[tactic(auto, using(crate::proofs::Opened::end_facts))]
     pub fn remove(&mut self, index: usize) -> T
         requires { index < length self.old.items }
         ensures value { slice_get self.old.items index ≡ Some result }
@@ -87,7 +87,7 @@ impl<T> Ring<T> {
     /// ring.rotate_left(1);
     /// assert!(rt; IntoIter::of(ring).eq([2, 3, 1]));
     /// ```
-    #[tactic(auto, using(crate::proofs::places::Opened::end_facts))]
+    #[tactic(auto, using(crate::proofs::Opened::end_facts))]
     pub fn rotate_left(&mut self, count: usize)
         requires { count ≤ length self.old.items }
         ensures items { self.new.items ≡ drop count self.old.items ++ take count self.old.items }

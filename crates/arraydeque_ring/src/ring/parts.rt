@@ -3,11 +3,10 @@
 ghost use Rattle.std.specs.Prelude.{◌≡◌, ◌-◌, ◌+◌, ◌*◌, ◌<◌, ◌≤◌, ◌++◌, length, take, drop, slice_range, min, nat_lt, if◌then◌else◌, IfOk, OnOk, OnErr};
 ghost use Rattle.std.specs.List.{remove_range};
 ghost use Rattle.std.specs.Mem.{type_size};
-ghost use Rattle.arraydeque_ring.specs.Places.{IsFilledRun};
 ghost use Rattle.arraydeque_ring.specs.Ring.{rotated, up_by};
+ghost use Rattle.arraydeque_ring.specs.Runs.{IsFilledRun, IsEmptyRun, run_emptied};
 ghost use Rattle.arraydeque_ring.specs.Sides.{moves_to_drain, start_closed};
 ghost use Rattle.arraydeque_ring.specs.Changed.{DrainMovesFewest};
-ghost use Rattle.arraydeque_ring.specs.Gaps.{IsEmptyRun, run_emptied};
 ghost use Rattle.arraydeque_ring.specs.Steps.{no_steps, more_puts, more_takes, more_moves};
 
 use super::Ring;
@@ -36,7 +35,7 @@ impl<T> Ring<T> {
     /// assert!(rt; IntoIter::of(drained).eq([2, 3]));
     /// assert!(rt; IntoIter::of(ring).eq([1, 4]));
     /// ```
-    #[tactic(auto, using(crate::proofs::places::Opened::part_facts))]
+    #[tactic(auto, using(crate::proofs::Opened::part_facts))]
     pub fn drain(&mut self, from: usize, to: usize) -> Result<Ring<T>, AllocError>
         requires in_order { from ≤ to }
         requires in_bounds { to ≤ length self.old.items }
@@ -85,7 +84,7 @@ impl<T> Ring<T> {
     /// assert!(rt; IntoIter::of(tail).eq([2, 3]));
     /// assert!(rt; IntoIter::of(ring).eq([1]));
     /// ```
-    #[tactic(auto, using(crate::proofs::places::Opened::part_facts))]
+    #[tactic(auto, using(crate::proofs::Opened::part_facts))]
     pub fn split_off(&mut self, at: usize) -> Result<Ring<T>, AllocError>
         requires { at ≤ length self.old.items }
         ensures tail { IfOk result (λ ring. ring ≡ record {
@@ -143,7 +142,7 @@ impl<T> Ring<T> {
 
     /// Takes the first items of another ring behind the last one, by one copy: `len`, or as many as
     /// go round the end in neither ring. Returns how many.
-    #[tactic(auto, using(crate::proofs::places::Opened::join_facts))]
+    #[tactic(auto, using(crate::proofs::Opened::join_facts))]
     fn append_run(&mut self, other: &mut Ring<T>, len: usize) -> usize
         requires some { 0 < len }
         requires room { length self.old.items + len ≤ self.old.capacity }

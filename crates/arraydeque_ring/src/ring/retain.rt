@@ -2,11 +2,10 @@
 ghost use Rattle.std.specs.Prelude.{◌≡◌, ◌-◌, ◌≤◌, [], length, take, drop};
 ghost use Rattle.std.specs.Fn.{CalledAt, CalledAtMut};
 ghost use Rattle.std.specs.List.Retain.{ReturnsInTurn};
-ghost use Rattle.arraydeque_ring.specs.Gaps.{run_emptied};
-ghost use Rattle.arraydeque_ring.specs.Places.{IsFilledRun};
 ghost use Rattle.arraydeque_ring.specs.Ring.{rotated, up_by};
 ghost use Rattle.arraydeque_ring.specs.Retained.{Retains, MayBeAsked, answers_until};
 ghost use Rattle.arraydeque_ring.specs.Retained.{RetainsMut, MayWrite};
+ghost use Rattle.arraydeque_ring.specs.Runs.{run_emptied, IsFilledRun};
 ghost use Rattle.arraydeque_ring.specs.Steps.{more_takes};
 
 use super::Ring;
@@ -21,7 +20,7 @@ impl<T> Ring<T> {
     /// ring.clear();
     /// assert!(rt; (ring.len(), ring.capacity()) == (0, 4));
     /// ```
-    #[tactic(auto, using(crate::proofs::places::Opened::drop_facts))]
+    #[tactic(auto, using(crate::proofs::Opened::drop_facts))]
     pub fn clear(&mut self)
     where
         T: Drop,
@@ -44,7 +43,7 @@ impl<T> Ring<T> {
     /// ring.truncate(2);
     /// assert!(rt; IntoIter::of(ring).eq([1, 2]));
     /// ```
-    #[tactic(auto, using(crate::proofs::places::Opened::drop_facts))]
+    #[tactic(auto, using(crate::proofs::Opened::drop_facts))]
     pub fn truncate(&mut self, len: usize)
     where
         T: Drop,
@@ -68,7 +67,7 @@ impl<T> Ring<T> {
     /// ring.truncate_front(2);
     /// assert!(rt; IntoIter::of(ring).eq([2, 3]));
     /// ```
-    #[tactic(auto, using(crate::proofs::places::Opened::drop_facts))]
+    #[tactic(auto, using(crate::proofs::Opened::drop_facts))]
     pub fn truncate_front(&mut self, len: usize)
     where
         T: Drop,
@@ -97,7 +96,7 @@ impl<T> Ring<T> {
     /// ring.retain(|item| *item % 2 == 1);
     /// assert!(rt; IntoIter::of(ring).eq([1, 3]));
     /// ```
-    #[tactic(auto, using(crate::proofs::places::Opened::end_facts))]
+    #[tactic(auto, using(crate::proofs::Opened::end_facts))]
     pub fn retain<F: FnMut(&T) -> bool>(&mut self, mut f: F)
     where
         T: Drop,
@@ -139,7 +138,7 @@ impl<T> Ring<T> {
     /// });
     /// assert!(rt; IntoIter::of(ring).eq([2, 6]));
     /// ```
-    #[tactic(auto, using(crate::proofs::places::Opened::end_facts))]
+    #[tactic(auto, using(crate::proofs::Opened::end_facts))]
     pub fn retain_mut<F: FnMut(&mut T) -> bool>(&mut self, mut f: F)
     where
         T: Drop,
@@ -169,7 +168,7 @@ impl<T> Ring<T> {
 
     /// How many items stay before the first that goes, at which `f` is called last. None of them
     /// moves, so the loop has nothing to count but places.
-    #[tactic(auto, using(crate::proofs::places::Opened::slice_facts))]
+    #[tactic(auto, using(crate::proofs::Opened::slice_facts))]
     fn kept_first<F: FnMut(&T) -> bool>(&self, f: &mut F) -> usize
         requires { MayBeAsked F.FnMut f.old self.now.items }
         ensures within { result ≤ length self.now.items }

@@ -13,7 +13,7 @@ impl<T> Ring<T> {
     /// ring.swap(0, 2);
     /// assert!(rt; IntoIter::of(ring).eq([3, 2, 1]));
     /// ```
-    #[tactic(auto, using(crate::proofs::places::Opened::end_facts))]
+    #[tactic(auto, using(crate::proofs::Opened::end_facts))]
     #[inline]
     pub fn swap(&mut self, i: usize, j: usize)
         requires i_in_bounds { i < length self.old.items }

@@ -4,9 +4,9 @@
 //! lender is once the loan has ended, so that a caller who only writes through the loan knows it.
 ghost use Rattle.std.specs.Prelude.{◌≡◌, ◌-◌, ◌+◌, ◌^◌, ◌<◌, ◌≤◌, length, min};
 ghost use Rattle.std.specs.Borrow.{sem};
-ghost use Rattle.arraydeque_ring.specs.Lends.{lends_run, lends_two_runs, lends_loan};
 ghost use Rattle.arraydeque_ring.specs.Loans.{AreApart};
-ghost use Rattle.arraydeque_ring.specs.Places.{HoldsRun, IsFilledRun};
+ghost use Rattle.arraydeque_ring.specs.Runs.{HoldsRun, IsFilledRun};
+ghost use Rattle.arraydeque_ring.specs.SlotsLends.{lends_run, lends_two_runs, lends_loan};
 ghost use base.Fml.{GName};
 
 use super::{Slots, StepKind};

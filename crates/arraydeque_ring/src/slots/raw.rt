@@ -7,11 +7,11 @@ ghost use Rattle.std.specs.Borrow.{sem};
 ghost use Rattle.std.specs.List.{splice};
 ghost use Rattle.std.specs.Mem.{type_size};
 ghost use prog.Memory.{capped};
-ghost use Rattle.arraydeque_ring.specs.Lends.{lends_value, lends_values, lends_loan};
 ghost use Rattle.arraydeque_ring.specs.Loans.{AreApart};
-ghost use Rattle.arraydeque_ring.specs.Gaps.{IsEmptyRun, run_emptied};
 ghost use Rattle.arraydeque_ring.specs.Moved.{run_moved};
-ghost use Rattle.arraydeque_ring.specs.Places.{empty_region, held_at, IsFilled, IsEmpty, HoldsRun, IsFilledRun, AreAllEmpty};
+ghost use Rattle.arraydeque_ring.specs.Places.{empty_region, held_at, IsFilled, IsEmpty, AreAllEmpty};
+ghost use Rattle.arraydeque_ring.specs.Runs.{IsEmptyRun, run_emptied, HoldsRun, IsFilledRun};
+ghost use Rattle.arraydeque_ring.specs.SlotsLends.{lends_value, lends_values, lends_loan};
 
 use super::Slots;
 use super::loan::{Loan, LoanName};

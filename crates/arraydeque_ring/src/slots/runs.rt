@@ -6,12 +6,9 @@
 //! local meanwhile: its pointer is known to stay.
 ghost use Rattle.std.specs.Prelude.{◌≡◌, ◌+◌, ◌-◌, ◌<◌, ◌≤◌, length, take, drop, if◌then◌else◌, ◌==◌};
 ghost use Rattle.std.specs.List.{splice};
-ghost use Rattle.arraydeque_ring.specs.Exchanged.{runs_exchanged};
-ghost use Rattle.arraydeque_ring.specs.Gaps.{IsEmptyRun, run_emptied};
-ghost use Rattle.arraydeque_ring.specs.Loans.{with_run};
 ghost use Rattle.arraydeque_ring.specs.Moved.{MeetAtOneEndAtMost, IsFilledRound, IsFreeRound, CanCopy, CanMove, run_moved};
-ghost use Rattle.arraydeque_ring.specs.Places.{IsFilledRun};
 ghost use Rattle.arraydeque_ring.specs.Ring.{place_of};
+ghost use Rattle.arraydeque_ring.specs.Runs.{runs_exchanged, with_run, IsEmptyRun, run_emptied, IsFilledRun};
 ghost use Rattle.arraydeque_ring.specs.Steps.{more_puts, more_takes, more_moves, more_exchanges};
 
 use super::raw::size_of_item;

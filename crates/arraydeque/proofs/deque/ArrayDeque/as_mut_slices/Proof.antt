@@ -11,7 +11,7 @@ use Rattle.arraydeque_ring.{
     loans.{Made.loan_lawful, Names.followed_both, Slices.in_slices},
     slots.loan.Loan.into_slices.Met.met as into_met,
   },
-  specs.Loans.as_many,
+  specs.Runs.as_many,
 }
 use contract.Lifetimes.{toks}
 use base.Logic.{mono_l}

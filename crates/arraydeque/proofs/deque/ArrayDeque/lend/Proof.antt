@@ -13,7 +13,7 @@ use Rattle.arraydeque_ring.{
     loans.{Made.{loan_lawful, loan_renamed}, Names.{hands_on, followed_both, part_lent}, Rings.Rr},
     ring.Ring.lend.Met.met,
   },
-  specs.{Loans.{LoanState, as_many}, Ring.RingState},
+  specs.{Loans.LoanState, Ring.RingState, Runs.as_many},
 }
 use base.Share
 use types.{Late.{ages}, Mut.open_ref}

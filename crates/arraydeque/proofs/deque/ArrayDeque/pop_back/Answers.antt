@@ -1,4 +1,4 @@
-use Rattle.arraydeque_ring.proofs.Ends.{conserved-pop_back}
+use Rattle.arraydeque_ring.proofs.LastPopped.{conserved-pop_back}
 use Rattle.arraydeque.proofs.deque.ArrayDeque.pop_back.Goals as goal
 
 pub returns-clause-conserved : goal.returns-clause-conserved

@@ -2,8 +2,9 @@ use Rattle.std.proofs.Common.{◌-◌, ◌<◌, length, drop, arith}
 use Rattle.arraydeque_ring.{
   specs.Ring.{place_of, rotated, values},
   proofs.{
+    Opened.{Shows, bounds, piece_filled, piece_taken},
     fills.Laying.up_by-is,
-    places.{Opened.{Shows, bounds, piece_filled, piece_taken}, Rotated.place_of-lt},
+    places.Rotated.place_of-lt,
     ring.Ring.append_run.{Given.Over, Goals.After-hand_over},
   },
 }

@@ -1,11 +1,11 @@
 use Rattle.std.proofs.Common.{◌≡◌, refl, arith}
 use Rattle.arraydeque_ring.{
-  specs.Loans.as_many,
   proofs.{
     loans.Placed.{length-as_many, as_many-same},
-    places.Opened.{slice_facts, bounds, piece_written},
+    Opened.{slice_facts, bounds, piece_written},
     ring.Ring.as_mut_slice.{Given.Over, Goals.After-slice_mut},
   },
+  specs.Runs.as_many,
 }
 use Rattle.arraydeque_ring.proofs.ring.Ring.as_mut_slice.Goals as goal
 

@@ -12,7 +12,7 @@ use Rattle.arraydeque_ring.{
     ring.Ring.lend.Met.met,
     slots.loan.Loan.into_slices.Met.met as into_met,
   },
-  specs.{Loans.{as_many}},
+  specs.Runs.as_many,
 }
 use base.Logic.{mono_l}
 use Rattle.arraydeque_ring.specs.contracts.ring.Ring.lend as g

@@ -1,5 +1,5 @@
 use Rattle.std.proofs.Common.{◌≡◌, take}
-use Rattle.arraydeque_ring.proofs.{fills.InRows.filled_back, places.Opened.{Kept, view}}
+use Rattle.arraydeque_ring.proofs.{fills.InRows.filled_back, Opened.{Kept, view}}
 use Rattle.arraydeque_ring.proofs.ring.Ring.clone_back.Given as goal
 
 abbrev pub invariant-loop-item : goal.invariant-loop-item

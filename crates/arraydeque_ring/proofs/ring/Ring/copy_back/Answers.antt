@@ -3,7 +3,7 @@ use Rattle.std.proofs.{
   lemmas.{Grind.common_steps, List.{append_assoc, length-append, length-take-le, length-drop, take_rest}},
   Math.Seq.take-add,
 }
-use Rattle.arraydeque_ring.proofs.places.{Opened.bounds, Rotated.{place_of_cases, place_of-sum}}
+use Rattle.arraydeque_ring.proofs.{Opened.bounds, places.Rotated.place_of_cases}
 use Rattle.arraydeque_ring.proofs.ring.Ring.copy_back.Goals as goal
 
 pub copy_run-requires-clause-fits : goal.copy_run-requires-clause-fits

@@ -5,7 +5,7 @@ use Rattle.std.proofs.{
 }
 use Rattle.arraydeque_ring.proofs.{
   fills.{Displaced.displaced_first-both, FromIterator.Ends-fills, Laying.{begun, more, filled_first, laid_first}},
-  places.Opened.{opened, closed},
+  Opened.{opened, closed},
 }
 use Rattle.arraydeque_ring.proofs.ring.Ring.displace_first.Goals as goal
 use Rattle.arraydeque_ring.proofs.ring.Ring.displace_first.Goals.{then-ended, else-ended}

@@ -4,7 +4,8 @@ use Rattle.std.proofs.{
 }
 use Rattle.arraydeque_ring.proofs.{
   fills.{Displaced.displaced_last-both, FromIterator.Ends-fills, Laying.{begun, more, filled_last, laid_last}},
-  places.{Opened.{opened, closed}, Rotated.MayStartAt},
+  Opened.{opened, closed},
+  places.Rotated.MayStartAt,
 }
 use Rattle.arraydeque_ring.proofs.ring.Ring.displace_last.Given.{Over}
 use Rattle.arraydeque_ring.proofs.ring.Ring.displace_last.Goals as goal

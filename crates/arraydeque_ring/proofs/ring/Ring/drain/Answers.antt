@@ -1,7 +1,8 @@
 use Rattle.std.{proofs.{Common.{◌≡◌, ◌-◌, length, arith}, lemmas.{Grind.common_steps}}, specs.List.remove_range}
 use Rattle.arraydeque_ring.proofs.{
   gaps.Fewest.fewest_drain,
-  places.{Opened.{opened, bounds, Closing, run_filled, run_taken, Shows}, Rotated.place_of-zero},
+  Opened.{opened, bounds, Closing, run_filled, run_taken, Shows},
+  places.Rotated.place_of-zero,
   ring.Ring.drain.{Given.Over, Goals.{After-take_run, After-close_gap-self-inside}},
 }
 use Rattle.arraydeque_ring.proofs.ring.Ring.drain.Goals as goal

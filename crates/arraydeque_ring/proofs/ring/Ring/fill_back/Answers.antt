@@ -8,7 +8,7 @@ use Rattle.arraydeque_ring.proofs.{
     InRows.{filled_back, filled_back-both},
     Laying.{Laying, begun, more, empty_behind, laid_back},
   },
-  places.Opened.{opened, closed, items_within},
+  Opened.{opened, closed, items_within},
 }
 use Rattle.arraydeque_ring.proofs.ring.Ring.fill_back.Given.{Over}
 use Rattle.arraydeque_ring.proofs.ring.Ring.fill_back.Goals as goal

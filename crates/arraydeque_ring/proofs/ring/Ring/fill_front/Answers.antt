@@ -8,7 +8,8 @@ use Rattle.arraydeque_ring.proofs.{
     InRows.{filled_front, filled_front-both},
     Laying.{Laying, begun, more, empty_before, laid_front},
   },
-  places.{Opened.{opened, closed, items_within}, Rotated.place_of_cases},
+  Opened.{opened, closed, items_within},
+  places.Rotated.place_of_cases,
 }
 use Rattle.arraydeque_ring.proofs.ring.Ring.fill_front.Given.{Over}
 use Rattle.arraydeque_ring.proofs.ring.Ring.fill_front.Goals as goal

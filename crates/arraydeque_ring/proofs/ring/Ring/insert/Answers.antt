@@ -13,7 +13,7 @@ use Rattle.arraydeque_ring.{
       Gapped.{Gapped, IsEmpty-gap, LaidOut-put},
       GapMoves.{Gapped-behind, Gapped-before, gap_may_move, gap_moves},
     },
-    places.Opened.{opened, shows, Shows, ring_facts},
+    Opened.{opened, shows, Shows, ring_facts},
     ring.Ring.insert.{Given.Over, Goals.{After-put, then-index-behind, else-index-behind}},
   },
 }

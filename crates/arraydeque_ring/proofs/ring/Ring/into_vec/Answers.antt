@@ -9,11 +9,11 @@ use Rattle.std.{
 use Rattle.arraydeque_ring.{
   specs.{Places.{held_at, IsFilled}, Ring.{RingState, place_of}},
   proofs.{
+    Opened.{opened, bounds},
     places.{
       Holds.{Holds-same, Holds-set},
       Items.slice_get_some,
       LaidOut.{AreAllEmpty-LaidOut, LaidOut-by, holds},
-      Opened.{opened, bounds},
       Rotated.{MayStartAt, place_of_cases},
     },
     ring.Ring.into_vec.Invariants.AreOut,

@@ -1,6 +1,6 @@
 use Rattle.std.{proofs.Common.{◌≡◌, ◌-◌, length, arith}, specs.Fn.CalledAt}
 use Rattle.arraydeque_ring.proofs.{
-  places.Opened.slice_facts,
+  Opened.slice_facts,
   retained.First.{asked_front, asked_back, until_in_front, until_in_back},
 }
 use Rattle.arraydeque_ring.proofs.ring.Ring.kept_first.Goals as goal

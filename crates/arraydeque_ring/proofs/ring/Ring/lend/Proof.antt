@@ -17,17 +17,17 @@ use Rattle.arraydeque_ring.{
       Names.{hands_on, followed_both, part_lent},
       Rings.{Rr, ring_apart},
     },
-    places.{LaidOut.length_within},
+    places.LaidOut.length_within,
     slots.Slots.lend_round.Met.met,
   },
-  specs.{Loans.{LoanState, as_many}, RingLends.rewritten},
+  specs.{Loans.LoanState, RingLends.rewritten, Runs.as_many},
 }
 use types.{Late.{ages}, Mut.open_ref, Run.well_typed}
 use base.Share
 use contract.Lifetimes.{toks}
 use denote.Plain.{uint_in, uint_out}
-use Rattle.arraydeque_ring.specs.Lends as Lends
-use Rattle.arraydeque_ring.specs.Lends.{two_lists}
+use Rattle.arraydeque_ring.specs.SlotsLends as Lends
+use Rattle.arraydeque_ring.specs.SlotsLends.{two_lists}
 use Rattle.arraydeque_ring.specs.contracts.slots.loan.Loan as loan
 use Rattle.arraydeque_ring.specs.contracts.slots.Slots.lend_round as g
 use Rattle.arraydeque_ring.specs.contracts.ring.Ring.lend as f

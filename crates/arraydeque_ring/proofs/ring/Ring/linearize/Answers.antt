@@ -1,6 +1,7 @@
 use Rattle.std.proofs.{Common.{length, ap, ◌∙◌, arith}, lemmas.List.append-nil}
 use Rattle.arraydeque_ring.proofs.{
-  places.{LaidOut.{rotated-LaidOut, LaidOut-from}, Opened.{opened, Shows, shows}, Rotated.length-rotated},
+  Opened.{opened, Shows, shows},
+  places.{LaidOut.{rotated-LaidOut, LaidOut-from}, Rotated.length-rotated},
   ring.Ring.linearize.{Given.Over, Goals.After-rotate},
 }
 use Rattle.arraydeque_ring.proofs.ring.Ring.linearize.Goals as goal

@@ -1,5 +1,5 @@
 use Rattle.std.proofs.Common.{◌≡◌, ◌+◌, ◌≤◌, List, ◌++◌, length, take, replicate, None, vec_len}
-use Rattle.arraydeque_ring.specs.{Loans.with_run, Steps.{no_steps, more_puts}}
+use Rattle.arraydeque_ring.specs.{Runs.with_run, Steps.{no_steps, more_puts}}
 use Rattle.arraydeque_ring.proofs.ring.Ring.of_vec.Given as goal
 
 abbrev pub invariant-loop-item : goal.invariant-loop-item

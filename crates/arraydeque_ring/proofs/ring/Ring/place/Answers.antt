@@ -1,5 +1,5 @@
 use Rattle.std.proofs.Common.{◌+◌, arith}
-use Rattle.arraydeque_ring.proofs.{Masks.{at_most_half, masked}, places.{Opened.opened, Rotated.place_of_cases}}
+use Rattle.arraydeque_ring.proofs.{Masks.{at_most_half, masked}, Opened.opened, places.Rotated.place_of_cases}
 use Rattle.arraydeque_ring.proofs.ring.Ring.place.Goals as goal
 use Rattle.arraydeque_ring.proofs.ring.Ring.place.Goals.{then-index-capacity, else-index-capacity}
 

@@ -1,7 +1,7 @@
 use Rattle.std.{proofs.Common.{suc, ◌-◌, arith}, specs.List.remove}
 use Rattle.arraydeque_ring.proofs.{
   gaps.Fewest.fewest_remove,
-  places.Opened.{opened, bounds, Closing, one_taken, Shows},
+  Opened.{opened, bounds, Closing, one_taken, Shows},
   ring.Ring.remove.{Given.Over, Goals.{After-take-item, After-close_gap-self-inside}},
 }
 use Rattle.arraydeque_ring.proofs.ring.Ring.remove.Goals as goal

@@ -3,9 +3,9 @@ use Rattle.std.{
   specs.Fn.CalledAtMut,
 }
 use Rattle.arraydeque_ring.proofs.{
+  Opened.opened,
   retained.Writing.{none_asked, next_held, next_filled, written_filled, gap_empty, moves_up, stays_there, goes},
   retained.Writing.{all_asked, counted},
-  places.Opened.opened,
   ring.Ring.retain_mut.Goals.{then-keeps, then-kept-index, else-kept-index, else-keeps},
 }
 use Rattle.arraydeque_ring.proofs.ring.Ring.retain_mut.Goals as goal

@@ -1,7 +1,8 @@
 use Rattle.std.proofs.Common.{◌++◌, length, take, drop, ◌∙◌, arith}
 use Rattle.arraydeque_ring.proofs.{
   gaps.Turned.{fewest_rotate, may_turn, start_turned, turned, turned_full},
-  places.{Opened.{opened, bounds, Shows}, Rotated.place_of-zero},
+  Opened.{opened, bounds, Shows},
+  places.Rotated.place_of-zero,
   ring.Ring.rotate_left.{Given.Over, Goals.{After-close_gap-self-inside, Else-has_room}},
 }
 use Rattle.arraydeque_ring.proofs.ring.Ring.rotate_left.Goals as goal

@@ -1,5 +1,5 @@
 use Rattle.std.proofs.Common.{◌-◌, arith}
-use Rattle.arraydeque_ring.proofs.places.{Handed.all_empty, Opened.{bounds, run_filled}}
+use Rattle.arraydeque_ring.proofs.{Opened.{bounds, run_filled}, places.Handed.all_empty}
 use Rattle.arraydeque_ring.proofs.ring.Ring.split_off.Goals as goal
 
 pub take_run-requires-clause-empty : goal.take_run-requires-clause-empty

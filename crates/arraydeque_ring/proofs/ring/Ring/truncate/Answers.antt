@@ -1,5 +1,5 @@
 use Rattle.std.proofs.Common.{arith}
-use Rattle.arraydeque_ring.proofs.places.Opened.{run_filled}
+use Rattle.arraydeque_ring.proofs.Opened.{run_filled}
 use Rattle.arraydeque_ring.proofs.ring.Ring.truncate.Goals as goal
 
 pub drop_round-requires-clause-filled : goal.drop_round-requires-clause-filled

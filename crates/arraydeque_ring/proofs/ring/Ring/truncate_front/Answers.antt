@@ -1,5 +1,5 @@
 use Rattle.std.proofs.Common.{◌-◌, arith}
-use Rattle.arraydeque_ring.proofs.places.Opened.{run_filled, bounds, first_dropped}
+use Rattle.arraydeque_ring.proofs.Opened.{run_filled, bounds, first_dropped}
 use Rattle.arraydeque_ring.proofs.ring.Ring.truncate_front.Goals as goal
 
 pub drop_round-requires-clause-filled : goal.drop_round-requires-clause-filled

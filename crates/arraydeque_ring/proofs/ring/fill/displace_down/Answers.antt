@@ -1,5 +1,5 @@
 use Rattle.std.proofs.{Common.{◌-◌, ◌∙◌, arith}, lemmas.{Grind.common_steps, List.set-set}}
-use Rattle.arraydeque_ring.proofs.{fills.Filling.one_down, places.Held.filled_in_run}
+use Rattle.arraydeque_ring.proofs.{fills.Filling.one_down, places.Filled.filled_in_run}
 use Rattle.arraydeque_ring.proofs.ring.fill.displace_down.Goals as goal
 
 pub take-last-requires : goal.take-last-requires

@@ -1,5 +1,5 @@
 use Rattle.std.proofs.{Common.{◌-◌, refl, arith}, lemmas.Grind.common_steps}
-use Rattle.arraydeque_ring.proofs.{fills.Filling.one_down, places.Held.empty_in_run}
+use Rattle.arraydeque_ring.proofs.{fills.Filling.one_down, places.Filled.empty_in_run}
 use Rattle.arraydeque_ring.proofs.ring.fill.fill_down.Goals as goal
 
 pub put-requires : goal.put-requires

@@ -1,5 +1,5 @@
 use Rattle.std.proofs.{Common.{refl, arith}, lemmas.Grind.common_steps}
-use Rattle.arraydeque_ring.proofs.{fills.Filling.one_up, places.Held.empty_in_run}
+use Rattle.arraydeque_ring.proofs.{fills.Filling.one_up, places.Filled.empty_in_run}
 use Rattle.arraydeque_ring.proofs.ring.fill.fill_up.Goals as goal
 
 pub put-requires : goal.put-requires

@@ -1,5 +1,5 @@
 use Rattle.std.proofs.Common.{◌≡◌, ◌-◌}
-use Rattle.arraydeque_ring.specs.{Gaps.run_emptied, Steps.more_takes}
+use Rattle.arraydeque_ring.specs.{Runs.run_emptied, Steps.more_takes}
 use Rattle.arraydeque_ring.proofs.ring.retain.drop_run.Given as goal
 
 abbrev pub invariant-loop-place : goal.invariant-loop-place

@@ -9,11 +9,11 @@ use Rattle.arraydeque_ring.{
     Kit.{block_ptr, heard, says_two, calls_at_last, framed, triple_of, part_at, El, R, args, elτ, common_steps, Array},
     Kit.{pure_i, frame},
     Regions.{Sr, Seen, near, run_fits, slots_open, slots_close, scaled, item_size, array_out, array_in, room_out},
-    Regions.{room_in},
+    Regions.room_in,
     Methods.{walked, mutable, comes_back, back, word, words},
     Called.{after_block, first_fact, knows, returned},
   },
-  specs.Gaps.run_emptied,
+  specs.Runs.run_emptied,
 }
 use denote.Plain.{Nothing-Lawful}
 use Rattle.std.specs.contracts.ptr.copy_nonoverlapping as copy

@@ -1,4 +1,4 @@
-use Rattle.arraydeque_ring.proofs.places.Held.{exchanged}
+use Rattle.arraydeque_ring.proofs.places.Filled.{exchanged}
 use Rattle.arraydeque_ring.proofs.slots.Slots.exchange.Goals as goal
 
 pub returns-clause-places : goal.returns-clause-places

@@ -1,7 +1,7 @@
 use Rattle.std.proofs.Common.{sym, arith}
-use Rattle.arraydeque_ring.proofs.places.{
-  Reads.{runs_exchanged_none, runs_exchanged_more, next_first, next_second},
-  Held.filled_in_run,
+use Rattle.arraydeque_ring.proofs.{
+  moved.Reads.{runs_exchanged_none, runs_exchanged_more, next_first, next_second},
+  places.Filled.filled_in_run,
 }
 use Rattle.arraydeque_ring.proofs.slots.Slots.exchange_runs.Goals as goal
 

@@ -1,5 +1,5 @@
 use Rattle.std.proofs.Common.{◌≡◌}
-use Rattle.arraydeque_ring.specs.{Exchanged.runs_exchanged, Steps.more_exchanges}
+use Rattle.arraydeque_ring.specs.{Runs.runs_exchanged, Steps.more_exchanges}
 use Rattle.arraydeque_ring.proofs.slots.Slots.exchange_runs.Given as goal
 
 abbrev pub invariant-loop-k : goal.invariant-loop-k

@@ -1,4 +1,4 @@
-use Rattle.arraydeque_ring.proofs.places.Held.{is_filled_run}
+use Rattle.arraydeque_ring.proofs.places.Filled.{is_filled_run}
 use Rattle.arraydeque_ring.proofs.slots.Slots.get.Goals as goal
 
 pub slice-requires : goal.slice-requires

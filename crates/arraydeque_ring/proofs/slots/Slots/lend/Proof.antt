@@ -10,7 +10,7 @@ use Rattle.arraydeque_ring.proofs.{
     Called.{after_block, first_fact},
     Methods.{method, spent},
   },
-  places.Held.filled_within,
+  places.Filled.filled_within,
 }
 use Rattle.arraydeque_ring.specs.contracts.slots.Slots.lend as f
 use Rattle.arraydeque_ring.proofs.slots.Slots.lend.Statement as stated

@@ -16,9 +16,9 @@ use Rattle.arraydeque_ring.{
       Placed.{placed, run, as_run, length-as_many, length-with_run},
       Runs.{Values, as_values, as_places},
     },
-    places.Held.length_filled,
+    places.Filled.length_filled,
   },
-  specs.Loans.{as_many, with_run},
+  specs.Runs.{as_many, with_run},
 }
 use Rattle.arraydeque_ring.specs.contracts.slots.Slots.lend_run as f
 use Rattle.arraydeque_ring.proofs.slots.Slots.lend_run.Statement as stated

@@ -17,9 +17,9 @@ use Rattle.arraydeque_ring.{
       Placed.{apart_cases, length-as_many},
       Runs.{Values, values_out},
     },
-    places.Held.length_filled,
+    places.Filled.length_filled,
   },
-  specs.{Lends.{two_lists, two_written}, Loans.{LoanState}},
+  specs.{Loans.LoanState, SlotsLends.{two_lists, two_written}},
 }
 use Rattle.arraydeque_ring.specs.contracts.slots.loan.Loan as loan
 use Rattle.arraydeque_ring.specs.contracts.slots.Slots.lend_two as f

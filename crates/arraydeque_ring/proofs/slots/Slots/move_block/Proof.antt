@@ -13,7 +13,7 @@ use Rattle.arraydeque_ring.{
     },
     moved.Flat.{length-moved, moved_parts},
   },
-  specs.{Gaps.run_emptied, Moved.run_moved},
+  specs.{Moved.run_moved, Runs.run_emptied},
 }
 use Rattle.std.proofs.Math.Nat.{add-mul}
 use types.Run.{well_typed}

@@ -1,5 +1,5 @@
 use Rattle.std.proofs.Common.{◌≡◌}
-use Rattle.arraydeque_ring.specs.{Exchanged.runs_exchanged, Steps.more_moves}
+use Rattle.arraydeque_ring.specs.{Runs.runs_exchanged, Steps.more_moves}
 use Rattle.arraydeque_ring.proofs.slots.Slots.move_down.Given as goal
 
 abbrev pub invariant-loop-k : goal.invariant-loop-k

@@ -1,5 +1,8 @@
 use Rattle.std.proofs.{Common.{◌+◌, ◌-◌, ◌∙◌, arith}, Math.Nat.add_assoc}
-use Rattle.arraydeque_ring.proofs.moved.{Flat.{all_moved, length-moved}, Steps.{can_copy, first_block_goes, round_run}}
+use Rattle.arraydeque_ring.proofs.moved.{
+  Flat.{all_moved, length-moved},
+  TwoMoves.{can_copy, first_block_goes, round_run},
+}
 use Rattle.arraydeque_ring.proofs.slots.Slots.move_first.Goals as goal
 
 pub move_block-requires-clause-filled : goal.move_block-requires-clause-filled

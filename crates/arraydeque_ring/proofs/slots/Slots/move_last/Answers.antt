@@ -1,6 +1,6 @@
 use Rattle.std.proofs.Common.{◌+◌, ◌-◌, ◌∙◌, arith}
 use Rattle.arraydeque_ring.proofs.{
-  moved.{Flat.{all_moved, length-moved}, Steps.{can_copy, last_block_goes, round_run}},
+  moved.{Flat.{all_moved, length-moved}, TwoMoves.{can_copy, last_block_goes, round_run}},
   slots.Slots.move_last.Goals.{then-this-eq1+else-loop-moved-test, else-this-eq1+else-size_of_item},
 }
 use Rattle.arraydeque_ring.proofs.slots.Slots.move_last.Goals as goal

@@ -2,7 +2,7 @@ use Rattle.std.proofs.{
   Common.{length, take, arith},
   lemmas.{Grind.{common_steps, take_at_read}, List.length-take-le},
 }
-use Rattle.arraydeque_ring.proofs.{fills.Filling.with_run-behind, places.Held.empty_in_run}
+use Rattle.arraydeque_ring.proofs.{fills.Filling.with_run-behind, places.Filled.empty_in_run}
 use Rattle.arraydeque_ring.proofs.slots.Slots.put_copies.Goals as goal
 
 pub put-requires : goal.put-requires

@@ -1,5 +1,5 @@
 use Rattle.std.proofs.Common.{◌≡◌, take}
-use Rattle.arraydeque_ring.specs.{Loans.with_run, Steps.more_puts}
+use Rattle.arraydeque_ring.specs.{Runs.with_run, Steps.more_puts}
 use Rattle.arraydeque_ring.proofs.slots.Slots.put_copies.Given as goal
 
 abbrev pub invariant-loop-k : goal.invariant-loop-k

@@ -9,7 +9,7 @@ use Rattle.arraydeque_ring.proofs.{
     Called.{after_block, first_fact},
     Methods.{method, comes_back},
   },
-  places.Held.filled_within,
+  places.Filled.filled_within,
 }
 use types.Run.{well_typed}
 use Rattle.arraydeque_ring.specs.contracts.slots.Slots.read as f

@@ -11,7 +11,7 @@ use Rattle.arraydeque_ring.proofs.{
     Methods.{walked, seen, words},
     Regions.{Sr, scaled, item_size, run_seen},
   },
-  places.Held.length_filled,
+  places.Filled.length_filled,
 }
 use denote.{Opens.hide, Struct.Laws.RawPtr-copy}
 use Rattle.arraydeque_ring.specs.contracts.slots.Slots.slice as f

@@ -2,7 +2,7 @@ use Rattle.std.proofs.Common.{◌+◌, ◌-◌, ◌%◌, ◌<◌, length, ap, su
 use Rattle.arraydeque_ring.{
   specs.{Places.IsFilled, Ring.place_of, Moved.run_moved},
   proofs.{
-    moved.{Flat.{distance_is, same_move}, Steps.{StartsAt, Three, three}},
+    moved.{Flat.{distance_is, same_move}, TwoMoves.{StartsAt, Three, three}},
     places.Rotated.{place_of_cases, place_of-sum},
     slots.Slots.slide_down.{Given.Over, Goals.{After-capacity-last, then-len-upper, else-len-upper}},
   },

@@ -5,14 +5,14 @@ use Rattle.arraydeque_ring.{
       Kit.{fact, sep, by, refl, [], ◌∷◌, id⊢, tables, ◌$◌, !, move, join, frame, suffices, addr, stop, no_more},
       Kit.{and_then, returns, alloc_all, pass_all, free_all, look_at, get, through, sets, lands_as, mem, nothing},
       Kit.{heard, El, R, Array, both_by},
-      Regions.{Sr},
+      Regions.Sr,
       Methods.{passing_on, spent, machine_values},
       Called.{calls_met, first_fact, knows},
     },
     loans.{Made.loan_lawful, Names.followed_both, Slices.in_slices},
     slots.{Slots.lend_two.Met.met, loan.Loan.into_slices.Met.met as into_met},
   },
-  specs.{Lends.{two_lists}},
+  specs.SlotsLends.two_lists,
 }
 use base.Logic.{mono_l}
 use Rattle.arraydeque_ring.specs.contracts.slots.Slots.lend_two as g

@@ -1,4 +1,4 @@
-use Rattle.arraydeque_ring.proofs.Ends.{YieldsLast-pop}
+use Rattle.arraydeque_ring.proofs.LastPopped.{YieldsLast-pop}
 use Rattle.arraydeque_ring.proofs.ring.into_iter.IntoIterDoubleEndedIterator.next_back.Goals as goal
 
 pub returns-clause-steps : goal.returns-clause-steps

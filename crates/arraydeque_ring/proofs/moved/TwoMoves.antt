@@ -5,10 +5,15 @@ use Rattle.std.proofs.{
   lemmas.Bool.Decides.nat_tests,
 }
 use Rattle.arraydeque_ring.{
-  specs.{Places.{held_at, IsFilled, IsFilledRun}, Ring.place_of, Moved.{distance, IsFilledRound, CanCopy, run_moved}},
+  specs.{
+    Places.{held_at, IsFilled},
+    Ring.place_of,
+    Moved.{distance, IsFilledRound, CanCopy, run_moved},
+    Runs.IsFilledRun,
+  },
   proofs.{
-    moved.Flat.{distance_is, length-moved, moved_at, same_places},
-    places.{Held.filled_run_of, Rotated.{MayStartAt, place_of_cases, place_of-lt}},
+    moved.Flat.{distance_is, length-moved, moved_at},
+    places.{Filled.filled_run_of, Items.same_places, Rotated.{MayStartAt, place_of_cases, place_of-lt}},
   },
 }
 

@@ -8,8 +8,8 @@ use Rattle.std.{
   specs.Prelude.swap,
 }
 use Rattle.arraydeque_ring.{
-  specs.{Places.{held_at, IsFilled, IsEmpty}, Gaps.run_rotated, Exchanged.runs_exchanged},
-  proofs.moved.Flat.same_places,
+  proofs.places.Items.same_places,
+  specs.{Places.{held_at, IsFilled, IsEmpty}, Runs.{run_rotated, runs_exchanged}},
 }
 
 -- the place whose value the place x has, once m values from `at` on and the k behind them have changed places

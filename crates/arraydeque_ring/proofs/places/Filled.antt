@@ -9,8 +9,8 @@ use Rattle.std.proofs.{
   },
 }
 use Rattle.arraydeque_ring.{
-  specs.{Places.{held_at, IsFilled, HoldsRun, IsFilledRun}, Gaps.IsEmptyRun},
-  proofs.{moved.Flat.same_places, places.Items.{items, get_or-map_Some, slice_get_some}},
+  specs.{Places.{held_at, IsFilled}, Runs.{HoldsRun, IsFilledRun, IsEmptyRun}},
+  proofs.places.Items.{items, get_or-map_Some, slice_get_some, same_places},
 }
 
 module _ {X : Type 0} where

@@ -4,8 +4,9 @@ use Rattle.std.specs.{
   Borrow.{Fml, RattleType, MutBor, Array, Lends, LendsBoth, fsep, follows, follows_both},
 }
 use Rattle.arraydeque_ring.specs.{
-  Loans.{LoanState, as_many, with_run},
+  Loans.LoanState,
   Places.Region,
+  Runs.{as_many, with_run},
   Steps.more_lends,
   contracts.slots.Slots.the_row,
 }

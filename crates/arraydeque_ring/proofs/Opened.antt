@@ -14,10 +14,10 @@ use Rattle.std.specs.List.{splice}
 use Rattle.arraydeque_ring.{
   specs.{
     declared.ring.Ring.TheInside.Inside,
-    Places.{held_at, HoldsRun, IsFilled, IsFilledRun, AreAllEmpty},
-    Gaps.{IsEmptyRun, run_emptied, gap_moved},
-    Loans.with_run,
+    Places.{held_at, IsFilled, AreAllEmpty},
+    Gaps.gap_moved,
     Ring.{RingState, place_of, rotated, values, filled, FilledFrom},
+    Runs.{HoldsRun, IsFilledRun, IsEmptyRun, run_emptied, with_run},
     Sides.start_closed,
   },
   proofs.{
@@ -29,9 +29,8 @@ use Rattle.arraydeque_ring.{
     places.{
       Appended.{LaidOut-appended, LaidOut-written, LaidOut-new, IsEmptyRun-behind},
       Handed.handed,
-      LaidOut.{LaidOut, LaidOut-values, values-LaidOut, FilledFrom-LaidOut, LaidOut-nothing},
-      LaidOut.{LaidOut-take_front, held_at-start},
-      LaidOut.{IsFilled-start, AreAllEmpty-LaidOut, IsFilled-place_of, HoldsRun-rotated},
+      LaidOut.{LaidOut, LaidOut-values, values-LaidOut, FilledFrom-LaidOut, LaidOut-nothing, LaidOut-take_front},
+      LaidOut.{held_at-start, IsFilled-start, AreAllEmpty-LaidOut, IsFilled-place_of, HoldsRun-rotated},
       LaidOut.{IsFilledRun-LaidOut, HoldsRun-LaidOut, same_run, LaidOut-set, LaidOut-swap},
       Rotated.{MayStartAt, MayStartAt-place_of, place_of-first, place_of-zero, place_of-lt, one_place, length-rotated},
     },
