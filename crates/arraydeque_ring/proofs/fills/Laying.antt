@@ -92,18 +92,18 @@ module _ {S X : Type 0} {it : Ghosts S X} {word : List X → RingState X → Rin
 -- in an open ring, whose region has n places; the region is taken out, written, and put back
 module _ {X : Type 0} {r : Inside X} {v : RingState X} (o : Opened r v) {n : ℕ} (all : n ≡ v.capacity) where
   -- behind the last item
-  module _ (run : ℕ) {place : ℕ} (at : MayStartAt r.start r.len n place) (fits : place + run ≤ n)
-      (room : r.len + run ≤ n) where
+  module _ (count : ℕ) {place : ℕ} (at : MayStartAt r.start r.len n place) (fits : place + count ≤ n)
+      (room : r.len + count ≤ n) where
     lies : MayStartAt r.start (length v.items) v.capacity place
     lies = rw (all, ← o.len) at at
 
-    pub empty_behind : IsEmptyRun r.slots.places place run
+    pub empty_behind : IsEmptyRun r.slots.places place count
     empty_behind = IsEmptyRun-behind o.laid _ _ lies (omega arith) (omega arith)
 
     pub laid_back : (xs : List X) {new : Region X}
-        → (length xs ≡ run) × (new.places ≡ with_run place xs r.slots.places)
-        → new.steps ≡ more_puts run r.slots.steps
-        → Opened record r { slots = new; len = r.len + run } (filled_back xs v)
+        → (length xs ≡ count) × (new.places ≡ with_run place xs r.slots.places)
+        → new.steps ≡ more_puts count r.slots.steps
+        → Opened record r { slots = new; len = r.len + count } (filled_back xs v)
     laid_back xs came steps = record {
       laid = rw came.1 (LaidOut-appended o.laid xs place lies (omega arith) (omega arith));
       len = omega (arith, length-append v.items xs);
@@ -118,11 +118,11 @@ module _ {X : Type 0} {r : Inside X} {v : RingState X} (o : Opened r v) {n : ℕ
   pub filled_first : r.len ≡ n → IsFilledRun r.slots.places r.start (n - r.start)
   filled_first full = IsFilledRun-LaidOut o.laid 0 _ _ (inl (omega arith)) (omega arith) (omega arith)
 
-  pub laid_first : {run : ℕ} → r.len ≡ n → run ≤ n - r.start → {start : ℕ} → start ≡ (r.start + run) % n
-      → (xs : List X) {new : Region X} → (length xs ≡ run) × (new.places ≡ with_run r.start xs r.slots.places)
-      → new.steps ≡ more_puts run (more_takes run r.slots.steps)
+  pub laid_first : {count : ℕ} → r.len ≡ n → count ≤ n - r.start → {start : ℕ} → start ≡ (r.start + count) % n
+      → (xs : List X) {new : Region X} → (length xs ≡ count) × (new.places ≡ with_run r.start xs r.slots.places)
+      → new.steps ≡ more_puts count (more_takes count r.slots.steps)
       → Opened record r { slots = new; start = start } (displaced_first xs v)
-  laid_first {run} full fits is xs came steps =
+  laid_first {count} full fits is xs came steps =
       let m = length xs in
       let long : length (drop m (v.items ++ xs)) ≡ r.len =
       omega (arith, length-drop m (v.items ++ xs), length-append v.items xs) in record {
@@ -130,41 +130,41 @@ module _ {X : Type 0} {r : Inside X} {v : RingState X} (o : Opened r v) {n : ℕ
             (Holds-from (Holds-run (holds o.laid) 0 _ xs (inl (omega arith)) (omega arith) (omega arith)) m
             (omega arith) (omega arith) (λ k lt. grind (arith, items, place_of_cases m k v.capacity (omega arith)))));
         len = long;
-        start = grind (arith, up_by-is run r.start n);
+        start = grind (arith, up_by-is count r.start n);
         steps = grind arith;
       }
 
   -- in the places below `from`: before the first item, or in the places of the last ones
-  module _ {run from : ℕ} (at : MayStartAt r.start (n - run) n (from - run)) (fits : run ≤ from)
+  module _ {count from : ℕ} (at : MayStartAt r.start (n - count) n (from - count)) (fits : count ≤ from)
       (within : from ≤ n) where
-    last : MayStartAt r.start (v.capacity - run) v.capacity (from - run)
+    last : MayStartAt r.start (v.capacity - count) v.capacity (from - count)
     last = rw all at at
 
-    pub empty_before : run ≤ n - r.len → IsEmptyRun r.slots.places (from - run) run
-    empty_before room = IsEmptyRun-from o.laid (v.capacity - run) _ _ (omega arith) last (omega arith)
+    pub empty_before : count ≤ n - r.len → IsEmptyRun r.slots.places (from - count) count
+    empty_before room = IsEmptyRun-from o.laid (v.capacity - count) _ _ (omega arith) last (omega arith)
         (omega arith)
 
-    pub filled_last : r.len ≡ n → IsFilledRun r.slots.places (from - run) run
-    filled_last full = IsFilledRun-LaidOut o.laid (v.capacity - run) _ _ last (omega arith) (omega arith)
+    pub filled_last : r.len ≡ n → IsFilledRun r.slots.places (from - count) count
+    filled_last full = IsFilledRun-LaidOut o.laid (v.capacity - count) _ _ last (omega arith) (omega arith)
 
-    module _ {start : ℕ} (is : start ≡ (r.start + (n - run)) % n) (xs : List X) (new : Region X)
-        (came : (length xs ≡ run) × (new.places ≡ with_run (from - run) (reverse xs) r.slots.places)) where
+    module _ {start : ℕ} (is : start ≡ (r.start + (n - count)) % n) (xs : List X) (new : Region X)
+        (came : (length xs ≡ count) × (new.places ≡ with_run (from - count) (reverse xs) r.slots.places)) where
       down : start ≡ down_by (length xs) v.start v.capacity
-      down = grind (arith, down_by-is run r.start n)
+      down = grind (arith, down_by-is count r.start n)
 
       -- the items go into these, before the others, and of a full list the last ones go out
       laid : LaidOut v.capacity start (take v.capacity (reverse xs ++ v.items)) new.places
-      laid = let many = length-reverse xs ∙ came.0 in let j = v.capacity - run in rw (came.1, is, all)
+      laid = let many = length-reverse xs ∙ came.0 in let j = v.capacity - count in rw (came.1, is, all)
           (LaidOut-by (omega (arith, length-take v.capacity (reverse xs ++ v.items)))
           (Holds-from (Holds-run (holds o.laid) j _ (reverse xs) last (omega arith) (omega arith)) j
           (omega arith) (omega arith)
           (λ k lt. grind (arith, nat_tests, items, place_of_cases j k v.capacity (omega arith)))))
 
-      long : length (reverse xs ++ v.items) ≡ r.len + run
+      long : length (reverse xs ++ v.items) ≡ r.len + count
       long = omega (arith, length-append (reverse xs) v.items, length-reverse xs)
 
-      pub laid_front : run ≤ n - r.len → new.steps ≡ more_puts run r.slots.steps
-          → Opened record r { slots = new; start = start; len = r.len + run } (filled_front xs v)
+      pub laid_front : count ≤ n - r.len → new.steps ≡ more_puts count r.slots.steps
+          → Opened record r { slots = new; start = start; len = r.len + count } (filled_front xs v)
       laid_front room steps = record {
         laid = rw (take_all v.capacity (reverse xs ++ v.items) (omega (arith, long))) at laid;
         len = long;
@@ -172,7 +172,7 @@ module _ {X : Type 0} {r : Inside X} {v : RingState X} (o : Opened r v) {n : ℕ
         steps = grind arith;
       }
 
-      pub laid_last : r.len ≡ n → new.steps ≡ more_puts run (more_takes run r.slots.steps)
+      pub laid_last : r.len ≡ n → new.steps ≡ more_puts count (more_takes count r.slots.steps)
           → Opened record r { slots = new; start = start } (displaced_last xs v)
       laid_last full steps =
           let same : length v.items ≡ v.capacity = omega arith in record {

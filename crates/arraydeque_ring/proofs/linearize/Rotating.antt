@@ -18,11 +18,11 @@ use Rattle.arraydeque_ring.{
 }
 
 -- a pass: of `run` values that come to their places, x do by an exchange, and the others move into empty places
-pub record Pass {X : Type 0} (dst next run x : ℕ) (ps : List (Option X)) : Type 0 where
+pub record Pass {X : Type 0} (dst next count x : ℕ) (ps : List (Option X)) : Type 0 where
   pub a_filled : IsFilledRun ps dst x
   pub b_filled : IsFilledRun ps next x
-  pub empty : IsEmptyRun (runs_exchanged dst next x ps) (dst + x) (run - x)
-  pub filled : IsFilledRun (runs_exchanged dst next x ps) (next + x) (run - x)
+  pub empty : IsEmptyRun (runs_exchanged dst next x ps) (dst + x) (count - x)
+  pub filled : IsFilledRun (runs_exchanged dst next x ps) (next + x) (count - x)
 
 -- the places are on their way from `old`, where len values begin at `start`, to `old` read from `start` on
 pub record Rotating {X : Type 0} (capacity start len dst next : ℕ) (old ps : List (Option X)) : Type 0 where
@@ -45,9 +45,9 @@ module _ {X : Type 0} {capacity start len dst next : ℕ} {old ps : List (Option
   pub Rotating-fits : len ≤ capacity
   Rotating-fits = omega (arith, len_within before)
 
-  module _ {run x : ℕ} (wraps : capacity - next < len - dst) (most : run ≡ min (capacity - next) (next - dst))
-      (both : x ≡ min (len - dst - (capacity - next)) run) where
-    pub Rotating-pass : Pass dst next run x ps
+  module _ {count x : ℕ} (wraps : capacity - next < len - dst) (most : count ≡ min (capacity - next) (next - dst))
+      (both : x ≡ min (len - dst - (capacity - next)) count) where
+    pub Rotating-pass : Pass dst next count x ps
     Rotating-pass =
         let rs = runs_exchanged dst next x ps in
         let long = length-runs_exchanged dst next x ps (omega arith) (omega arith) in
@@ -58,31 +58,31 @@ module _ {X : Type 0} {capacity start len dst next : ℕ} {old ps : List (Option
         record {
           a_filled = filled_run_of ps dst x (omega arith) (λ y a b. filled y (omega arith) (grind arith));
           b_filled = filled_run_of ps next x (omega arith) (λ y a b. filled y (omega arith) (grind (arith, nat_tests)));
-          empty = empty_run_of rs (dst + x) (run - x) (omega arith)
+          empty = empty_run_of rs (dst + x) (count - x) (omega arith)
               (λ y a b. stays y (grind arith) ∙ none y (omega arith) (grind arith));
-          filled = filled_run_of rs (next + x) (run - x) (omega arith) (λ y a b.
+          filled = filled_run_of rs (next + x) (count - x) (omega arith) (λ y a b.
               let is = filled y (omega arith) (grind (arith, nat_tests)) in
               (is.0, stays y (grind (arith, nat_tests)) ∙ is.1));
         }
 
     -- after it the others stand where they did, or one run further on
     pub Rotating-passed : {next_then : ℕ}
-        → ((capacity - next ≤ run) × (next_then ≡ next)) ⊎ ((run < capacity - next) × (next_then ≡ next + run))
-        → Rotating capacity start len (dst + run) next_then old
-        (runs_exchanged (dst + x) (next + x) (run - x) (runs_exchanged dst next x ps))
+        → ((capacity - next ≤ count) × (next_then ≡ next)) ⊎ ((count < capacity - next) × (next_then ≡ next + count))
+        → Rotating capacity start len (dst + count) next_then old
+        (runs_exchanged (dst + x) (next + x) (count - x) (runs_exchanged dst next x ps))
     Rotating-passed {next_then} ways =
-        let all : x + (run - x) ≡ run = omega arith in
-        let long = length-runs_exchanged dst next run ps (omega arith) (omega arith) in
-        let gap = next_then - (dst + run) in
-        rw (runs_exchanged_both dst next ps x (run - x) (omega arith) (omega arith), all) (record {
+        let all : x + (count - x) ≡ count = omega arith in
+        let long = length-runs_exchanged dst next count ps (omega arith) (omega arith) in
+        let gap = next_then - (dst + count) in
+        rw (runs_exchanged_both dst next ps x (count - x) (omega arith) (omega arith), all) (record {
           fills = t.fills;
           length_is = long ∙ t.length_is;
           in_order = omega arith;
           in_region = omega arith;
           placed = omega arith;
           left = t.left ∙ sym (are_rotated dst (next - dst) (capacity - next) ps _ (omega arith)
-              (length-run_rotated (dst + run) gap (capacity - next_then) _ (omega arith) ∙ long) (λ y lt.
-              get_or-run_rotated (dst + run) gap (capacity - next_then) _ (omega arith) y
-              ∙ get_or-runs_exchanged dst next run ps (omega arith) (omega arith) _
+              (length-run_rotated (dst + count) gap (capacity - next_then) _ (omega arith) ∙ long) (λ y lt.
+              get_or-run_rotated (dst + count) gap (capacity - next_then) _ (omega arith) y
+              ∙ get_or-runs_exchanged dst next count ps (omega arith) (omega arith) _
               ∙ ap (held_at ps) (grind (arith, nat_tests))));
         })

@@ -1,4 +1,4 @@
--- A run of values that moves in steps, round the end: what the first step leaves the next ones move.
+-- A run of values that moves in two moves or three, round the end: what the first leaves the next ones move.
 use Rattle.std.proofs.{
   Common.{◌≡◌, ℕ, ◌+◌, ◌-◌, ◌<◌, ◌≤◌, ◌⊎◌, inl, inr, List, length, Option, refl, sym, ap, subst, ◌∙◌, arith},
   Math.Nat.mod-eq_of_lt,
@@ -52,7 +52,7 @@ abbrev IsPart : ℕ → ℕ → ℕ → ℕ → ℕ → ℕ → ℕ → Type 0
 IsPart d s n i l e t = StartsAt d n i l e × StartsAt s n i l t
 
 -- k values can move from t to e, and then m from u to f, which gives the places `whole`
-pub record Steps {X : Type 0} (e t k f u m : ℕ) (ps whole : List (Option X)) : Type 0 where
+pub record TwoMoves {X : Type 0} (e t k f u m : ℕ) (ps whole : List (Option X)) : Type 0 where
   pub first : IsFilledRound t k ps
   pub second : IsFilledRound u m (run_moved e t k ps)
   pub is : run_moved f u m (run_moved e t k ps) ≡ whole
@@ -61,7 +61,7 @@ module _ {X : Type 0} (d s l i j k m n : ℕ) (ps : List (Option X)) (long : len
     (fits : (d < n) × (s < n) × (l ≤ n) × (k + m ≡ l) × (i + k ≤ l) × (j + m ≤ l))
     (order : InOrder d s l n i j k m) (e t f u : ℕ) (one : IsPart d s n i k e t) (two : IsPart d s n j m f u)
   where
-    -- a place is among those of the run where it is among those of either step, and at the same distance
+    -- a place is among those of the run where it is among those of either move, and at the same distance
     either : (a p q x : ℕ) → a < n → x < n → StartsAt a n i k p → StartsAt a n j m q → let first = distance p x n in
         let second = distance q x n in
         ((distance a x n ≡ i + first) × (first < k) × (m ≤ second))
@@ -77,7 +77,7 @@ module _ {X : Type 0} (d s l i j k m n : ℕ) (ps : List (Option X)) (long : len
     abbrev after_first : List (Option X)
     after_first = run_moved e t k ps
 
-    -- a source of the second step is no target of the first, and holds what it held
+    -- a source of the second move is no target of the first, and holds what it held
     apart : (x : ℕ) → x < n → distance u x n < m → k ≤ distance e x n
     unfolding InOrder
     apart x lt a = omega (
@@ -110,8 +110,8 @@ module _ {X : Type 0} (d s l i j k m n : ℕ) (ps : List (Option X)) (long : len
           still_there (place_of u far n),
         ) ∙ sym (moved_at d s l ps x long lt)
 
-    pub steps : IsFilledRound s l ps → Steps e t k f u m ps (run_moved d s l ps)
-    steps filled =
+    pub two_moves : IsFilledRound s l ps → TwoMoves e t k f u m ps (run_moved d s l ps)
+    two_moves filled =
         let at : (x : ℕ) → x < l → IsFilled ps (place_of s x n) = λ x lt. rw (← long) (filled x lt) in
         record {
           first = λ x lt. rw (long, (on s n i k t x one.1 (omega arith) (omega arith) lt).1) (at (i + x) (omega arith));
@@ -134,19 +134,19 @@ pub round_run : {X : Type 0} (ps : List (Option X)) (from len : ℕ) → from + 
 round_run ps from len le filled = filled_run_of ps from len le (λ x a b.
     subst (IsFilled ps) (mod-eq_of_lt {m = length ps} (omega arith) ∙ omega arith) (filled (x - from) (omega arith)))
 
--- a run of which neither source nor target passes the end, and which moves in two steps: the first k values first
+-- a run of which neither source nor target passes the end, and which moves in two moves: the first k values first
 -- where it moves down, else the last m
 module _ {X : Type 0} (i j k m l : ℕ) (ps : List (Option X)) (parts : (0 < l) × (k + m ≡ l)) (can : CanCopy i j l ps)
   where
-    pub first_block_goes : i ≤ j → Steps i j k (i + k) (j + k) m ps (run_moved i j l ps)
+    pub first_block_goes : i ≤ j → TwoMoves i j k (i + k) (j + k) m ps (run_moved i j l ps)
     unfolding StartsAt InOrder
-    first_block_goes down = steps i j l 0 k k m (length ps) ps refl (omega arith)
+    first_block_goes down = two_moves i j l 0 k k m (length ps) ps refl (omega arith)
         (inl (omega arith, omega arith, grind (arith, distance_is j i (length ps) (omega arith) (omega arith))))
         i j (i + k) (j + k) (grind arith) (grind arith) can.filled
 
-    pub last_block_goes : j ≤ i → Steps (i + k) (j + k) m i j k ps (run_moved i j l ps)
+    pub last_block_goes : j ≤ i → TwoMoves (i + k) (j + k) m i j k ps (run_moved i j l ps)
     unfolding StartsAt InOrder
-    last_block_goes up = steps i j l k 0 m k (length ps) ps refl (omega arith)
+    last_block_goes up = two_moves i j l k 0 m k (length ps) ps refl (omega arith)
         (inr (omega arith, omega arith, grind arith)) (i + k) (j + k) i j (grind arith) (grind arith) can.filled
 
 -- three copies can be made one after the other
@@ -167,9 +167,9 @@ module _ {X : Type 0} (d s l n a b : ℕ) {k m d₁ s₁ d₂ s₂ d₃ s₃ : �
   unfolding StartsAt InOrder
   three = let long = sym n_is in (
     λ far.
-        let firsts = steps d s b 0 a a k n ps long (omega arith) (inl (omega arith, omega arith, grind arith))
+        let firsts = two_moves d s b 0 a a k n ps long (omega arith) (inl (omega arith, omega arith, grind arith))
         d₁ s₁ d₂ s₂ before.0 between.0 (λ x lt. filled x (omega arith)) in
-        let last = steps d s l 0 b b m n ps long (omega arith) (inl (omega arith, omega arith, inr far))
+        let last = two_moves d s l 0 b b m n ps long (omega arith) (inl (omega arith, omega arith, inr far))
         d s d₃ s₃ (grind arith) behind.0 filled in
         let same = length-moved d₁ s₁ a ps ∙ long in
         record {
@@ -179,10 +179,10 @@ module _ {X : Type 0} (d s l n a b : ℕ) {k m d₁ s₁ d₂ s₂ d₃ s₃ : �
           is = ap (run_moved d₃ s₃ m) firsts.is ∙ last.is;
         },
     λ near.
-        let last = steps d s l b 0 m b n ps long (omega arith) (inr (omega arith, omega arith, near))
+        let last = two_moves d s l b 0 m b n ps long (omega arith) (inr (omega arith, omega arith, near))
         d₃ s₃ d s behind.0 (grind arith) filled in
         let same = length-moved d₃ s₃ m ps ∙ long in
-        let firsts = steps d s b a 0 k a n _ same (omega arith) (inr (omega arith, omega arith, omega arith))
+        let firsts = two_moves d s b a 0 k a n _ same (omega arith) (inr (omega arith, omega arith, omega arith))
         d₂ s₂ d₁ s₁ between.0 before.0 last.second in
         record {
           one = can_copy long behind.1 last.first;

@@ -25,7 +25,7 @@ impl<T> Ring<T> {
     #[inline(always)]
     pub fn fill_back<I: Iterator<Item = T>>(&mut self, elements: &mut I) -> bool
         requires { I.can_next elements.old }
-        ensures filled { Fills I.next_gives elements.old elements.new
+        ensures came { Fills I.next_gives elements.old elements.new
             (self.old.capacity - length self.old.items) result
             (λ xs. self.new ≡ record self.old {
               items = self.old.items ++ xs;
@@ -39,18 +39,18 @@ impl<T> Ring<T> {
         let mut slots = self.slots.moved_out();
         let mut ended = false;
         if self.len < to_end {
-            let run = to_end - self.len;
-            let (written, filled) = fill_up(slots, self.start + self.len, run, elements);
+            let len = to_end - self.len;
+            let (written, filled) = fill_up(slots, self.start + self.len, len, elements);
             slots = written;
             self.len += filled;
-            ended = filled < run;
+            ended = filled < len;
         }
         if !ended && self.len < capacity {
-            let run = capacity - self.len;
-            let (written, filled) = fill_up(slots, self.len - to_end, run, elements);
+            let len = capacity - self.len;
+            let (written, filled) = fill_up(slots, self.len - to_end, len, elements);
             slots = written;
             self.len += filled;
-            ended = filled < run;
+            ended = filled < len;
         }
         self.slots = slots;
         ended
@@ -68,7 +68,7 @@ impl<T> Ring<T> {
     #[inline(always)]
     pub fn fill_front<I: Iterator<Item = T>>(&mut self, elements: &mut I) -> bool
         requires { I.can_next elements.old }
-        ensures filled { Fills I.next_gives elements.old elements.new
+        ensures came { Fills I.next_gives elements.old elements.new
             (self.old.capacity - length self.old.items) result
             (λ xs. self.new ≡ record self.old {
               items = reverse xs ++ self.old.items;
@@ -82,20 +82,20 @@ impl<T> Ring<T> {
         let mut slots = self.slots.moved_out();
         let mut ended = false;
         if self.start > 0 {
-            let run = (capacity - self.len).min(self.start);
-            let (written, filled) = fill_down(slots, self.start, run, elements);
+            let len = (capacity - self.len).min(self.start);
+            let (written, filled) = fill_down(slots, self.start, len, elements);
             slots = written;
             self.start -= filled;
             self.len += filled;
-            ended = filled < run;
+            ended = filled < len;
         }
         if !ended && self.len < capacity {
-            let run = capacity - self.len;
-            let (written, filled) = fill_down(slots, capacity, run, elements);
+            let len = capacity - self.len;
+            let (written, filled) = fill_down(slots, capacity, len, elements);
             slots = written;
             self.start = wrap_add(self.start, capacity - filled, capacity);
             self.len += filled;
-            ended = filled < run;
+            ended = filled < len;
         }
         self.slots = slots;
         ended
@@ -127,10 +127,10 @@ impl<T> Ring<T> {
         let mut slots = self.slots.moved_out();
         let mut ended = false;
         while !ended {
-            let run = capacity - self.start;
-            let (written, displaced) = displace_up(slots, self.start, run, &mut elements);
+            let len = capacity - self.start;
+            let (written, displaced) = displace_up(slots, self.start, len, &mut elements);
             slots = written;
-            ended = displaced < run;
+            ended = displaced < len;
             self.start = if ended { self.start + displaced } else { 0 };
         }
         self.slots = slots;
@@ -176,82 +176,82 @@ impl<T> Ring<T> {
     }
 }
 
-/// Puts what the iterator gives into the `run` empty places from `from` on, upwards. Returns how
-/// many came: fewer than `run` only where the iterator ended.
+/// Puts what the iterator gives into the `len` empty places from `from` on, upwards. Returns how
+/// many came: fewer than `len` only where the iterator ended.
 #[inline]
 fn fill_up<T, I: Iterator<Item = T>>(
     mut slots: Slots<T>,
     from: usize,
-    run: usize,
+    len: usize,
     elements: &mut I,
 ) -> (Slots<T>, usize)
-    requires empty { IsEmptyRun slots.places from run }
+    requires empty { IsEmptyRun slots.places from len }
     requires may { I.can_next elements.old }
-    ensures filled { Fills I.next_gives elements.old elements.new run (nat_lt result.1 run)
+    ensures came { Fills I.next_gives elements.old elements.new len (nat_lt result.1 len)
         (λ xs. (length xs ≡ result.1) × (result.0.places ≡ with_run from xs slots.places)) }
     ensures steps { result.0.steps ≡ more_puts result.1 slots.steps }
-    ensures goes { GoesOn I.can_next I.remaining elements.old elements.new (nat_lt result.1 run) }
+    ensures goes { GoesOn I.can_next I.remaining elements.old elements.new (nat_lt result.1 len) }
 {
     // Reading the capacity tells the prover that no sum passes `usize::MAX`.
     let _capacity = slots.capacity();
-    for filled in 0..run {
+    for filled in 0..len {
         let Some(element) = ask(elements) else {
             return (slots, filled);
         };
         slots.put(from + filled, element);
     }
-    (slots, run)
+    (slots, len)
 }
 
-/// Puts what the iterator gives into the `run` empty places below `from`, downwards. Returns how
-/// many came: fewer than `run` only where the iterator ended.
+/// Puts what the iterator gives into the `len` empty places below `from`, downwards. Returns how
+/// many came: fewer than `len` only where the iterator ended.
 #[inline]
 fn fill_down<T, I: Iterator<Item = T>>(
     mut slots: Slots<T>,
     from: usize,
-    run: usize,
+    len: usize,
     elements: &mut I,
 ) -> (Slots<T>, usize)
-    requires in_region { run ≤ from }
-    requires empty { IsEmptyRun slots.places (from - run) run }
+    requires in_region { len ≤ from }
+    requires empty { IsEmptyRun slots.places (from - len) len }
     requires may { I.can_next elements.old }
-    ensures filled { Fills I.next_gives elements.old elements.new run (nat_lt result.1 run)
+    ensures came { Fills I.next_gives elements.old elements.new len (nat_lt result.1 len)
         (λ xs. (length xs ≡ result.1)
         × (result.0.places ≡ with_run (from - result.1) (reverse xs) slots.places)) }
     ensures steps { result.0.steps ≡ more_puts result.1 slots.steps }
-    ensures goes { GoesOn I.can_next I.remaining elements.old elements.new (nat_lt result.1 run) }
+    ensures goes { GoesOn I.can_next I.remaining elements.old elements.new (nat_lt result.1 len) }
 {
-    for filled in 0..run {
+    for filled in 0..len {
         let Some(element) = ask(elements) else {
             return (slots, filled);
         };
         slots.put(from - 1 - filled, element);
     }
-    (slots, run)
+    (slots, len)
 }
 
-/// Puts what the iterator gives into the `run` filled places from `from` on, upwards, and drops
-/// what was there. Returns how many came: fewer than `run` only where the iterator ended.
+/// Puts what the iterator gives into the `len` filled places from `from` on, upwards, and drops
+/// what was there. Returns how many came: fewer than `len` only where the iterator ended.
 #[inline]
 fn displace_up<T: Drop, I: Iterator<Item = T>>(
     mut slots: Slots<T>,
     from: usize,
-    run: usize,
+    len: usize,
     elements: &mut I,
 ) -> (Slots<T>, usize)
-    requires some { 0 < run }
-    requires filled { IsFilledRun slots.places from run }
+    requires some { 0 < len }
+    requires filled { IsFilledRun slots.places from len }
     requires may { I.can_next elements.old }
     requires ends { IsFinite (I.remaining elements.old) }
-    ensures filled { Fills I.next_gives elements.old elements.new run (nat_lt result.1 run)
+    ensures came { Fills I.next_gives elements.old elements.new len (nat_lt result.1 len)
         (λ xs. (length xs ≡ result.1) × (result.0.places ≡ with_run from xs slots.places)) }
     ensures steps { result.0.steps ≡ more_puts result.1 (more_takes result.1 slots.steps) }
-    ensures goes { nat_lt result.1 run ≡ false →
+    ensures goes { nat_lt result.1 len ≡ false →
         IsNearerEnd I.can_next I.remaining elements.old elements.new }
 {
     // Reading the capacity tells the prover that no sum passes `usize::MAX`.
     let _capacity = slots.capacity();
-    for displaced in 0..run {
+    for displaced in 0..len {
         let Some(element) = ask(elements) else {
             return (slots, displaced);
         };
@@ -260,31 +260,31 @@ fn displace_up<T: Drop, I: Iterator<Item = T>>(
         slots.put(place, element);
         drop(first);
     }
-    (slots, run)
+    (slots, len)
 }
 
-/// Puts what the iterator gives into the `run` filled places below `from`, downwards, and drops
-/// what was there. Returns how many came: fewer than `run` only where the iterator ended.
+/// Puts what the iterator gives into the `len` filled places below `from`, downwards, and drops
+/// what was there. Returns how many came: fewer than `len` only where the iterator ended.
 #[inline]
 fn displace_down<T: Drop, I: Iterator<Item = T>>(
     mut slots: Slots<T>,
     from: usize,
-    run: usize,
+    len: usize,
     elements: &mut I,
 ) -> (Slots<T>, usize)
-    requires some { 0 < run }
-    requires in_region { run ≤ from }
-    requires filled { IsFilledRun slots.places (from - run) run }
+    requires some { 0 < len }
+    requires in_region { len ≤ from }
+    requires filled { IsFilledRun slots.places (from - len) len }
     requires may { I.can_next elements.old }
     requires ends { IsFinite (I.remaining elements.old) }
-    ensures filled { Fills I.next_gives elements.old elements.new run (nat_lt result.1 run)
+    ensures came { Fills I.next_gives elements.old elements.new len (nat_lt result.1 len)
         (λ xs. (length xs ≡ result.1)
         × (result.0.places ≡ with_run (from - result.1) (reverse xs) slots.places)) }
     ensures steps { result.0.steps ≡ more_puts result.1 (more_takes result.1 slots.steps) }
-    ensures goes { nat_lt result.1 run ≡ false →
+    ensures goes { nat_lt result.1 len ≡ false →
         IsNearerEnd I.can_next I.remaining elements.old elements.new }
 {
-    for displaced in 0..run {
+    for displaced in 0..len {
         let Some(element) = ask(elements) else {
             return (slots, displaced);
         };
@@ -293,7 +293,7 @@ fn displace_down<T: Drop, I: Iterator<Item = T>>(
         slots.put(place, element);
         drop(last);
     }
-    (slots, run)
+    (slots, len)
 }
 
 /// Asks an iterator once. A loop that called `next` itself would have to know that the iterator
@@ -301,7 +301,7 @@ fn displace_down<T: Drop, I: Iterator<Item = T>>(
 #[inline]
 fn ask<T, I: Iterator<Item = T>>(elements: &mut I) -> Option<T>
     requires { I.can_next elements.old }
-    ensures steps { I.next_gives elements.old result elements.new }
+    ensures gives { I.next_gives elements.old result elements.new }
     ensures goes { MakesProgress I.can_next I.remaining elements.old result elements.new }
 {
     elements.next()

@@ -14,7 +14,7 @@ use std::marker::Model;
 pub struct IntoIter<T> {
     ring: Ring<T>,
     /// An upper bound on the items that [`Ring::take_before_end`] can't take.
-    from_last_place: usize,
+    most_from_last_place: usize,
 }
 
 impl<T> Model for IntoIter<T> {
@@ -25,7 +25,7 @@ impl<T> Model for IntoIter<T> {
     ghost view = { λ it. it.ring.items };
 
     ghost invariant = { λ it.
-        length it.ring.items - (it.ring.capacity - 1 - it.ring.start) ≤ it.from_last_place };
+        length it.ring.items - (it.ring.capacity - 1 - it.ring.start) ≤ it.most_from_last_place };
 }
 
 impl<T> IntoIter<T> {
@@ -40,10 +40,10 @@ impl<T> IntoIter<T> {
     pub fn of(ring: Ring<T>) -> IntoIter<T>
         ensures { result ≡ ring.items }
     {
-        let from_last_place = ring.len_from_last_place();
+        let most_from_last_place = ring.len_from_last_place();
         IntoIter {
             ring,
-            from_last_place,
+            most_from_last_place,
         }
     }
 }
@@ -62,11 +62,11 @@ impl<T: Drop> Iterator for IntoIter<T> {
     /// ```
     #[inline]
     fn next(&mut self) -> Option<T> {
-        if self.ring.len() > self.from_last_place {
+        if self.ring.len() > self.most_from_last_place {
             return Some(self.ring.take_before_end());
         }
         let item = self.ring.pop_front();
-        self.from_last_place = self.ring.len_from_last_place();
+        self.most_from_last_place = self.ring.len_from_last_place();
         item
     }
 

@@ -55,22 +55,22 @@ fn rotate<T>(mut slots: Slots<T>, start: usize, len: usize) -> Slots<T>
     let mut next = start;
     while next < len && capacity - next < len - dst {
         let first = capacity - next;
-        let run = first.min(next - dst);
-        let past_end = (len - dst - first).min(run);
+        let count = first.min(next - dst);
+        let past_end = (len - dst - first).min(count);
         slots = slots.exchange_runs(dst, next, past_end);
-        slots = slots.move_down(dst + past_end, next + past_end, run - past_end);
-        dst += run;
-        if run < first {
-            next += run;
+        slots = slots.move_down(dst + past_end, next + past_end, count - past_end);
+        dst += count;
+        if count < first {
+            next += count;
         }
     }
-    place_last(slots, dst, next, len)
+    place_rest(slots, dst, next, len)
 }
 
 /// Moves the values that aren't in their places yet to these, without an exchange: they are in one
 /// piece from `next` on, or there is room before `next` for those that come after the end.
 #[inline(never)] // Inlined, it made a `linearize` with nothing to do longer (bench/README).
-fn place_last<T>(slots: Slots<T>, dst: usize, next: usize, len: usize) -> Slots<T>
+fn place_rest<T>(slots: Slots<T>, dst: usize, next: usize, len: usize) -> Slots<T>
     requires in_order { dst ≤ next }
     requires in_region { next < length slots.places }
     requires some_left { dst ≤ len }

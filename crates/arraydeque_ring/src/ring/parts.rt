@@ -63,7 +63,7 @@ impl<T> Ring<T> {
             return Ok(nothing);
         }
         let mut slots = Slots::new(self.slots.alloc(), count)?;
-        take_run(&mut self.slots, self.start, from, count, &mut slots);
+        take_round(&mut self.slots, self.start, from, count, &mut slots);
         self.len -= count;
         self.start = close_gap(&mut self.slots, self.start, from, count, self.len - from);
         Ok(Ring {
@@ -102,7 +102,7 @@ impl<T> Ring<T> {
     {
         let mut slots = Slots::new(self.slots.alloc(), self.slots.capacity())?;
         let len = self.len - at;
-        take_run(&mut self.slots, self.start, at, len, &mut slots);
+        take_round(&mut self.slots, self.start, at, len, &mut slots);
         self.len = at;
         Ok(Ring {
             slots,
@@ -163,19 +163,19 @@ impl<T> Ring<T> {
         let other_capacity = other.slots.capacity();
         let place = wrap_add(self.start, self.len, capacity);
         let from = other.start;
-        let run = len.min(capacity - place).min(other_capacity - from);
-        other.slots.hand_over(from, &mut self.slots, place, run);
-        self.len += run;
-        other.start = wrap_add(from, run, other_capacity);
-        other.len -= run;
-        run
+        let count = len.min(capacity - place).min(other_capacity - from);
+        other.slots.hand_over(from, &mut self.slots, place, count);
+        self.len += count;
+        other.start = wrap_add(from, count, other_capacity);
+        other.len -= count;
+        count
     }
 }
 
 /// Hands the `len` values from the index `at` on over to another region, into its first places.
 /// Indexes count from the place `start`, round the end. The values up to the region's end go in one
 /// run, and the others in a second.
-fn take_run<T>(slots: &mut Slots<T>, start: usize, at: usize, len: usize, taken: &mut Slots<T>)
+fn take_round<T>(slots: &mut Slots<T>, start: usize, at: usize, len: usize, taken: &mut Slots<T>)
     requires in_region { start ≤ length slots.old.places - 1 }
     requires filled { IsFilledRun (rotated start slots.old.places) at len }
     requires empty { IsEmptyRun taken.old.places 0 len }
@@ -194,7 +194,5 @@ fn take_run<T>(slots: &mut Slots<T>, start: usize, at: usize, len: usize, taken:
     let place = wrap_add(start, at, capacity);
     let first = len.min(capacity - place);
     slots.hand_over(place, taken, 0, first);
-    if first < len {
-        slots.hand_over(0, taken, first, len - first);
-    }
+    slots.hand_over(0, taken, first, len - first);
 }

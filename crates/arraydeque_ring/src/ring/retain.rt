@@ -105,7 +105,7 @@ impl<T> Ring<T> {
         ensures retains { Retains (CalledAt F.FnMut) f self.old self.new }
         ensures no_longer { length self.new.items ≤ length self.old.items }
     {
-        let mut kept = self.kept_first(&mut f);
+        let mut kept = self.kept_count(&mut f);
         let (start, len) = (self.start, self.len);
         if kept == len {
             return;
@@ -169,23 +169,23 @@ impl<T> Ring<T> {
     /// How many items stay before the first that goes, at which `f` is called last. None of them
     /// moves, so the loop has nothing to count but places.
     #[tactic(auto, using(crate::proofs::Opened::slice_facts))]
-    fn kept_first<F: FnMut(&T) -> bool>(&self, f: &mut F) -> usize
+    fn kept_count<F: FnMut(&T) -> bool>(&self, f: &mut F) -> usize
         requires { MayBeAsked F.FnMut f.old self.now.items }
         ensures within { result ≤ length self.now.items }
         ensures in_turn { ReturnsInTurn (CalledAt F.FnMut) f.old
             (answers_until result (length self.now.items)) self.now.items f.new }
     {
         let (front, back) = self.as_slices();
-        let kept = kept_run(front, f);
+        let kept = kept_count_of(front, f);
         if kept < front.len() {
             return kept;
         }
-        self.len - back.len() + kept_run(back, f)
+        self.len - back.len() + kept_count_of(back, f)
     }
 }
 
 /// How many items of a slice stay before the first that goes.
-fn kept_run<T, F: FnMut(&T) -> bool>(items: &[T], f: &mut F) -> usize
+fn kept_count_of<T, F: FnMut(&T) -> bool>(items: &[T], f: &mut F) -> usize
     requires { MayBeAsked F.FnMut f.old items.now }
     ensures within { result ≤ length items.now }
     ensures in_turn { ReturnsInTurn (CalledAt F.FnMut) f.old
@@ -214,18 +214,19 @@ fn drop_round<T: Drop>(slots: &mut Slots<T>, start: usize, at: usize, len: usize
     let capacity = slots.capacity();
     let place = wrap_add(start, at, capacity);
     let first = len.min(capacity - place);
-    drop_run(slots, place, place + first);
+    drop_run(slots, place, first);
     drop_run(slots, 0, len - first);
 }
 
-/// Drops the values in the places from `from` up to `end`, in order.
-fn drop_run<T: Drop>(slots: &mut Slots<T>, from: usize, end: usize)
-    requires in_order { from ≤ end }
-    requires filled { IsFilledRun slots.old.places from (end - from) }
-    ensures places { slots.new.places ≡ run_emptied from (end - from) slots.old.places }
-    ensures steps { slots.new.steps ≡ more_takes (end - from) slots.old.steps }
+/// Drops the values in the `len` places from `from` on, in order.
+fn drop_run<T: Drop>(slots: &mut Slots<T>, from: usize, len: usize)
+    requires { IsFilledRun slots.old.places from len }
+    ensures places { slots.new.places ≡ run_emptied from len slots.old.places }
+    ensures steps { slots.new.steps ≡ more_takes len slots.old.steps }
 {
-    for place in from..end {
+    // Reading the capacity tells the prover that no sum passes `usize::MAX`.
+    let _capacity = slots.capacity();
+    for place in from..from + len {
         drop(slots.take(place));
     }
 }

@@ -8,10 +8,10 @@ loop-left-preserved g c =
     let r = c.args.self.now in
     let o = c.args.other.now in
     let m = c.args.len - c.loop-left.left in
-    let run = c.append_run-left.result in
-    let total : c.args.len - (c.loop-left.left - run) ≡ m + run = omega arith in
+    let count = c.append_run-left.result in
+    let total : c.args.len - (c.loop-left.left - count) ≡ m + count = omega arith in
     record {
       within = omega arith;
-      here = rw (c.append_run-left.ensures.here, inv.here, inv.there, total) (joined-both m run r o);
-      there = rw (c.append_run-left.ensures.there, inv.there, total) (shed-both m run o);
+      here = rw (c.append_run-left.ensures.here, inv.here, inv.there, total) (joined-both m count r o);
+      there = rw (c.append_run-left.ensures.there, inv.there, total) (shed-both m count o);
     }

@@ -20,7 +20,7 @@ displace_up-written-requires-clause-filled g c = let was = c.loop-ended.invarian
 
 pub loop-ended-preserved : goal.loop-ended-preserved
 loop-ended-preserved g c =
-    let was = c.loop-ended.invariant in let done = c.displace_up-written.ensures in let now = done.filled in
+    let was = c.loop-ended.invariant in let done = c.displace_up-written.ensures in let now = done.came in
     more was c.loop-ended-test.true now (λ some. let goes = done.goes some in (goes.0, λ _. goes.1))
     (displaced_first-both _) (laid_first was.so_far.holds was.all (omega arith)
     (grind (arith, common_steps)) (omega arith) (elim c.if-ended.branch [

@@ -16,9 +16,10 @@ loop-ended-init g c = begun (opened _ c.self.invariant c.self.view_is) c.capacit
     c.moved_out-slots.ensures c.requires.may (grind (arith, take_all))
 
 -- below the start, or below the region's end in its stead, are the places of the last indexes
-below : (g : Over) (c : Joined-self-eq0 g) (run : ℕ) → run ≤ c.if-self-eq0.from → let n = c.capacity-capacity.result in
-    MayStartAt c.loop-ended.self-inside.start (n - run) n (c.if-self-eq0.from - run)
-below g c run le = elim c.if-self-eq0.branch [
+below : (g : Over) (c : Joined-self-eq0 g) (count : ℕ) → count ≤ c.if-self-eq0.from →
+    let n = c.capacity-capacity.result in
+    MayStartAt c.loop-ended.self-inside.start (n - count) n (c.if-self-eq0.from - count)
+below g c count le = elim c.if-self-eq0.branch [
   | then-self-eq0 w ↦ inl (omega arith)
   | else-self-eq0 w ↦ inr (omega arith)
 ]
@@ -33,7 +34,7 @@ displace_down-written-requires-clause-filled g c =
 pub loop-ended-preserved : goal.loop-ended-preserved
 loop-ended-preserved g c =
     let at = (goal.at.loop-ended-preserved g c).Joined-self-eq0 in
-    let was = c.loop-ended.invariant in let done = c.displace_down-written.ensures in let now = done.filled in
+    let was = c.loop-ended.invariant in let done = c.displace_down-written.ensures in let now = done.came in
     more was c.loop-ended-test.true now (λ some. let goes = done.goes some in (goes.0, λ _. goes.1))
     (displaced_last-both _) (laid_last was.so_far.holds was.all (omega arith) (below g at _ (omega arith)) (omega arith)
     (omega arith) c.wrap_add-self-inside.ensures now.items _ now.holds (grind (arith, common_steps)) done.steps)

@@ -3,7 +3,7 @@ use Rattle.arraydeque_ring.proofs.{
   gaps.Fewest.fewest_drain,
   Opened.{opened, bounds, Closing, run_filled, run_taken, Shows},
   places.Rotated.place_of-zero,
-  ring.Ring.drain.{Given.Over, Goals.{After-take_run, After-close_gap-self-inside}},
+  ring.Ring.drain.{Given.Over, Goals.{After-take_round, After-close_gap-self-inside}},
 }
 use Rattle.arraydeque_ring.proofs.ring.Ring.drain.Goals as goal
 
@@ -13,15 +13,15 @@ returns-then-count-eq0-clause-start g c =
     let none : c.args.to - c.args.from ≡ 0 = omega arith in
     grind (arith, place_of-zero)
 
-pub take_run-requires-clause-filled : goal.take_run-requires-clause-filled
-take_run-requires-clause-filled g c =
+pub take_round-requires-clause-filled : goal.take_round-requires-clause-filled
+take_round-requires-clause-filled g c =
     let ring = bounds c.self.inside _ c.self.invariant c.self.view_is in
     run_filled c.self.inside c.self.invariant _ _ (omega arith)
 
-out : (g : Over) (c : After-take_run g) → let old = c.args.self.now in Closing c.self.inside.start old.capacity
-    c.args.from (c.args.to - c.args.from) c.args.to c.self.inside.len old.items c.take_run.new.slots.places
+out : (g : Over) (c : After-take_round g) → let old = c.args.self.now in Closing c.self.inside.start old.capacity
+    c.args.from (c.args.to - c.args.from) c.args.to c.self.inside.len old.items c.take_round.new.slots.places
 out g c = run_taken (opened c.self.inside c.self.invariant c.self.view_is) _ _ _ (omega arith) c.requires.in_bounds
-    c.take_run.ensures.places
+    c.take_round.ensures.places
 
 pub close_gap-self-inside-requires : goal.close_gap-self-inside-requires
 close_gap-self-inside-requires g c = (out g c.before.before).may
@@ -43,7 +43,7 @@ returns-clause-capacity g c = (after g c.before).0
 
 pub returns-clause-start : goal.returns-clause-start
 returns-clause-start g c =
-    grind (arith, bounds, (out g (goal.at.returns-clause-start g c).After-take_run).length_is)
+    grind (arith, bounds, (out g (goal.at.returns-clause-start g c).After-take_round).length_is)
 
 pub returns-clause-steps : goal.returns-clause-steps
 returns-clause-steps g c = grind (arith, bounds)

@@ -38,7 +38,7 @@ module _ (g : Over) (c : Joined-self-to_end g) where
       c.capacity-capacity.ensures c.moved_out-slots.ensures c.requires (grind (arith, append-nil)) in
       elim c.if-self-to_end.branch [
         | then-self-to_end w ↦
-            let fill = w.fill_up-written.ensures in let now = fill.filled in
+            let fill = w.fill_up-written.ensures in let now = fill.came in
             rw (w.elements-is, w.slots-is, w.ended-is, w.self-inside-is) (more none refl now fill.goes
             (filled_back-both _) (laid_back none.so_far.holds none.all _ (inl refl) (omega arith) (omega arith)
             now.items now.holds fill.steps))
@@ -70,7 +70,7 @@ module _ (g : Over) (c : After-drop-self-inside g) where
       elim c.if-not-ended.branch [
         | then-not-ended+then-self-capacity w ↦
             let on = w.if-not-ended.true in
-            let fill = w.fill_up-written-then-self-capacity.ensures in let now = fill.filled in
+            let fill = w.fill_up-written-then-self-capacity.ensures in let now = fill.came in
             rw (w.elements-is, w.slots-is, w.ended-is, w.self-inside-is) (more was on now fill.goes
             (filled_back-both _) (laid_back was.so_far.holds was.all _ (inr (next g at on)) (omega arith) (omega arith)
             now.items now.holds fill.steps))
@@ -89,8 +89,8 @@ module _ (g : Over) (c : After-drop-self-inside g) where
 pub invariant_of-self : goal.invariant_of-self
 invariant_of-self g c = (last g c).kept
 
-pub returns-clause-filled : goal.returns-clause-filled
-returns-clause-filled g c =
+pub returns-clause-came : goal.returns-clause-came
+returns-clause-came g c =
     let laid = last g c in let was = laid.so_far in
     let same = laid.all in let long = length-append c.args.self.now.items was.items in
     Fills-as _ was _ _ (omega arith) (λ on. let all = full g c on in omega arith) (λ xs. closed)

@@ -39,7 +39,7 @@ module _ (g : Over) (c : Joined-self-gt0 g) where
       c.capacity-capacity.ensures c.moved_out-slots.ensures c.requires (grind arith) in
       elim c.if-self-gt0.branch [
         | then-self-gt0 w ↦
-            let fill = w.fill_down-written.ensures in let now = fill.filled in
+            let fill = w.fill_down-written.ensures in let now = fill.came in
             let n = c.capacity-capacity.result in
             let down = place_of_cases c.self.inside.start (n - w.fill_down-written.result.1) n (omega arith) in
             rw (w.elements-is, w.slots-is, w.ended-is, w.self-inside-is) (more none refl now fill.goes
@@ -75,7 +75,7 @@ module _ (g : Over) (c : After-drop-self-inside g) where
         | then-not-ended+then-self-capacity w ↦
             let on = w.if-not-ended.true in
             let start = all_below g at on w.if-self-capacity.true in
-            let fill = w.fill_down-written-then-self-capacity.ensures in let now = fill.filled in
+            let fill = w.fill_down-written-then-self-capacity.ensures in let now = fill.came in
             rw (w.elements-is, w.slots-is, w.ended-is, w.self-inside-is) (more was on now fill.goes
             (filled_front-both _) (laid_front was.so_far.holds was.all (omega arith) (inl (omega arith)) (omega arith)
             (omega arith) w.wrap_add-self-inside.ensures now.items _ now.holds (omega arith) fill.steps))
@@ -94,8 +94,8 @@ module _ (g : Over) (c : After-drop-self-inside g) where
 pub invariant_of-self : goal.invariant_of-self
 invariant_of-self g c = (last g c).kept
 
-pub returns-clause-filled : goal.returns-clause-filled
-returns-clause-filled g c =
+pub returns-clause-came : goal.returns-clause-came
+returns-clause-came g c =
     let laid = last g c in let was = laid.so_far in let same = laid.all in
     let long = length-append (reverse was.items) c.args.self.now.items in let as_long = length-reverse was.items in
     Fills-as _ was _ _ (omega arith) (λ on. let all = full g c on in omega arith) (λ xs. closed)

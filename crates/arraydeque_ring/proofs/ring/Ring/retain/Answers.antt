@@ -9,7 +9,7 @@ use Rattle.arraydeque_ring.proofs.ring.Ring.retain.Goals as goal
 pub returns-then-kept-len-clause-retains : goal.returns-then-kept-len-clause-retains
 returns-then-kept-len-clause-retains g c =
     let ring = opened _ c.self.invariant c.self.view_is in
-    all_kept (CalledAt g.F.FnMut) _ _ _ _ (omega arith) c.kept_first-kept.ensures.in_turn
+    all_kept (CalledAt g.F.FnMut) _ _ _ _ (omega arith) c.kept_count-kept.ensures.in_turn
 
 pub loop-index-init : goal.loop-index-init
 loop-index-init g c =
@@ -21,7 +21,7 @@ loop-index-init g c =
       c.wrap_add.ensures,
       c.capacity-capacity.ensures,
       ring.laid.length_is,
-    ) (first_goes (CalledAt g.F.FnMut) _ _ _ _ ring.laid (omega arith) (omega arith) c.kept_first-kept.ensures.in_turn)
+    ) (first_goes (CalledAt g.F.FnMut) _ _ _ _ ring.laid (omega arith) (omega arith) c.kept_count-kept.ensures.in_turn)
 
 pub get-requires : goal.get-requires
 get-requires g c =

@@ -2,12 +2,12 @@ use Rattle.std.proofs.Common.{◌-◌, arith}
 use Rattle.arraydeque_ring.proofs.{Opened.{bounds, run_filled}, places.Handed.all_empty}
 use Rattle.arraydeque_ring.proofs.ring.Ring.split_off.Goals as goal
 
-pub take_run-requires-clause-empty : goal.take_run-requires-clause-empty
-take_run-requires-clause-empty g c =
+pub take_round-requires-clause-empty : goal.take_round-requires-clause-empty
+take_round-requires-clause-empty g c =
     let ring = bounds c.self.inside _ c.self.invariant c.self.view_is in
     rw c.in_ok-slots.ensures.ok (all_empty (c.self.inside.len - c.args.at) _ (omega arith))
 
-pub take_run-requires-clause-filled : goal.take_run-requires-clause-filled
-take_run-requires-clause-filled g c =
+pub take_round-requires-clause-filled : goal.take_round-requires-clause-filled
+take_round-requires-clause-filled g c =
     let ring = bounds c.self.inside _ c.self.invariant c.self.view_is in
     run_filled c.self.inside c.self.invariant _ _ (omega arith)

@@ -4,14 +4,14 @@ use Rattle.arraydeque_ring.proofs.ring.fill.displace_down.Goals as goal
 
 pub take-last-requires : goal.take-last-requires
 take-last-requires g c =
-    let some = filled_in_run _ _ _ (c.args.run - 1 - c.loop-displaced.displaced) c.requires.filled (omega arith) in
-    (some.0, rw c.loop-displaced.invariant.filled.holds.1 (grind (arith, common_steps)))
+    let some = filled_in_run _ _ _ (c.args.len - 1 - c.loop-displaced.displaced) c.requires.filled (omega arith) in
+    (some.0, rw c.loop-displaced.invariant.came.holds.1 (grind (arith, common_steps)))
 
 pub loop-displaced-preserved : goal.loop-displaced-preserved
 loop-displaced-preserved g c =
     let was = c.loop-displaced.invariant in let asked = c.in-Some.ensures in let goes = asked.goes.on was.ends in
     record {
-      filled = one_down _ _ _ asked.steps was.filled (omega arith) (omega arith)
+      came = one_down _ _ _ asked.gives was.came (omega arith) (omega arith)
           (c.put.ensures.places ∙ rw c.take-last.ensures.places (set-set _ _ _ _));
       steps = grind arith;
       may = goes.0;

@@ -5,13 +5,13 @@ use Rattle.arraydeque_ring.proofs.ring.fill.displace_up.Goals as goal
 pub take-first-requires : goal.take-first-requires
 take-first-requires g c =
     let some = filled_in_run _ _ _ c.loop-displaced.displaced c.requires.filled (omega arith) in
-    (some.0, rw c.loop-displaced.invariant.filled.holds.1 (grind (arith, common_steps)))
+    (some.0, rw c.loop-displaced.invariant.came.holds.1 (grind (arith, common_steps)))
 
 pub loop-displaced-preserved : goal.loop-displaced-preserved
 loop-displaced-preserved g c =
     let was = c.loop-displaced.invariant in let asked = c.in-Some.ensures in let goes = asked.goes.on was.ends in
     record {
-      filled = one_up _ _ _ asked.steps was.filled (omega arith)
+      came = one_up _ _ _ asked.gives was.came (omega arith)
           (c.put.ensures.places ∙ rw c.take-first.ensures.places (set-set _ _ _ _));
       steps = grind arith;
       may = goes.0;

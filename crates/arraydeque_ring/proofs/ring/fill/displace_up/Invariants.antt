@@ -4,7 +4,7 @@ use Rattle.arraydeque_ring.proofs.ring.fill.displace_up.Given as goal
 
 abbrev pub invariant-loop-displaced : goal.invariant-loop-displaced
 invariant-loop-displaced g l = record {
-  filled : Upwards g.I.Iterator.next_gives l.fn.elements l.elements l.displaced l.from l.fn.slots.places
+  came : Upwards g.I.Iterator.next_gives l.fn.elements l.elements l.displaced l.from l.fn.slots.places
       l.slots.places;
   steps : l.slots.steps ≡ more_puts l.displaced (more_takes l.displaced l.fn.slots.steps);
   may : g.I.Iterator.can_next l.elements;

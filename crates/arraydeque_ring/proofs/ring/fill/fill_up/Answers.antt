@@ -3,13 +3,13 @@ use Rattle.arraydeque_ring.proofs.{fills.Filling.one_up, places.Filled.empty_in_
 use Rattle.arraydeque_ring.proofs.ring.fill.fill_up.Goals as goal
 
 pub put-requires : goal.put-requires
-put-requires g c = rw c.loop-filled.invariant.filled.holds.1
+put-requires g c = rw c.loop-filled.invariant.came.holds.1
     (grind (arith, common_steps, empty_in_run _ _ _ c.loop-filled.filled c.requires.empty))
 
 pub loop-filled-preserved : goal.loop-filled-preserved
 loop-filled-preserved g c =
     let was = c.loop-filled.invariant in let asked = c.in-Some.ensures in record {
-      filled = one_up _ _ _ asked.steps was.filled (omega arith) c.put.ensures.places;
+      came = one_up _ _ _ asked.gives was.came (omega arith) c.put.ensures.places;
       steps = grind arith;
       goes = λ _. (asked.goes.keeps, λ f. (asked.goes.on ((was.goes refl).1 f)).1);
     }

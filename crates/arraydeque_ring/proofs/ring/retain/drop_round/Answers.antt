@@ -1,4 +1,4 @@
-use Rattle.std.proofs.{Common.arith, Math.Nat.{add-sub_cancel_left, sub-zero}}
+use Rattle.std.proofs.Common.{arith}
 use Rattle.arraydeque_ring.proofs.{
   places.Handed.{Handed, handed},
   ring.retain.drop_round.{Given.Over, Goals.After-min-first},
@@ -12,14 +12,13 @@ parts g c = let r = c.requires in
     handed _ _ _ _ _ _ _ c.capacity-capacity.ensures r.in_region (omega arith) r.filled c.wrap_add-place.ensures
     c.min-first.ensures
 
-pub drop_run-requires-clause-filled : goal.drop_run-requires-clause-filled
-drop_run-requires-clause-filled g c =
-    rw add-sub_cancel_left (parts g (goal.at.drop_run-requires-clause-filled g c).After-min-first).here
+pub drop_run-requires : goal.drop_run-requires
+drop_run-requires g c = (parts g (goal.at.drop_run-requires g c).After-min-first).here
 
-pub drop_run-requires-2-clause-filled : goal.drop_run-requires-2-clause-filled
-drop_run-requires-2-clause-filled g c = rw (c.drop_run.ensures.places, add-sub_cancel_left, sub-zero)
-    (parts g (goal.at.drop_run-requires-2-clause-filled g c).After-min-first).rest
+pub drop_run-requires-2 : goal.drop_run-requires-2
+drop_run-requires-2 g c = rw c.drop_run.ensures.places
+    (parts g (goal.at.drop_run-requires-2 g c).After-min-first).rest
 
 pub returns-clause-places : goal.returns-clause-places
-returns-clause-places g c = rw (c.drop_run-2.ensures.places, c.drop_run.ensures.places, add-sub_cancel_left, sub-zero)
+returns-clause-places g c = rw (c.drop_run-2.ensures.places, c.drop_run.ensures.places)
     (parts g (goal.at.returns-clause-places g c).After-min-first).places

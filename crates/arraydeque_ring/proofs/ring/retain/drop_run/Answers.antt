@@ -4,7 +4,7 @@ use Rattle.arraydeque_ring.proofs.ring.retain.drop_run.Goals as goal
 
 pub take-requires : goal.take-requires
 take-requires g c =
-    let some = filled_in_run _ _ _ (c.loop-place.place - c.args.from) c.requires.filled (omega arith) in
+    let some = filled_in_run _ _ _ (c.loop-place.place - c.args.from) c.requires (omega arith) in
     (some.0, grind (arith, next_unchanged c.args.slots.now.places c.args.from c.loop-place.place (omega arith)))
 
 pub loop-place-preserved : goal.loop-place-preserved

@@ -6,7 +6,7 @@ use Rattle.std.{
   specs.Fn.CalledAt,
 }
 use Rattle.arraydeque_ring.proofs.retained.First.{until_goes, answer_next}
-use Rattle.arraydeque_ring.proofs.ring.retain.kept_run.Goals as goal
+use Rattle.arraydeque_ring.proofs.ring.retain.kept_count_of.Goals as goal
 
 pub f-requires : goal.f-requires
 f-requires g c =

@@ -2,7 +2,7 @@ use Rattle.std.proofs.{Common.{◌-◌, ◌∙◌, length, arith}, lemmas.List.a
 use Rattle.arraydeque_ring.proofs.{
   linearize.Underway.{Underway, underway, last_may_move, last_moved, room_for_first, room_made, first_moved},
 }
-use Rattle.arraydeque_ring.proofs.ring.linearize.place_last.Goals as goal
+use Rattle.arraydeque_ring.proofs.ring.linearize.place_rest.Goals as goal
 
 -- the others stand in one piece
 pub move_gap-requires : goal.move_gap-requires

@@ -1,6 +1,6 @@
 use Rattle.std.proofs.Common.{replicate, true}
 use Rattle.std.specs.{Fn.CalledAt, List.Retain.ReturnsInTurn}
-use Rattle.arraydeque_ring.proofs.ring.retain.kept_run.Given as goal
+use Rattle.arraydeque_ring.proofs.ring.retain.kept_count_of.Given as goal
 
 abbrev pub invariant-loop-index : goal.invariant-loop-index
 invariant-loop-index g l = record {
