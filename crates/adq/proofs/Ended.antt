@@ -8,7 +8,7 @@ use Rattle.std.proofs.{
 use Rattle.arraydeque.specs.{Machine.answer_of, Policy.Policy, Run.MachineRun, declared.run.{Call.Call, Reply.Reply}}
 use Rattle.adq.specs.{
   Line.{lines_of, LinesName},
-  Run.{Ends, Prints, ReadsWhole, settings_of},
+  Run.{IsOutcome, Prints, ReadsWhole, settings_of},
   Text.{list_text, text_of},
   declared.fault.Fault.{Fault, TheVariants.Memory},
 }
@@ -34,14 +34,14 @@ pub ended : {B : Type 0} (p : Policy) (n : ℕ) (read text : List ℕ) (calls : 
     (replies : List (Reply ℤ n B)) (first last : List ℤ) (r : Result (String Global) Fault)
     → read ≡ text → LinesName (lines_of read) calls → first ≡ [] → MachineRun p first calls replies last
     → IfOk r (λ t. string_bytes t ≡ output_of replies last) → IfErr r (λ fault. fault ≡ Memory)
-    → Ends (Some (p, n)) text r
+    → IsOutcome (Some (p, n)) text r
 ended p n read text calls replies first last (Ok t) same named none run text_is e = (
   calls,
   subst (λ t. LinesName (lines_of t) calls) same named,
   printed p n [] calls replies last (string_bytes t) (subst (λ l. MachineRun p l calls replies last) none run) text_is,
 )
 ended p n read text calls replies first last (Err fault) same named none run printed e =
-    subst (λ f. Ends {A = Global} (Some (p, n)) text (Err f)) (sym e) tt
+    subst (λ f. IsOutcome {A = Global} (Some (p, n)) text (Err f)) (sym e) tt
 
 -- where all was read, whatever the run ends with
 pub read_whole : (known : Option (List ℕ)) (old new : List ℕ) (r : Result (String Global) Fault)

@@ -52,13 +52,14 @@ Prints p n l (call ∷ calls) text = (a : Answer ℤ) × (next : List ℤ) × (r
 
 -- what is printed, or why nothing is: the arguments are bad, this line is the first bad one,
 -- memory was refused, or a stream failed
-abbrev pub Ends : {A : Type 0} → Option (Policy × ℕ) → List ℕ → Result (String A) Fault → Type 0
-Ends None text result = result ≡ Err Fault.Arguments
-Ends (Some s) text (Ok printed) = (calls : List (Call ℤ)) × LinesName (lines_of text) calls
+abbrev pub IsOutcome : {A : Type 0} → Option (Policy × ℕ) → List ℕ → Result (String A) Fault
+    → Type 0
+IsOutcome None text result = result ≡ Err Fault.Arguments
+IsOutcome (Some s) text (Ok printed) = (calls : List (Call ℤ)) × LinesName (lines_of text) calls
     × Prints s.0 s.1 [] calls (string_bytes printed)
-Ends (Some s) text (Err Fault.Arguments) = ⊥
-Ends (Some s) text (Err (Fault.Line n)) = (k : ℕ) × (n ≡ k + 1) × IsFirstBad (lines_of text) k
-Ends (Some s) text (Err _) = ⊤
+IsOutcome (Some s) text (Err Fault.Arguments) = ⊥
+IsOutcome (Some s) text (Err (Fault.Line n)) = (k : ℕ) × (n ≡ k + 1) × IsFirstBad (lines_of text) k
+IsOutcome (Some s) text (Err _) = ⊤
 
 -- where anything is printed, or a line is blamed, all that the reader had is behind the old text
 abbrev pub ReadsWhole : {A : Type 0} → Option (List ℕ) → List ℕ → List ℕ

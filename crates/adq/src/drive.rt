@@ -3,7 +3,7 @@ ghost use Rattle.std.specs.Prelude.{◌≡◌, ◌≤◌, ◌⊎◌, ◌∷◌, 
 ghost use Rattle.std.specs.Io.KnownBytes.{Appends, IsAtEnd};
 ghost use Rattle.arraydeque.specs.Policy.{saturating, wrapping};
 ghost use Rattle.arraydeque.specs.Machine.{answer_of};
-ghost use Rattle.adq.specs.Run.{settings_of, Ends, ReadsWhole};
+ghost use Rattle.adq.specs.Run.{settings_of, IsOutcome, ReadsWhole};
 ghost use Rattle.adq.specs.Text.{text_of, list_text};
 ghost use Rattle.adq.specs.declared.fault.Fault.TheVariants.{Memory, Io};
 
@@ -51,8 +51,8 @@ fn dispatch<R: Read>(
     input: &mut R,
     text: &mut Vec<u8>,
 ) -> Result<String, Fault>
-    ensures ends { Ends (settings_of (map (λ word. string_bytes word) args.now)) text.new.items
-        result }
+    ensures outcome { IsOutcome
+        (settings_of (map (λ word. string_bytes word) args.now)) text.new.items result }
     ensures whole { ReadsWhole (R.remaining input.old) text.old.items text.new.items result }
 {
     let [policy, capacity] = args else {
@@ -72,7 +72,8 @@ fn saturating<R: Read>(
     input: &mut R,
     text: &mut Vec<u8>,
 ) -> Result<String, Fault>
-    ensures ends { Ends (settings_of (codes "sat" ∷ capacity.now ∷ [])) text.new.items result }
+    ensures outcome { IsOutcome
+        (settings_of (codes "sat" ∷ capacity.now ∷ [])) text.new.items result }
     ensures whole { ReadsWhole (R.remaining input.old) text.old.items text.new.items result }
 {
     match capacity {
@@ -94,7 +95,8 @@ fn wrapping<R: Read>(
     input: &mut R,
     text: &mut Vec<u8>,
 ) -> Result<String, Fault>
-    ensures ends { Ends (settings_of (codes "wrap" ∷ capacity.now ∷ [])) text.new.items result }
+    ensures outcome { IsOutcome
+        (settings_of (codes "wrap" ∷ capacity.now ∷ [])) text.new.items result }
     ensures whole { ReadsWhole (R.remaining input.old) text.old.items text.new.items result }
 {
     match capacity {
@@ -115,7 +117,7 @@ fn saturating_of<R: Read, const CAP: usize>(
     input: &mut R,
     text: &mut Vec<u8>,
 ) -> Result<String, Fault>
-    ensures ends { Ends (Some (saturating, CAP)) text.new.items result }
+    ensures outcome { IsOutcome (Some (saturating, CAP)) text.new.items result }
     ensures whole { ReadsWhole (R.remaining input.old) text.old.items text.new.items result }
 {
     let mut deque = ArrayDeque::<i64, CAP, Saturating>::new(alloc)?;
@@ -130,7 +132,7 @@ fn wrapping_of<R: Read, const CAP: usize>(
     input: &mut R,
     text: &mut Vec<u8>,
 ) -> Result<String, Fault>
-    ensures ends { Ends (Some (wrapping, CAP)) text.new.items result }
+    ensures outcome { IsOutcome (Some (wrapping, CAP)) text.new.items result }
     ensures whole { ReadsWhole (R.remaining input.old) text.old.items text.new.items result }
 {
     let mut deque = ArrayDeque::<i64, CAP, Wrapping>::new(alloc)?;

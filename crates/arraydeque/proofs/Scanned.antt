@@ -21,21 +21,21 @@ unfolding left_of
 fresh_made remaining iter [] empty = grind arith
 fresh_made remaining iter (x ∷ buffer) empty = cc
 
-module _ {S A : Type 0} (steps : S → Option A → S → Type 0) where
+module _ {S A : Type 0} (gives : S → Option A → S → Type 0) where
   -- what is read in two runs is read in one
-  Reads-append : (a b c : Bool) (s t u : S) (xs ys : List A) → Reads steps a s xs b t → Reads steps b t ys c u
-      → Reads steps a s (xs ++ ys) c u
+  Reads-append : (a b c : Bool) (s t u : S) (xs ys : List A) → Reads gives a s xs b t → Reads gives b t ys c u
+      → Reads gives a s (xs ++ ys) c u
   Reads-append true true c s t u xs ys first second = ((λ i. first.0 i ++ second.0 i), second.1 ∙ first.1, second.2)
   Reads-append true false c s t u xs ys first second = absurd (true≢false (sym first.2))
   Reads-append false true true s t u xs ys first second = rw (second.0, append-nil, second.1) first
   Reads-append false true false s t u xs ys first second = absurd (true≢false (sym second.2))
   Reads-append false false true s t u xs ys first second =
-      (second.0, Yields-both steps xs ys s t second.0 first second.1, second.2)
-  Reads-append false false false s t u xs ys first second = Yields-both steps xs ys s t u first second
+      (second.0, Yields-both gives xs ys s t second.0 first second.1, second.2)
+  Reads-append false false false s t u xs ys first second = Yields-both gives xs ys s t u first second
 
   module _ (old mid new : ScannerState S A) (xs ys : List A) where
     -- what is handed out in two runs is handed out in one
-    pub HandsOut-append : HandsOut steps old xs mid → HandsOut steps mid ys new → HandsOut steps old (xs ++ ys) new
+    pub HandsOut-append : HandsOut gives old xs mid → HandsOut gives mid ys new → HandsOut gives old (xs ++ ys) new
     HandsOut-append first second = (
       first.0 ++ second.0,
       Reads-append old.ended mid.ended new.ended old.iter mid.iter new.iter first.0 second.0 first.1 second.1,
@@ -50,8 +50,8 @@ module _ {S A : Type 0} (steps : S → Option A → S → Type 0) where
     )
 
   -- what is handed out goes off the rest
-  pub TakesOff-from_out : (old new : ScannerState S A) (ys : List A) → HandsOut steps old ys new
-      → TakesOff steps old ys new
+  pub TakesOff-from_out : (old new : ScannerState S A) (ys : List A) → HandsOut gives old ys new
+      → TakesOff gives old ys new
   unfolding HasRest
   TakesOff-from_out old new ys given rest after = (
     given.0 ++ after.0,
@@ -61,19 +61,19 @@ module _ {S A : Type 0} (steps : S → Option A → S → Type 0) where
 
   -- the rest of a fresh scanner is what a whole run of its iterator gives
   pub WholeRun-fresh : (remaining : S → Count) (s : ScannerState S A) (iter : S) → s ≡ fresh_scanner remaining iter
-      → (rest : List A) → HasRest steps s rest → WholeRun steps iter (λ p. p.items ≡ rest)
+      → (rest : List A) → HasRest gives s rest → WholeRun gives iter (λ p. p.items ≡ rest)
   unfolding HasRest
   WholeRun-fresh remaining s iter fresh rest has =
-      let read = subst (λ t. HasRest steps t rest) fresh has in
-      (run steps iter read.0 true (to_end steps iter read.0 read.1), refl, refl, sym read.2)
+      let read = subst (λ t. HasRest gives t rest) fresh has in
+      (run gives iter read.0 true (to_end gives iter read.0 read.1), refl, refl, sym read.2)
 
   -- where no item is handed out and the scanner is spent, it had nothing left
-  pub HasRest-nothing : (old new : ScannerState S A) (item : Option A) → HandsOut steps old (option_to_list item) new
-      → new.buffer ≡ [] → IfNone item (new.ended ≡ true) → IfNone item (HasRest steps old [])
+  pub HasRest-nothing : (old new : ScannerState S A) (item : Option A) → HandsOut gives old (option_to_list item) new
+      → new.buffer ≡ [] → IfNone item (new.ended ≡ true) → IfNone item (HasRest gives old [])
   unfolding HasRest
   HasRest-nothing old new None given empty ended = (
     given.0,
-    (new.iter, subst (λ e. Reads steps old.ended old.iter given.0 e new.iter) ended given.1),
+    (new.iter, subst (λ e. Reads gives old.ended old.iter given.0 e new.iter) ended given.1),
     sym (given.2 ∙ empty),
   )
   HasRest-nothing old new (Some item) given empty ended = tt
@@ -85,7 +85,7 @@ module _ {S A : Type 0} (steps : S → Option A → S → Type 0) where
 
   -- what comes next is the first item of the buffer, or nothing where the iterator has ended
   pub NextIs-buffer : (P : A → Type 0) (s : ScannerState S A) → IfSome (slice_get s.buffer 0) P
-      → IfNone (slice_get s.buffer 0) (s.ended ≡ true) → NextIs steps P s
+      → IfNone (slice_get s.buffer 0) (s.ended ≡ true) → NextIs gives P s
   unfolding HasRest
   NextIs-buffer P s holds ended rest has = next_is P s.buffer has.0 rest holds
-      (λ empty. (subst (λ e. Reads steps e s.iter has.0 true has.1.0) (rw empty at ended) has.1.1).0) has.2
+      (λ empty. (subst (λ e. Reads gives e s.iter has.0 true has.1.0) (rw empty at ended) has.1.1).0) has.2

@@ -1,26 +1,22 @@
 -- What a contract sees of a deque.
-use Rattle.std.specs.{
-  Prelude.{
-    ◌≡◌,
-    ℕ,
-    ◌<◌,
-    ◌+◌,
-    ◌-◌,
-    List,
-    [],
-    ◌++◌,
-    length,
-    take,
-    drop,
-    reverse,
-    slice_get,
-    Option,
-    nat_lt,
-  },
-  Prelude.{if◌then◌else◌},
+use Rattle.std.specs.Prelude.{
+  ◌≡◌,
+  ℕ,
+  ◌<◌,
+  ◌+◌,
+  ◌-◌,
+  List,
+  [],
+  ◌++◌,
+  length,
+  take,
+  drop,
+  reverse,
+  slice_get,
+  Option,
 }
 use Rattle.arraydeque_ring.specs.{
-  Ring.{RingState, place_of, down_by},
+  Ring.{RingState, up_by, down_by},
   Steps.{Steps, no_steps, more_puts, more_takes},
 }
 
@@ -66,11 +62,11 @@ module _ {X : Type 0} where
   -- full one takes its first item out
   abbrev pub wrapped_back : ℕ → List X → DequeState X → DequeState X
   wrapped_back n xs deque =
-      let total = length deque.items + length xs in
+      let out = length deque.items + length xs - n in
       record {
         items = keep_last n (deque.items ++ xs);
-        start = if nat_lt n total then place_of deque.start (total - n) n else deque.start;
-        steps = more_puts (length xs) (more_takes (total - n) deque.steps);
+        start = up_by out deque.start n;
+        steps = more_puts (length xs) (more_takes out deque.steps);
       }
 
   -- xs were pushed one by one behind the last item of the old deque of capacity n, which stays as

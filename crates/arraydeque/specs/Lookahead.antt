@@ -51,12 +51,12 @@ module _ {S A : Type 0} (remaining : S → Count) where
   Lowers old item new = IsFinite (remaining old.iter) → IsFinite (remaining new.iter)
       × MatchOption item (size new.left ≤ size old.left) (λ _. size new.left < size old.left)
 
-module _ {S A : Type 0} (steps : S → Option A → S → Type 0) where
+module _ {S A : Type 0} (gives : S → Option A → S → Type 0) where
   -- the iterator gave xs, and then None exactly where it ended; one that had ended wasn't asked
   abbrev pub Reads : Bool → S → List A → Bool → S → Type 0
   Reads true s xs ended t = (xs ≡ []) × (t ≡ s) × (ended ≡ true)
-  Reads false s xs true t = YieldsThen steps s xs None t
-  Reads false s xs false t = Yields steps s xs t
+  Reads false s xs true t = YieldsThen gives s xs None t
+  Reads false s xs false t = Yields gives s xs t
 
   -- the old buffer, followed by what was read, is ys followed by the new buffer
   abbrev pub HandsOut : ScannerState S A → List A → ScannerState S A → Type 0

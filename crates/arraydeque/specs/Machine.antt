@@ -17,7 +17,7 @@ use Rattle.std.specs.{
     slice_range,
     insert,
   },
-  Prelude.{remove, Option, Some, None, Bool, true, ◌&&◌, nat_lt, nat_le, eqb, if◌then◌else◌, ◌⊎◌},
+  Prelude.{remove, Option, Some, None, Bool, true, ◌&&◌, nat_lt, nat_le, ◌==◌, if◌then◌else◌, ◌⊎◌},
   Bool.MatchBool,
   List.{swap, remove_range},
 }
@@ -183,5 +183,5 @@ module _ {X : Type 0} where
       (OrNoMemory (nat_lt 0 n) l (Gives (split (drop at l)) (take at l)))
   Answers p n l Len = Gives (number (length l)) l
   Answers p n l Capacity = Gives (number n) l
-  Answers p n l IsEmpty = Gives (truth (eqb (length l) 0)) l
-  Answers p n l IsFull = Gives (truth (eqb (length l) n)) l
+  Answers p n l IsEmpty = Gives (truth (length l == 0)) l
+  Answers p n l IsFull = Gives (truth (length l == n)) l

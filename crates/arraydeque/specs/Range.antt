@@ -20,7 +20,7 @@ abbrev pub span_of : {X : Type 0} → Option ℕ → Option ℕ → List X → S
 span_of start end l = record { from = unwrap_or start 0; to = unwrap_or end (length l) }
 
 -- at the capacity n the items from one index up to another are drained, and the gap is closed
-pub record Drains {X : Type 0} (n from to : ℕ) (old : DequeState X) (xs : List X)
+pub record IsDrained {X : Type 0} (n from to : ℕ) (old : DequeState X) (xs : List X)
     (new : DequeState X) : Type 0 where
   pub drained : xs ≡ slice_range old.items from to
   pub items : new.items ≡ remove_range old.items from to

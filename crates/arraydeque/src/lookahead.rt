@@ -158,7 +158,7 @@ impl<I: Iterator, const CAP: usize> Scanner<I, CAP> {
         ensures rest { TakesOff I.next_gives self.old (option_to_list result) self.new }
         ensures accepted { IfSome result (λ item.
             FnOnceReturnsAt P.FnOnce accepts item true) }
-        ensures refused { IfNone result (NextIs I.next_gives
+        ensures rejected { IfNone result (NextIs I.next_gives
             (λ item. FnOnceReturnsAt P.FnOnce accepts item false) self.new) }
         ensures none { IfNone result
             (self.new.buffer ≡ [] → self.new.ended ≡ true) }

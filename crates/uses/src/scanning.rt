@@ -10,10 +10,10 @@ pub fn next_or<I: Iterator<Item: Drop>, const AHEAD: usize>(
     scanner: &mut Scanner<I, AHEAD>,
     other: I::Item,
 ) -> I::Item
-    requires finite { IsFinite scanner.old.left }
+    requires ends { IsFinite scanner.old.left }
     ensures answer { TakesOff I.next_gives scanner.old (result ∷ []) scanner.new
         ⊎ (HasRest I.next_gives scanner.old [] × (result ≡ other)) }
-    ensures finite { UpTo scanner.new.left (size scanner.old.left) }
+    ensures ends { UpTo scanner.new.left (size scanner.old.left) }
 {
     match scanner.next() {
         Some(item) => item,

@@ -39,7 +39,7 @@ pub fn tokenize<I: Iterator<Item = u8>, const AHEAD: usize>(
     scanner: &mut Scanner<I, AHEAD>,
 ) -> Result<Vec<Token>, AllocError>
     requires ahead { 0 < AHEAD }
-    requires finite { IsFinite scanner.old.left }
+    requires ends { IsFinite scanner.old.left }
     ensures joined { IfOk result (λ tokens.
         HasRest I.next_gives scanner.old (joined tokens.items)) }
     ensures one_kind { IfOk result (λ tokens. All IsOfOneKind tokens.items) }
@@ -70,7 +70,7 @@ fn next_token<I: Iterator<Item = u8>, const AHEAD: usize>(
     scanner: &mut Scanner<I, AHEAD>,
 ) -> Result<Option<Token>, AllocError>
     requires ahead { 0 < AHEAD }
-    requires finite { IsFinite scanner.old.left }
+    requires ends { IsFinite scanner.old.left }
     ensures taken { IfOk result (λ token.
         TakesOff I.next_gives scanner.old (joined (option_to_list token)) scanner.new) }
     ensures over { IfOk result (λ token. IfNone token (HasRest I.next_gives scanner.old [])) }

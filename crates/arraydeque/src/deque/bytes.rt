@@ -65,7 +65,7 @@ impl<const CAP: usize, B: Behavior> BufRead for ArrayDeque<u8, CAP, B> {
             FillKeeps (Some self.old.items) (Some new.items) None result)) }
         ensures ok { IsOk result }
     {
-        Ok(self.filled())
+        Ok(self.front_bytes())
     }
 
     /// Drops the first `amount` bytes, or all if there are no more. No other byte moves.
@@ -96,7 +96,7 @@ fn copy_to(from: &[u8], to: &mut [u8], at: usize) -> usize
 
 impl<const CAP: usize, B: Behavior> ArrayDeque<u8, CAP, B> {
     /// The bytes up to the region's end, or those behind it where there are none.
-    fn filled(&self) -> &[u8]
+    fn front_bytes(&self) -> &[u8]
         ensures front { StartsWith self.now.items result.now }
         ensures end { length result.now ≡ 0 → self.now.items ≡ [] }
     {

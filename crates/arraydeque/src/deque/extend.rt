@@ -58,7 +58,7 @@ impl<T, const CAP: usize, B: Behavior> ArrayDeque<T, CAP, B> {
     #[inline(always)]
     fn fill_back<I: Iterator<Item = T>>(&mut self, elements: &mut I) -> bool
         requires { I.can_next elements.old }
-        ensures filled { Fills I.next_gives elements.old elements.new
+        ensures came { Fills I.next_gives elements.old elements.new
             (CAP - length self.old.items) result (λ xs. self.new ≡ with_back xs self.old) }
         ensures within { length self.new.items ≤ CAP }
         ensures full { result ≡ false → length self.new.items ≡ CAP }
@@ -75,7 +75,7 @@ impl<T, const CAP: usize, B: Behavior> ArrayDeque<T, CAP, B> {
     #[inline(always)]
     fn fill_front<I: Iterator<Item = T>>(&mut self, elements: &mut I) -> bool
         requires { I.can_next elements.old }
-        ensures filled { Fills I.next_gives elements.old elements.new
+        ensures came { Fills I.next_gives elements.old elements.new
             (CAP - length self.old.items) result (λ xs. self.new ≡ with_front CAP xs self.old) }
         ensures within { length self.new.items ≤ CAP }
         ensures full { result ≡ false → length self.new.items ≡ CAP }

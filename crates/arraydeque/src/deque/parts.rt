@@ -6,7 +6,7 @@ ghost use Rattle.std.specs.Mem.{type_size};
 ghost use Rattle.arraydeque_ring.specs.Ring.{up_by};
 ghost use Rattle.arraydeque_ring.specs.Steps.{no_steps, more_puts, more_takes};
 ghost use Rattle.arraydeque.specs.Deque.{keep_last};
-ghost use Rattle.arraydeque.specs.Range.{Drains, span_of};
+ghost use Rattle.arraydeque.specs.Range.{IsDrained, span_of};
 
 use super::ArrayDeque;
 use crate::behavior::{Behavior, Saturating, Wrapping};
@@ -52,7 +52,7 @@ impl<T, const CAP: usize, B: Behavior> ArrayDeque<T, CAP, B> {
             span.to ≤ length self.old.items }
         ensures drains { let span =
             span_of (R.names_start range) (R.names_end range) self.old.items in
-            IfOk result (λ drained. Drains CAP span.from span.to self.old drained self.new) }
+            IfOk result (λ drained. IsDrained CAP span.from span.to self.old drained self.new) }
         ensures runs { YieldsInOrder (YieldsFirst {A = T} (λ remaining. remaining))
             (λ remaining. remaining) }
         ensures within { length self.new.items ≤ CAP }

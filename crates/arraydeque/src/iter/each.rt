@@ -7,8 +7,8 @@ ghost use Rattle.std.specs.Iterator.{IsFinite, CallableInForEach, Drains};
 /// Calls `f` on each item in turn, and hands `f` back.
 #[inline]
 pub(super) fn call_on_each<I: Iterator, F: FnMut(I::Item)>(mut items: I, mut f: F) -> F
-    requires can { I.can_next items }
-    requires finite { IsFinite (I.remaining items) }
+    requires may { I.can_next items }
+    requires ends { IsFinite (I.remaining items) }
     requires callable { CallableInForEach I.next_gives F.FnMut items f }
     ensures { (xs : List I.Item) × Drains I.next_gives items xs
         × FoldsTo (λ p x q. Called F.FnMut p (x, tt) tt q) f xs result }

@@ -11,7 +11,7 @@ use Rattle.uses.proofs.tokens.next_token.Goals as goal
 pub loop-byte-preserved : goal.loop-byte-preserved
 loop-byte-preserved g c =
     let was = c.loop-byte.invariant in
-    let on = c.in-Some-next_if.ensures.goes.on was.finite in
+    let on = c.in-Some-next_if.ensures.goes.on was.ends in
     let byte = c.in-Some-next_if.byte in
     let accepted = c.in-Some-next_if.ensures.accepted in
     let same : kind_of byte ≡ c.kind_of-kind.result = search rules in
@@ -24,16 +24,16 @@ loop-byte-preserved g c =
       one_kind = rw c.in_ok-push-2.ensures.items
           (All-push (λ byte. kind_of byte ≡ c.kind_of-kind.result) c.loop-byte.text.items byte was.one_kind same);
       signs = λ sign. absurd (no_sign sign);
-      finite = on.1;
+      ends = on.1;
       goes = omega (arith, on.2, was.goes);
     }
 
 pub returns-clause-goes : goal.returns-clause-goes
 returns-clause-goes g c =
-    let last = c.next_if.ensures.left c.loop-byte.invariant.finite in
+    let last = c.next_if.ensures.left c.loop-byte.invariant.ends in
     let less = c.loop-byte.invariant.goes in
     record { on = λ _. (tt, last.0, omega (arith, last.1, less)); keeps = tt; rests = λ _. tt }
 
 pub returns-clause-longest : goal.returns-clause-longest
 returns-clause-longest g c rest has =
-    some_weaker (slice_get rest 0) (c.in_default-next_if.ensures.refused rest has) (λ byte refused. search rules)
+    some_weaker (slice_get rest 0) (c.in_default-next_if.ensures.rejected rest has) (λ byte refused. search rules)

@@ -9,7 +9,7 @@ invariant-loop-byte g l = record {
   some : 0 < length l.text.items;
   one_kind : All (λ byte. kind_of byte ≡ l.kind) l.text.items;
   signs : l.kind ≡ Sign → length l.text.items ≡ 1;
-  finite : IsFinite l.scanner.left;
+  ends : IsFinite l.scanner.left;
   goes : size l.scanner.left < size l.fn.scanner.left;
 }
 

@@ -14,7 +14,7 @@ loop-tokens-preserved g c =
       longest = λ rest has. rw c.in_ok-push.ensures.items (AreCut-push c.loop-tokens.tokens.items c.in-Some.token rest
           (c.loop-tokens.invariant.longest (joined (c.in-Some.token ∷ []) ++ rest) (token rest has)) (rw c.in-Some.is at
           c.in_ok-token.ensures.one_kind) ((rw c.in-Some.is at c.in_ok-token.ensures.longest) rest has));
-      finite = grind (arith, common_steps);
+      ends = grind (arith, common_steps);
     }
 
 pub returns-clause-joined : goal.returns-clause-joined

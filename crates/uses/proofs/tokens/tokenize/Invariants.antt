@@ -9,7 +9,7 @@ invariant-loop-tokens g l = record {
   one_kind : All IsOfOneKind l.tokens.items;
   signs : All IsOneByteIfSign l.tokens.items;
   longest : (rest : List ℕ) → HasRest g.I.Iterator.next_gives l.scanner rest → AreCut l.tokens.items rest;
-  finite : IsFinite l.scanner.left;
+  ends : IsFinite l.scanner.left;
 }
 
 abbrev pub decreases-loop-tokens : goal.decreases-loop-tokens

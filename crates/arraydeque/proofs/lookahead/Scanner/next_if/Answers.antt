@@ -5,14 +5,14 @@ use Rattle.std.proofs.{
 use Rattle.arraydeque.proofs.Scanned.{HandsOut-append, NextIs-buffer}
 use Rattle.arraydeque.proofs.lookahead.Scanner.next_if.Goals as goal
 
-pub returns-in_default-clause-refused : goal.returns-in_default-clause-refused
-returns-in_default-clause-refused g c =
+pub returns-in_default-clause-rejected : goal.returns-in_default-clause-rejected
+returns-in_default-clause-rejected g c =
     let seen = c.peek.follows.holds-at-none in
     let first = sym seen.sees ∙ ap option_copied c.in_default.is in
     NextIs-buffer g.I.Iterator.next_gives _ _ (rw first tt) (rw seen.sees at seen.none)
 
-pub returns-then-not-is_accepted-clause-refused : goal.returns-then-not-is_accepted-clause-refused
-returns-then-not-is_accepted-clause-refused g c =
+pub returns-then-not-is_accepted-clause-rejected : goal.returns-then-not-is_accepted-clause-rejected
+returns-then-not-is_accepted-clause-rejected g c =
     let seen = c.peek.follows.holds-at-none in
     let first = sym seen.sees ∙ ap option_copied c.in-Some.is in
     NextIs-buffer g.I.Iterator.next_gives _ _ (rw first (c.in-Some.item, c.if-not-is_accepted.ensures, refl))
@@ -28,8 +28,8 @@ returns-clause-accepted g c =
     let taken = (c.next.ensures.buffered (slice_get_within _ 0 _ first)).0 ∙ first in
     rw taken (c.in-Some.item, c.if-not-is_accepted.ensures, refl)
 
-pub returns-clause-refused : goal.returns-clause-refused
-returns-clause-refused g c =
+pub returns-clause-rejected : goal.returns-clause-rejected
+returns-clause-rejected g c =
     let first = sym c.peek.follows.holds-at-none.sees ∙ ap option_copied c.in-Some.is in
     let taken = (c.next.ensures.buffered (slice_get_within _ 0 _ first)).0 ∙ first in
     rw taken tt

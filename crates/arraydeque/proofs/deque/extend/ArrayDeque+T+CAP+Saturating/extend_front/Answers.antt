@@ -3,4 +3,4 @@ use Rattle.arraydeque.proofs.deque.extend.ArrayDeque+T+CAP+Saturating.extend_fro
 
 pub returns : goal.returns
 returns g c =
-    TakesFrom-fills _ c.into_iter-elements.ensures.into_iter_gives c.fill_front.ensures.filled (λ xs same. same)
+    TakesFrom-fills _ c.into_iter-elements.ensures.into_iter_gives c.fill_front.ensures.came (λ xs same. same)

@@ -12,13 +12,13 @@ returns-then-capacity-eq0 g c =
 
 pub returns-then-ended : goal.returns-then-ended
 returns-then-ended g c =
-    let filled = c.fill_front-ended.ensures.filled in
-    TakesAll-fills _ c.into_iter-elements.ensures.into_iter_gives filled c.if-ended.true
-    (WrapsFront-room g.row.CAP (omega arith) c.args.self.now _ _ filled.holds c.fill_front-ended.ensures.within)
+    let came = c.fill_front-ended.ensures.came in
+    TakesAll-fills _ c.into_iter-elements.ensures.into_iter_gives came c.if-ended.true
+    (WrapsFront-room g.row.CAP (omega arith) c.args.self.now _ _ came.holds c.fill_front-ended.ensures.within)
 
 pub returns : goal.returns
 returns g c =
-    let filled = c.fill_front-ended.ensures.filled in
-    TakesAll-both _ c.into_iter-elements.ensures.into_iter_gives filled c.if-ended.false c.displace_last.ensures
-    (WrapsFront-both g.row.CAP (omega arith) c.args.self.now _ _ filled.holds c.self.inside.ring _ _ c.self.view_is
+    let came = c.fill_front-ended.ensures.came in
+    TakesAll-both _ c.into_iter-elements.ensures.into_iter_gives came c.if-ended.false c.displace_last.ensures
+    (WrapsFront-both g.row.CAP (omega arith) c.args.self.now _ _ came.holds c.self.inside.ring _ _ c.self.view_is
     c.self.invariant.0 (c.fill_front-ended.ensures.full c.if-ended.false) c.displace_last.ensures.holds)
