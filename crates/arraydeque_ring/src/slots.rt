@@ -155,7 +155,7 @@ impl<T> Slots<T> {
     }
 
     /// Takes the region out, and leaves one of no places in its stead.
-    pub(crate) fn moved_out(&mut self) -> Slots<T>
+    pub(crate) fn move_out(&mut self) -> Slots<T>
         ensures region { result ≡ self.old }
         ensures left { self.new ≡ empty_region 0 }
     {

@@ -36,7 +36,7 @@ impl<T> Ring<T> {
     {
         let capacity = self.slots.capacity();
         let to_end = capacity - self.start;
-        let mut slots = self.slots.moved_out();
+        let mut slots = self.slots.move_out();
         let mut ended = false;
         if self.len < to_end {
             let len = to_end - self.len;
@@ -79,7 +79,7 @@ impl<T> Ring<T> {
         ensures goes { GoesOn I.can_next I.remaining elements.old elements.new result }
     {
         let capacity = self.slots.capacity();
-        let mut slots = self.slots.moved_out();
+        let mut slots = self.slots.move_out();
         let mut ended = false;
         if self.start > 0 {
             let len = (capacity - self.len).min(self.start);
@@ -124,7 +124,7 @@ impl<T> Ring<T> {
         }) }
     {
         let capacity = self.slots.capacity();
-        let mut slots = self.slots.moved_out();
+        let mut slots = self.slots.move_out();
         let mut ended = false;
         while !ended {
             let len = capacity - self.start;
@@ -159,7 +159,7 @@ impl<T> Ring<T> {
         }) }
     {
         let capacity = self.slots.capacity();
-        let mut slots = self.slots.moved_out();
+        let mut slots = self.slots.move_out();
         let mut ended = false;
         while !ended {
             let from = if self.start == 0 {

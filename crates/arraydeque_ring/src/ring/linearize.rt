@@ -29,7 +29,7 @@ impl<T> Ring<T> {
         if self.len <= self.slots.capacity() - self.start {
             return;
         }
-        self.slots = rotate(self.slots.moved_out(), self.start, self.len);
+        self.slots = rotate(self.slots.move_out(), self.start, self.len);
         self.start = 0;
     }
 }

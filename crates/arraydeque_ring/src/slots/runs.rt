@@ -46,7 +46,7 @@ impl<T> Slots<T> {
         ensures places { self.new.places ≡ with_run from items.now self.old.places }
         ensures steps { self.new.steps ≡ more_puts (length items.now) self.old.steps }
     {
-        let mut slots = self.moved_out();
+        let mut slots = self.move_out();
         for k in 0..items.len() {
             slots.put(from + k, items[k]);
         }
@@ -123,7 +123,7 @@ impl<T> Slots<T> {
             self.new.places ≡ run_moved (place_of src 1 n) src len self.old.places }
         ensures steps { self.new.steps ≡ more_moves len self.old.steps }
     {
-        let mut slots = self.moved_out();
+        let mut slots = self.move_out();
         let capacity = slots.capacity();
         let upper = capacity - src;
         if len < upper {
@@ -149,7 +149,7 @@ impl<T> Slots<T> {
             self.new.places ≡ run_moved dst (place_of dst 1 n) len self.old.places }
         ensures steps { self.new.steps ≡ more_moves len self.old.steps }
     {
-        let mut slots = self.moved_out();
+        let mut slots = self.move_out();
         let last = slots.capacity() - 1;
         let upper = last - dst;
         if len <= upper {

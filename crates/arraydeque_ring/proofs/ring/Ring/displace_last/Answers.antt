@@ -13,7 +13,7 @@ use Rattle.arraydeque_ring.proofs.ring.Ring.displace_last.Goals.{Joined-self-eq0
 
 pub loop-ended-init : goal.loop-ended-init
 loop-ended-init g c = begun (opened _ c.self.invariant c.self.view_is) c.capacity-capacity.ensures
-    c.moved_out-slots.ensures c.requires.may (grind (arith, take_all))
+    c.move_out-slots.ensures c.requires.may (grind (arith, take_all))
 
 -- below the start, or below the region's end in its stead, are the places of the last indexes
 below : (g : Over) (c : Joined-self-eq0 g) (count : ℕ) → count ≤ c.if-self-eq0.from →

@@ -26,7 +26,7 @@ use Rattle.arraydeque_ring.proofs.ring.Ring.fill_back.Goals.{
 pub fill_up-written-requires-clause-empty : goal.fill_up-written-requires-clause-empty
 fill_up-written-requires-clause-empty g c =
     let o = opened _ c.self.invariant c.self.view_is in
-    rw c.moved_out-slots.ensures.region (empty_behind o (c.capacity-capacity.ensures ∙ o.laid.length_is) _ (inl refl)
+    rw c.move_out-slots.ensures.region (empty_behind o (c.capacity-capacity.ensures ∙ o.laid.length_is) _ (inl refl)
     (omega arith) (omega arith))
 
 -- with the places up to the region's end written, or none where the list goes on past it
@@ -35,7 +35,7 @@ module _ (g : Over) (c : Joined-self-to_end g) where
       c.if-self-to_end.ended c.capacity-capacity.result c.if-self-to_end.self-inside c.if-self-to_end.slots
   first =
       let none = begun {it = g.I.Iterator} {word = filled_back} (opened _ c.self.invariant c.self.view_is)
-      c.capacity-capacity.ensures c.moved_out-slots.ensures c.requires (grind (arith, append-nil)) in
+      c.capacity-capacity.ensures c.move_out-slots.ensures c.requires (grind (arith, append-nil)) in
       elim c.if-self-to_end.branch [
         | then-self-to_end w ↦
             let fill = w.fill_up-written.ensures in let now = fill.came in

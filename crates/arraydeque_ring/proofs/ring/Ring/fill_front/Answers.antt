@@ -27,7 +27,7 @@ use Rattle.arraydeque_ring.proofs.ring.Ring.fill_front.Goals.{
 pub fill_down-written-requires-clause-empty : goal.fill_down-written-requires-clause-empty
 fill_down-written-requires-clause-empty g c =
     let o = opened _ c.self.invariant c.self.view_is in
-    rw c.moved_out-slots.ensures.region (empty_before o (c.capacity-capacity.ensures ∙ o.laid.length_is) (omega arith)
+    rw c.move_out-slots.ensures.region (empty_before o (c.capacity-capacity.ensures ∙ o.laid.length_is) (omega arith)
     (inr (omega arith)) (omega arith) (omega arith) (omega arith))
 
 -- with the places below the start written
@@ -36,7 +36,7 @@ module _ (g : Over) (c : Joined-self-gt0 g) where
       c.if-self-gt0.ended c.capacity-capacity.result c.if-self-gt0.self-inside c.if-self-gt0.slots
   first =
       let none = begun {it = g.I.Iterator} {word = filled_front} (opened _ c.self.invariant c.self.view_is)
-      c.capacity-capacity.ensures c.moved_out-slots.ensures c.requires (grind arith) in
+      c.capacity-capacity.ensures c.move_out-slots.ensures c.requires (grind arith) in
       elim c.if-self-gt0.branch [
         | then-self-gt0 w ↦
             let fill = w.fill_down-written.ensures in let now = fill.came in

@@ -11,7 +11,7 @@ after : (g : Over) (c : After-rotate g) → let old = c.args.self.now in
     Shows old.capacity 0 c.self.inside.len old.items c.rotate.result.places
 after g c =
     let ring = opened c.self.inside c.self.invariant c.self.view_is in
-    rw (c.rotate.ensures.places, c.moved_out.ensures.region) (shows (LaidOut-from
+    rw (c.rotate.ensures.places, c.move_out.ensures.region) (shows (LaidOut-from
     _ (length-rotated c.self.inside.start c.self.inside.slots.places ∙ ring.laid.length_is) (omega arith)
     (append-nil _ ∙ rotated-LaidOut ring.laid)) _ ring.len)
 

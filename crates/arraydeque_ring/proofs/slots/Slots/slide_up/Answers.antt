@@ -11,7 +11,7 @@ use Rattle.arraydeque_ring.proofs.slots.Slots.slide_up.Goals as goal
 
 -- a run that wraps, as the calls say it: what is past the end, the value in the last place, and what is before it
 round : (g : Over) (c : After-capacity-capacity g) → let n = c.capacity-capacity.result in let t = c.args.src in
-    let ps = c.moved_out-slots.result.places in
+    let ps = c.move_out-slots.result.places in
     n - t ≤ c.args.len → Three 1 0 (c.args.len - (n - t)) 0 (n - 1 + 0) 1 (t + 1) t (n - t - 1) ps
     (run_moved (place_of t 1 n) t c.args.len ps)
 unfolding StartsAt
@@ -19,17 +19,17 @@ round g c wraps =
     let n = c.capacity-capacity.result in
     let t = c.args.src in
     let next = place_of t 1 n in
-    let same = ap (λ r. length r.places) c.moved_out-slots.ensures.region in
+    let same = ap (λ r. length r.places) c.move_out-slots.ensures.region in
     let next_is = place_of_cases t 1 n (omega arith) in
     (three next t c.args.len n (n - t - 1) (n - t) c.capacity-capacity.ensures
-    (rw c.moved_out-slots.ensures.region c.requires.filled) (omega arith) (grind arith) (grind arith) (grind arith)
+    (rw c.move_out-slots.ensures.region c.requires.filled) (omega arith) (grind arith) (grind arith) (grind arith)
     ).1 (grind (arith, distance_is t next n (omega arith) (omega arith)))
 
 pub move_last-requires-clause-can : goal.move_last-requires-clause-can
 move_last-requires-clause-can g c = record {
   target = omega arith;
   source = omega arith;
-  filled = rw c.moved_out-slots.ensures.region c.requires.filled;
+  filled = rw c.move_out-slots.ensures.region c.requires.filled;
 }
 
 pub move_last-requires-else-len-upper-clause-can : goal.move_last-requires-else-len-upper-clause-can
@@ -47,8 +47,8 @@ move_last-requires-else-len-upper-2-clause-can g c =
 
 pub returns-clause-places : goal.returns-clause-places
 returns-clause-places g c =
-    let ps = c.moved_out-slots.result.places in
-    rw (c.count.ensures, ← c.moved_out-slots.ensures.region) (elim c.if-len-upper.branch [
+    let ps = c.move_out-slots.result.places in
+    rw (c.count.ensures, ← c.move_out-slots.ensures.region) (elim c.if-len-upper.branch [
       | then-len-upper w ↦ rw (w.slots-is, w.move_last.ensures.all refl) (same_move _ _ _ _ _ _ _
           (grind (arith, place_of_cases c.args.src 1 (length ps))))
       | else-len-upper w ↦ rw (
