@@ -1,16 +1,21 @@
 -- The end of a run.
 use Rattle.std.proofs.{
-  Common.{◌≡◌, ◌≢◌, ◌∙◌, ℕ, ℤ, List, [], ◌∷◌, ◌++◌, map, flat_map, get_or, codes, bytes_eq, true, false, ap},
-  Common.{append_assoc, refl, Some, None, Result, Ok, Err, IfOk, IfErr, IfSome, Option, String, string_bytes, Global},
-  Common.{sym, subst},
-  lemmas.Slice.Eq.{bytes_eq-Decides},
+  Common.{◌≡◌, ◌≢◌, ◌∙◌, ℕ, ℤ, List, [], ◌∷◌, ◌++◌, map, flat_map, get_or, codes, bytes_eq, true},
+  Common.{false, ap, append_assoc, refl, Some, None, Result, Ok, Err, IfOk, IfErr, IfSome, Option},
+  Common.{String, string_bytes, Global, sym, subst},
+  lemmas.Slice.Eq.bytes_eq-Decides,
 }
-use Rattle.arraydeque.specs.{Machine.answer_of, Policy.Policy, Run.MachineRun, declared.run.{Call.Call, Reply.Reply}}
+use Rattle.arraydeque.specs.{
+  declared.run.{Call.Call, Reply.Reply},
+  Machine.answer_of,
+  Policy.Policy,
+  Run.MachineRun,
+}
 use Rattle.adq.specs.{
+  declared.fault.Fault.{Fault, TheVariants.Memory},
   Line.{lines_of, LinesName},
   Run.{IsOutcome, Prints, ReadsWhole, settings_of},
   Text.{list_text, text_of},
-  declared.fault.Fault.{Fault, TheVariants.Memory},
 }
 
 -- the text of replies, line by line, and of the last list

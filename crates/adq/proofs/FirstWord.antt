@@ -1,8 +1,8 @@
 -- The words of a text: what taking the first one off it leaves.
 use Rattle.std.{
   proofs.{
-    Common.{◌≡◌, ◌≢◌, ℕ, ◌<◌, List, [], ◌∷◌, length, get_or, filter, nat_lt, eqb, Option, Some, None, unwrap_or, Bor},
-    Common.{ap, sym, ◌∙◌, lit<, arith},
+    Common.{◌≡◌, ◌≢◌, ℕ, ◌<◌, List, [], ◌∷◌, length, get_or, filter, nat_lt, eqb, Option, Some},
+    Common.{None, unwrap_or, Bor, ap, sym, ◌∙◌, lit<, arith},
     lemmas.{
       Bool.Decides.nat_tests,
       Grind.common_steps,

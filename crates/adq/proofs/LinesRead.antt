@@ -1,19 +1,24 @@
 -- Lines that were read, one after another.
 use Rattle.std.{
   proofs.{
-    Common.{◌≡◌, ℕ, ℤ, ◌+◌, ◌<◌, ◌≤◌, ◌⊎◌, List, [], ◌∷◌, ◌++◌, length, take, get_or, eqb, Option, Some, None},
-    Common.{option_to_list, filter_map, IsUtf8, inl, inr, refl, ap, sym, ◌∙◌, subst, zero-add, arith},
+    Common.{◌≡◌, ℕ, ℤ, ◌+◌, ◌<◌, ◌≤◌, ◌⊎◌, List, [], ◌∷◌, ◌++◌, length, take, get_or, eqb, Option},
+    Common.{Some, None, option_to_list, filter_map, IsUtf8, inl, inr, refl, ap, sym, ◌∙◌, subst},
+    Common.{zero-add, arith},
     lemmas.List.{take_more, get_or-map, length-map, length_push, get_or_default, take_all},
-    lemmas.List.{Elements.{filter_map-append}, FromFn.{length-enumerate_from, get_or-enumerate_from}},
+    lemmas.List.{Elements.filter_map-append, FromFn.{length-enumerate_from, get_or-enumerate_from}},
   },
-  specs.{List.{slice_split, enumerate_from, AllZip}, Option.option_map_or, Str.Lines.strip_carriage_return},
+  specs.{
+    List.{slice_split, enumerate_from, AllZip},
+    Option.option_map_or,
+    Str.Lines.strip_carriage_return,
+  },
 }
 use Rattle.adq.{
+  proofs.ValuesRead.zipped_more,
   specs.{
     declared.fault.Fault.{Fault, TheVariants.{Memory, Line}},
     Line.{lines_of, words_of, Spells, tokens_of, LineNames, LinesName, IsFirstBad},
   },
-  proofs.ValuesRead.zipped_more,
 }
 use Rattle.arraydeque.specs.declared.run.Call.{Call}
 

@@ -1,15 +1,15 @@
 -- What `parse` reads, as a word spells it.
 use Rattle.std.{
   proofs.{
-    Common.{◌≡◌, ◌≢◌, ℕ, ℤ, pos, negsuc, neg_ℤ, ◌^◌, ◌<◌, ◌≤ℤ◌, ◌<ℤ◌, ◌==◌, List, drop, get_or, true, false, cond},
-    Common.{Option, MatchOption, Result, Ok, Err, refl, subst, sym, arith},
+    Common.{◌≡◌, ◌≢◌, ℕ, ℤ, pos, negsuc, neg_ℤ, ◌^◌, ◌<◌, ◌≤ℤ◌, ◌<ℤ◌, ◌==◌, List, drop, get_or},
+    Common.{true, false, cond, Option, MatchOption, Result, Ok, Err, refl, subst, sym, arith},
     lemmas.{Int.ints, Str.Parse.{digit_at, without_leading_plus_none}},
   },
   specs.{
-    Result.result_ok,
     Int.RustNames.FitsSigned,
-    Str.Parse.{IsNumeral, digits_value, starts_with_minus, without_leading_plus, without_leading_sign, ParsesUnsigned},
-    Str.Parse.{ParsesSigned},
+    Result.result_ok,
+    Str.Parse.{IsNumeral, digits_value, starts_with_minus, without_leading_plus},
+    Str.Parse.{without_leading_sign, ParsesUnsigned, ParsesSigned},
   },
 }
 use mir.Syntax.{w64}

@@ -1,5 +1,8 @@
 -- Words that spell a call spell no other.
-use Rattle.std.{proofs.Common.{◌≡◌, ℕ, ℤ, List, [], ◌∷◌, map, refl, ap, sym, ◌∙◌, rules}, specs.List.AllZip}
+use Rattle.std.{
+  proofs.Common.{◌≡◌, ℕ, ℤ, List, [], ◌∷◌, map, refl, ap, sym, ◌∙◌, rules},
+  specs.List.AllZip,
+}
 use Rattle.arraydeque.specs.declared.run.Call.{Call}
 use Rattle.adq.specs.Line.{Token, keyword, index, value, Spells, tokens_of}
 

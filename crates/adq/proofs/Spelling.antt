@@ -1,6 +1,7 @@
 -- What is told of a call, from what is told of its operands.
 use Rattle.std.{
-  proofs.Common.{◌≡◌, ℕ, ℤ, List, [], ◌∷◌, Result, Ok, Err, IsErrAnd, inl, inr, refl, subst, sym, ◌∙◌},
+  proofs.Common.{◌≡◌, ℕ, ℤ, List, [], ◌∷◌, Result, Ok, Err, IsErrAnd, inl, inr, refl, subst, sym},
+  proofs.Common.◌∙◌,
   specs.List.AllZip,
 }
 use Rattle.arraydeque.specs.declared.run.Call.{Call}

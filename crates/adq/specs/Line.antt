@@ -1,39 +1,17 @@
 -- What a line of text means: the call that its words spell.
 use Rattle.std.specs.{
-  Prelude.{
-    ◌≡◌,
-    ℕ,
-    ℤ,
-    pos,
-    neg_ℤ,
-    ◌^◌,
-    ◌<◌,
-    ◌≤ℤ◌,
-    ◌<ℤ◌,
-    List,
-    [],
-    ◌∷◌,
-    map,
-    length,
-    take,
-    drop,
-    filter,
-    filter_map,
+  List.{slice_split, AllZip},
+  Option.option_map_or,
+  Prelude.{◌≡◌, ℕ, ℤ, pos, neg_ℤ, ◌^◌, ◌<◌, ◌≤ℤ◌, ◌<ℤ◌, List, [], ◌∷◌, map, length, take, drop},
+  Prelude.{filter, filter_map, HoldsAt, ◌⊎◌, Option, Result, Ok, Err, nat_lt, ◌==◌, if◌then◌else◌},
+  Prelude.{codes, IsUtf8},
+  Str.{
+    Lines.strip_carriage_return,
+    Parse.{IsNumeral, digits_value, signed_digits_value, starts_with_minus},
   },
-  Prelude.{HoldsAt, ◌⊎◌, Option, Result, Ok, Err, nat_lt, ◌==◌, if◌then◌else◌, codes, IsUtf8},
 }
-use Rattle.{
-  std.specs.List.slice_split,
-  std.specs.List.AllZip,
-  std.specs.Option.option_map_or,
-  std.specs.Str.Lines.strip_carriage_return,
-  std.specs.Str.Parse.IsNumeral,
-  std.specs.Str.Parse.digits_value,
-  std.specs.Str.Parse.signed_digits_value,
-  std.specs.Str.Parse.starts_with_minus,
-  arraydeque.specs.declared.run.Call.Call,
-  adq.specs.declared.fault.Fault.Fault,
-}
+use Rattle.arraydeque.specs.declared.run.Call.{Call}
+use Rattle.adq.specs.declared.fault.Fault.{Fault}
 
 -- the lines of a text, which end at a line feed, without the carriage return before that end
 abbrev pub lines_of : List ℕ → List (List ℕ)

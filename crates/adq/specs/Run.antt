@@ -1,39 +1,15 @@
 -- What a run of the program prints, and why another prints nothing.
 use Rattle.std.specs.{
-  Prelude.{
-    ◌≡◌,
-    ℕ,
-    ℤ,
-    List,
-    [],
-    ◌∷◌,
-    ◌++◌,
-    Option,
-    Some,
-    None,
-    Result,
-    Ok,
-    Err,
-    String,
-    string_bytes,
-    codes,
-    bytes_eq,
-  },
-  Prelude.{◌+◌, ⊤, IfSome},
+  Map.lookup,
+  Option.option_zip,
+  Prelude.{◌≡◌, ℕ, ℤ, List, [], ◌∷◌, ◌++◌, Option, Some, None, Result, Ok, Err, String},
+  Prelude.{string_bytes, codes, bytes_eq, ◌+◌, ⊤, IfSome},
 }
-use Rattle.{
-  std.specs.Map.lookup,
-  std.specs.Option.option_zip,
-  arraydeque.specs.Machine.Answer,
-  arraydeque.specs.Machine.Answers,
-  arraydeque.specs.Policy.Policy,
-  arraydeque.specs.declared.run.Call.Call,
-  adq.specs.Line.lines_of,
-  adq.specs.Line.LinesName,
-  adq.specs.Line.IsFirstBad,
-  adq.specs.Text.text_of,
-  adq.specs.Text.list_text,
-  adq.specs.declared.fault.Fault.Fault,
+use Rattle.arraydeque.specs.{declared.run.Call.Call, Machine.{Answer, Answers}, Policy.Policy}
+use Rattle.adq.specs.{
+  declared.fault.Fault.Fault,
+  Line.{lines_of, LinesName, IsFirstBad},
+  Text.{text_of, list_text},
 }
 
 -- the policy and the capacity that the arguments name

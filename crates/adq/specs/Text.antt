@@ -1,11 +1,11 @@
 -- What answers and lists print.
-use Rattle.std.specs.Prelude.{ℕ, ℤ, List, ◌++◌, codes, decimal, if◌then◌else◌}
-use Rattle.{
-  std.specs.Fmt.signed_decimal,
-  std.specs.List.join_by,
-  std.specs.Option.option_map_or,
-  arraydeque.specs.Machine.Answer,
+use Rattle.std.specs.{
+  Fmt.signed_decimal,
+  List.join_by,
+  Option.option_map_or,
+  Prelude.{ℕ, ℤ, List, ◌++◌, codes, decimal, if◌then◌else◌},
 }
+use Rattle.arraydeque.specs.Machine.{Answer}
 
 -- the text of a list
 abbrev pub list_text : List ℤ → List ℕ

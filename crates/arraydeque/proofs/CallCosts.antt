@@ -5,15 +5,18 @@ use Rattle.std.proofs.{
 }
 use Rattle.arraydeque.specs.{
   Costs.{work_of, cost_of},
-  Deque.{DequeState},
+  declared.run.{
+    Call.{
+      Call,
+      TheVariants.{PushFront, PushBack, PopFront, PopBack, Insert, Remove, SwapRemoveBack},
+      TheVariants.{SwapRemoveFront, Swap, Replace, Clear, Linearize, ExtendBack, ExtendFront},
+      TheVariants.{Extend, Drain, SplitOff},
+    },
+  },
+  Deque.DequeState,
   Machine.{Answer, Answers, done, item, displaced, drained, split},
   Makes.{StepsAre, pushed_back, pushed_front},
   Policy.{Policy, saturating, wrapping},
-  declared.run.Call.{
-    Call,
-    TheVariants.{PushFront, PushBack, PopFront, PopBack, Insert, Remove, SwapRemoveBack, SwapRemoveFront, Swap},
-    TheVariants.{Replace, Clear, Linearize, ExtendBack, ExtendFront, Extend, Drain, SplitOff},
-  },
 }
 
 module _ {X : Type 0} where

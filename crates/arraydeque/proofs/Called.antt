@@ -1,8 +1,8 @@
 -- A call in a walk: what `lend` requires, and how the tokens of two lifetimes go on to the next call.
 -- Assumes `Logic`.
 use Rattle.arraydeque_ring.proofs.memory.{
-  Kit.{[], ◌∷◌, Ura, SProp, ent, sep, emp, fact, flft, Logic, sem, ‵, raw, ◌⊛◌, ◌$◌, ◌∵◌, !, qed, move, keep, split3},
-  Kit.{join, done, RattleType, ftrue, nothing, ◌⊑◌, ◌<◌, Lft},
+  Kit.{[], ◌∷◌, Ura, SProp, ent, sep, emp, fact, flft, Logic, sem, ‵, raw, ◌⊛◌, ◌$◌, ◌∵◌, !, qed},
+  Kit.{move, keep, split3, join, done, RattleType, ftrue, nothing, ◌⊑◌, ◌<◌, Lft},
 }
 use contract.Lifetimes.{Lfts, Shares, toks}
 

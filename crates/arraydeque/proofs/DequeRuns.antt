@@ -4,16 +4,16 @@ use Rattle.std.proofs.{
   lemmas.List.Elements.{All-head, All-tail},
 }
 use Rattle.arraydeque.{
+  proofs.CallCosts.{CallCosts, call_costs},
   specs.{
     Costs.{work_of, cost_of, RunCosts},
+    declared.run.{Call.{Call, TheVariants.Linearize}, Reply.Reply},
     Deque.DequeState,
     Machine.{Answer, answer_of},
     Makes.Makes,
     Policy.Policy,
     Run.DequeRun,
-    declared.run.{Call.{Call, TheVariants.Linearize}, Reply.Reply},
   },
-  proofs.CallCosts.{CallCosts, call_costs},
 }
 
 -- the work of one call, in the words of a run

@@ -1,17 +1,17 @@
 -- A fold that goes over a list slice by slice: how far it has come.
 use Rattle.std.{
   proofs.{
-    Common.{◌≡◌, ℕ, ◌+◌, ◌<◌, ◌≤◌, List, [], ◌∷◌, ◌++◌, length, drop, get_or, refl, subst, append-nil},
-    Common.arith,
-    lemmas.List.{drop_more, drop_all},
+    Common.{◌≡◌, ℕ, ◌+◌, ◌<◌, ◌≤◌, List, [], ◌∷◌, ◌++◌, length, drop, get_or, refl, subst},
+    Common.{append-nil, arith},
     iter.Next.{Yields-more, served, Serves-on},
+    lemmas.List.{drop_more, drop_all},
     SliceLists.chained_more,
   },
   specs.{
     Borrow.Bor,
     Fn.{Called, Takes, Mut},
-    List.FoldsTo,
     Iterator.{YieldsFirstRef, Yields, FoldTurn, CallableInFold, FoldsItems},
+    List.FoldsTo,
   },
 }
 

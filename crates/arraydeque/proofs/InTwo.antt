@@ -1,9 +1,7 @@
 -- A part of a list that is read in two.
-use Rattle.std.{
-  proofs.{
-    Common.{◌≡◌, ℕ, ◌-◌, ◌≤◌, List, ◌++◌, length, slice_range, min, arith},
-    lemmas.{Bool.Decides.nat_tests, Grind.common_steps, List.{places, same_lists}},
-  },
+use Rattle.std.proofs.{
+  Common.{◌≡◌, ℕ, ◌-◌, ◌≤◌, List, ◌++◌, length, slice_range, min, arith},
+  lemmas.{Bool.Decides.nat_tests, Grind.common_steps, List.{places, same_lists}},
 }
 
 pub range_in_two : {X : Type 0} (xs ys zs : List X) (a b i j k l : ℕ) → xs ++ ys ≡ zs → a ≤ b → b ≤ length zs

@@ -1,7 +1,11 @@
 -- The last items of a list.
 use Rattle.std.proofs.{
-  Common.{◌≡◌, ℕ, ◌+◌, ◌-◌, ◌≤◌, List, [], ◌∷◌, ◌<◌, ◌++◌, length, take, drop, min, inl, inr, arith},
-  lemmas.{Bool.cases_lt, List.{length-append, length-drop, drop-append-le, drop-drop, drop_all, drop_min, take_all}},
+  Common.{◌≡◌, ℕ, ◌+◌, ◌-◌, ◌≤◌, List, [], ◌∷◌, ◌<◌, ◌++◌, length, take, drop, min, inl, inr},
+  Common.arith,
+  lemmas.{
+    Bool.cases_lt,
+    List.{length-append, length-drop, drop-append-le, drop-drop, drop_all, drop_min, take_all},
+  },
   Math.Seq.drop-append-add,
 }
 use Rattle.arraydeque.specs.Deque.{keep_last}

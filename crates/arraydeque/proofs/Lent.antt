@@ -2,9 +2,10 @@
 -- All its items are lent as its ring lends them. Assumes `Logic`.
 use Rattle.arraydeque_ring.{
   proofs.{
-    memory.Kit.{◌≡◌, sym, ap, subst, ◌∙◌, List, [], ◌∷◌, ℕ, ◌+◌, ◌≤◌, length, Ura, full_share, SProp, ent, sep, ex},
-    memory.Kit.{Logic, sem, RattleType, part_at, param_laws, Fml, El, R, el_x, via},
     loans.{Placed.{as_many-same, as_many-twice, length-as_many}, Rings.Rr},
+    memory.Kit.{◌≡◌, sym, ap, subst, ◌∙◌, List, [], ◌∷◌, ℕ, ◌+◌, ◌≤◌, length, Ura, full_share},
+    memory.Kit.{SProp, ent, sep, ex, Logic, sem, RattleType, part_at, param_laws, Fml, El, R, el_x},
+    memory.Kit.via,
   },
   specs.{Ring.RingState, Runs.as_many},
 }
@@ -15,11 +16,15 @@ use denote.{
   Param.{number, param, Laws.Laws},
   Struct.{Members.{Member, rows_of}, Parts.PartsBack, Pick.{rest_at, field_out, field_back}},
 }
+use Rattle.arraydeque.specs.{
+  declared.deque.ArrayDeque.TheInside.Inside,
+  Deque.DequeState,
+  DequeLends.rewritten,
+}
 use Rattle.std.specs.contracts.marker.PhantomData as phantom
 use Rattle.std.proofs.marker.PhantomData.TheLaws as phantom_laws
 use Rattle.arraydeque_ring.specs.RingLends as ring
 use Rattle.arraydeque_ring.proofs.ring.Ring.TheLaws as ring_laws
-use Rattle.arraydeque.specs.{Deque.DequeState, DequeLends.rewritten, declared.deque.ArrayDeque.TheInside.Inside}
 use Rattle.arraydeque.specs.contracts.deque.ArrayDeque as deque
 use Rattle.arraydeque.specs.contracts.deque.ArrayDeque.TheInside as inside
 use Rattle.arraydeque.proofs.deque.ArrayDeque.TheLaws as deque_laws

@@ -1,16 +1,16 @@
 -- What a pop that asks a closure first says of a list.
 use Rattle.std.{
   proofs.{
-    Common.{◌≡◌, ◌-◌, ◌+◌, List, [], ◌∷◌, ◌++◌, length, take, drop, slice_get, slice_set, Option, Some, refl},
-    Common.{arith, Bool, inr, sym},
+    Common.{◌≡◌, ◌-◌, ◌+◌, List, [], ◌∷◌, ◌++◌, length, take, drop, slice_get, slice_set, Option},
+    Common.{Some, refl, arith, Bool, inr, sym},
     lemmas.List.{set_split, drop_all, length-set},
   },
   specs.{
-    Borrow.MutBor,
     Bool.then_some,
+    Borrow.MutBor,
     Fn.{Once, FnOnceReturnsAtMut},
     List.Retain.{PopsIf, PopsFrontIf},
-    Prelude.{if◌then◌else◌},
+    Prelude.if◌then◌else◌,
   },
 }
 use Rattle.arraydeque_ring.proofs.{LastPopped.last_and_rest, places.Items.slice_get-set}

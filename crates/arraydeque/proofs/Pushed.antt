@@ -7,12 +7,13 @@ use Rattle.std.proofs.{
   },
 }
 use Rattle.arraydeque_ring.{
-  specs.Ring.RingState,
   proofs.fills.{Displaced.{displaced_first, displaced_last}, InRows.{all_before, down_by-all}},
+  specs.Ring.RingState,
 }
 use Rattle.arraydeque.{
-  specs.Deque.{DequeState, as_ring, with_back, with_front, wrapped_back, wrapped_front, WrapsBack, WrapsFront},
-  proofs.KeepLast.{keep_last-all},
+  proofs.KeepLast.keep_last-all,
+  specs.Deque.{DequeState, as_ring, with_back, with_front, wrapped_back, wrapped_front, WrapsBack},
+  specs.Deque.WrapsFront,
 }
 
 -- what is seen of a deque over a ring

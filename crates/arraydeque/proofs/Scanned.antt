@@ -1,13 +1,15 @@
 -- One run of a scanner's calls after another.
 use Rattle.std.{
   proofs.{
-    Common.{◌≡◌, arith, Bool, true, false, true≢false, List, [], ◌∷◌, ◌++◌, Option, Some, None, IfSome, IfNone},
-    Common.{slice_get, refl, sym, ◌∙◌, subst, append-nil, append_assoc},
-    iter.runs.{Made.{run, to_end}, Lists.Yields-both},
+    Common.{◌≡◌, arith, Bool, true, false, true≢false, List, [], ◌∷◌, ◌++◌, Option, Some, None},
+    Common.{IfSome, IfNone, slice_get, refl, sym, ◌∙◌, subst, append-nil, append_assoc},
+    iter.runs.{Lists.Yields-both, Made.{run, to_end}},
   },
   specs.{Iterator.{Count, Runs.WholeRun}, Option.option_to_list},
 }
-use Rattle.arraydeque.specs.Lookahead.{ScannerState, left_of, fresh_scanner, Reads, HandsOut, HasRest, TakesOff, NextIs}
+use Rattle.arraydeque.specs.{
+  Lookahead.{ScannerState, left_of, fresh_scanner, Reads, HandsOut, HasRest, TakesOff, NextIs},
+}
 
 -- a scanner that is made over an empty buffer is fresh
 pub fresh_made : {S A : Type 0} (remaining : S → Count) (iter : S) (buffer : List A) → buffer ≡ []

@@ -2,19 +2,25 @@
 -- is found in the whole.
 use Rattle.std.{
   proofs.{
-    Common.{◌≡◌, ℕ, ◌+◌, ◌-◌, ◌<◌, ◌≤◌, inl, inr, List, ◌∷◌, [], ◌++◌, length, get_or, Bool, true, false, Ok, Err},
-    Common.{refl, ap, arith},
-    lemmas.{Bool.{cases_lt, false_from_ne_true}, List.{length-append, get_or_append_left, get_or-append-add}},
-    lemmas.{Cmp.is_gt_index, List.get_or-append_right},
+    Common.{◌≡◌, ℕ, ◌+◌, ◌-◌, ◌<◌, ◌≤◌, inl, inr, List, ◌∷◌, [], ◌++◌, length, get_or, Bool, true},
+    Common.{false, Ok, Err, refl, ap, arith},
+    lemmas.{
+      Bool.{cases_lt, false_from_ne_true},
+      Cmp.is_gt_index,
+      List.{length-append, get_or_append_left, get_or-append-add, get_or-append_right},
+    },
   },
   specs.{
-    declared.cmp.Ordering.{Ordering, TheVariants.{Less, Equal, Greater}},
-    declared.result.Result.Result,
-    Result.{IfOk},
+    declared.{cmp.Ordering.{Ordering, TheVariants.{Less, Equal, Greater}}, result.Result.Result},
     Fn.{Called, AlwaysReturns},
-    List.{AllWithin, HoldsAt},
-    List.Sorted.{IsBinarySearchResult, IsNonDecreasingBy, IsPartitionedBy, IsPartitionPoint, IsSearchInRange},
+    List.{
+      AllWithin,
+      HoldsAt,
+      Sorted.{IsBinarySearchResult, IsNonDecreasingBy, IsPartitionedBy, IsPartitionPoint},
+      Sorted.IsSearchInRange,
+    },
     Ordering.{is_gt, ordering_index},
+    Result.IfOk,
   },
 }
 use denote.Param.Members.{Mut}

@@ -1,14 +1,14 @@
 -- Comparisons of lists that are cut into parts.
 use Rattle.std.{
   proofs.{
-    Common.{◌≡◌, ℕ, ◌&&◌, Bool, List, [], ◌∷◌, ◌++◌, length, take, drop, Option, Some, None, refl, sym, ap, ap₂, ◌∙◌},
-    Common.{arith, true},
+    Common.{◌≡◌, ℕ, ◌&&◌, Bool, List, [], ◌∷◌, ◌++◌, length, take, drop, Option, Some, None, refl},
+    Common.{sym, ap, ap₂, ◌∙◌, arith, true},
     lemmas.List.{append_assoc, take-append-drop},
     Math.Bool.{and_assoc, and-true},
   },
   specs.{
-    Cmp.Lexicographic.{pointwise, as_long, slice_cmp, slice_partial_cmp, lists_po, lists_ties},
     Cmp.{Equal-is, IsPartialOrder},
+    Cmp.Lexicographic.{pointwise, as_long, slice_cmp, slice_partial_cmp, lists_po, lists_ties},
     declared.cmp.Ordering.{Ordering, TheVariants.{Less, Equal, Greater}},
     Ordering.{is_eq, ordering_then, partial_ordering_then},
   },

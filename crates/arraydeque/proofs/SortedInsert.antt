@@ -1,19 +1,21 @@
 -- An insert at a partition point keeps items in order by a key, and so does one that is refused.
 use Rattle.std.{
   proofs.{
-    Common.{◌≡◌, ℕ, ◌≤◌, Bool, true, false, length, leb, ltb, leb-true, leb-false, ltb-true, ltb-false, arith},
-    lemmas.List.Sorted.{IsNonDecreasingBy-insert, IsPartitionPoint-from_clause, IsPermutation-insert},
-    lemmas.List.Sorted.{IsPartitionedBy-leb, IsPartitionedBy-ltb},
+    Common.{◌≡◌, ℕ, ◌≤◌, Bool, true, false, length, leb, ltb, leb-true, leb-false, ltb-true},
+    Common.{ltb-false, arith},
+    lemmas.List.{
+      Sorted.{IsNonDecreasingBy-insert, IsPartitionPoint-from_clause, IsPermutation-insert},
+      Sorted.{IsPartitionedBy-leb, IsPartitionedBy-ltb},
+    },
   },
   specs.{
-    Fn.{Called, ComputesKey},
-    List.insert,
-    List.Sorted.{IsNonDecreasingBy, IsPartitionPoint, IsPartitionedBy},
-    Prelude.{OnOk, OnErr},
     declared.result.Result.{Result, TheVariants.{Ok, Err}},
+    Fn.{Called, ComputesKey},
+    List.{insert, Sorted.{IsNonDecreasingBy, IsPartitionPoint, IsPartitionedBy}},
+    Prelude.{OnOk, OnErr},
   },
 }
-use denote.{Param.Members.{Mut}, Ref.{Bor}}
+use denote.{Param.Members.Mut, Ref.Bor}
 use Rattle.arraydeque.specs.Deque.{DequeState}
 
 module _ {X A E : Type 0} (key : X → ℕ) where

@@ -1,12 +1,15 @@
 -- What is taken of a source of items.
 use Rattle.std.{
   proofs.{
-    Common.{◌≡◌, ℕ, ◌<◌, ◌≤◌, List, length, take, Option, Some, slice_get, slice_index_or, Bool, true, false, ◌++◌},
-    Common.{refl, sym, subst, ap, ◌∙◌, arith},
-    iter.runs.{Lists.{Yields-both}, Made.{run, run_of_exit, took}},
+    Common.{◌≡◌, ℕ, ◌<◌, ◌≤◌, List, length, take, Option, Some, slice_get, slice_index_or, Bool},
+    Common.{true, false, ◌++◌, refl, sym, subst, ap, ◌∙◌, arith},
+    iter.runs.{Lists.Yields-both, Made.{run, run_of_exit, took}},
     lemmas.{List.{same_lists, length-take, get_or-take, take_all}, Option.slice_get-get_or},
   },
-  specs.{Option.{unwrap_or, option_map}, Iterator.{Yields, Drains, Runs.{Run, ItemsAre, YieldsInOrder}}},
+  specs.{
+    Iterator.{Yields, Drains, Runs.{Run, ItemsAre, YieldsInOrder}},
+    Option.{unwrap_or, option_map},
+  },
 }
 use Rattle.arraydeque_ring.specs.Fills.{Fills, Ends}
 use Rattle.arraydeque.specs.Sources.{TakesFrom, TakesAll}

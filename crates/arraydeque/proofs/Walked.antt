@@ -1,7 +1,16 @@
 -- A loop over one iterator after another, as one over an iterator that has the items of both.
-use Rattle.std.proofs.Common.{◌≡◌, Option, List, [], ◌∷◌, ◌++◌, length, Some, sym, ap, ◌∙◌, subst}
-use Rattle.std.proofs.{lemmas.List.{nil_from_length}, iter.runs.Lists.{Yields-both}}
-use Rattle.std.specs.{List.FoldsTo, Option.MatchOption, Iterator.{Yields, YieldsFirstBy, Drains, CallableAtEachTurn}}
+use Rattle.std.{
+  proofs.{
+    Common.{◌≡◌, Option, List, [], ◌∷◌, ◌++◌, length, Some, sym, ap, ◌∙◌, subst},
+    iter.runs.Lists.Yields-both,
+    lemmas.List.nil_from_length,
+  },
+  specs.{
+    Iterator.{Yields, YieldsFirstBy, Drains, CallableAtEachTurn},
+    List.FoldsTo,
+    Option.MatchOption,
+  },
+}
 
 module _ {P A : Type 0} (R : P → A → P → Type 0) where
   folds_both : (p : P) (xs : List A) (q : P) (ys : List A) (r : P)

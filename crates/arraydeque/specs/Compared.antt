@@ -1,6 +1,8 @@
 -- Two lists in three parts each, which face each other in pairs, and lists behind equal pairs.
-use Rattle.std.specs.Prelude.{◌≡◌, ◌<◌, Bool, true, List, [], ◌++◌, length}
-use Rattle.std.specs.Cmp.Lexicographic.{pointwise}
+use Rattle.std.specs.{
+  Cmp.Lexicographic.pointwise,
+  Prelude.{◌≡◌, ◌<◌, Bool, true, List, [], ◌++◌, length},
+}
 use Rattle.arraydeque.specs.declared.deque.compare.Sections.{Sections}
 
 module _ {X : Type 0} where

@@ -1,39 +1,22 @@
 -- What a run costs: the items that its calls move, and the pairs that they exchange.
 use Rattle.std.specs.{
-  Prelude.{
-    ◌≡◌,
-    ℕ,
-    ◌≢◌,
-    ◌+◌,
-    ◌≤◌,
-    List,
-    ◌∷◌,
-    length,
-    All,
-    Some,
-    not,
-    ◌&&◌,
-    ◌==◌,
-    nat_lt,
-    if◌then◌else◌,
-  },
+  Prelude.{◌≡◌, ℕ, ◌≢◌, ◌+◌, ◌≤◌, List, ◌∷◌, length, All, Some, not, ◌&&◌, ◌==◌, nat_lt},
+  Prelude.if◌then◌else◌,
 }
 use Rattle.arraydeque_ring.specs.{
   Sides.{moves_to_insert, moves_to_remove, moves_to_drain},
   Steps.Steps,
 }
 use Rattle.arraydeque.specs.{
+  declared.run.{
+    Call.Call,
+    Call.TheVariants.{Insert, Remove, SwapRemoveBack, SwapRemoveFront, Swap, Linearize, Drain},
+    Reply.Reply,
+  },
   Deque.DequeState,
   Machine.{Answer, done, item, drained, answer_of},
   Policy.Policy,
   Run.MachineRun,
-  declared.run.{
-    Call.{
-      Call,
-      TheVariants.{Insert, Remove, SwapRemoveBack, SwapRemoveFront, Swap, Linearize, Drain},
-    },
-    Reply.Reply,
-  },
 }
 
 -- the moves and exchanges of the steps, together

@@ -1,19 +1,6 @@
 -- What a contract sees of a deque.
-use Rattle.std.specs.Prelude.{
-  ◌≡◌,
-  ℕ,
-  ◌<◌,
-  ◌+◌,
-  ◌-◌,
-  List,
-  [],
-  ◌++◌,
-  length,
-  take,
-  drop,
-  reverse,
-  slice_get,
-  Option,
+use Rattle.std.specs.{
+  Prelude.{◌≡◌, ℕ, ◌<◌, ◌+◌, ◌-◌, List, [], ◌++◌, length, take, drop, reverse, slice_get, Option},
 }
 use Rattle.arraydeque_ring.specs.{
   Ring.{RingState, up_by, down_by},

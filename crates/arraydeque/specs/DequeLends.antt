@@ -1,22 +1,11 @@
 -- What a deque ends as, once a `&mut` to one of its items, or to all of them, has ended.
 use Rattle.std.specs.{
+  Borrow.{Fml, GName, RattleType, MutBor, Array, Lends, LendsIf, LendsBoth, fsep, follows},
+  Borrow.follows_both,
   Prelude.{ℕ, List, ◌++◌, slice_set, Option},
-  Borrow.{
-    Fml,
-    GName,
-    RattleType,
-    MutBor,
-    Array,
-    Lends,
-    LendsIf,
-    LendsBoth,
-    fsep,
-    follows,
-    follows_both,
-  },
 }
 use Rattle.arraydeque_ring.specs.{Loans.LoanState, Runs.as_many, Steps.more_lends}
-use Rattle.arraydeque.specs.{Deque.DequeState, contracts.deque.ArrayDeque.the_row}
+use Rattle.arraydeque.specs.{contracts.deque.ArrayDeque.the_row, Deque.DequeState}
 
 module _ (T CAP B : RattleType) (deque : MutBor (DequeState T.Denot)) (index : ℕ) where
   -- the deque with w at the index, and one lend counted

@@ -1,27 +1,9 @@
 -- What a contract sees of a scanner, what its calls read and hand out, and what it has left.
 use Rattle.std.specs.{
-  Prelude.{
-    ◌≡◌,
-    ℕ,
-    ◌+◌,
-    ◌<◌,
-    ◌≤◌,
-    max,
-    List,
-    [],
-    ◌∷◌,
-    ◌++◌,
-    length,
-    drop,
-    slice_get,
-    Option,
-    None,
-    IfNone,
-    IfSome,
-  },
-  Prelude.{OnSome, MatchOption, Bool, true, false},
-  Option.option_to_list,
   Iterator.{Count, IsFinite, UpTo, size, count_map, count_unless, Yields, YieldsThen},
+  Option.option_to_list,
+  Prelude.{◌≡◌, ℕ, ◌+◌, ◌<◌, ◌≤◌, max, List, [], ◌∷◌, ◌++◌, length, drop, slice_get, Option, None},
+  Prelude.{IfNone, IfSome, OnSome, MatchOption, Bool, true, false},
 }
 
 -- a scanner: its iterator, the items read ahead, whether the iterator has given its first None, and

@@ -1,61 +1,28 @@
 -- What a call makes of a deque: the list, where it starts, and the steps; and what it hands out.
 use Rattle.std.specs.{
-  Prelude.{
-    ◌≡◌,
-    ℕ,
-    ◌+◌,
-    ◌-◌,
-    ◌*◌,
-    ◌<◌,
-    List,
-    length,
-    take,
-    drop,
-    Option,
-    Some,
-    None,
-    ◌==◌,
-    nat_le,
-    if◌then◌else◌,
-  },
+  Prelude.{◌≡◌, ℕ, ◌+◌, ◌-◌, ◌*◌, ◌<◌, List, length, take, drop, Option, Some, None, ◌==◌, nat_le},
+  Prelude.if◌then◌else◌,
 }
 use Rattle.arraydeque_ring.specs.{
   Changed.{InsertMovesFewest, RemoveMovesFewest, DrainMovesFewest},
   Ring.place_of,
   Sides.{moves_to_insert, moves_to_remove, moves_to_drain, start_opened, start_closed},
-  Steps.{
-    Steps,
-    no_steps,
-    more_puts,
-    more_takes,
-    more_moves,
-    more_exchanges,
-    more_lends,
-    Rearranges,
-  },
+  Steps.{Steps, no_steps, more_puts, more_takes, more_moves, more_exchanges, more_lends},
+  Steps.Rearranges,
 }
 use Rattle.arraydeque.specs.{
-  Deque.{DequeState, with_back, with_front, wrapped_back, wrapped_front},
-  Machine.{Answer, Answers, answer_of, done, item, displaced, drained, split},
-  Policy.{Policy, saturating, wrapping},
   declared.run.{
     Call.{
       Call,
-      TheVariants.{
-        PushFront,
-        PushBack,
-        PopFront,
-        PopBack,
-        Insert,
-        Remove,
-        SwapRemoveBack,
-        SwapRemoveFront,
-        Swap,
-      },
-      TheVariants.{Replace, Clear, Linearize, ExtendBack, ExtendFront, Extend, Drain, SplitOff},
+      TheVariants.{PushFront, PushBack, PopFront, PopBack, Insert, Remove, SwapRemoveBack},
+      TheVariants.{SwapRemoveFront, Swap, Replace, Clear, Linearize, ExtendBack, ExtendFront},
+      TheVariants.{Extend, Drain, SplitOff},
     },
     Reply.{Reply, TheVariants.{Split, NoMemory}},
   },
+  Deque.{DequeState, with_back, with_front, wrapped_back, wrapped_front},
+  Machine.{Answer, Answers, answer_of, done, item, displaced, drained, split},
+  Policy.{Policy, saturating, wrapping},
 }
 
 module _ {X : Type 0} where

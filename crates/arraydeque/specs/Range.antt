@@ -1,7 +1,7 @@
 -- The part of a list that a range names, and what a drain of it makes of a deque.
 use Rattle.std.specs.{
-  Prelude.{◌≡◌, ◌-◌, ℕ, List, length, Option, slice_range, unwrap_or},
   List.remove_range,
+  Prelude.{◌≡◌, ◌-◌, ℕ, List, length, Option, slice_range, unwrap_or},
 }
 use Rattle.arraydeque_ring.specs.{
   Changed.DrainMovesFewest,

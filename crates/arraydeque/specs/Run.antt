@@ -1,11 +1,11 @@
 -- A run over a list of calls: one reply a call, in order.
 use Rattle.std.specs.Prelude.{◌≡◌, ℕ, List, [], ◌∷◌}
 use Rattle.arraydeque.specs.{
+  declared.run.{Call.Call, Reply.Reply},
   Deque.DequeState,
   Machine.{Answers, answer_of},
   Makes.Makes,
   Policy.Policy,
-  declared.run.{Call.Call, Reply.Reply},
 }
 
 module _ {X B : Type 0} {n : ℕ} (p : Policy) where

@@ -1,7 +1,7 @@
 -- What a source of items gives, once it is turned into an iterator.
 use Rattle.std.specs.{
-  Prelude.{◌≡◌, ℕ, ◌<◌, ◌≤◌, List, length, take, slice_get, Option, true},
   Iterator.Runs.Run,
+  Prelude.{◌≡◌, ℕ, ◌<◌, ◌≤◌, List, length, take, slice_get, Option, true},
 }
 
 -- whatever iterator the source becomes may be called

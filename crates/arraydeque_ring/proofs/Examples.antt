@@ -1,8 +1,8 @@
 -- How many items move, and how many would have to, in small lists.
 use Rattle.std.{proofs.Common.{◌≡◌, [], ◌∷◌, map, refl}, specs.List.range_with_len}
 use Rattle.arraydeque_ring.specs.{
-  Sides.{moves_to_insert, moves_to_remove, moves_to_drain},
   Changed.{changed_insert, changed_remove, changed_drain},
+  Sides.{moves_to_insert, moves_to_remove, moves_to_drain},
 }
 
 -- one comes in at each index of six items

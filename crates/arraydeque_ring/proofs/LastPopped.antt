@@ -1,11 +1,14 @@
 -- A list and its last item.
 use Rattle.std.{
   proofs.{
-    Common.{◌≡◌, ◌-◌, ◌+◌, List, [], ◌∷◌, ◌++◌, length, take, slice_get, option_to_list, Option, Some, None, refl},
-    Common.{arith, sym},
-    lemmas.{List.{append-nil, take_more, take_all}, Option.{slice_get-get_or, get_or_from_slice_get}},
+    Common.{◌≡◌, ◌-◌, ◌+◌, List, [], ◌∷◌, ◌++◌, length, take, slice_get, option_to_list, Option},
+    Common.{Some, None, refl, arith, sym},
+    lemmas.{
+      List.{append-nil, take_more, take_all},
+      Option.{slice_get-get_or, get_or_from_slice_get},
+    },
   },
-  specs.{Option.{OnSome, IfNone}, Iterator.YieldsLast},
+  specs.{Iterator.YieldsLast, Option.{OnSome, IfNone}},
 }
 use Rattle.arraydeque_ring.specs.{Ring.RingState, Steps.Steps}
 

@@ -1,8 +1,8 @@
 -- A number that shares no bit with the one below it.
 use Rattle.std.proofs.{
   Common.{◌≡◌, ℕ, suc, ◌-◌, ◌/◌, ◌%◌, ◌^◌, ◌<◌, ◌≤◌, inl, inr, bit_and, sym, ap, ◌∙◌, arith},
-  Math.Pow.pow_mono,
   lemmas.{Bool.cases_lt, Nat.and_mask},
+  Math.Pow.pow_mono,
 }
 use lib.{Arith.bin_ind, Bits.{and_step, and_self}}
 

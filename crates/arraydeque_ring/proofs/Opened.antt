@@ -1,39 +1,46 @@
 -- What the fields of an open ring say of the value that its contracts see.
-use Rattle.std.proofs.{
-  Common.{◌≡◌, ℕ, suc, ◌+◌, ◌-◌, ◌<◌, ◌≤◌, ◌==◌, [], ◌∷◌, ◌++◌, length, take, drop, set, swap, slice_get, Some},
-  Common.{None, refl, subst, sym, ap, ap₂, ◌∙◌, arith, inl, inr, Option, List, replicate},
-  Math.Nat.mod-eq_of_lt,
-  lemmas.{
-    Grind.take_at_read,
-    List.{length_push, length-append, length-take, length-take-le, length-drop, length-set, nil_from_length, take_all},
-    List.{take_rest, take-append-drop, drop_all, append_assoc, append-nil, Edits.length-swap},
-    Option.slice_get_past,
+use Rattle.std.{
+  proofs.{
+    Common.{◌≡◌, ℕ, suc, ◌+◌, ◌-◌, ◌<◌, ◌≤◌, ◌==◌, [], ◌∷◌, ◌++◌, length, take, drop, set, swap},
+    Common.{slice_get, Some, None, refl, subst, sym, ap, ap₂, ◌∙◌, arith, inl, inr, Option, List},
+    Common.replicate,
+    lemmas.{
+      Grind.take_at_read,
+      List.{length_push, length-append, length-take, length-take-le, length-drop, length-set},
+      List.{nil_from_length, take_all, take_rest, take-append-drop, drop_all, append_assoc},
+      List.{append-nil, Edits.length-swap},
+      Option.slice_get_past,
+    },
+    Math.Nat.mod-eq_of_lt,
   },
+  specs.List.splice,
 }
-use Rattle.std.specs.List.{splice}
 use Rattle.arraydeque_ring.{
-  specs.{
-    declared.ring.Ring.TheInside.Inside,
-    Places.{held_at, IsFilled, AreAllEmpty},
-    Gaps.gap_moved,
-    Ring.{RingState, place_of, rotated, values, filled, FilledFrom},
-    Runs.{HoldsRun, IsFilledRun, IsEmptyRun, run_emptied, with_run},
-    Sides.start_closed,
-  },
   proofs.{
     gaps.{
-      Gapped.{Gapped, Gapped-taken, Gapped-taken_one, LaidOut-gap_first, LaidOut-gap_last, LaidOut-put},
       GapMoves.{MayClose, may_close, Gapped-behind, Gapped-before, gap_moves},
+      Gapped.{Gapped, Gapped-taken, Gapped-taken_one, LaidOut-gap_first, LaidOut-gap_last},
+      Gapped.LaidOut-put,
     },
     loans.Placed.length-as_many,
     places.{
       Appended.{LaidOut-appended, LaidOut-written, LaidOut-new, IsEmptyRun-behind},
       Handed.handed,
-      LaidOut.{LaidOut, LaidOut-values, values-LaidOut, FilledFrom-LaidOut, LaidOut-nothing, LaidOut-take_front},
-      LaidOut.{held_at-start, IsFilled-start, AreAllEmpty-LaidOut, IsFilled-place_of, HoldsRun-rotated},
-      LaidOut.{IsFilledRun-LaidOut, HoldsRun-LaidOut, same_run, LaidOut-set, LaidOut-swap},
-      Rotated.{MayStartAt, MayStartAt-place_of, place_of-first, place_of-zero, place_of-lt, one_place, length-rotated},
+      LaidOut.{LaidOut, LaidOut-values, values-LaidOut, FilledFrom-LaidOut, LaidOut-nothing},
+      LaidOut.{LaidOut-take_front, held_at-start, IsFilled-start, AreAllEmpty-LaidOut},
+      LaidOut.{IsFilled-place_of, HoldsRun-rotated, IsFilledRun-LaidOut, HoldsRun-LaidOut},
+      LaidOut.{same_run, LaidOut-set, LaidOut-swap},
+      Rotated.{MayStartAt, MayStartAt-place_of, place_of-first, place_of-zero, place_of-lt},
+      Rotated.{one_place, length-rotated},
     },
+  },
+  specs.{
+    declared.ring.Ring.TheInside.Inside,
+    Gaps.gap_moved,
+    Places.{held_at, IsFilled, AreAllEmpty},
+    Ring.{RingState, place_of, rotated, values, filled, FilledFrom},
+    Runs.{HoldsRun, IsFilledRun, IsEmptyRun, run_emptied, with_run},
+    Sides.start_closed,
   },
 }
 

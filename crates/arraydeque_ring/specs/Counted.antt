@@ -1,8 +1,8 @@
 -- How the counts grow, by the kind of step.
 use Rattle.std.specs.Prelude.{ℕ}
 use Rattle.arraydeque_ring.specs.{
-  Steps.{Steps, more_puts, more_takes, more_moves, more_exchanges, more_lends},
   declared.slots.StepKind.{StepKind, TheVariants.{Put, Take, Move, Exchange, Lend}},
+  Steps.{Steps, more_puts, more_takes, more_moves, more_exchanges, more_lends},
 }
 
 -- the steps, with n more of a kind

@@ -1,7 +1,7 @@
 -- What is taken of an iterator.
 use Rattle.std.specs.{
-  Prelude.{◌≡◌, ℕ, ◌≤◌, List, length, Bool, Option, None, true, false},
   Iterator.{Yields, Drains, Count, IsFinite},
+  Prelude.{◌≡◌, ℕ, ◌≤◌, List, length, Bool, Option, None, true, false},
 }
 
 module _ {S A : Type 0} (gives : S → Option A → S → Type 0) (from : S) where

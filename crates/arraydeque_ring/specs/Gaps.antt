@@ -1,7 +1,7 @@
 -- What it means to move a run of empty places.
 use Rattle.std.specs.{
-  Prelude.{ℕ, ◌+◌, List, replicate, Option, None},
   List.{insert_slice, remove_range},
+  Prelude.{ℕ, ◌+◌, List, replicate, Option, None},
 }
 
 -- the places, with the `gap` empty ones from the index `from` on moved to the index `to`

@@ -1,5 +1,5 @@
 -- Values that are lent for writing, in two slices.
-use Rattle.std.specs.{Prelude.{ℕ, ◌+◌, ◌<◌, ◌≤◌, List, ◌++◌}, Borrow.{GName, MutBor}}
+use Rattle.std.specs.{Borrow.{GName, MutBor}, Prelude.{ℕ, ◌+◌, ◌<◌, ◌≤◌, List, ◌++◌}}
 
 -- a loan: its two slices as they are now, and the name that the lender follows
 pub record LoanState (X : Type 0) : Type 0 where

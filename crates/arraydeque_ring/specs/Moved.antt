@@ -1,22 +1,8 @@
 -- A run of values that moves to other places, all at once, round the region's end.
 use Rattle.std.specs.{
-  Prelude.{
-    ℕ,
-    ◌+◌,
-    ◌-◌,
-    ◌<◌,
-    ◌≤◌,
-    ◌⊎◌,
-    List,
-    length,
-    map,
-    Bool,
-    nat_lt,
-    if◌then◌else◌,
-    Option,
-    None,
-  },
   List.range_with_len,
+  Prelude.{ℕ, ◌+◌, ◌-◌, ◌<◌, ◌≤◌, ◌⊎◌, List, length, map, Bool, nat_lt, if◌then◌else◌, Option},
+  Prelude.None,
 }
 use Rattle.arraydeque_ring.specs.{Places.{held_at, IsFilled, IsEmpty}, Ring.place_of}
 

@@ -1,19 +1,19 @@
 -- What a `Slots` owns and lends: its places, side by side in one block, and the right to free that
 -- block.
 use Rattle.std.specs.{
-  Prelude.{ℕ, ◌+◌, ◌*◌, ◌^◌, List, [], ◌∷◌, length, Option, Some, None, Bool, true, false, nat_lt},
-  Mem.type_size,
   declared.alloc.Global.Global,
+  Mem.type_size,
+  Prelude.{ℕ, ◌+◌, ◌*◌, ◌^◌, List, [], ◌∷◌, length, Option, Some, None, Bool, true, false, nat_lt},
+}
+use base.{Fml.{Lft, Fml, ftrue, ffalse, fsep, flt, froom}, Fraction.full_share}
+use mir.{Raw.raw, Syntax.ty_array}
+use denote.{
+  Memory.{lone, part_at, shared_of},
+  RattleType.RattleType,
+  RawPtr.{Ptr, block_ptr, null_ptr},
+  Sharing.{nothing, said, beside},
 }
 use Rattle.std.specs.contracts.impls.GlobalAllocator.TheImpl as heap
-use base.{Fraction.full_share, Fml.{Lft, Fml, ftrue, ffalse, fsep, flt, froom}}
-use mir.{Syntax.ty_array, Raw.raw}
-use denote.{
-  RattleType.RattleType,
-  Memory.{lone, part_at, shared_of},
-  Sharing.{nothing, said, beside},
-  RawPtr.{Ptr, block_ptr, null_ptr},
-}
 
 -- F where the test holds, else nothing
 abbrev pub owned_if : Bool → Fml → Fml

@@ -1,15 +1,6 @@
 -- What the places of a region hold.
-use Rattle.std.specs.Prelude.{
-  ◌≡◌,
-  ℕ,
-  ◌<◌,
-  List,
-  length,
-  replicate,
-  slice_index_or,
-  Option,
-  Some,
-  None,
+use Rattle.std.specs.{
+  Prelude.{◌≡◌, ℕ, ◌<◌, List, length, replicate, slice_index_or, Option, Some, None},
 }
 use Rattle.arraydeque_ring.specs.Steps.{Steps, no_steps}
 

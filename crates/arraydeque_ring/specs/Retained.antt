@@ -1,28 +1,10 @@
 -- What a ring keeps of its items by the answers of a closure, and what it costs.
 use Rattle.std.specs.{
-  Prelude.{
-    ◌≡◌,
-    ℕ,
-    List,
-    [],
-    ◌∷◌,
-    ◌++◌,
-    length,
-    replicate,
-    take,
-    map,
-    slice_get,
-    Some,
-    not,
-    Bool,
-    true,
-    false,
-    count_by,
-  },
-  Prelude.{if◌then◌else◌, ◌==◌},
   Borrow.{Bor, MutBor},
   Fn.{CalledAt, CalledAtMut, Mut},
   List.{items_where_true, Retain.ReturnsInTurn},
+  Prelude.{◌≡◌, ℕ, List, [], ◌∷◌, ◌++◌, length, replicate, take, map, slice_get, Some, not, Bool},
+  Prelude.{true, false, count_by, if◌then◌else◌, ◌==◌},
 }
 use Rattle.arraydeque_ring.specs.{Ring.RingState, Steps.{more_takes, more_moves, more_lends}}
 

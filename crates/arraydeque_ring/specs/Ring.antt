@@ -1,26 +1,8 @@
 -- A list in the places of a region, round the region's end.
 use Rattle.std.specs.{
-  Prelude.{
-    ◌≡◌,
-    ℕ,
-    ◌+◌,
-    ◌-◌,
-    ◌*◌,
-    ◌%◌,
-    ◌≤◌,
-    nat_lt,
-    if◌then◌else◌,
-    List,
-    [],
-    ◌∷◌,
-    ◌++◌,
-    length,
-    map,
-    take,
-    drop,
-  },
-  Prelude.{replicate, Option, Some, None, Bool, true, false, is_some},
   List.Contains,
+  Prelude.{◌≡◌, ℕ, ◌+◌, ◌-◌, ◌*◌, ◌%◌, ◌≤◌, nat_lt, if◌then◌else◌, List, [], ◌∷◌, ◌++◌, length},
+  Prelude.{map, take, drop, replicate, Option, Some, None, Bool, true, false, is_some},
 }
 use Rattle.arraydeque_ring.specs.Steps.{Steps, no_steps}
 

@@ -1,26 +1,15 @@
 -- What a `Ring` ends as, once a `&mut` into it has ended.
 use Rattle.std.specs.{
+  Borrow.{Fml, GName, RattleType, MutBor, Array, Lends, LendsIf, LendsBoth, fsep, follows},
+  Borrow.follows_both,
   Prelude.{ℕ, List, ◌++◌, slice_set, Option},
-  Borrow.{
-    Fml,
-    GName,
-    RattleType,
-    MutBor,
-    Array,
-    Lends,
-    LendsIf,
-    LendsBoth,
-    fsep,
-    follows,
-    follows_both,
-  },
 }
 use Rattle.arraydeque_ring.specs.{
+  contracts.ring.Ring.the_row,
   Loans.LoanState,
   Ring.RingState,
   Runs.as_many,
   Steps.more_lends,
-  contracts.ring.Ring.the_row,
 }
 
 -- the item at the index ends as what was last written through r, and nothing else changes but that

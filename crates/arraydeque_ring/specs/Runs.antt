@@ -1,24 +1,9 @@
 -- Runs of places, and of a list's items: which are filled or empty, and what it means to empty one,
 -- to write one, to turn two round or to exchange two.
 use Rattle.std.specs.{
-  Prelude.{
-    ◌≡◌,
-    ℕ,
-    ◌+◌,
-    ◌-◌,
-    ◌≤◌,
-    List,
-    ◌++◌,
-    length,
-    map,
-    take,
-    drop,
-    replicate,
-    Option,
-    Some,
-    None,
-  },
   List.{refill, splice},
+  Prelude.{◌≡◌, ℕ, ◌+◌, ◌-◌, ◌≤◌, List, ◌++◌, length, map, take, drop, replicate, Option, Some},
+  Prelude.None,
 }
 
 module _ {X : Type 0} where

@@ -1,14 +1,14 @@
 -- What a `Slots` ends as, once a `&mut` into it has ended.
 use Rattle.std.specs.{
-  Prelude.{ℕ, List, [], ◌∷◌, slice_set, Some},
   Borrow.{Fml, RattleType, MutBor, Array, Lends, LendsBoth, fsep, follows, follows_both},
+  Prelude.{ℕ, List, [], ◌∷◌, slice_set, Some},
 }
 use Rattle.arraydeque_ring.specs.{
+  contracts.slots.Slots.the_row,
   Loans.LoanState,
   Places.Region,
   Runs.{as_many, with_run},
   Steps.more_lends,
-  contracts.slots.Slots.the_row,
 }
 use denote.Struct.Tuple.{Tuple}
 

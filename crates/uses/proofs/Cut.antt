@@ -1,16 +1,16 @@
 -- Where a token ends, and that no two tokens side by side could be one.
 use Rattle.std.{
   proofs.{
-    Common.{◌≡◌, ℕ, ◌+◌, ◌-◌, ◌<◌, List, [], ◌∷◌, ◌++◌, length, get_or, All, Option, Some, None, IfSome, inl, inr, sym},
-    Common.{◌∙◌, arith},
-    Math.Seq.{get_or-append_seam},
+    Common.{◌≡◌, ℕ, ◌+◌, ◌-◌, ◌<◌, List, [], ◌∷◌, ◌++◌, length, get_or, All, Option, Some, None},
+    Common.{IfSome, inl, inr, sym, ◌∙◌, arith},
     lemmas.{Bool.cases_lt, List.{get_or_append_left, length-append}},
+    Math.Seq.get_or-append_seam,
   },
   specs.List.AllAdjacentBelow,
 }
 use Rattle.uses.specs.{
-  Tokens.{kind_of, joined, IsOfOneKind, IsOver, AreLongest},
   declared.tokens.{Kind.{Kind, TheVariants.Sign}, Token.Token},
+  Tokens.{kind_of, joined, IsOfOneKind, IsOver, AreLongest},
 }
 
 pub some_weaker : {X : Type 0} {P Q : X → Type 0} (o : Option X) → IfSome o P → ((x : X) → P x → Q x) → IfSome o Q

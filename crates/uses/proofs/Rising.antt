@@ -1,9 +1,9 @@
 -- Peaks that fall to a sample, and the first of them.
 use Rattle.std.{
   proofs.{
-    Common.{◌≡◌, ◌≤◌, ◌<◌, ℕ, List, [], ◌∷◌, ◌++◌, max, nat_lt, if◌then◌else◌, slice_get, Option, Some, None},
-    Common.{unwrap_or, Bool, inl, inr, refl, sym, ap, ◌∙◌, arith},
-    lemmas.{Bool.cases_lt, Bool.Decides.nat_tests},
+    Common.{◌≡◌, ◌≤◌, ◌<◌, ℕ, List, [], ◌∷◌, ◌++◌, max, nat_lt, if◌then◌else◌, slice_get, Option},
+    Common.{Some, None, unwrap_or, Bool, inl, inr, refl, sym, ap, ◌∙◌, arith},
+    lemmas.Bool.{cases_lt, Decides.nat_tests},
   },
   specs.{Borrow.MutBor, Fn.{Once, FnOnceReturnsAtMut}, List.Retain.PopsIf},
 }

@@ -1,7 +1,8 @@
 -- The sum of the samples, as one comes and another leaves.
 use Rattle.std.proofs.{
-  Common.{◌≡◌, ℕ, ◌+◌, ◌-◌, ◌*◌, ◌≤◌, ◌<◌, ◌^◌, List, [], ◌∷◌, ◌++◌, All, length, sum, get_or, Option, Some, None},
-  Common.{option_to_list, unwrap_or, zero-add, subst, refl, sym, ap, ◌∙◌, arith},
+  Common.{◌≡◌, ℕ, ◌+◌, ◌-◌, ◌*◌, ◌≤◌, ◌<◌, ◌^◌, List, [], ◌∷◌, ◌++◌, All, length, sum, get_or},
+  Common.{Option, Some, None, option_to_list, unwrap_or, zero-add, subst, refl, sym, ap, ◌∙◌},
+  Common.arith,
   lemmas.List.{length-append, get_or-append-add, Sums.{sum_by-append, sum_by_push, sum_by-le}},
 }
 

@@ -1,5 +1,5 @@
 -- What is left of entries once time has gone by.
-use Rattle.std.specs.{Prelude.{◌-◌, ℕ, List, Bool, map, nat_lt}, List.filter}
+use Rattle.std.specs.{List.filter, Prelude.{◌-◌, ℕ, List, Bool, map, nat_lt}}
 use Rattle.uses.specs.declared.ageing.Entry.{Entry}
 
 -- whether an entry has more time left than goes by

@@ -1,5 +1,5 @@
 -- What a limiter knows of the requests that it admitted.
-use Rattle.std.specs.{Prelude.{◌-◌, ℕ, List, nat_lt}, List.filter}
+use Rattle.std.specs.{List.filter, Prelude.{◌-◌, ℕ, List, nat_lt}}
 
 -- how long a request counts, and when the last ones were admitted, oldest first
 pub record Admitted : Type 0 where

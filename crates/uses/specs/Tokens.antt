@@ -1,8 +1,8 @@
 -- What the tokens of an input are.
 use Rattle.std.specs.{
-  Prelude.{◌≡◌, ◌<◌, ℕ, List, length, slice_get, All, IfSome, if◌then◌else◌},
-  List.{flat_map, AllAdjacentBelow},
   Char.{is_ascii_alphabetic, is_ascii_digit},
+  List.{flat_map, AllAdjacentBelow},
+  Prelude.{◌≡◌, ◌<◌, ℕ, List, length, slice_get, All, IfSome, if◌then◌else◌},
 }
 use Rattle.uses.specs.declared.tokens.{
   Kind.{Kind, TheVariants.{Letters, Digits, Sign}},

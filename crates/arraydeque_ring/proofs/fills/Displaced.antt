@@ -4,8 +4,8 @@ use Rattle.std.proofs.{
   lemmas.List.{length-append, places, same_lists},
 }
 use Rattle.arraydeque_ring.{
-  specs.{Ring.{RingState, up_by, down_by}, Steps.{more_puts, more_takes}},
   proofs.{fills.InRows.{all_before, down_by-all}, places.Appended.up_by-both},
+  specs.{Ring.{RingState, up_by, down_by}, Steps.{more_puts, more_takes}},
 }
 
 module _ {X : Type 0} where

@@ -1,12 +1,11 @@
 -- A run of places that is written with items from an iterator, one place after another.
 use Rattle.std.proofs.{
-  Common.{◌≡◌, ℕ, ◌+◌, ◌-◌, ◌<◌, ◌≤◌, List, [], ◌∷◌, ◌++◌, length, reverse, set, Option, Some, false, arith, rules},
-  lemmas.{
-    List.{get_or-set_same, places, same_lists, length-map, map-append, length-append, length-reverse, reverse-append},
-    List.length_push,
-  },
+  Common.{◌≡◌, ℕ, ◌+◌, ◌-◌, ◌<◌, ◌≤◌, List, [], ◌∷◌, ◌++◌, length, reverse, set, Option, Some},
+  Common.{false, arith, rules},
+  lemmas.List.{get_or-set_same, places, same_lists, length-map, map-append, length-append},
+  lemmas.List.{length-reverse, reverse-append, length_push},
 }
-use Rattle.arraydeque_ring.{specs.{Fills.Fills, Runs.with_run}, proofs.fills.FromIterator.Fills-one}
+use Rattle.arraydeque_ring.{proofs.fills.FromIterator.Fills-one, specs.{Fills.Fills, Runs.with_run}}
 
 -- one item more, in the place behind the run or before it
 module _ {X : Type 0} (at : ℕ) (xs : List X) (ps : List (Option X)) (within : at + length xs ≤ length ps) (x : X)

@@ -1,7 +1,8 @@
 -- Loops that take items from an iterator, while there is room.
 use Rattle.std.{
   proofs.{
-    Common.{◌≡◌, ℕ, ◌+◌, ◌≤◌, List, [], ◌∷◌, ◌++◌, length, Option, Some, Bool, true, false, refl, subst, arith},
+    Common.{◌≡◌, ℕ, ◌+◌, ◌≤◌, List, [], ◌∷◌, ◌++◌, length, Option, Some, Bool, true, false, refl},
+    Common.{subst, arith},
     iter.runs.Lists.Yields-both,
     lemmas.List.length-append,
   },

@@ -3,7 +3,10 @@ use Rattle.std.proofs.{
   Common.{◌≡◌, ℕ, ◌-◌, ◌*◌, List, ◌++◌, length, reverse, sym, arith},
   lemmas.List.{append_assoc, length-append, reverse-append},
 }
-use Rattle.arraydeque_ring.{specs.{Ring.{RingState, down_by}, Steps.more_puts}, proofs.places.Rotated.place_of-sum}
+use Rattle.arraydeque_ring.{
+  proofs.places.Rotated.place_of-sum,
+  specs.{Ring.{RingState, down_by}, Steps.more_puts},
+}
 
 module _ {X : Type 0} (xs ys : List X) where
   -- to go down once for each of xs and then for each of ys is to go down for all

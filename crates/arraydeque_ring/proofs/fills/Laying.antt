@@ -1,25 +1,22 @@
 -- A run of items from an iterator that is laid behind the last item or before the first, or there in
 -- the places of others, and the loops that lay one run after another.
-use Rattle.std.proofs.{
-  Common.{◌≡◌, ℕ, zero, suc, ◌+◌, ◌-◌, ◌*◌, ◌%◌, ◌<◌, ◌≤◌, inl, List, ◌++◌, length, take, drop, reverse, [], Bool},
-  Common.{false, refl, subst, ap, ◌∙◌, arith},
-  Math.Nat.add-mul-mod_self_right,
-  lemmas.{Bool.Decides.nat_tests, List.{length-append, length-drop, length-reverse, length-take, take_all}},
-}
-use Rattle.std.specs.declared.iter.Iterator.{Ghosts}
-use Rattle.arraydeque_ring.{
-  specs.{
-    Fills.{Fills, GoesOn},
-    declared.ring.Ring.TheInside.Inside,
-    Places.{Region, empty_region},
-    Ring.{RingState, place_of, up_by, down_by},
-    Runs.{IsEmptyRun, with_run, IsFilledRun},
-    Steps.{more_puts, more_takes},
+use Rattle.std.{
+  proofs.{
+    Common.{◌≡◌, ℕ, zero, suc, ◌+◌, ◌-◌, ◌*◌, ◌%◌, ◌<◌, ◌≤◌, inl, List, ◌++◌, length, take, drop},
+    Common.{reverse, [], Bool, false, refl, subst, ap, ◌∙◌, arith},
+    lemmas.{
+      Bool.Decides.nat_tests,
+      List.{length-append, length-drop, length-reverse, length-take, take_all},
+    },
+    Math.Nat.add-mul-mod_self_right,
   },
+  specs.declared.iter.Iterator.Ghosts,
+}
+use Rattle.arraydeque_ring.{
   proofs.{
     fills.{
-      FromIterator.{Fills-both, Fills-none},
       Displaced.{displaced_first, displaced_last},
+      FromIterator.{Fills-both, Fills-none},
       InRows.{filled_back, filled_front},
     },
     Opened.{Opened, Kept, kept},
@@ -30,6 +27,14 @@ use Rattle.arraydeque_ring.{
       LaidOut.{LaidOut, LaidOut-by, holds, IsFilledRun-LaidOut},
       Rotated.{MayStartAt, place_of_cases, place_of-zero},
     },
+  },
+  specs.{
+    declared.ring.Ring.TheInside.Inside,
+    Fills.{Fills, GoesOn},
+    Places.{Region, empty_region},
+    Ring.{RingState, place_of, up_by, down_by},
+    Runs.{IsEmptyRun, with_run, IsFilledRun},
+    Steps.{more_puts, more_takes},
   },
 }
 

@@ -1,17 +1,10 @@
 -- A run of values that moves across a run of empty places, read from the start on.
 use Rattle.std.proofs.{
-  Common.{◌≡◌, ◌≢◌, ◌==◌, ℕ, ◌+◌, ◌-◌, ◌<◌, ◌≤◌, ◌⊎◌, inl, inr, List, length, nat_lt, if◌then◌else◌, Option, None, max},
-  Common.{refl, sym, ap, ◌∙◌, arith},
+  Common.{◌≡◌, ◌≢◌, ◌==◌, ℕ, ◌+◌, ◌-◌, ◌<◌, ◌≤◌, ◌⊎◌, inl, inr, List, length, nat_lt},
+  Common.{if◌then◌else◌, Option, None, max, refl, sym, ap, ◌∙◌, arith},
   lemmas.{Bool.Decides.nat_tests, Grind.common_steps, List.places},
 }
 use Rattle.arraydeque_ring.{
-  specs.{
-    Gaps.gap_moved,
-    Moved.{distance, MeetAtOneEndAtMost, IsFilledRound, IsFreeRound, run_moved},
-    Places.held_at,
-    Ring.{place_of, rotated},
-    Runs.{IsEmptyRun, IsFilledRun},
-  },
   proofs.{
     moved.{Flat.{distance_is, look}, Round.{Holds-moved, distance-rotated}},
     places.{
@@ -19,6 +12,13 @@ use Rattle.arraydeque_ring.{
       Holds.{Holds, Holds-of_rotated, rotated-Holds},
       Rotated.{place_of-sum, one_place, length-rotated},
     },
+  },
+  specs.{
+    Gaps.gap_moved,
+    Moved.{distance, MeetAtOneEndAtMost, IsFilledRound, IsFreeRound, run_moved},
+    Places.held_at,
+    Ring.{place_of, rotated},
+    Runs.{IsEmptyRun, IsFilledRun},
   },
 }
 

@@ -1,18 +1,18 @@
 -- After an insert, a removal or a drain no placement of the list gives fewer items another place
 -- than the lesser side has, and the ring's gives just so many.
 use Rattle.std.proofs.{
-  Common.{◌≡◌, ℕ, zero, suc, ◌+◌, ◌-◌, ◌<◌, ◌≤◌, inl, inr, min, Bool, false, not, nat_lt, ◌==◌, if◌then◌else◌},
-  Common.arith,
-  Math.Nat.add_comm,
+  Common.{◌≡◌, ℕ, zero, suc, ◌+◌, ◌-◌, ◌<◌, ◌≤◌, inl, inr, min, Bool, false, not, nat_lt, ◌==◌},
+  Common.{if◌then◌else◌, arith},
   lemmas.Bool.{cases_lt, Decides.nat_tests},
+  Math.Nat.add_comm,
 }
 use Rattle.arraydeque_ring.{
+  proofs.places.Rotated.{one_place, place_of_cases, place_of-sum},
   specs.{
     Changed.{count_below, changed_insert, changed_remove, changed_drain, IsFewest},
     Ring.place_of,
     Sides.{moves_to_insert, moves_to_remove, moves_to_drain, start_opened, start_closed},
   },
-  proofs.places.Rotated.{one_place, place_of_cases, place_of-sum},
 }
 
 -- a test that is f below s and b from e on, and fails between them

@@ -1,12 +1,15 @@
 -- A gap among the items of a ring that moves: it opens for an item, or is moved to an end of them, and so closed.
 use Rattle.std.proofs.{
-  Common.{◌≡◌, ℕ, ◌+◌, ◌-◌, ◌<◌, ◌≤◌, List, [], ◌++◌, length, slice_get, max, Option, None, refl, sym, ap, ◌∙◌, arith},
+  Common.{◌≡◌, ℕ, ◌+◌, ◌-◌, ◌<◌, ◌≤◌, List, [], ◌++◌, length, slice_get, max, Option, None, refl},
+  Common.{sym, ap, ◌∙◌, arith},
   lemmas.{Bool.Decides.nat_tests, List.length-append},
 }
 use Rattle.arraydeque_ring.{
-  specs.{Gaps.gap_moved, Places.{held_at, IsFilled}, Ring.{place_of, rotated}, Runs.{IsEmptyRun, IsFilledRun}},
   proofs.{
-    gaps.{Crossing.{MayMove, length-gap_moved, get_or-gap_moved, empty_at}, Gapped.{Gapped, gapped}},
+    gaps.{
+      Crossing.{MayMove, length-gap_moved, get_or-gap_moved, empty_at},
+      Gapped.{Gapped, gapped},
+    },
     places.{
       Filled.{filled_run_of, empty_run_of},
       Holds.{Holds, Holds-of_rotated, Holds-rotated, rotated-Holds, Holds-same, Holds-from},
@@ -14,6 +17,12 @@ use Rattle.arraydeque_ring.{
       LaidOut.{LaidOut, holds},
       Rotated.{place_of_cases, length-rotated},
     },
+  },
+  specs.{
+    Gaps.gap_moved,
+    Places.{held_at, IsFilled},
+    Ring.{place_of, rotated},
+    Runs.{IsEmptyRun, IsFilledRun},
   },
 }
 

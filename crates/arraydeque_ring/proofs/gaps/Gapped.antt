@@ -1,11 +1,10 @@
 -- Items in two parts, with a gap of empty places between them: how it comes about, is filled and ends.
 use Rattle.std.proofs.{
-  Common.{◌≡◌, ℕ, zero, suc, ◌+◌, ◌-◌, ◌<◌, ◌≤◌, List, [], ◌∷◌, ◌++◌, length, take, drop, set, slice_get, nat_lt},
-  Common.{if◌then◌else◌, Option, Some, None, ◌∙◌, arith},
+  Common.{◌≡◌, ℕ, zero, suc, ◌+◌, ◌-◌, ◌<◌, ◌≤◌, List, [], ◌∷◌, ◌++◌, length, take, drop, set},
+  Common.{slice_get, nat_lt, if◌then◌else◌, Option, Some, None, ◌∙◌, arith},
   lemmas.List.{length-append, length-take-le, length-drop},
 }
 use Rattle.arraydeque_ring.{
-  specs.{Places.{held_at, IsEmpty}, Ring.{place_of, rotated}, Runs.run_emptied},
   proofs.places.{
     Emptied.{length-run_emptied, get_or-run_emptied},
     Holds.{Holds, Holds-of_rotated, Holds-rotated, Holds-same, Holds-from, Holds-set},
@@ -13,6 +12,7 @@ use Rattle.arraydeque_ring.{
     LaidOut.{LaidOut, LaidOut-by, holds},
     Rotated.{place_of_cases, place_of-zero, length-rotated},
   },
+  specs.{Places.{held_at, IsEmpty}, Ring.{place_of, rotated}, Runs.run_emptied},
 }
 
 -- what is read at an index: one of the items xs, nothing in the gap, and one of the items ys behind it

@@ -1,23 +1,19 @@
 -- A rotation is a gap that closes: read from the first item that goes to the front, the ring's empty places stand
 -- before the items that go behind. And no placement of the list gives fewer items another place.
 use Rattle.std.proofs.{
-  Common.{◌≡◌, ℕ, ◌+◌, ◌-◌, ◌<◌, ◌≤◌, ◌==◌, ◌++◌, length, take, drop, inl, inr, min, not, if◌then◌else◌},
-  Common.{List, Option, arith},
-  lemmas.{Bool.{cases_lt, Decides.nat_tests}, List.{length-append, length-take-le, length-drop, append-nil}},
+  Common.{◌≡◌, ℕ, ◌+◌, ◌-◌, ◌<◌, ◌≤◌, ◌==◌, ◌++◌, length, take, drop, inl, inr, min, not},
+  Common.{if◌then◌else◌, List, Option, arith},
+  lemmas.{
+    Bool.{cases_lt, Decides.nat_tests},
+    List.{length-append, length-take-le, length-drop, append-nil},
+  },
 }
 use Rattle.arraydeque_ring.{
-  specs.{
-    declared.ring.Ring.TheInside.Inside,
-    Changed.{changed_rotate, IsFewest},
-    Gaps.gap_moved,
-    Ring.{RingState, place_of, rotated},
-    Sides.{moves_to_rotate, start_closed, start_rotated},
-  },
   proofs.{
     gaps.{
       Fewest.{count_sides, one_start},
-      Gapped.{Gapped, LaidOut-gap_last},
       GapMoves.{MayClose, may_close, gap_moves},
+      Gapped.{Gapped, LaidOut-gap_last},
     },
     Opened.{Opened, Shows, shows},
     places.{
@@ -26,6 +22,13 @@ use Rattle.arraydeque_ring.{
       LaidOut.{LaidOut-by, holds},
       Rotated.{place_of_cases, place_of-sum},
     },
+  },
+  specs.{
+    Changed.{changed_rotate, IsFewest},
+    declared.ring.Ring.TheInside.Inside,
+    Gaps.gap_moved,
+    Ring.{RingState, place_of, rotated},
+    Sides.{moves_to_rotate, start_closed, start_rotated},
   },
 }
 

@@ -4,16 +4,16 @@ use Rattle.std.proofs.{
   lemmas.{Bool.Decides.nat_tests, List.append-nil},
 }
 use Rattle.arraydeque_ring.{
+  proofs.{
+    linearize.Underway.{are_rotated, Underway, underway, len_within, filled_now, empty_now},
+    moved.Reads.{length-run_rotated, get_or-run_rotated, exchanged_from, length-runs_exchanged},
+    moved.Reads.{get_or-runs_exchanged, runs_exchanged_both},
+    places.{Filled.{filled_run_of, empty_run_of}, Rotated.{length-rotated, rotated-map}},
+  },
   specs.{
     Places.held_at,
     Ring.{rotated, filled, FilledFrom},
     Runs.{IsEmptyRun, run_rotated, IsFilledRun, runs_exchanged},
-  },
-  proofs.{
-    moved.Reads.{length-run_rotated, get_or-run_rotated, exchanged_from, length-runs_exchanged, get_or-runs_exchanged},
-    moved.Reads.runs_exchanged_both,
-    places.{Filled.{filled_run_of, empty_run_of}, Rotated.{length-rotated, rotated-map}},
-    linearize.Underway.{are_rotated, Underway, underway, len_within, filled_now, empty_now},
   },
 }
 

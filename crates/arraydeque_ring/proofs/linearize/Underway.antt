@@ -1,26 +1,27 @@
 -- A region while its list is laid in one piece: the first values are in their places, and two runs behind them have
 -- still to change places.
 use Rattle.std.proofs.{
-  Common.{◌≡◌, ℕ, ◌+◌, ◌-◌, ◌<◌, ◌≤◌, List, length, slice_get, nat_lt, if◌then◌else◌, Option, None, sym, ap, ◌∙◌},
-  Common.arith,
+  Common.{◌≡◌, ℕ, ◌+◌, ◌-◌, ◌<◌, ◌≤◌, List, length, slice_get, nat_lt, if◌then◌else◌, Option, None},
+  Common.{sym, ap, ◌∙◌, arith},
   lemmas.{Bool.Decides.nat_tests, List.append-nil, Option.slice_get_past},
 }
 use Rattle.arraydeque_ring.{
-  specs.{
-    Gaps.gap_moved,
-    Places.{held_at, IsFilled},
-    Ring.{rotated, values, filled, FilledFrom},
-    Runs.{IsEmptyRun, run_rotated, IsFilledRun, runs_exchanged},
-  },
   proofs.{
     gaps.{Crossing.{MayMove, length-gap_moved, get_or-gap_moved}, GapMoves.may_move},
-    moved.Reads.{rotated_from, length-run_rotated, get_or-run_rotated, length-runs_exchanged, get_or-runs_exchanged},
+    moved.Reads.{rotated_from, length-run_rotated, get_or-run_rotated, length-runs_exchanged},
+    moved.Reads.get_or-runs_exchanged,
     places.{
       Filled.{filled_run_of, empty_run_of},
       Holds.Holds-first,
       Items.{slice_get_some, same_places},
       LaidOut.{LaidOut, holds, LaidOut-values},
     },
+  },
+  specs.{
+    Gaps.gap_moved,
+    Places.{held_at, IsFilled},
+    Ring.{rotated, values, filled, FilledFrom},
+    Runs.{IsEmptyRun, run_rotated, IsFilledRun, runs_exchanged},
   },
 }
 

@@ -1,20 +1,14 @@
 -- All items of a ring are lent in two runs of its places: what the runs hold, and what the ring is after any writing.
 use Rattle.std.{
   proofs.{
-    Common.{◌≡◌, ℕ, ◌+◌, ◌-◌, ◌≤◌, ◌⊎◌, inl, inr, List, [], ◌++◌, length, take, drop, Option, ap, ◌∙◌, arith},
-    lemmas.{List.{nil_from_length, length-append, take_all, append-nil, take-append-drop, length-drop}},
+    Common.{◌≡◌, ℕ, ◌+◌, ◌-◌, ◌≤◌, ◌⊎◌, inl, inr, List, [], ◌++◌, length, take, drop, Option, ap},
+    Common.{◌∙◌, arith},
+    lemmas.List.{nil_from_length, length-append, take_all, append-nil, take-append-drop},
+    lemmas.List.length-drop,
   },
   specs.Prelude.min,
 }
 use Rattle.arraydeque_ring.{
-  specs.{
-    Places.Region,
-    Ring.RingState,
-    RingLends.rewritten,
-    Runs.{as_many, with_run, HoldsRun, IsFilledRun},
-    Steps.more_lends,
-    declared.ring.Ring.TheInside.Inside,
-  },
   proofs.{
     loans.Placed.{as_many-same, as_many-twice, length-as_many},
     Opened.Opened,
@@ -25,6 +19,14 @@ use Rattle.arraydeque_ring.{
       Items.items,
       LaidOut.{LaidOut, LaidOut-by, holds, IsFilledRun-LaidOut, same_run},
     },
+  },
+  specs.{
+    declared.ring.Ring.TheInside.Inside,
+    Places.Region,
+    Ring.RingState,
+    RingLends.rewritten,
+    Runs.{as_many, with_run, HoldsRun, IsFilledRun},
+    Steps.more_lends,
   },
 }
 

@@ -1,10 +1,13 @@
 -- A slice is made of what is lent of a run, and a `Loan` of its two slices, under any name. Assumes `Logic`.
 use Rattle.arraydeque_ring.{
-  proofs.memory.Kit.{◌≡◌, refl, ap, List, [], ◌∷◌, ◌+◌, ◌<◌, ◌^◌, length, Ura, ent, sep, GName, Fml, fsep, ftrue, Val},
-  proofs.memory.Kit.{vstruct, vcons, vnil, Logic, sem, ‵, ◌$◌, ◌∵◌, !, qed, move, use0, fjoin, fpick, fpack, Step},
-  proofs.memory.Kit.{step, Item, Goal, sym, subst, use2, rewrite, slice_val, fobs, fbor, Borrowed, mem, ℕ, feq_i, done},
-  proofs.memory.Kit.{El, R, param_laws, RattleType, nothing, NamedLft, MutSlice, MutBor, makes_shadow, Struct},
-  specs.{Loans.LoanState, declared.slots.loan.Loan.TheInside.Inside},
+  proofs.memory.{
+    Kit.{◌≡◌, refl, ap, List, [], ◌∷◌, ◌+◌, ◌<◌, ◌^◌, length, Ura, ent, sep, GName, Fml, fsep},
+    Kit.{ftrue, Val, vstruct, vcons, vnil, Logic, sem, ‵, ◌$◌, ◌∵◌, !, qed, move, use0, fjoin},
+    Kit.{fpick, fpack, Step, step, Item, Goal, sym, subst, use2, rewrite, slice_val, fobs, fbor},
+    Kit.{Borrowed, mem, ℕ, feq_i, done, El, R, param_laws, RattleType, nothing, NamedLft, MutSlice},
+    Kit.{MutBor, makes_shadow, Struct},
+  },
+  specs.{declared.slots.loan.Loan.TheInside.Inside, Loans.LoanState},
 }
 use types.SemTy.{Arr}
 use base.Stored.{coded_list}

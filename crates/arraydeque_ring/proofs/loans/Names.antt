@@ -1,18 +1,19 @@
 -- A loan under a name of its lender's own type: how it is made, and handed on by what holds the lender.
 -- For any types in memory. Assumes `Logic`.
 use Rattle.arraydeque_ring.proofs.memory.{
-  Kit.{via, ◌≡◌, mono_r, refl, SProp, ent, sep, wand, id⊢, emp, snd∗, flft, Lft, GName, Share, fsep, fobs, fauth, fbor},
-  Kit.{‵, raw, ◌⊛◌, later, ◌$◌, ◌∵◌, !, qed, move, keep, use0, use1, use2, drop, split, fsplit, fjoin, fpick, fpack},
-  Kit.{feq_l, rewrite, suffices, await, done, wand_i, all, apply∗, all_e, upd_i, fex, fres, fwand, fupd, fdead, flent},
-  Kit.{fseps, each, split3, assume, group, ℕ, [], ◌∷◌, Ura, Gv, Logic, sem, name_new, Step, step, SemTy, after₂, some},
+  Kit.{via, ◌≡◌, mono_r, refl, SProp, ent, sep, wand, id⊢, emp, snd∗, flft, Lft, GName, Share},
+  Kit.{fsep, fobs, fauth, fbor, ‵, raw, ◌⊛◌, later, ◌$◌, ◌∵◌, !, qed, move, keep, use0, use1, use2},
+  Kit.{drop, split, fsplit, fjoin, fpick, fpack, feq_l, rewrite, suffices, await, done, wand_i},
+  Kit.{all, apply∗, all_e, upd_i, fex, fres, fwand, fupd, fdead, flent, fseps, each, split3},
+  Kit.{assume, group, ℕ, [], ◌∷◌, Ura, Gv, Logic, sem, name_new, Step, step, SemTy, after₂, some},
   Kit.{pick, RattleType, Goal, Soaks, Seq, Item, List, named, vptr, feq_i, fjoin3, mem},
 }
 use types.{
+  Follow.{after, follows_anew, came, Came, followed, followed₂, takes_two},
   Kit.mean,
   Late.{bor_new_deep, deep, close_deep},
+  Mut.open_ref,
   SemTy.Body,
-  Follow.{after, follows_anew, came, Came, followed, followed₂, takes_two},
-  Mut.{open_ref},
 }
 use ghost.Rules.{aged}
 use denote.Ref.{MutRef}

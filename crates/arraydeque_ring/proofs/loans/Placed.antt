@@ -1,8 +1,12 @@
 -- What is written in the stead of as many items of a list, or of as many places, and runs that lie apart.
 use Rattle.std.{
   proofs.{
-    Common.{◌≡◌, ℕ, ◌+◌, ◌≤◌, ◌⊎◌, List, map, length, take, drop, Option, Some, refl, sym, ◌∙◌, arith},
-    lemmas.{Grind.common_steps, List.{places, same_lists, nil_from_length, take_at, take-append-drop, drop-drop}},
+    Common.{◌≡◌, ℕ, ◌+◌, ◌≤◌, ◌⊎◌, List, map, length, take, drop, Option, Some, refl, sym, ◌∙◌},
+    Common.arith,
+    lemmas.{
+      Grind.common_steps,
+      List.{places, same_lists, nil_from_length, take_at, take-append-drop, drop-drop},
+    },
   },
   specs.List.{length_refill, splice},
 }

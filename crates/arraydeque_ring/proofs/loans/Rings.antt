@@ -1,15 +1,16 @@
 -- A `Ring` in memory is taken apart into its slots and its other fields, and made of them again. Assumes `Logic`.
 use Rattle.arraydeque_ring.{
   proofs.{
+    loans.Lending.with_slots,
     memory.{
-      Kit.{via, ◌≡◌, List, [], ◌∷◌, ℕ, ◌+◌, Ura, full_share, ent, sep, SProp, w64, Logic, sem, RattleType, part_at},
-      Kit.{Seq, Goal, Item, some, raw, ‵, ◌⊛◌, ◌$◌, pick, use1, split3, usize, param_laws, El, R, el_x, part_of, lone},
+      Kit.{via, ◌≡◌, List, [], ◌∷◌, ℕ, ◌+◌, Ura, full_share, ent, sep, SProp, w64, Logic, sem},
+      Kit.{RattleType, part_at, Seq, Goal, Item, some, raw, ‵, ◌⊛◌, ◌$◌, pick, use1, split3, usize},
+      Kit.{param_laws, El, R, el_x, part_of, lone},
       Regions.Sr,
     },
-    loans.Lending.with_slots,
     Opened.{Opened, opened, view, Kept, closed, kept},
   },
-  specs.{Places.Region, Ring.RingState, declared.ring.Ring.TheInside.Inside},
+  specs.{declared.ring.Ring.TheInside.Inside, Places.Region, Ring.RingState},
 }
 use denote.{
   Laws.Lawfuls,

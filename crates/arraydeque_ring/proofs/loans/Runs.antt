@@ -1,15 +1,17 @@
 -- Runs of the places of a block, taken out as values and put back. Assumes `Logic`.
 use Rattle.arraydeque_ring.{
   proofs.{
+    loans.Placed.{placed, run, placed_nothing, take-placed, drop-placed, placed-either, run-take},
+    loans.Placed.{apart_cases, as_run},
     memory.{
-      Kit.{◌≡◌, refl, sym, ap, subst, ◌∙◌, List, [], ◌∷◌, map, ℕ, ◌+◌, ◌*◌, ◌≤◌, arith, length, take, drop_list},
-      Kit.{length-take, Some, Ura, full_share, ent, sep, Fml, part_at, mem, Logic, sem, ‵, ◌⊛◌, ◌$◌, length-map, Goal},
-      Kit.{◌∵◌, !, qed, by, move, keep, use1, use2, use3, split, fsplit, rewrite, done, nothing, El, R, el_x, inl, inr},
-      Kit.{common_steps, cells, fsep, fjoin, Seq, Step, step, Item, SemTy, feq_i, feq_l},
+      Kit.{◌≡◌, refl, sym, ap, subst, ◌∙◌, List, [], ◌∷◌, map, ℕ, ◌+◌, ◌*◌, ◌≤◌, arith, length},
+      Kit.{take, drop_list, length-take, Some, Ura, full_share, ent, sep, Fml, part_at, mem, Logic},
+      Kit.{sem, ‵, ◌⊛◌, ◌$◌, length-map, Goal, ◌∵◌, !, qed, by, move, keep, use1, use2, use3},
+      Kit.{split, fsplit, rewrite, done, nothing, El, R, el_x, inl, inr, common_steps, cells, fsep},
+      Kit.{fjoin, Seq, Step, step, Item, SemTy, feq_i, feq_l},
       Owned.{item_size, Place},
       Rows.{Around, run_out, run_in},
     },
-    loans.Placed.{placed, run, placed_nothing, take-placed, drop-placed, placed-either, run-take, apart_cases, as_run},
   },
   specs.{Loans.AreApart, Ownership.places_owned, Runs.{as_many, with_run, IsFilledRun}},
 }

@@ -1,10 +1,10 @@
 -- A pair of two slices for writing, and how a loan gives it. Assumes `Logic`.
 use Rattle.arraydeque_ring.{
   proofs.memory.{
-    Kit.{refl, List, [], ◌∷◌, Ura, id⊢, Logic, Val, Env, Body, After, Seq, Item, RattleType, NamedLft, named_lft},
-    Kit.{MutSlice, Struct, El, R, el_x, MutBor, ‵, raw, ◌$◌, move, join, fjoin, nothing, heard, rewrite, ◌⊑◌, tables},
-    Kit.{Contract},
     Called.{Called, calls_met, first_fact, knows},
+    Kit.{refl, List, [], ◌∷◌, Ura, id⊢, Logic, Val, Env, Body, After, Seq, Item, RattleType},
+    Kit.{NamedLft, named_lft, MutSlice, Struct, El, R, el_x, MutBor, ‵, raw, ◌$◌, move, join},
+    Kit.{fjoin, nothing, heard, rewrite, ◌⊑◌, tables, Contract},
   },
   specs.Loans.LoanState,
 }
@@ -12,12 +12,17 @@ use contract.{Lifetimes.{Lfts, Shares, AllOutlive, toks}, Running.{Running, Mach
 use denote.{
   Laws.{Lawful, Typed},
   Slice.mut_slice_Lawful,
-  Struct.{Declared.{Declared, shape}, Recorded.recorded_lawful, Struct.Struct-Lawful, Tuple.{Tuple, tuple_type}},
+  Struct.{
+    Declared.{Declared, shape},
+    Recorded.recorded_lawful,
+    Struct.Struct-Lawful,
+    Tuple.{Tuple, tuple_type},
+  },
   Triple.Statement.Triple,
 }
 use mir.Syntax.{Callee, Opd, Place, call, seq}
 use prog.Model.{Model}
-use types.{Kit.{lands, runs}, Run.{Opds}}
+use types.{Kit.{lands, runs}, Run.Opds}
 use Rattle.arraydeque_ring.specs.contracts.slots.loan.Loan as loan
 use Rattle.arraydeque_ring.specs.contracts.slots.loan.Loan.into_slices as into
 

@@ -1,8 +1,9 @@
 -- The size of a region's block, and the right to free it. Assumes `Logic`.
 use Rattle.arraydeque_ring.{
   proofs.memory.{
-    Kit.{◌≡◌, sym, ap, subst, ℕ, ◌*◌, ◌<◌, ◌^◌, arith, Ura, ent, emp, guard, guard_i, id⊢, fact_use, Logic, sem, Ty},
-    Kit.{size, Ptr, block_ptr, El, R, Global, List, Item, Env, w64, vint, size_word, bin, is},
+    Kit.{◌≡◌, sym, ap, subst, ℕ, ◌*◌, ◌<◌, ◌^◌, arith, Ura, ent, emp, guard, guard_i, id⊢},
+    Kit.{fact_use, Logic, sem, Ty, size, Ptr, block_ptr, El, R, Global, List, Item, Env, w64, vint},
+    Kit.{size_word, bin, is},
     Owned.item_size,
   },
   specs.Ownership.{right_to_free},

@@ -1,20 +1,20 @@
 -- Steps of a walk: facts are heard, a block is left, and a call takes what is known and gives its result.
 -- Assumes `Logic`.
 use Rattle.arraydeque_ring.proofs.memory.{
-  Kit.{List, [], ◌∷◌, Ura, emp, ent, sep, id⊢, Val, fact, fact_i, Logic, Goal, Soaks, Seq, Step, Item, ‵, raw, ◌⊛◌},
-  Kit.{some, later, ◌$◌, move, use0, use1, use2, split, pick, drop, await, peeks, Is, shows, triple_of, RattleType},
-  Kit.{Fn, Wp, after, at_ret, at_return, env, exec, tables, ℕ, heard, SProp, Lasts, lasts, Contract, Env, Body, After},
-  Kit.{calls_at, framed},
+  Kit.{List, [], ◌∷◌, Ura, emp, ent, sep, id⊢, Val, fact, fact_i, Logic, Goal, Soaks, Seq, Step},
+  Kit.{Item, ‵, raw, ◌⊛◌, some, later, ◌$◌, move, use0, use1, use2, split, pick, drop, await},
+  Kit.{peeks, Is, shows, triple_of, RattleType, Fn, Wp, after, at_ret, at_return, env, exec},
+  Kit.{tables, ℕ, heard, SProp, Lasts, lasts, Contract, Env, Body, After, calls_at, framed},
 }
 use denote.{
   Laws.{Lawful, Typed},
   Signature.type_at,
-  Triple.{Entry.{Res, alive}, Clauses.{Ended, Clauses, closing, at_exit}, Statement.Triple},
+  Triple.{Clauses.{Ended, Clauses, closing, at_exit}, Entry.{Res, alive}, Statement.Triple},
 }
 use contract.Running.{MachineTables, Running}
 use mir.Syntax.{Callee, Opd, Place, call, seq}
 use prog.Model.{Model}
-use types.{Kit.{lands, mean, prop, runs}, Run.{Opds}}
+use types.{Kit.{lands, mean, prop, runs}, Run.Opds}
 
 module _ {M : Type 1} {𝓤 : Ura M} (𝓛 : Logic 𝓤) (T : Ended) (c : Clauses 𝓤 T) where
   abbrev pub Called : Contract 𝓤

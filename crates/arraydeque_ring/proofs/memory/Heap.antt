@@ -1,17 +1,18 @@
 -- A call of the allocator, from the words it takes to the block of places it gives. Assumes `Logic`.
 use Rattle.arraydeque_ring.proofs.memory.{
-  Kit.{◌≡◌, refl, ap, ◌∙◌, true, false, List, [], ◌∷◌, ◌++◌, ℕ, ◌*◌, ◌<◌, ◌^◌, Ok, Err, Ura, SProp, ent, sep, id⊢},
-  Kit.{never, Lft, Share, Fml, ftrue, fsep, froom, flft, w64, Val, vint, vptr, of_list, Memory, size, align, capped},
-  Kit.{capped_fits, Routine, Logic, sem, live, Goal, Soaks, Seq, Item, ‵, raw, ◌⊛◌, some, later, ◌$◌, ◌∵◌, !, qed},
-  Kit.{move, use1, drop, split, join, pick, fsplit, fjoin, fpick, feq_l, feq_i, await, done, Fun, hidden_shr},
-  Kit.{block_ptr, null_ptr, ptr_val, in_a_block, only, nothing, Contract, triple_of, Global, pure_i, owns, usize},
-  Kit.{RawPtr, El, elτ},
   Blocks.{block_ty, block_size, block_align, token},
   Called.knows,
+  Kit.{◌≡◌, refl, ap, ◌∙◌, true, false, List, [], ◌∷◌, ◌++◌, ℕ, ◌*◌, ◌<◌, ◌^◌, Ok, Err, Ura, SProp},
+  Kit.{ent, sep, id⊢, never, Lft, Share, Fml, ftrue, fsep, froom, flft, w64, Val, vint, vptr},
+  Kit.{of_list, Memory, size, align, capped, capped_fits, Routine, Logic, sem, live, Goal, Soaks},
+  Kit.{Seq, Item, ‵, raw, ◌⊛◌, some, later, ◌$◌, ◌∵◌, !, qed, move, use1, drop, split, join, pick},
+  Kit.{fsplit, fjoin, fpick, feq_l, feq_i, await, done, Fun, hidden_shr, block_ptr, null_ptr},
+  Kit.{ptr_val, in_a_block, only, nothing, Contract, triple_of, Global, pure_i, owns, usize},
+  Kit.{RawPtr, El, elτ},
   Owned.item_size,
 }
 use base.Logic.{fst∗}
-use Rattle.std.{specs.Allocator.block_if_ok, proofs.alloc.Calls.{Answer, answer_val}}
+use Rattle.std.{proofs.alloc.Calls.{Answer, answer_val}, specs.Allocator.block_if_ok}
 use Rattle.std.specs.contracts.alloc.Global as heap
 use Rattle.std.specs.contracts.impls.GlobalAllocator.TheImpl as impl_heap
 use Rattle.std.specs.contracts.impls.GlobalAllocator.allocate as asks

@@ -2,17 +2,17 @@
 -- a `&mut` opens is lent. Assumes `Logic`.
 use Rattle.arraydeque_ring.{
   proofs.memory.{
-    Kit.{◌≡◌, refl, ap, List, [], ◌∷◌, ℕ, ◌+◌, ◌*◌, ◌<◌, ◌^◌, length, Ura, never, id⊢, Lft, fhide, Logic, Goal, Seq},
-    Kit.{Item, ‵, ◌⊛◌, ◌$◌, move, drop, use1, split, rewrite, fsplit, fpick, flt_l, hidden_shr, Ptr, RawPtr, block_ptr},
-    Kit.{in_a_block, El, R, el_x, Struct, Soaks, Share, GName, Gv, Global, Fml, SemTy, ent, sep, sem, mem, cell_at},
-    Kit.{flft, full_share, fobs, fauth, fbor, fobor, Borrowed, ◌∵◌, !, qed, by, use2, await, pick, some, later, group},
-    Kit.{split3},
+    Kit.{◌≡◌, refl, ap, List, [], ◌∷◌, ℕ, ◌+◌, ◌*◌, ◌<◌, ◌^◌, length, Ura, never, id⊢, Lft, fhide},
+    Kit.{Logic, Goal, Seq, Item, ‵, ◌⊛◌, ◌$◌, move, drop, use1, split, rewrite, fsplit, fpick},
+    Kit.{flt_l, hidden_shr, Ptr, RawPtr, block_ptr, in_a_block, El, R, el_x, Struct, Soaks, Share},
+    Kit.{GName, Gv, Global, Fml, SemTy, ent, sep, sem, mem, cell_at, flft, full_share, fobs, fauth},
+    Kit.{fbor, fobor, Borrowed, ◌∵◌, !, qed, by, use2, await, pick, some, later, group, split3},
     Owned.item_size,
     Regions.{Sr, Seen, owning, Fits, Frame, slots_whole, slots_val, places, right},
   },
-  specs.{Ownership.{places_lent, slots_lent}},
+  specs.Ownership.{places_lent, slots_lent},
 }
-use denote.{Struct.{Lending.lent_out, Owning.{to, shape}}, Opens.unhide}
+use denote.{Opens.unhide, Struct.{Lending.lent_out, Owning.{to, shape}}}
 use types.Follow.{after, takes_part}
 use Rattle.std.specs.contracts.alloc.Global as heap
 use Rattle.arraydeque_ring.specs.contracts.slots.Slots.TheInside as inside

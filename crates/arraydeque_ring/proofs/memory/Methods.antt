@@ -1,23 +1,24 @@
 -- How a walk begins and ends, by its function's parameters, told one by one: `mutable` for a `&mut`, `seen` for a `&`,
 -- `item`, `whole_slots`, `handle`, `word` or else `told` for one by value, and at the end `words n`. Assumes `Logic`.
 use Rattle.arraydeque_ring.proofs.memory.{
-  Kit.{stay_ref, Goes-ref, MutBor, List, [], ◌∷◌, ℕ, zero, refl, suc, Ura, SProp, ent, id⊢, Logic, Fn, Val, ◌≡◌, Bool},
-  Kit.{named, w64, sem, sep, ‵, raw, ◌⊛◌, at_ret, ◌$◌, ◌∵◌, !, qed, move, split, fsplit, fsplit3, true, false, fjoin},
-  Kit.{fjoin3, feq_i, suffices, done, enter, flft, fobs, fbor, Borrowed, mem, RattleType, owns, types_at, plain, usize},
-  Kit.{uint_vals, mut_vals, mut_Tells, yes, no, nothing, Stays, stay_dropped, Goes-dropped, Goes-spent_ref, heap_Tells},
-  Kit.{El, R, elτ, one, lawful, shr_Tells, tables, ftrue, fsep, vint, proved_at, walk_of, use1, Item, WpFn, subst, sym},
-  Kit.{via, drop, Fml, frame, by, Good, layout, Is},
+  Kit.{stay_ref, Goes-ref, MutBor, List, [], ◌∷◌, ℕ, zero, refl, suc, Ura, SProp, ent, id⊢, Logic},
+  Kit.{Fn, Val, ◌≡◌, Bool, named, w64, sem, sep, ‵, raw, ◌⊛◌, at_ret, ◌$◌, ◌∵◌, !, qed, move},
+  Kit.{split, fsplit, fsplit3, true, false, fjoin, fjoin3, feq_i, suffices, done, enter, flft},
+  Kit.{fobs, fbor, Borrowed, mem, RattleType, owns, types_at, plain, usize, uint_vals, mut_vals},
+  Kit.{mut_Tells, yes, no, nothing, Stays, stay_dropped, Goes-dropped, Goes-spent_ref, heap_Tells},
+  Kit.{El, R, elτ, one, lawful, shr_Tells, tables, ftrue, fsep, vint, proved_at, walk_of, use1},
+  Kit.{Item, WpFn, subst, sym, via, drop, Fml, frame, by, Good, layout, Is},
   Regions.Sr,
 }
 use base.Logic.{emp∗}
 use prog.{Model.Model, Wp.Closed}
 use mir.Syntax.{Callee}
-use contract.{Running.Running, Lifetimes.{Lfts, Shares, AllOutlive, Outlives, toks}}
+use contract.{Lifetimes.{Lfts, Shares, AllOutlive, Outlives, toks}, Running.Running}
 use types.Kit.{Sq, prop, runs, allocs, params', ⋆, push}
 use denote.{
   Exit.{Kept, Last, rest},
-  RattleType.{Denots, Valss, flat},
   Laws.{Ises, Are, Tells},
+  RattleType.{Denots, Valss, flat},
   Signature.{Slot, AllWithin, type_at, mut_ref_to, shr_ref_to, meet_at},
   Triple.{
     Clauses.{Ended, Clauses, closing, at_exit},

@@ -1,10 +1,11 @@
 -- The places of a block, taken apart and put together again. Assumes `Logic`.
 use Rattle.arraydeque_ring.{
   proofs.memory.{
-    Kit.{◌≡◌, refl, sym, ap, ◌∙◌, List, [], ◌∷◌, ◌++◌, map, ℕ, zero, suc, ◌+◌, ◌*◌, arith, zero-mul, suc-mul, length},
-    Kit.{drop_list, replicate, take-append-drop, Option, Some, None, type_size, Ura, ent, sep, emp, wand, via, id⊢},
-    Kit.{snd∗, mono_r, Lft, Fml, froom, ty_array, align, Logic, sem, ‵, raw, ◌⊛◌, ◌$◌, ◌∵◌, !, qed, by, move, keep},
-    Kit.{drop, use0, use1, split, frame, fsplit, fjoin, rewrite, done, nothing, El, R, el_x, elτ, elements_shared},
+    Kit.{◌≡◌, refl, sym, ap, ◌∙◌, List, [], ◌∷◌, ◌++◌, map, ℕ, zero, suc, ◌+◌, ◌*◌, arith},
+    Kit.{zero-mul, suc-mul, length, drop_list, replicate, take-append-drop, Option, Some, None},
+    Kit.{type_size, Ura, ent, sep, emp, wand, via, id⊢, snd∗, mono_r, Lft, Fml, froom, ty_array},
+    Kit.{align, Logic, sem, ‵, raw, ◌⊛◌, ◌$◌, ◌∵◌, !, qed, by, move, keep, drop, use0, use1, split},
+    Kit.{frame, fsplit, fjoin, rewrite, done, nothing, El, R, el_x, elτ, elements_shared},
   },
   specs.{Ownership.{place_owned, places_owned, place_lent, places_lent}, Runs.HoldsRun},
 }

@@ -2,13 +2,14 @@
 -- a `&mut` to one is opened and closed. Assumes `Logic`.
 use Rattle.arraydeque_ring.{
   proofs.memory.{
-    Kit.{◌≡◌, sym, length-replicate, None, refl, ap, subst, ◌∙◌, List, [], ◌∷◌, ◌++◌, ℕ, ◌+◌, ◌*◌, ◌<◌, ◌≤◌, ◌^◌},
-    Kit.{arith, length, Ura, full_share, Gv, ent, sep, emp, id⊢, never, Lft, Share, GName, Fml, fsep, flft, fobs},
-    Kit.{fauth, fbor, fobor, ftrue, w64, Val, vunit, vint, vptr, vstruct, vcons, vnil, of_list, Logic, sem, Borrowed},
-    Kit.{Goal, Soaks, Step, step, Seq, Item, ‵, ◌$◌, ◌∵◌, !, qed, move, drop, rewrite, use0, fsplit, fjoin, fpick},
-    Kit.{fpack, feq_l, feq_i, flt_l, flt_i, RattleType, Valss, Is, shows, layout, cell_at, mem, Ptr, block_ptr},
-    Kit.{ptr_val, in_a_block, nothing, opens, closes, peeks, Good, heap_val, heap_Tells, times_below, done, El, R},
-    Kit.{el_x, part_of, makes_shadow, Global},
+    Kit.{◌≡◌, sym, length-replicate, None, refl, ap, subst, ◌∙◌, List, [], ◌∷◌, ◌++◌, ℕ, ◌+◌, ◌*◌},
+    Kit.{◌<◌, ◌≤◌, ◌^◌, arith, length, Ura, full_share, Gv, ent, sep, emp, id⊢, never, Lft, Share},
+    Kit.{GName, Fml, fsep, flft, fobs, fauth, fbor, fobor, ftrue, w64, Val, vunit, vint, vptr},
+    Kit.{vstruct, vcons, vnil, of_list, Logic, sem, Borrowed, Goal, Soaks, Step, step, Seq, Item},
+    Kit.{‵, ◌$◌, ◌∵◌, !, qed, move, drop, rewrite, use0, fsplit, fjoin, fpick, fpack, feq_l, feq_i},
+    Kit.{flt_l, flt_i, RattleType, Valss, Is, shows, layout, cell_at, mem, Ptr, block_ptr, ptr_val},
+    Kit.{in_a_block, nothing, opens, closes, peeks, Good, heap_val, heap_Tells, times_below, done},
+    Kit.{El, R, el_x, part_of, makes_shadow, Global},
   },
   specs.{Places.Region, Ownership.slots_owned, declared.slots.Slots.TheInside.Inside},
 }
@@ -23,7 +24,8 @@ pub use Rattle.arraydeque_ring.{
   proofs.memory.{
     Blocks.scaled,
     Owned.{Place, Row, item_size, of_nothing, of_room, run_seen},
-    Rows.{Around, run_out, run_in, place_out, place_in, row_room, array_out, array_in, room_out, room_in},
+    Rows.{Around, run_out, run_in, place_out, place_in, row_room, array_out, array_in, room_out},
+    Rows.room_in,
   },
 }
 use Rattle.arraydeque_ring.specs.contracts.slots.Slots as slots

@@ -2,11 +2,12 @@
 use Rattle.arraydeque_ring.{
   proofs.{
     memory.{
-      Kit.{drop, ◌≡◌, refl, sym, ap, ◌∙◌, List, [], ◌∷◌, ◌++◌, map, ℕ, ◌+◌, ◌*◌, ◌≤◌, arith, length, take, drop_list},
-      Kit.{length-take, Some, None, Ura, full_share, ent, sep, Fml, fsep, fat, froom, ty_array, Logic, sem, ‵, ◌⊛◌},
-      Kit.{some, given, ◌$◌, ◌∵◌, !, qed, by, move, keep, use1, use2, pick, learn, split, fsplit, fjoin, rewrite, done},
-      Kit.{part_at, El, R, el_x, elτ, Array, ◌<◌, get_or, set, drop-cons, part_out, set_split, nothing, suc, Item},
-      Kit.{Goal, Step, step, length-map, length-replicate, replicate},
+      Kit.{drop, ◌≡◌, refl, sym, ap, ◌∙◌, List, [], ◌∷◌, ◌++◌, map, ℕ, ◌+◌, ◌*◌, ◌≤◌, arith},
+      Kit.{length, take, drop_list, length-take, Some, None, Ura, full_share, ent, sep, Fml, fsep},
+      Kit.{fat, froom, ty_array, Logic, sem, ‵, ◌⊛◌, some, given, ◌$◌, ◌∵◌, !, qed, by, move, keep},
+      Kit.{use1, use2, pick, learn, split, fsplit, fjoin, rewrite, done, part_at, El, R, el_x, elτ},
+      Kit.{Array, ◌<◌, get_or, set, drop-cons, part_out, set_split, nothing, suc, Item, Goal, Step},
+      Kit.{step, length-map, length-replicate, replicate},
       Owned.{item_size, Place, Row, cut, glue, of_room},
     },
     places.Filled.length_filled,

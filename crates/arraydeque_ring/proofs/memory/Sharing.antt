@@ -1,20 +1,25 @@
 -- A `&` to a region can be made, copied and shortened where a `&` to an item can. Assumes `Logic`.
 use Prim.Native.Nat.{ℕ, ◌+◌}
-use Rattle.std.specs.{Prelude.{List, [], ◌∷◌, Option, Some, None}, Mem.type_size, declared.alloc.Global.Global}
+use Rattle.std.specs.{
+  declared.alloc.Global.Global,
+  Mem.type_size,
+  Prelude.{List, [], ◌∷◌, Option, Some, None},
+}
 use seplogic.Ra.Ura.{Ura}
 use base.Fml.{Lft, Incl, ffalse}
 use types.Logic.{Logic}
 use denote.{
-  RattleType.{RattleType, RowLaws},
   Param.Laws.Laws,
+  RattleType.{RattleType, RowLaws},
   RawPtr.{Ptr, block_ptr, null_ptr},
+  Shares.Shares-less,
   Sharing.{ShrLaws, said},
   SharingLaws.{beside_shr_laws, nothing_shr_laws, said_shr_laws},
-  Shares.Shares-less,
   Struct.Lending.{Lends, Lends-both, Lends-first, Lends-nothing, Lends-said, Lends-false},
 }
 use Rattle.arraydeque_ring.specs.{
-  Ownership.{place_owned, places_owned, place_lent, places_lent, within_reach, slots_owned, slots_lent},
+  Ownership.{place_owned, places_owned, place_lent, places_lent, within_reach, slots_owned},
+  Ownership.slots_lent,
 }
 
 module _ (R : RattleType) (L : RowLaws R) where

@@ -1,22 +1,25 @@
 -- A region may cross threads as its items may. Assumes nothing.
 use Rattle.std.{
-  specs.{
-    Prelude.{ℕ, ◌+◌, ◌*◌, List, [], ◌∷◌, length, Option, Some, None, Bool, true, false, nat_lt},
-    Mem.type_size,
-    declared.alloc.Global.Global,
-  },
   proofs.Crossing.frees,
+  specs.{
+    declared.alloc.Global.Global,
+    Mem.type_size,
+    Prelude.{ℕ, ◌+◌, ◌*◌, List, [], ◌∷◌, length, Option, Some, None, Bool, true, false, nat_lt},
+  },
 }
-use base.{Fraction.full_share, Fml.Fml, Shift.Keyless}
+use base.{Fml.Fml, Fraction.full_share, Shift.Keyless}
 use denote.{
   Exit.{Exit, unchanged, leaves, hidden, under},
+  Param.Send.{IsSend, IsSync, Quiet, Common, AllSend, part_keyless, owning_send, struct_send},
+  Param.Send.{struct_sync, sendable},
   RattleType.RattleType,
   RawPtr.{Ptr, block_ptr, null_ptr},
   Ref.NamedLft,
-  Struct.{Struct.exits_of, Owning.{shape, fields, to}},
-  Param.Send.{IsSend, IsSync, Quiet, Common, AllSend, part_keyless, owning_send, struct_send, struct_sync, sendable},
+  Struct.{Owning.{shape, fields, to}, Struct.exits_of},
 }
-use Rattle.arraydeque_ring.specs.Ownership.{owned_if, places_owned, places_lent, slots_owned, slots_lent}
+use Rattle.arraydeque_ring.specs.{
+  Ownership.{owned_if, places_owned, places_lent, slots_owned, slots_lent},
+}
 use Rattle.arraydeque_ring.specs.contracts.slots.loan.LoanName as loan_name
 use Rattle.arraydeque_ring.specs.contracts.slots.Slots.TheInside as inside
 

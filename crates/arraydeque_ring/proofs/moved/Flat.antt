@@ -1,22 +1,22 @@
 -- Runs that move where neither side passes the region's end.
 use Rattle.std.proofs.{
-  Common.{◌≡◌, ℕ, ◌+◌, ◌-◌, ◌<◌, ◌≤◌, ◌⊎◌, inl, inr, List, ◌++◌, length, take, drop, get_or, nat_lt, if◌then◌else◌},
-  Common.{Option, None, refl, sym, ◌∙◌, arith},
-  Math.Nat.mod-eq_of_lt,
+  Common.{◌≡◌, ℕ, ◌+◌, ◌-◌, ◌<◌, ◌≤◌, ◌⊎◌, inl, inr, List, ◌++◌, length, take, drop, get_or},
+  Common.{nat_lt, if◌then◌else◌, Option, None, refl, sym, ◌∙◌, arith},
   lemmas.{
     Bool.Decides.nat_tests,
     List.{places, FromFn.{length-map-range_with_len, get_or-map-range_with_len}},
   },
+  Math.Nat.mod-eq_of_lt,
 }
 use Rattle.arraydeque_ring.{
+  proofs.places.{Items.same_places, Rotated.{place_of_cases, up_from}},
   specs.{
+    Moved.{distance, held_after, run_moved},
     Places.{Region, held_at},
+    Ring.place_of,
     Runs.run_emptied,
     Steps.Steps,
-    Ring.place_of,
-    Moved.{distance, held_after, run_moved},
   },
-  proofs.places.{Items.same_places, Rotated.{place_of_cases, up_from}},
 }
 
 -- the distance between two places, of which the first may be the end

@@ -1,9 +1,13 @@
 -- Two runs that are rotated or exchanged, read place by place: where what a place holds came from.
 use Rattle.std.{
   proofs.{
-    Common.{◌≡◌, ℕ, ◌+◌, ◌-◌, ◌<◌, ◌≤◌, List, length, get_or, set, nat_lt, if◌then◌else◌, Option, None, sym, ap},
-    Common.{◌∙◌, arith, rules},
-    lemmas.{Bool.Decides.nat_tests, Grind.common_steps, List.{places, same_lists, length-set, set_comm, Edits.swap_is}},
+    Common.{◌≡◌, ℕ, ◌+◌, ◌-◌, ◌<◌, ◌≤◌, List, length, get_or, set, nat_lt, if◌then◌else◌, Option},
+    Common.{None, sym, ap, ◌∙◌, arith, rules},
+    lemmas.{
+      Bool.Decides.nat_tests,
+      Grind.common_steps,
+      List.{places, same_lists, length-set, set_comm, Edits.swap_is},
+    },
   },
   specs.Prelude.swap,
 }

@@ -1,11 +1,14 @@
 -- Runs that move round the end: what is read afterwards, from a place from which on neither side passes it.
-use Rattle.std.proofs.{Common.{◌≡◌, ℕ, ◌+◌, ◌<◌, ◌≤◌, List, length, Option, ◌∙◌, arith}, lemmas.Bool.Decides.nat_tests}
+use Rattle.std.proofs.{
+  Common.{◌≡◌, ℕ, ◌+◌, ◌<◌, ◌≤◌, List, length, Option, ◌∙◌, arith},
+  lemmas.Bool.Decides.nat_tests,
+}
 use Rattle.arraydeque_ring.{
-  specs.{Ring.place_of, Moved.{distance, run_moved}},
   proofs.{
     moved.Flat.{distance_is, length-moved, look, moved_at},
     places.{Holds.Holds, Rotated.{place_of_cases, place_of-lt, place_of-sum}},
   },
+  specs.{Moved.{distance, run_moved}, Ring.place_of},
 }
 
 -- a distance is the same, wherever places are counted from

@@ -1,19 +1,24 @@
 -- A run of values that moves in two moves or three, round the end: what the first leaves the next ones move.
 use Rattle.std.proofs.{
-  Common.{◌≡◌, ℕ, ◌+◌, ◌-◌, ◌<◌, ◌≤◌, ◌⊎◌, inl, inr, List, length, Option, refl, sym, ap, subst, ◌∙◌, arith},
-  Math.Nat.mod-eq_of_lt,
+  Common.{◌≡◌, ℕ, ◌+◌, ◌-◌, ◌<◌, ◌≤◌, ◌⊎◌, inl, inr, List, length, Option, refl, sym, ap, subst},
+  Common.{◌∙◌, arith},
   lemmas.Bool.Decides.nat_tests,
+  Math.Nat.mod-eq_of_lt,
 }
 use Rattle.arraydeque_ring.{
-  specs.{
-    Places.{held_at, IsFilled},
-    Ring.place_of,
-    Moved.{distance, IsFilledRound, CanCopy, run_moved},
-    Runs.IsFilledRun,
-  },
   proofs.{
     moved.Flat.{distance_is, length-moved, moved_at},
-    places.{Filled.filled_run_of, Items.same_places, Rotated.{MayStartAt, place_of_cases, place_of-lt}},
+    places.{
+      Filled.filled_run_of,
+      Items.same_places,
+      Rotated.{MayStartAt, place_of_cases, place_of-lt},
+    },
+  },
+  specs.{
+    Moved.{distance, IsFilledRound, CanCopy, run_moved},
+    Places.{held_at, IsFilled},
+    Ring.place_of,
+    Runs.IsFilledRun,
   },
 }
 

@@ -1,12 +1,10 @@
 -- A list of places that begins with items and goes on with nothing.
 use Rattle.std.proofs.{
-  Common.{◌≡◌, ℕ, zero, suc, ◌+◌, List, [], ◌∷◌, ◌++◌, map, length, drop, get_or, replicate, slice_get, Option, Some},
-  Common.{None, true, false, refl, sym, ap, ◌∙◌, arith},
-  lemmas.Grind.common_steps,
-  lemmas.List.{append-nil, nil_from_length},
+  Common.{◌≡◌, ℕ, zero, suc, ◌+◌, List, [], ◌∷◌, ◌++◌, map, length, drop, get_or, replicate},
+  Common.{slice_get, Option, Some, None, true, false, refl, sym, ap, ◌∙◌, arith},
+  lemmas.{Grind.common_steps, List.{append-nil, nil_from_length}},
 }
-use Rattle.arraydeque_ring.specs.Ring.{values, filled}
-use Rattle.arraydeque_ring.proofs.places.Items.{get_or-map_Some}
+use Rattle.arraydeque_ring.{proofs.places.Items.get_or-map_Some, specs.Ring.{values, filled}}
 
 module _ {X : Type 0} where
   -- the items, and then k empty places

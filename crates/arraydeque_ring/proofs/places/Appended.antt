@@ -1,7 +1,7 @@
 -- Items that are laid behind a list, in one run of places.
 use Rattle.std.proofs.{
-  Common.{◌≡◌, ℕ, ◌+◌, ◌-◌, ◌≤◌, List, ◌++◌, length, take, drop, get_or, slice_get, nat_lt, if◌then◌else◌, Option},
-  Common.{None, replicate, refl, inl, ◌∙◌, arith},
+  Common.{◌≡◌, ℕ, ◌+◌, ◌-◌, ◌≤◌, List, ◌++◌, length, take, drop, get_or, slice_get, nat_lt},
+  Common.{if◌then◌else◌, Option, None, replicate, refl, inl, ◌∙◌, arith},
   lemmas.{
     Bool.Decides.nat_tests,
     Grind.common_steps,
@@ -11,17 +11,17 @@ use Rattle.std.proofs.{
   Math.Seq.take-add,
 }
 use Rattle.arraydeque_ring.{
-  specs.{Ring.{RingState, up_by}, Runs.{IsEmptyRun, with_run}, Steps.{more_puts, more_takes}},
   proofs.{
     loans.Placed.length-with_run,
     places.{
       Filled.empty_run_of,
-      Items.{items, get_or-map_Some},
       Holds.{Holds, Holds-same},
+      Items.{items, get_or-map_Some},
       LaidOut.{LaidOut, LaidOut-by, LaidOut-nothing, holds},
       Rotated.{MayStartAt, place_of_cases, place_of-run, place_of-sum},
     },
   },
+  specs.{Ring.{RingState, up_by}, Runs.{IsEmptyRun, with_run}, Steps.{more_puts, more_takes}},
 }
 
 module _ {X : Type 0} where
@@ -57,18 +57,18 @@ module _ {X : Type 0} where
         (λ k lt. grind (arith, items)))
 
     -- the places behind the list are empty
-    pub IsEmptyRun-from : (i place run : ℕ) → length xs ≤ i → MayStartAt t i n place → place + run ≤ n → i + run ≤ n
-        → IsEmptyRun ps place run
-    IsEmptyRun-from i place run past lies fits room =
-        empty_run_of ps place run (omega arith) (λ x from to.
+    pub IsEmptyRun-from : (i place count : ℕ) → length xs ≤ i → MayStartAt t i n place → place + count ≤ n
+        → i + count ≤ n → IsEmptyRun ps place count
+    IsEmptyRun-from i place count past lies fits room =
+        empty_run_of ps place count (omega arith) (λ x from to.
         let j = x - place in
         let on : x ≡ place + j = omega arith in
         rw (on, ← place_of-run t i j n place lies (omega arith) (omega arith) (omega arith))
         (l.at (i + j) (omega arith) ∙ slice_get_past xs (i + j) (omega arith)))
 
-    pub IsEmptyRun-behind : (place run : ℕ) → MayStartAt t (length xs) n place →
-        place + run ≤ n → length xs + run ≤ n → IsEmptyRun ps place run
-    IsEmptyRun-behind place run = IsEmptyRun-from (length xs) place run (omega arith)
+    pub IsEmptyRun-behind : (place count : ℕ) → MayStartAt t (length xs) n place →
+        place + count ≤ n → length xs + count ≤ n → IsEmptyRun ps place count
+    IsEmptyRun-behind place count = IsEmptyRun-from (length xs) place count (omega arith)
 
 -- in a new region items are written from the first place on
 pub LaidOut-new : {X : Type 0} (xs : List X) (n : ℕ) → length xs ≤ n

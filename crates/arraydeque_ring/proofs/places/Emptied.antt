@@ -1,7 +1,7 @@
 -- A run of places that is emptied, one place after another.
 use Rattle.std.proofs.{
-  Common.{◌≡◌, ℕ, ◌+◌, ◌-◌, ◌<◌, ◌≤◌, ◌==◌, List, length, set, get_or, nat_lt, if◌then◌else◌, Option, None, arith},
-  Common.{rules},
+  Common.{◌≡◌, ℕ, ◌+◌, ◌-◌, ◌<◌, ◌≤◌, ◌==◌, List, length, set, get_or, nat_lt, if◌then◌else◌},
+  Common.{Option, None, arith, rules},
   lemmas.{Grind.common_steps, List.places},
 }
 use Rattle.arraydeque_ring.{proofs.places.Items.same_places, specs.Runs.run_emptied}

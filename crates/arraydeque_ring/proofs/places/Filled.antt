@@ -1,16 +1,17 @@
 -- Places and runs of them: what is filled, empty, and exchanged.
 use Rattle.std.proofs.{
-  Common.{◌≡◌, ◌≢◌, ℕ, zero, suc, ◌+◌, ◌<◌, ◌≤◌, List, [], ◌∷◌, ◌++◌, length, take, drop, set, get_or, slice_get, swap},
-  Common.{length-set, Option, Some, None, refl, sym, ap, ◌∙◌, subst, add-one, arith},
+  Common.{◌≡◌, ◌≢◌, ℕ, zero, suc, ◌+◌, ◌<◌, ◌≤◌, List, [], ◌∷◌, ◌++◌, length, take, drop, set},
+  Common.{get_or, slice_get, swap, length-set, Option, Some, None, refl, sym, ap, ◌∙◌, subst},
+  Common.{add-one, arith},
   lemmas.{
     Grind.common_steps,
-    List.{length-map, length-take, length-drop, map-append, take_more, get_or-drop, get_or-replicate},
-    List.{get_or_past, get_or-set_other, Edits.swap_is},
+    List.{length-map, length-take, length-drop, map-append, take_more, get_or-drop},
+    List.{get_or-replicate, get_or_past, get_or-set_other, Edits.swap_is},
   },
 }
 use Rattle.arraydeque_ring.{
-  specs.{Places.{held_at, IsFilled}, Runs.{HoldsRun, IsFilledRun, IsEmptyRun}},
   proofs.places.Items.{items, get_or-map_Some, slice_get_some, same_places},
+  specs.{Places.{held_at, IsFilled}, Runs.{HoldsRun, IsFilledRun, IsEmptyRun}},
 }
 
 module _ {X : Type 0} where

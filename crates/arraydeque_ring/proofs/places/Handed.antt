@@ -1,22 +1,21 @@
 -- A run of values that is handed over to the first places of another region,
 -- in two parts where it goes round the region's end.
-use Rattle.std.{
-  proofs.{
-    Common.{◌≡◌, ℕ, ◌+◌, ◌-◌, ◌<◌, ◌≤◌, min, List, ◌++◌, map, length, take, drop, replicate, Option, Some, None, sym},
-    Common.{ap, ◌∙◌, arith, rules},
-    lemmas.{
-      Grind.common_steps,
-      List.{places, take-replicate, length-replicate, same_lists, take_at, drop_at, take-map, drop-map},
-    },
+use Rattle.std.proofs.{
+  Common.{◌≡◌, ℕ, ◌+◌, ◌-◌, ◌<◌, ◌≤◌, min, List, ◌++◌, map, length, take, drop, replicate, Option},
+  Common.{Some, None, sym, ap, ◌∙◌, arith, rules},
+  lemmas.{
+    Grind.common_steps,
+    List.{places, take-replicate, length-replicate, same_lists, take_at, drop_at, take-map},
+    List.drop-map,
   },
 }
 use Rattle.arraydeque_ring.{
-  specs.{Ring.{place_of, rotated}, Runs.{IsEmptyRun, run_emptied, IsFilledRun}},
   proofs.places.{
     Emptied.length-run_emptied,
     Filled.{empty_in_run, empty_run_of},
     Rotated.{MayStartAt, MayStartAt-place_of, place_of_cases, length-rotated, get_or-rotated},
   },
+  specs.{Ring.{place_of, rotated}, Runs.{IsEmptyRun, run_emptied, IsFilledRun}},
 }
 
 -- the len values from the index `at` on can be handed over in two parts,

@@ -2,16 +2,16 @@
 use Rattle.std.proofs.{
   Common.{◌≡◌, ◌≢◌, ℕ, ◌+◌, ◌-◌, ◌<◌, ◌≤◌, List, length, set, get_or, Option, None, sym, ap, ◌∙◌},
   Common.arith,
-  Math.Nat.add-mod-mod,
   lemmas.List.length-set,
+  Math.Nat.add-mod-mod,
 }
 use Rattle.arraydeque_ring.{
-  specs.{Moved.distance, Places.held_at, Ring.{place_of, rotated}},
   proofs.places.{
     Emptied.get_or-written,
     Items.same_places,
     Rotated.{place_of-first, place_of-sum, one_place, get_or-rotated, length-rotated, up_from},
   },
+  specs.{Moved.distance, Places.held_at, Ring.{place_of, rotated}},
 }
 
 -- the n places hold, from the place t on, what f says of each index

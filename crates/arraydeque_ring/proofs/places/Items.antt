@@ -1,7 +1,7 @@
 -- The item at each index of a list that is made of others, and two lists that have the same at each.
 use Rattle.std.proofs.{
-  Common.{◌≡◌, ℕ, zero, suc, ◌+◌, ◌-◌, ◌<◌, inl, inr, List, [], ◌∷◌, ◌++◌, length, map, take, drop, set, get_or},
-  Common.{slice_get, nat_lt, ◌==◌, if◌then◌else◌, Option, Some, None, refl, arith},
+  Common.{◌≡◌, ℕ, zero, suc, ◌+◌, ◌-◌, ◌<◌, inl, inr, List, [], ◌∷◌, ◌++◌, length, map, take, drop},
+  Common.{set, get_or, slice_get, nat_lt, ◌==◌, if◌then◌else◌, Option, Some, None, refl, arith},
   lemmas.{
     Grind.common_steps,
     List.{drop-map, map-set, get_or-drop, ext_get_or},

@@ -1,7 +1,8 @@
 -- What the places of a ring hold, read from its start on: first its items, then nothing.
 use Rattle.std.proofs.{
-  Common.{◌≡◌, ℕ, ◌+◌, ◌-◌, ◌<◌, ◌≤◌, List, [], map, length, take, drop, set, get_or, replicate, nat_lt, if◌then◌else◌},
-  Common.{slice_get, Option, Some, None, is_some, refl, sym, ap, ◌∙◌, swap, arith},
+  Common.{◌≡◌, ℕ, ◌+◌, ◌-◌, ◌<◌, ◌≤◌, List, [], map, length, take, drop, set, get_or, replicate},
+  Common.{nat_lt, if◌then◌else◌, slice_get, Option, Some, None, is_some, refl, sym, ap, ◌∙◌, swap},
+  Common.arith,
   lemmas.{
     Grind.common_steps,
     List.{append-nil, length-drop, length-map, length-replicate, length-set, Edits.swap_is},
@@ -9,18 +10,19 @@ use Rattle.std.proofs.{
   },
 }
 use Rattle.arraydeque_ring.{
+  proofs.places.{
+    AndEmpty.{and_empty, length-and_empty, get_or-and_empty, values-and_empty, values-map_Some},
+    AndEmpty.{filled-and_empty, and_empty_from},
+    Filled.holds_run_of,
+    Holds.{Holds, Holds-each, Holds-of_rotated, Holds-rotated, rotated-Holds, Holds-from},
+    Holds.Holds-set,
+    Items.{items, slice_get_some, same_places},
+    Rotated.{MayStartAt, place_of-run, place_of-zero, place_of_cases, length-rotated, rotated-map},
+  },
   specs.{
     Places.{held_at, IsFilled, AreAllEmpty},
     Ring.{place_of, rotated, values, filled, FilledFrom},
     Runs.{HoldsRun, IsFilledRun},
-  },
-  proofs.places.{
-    AndEmpty.{and_empty, length-and_empty, get_or-and_empty, values-and_empty, values-map_Some, filled-and_empty},
-    AndEmpty.and_empty_from,
-    Filled.holds_run_of,
-    Holds.{Holds, Holds-each, Holds-of_rotated, Holds-rotated, rotated-Holds, Holds-from, Holds-set},
-    Items.{items, slice_get_some, same_places},
-    Rotated.{MayStartAt, place_of-run, place_of-zero, place_of_cases, length-rotated, rotated-map},
   },
 }
 

@@ -1,9 +1,9 @@
 -- A list read from an index on, round its end.
 use Rattle.std.proofs.{
-  Common.{◌≡◌, ℕ, zero, suc, ◌+◌, ◌-◌, ◌%◌, ◌<◌, ◌≤◌, ◌⊎◌, ◌==◌, inl, inr, List, map, length, get_or, sym, ap, ◌∙◌},
-  Common.arith,
-  Math.Nat.{mod-eq_of_lt, mod-eq-sub-mod, mod-add-mod, add_assoc},
+  Common.{◌≡◌, ℕ, zero, suc, ◌+◌, ◌-◌, ◌%◌, ◌<◌, ◌≤◌, ◌⊎◌, ◌==◌, inl, inr, List, map, length},
+  Common.{get_or, sym, ap, ◌∙◌, arith},
   lemmas.{Bool.cases_lt, List.{places, map-append, drop-map, take-map}},
+  Math.Nat.{mod-eq_of_lt, mod-eq-sub-mod, mod-add-mod, add_assoc},
 }
 use Rattle.arraydeque_ring.specs.{Moved.distance, Ring.{place_of, rotated}}
 

@@ -1,21 +1,21 @@
 -- The answers up to the first item that goes: at a list, and at one in two slices.
 use Rattle.std.{
   proofs.{
-    Common.{◌≡◌, ℕ, zero, suc, ◌+◌, ◌<◌, List, [], ◌∷◌, ◌++◌, length, take, replicate, get_or, Bool, true, false, cond},
-    Common.{not, count_by, refl, ap, ◌∙◌, arith},
-    Retain.answers_push,
+    Common.{◌≡◌, ℕ, zero, suc, ◌+◌, ◌<◌, List, [], ◌∷◌, ◌++◌, length, take, replicate, get_or},
+    Common.{Bool, true, false, cond, not, count_by, refl, ap, ◌∙◌, arith},
     lemmas.{
       Bool.Decides.nat_tests,
       List.{append-nil, append_assoc, length-append, length-replicate, replicate-append-replicate},
-      List.{Folds.sum_by-replicate},
+      List.Folds.sum_by-replicate,
       Option.slice_get_within,
     },
+    Retain.answers_push,
   },
   specs.{Borrow.Bor, Fn.{CalledAt, Mut}, List.{items_where_true, Retain.ReturnsInTurn}},
 }
 use Rattle.arraydeque_ring.{
-  specs.Retained.{answers_until, count_moved, MayBeAsked},
   proofs.places.Items.slice_get-append,
+  specs.Retained.{answers_until, count_moved, MayBeAsked},
 }
 
 pub until_goes : (k n : ℕ) → k < n → answers_until k n ≡ replicate k true ++ false ∷ []

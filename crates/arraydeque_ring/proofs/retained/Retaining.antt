@@ -1,29 +1,30 @@
 -- How far a retain has come: the answers so far, what the places hold by them, and what it has cost.
 use Rattle.std.{
   proofs.{
-    Common.{◌≡◌, ℕ, suc, ◌+◌, ◌<◌, ◌≤◌, List, [], ◌∷◌, ◌++◌, length, take, drop, set, get_or, replicate, slice_get},
-    Common.{add-one, Option, Some, None, Bool, true, false, not, count_by, sym, ◌∙◌, arith, cond, refl},
-    Retain.{picked_push_true, picked_push_false, answers_push},
+    Common.{◌≡◌, ℕ, suc, ◌+◌, ◌<◌, ◌≤◌, List, [], ◌∷◌, ◌++◌, length, take, drop, set, get_or},
+    Common.{replicate, slice_get, add-one, Option, Some, None, Bool, true, false, not, count_by},
+    Common.{sym, ◌∙◌, arith, cond, refl},
     lemmas.{
-      List.Sums.{sum_by_push, sum_by-cons},
       List.{length_push, length-take-le, length-replicate, take_all, drop_all},
+      List.Sums.{sum_by_push, sum_by-cons},
       Option.get_or_from_slice_get,
     },
+    Retain.{picked_push_true, picked_push_false, answers_push},
   },
   specs.List.{items_where_true, Retain.ReturnsInTurn},
 }
 use Rattle.arraydeque_ring.{
-  specs.{
-    Places.{held_at, IsFilled},
-    Retained.{answers_until, count_moved, Retains},
-    Ring.{RingState, place_of},
-    Steps.{Steps, more_takes, more_moves},
-  },
   proofs.{
     gaps.Gapped.{Gapped, Gapped-taken_one, Gapped-take, Gapped-move, held_behind, LaidOut-gap_last},
     Opened.{Shows, shows},
     places.{Items.slice_get_some, LaidOut.LaidOut},
     retained.First.{until_goes, all_stay, picked_front, none_goes, none_moved},
+  },
+  specs.{
+    Places.{held_at, IsFilled},
+    Retained.{answers_until, count_moved, Retains},
+    Ring.{RingState, place_of},
+    Steps.{Steps, more_takes, more_moves},
   },
 }
 

@@ -2,30 +2,34 @@
 -- what the places hold by them, and what it has cost.
 use Rattle.std.{
   proofs.{
-    Common.{◌≡◌, ◌≢◌, ℕ, suc, ◌+◌, ◌<◌, ◌≤◌, List, [], ◌∷◌, ◌++◌, length, take, drop, set, get_or, slice_get},
-    Common.{Option, Some, None, Bool, true, false, not, count_by, sym, ap, ◌∙◌, arith, cond, refl},
-    Math.Seq.get_or-append_seam,
-    Retain.answers_push,
+    Common.{◌≡◌, ◌≢◌, ℕ, suc, ◌+◌, ◌<◌, ◌≤◌, List, [], ◌∷◌, ◌++◌, length, take, drop, set, get_or},
+    Common.{slice_get, Option, Some, None, Bool, true, false, not, count_by, sym, ap, ◌∙◌, arith},
+    Common.{cond, refl},
     lemmas.{
       List.{length_push, length-map, length-set, drop_all, take_more, map-append, set-set},
       List.{get_or-set_same, get_or-set_other, length-drop, append-nil, Sums.sum_by-cons},
       Option.get_or_from_slice_get,
     },
+    Math.Seq.get_or-append_seam,
+    Retain.answers_push,
   },
   specs.List.{items_where_true, Retain.{ReturnsInTurn, RetainsInTurn}},
 }
 use Rattle.arraydeque_ring.{
+  proofs.{
+    gaps.Gapped.{Gapped, Gapped-put, Gapped-take, IsEmpty-gap, held_behind, LaidOut-gap_last},
+    Opened.{Shows, shows},
+    places.{Holds.Holds-same, Items.{items, slice_get_some}, LaidOut.{LaidOut, holds}},
+    retained.{
+      First.told_longer,
+      Retaining.{kept_and_gone, count_by-push, moved-push_true, moved-push_false},
+    },
+  },
   specs.{
     Places.{held_at, IsFilled, IsEmpty},
     Retained.{as_were, as_left, written, count_moved, RetainsMut},
     Ring.{RingState, place_of},
     Steps.{Steps, more_takes, more_moves, more_lends},
-  },
-  proofs.{
-    gaps.Gapped.{Gapped, Gapped-put, Gapped-take, IsEmpty-gap, held_behind, LaidOut-gap_last},
-    Opened.{Shows, shows},
-    places.{Holds.Holds-same, Items.{items, slice_get_some}, LaidOut.{LaidOut, holds}},
-    retained.{First.told_longer, Retaining.{kept_and_gone, count_by-push, moved-push_true, moved-push_false}},
   },
 }
 

@@ -1,5 +1,8 @@
 use Rattle.std.proofs.Common.{◌∙◌, Err, Global, refl, subst, sym}
-use Rattle.adq.{specs.{declared.fault.Fault.TheVariants.Arguments, Run.IsOutcome}, proofs.Ended.unsettled}
+use Rattle.adq.{
+  proofs.Ended.unsettled,
+  specs.{declared.fault.Fault.TheVariants.Arguments, Run.IsOutcome},
+}
 use Rattle.adq.proofs.drive.dispatch.Goals as goal
 
 pub returns-in_default-as_str-clause-outcome : goal.returns-in_default-as_str-clause-outcome

@@ -1,6 +1,6 @@
 use Rattle.std.proofs.{
   Common.{◌≡◌, ◌++◌, ◌∷◌, [], ◌∙◌, ap, sym, flat_map, string_bytes, refl},
-  lemmas.{Iterator.{Adapters.{YieldsList-from_vec}, Consumers.{YieldsList-end}}, List.{map-id}},
+  lemmas.{Iterator.{Adapters.YieldsList-from_vec, Consumers.YieldsList-end}, List.map-id},
 }
 use Rattle.arraydeque.specs.Machine.{answer_of}
 use Rattle.adq.specs.Text.{text_of}

@@ -1,10 +1,12 @@
-use Rattle.std.proofs.{
-  Common.{◌≡◌, ◌∙◌, ◌++◌, [], ap, sym, append-nil, append_assoc, subst, take, Ok, rules},
-  KnownBytes.{Consumes-nil, Consumes-trans, Consumes-kept, Consumes-all},
+use Rattle.std.{
+  proofs.{
+    Common.{◌≡◌, ◌∙◌, ◌++◌, [], ap, sym, append-nil, append_assoc, subst, take, Ok, rules},
+    KnownBytes.{Consumes-nil, Consumes-trans, Consumes-kept, Consumes-all},
+  },
+  specs.Io.KnownBytes.{ReadConsumes, IsAtEnd},
 }
-use Rattle.std.specs.Io.KnownBytes.{ReadConsumes, IsAtEnd}
-use Rattle.adq.proofs.drive.read.Goals as goal
 use Rattle.adq.proofs.drive.read.Goals.{in-Ok+in_ok-extend_from_slice-in-Ok, in-Err}
+use Rattle.adq.proofs.drive.read.Goals as goal
 
 pub loop-init : goal.loop-init
 loop-init g c = ([], sym (append-nil _), Consumes-nil _)

@@ -1,5 +1,4 @@
-use Rattle.std.proofs.Common.{◌≡◌, ◌++◌, ℕ, List}
-use Rattle.std.specs.Io.KnownBytes.{Consumes}
+use Rattle.std.{proofs.Common.{◌≡◌, ◌++◌, ℕ, List}, specs.Io.KnownBytes.Consumes}
 use Rattle.adq.proofs.drive.read.Given as goal
 
 -- what was read so far, and nothing else, is what the reader lost

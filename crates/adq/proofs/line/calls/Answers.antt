@@ -3,7 +3,7 @@ use Rattle.std.proofs.{
   lemmas.{
     Iterator.{
       Consumers.{YieldsList-turn, YieldsList-end, YieldsList-from_enumerate},
-      Splits.{YieldsList-from_slice_split},
+      Splits.YieldsList-from_slice_split,
     },
     Result.err_from_is_err_and,
   },

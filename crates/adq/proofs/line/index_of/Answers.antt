@@ -1,4 +1,7 @@
-use Rattle.std.proofs.{Common.{lit<, ◌∙◌, sym, subst}, lemmas.{Bool.{false≢true}, Str.Pattern.starts_char}}
+use Rattle.std.proofs.{
+  Common.{lit<, ◌∙◌, sym, subst},
+  lemmas.{Bool.false≢true, Str.Pattern.starts_char},
+}
 use Rattle.adq.{proofs.Numbers.{Reads, index_read, plus_no_index}, specs.Line.index}
 use Rattle.adq.proofs.line.index_of.Goals as goal
 

@@ -1,4 +1,7 @@
-use Rattle.std.proofs.{Common.{lit<, ◌∙◌, sym, subst}, lemmas.{Bool.{false≢true}, Str.Pattern.starts_char}}
+use Rattle.std.proofs.{
+  Common.{lit<, ◌∙◌, sym, subst},
+  lemmas.{Bool.false≢true, Str.Pattern.starts_char},
+}
 use Rattle.adq.{proofs.Numbers.{Reads, value_read, plus_no_value}, specs.Line.value}
 use Rattle.adq.proofs.line.value_of.Goals as goal
 

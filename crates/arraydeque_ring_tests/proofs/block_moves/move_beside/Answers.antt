@@ -1,5 +1,6 @@
 use Rattle.std.proofs.{
-  Common.{ℕ, ◌≡◌, length, get_or, replicate, List, Option, None, inl, inr, sym, subst, ap, ◌∙◌, arith},
+  Common.{ℕ, ◌≡◌, length, get_or, replicate, List, Option, None, inl, inr, sym, subst, ap, ◌∙◌},
+  Common.arith,
   lemmas.{
     Bool.cases_lt,
     Grind.{get_or-set_at},
@@ -8,7 +9,10 @@ use Rattle.std.proofs.{
   },
 }
 use Rattle.arraydeque_ring.specs.Moved.{held_after, IsFilledRound}
-use Rattle.arraydeque_ring_tests.proofs.block_moves.move_beside.Goals.{in-Some+else-assert_eq, in_default}
+use Rattle.arraydeque_ring_tests.proofs.block_moves.move_beside.Goals.{
+  in-Some+else-assert_eq,
+  in_default,
+}
 use Rattle.arraydeque_ring_tests.proofs.block_moves.move_beside.Goals as goal
 
 pub wrap_move-requires-clause-filled : goal.wrap_move-requires-clause-filled

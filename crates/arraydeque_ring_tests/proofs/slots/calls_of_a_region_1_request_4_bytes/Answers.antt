@@ -1,6 +1,7 @@
 -- The values that stand in the places, which the calls ask for.
 use Rattle.std.proofs.{
-  Common.{rules, refl, sym, ap, ◌∙◌, ◌≡◌, ℕ, List, [], ◌∷◌, map, Some, None, unwrap_or, inl, inr, arith},
+  Common.{rules, refl, sym, ap, ◌∙◌, ◌≡◌, ℕ, List, [], ◌∷◌, map, Some, None, unwrap_or, inl, inr},
+  Common.arith,
   lemmas.Bool.cases_lt,
 }
 use Rattle.arraydeque_ring_tests.proofs.slots.calls_of_a_region_1_request_4_bytes.Goals as goal

@@ -1,5 +1,8 @@
 use Rattle.std.{
-  proofs.{Common.{◌≡◌, ◌&&◌, Bool, true, false, List, ◌++◌, length, sym, ap, ap₂, ◌∙◌}, lemmas.List.{take-append-drop}},
+  proofs.{
+    Common.{◌≡◌, ◌&&◌, Bool, true, false, List, ◌++◌, length, sym, ap, ap₂, ◌∙◌},
+    lemmas.List.{take-append-drop},
+  },
   specs.{Cmp.Lexicographic.pointwise, List.IsSplitAt},
 }
 use Rattle.arraydeque.proofs.Sections.{pointwise-both}

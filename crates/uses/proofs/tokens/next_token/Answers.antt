@@ -1,10 +1,10 @@
 use Rattle.std.proofs.{
   Common.{◌≡◌, ◌≢◌, [], ◌∷◌, slice_get, rules, arith},
-  lemmas.{Grind.common_steps, List.Elements.{All-push}},
+  lemmas.{Grind.common_steps, List.Elements.All-push},
 }
 use Rattle.uses.{
-  specs.{Tokens.kind_of, declared.tokens.Kind.TheVariants.Sign},
-  proofs.{Cut.some_weaker, Taken.{TakesOff-append}},
+  proofs.{Cut.some_weaker, Taken.TakesOff-append},
+  specs.{declared.tokens.Kind.TheVariants.Sign, Tokens.kind_of},
 }
 use Rattle.uses.proofs.tokens.next_token.Goals as goal
 

@@ -1,6 +1,6 @@
 use Rattle.std.{proofs.Common.{◌≡◌, ◌<◌, All, length}, specs.Iterator.{IsFinite, size}}
 use Rattle.arraydeque.specs.Lookahead.{TakesOff}
-use Rattle.uses.specs.{Tokens.kind_of, declared.tokens.Kind.TheVariants.Sign}
+use Rattle.uses.specs.{declared.tokens.Kind.TheVariants.Sign, Tokens.kind_of}
 use Rattle.uses.proofs.tokens.next_token.Given as goal
 
 abbrev pub invariant-loop-byte : goal.invariant-loop-byte

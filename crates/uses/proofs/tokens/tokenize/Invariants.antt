@@ -1,6 +1,6 @@
 use Rattle.std.{proofs.Common.{ℕ, List, All}, specs.Iterator.{IsFinite, size}}
 use Rattle.arraydeque.specs.Lookahead.{HasRest, TakesOff}
-use Rattle.uses.{specs.Tokens.{joined, IsOfOneKind, IsOneByteIfSign}, proofs.Cut.AreCut}
+use Rattle.uses.{proofs.Cut.AreCut, specs.Tokens.{joined, IsOfOneKind, IsOneByteIfSign}}
 use Rattle.uses.proofs.tokens.tokenize.Given as goal
 
 abbrev pub invariant-loop-tokens : goal.invariant-loop-tokens

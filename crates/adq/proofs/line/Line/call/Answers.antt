@@ -1,6 +1,6 @@
 use Rattle.std.{proofs.Common.{ℕ, ℤ, [], ◌∷◌, rules}, specs.List.AllZip}
 use Rattle.arraydeque.specs.declared.run.Call.{Call}
-use Rattle.adq.{specs.Line.{Spells, index, value, words_of}, proofs.Spelling.{told, alone}}
+use Rattle.adq.{proofs.Spelling.{told, alone}, specs.Line.{Spells, index, value, words_of}}
 use Rattle.adq.proofs.line.Line.call.Goals as goal
 
 pub returns-in_err-index-in-insert : goal.returns-in_err-index-in-insert

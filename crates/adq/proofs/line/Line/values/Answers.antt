@@ -1,8 +1,8 @@
-use Rattle.std.proofs.{Common.{◌∙◌, ◌++◌, ◌∷◌, [], ap, inr, subst, sym}, lemmas.Int.{to_z-of_z}}
+use Rattle.std.proofs.{Common.{◌∙◌, ◌++◌, ◌∷◌, [], ap, inr, subst, sym}, lemmas.Int.to_z-of_z}
 use mir.Syntax.{w64}
 use Rattle.adq.{
-  specs.{declared.fault.Fault.TheVariants.Line, Line.words_of},
   proofs.{Numbers.fits, ValuesRead.{Parted, parted_more, parted_bad}},
+  specs.{declared.fault.Fault.TheVariants.Line, Line.words_of},
 }
 use Rattle.adq.proofs.line.Line.values.Goals as goal
 

@@ -1,5 +1,5 @@
 use Rattle.std.proofs.Common.{◌≡◌, length}
-use Rattle.adq.{specs.Line.words_of, proofs.ValuesRead.Parted}
+use Rattle.adq.{proofs.ValuesRead.Parted, specs.Line.words_of}
 use Rattle.adq.proofs.line.Line.values.Given as goal
 
 -- the words so far spell the values so far

@@ -1,24 +1,25 @@
 -- `as_mut_slices` is `lend`, and the deque follows the loan's slices. Assumes `Logic`.
+use contract.Lifetimes.{toks}
+use base.Logic.{mono_l}
+use Rattle.arraydeque.proofs.{
+  Called.{Asked, OfTwo, Others, Two, set_apart, come_back},
+  deque.ArrayDeque.lend.Met.met,
+  Lent.{Dr, rewritten-twice},
+}
 use Rattle.arraydeque_ring.{
   proofs.{
     memory.{
       Called.{calls_met, first_fact, knows},
       Methods.{passing_on, spent, machine_values},
-      Kit.{refl, [], ◌∷◌, ◌++◌, id⊢, tables, raw, ◌⊛◌, ◌$◌, !, move, use1, use2, split, join, frame, suffices, addr},
-      Kit.{stop, no_more, and_then, returns, alloc_all, pass_all, free_all, look_at, get, through, sets, lands_as, mem},
-      Kit.{nothing, RattleType, El, R, Array, both_by, number, by, sep, fact},
+      Kit.{refl, [], ◌∷◌, ◌++◌, id⊢, tables, raw, ◌⊛◌, ◌$◌, !, move, use1, use2, split, join},
+      Kit.{frame, suffices, addr, stop, no_more, and_then, returns, alloc_all, pass_all, free_all},
+      Kit.{look_at, get, through, sets, lands_as, mem, nothing, RattleType, El, R, Array, both_by},
+      Kit.{number, by, sep, fact},
     },
     loans.{Made.loan_lawful, Names.followed_both, Slices.in_slices},
     slots.loan.Loan.into_slices.Met.met as into_met,
   },
   specs.Runs.as_many,
-}
-use contract.Lifetimes.{toks}
-use base.Logic.{mono_l}
-use Rattle.arraydeque.proofs.{
-  Called.{Asked, OfTwo, Others, Two, set_apart, come_back},
-  Lent.{Dr, rewritten-twice},
-  deque.ArrayDeque.lend.Met.met,
 }
 use Rattle.arraydeque.specs.contracts.deque.ArrayDeque.lend as g
 use Rattle.arraydeque.specs.contracts.deque.ArrayDeque.as_mut_slices as f

@@ -1,5 +1,5 @@
-use Rattle.std.proofs.{Common.{◌≡◌, rules, of_calls}, lemmas.Fn.{always_returns_same}}
-use Rattle.arraydeque.proofs.{Searched.{found_at}}
+use Rattle.std.proofs.{Common.{◌≡◌, rules, of_calls}, lemmas.Fn.always_returns_same}
+use Rattle.arraydeque.proofs.Searched.{found_at}
 use Rattle.arraydeque.proofs.deque.ArrayDeque.binary_search.Goals as goal
 
 pub returns-clause-position : goal.returns-clause-position

@@ -1,7 +1,7 @@
 use Rattle.std.proofs.{Common.{length, ap, sym, ◌∙◌, of_calls, arith}, lemmas.List.length-append}
 use Rattle.arraydeque.proofs.{
+  deque.ArrayDeque.binary_search_by.Goals.{in-Some, in-None},
   Searched.{answers_first, found_behind, missed_behind, searched_before},
-  deque.ArrayDeque.binary_search_by.{Goals.{in-Some, in-None}},
 }
 use Rattle.arraydeque.proofs.deque.ArrayDeque.binary_search_by.Goals as goal
 

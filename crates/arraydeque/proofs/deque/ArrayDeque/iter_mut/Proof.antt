@@ -1,15 +1,15 @@
 -- `iter_mut` goes over what `lend` lends, and the deque follows the loan's name. Assumes `Logic`.
 use Rattle.arraydeque_ring.{
   proofs.{
+    loans.Made.loan_lawful,
     memory.{
       Called.{calls_met, first_fact, knows},
+      Kit.{refl, sym, ap, ◌∙◌, [], ◌∷◌, id⊢, tables, ‵, raw, ◌⊛◌, ◌$◌, !, move, keep, use1, use2},
+      Kit.{split, join, frame, rewrite, fsplit, fjoin, suffices, done, addr, stop, no_more},
+      Kit.{and_then, returns, alloc_all, pass_all, free_all, look_at, get, through, sets, lands_as},
+      Kit.{says, nothing, heard, param_laws, RattleType, El, R, el_x, number, named_lft},
       Methods.{passing_on, spent, machine_values},
-      Kit.{refl, sym, ap, ◌∙◌, [], ◌∷◌, id⊢, tables, ‵, raw, ◌⊛◌, ◌$◌, !, move, keep, use1, use2, split, join, frame},
-      Kit.{rewrite, fsplit, fjoin, suffices, done, addr, stop, no_more, and_then, returns, alloc_all, pass_all},
-      Kit.{free_all, look_at, get, through, sets, lands_as, says, nothing, heard, param_laws, RattleType, El, R, el_x},
-      Kit.{number, named_lft},
     },
-    loans.Made.loan_lawful,
   },
   specs.Loans.{LoanState, remaining},
 }

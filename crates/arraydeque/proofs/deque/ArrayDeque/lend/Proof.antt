@@ -1,31 +1,35 @@
 -- `lend` lends all items: the ring lends its own, and the deque follows what the ring follows. Assumes `Logic`.
 use Rattle.arraydeque_ring.{
   proofs.{
+    loans.{Made.{loan_lawful, loan_renamed}, Names.{hands_on, followed_both, part_lent}, Rings.Rr},
     memory.{
       Called.{calls_met, first_fact, knows},
+      Kit.{◌≡◌, refl, ap, ◌∙◌, List, [], ◌∷◌, ◌++◌, ℕ, ◌+◌, ◌≤◌, arith, length, full_share, id⊢},
+      Kit.{Share, flft, tables, ‵, raw, ◌⊛◌, some, ◌$◌, !, move, keep, use1, use2, split, split3},
+      Kit.{join, pick, frame, fsplit, fjoin, suffices, done, addr, stop, fld, no_more, and_then},
+      Kit.{returns, alloc_all, pass_all, free_all, look_at, get, through, sets, lands_as, mem},
+      Kit.{part_at, says_two, heard, nothing, RattleType, El, R, el_x, after₂, Array, both_by},
+      Kit.{number, MutBor, NamedLft, named_lft, drop},
       Methods.{method, spent, machine_values},
-      Kit.{◌≡◌, refl, ap, ◌∙◌, List, [], ◌∷◌, ◌++◌, ℕ, ◌+◌, ◌≤◌, arith, length, full_share, id⊢, Share, flft, tables},
-      Kit.{‵, raw, ◌⊛◌, some, ◌$◌, !, move, keep, use1, use2, split, split3, join, pick, frame, fsplit, fjoin},
-      Kit.{suffices, done, addr, stop, fld, no_more, and_then, returns, alloc_all, pass_all, free_all, look_at, get},
-      Kit.{through, sets, lands_as, mem, part_at, says_two, heard, nothing, RattleType, El, R, el_x, after₂, Array},
-      Kit.{both_by, number, MutBor, NamedLft, named_lft, drop},
     },
-    loans.{Made.{loan_lawful, loan_renamed}, Names.{hands_on, followed_both, part_lent}, Rings.Rr},
     ring.Ring.lend.Met.met,
   },
   specs.{Loans.LoanState, Ring.RingState, Runs.as_many},
 }
-use base.Share
-use types.{Late.{ages}, Mut.open_ref}
+use types.{Late.ages, Mut.open_ref}
 use contract.Lifetimes.{toks}
+use Rattle.arraydeque.{
+  proofs.{
+    Called.{Asked, Others, Two, come_back},
+    Lent.{Dr, FieldsRow, Fields, view, Kept, Other, Way, fields_out, ring_out, deque_whole, after},
+    Lent.{kept_after, seen_after, written},
+  },
+  specs.{Deque.DequeState, DequeLends.rewritten},
+}
+use base.Share
 use Rattle.arraydeque_ring.specs.RingLends as ring
 use Rattle.arraydeque_ring.specs.contracts.slots.loan.Loan as loan
 use Rattle.arraydeque_ring.specs.contracts.ring.Ring.lend as g
-use Rattle.arraydeque.{
-  specs.{Deque.DequeState, DequeLends.rewritten},
-  proofs.Lent.{Dr, FieldsRow, Fields, view, Kept, Other, Way, fields_out, ring_out, deque_whole, after, kept_after},
-  proofs.{Called.{Asked, Others, Two, come_back}, Lent.{seen_after, written}},
-}
 use Rattle.arraydeque.specs.contracts.deque.ArrayDeque.lend as f
 use Rattle.arraydeque.proofs.deque.ArrayDeque.lend.Statement as stated
 use Rattle.arraydeque.proofs.deque.ArrayDeque.lend.Code as code

@@ -1,7 +1,7 @@
 use Rattle.std.proofs.{Common.{length, ap, sym, ◌∙◌, arith}, lemmas.List.length-append}
 use Rattle.arraydeque.proofs.{
+  deque.ArrayDeque.partition_point.Goals.{in-Some, in-None},
   Searched.{answers_first, parted_behind, parted_before},
-  deque.ArrayDeque.partition_point.{Goals.{in-Some, in-None}},
 }
 use Rattle.arraydeque.proofs.deque.ArrayDeque.partition_point.Goals as goal
 

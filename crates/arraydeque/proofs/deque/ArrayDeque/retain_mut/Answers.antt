@@ -1,4 +1,4 @@
-use Rattle.std.{proofs.Common.{sym}, specs.Fn.CalledAtMut}
+use Rattle.std.{proofs.Common.sym, specs.Fn.CalledAtMut}
 use Rattle.arraydeque_ring.proofs.retained.Writing.{retains_in_turn}
 use Rattle.arraydeque.proofs.RetainedLeft.{told_left}
 use Rattle.arraydeque.proofs.deque.ArrayDeque.retain_mut.Goals as goal

@@ -1,11 +1,15 @@
 use Rattle.std.{
-  specs.Mem.type_size,
   proofs.{
-    lemmas.{Grind.common_steps, Iterator.{Adapters.{YieldsList-from_vec}, Consumers.{YieldsList-end}}, List.{map-id}},
     Common.{arith, rules, subst, sym, ◌∙◌},
+    lemmas.{
+      Grind.common_steps,
+      Iterator.{Adapters.YieldsList-from_vec, Consumers.YieldsList-end},
+      List.map-id,
+    },
   },
+  specs.Mem.type_size,
 }
-use Rattle.arraydeque.{specs.Run.DequeRun, proofs.DequeRuns.{DequeRun-push, RunCosts-of}}
+use Rattle.arraydeque.{proofs.DequeRuns.{DequeRun-push, RunCosts-of}, specs.Run.DequeRun}
 use Rattle.arraydeque.proofs.deque.ArrayDeque.run.Goals as goal
 
 pub loop-call-preserved : goal.loop-call-preserved

@@ -1,4 +1,7 @@
-use Rattle.std.{proofs.Common.{◌+◌, ◌≤◌, vec_len}, specs.{Mem.type_size, Vec.{vec_capacity, Iter.into_iter_len}}}
+use Rattle.std.{
+  proofs.Common.{◌+◌, ◌≤◌, vec_len},
+  specs.{Mem.type_size, Vec.{vec_capacity, Iter.into_iter_len}},
+}
 use Rattle.arraydeque.specs.Run.{DequeRun}
 use Rattle.arraydeque.proofs.deque.ArrayDeque.run.Given as goal
 

@@ -1,4 +1,4 @@
-use Rattle.std.{proofs.{Common.{take, arith}, lemmas.List.{length-take-le, take_more}}}
+use Rattle.std.proofs.{Common.{take, arith}, lemmas.List.{length-take-le, take_more}}
 use Rattle.arraydeque.proofs.Sections.{pointwise-push}
 use Rattle.arraydeque.proofs.deque.blocks.are_all_equal.Goals as goal
 

@@ -1,5 +1,5 @@
+use Rattle.std.specs.{Fn.Called, Iterator.{EndsFrom, items_left, CallableWhile}, List.FoldsTo}
 use Rattle.std.proofs.iter.Next as it
-use Rattle.std.specs.{Fn.Called, List.FoldsTo, Iterator.{EndsFrom, items_left, CallableWhile}}
 use Rattle.arraydeque.proofs.iter.each.call_on_each.Given as goal
 
 abbrev pub invariant-loop-item : goal.invariant-loop-item

@@ -2,7 +2,7 @@ use Rattle.std.proofs.{
   Common.{arith, refl, [], ◌∷◌, ◌<◌, length, inl, inr},
   lemmas.{Grind.common_steps, Option.{slice_get_cases, slice_get_past}},
 }
-use Rattle.arraydeque.{specs.Lookahead.left_of, proofs.Scanned.{HandsOut-append, TakesOff-from_out}}
+use Rattle.arraydeque.{proofs.Scanned.{HandsOut-append, TakesOff-from_out}, specs.Lookahead.left_of}
 use Rattle.arraydeque.proofs.lookahead.Scanner.fill.Goals as goal
 
 pub loop-self-preserved : goal.loop-self-preserved

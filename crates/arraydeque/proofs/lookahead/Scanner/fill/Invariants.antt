@@ -1,4 +1,7 @@
-use Rattle.std.{proofs.Common.{◌≡◌, ◌+◌, ◌-◌, ◌<◌, ◌≤◌, [], length, max, None}, specs.Iterator.{IsFinite, UpTo, size}}
+use Rattle.std.{
+  proofs.Common.{◌≡◌, ◌+◌, ◌-◌, ◌<◌, ◌≤◌, [], length, max, None},
+  specs.Iterator.{IsFinite, UpTo, size},
+}
 use Rattle.arraydeque.specs.Lookahead.{HandsOut, Lowers}
 use Rattle.arraydeque.proofs.lookahead.Scanner.fill.Given as goal
 

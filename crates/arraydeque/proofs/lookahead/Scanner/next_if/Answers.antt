@@ -1,6 +1,6 @@
 use Rattle.std.proofs.{
   Common.{[], option_copied, refl, sym, ap, ◌∙◌},
-  lemmas.Option.{slice_get_within},
+  lemmas.Option.slice_get_within,
 }
 use Rattle.arraydeque.proofs.Scanned.{HandsOut-append, NextIs-buffer}
 use Rattle.arraydeque.proofs.lookahead.Scanner.next_if.Goals as goal

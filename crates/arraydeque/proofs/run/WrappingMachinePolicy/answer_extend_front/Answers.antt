@@ -1,4 +1,7 @@
-use Rattle.std.{proofs.{Common.arith, lemmas.Bool.Decides.nat_tests}, specs.Vec.Iter.into_iter_items}
+use Rattle.std.{
+  proofs.{Common.arith, lemmas.Bool.Decides.nat_tests},
+  specs.Vec.Iter.into_iter_items,
+}
 use Rattle.arraydeque.proofs.Taken.{TakesAll-list}
 use Rattle.arraydeque.proofs.run.WrappingMachinePolicy.answer_extend_front.Goals as goal
 

@@ -1,12 +1,12 @@
 use Rattle.std.proofs.Common.{◌-◌, ◌<◌, length, drop, arith}
 use Rattle.arraydeque_ring.{
-  specs.Ring.{place_of, rotated, values},
   proofs.{
-    Opened.{Shows, bounds, piece_filled, piece_taken},
     fills.Laying.up_by-is,
+    Opened.{Shows, bounds, piece_filled, piece_taken},
     places.Rotated.place_of-lt,
     ring.Ring.append_run.{Given.Over, Goals.After-hand_over},
   },
+  specs.Ring.{place_of, rotated, values},
 }
 use Rattle.arraydeque_ring.proofs.ring.Ring.append_run.Goals as goal
 

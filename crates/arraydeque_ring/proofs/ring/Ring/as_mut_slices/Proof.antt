@@ -1,20 +1,21 @@
 -- `as_mut_slices` is `lend`, and the ring follows the loan's slices. Assumes `Logic`.
+use base.Logic.{mono_l}
 use Rattle.arraydeque_ring.{
   proofs.{
     memory.{
-      Kit.{fact, sep, by, emp, refl, [], ◌∷◌, ◌++◌, id⊢, tables, ◌$◌, !, move, join, frame, suffices, addr, stop},
-      Kit.{no_more, and_then, returns, alloc_all, pass_all, free_all, look_at, get, through, sets, lands_as, mem},
-      Kit.{nothing, El, R, Array, both_by},
+      Kit.{fact, sep, by, emp, refl, [], ◌∷◌, ◌++◌, id⊢, tables, ◌$◌, !, move, join, frame},
+      Kit.{suffices, addr, stop, no_more, and_then, returns, alloc_all, pass_all, free_all},
+      Kit.{look_at, get, through, sets, lands_as, mem, nothing, El, R, Array, both_by},
       Methods.{passing_on, spent, machine_values},
       Called.{calls_met, first_fact, knows},
     },
-    loans.{Lending.rewritten-twice, Made.loan_lawful, Names.followed_both, Rings.Rr, Slices.in_slices},
+    loans.{Lending.rewritten-twice, Made.loan_lawful, Names.followed_both, Rings.Rr},
+    loans.Slices.in_slices,
     ring.Ring.lend.Met.met,
     slots.loan.Loan.into_slices.Met.met as into_met,
   },
   specs.Runs.as_many,
 }
-use base.Logic.{mono_l}
 use Rattle.arraydeque_ring.specs.contracts.ring.Ring.lend as g
 use Rattle.arraydeque_ring.specs.contracts.ring.Ring.as_mut_slices as f
 use Rattle.arraydeque_ring.proofs.ring.Ring.as_mut_slices.Statement as stated

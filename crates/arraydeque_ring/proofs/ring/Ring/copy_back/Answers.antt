@@ -1,6 +1,6 @@
 use Rattle.std.proofs.{
   Common.{◌≡◌, ◌+◌, ◌-◌, length, take, drop, arith},
-  lemmas.{Grind.common_steps, List.{append_assoc, length-append, length-take-le, length-drop, take_rest}},
+  lemmas.{Grind.common_steps, List.{append_assoc, length-take-le}},
   Math.Seq.take-add,
 }
 use Rattle.arraydeque_ring.proofs.{Opened.bounds, places.Rotated.place_of_cases}

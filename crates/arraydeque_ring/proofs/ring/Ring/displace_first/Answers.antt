@@ -1,14 +1,18 @@
 use Rattle.std.proofs.{
   Common.{◌≡◌, ◌+◌, sym, arith},
-  Math.Nat.{mod-eq_of_lt, mod_self},
   lemmas.{Grind.common_steps, List.append-nil},
+  Math.Nat.{mod-eq_of_lt, mod_self},
 }
 use Rattle.arraydeque_ring.proofs.{
-  fills.{Displaced.displaced_first-both, FromIterator.Ends-fills, Laying.{begun, more, filled_first, laid_first}},
+  fills.{
+    Displaced.displaced_first-both,
+    FromIterator.Ends-fills,
+    Laying.{begun, more, filled_first, laid_first},
+  },
   Opened.{opened, closed},
+  ring.Ring.displace_first.Goals.{then-ended, else-ended},
 }
 use Rattle.arraydeque_ring.proofs.ring.Ring.displace_first.Goals as goal
-use Rattle.arraydeque_ring.proofs.ring.Ring.displace_first.Goals.{then-ended, else-ended}
 
 pub loop-ended-init : goal.loop-ended-init
 loop-ended-init g c = begun (opened _ c.self.invariant c.self.view_is) c.capacity-capacity.ensures

@@ -3,13 +3,16 @@ use Rattle.std.proofs.{
   lemmas.{Grind.common_steps, List.take_all},
 }
 use Rattle.arraydeque_ring.proofs.{
-  fills.{Displaced.displaced_last-both, FromIterator.Ends-fills, Laying.{begun, more, filled_last, laid_last}},
+  fills.{
+    Displaced.displaced_last-both,
+    FromIterator.Ends-fills,
+    Laying.{begun, more, filled_last, laid_last},
+  },
   Opened.{opened, closed},
   places.Rotated.MayStartAt,
+  ring.Ring.displace_last.{Given.Over, Goals.{Joined-self-eq0, then-self-eq0, else-self-eq0}},
 }
-use Rattle.arraydeque_ring.proofs.ring.Ring.displace_last.Given.{Over}
 use Rattle.arraydeque_ring.proofs.ring.Ring.displace_last.Goals as goal
-use Rattle.arraydeque_ring.proofs.ring.Ring.displace_last.Goals.{Joined-self-eq0, then-self-eq0, else-self-eq0}
 
 pub loop-ended-init : goal.loop-ended-init
 loop-ended-init g c = begun (opened _ c.self.invariant c.self.view_is) c.capacity-capacity.ensures

@@ -1,4 +1,7 @@
-use Rattle.std.{proofs.{Common.{◌≡◌, ◌-◌, length, arith}, lemmas.{Grind.common_steps}}, specs.List.remove_range}
+use Rattle.std.{
+  proofs.{Common.{◌≡◌, ◌-◌, length, arith}, lemmas.Grind.common_steps},
+  specs.List.remove_range,
+}
 use Rattle.arraydeque_ring.proofs.{
   gaps.Fewest.fewest_drain,
   Opened.{opened, bounds, Closing, run_filled, run_taken, Shows},

@@ -9,19 +9,14 @@ use Rattle.arraydeque_ring.proofs.{
     Laying.{Laying, begun, more, empty_behind, laid_back},
   },
   Opened.{opened, closed, items_within},
+  ring.Ring.fill_back.{
+    Given.Over,
+    Goals.{After-drop-self-inside, Joined-self-to_end, then-self-to_end, else-self-to_end},
+    Goals.{then-not-ended+then-self-capacity, else-not-ended},
+    Goals.{else-not-ended-via-then-not-ended+else-self-capacity, else-not-ended-via-else-not-ended},
+  },
 }
-use Rattle.arraydeque_ring.proofs.ring.Ring.fill_back.Given.{Over}
 use Rattle.arraydeque_ring.proofs.ring.Ring.fill_back.Goals as goal
-use Rattle.arraydeque_ring.proofs.ring.Ring.fill_back.Goals.{
-  After-drop-self-inside,
-  Joined-self-to_end,
-  then-self-to_end,
-  else-self-to_end,
-  then-not-ended+then-self-capacity,
-  else-not-ended,
-  else-not-ended-via-then-not-ended+else-self-capacity,
-  else-not-ended-via-else-not-ended,
-}
 
 pub fill_up-written-requires-clause-empty : goal.fill_up-written-requires-clause-empty
 fill_up-written-requires-clause-empty g c =

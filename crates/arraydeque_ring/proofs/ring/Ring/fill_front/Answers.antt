@@ -10,19 +10,14 @@ use Rattle.arraydeque_ring.proofs.{
   },
   Opened.{opened, closed, items_within},
   places.Rotated.place_of_cases,
+  ring.Ring.fill_front.{
+    Given.Over,
+    Goals.{After-drop-self-inside, Joined-self-gt0, then-self-gt0, else-self-gt0},
+    Goals.{then-not-ended+then-self-capacity, else-not-ended},
+    Goals.{else-not-ended-via-then-not-ended+else-self-capacity, else-not-ended-via-else-not-ended},
+  },
 }
-use Rattle.arraydeque_ring.proofs.ring.Ring.fill_front.Given.{Over}
 use Rattle.arraydeque_ring.proofs.ring.Ring.fill_front.Goals as goal
-use Rattle.arraydeque_ring.proofs.ring.Ring.fill_front.Goals.{
-  After-drop-self-inside,
-  Joined-self-gt0,
-  then-self-gt0,
-  else-self-gt0,
-  then-not-ended+then-self-capacity,
-  else-not-ended,
-  else-not-ended-via-then-not-ended+else-self-capacity,
-  else-not-ended-via-else-not-ended,
-}
 
 pub fill_down-written-requires-clause-empty : goal.fill_down-written-requires-clause-empty
 fill_down-written-requires-clause-empty g c =

@@ -6,16 +6,16 @@ use Rattle.std.{
   specs.List.insert,
 }
 use Rattle.arraydeque_ring.{
-  specs.Ring.place_of,
   proofs.{
     gaps.{
       Fewest.fewest_insert,
-      Gapped.{Gapped, IsEmpty-gap, LaidOut-put},
       GapMoves.{Gapped-behind, Gapped-before, gap_may_move, gap_moves},
+      Gapped.{Gapped, IsEmpty-gap, LaidOut-put},
     },
     Opened.{opened, shows, Shows, ring_facts},
     ring.Ring.insert.{Given.Over, Goals.{After-put, then-index-behind, else-index-behind}},
   },
+  specs.Ring.place_of,
 }
 use Rattle.arraydeque_ring.proofs.ring.Ring.insert.Goals as goal
 

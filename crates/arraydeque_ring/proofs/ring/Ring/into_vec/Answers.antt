@@ -1,13 +1,16 @@
 use Rattle.std.{
   proofs.{
-    Common.{◌≡◌, ℕ, ◌+◌, ◌<◌, ◌≤◌, List, ◌∷◌, [], ◌++◌, length, slice_get, set, Option, Some, None, Vec, Global},
-    Common.{vec_len, inl, inr, sym, ◌∙◌, arith, refl},
-    lemmas.{Grind.common_steps, List.{take_all, take_more}, Option.{get_or_from_slice_get, slice_get_past}},
+    Common.{◌≡◌, ℕ, ◌+◌, ◌<◌, ◌≤◌, List, ◌∷◌, [], ◌++◌, length, slice_get, set, Option, Some, None},
+    Common.{Vec, Global, vec_len, inl, inr, sym, ◌∙◌, arith, refl},
+    lemmas.{
+      Grind.common_steps,
+      List.{take_all, take_more},
+      Option.{get_or_from_slice_get, slice_get_past},
+    },
   },
   specs.Vec.vec_capacity,
 }
 use Rattle.arraydeque_ring.{
-  specs.{Places.{held_at, IsFilled}, Ring.{RingState, place_of}},
   proofs.{
     Opened.{opened, bounds},
     places.{
@@ -18,6 +21,7 @@ use Rattle.arraydeque_ring.{
     },
     ring.Ring.into_vec.Invariants.AreOut,
   },
+  specs.{Places.{held_at, IsFilled}, Ring.{RingState, place_of}},
 }
 use Rattle.arraydeque_ring.proofs.ring.Ring.into_vec.Goals as goal
 

@@ -1,9 +1,9 @@
 use Rattle.std.{
-  proofs.Common.{◌≡◌, ℕ, ◌+◌, ◌-◌, ◌≤◌, List, length, take, nat_lt, if◌then◌else◌, slice_get, Option, None, Vec},
-  proofs.Common.{Global, vec_len},
+  proofs.Common.{◌≡◌, ℕ, ◌+◌, ◌-◌, ◌≤◌, List, length, take, nat_lt, if◌then◌else◌, slice_get},
+  proofs.Common.{Option, None, Vec, Global, vec_len},
   specs.Vec.vec_capacity,
 }
-use Rattle.arraydeque_ring.{specs.Ring.RingState, proofs.places.Holds.Holds}
+use Rattle.arraydeque_ring.{proofs.places.Holds.Holds, specs.Ring.RingState}
 use Rattle.arraydeque_ring.proofs.ring.Ring.into_vec.Given as goal
 
 -- the first k items of a ring are out of its places and in a vector, which has room for the others

@@ -1,33 +1,33 @@
 -- `lend` lends all items: its slots lend two runs, and the ring follows what they follow. Assumes `Logic`.
 use Rattle.arraydeque_ring.{
   proofs.{
-    memory.{
-      Kit.{fjoin3, fsplit3, ◌++◌, nothing, refl, List, [], ◌∷◌, ℕ, ◌+◌, ◌≤◌, arith, length, full_share, id⊢, emp, fat},
-      Kit.{flft, w64, tables, owns, ‵, raw, ◌⊛◌, ◌$◌, !, move, use1, use2, drop, split, join, frame, fsplit, fjoin},
-      Kit.{suffices, done, of_opd, addr, load, look, stop, fld, no_more, and_then, returns, alloc_all, pass_all},
-      Kit.{free_all, look_at, get, through, sets, lands_as, usize, mem, part_at, says_two, heard, El, R, el_x, after₂},
-      Kit.{Array, both_by, MutBor, named_lft, pure_i},
-      Regions.{Sr, Seen},
-      Methods.{method, spent, machine_values},
-      Called.{calls_met, first_fact, knows},
-    },
     loans.{
       Lending.{open_after, lent_items, one_piece, first_run_filled, second_run_filled},
       Made.{loan_lawful, loan_renamed},
       Names.{hands_on, followed_both, part_lent},
       Rings.{Rr, ring_apart},
     },
+    memory.{
+      Called.{calls_met, first_fact, knows},
+      Kit.{fjoin3, fsplit3, ◌++◌, nothing, refl, List, [], ◌∷◌, ℕ, ◌+◌, ◌≤◌, arith, length},
+      Kit.{full_share, id⊢, emp, fat, flft, w64, tables, owns, ‵, raw, ◌⊛◌, ◌$◌, !, move, use1},
+      Kit.{use2, drop, split, join, frame, fsplit, fjoin, suffices, done, of_opd, addr, load, look},
+      Kit.{stop, fld, no_more, and_then, returns, alloc_all, pass_all, free_all, look_at, get},
+      Kit.{through, sets, lands_as, usize, mem, part_at, says_two, heard, El, R, el_x, after₂},
+      Kit.{Array, both_by, MutBor, named_lft, pure_i},
+      Methods.{method, spent, machine_values},
+      Regions.{Sr, Seen},
+    },
     places.LaidOut.length_within,
     slots.Slots.lend_round.Met.met,
   },
-  specs.{Loans.LoanState, RingLends.rewritten, Runs.as_many},
+  specs.{Loans.LoanState, RingLends.rewritten, Runs.as_many, SlotsLends.two_lists},
 }
-use types.{Late.{ages}, Mut.open_ref, Run.well_typed}
-use base.Share
+use types.{Late.ages, Mut.open_ref, Run.well_typed}
 use contract.Lifetimes.{toks}
 use denote.Plain.{uint_in, uint_out}
+use base.Share
 use Rattle.arraydeque_ring.specs.SlotsLends as Lends
-use Rattle.arraydeque_ring.specs.SlotsLends.{two_lists}
 use Rattle.arraydeque_ring.specs.contracts.slots.loan.Loan as loan
 use Rattle.arraydeque_ring.specs.contracts.slots.Slots.lend_round as g
 use Rattle.arraydeque_ring.specs.contracts.ring.Ring.lend as f

@@ -1,17 +1,18 @@
 -- `lend_items` is `lend`, of which it says what the loan's name tells. Assumes `Logic`.
 use Rattle.arraydeque_ring.{
   proofs.{
-    memory.{
-      Kit.{emp, refl, [], ◌∷◌, id⊢, tables, ‵, raw, ◌⊛◌, ◌$◌, !, move, keep, use1, split, join, frame, fsplit},
-      Kit.{suffices, done, addr, stop, no_more, and_then, returns, alloc_all, pass_all, free_all, look_at, get},
-      Kit.{through, sets, lands_as, says_two, nothing, heard, El, R},
-      Methods.{passing_on, spent, machine_values},
-      Called.{calls_met, first_fact, knows},
-    },
     loans.{Made.loan_lawful, Rings.Rr},
+    memory.{
+      Called.{calls_met, first_fact, knows},
+      Kit.{emp, refl, [], ◌∷◌, id⊢, tables, ‵, raw, ◌⊛◌, ◌$◌, !, move, keep, use1, split, join},
+      Kit.{frame, fsplit, suffices, done, addr, stop, no_more, and_then, returns, alloc_all},
+      Kit.{pass_all, free_all, look_at, get, through, sets, lands_as, says_two, nothing, heard, El},
+      Kit.R,
+      Methods.{passing_on, spent, machine_values},
+    },
     ring.Ring.lend.Met.met,
   },
-  specs.RingLends.{lends_loan},
+  specs.RingLends.lends_loan,
 }
 use Rattle.arraydeque_ring.specs.contracts.ring.Ring.lend as g
 use Rattle.arraydeque_ring.specs.contracts.ring.Ring.lend_items as f

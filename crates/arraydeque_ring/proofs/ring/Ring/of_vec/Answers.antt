@@ -1,4 +1,7 @@
-use Rattle.std.proofs.{Common.{[], ◌∷◌, refl, ◌∙◌, arith}, lemmas.{Grind.common_steps, List.append-nil}}
+use Rattle.std.proofs.{
+  Common.{[], ◌∷◌, refl, ◌∙◌, arith},
+  lemmas.{Grind.common_steps, List.append-nil},
+}
 use Rattle.arraydeque_ring.proofs.{fills.Filling.with_run-before, Opened.new_laid}
 use Rattle.arraydeque_ring.proofs.ring.Ring.of_vec.Goals as goal
 

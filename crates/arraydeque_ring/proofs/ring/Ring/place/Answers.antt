@@ -1,7 +1,11 @@
 use Rattle.std.proofs.Common.{◌+◌, arith}
-use Rattle.arraydeque_ring.proofs.{Masks.{at_most_half, masked}, Opened.opened, places.Rotated.place_of_cases}
+use Rattle.arraydeque_ring.proofs.{
+  Masks.{at_most_half, masked},
+  Opened.opened,
+  places.Rotated.place_of_cases,
+  ring.Ring.place.Goals.{then-index-capacity, else-index-capacity},
+}
 use Rattle.arraydeque_ring.proofs.ring.Ring.place.Goals as goal
-use Rattle.arraydeque_ring.proofs.ring.Ring.place.Goals.{then-index-capacity, else-index-capacity}
 
 pub overflow_add-result : goal.overflow_add-result
 overflow_add-result g c =

@@ -1,7 +1,8 @@
 use Rattle.std.{proofs.{Common.arith, lemmas.Fn.called_at}, specs.Fn.CalledAt}
 use Rattle.arraydeque_ring.proofs.{
   Opened.opened,
-  retained.Retaining.{all_kept, first_goes, next_filled, next_asked, counted, one_stays, one_goes, all_asked},
+  retained.Retaining.{all_kept, first_goes, next_filled, next_asked, counted, one_stays, one_goes},
+  retained.Retaining.all_asked,
   ring.Ring.retain.Goals.{then-keeps, else-keeps},
 }
 use Rattle.arraydeque_ring.proofs.ring.Ring.retain.Goals as goal

@@ -1,11 +1,11 @@
 use Rattle.std.{
-  proofs.{Common.{arith, sym, ◌∙◌}, RetainMut.Called-Mut, lemmas.List.take_all},
+  proofs.{Common.{arith, sym, ◌∙◌}, lemmas.List.take_all, RetainMut.Called-Mut},
   specs.Fn.CalledAtMut,
 }
 use Rattle.arraydeque_ring.proofs.{
   Opened.opened,
-  retained.Writing.{none_asked, next_held, next_filled, written_filled, gap_empty, moves_up, stays_there, goes},
-  retained.Writing.{all_asked, counted},
+  retained.Writing.{none_asked, next_held, next_filled, written_filled, gap_empty, moves_up},
+  retained.Writing.{stays_there, goes, all_asked, counted},
   ring.Ring.retain_mut.Goals.{then-keeps, then-kept-index, else-kept-index, else-keeps},
 }
 use Rattle.arraydeque_ring.proofs.ring.Ring.retain_mut.Goals as goal

@@ -1,5 +1,5 @@
 use Rattle.std.{proofs.Common.{◌≡◌, ◌+◌, ◌≤◌}, specs.Iterator.{IsFinite, size}}
-use Rattle.arraydeque_ring.{specs.Steps.{more_puts, more_takes}, proofs.fills.Filling.Downwards}
+use Rattle.arraydeque_ring.{proofs.fills.Filling.Downwards, specs.Steps.{more_puts, more_takes}}
 use Rattle.arraydeque_ring.proofs.ring.fill.displace_down.Given as goal
 
 abbrev pub invariant-loop-displaced : goal.invariant-loop-displaced

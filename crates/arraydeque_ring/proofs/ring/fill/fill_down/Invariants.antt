@@ -1,5 +1,5 @@
 use Rattle.std.proofs.Common.{◌≡◌, false}
-use Rattle.arraydeque_ring.{specs.{Fills.GoesOn, Steps.more_puts}, proofs.fills.Filling.Downwards}
+use Rattle.arraydeque_ring.{proofs.fills.Filling.Downwards, specs.{Fills.GoesOn, Steps.more_puts}}
 use Rattle.arraydeque_ring.proofs.ring.fill.fill_down.Given as goal
 
 abbrev pub invariant-loop-filled : goal.invariant-loop-filled

@@ -1,5 +1,5 @@
 use Rattle.std.proofs.Common.{◌≡◌, false}
-use Rattle.arraydeque_ring.{specs.{Fills.GoesOn, Steps.more_puts}, proofs.fills.Filling.Upwards}
+use Rattle.arraydeque_ring.{proofs.fills.Filling.Upwards, specs.{Fills.GoesOn, Steps.more_puts}}
 use Rattle.arraydeque_ring.proofs.ring.fill.fill_up.Given as goal
 
 abbrev pub invariant-loop-filled : goal.invariant-loop-filled

@@ -1,6 +1,6 @@
 use Rattle.std.proofs.{Common.{◌-◌, ◌∙◌, length, arith}, lemmas.List.append-nil}
-use Rattle.arraydeque_ring.proofs.{
-  linearize.Underway.{Underway, underway, last_may_move, last_moved, room_for_first, room_made, first_moved},
+use Rattle.arraydeque_ring.proofs.linearize.{
+  Underway.{Underway, underway, last_may_move, last_moved, room_for_first, room_made, first_moved},
 }
 use Rattle.arraydeque_ring.proofs.ring.linearize.place_rest.Goals as goal
 

@@ -1,10 +1,13 @@
-use Rattle.std.proofs.{Common.{◌+◌, ◌-◌, inl, inr, ◌==◌, refl, if◌then◌else◌, arith}, lemmas.{Grind.common_steps}}
+use Rattle.std.proofs.{
+  Common.{◌+◌, ◌-◌, inl, inr, ◌==◌, refl, if◌then◌else◌, arith},
+  lemmas.Grind.common_steps,
+}
 use Rattle.arraydeque_ring.{
-  specs.Steps.Rearranges,
   proofs.{
     linearize.Rotating.{Rotating-pass, Rotating-passed, Rotating-fits, still_fills},
     ring.linearize.rotate.{Given.Over, Goals.After-move_down-slots},
   },
+  specs.Steps.Rearranges,
 }
 use Rattle.arraydeque_ring.proofs.ring.linearize.rotate.Goals as goal
 

@@ -1,5 +1,5 @@
 use Rattle.std.proofs.Common.{◌-◌}
-use Rattle.arraydeque_ring.{specs.Steps.Rearranges, proofs.linearize.Rotating.Rotating}
+use Rattle.arraydeque_ring.{proofs.linearize.Rotating.Rotating, specs.Steps.Rearranges}
 use Rattle.arraydeque_ring.proofs.ring.linearize.rotate.Given as goal
 
 abbrev pub invariant-loop-next : goal.invariant-loop-next

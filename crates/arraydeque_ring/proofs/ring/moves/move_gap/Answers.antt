@@ -1,10 +1,10 @@
 use Rattle.std.proofs.Common.{◌≡◌, ℕ, ◌+◌, ◌-◌, inl, inr, refl, arith}
 use Rattle.arraydeque_ring.{
-  specs.{Gaps.gap_moved, Ring.{place_of, rotated}},
   proofs.{
     gaps.Crossing.{Crosses, crosses, one_on},
     ring.moves.move_gap.{Given.Over, Goals.{After-wrap_add-src, After-wrap_add-dst}},
   },
+  specs.{Gaps.gap_moved, Ring.{place_of, rotated}},
 }
 use Rattle.arraydeque_ring.proofs.ring.moves.move_gap.Goals as goal
 

@@ -1,9 +1,7 @@
-use Rattle.std.proofs.{Common.{◌≡◌, ◌-◌, [], ◌++◌, drop, ap, ◌∙◌, arith}}
-use Rattle.arraydeque_ring.{
-  proofs.{
-    places.Handed.{Handed, handed, first_empty, second_empty, both_put},
-    ring.parts.take_round.{Given.Over, Goals.{After-min-first}},
-  },
+use Rattle.std.proofs.Common.{[], ◌++◌, drop, ap, ◌∙◌, arith}
+use Rattle.arraydeque_ring.proofs.{
+  places.Handed.{Handed, handed, first_empty, second_empty, both_put},
+  ring.parts.take_round.{Given.Over, Goals.After-min-first},
 }
 use Rattle.arraydeque_ring.proofs.ring.parts.take_round.Goals as goal
 

@@ -1,5 +1,8 @@
 use Rattle.std.proofs.Common.{◌-◌, arith}
-use Rattle.arraydeque_ring.proofs.places.{Emptied.{next_unchanged, next_emptied}, Filled.filled_in_run}
+use Rattle.arraydeque_ring.proofs.places.{
+  Emptied.{next_unchanged, next_emptied},
+  Filled.filled_in_run,
+}
 use Rattle.arraydeque_ring.proofs.ring.retain.drop_run.Goals as goal
 
 pub take-requires : goal.take-requires

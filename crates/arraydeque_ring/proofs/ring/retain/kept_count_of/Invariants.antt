@@ -1,5 +1,4 @@
-use Rattle.std.proofs.Common.{replicate, true}
-use Rattle.std.specs.{Fn.CalledAt, List.Retain.ReturnsInTurn}
+use Rattle.std.{proofs.Common.{replicate, true}, specs.{Fn.CalledAt, List.Retain.ReturnsInTurn}}
 use Rattle.arraydeque_ring.proofs.ring.retain.kept_count_of.Given as goal
 
 abbrev pub invariant-loop-index : goal.invariant-loop-index

@@ -3,14 +3,21 @@ use mathlib.Core.List.{[], ◌++◌}
 use base.Fml.{Incl-trans}
 use contract.BorrowLft.{meet_⊑_left}
 use denote.{
-  RattleType.RattleType,
   Param.{Laws.Laws, Shared.copy_shared},
-  Struct.{Field.{RawPtr-field, usize-field}, Laws.{field_copy, RawPtr-copy, usize-copy, unit-copy}, Lending.of_Lends},
+  RattleType.RattleType,
+  Struct.{
+    Field.{RawPtr-field, usize-field},
+    Laws.{field_copy, RawPtr-copy, usize-copy, unit-copy},
+    Lending.of_Lends,
+  },
+}
+use Rattle.arraydeque_ring.proofs.{
+  memory.Sharing.{slots_shr_laws, Lends-slots},
+  slots.Slots.TheLaw.Statement.statement,
 }
 use Rattle.std.specs.contracts.alloc.Global as heap
 use Rattle.std.specs.contracts.rt.Memory as memory
 use Rattle.arraydeque_ring.specs.contracts.slots.Slots.TheInside as inside
-use Rattle.arraydeque_ring.proofs.{slots.Slots.TheLaw.Statement.statement, memory.Sharing.{slots_shr_laws, Lends-slots}}
 
 pub shares : (R : RattleType) (L : Laws R) → statement R L
 shares R L =

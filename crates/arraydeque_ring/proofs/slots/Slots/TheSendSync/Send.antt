@@ -1,5 +1,5 @@
-use denote.{RattleType.RattleType, Param.Send.{IsSend, sendable}}
-use Rattle.arraydeque_ring.{specs.contracts.slots.Slots.the_row, proofs.memory.Threads.{Slots-send}}
+use denote.{Param.Send.{IsSend, sendable}, RattleType.RattleType}
+use Rattle.arraydeque_ring.{proofs.memory.Threads.Slots-send, specs.contracts.slots.Slots.the_row}
 
 pub send : (R : RattleType) → IsSend R → IsSend (the_row R)
 send R s = search (sendable, Slots-send)

@@ -1,11 +1,11 @@
 use Rattle.std.proofs.Common.{◌+◌, ◌-◌, ◌≤◌, refl, arith}
 use Rattle.arraydeque_ring.{
-  specs.Moved.{distance, run_moved},
   proofs.{
     moved.TwoMoves.{StartsAt, Three, three},
     places.Rotated.place_of_cases,
     slots.Slots.copy_in_parts.{Given.Over, Goals.After-wrap_add},
   },
+  specs.Moved.{distance, run_moved},
 }
 use Rattle.arraydeque_ring.proofs.slots.Slots.copy_in_parts.Goals as goal
 

@@ -2,16 +2,17 @@
 -- and room for it in another region, and puts both back. Assumes `Logic`.
 use Rattle.arraydeque_ring.{
   proofs.memory.{
-    Kit.{vptr, ◌≡◌, refl, [], ◌∷◌, ◌++◌, ◌+◌, ◌*◌, arith, length, take, drop_list, id⊢, full_share, ftrue, froom, flft},
-    Kit.{inst_fn, w64, ty_array, vunit, vint, tables, owns, ‵, raw, ◌⊛◌, ◌$◌, !, move, use1, drop, split, join, fjoin},
-    Kit.{feq_i, suffices, done, whole, sub, look_in, of_opd, unit_lit, bin, load, stop, fld, no_more, and_then, first},
-    Kit.{blocks, returns, alloc_all, pass_all, free_all, look_at, get, through, sets, lands_last, usize, RawPtr},
-    Kit.{block_ptr, heard, says_two, calls_at_last, framed, triple_of, part_at, El, R, args, elτ, common_steps, Array},
-    Kit.{pure_i, frame},
-    Regions.{Sr, Seen, near, run_fits, slots_open, slots_close, scaled, item_size, array_out, array_in, room_out},
-    Regions.room_in,
-    Methods.{walked, mutable, comes_back, back, word, words},
     Called.{after_block, first_fact, knows, returned},
+    Kit.{vptr, ◌≡◌, refl, [], ◌∷◌, ◌++◌, ◌+◌, ◌*◌, arith, length, take, drop_list, id⊢, full_share},
+    Kit.{ftrue, froom, flft, inst_fn, w64, ty_array, vunit, vint, tables, owns, ‵, raw, ◌⊛◌, ◌$◌},
+    Kit.{ !, move, use1, drop, split, join, fjoin, feq_i, suffices, done, whole, sub, look_in},
+    Kit.{of_opd, unit_lit, bin, load, stop, fld, no_more, and_then, first, blocks, returns},
+    Kit.{alloc_all, pass_all, free_all, look_at, get, through, sets, lands_last, usize, RawPtr},
+    Kit.{block_ptr, heard, says_two, calls_at_last, framed, triple_of, part_at, El, R, args, elτ},
+    Kit.{common_steps, Array, pure_i, frame},
+    Methods.{walked, mutable, comes_back, back, word, words},
+    Regions.{Sr, Seen, near, run_fits, slots_open, slots_close, scaled, item_size, array_out},
+    Regions.{array_in, room_out, room_in},
   },
   specs.Runs.run_emptied,
 }

@@ -2,10 +2,10 @@
 use Rattle.arraydeque_ring.{
   proofs.{
     memory.{
-      Kit.{refl, [], ◌∷◌, vunit, ◌$◌, !, join, feq_i, suffices, done, of_opd, unit_lit, returns, alloc_all, pass_all},
-      Kit.{free_all, look_at, sets, plain, says, El, frame, drop, false},
-      Regions.{Sr, Seen, slots_open, slots_close},
+      Kit.{refl, [], ◌∷◌, vunit, ◌$◌, !, join, feq_i, suffices, done, of_opd, unit_lit, returns},
+      Kit.{alloc_all, pass_all, free_all, look_at, sets, plain, says, El, frame, drop, false},
       Methods.{walked, mutable, comes_back, told, words},
+      Regions.{Sr, Seen, slots_open, slots_close},
     },
     slots.StepKind.TheLaws.{the_laws, the_row_laws},
   },

@@ -1,19 +1,23 @@
 -- `give_back` makes the empty places one block again, and frees it. Assumes `Logic`.
 use Rattle.arraydeque_ring.proofs.memory.{
-  Kit.{refl, sym, List, [], ◌∷◌, ◌++◌, ◌*◌, arith, id⊢, ftrue, froom, flft, inst_fn, ty_array, Val, vunit, vptr},
-  Kit.{tables, ‵, raw, ◌⊛◌, ◌$◌, !, move, keep, drop, use1, use3, split, join, rewrite, fsplit, feq_i, suffices, done},
-  Kit.{whole, sub, of_opd, lit, unit_lit, align_word, bin, stop, fld, no_more, and_then, first, blocks, branches},
-  Kit.{skips, returns, alloc_all, pass_all, free_all, look_at, get, get_in, sets, lands_last, nothing, calls_at_last},
-  Kit.{framed, block_ptr, El, args, elτ, frame, at_ret},
   Blocks.{scaled, block_ty, token},
-  Methods.{walked, seen, whole_slots, words},
   Called.{after_block, returned},
   Heap.{Deallocates, to_deallocate, deallocate_goes},
+  Kit.{refl, sym, List, [], ◌∷◌, ◌++◌, ◌*◌, arith, id⊢, ftrue, froom, flft, inst_fn, ty_array, Val},
+  Kit.{vunit, vptr, tables, ‵, raw, ◌⊛◌, ◌$◌, !, move, keep, drop, use1, use3, split, join},
+  Kit.{rewrite, fsplit, feq_i, suffices, done, whole, sub, of_opd, lit, unit_lit, align_word, bin},
+  Kit.{stop, fld, no_more, and_then, first, blocks, branches, skips, returns, alloc_all, pass_all},
+  Kit.{free_all, look_at, get, get_in, sets, lands_last, nothing, calls_at_last, framed, block_ptr},
+  Kit.{El, args, elτ, frame, at_ret},
+  Methods.{walked, seen, whole_slots, words},
   Regions.{near, slots_Good, slots_apart, item_size, row_room, owned_if},
 }
 use types.Kit.{runs, allocs, params', regoal}
 use denote.Plain.{Nothing-Lawful}
-use Rattle.std.{specs.Prelude.nat_lt, proofs.{Flags.T_true, impls.GlobalAllocator.deallocate.Met.met}}
+use Rattle.std.{
+  proofs.{Flags.T_true, impls.GlobalAllocator.deallocate.Met.met},
+  specs.Prelude.nat_lt,
+}
 use Rattle.std.specs.contracts.alloc.Global as heap
 use Rattle.std.specs.contracts.impls.GlobalAllocator.deallocate as gives
 use Rattle.arraydeque_ring.specs.contracts.slots.Slots.give_back as f

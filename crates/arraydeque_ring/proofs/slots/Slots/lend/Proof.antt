@@ -1,14 +1,14 @@
 -- `lend` lends the value in a filled place, and that place follows it. Assumes `Logic`.
 use Rattle.arraydeque_ring.proofs.{
   memory.{
-    Kit.{feq_i, fjoin3, nothing, join, refl, sym, [], ◌∷◌, ◌+◌, ◌*◌, arith, set, length-set, Some, inst_fn, vptr, ‵},
-    Kit.{◌$◌, ◌∵◌, !, qed, move, frame, suffices, done, whole, sub, look_in, of_opd, bin, load, addr, stop, fld, first},
-    Kit.{blocks, returns, alloc_all, pass_all, free_all, look_at, get, through, sets, sets_last, mem, says, El, R},
-    Kit.{args, heard},
-    Regions.{scaled, Sr, near, slots_open, item_size, Around, place_out, place_in, place_owned},
-    Lent.slots_lend,
     Called.{after_block, first_fact},
+    Kit.{feq_i, fjoin3, nothing, join, refl, sym, [], ◌∷◌, ◌+◌, ◌*◌, arith, set, length-set, Some},
+    Kit.{inst_fn, vptr, ‵, ◌$◌, ◌∵◌, !, qed, move, frame, suffices, done, whole, sub, look_in},
+    Kit.{of_opd, bin, load, addr, stop, fld, first, blocks, returns, alloc_all, pass_all, free_all},
+    Kit.{look_at, get, through, sets, sets_last, mem, says, El, R, args, heard},
+    Lent.slots_lend,
     Methods.{method, spent},
+    Regions.{scaled, Sr, near, slots_open, item_size, Around, place_out, place_in, place_owned},
   },
   places.Filled.filled_within,
 }

@@ -1,27 +1,28 @@
 -- `lend_round` cuts a run that goes round the region's end in two, and lends both. Assumes `Logic`.
 use Rattle.arraydeque_ring.{
   proofs.{
-    memory.{
-      Kit.{◌≡◌, refl, ap, vint, ◌∙◌, [], ◌∷◌, ℕ, ◌<◌, ◌^◌, lit<, arith, length, id⊢, w64, tables, owns, ◌$◌, !, move},
-      Kit.{drop, join, fsplit, fjoin, fjoin3, feq_i, feq_l, suffices, done, of_opd, lit, bin, addr, load, stop, fld},
-      Kit.{no_more, whole, sub, look_in, only, and_then, returns, alloc_all, pass_all, free_all, look_at, get, through},
-      Kit.{sets, lands_as, usize, uint_vals, mut_vals, nothing, heard, El, both_by, pure_i},
-      Regions.{Sr, slots_open, slots_close},
-      Methods.{method, spent, machine_values},
-      Called.{Called, calls_met, first_fact, knows},
-    },
     loans.Made.loan_lawful,
+    memory.{
+      Called.{Called, calls_met, first_fact, knows},
+      Kit.{◌≡◌, refl, ap, vint, ◌∙◌, [], ◌∷◌, ℕ, ◌<◌, ◌^◌, lit<, arith, length, id⊢, w64, tables},
+      Kit.{owns, ◌$◌, !, move, drop, join, fsplit, fjoin, fjoin3, feq_i, feq_l, suffices, done},
+      Kit.{of_opd, lit, bin, addr, load, stop, fld, no_more, whole, sub, look_in, only, and_then},
+      Kit.{returns, alloc_all, pass_all, free_all, look_at, get, through, sets, lands_as, usize},
+      Kit.{uint_vals, mut_vals, nothing, heard, El, both_by, pure_i},
+      Methods.{method, spent, machine_values},
+      Regions.{Sr, slots_open, slots_close},
+    },
     slots.Slots.lend_two.Met.met,
   },
-  specs.{Loans.AreApart},
+  specs.Loans.AreApart,
 }
+use denote.Plain.{uint_Lawful}
 use Rattle.std.{specs.Prelude.{◌-◌, min}, below.core.proofs.int.usize.min.Met.met as e_met}
 use Rattle.arraydeque_ring.specs.contracts.slots.Slots.lend_two as g
 use Rattle.std.below.core.specs.contracts.int.usize.min as e
 use Rattle.arraydeque_ring.specs.contracts.slots.Slots.lend_round as f
 use Rattle.arraydeque_ring.proofs.slots.Slots.lend_round.Statement as stated
 use Rattle.arraydeque_ring.proofs.slots.Slots.lend_round.Code as code
-use denote.Plain.{uint_Lawful}
 
 pub lend_round_spec : {M : Type 1} → stated.statement M
 unfolding both_by

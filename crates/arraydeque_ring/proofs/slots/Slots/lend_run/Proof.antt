@@ -1,20 +1,22 @@
 -- `lend_run` lends the values of a filled run, and the region follows them. Assumes `Logic`.
 use Rattle.arraydeque_ring.{
   proofs.{
-    memory.{
-      Kit.{named_lft, nothing, join, refl, sym, ◌∙◌, [], ◌∷◌, map, ◌+◌, ◌*◌, arith, length-map, Some, inst_fn, ‵, ◌⊛◌},
-      Kit.{◌$◌, ◌∵◌, qed, !, move, use1, use2, split, frame, rewrite, suffices, done, whole, sub, look_in, agg, of_opd},
-      Kit.{bin, load, stop, fld, no_more, and_then, first, blocks, returns, alloc_all, pass_all, free_all, look_at},
-      Kit.{get, through, sets, sets_last, says, heard, El, R, args, slice_val},
-      Regions.{Sr, near, run_fits, slots_open, scaled, item_size, places_owned, Around, run_out, run_in},
-      Lent.slots_lend,
-      Called.{after_block, first_fact},
-      Methods.{method, spent},
-    },
     loans.{
       Made.slice_lent,
       Placed.{placed, run, as_run, length-as_many, length-with_run},
       Runs.{Values, as_values, as_places},
+    },
+    memory.{
+      Called.{after_block, first_fact},
+      Kit.{named_lft, nothing, join, refl, sym, ◌∙◌, [], ◌∷◌, map, ◌+◌, ◌*◌, arith, length-map},
+      Kit.{Some, inst_fn, ‵, ◌⊛◌, ◌$◌, ◌∵◌, qed, !, move, use1, use2, split, frame, rewrite},
+      Kit.{suffices, done, whole, sub, look_in, agg, of_opd, bin, load, stop, fld, no_more},
+      Kit.{and_then, first, blocks, returns, alloc_all, pass_all, free_all, look_at, get, through},
+      Kit.{sets, sets_last, says, heard, El, R, args, slice_val},
+      Lent.slots_lend,
+      Methods.{method, spent},
+      Regions.{Sr, near, run_fits, slots_open, scaled, item_size, places_owned, Around, run_out},
+      Regions.run_in,
     },
     places.Filled.length_filled,
   },

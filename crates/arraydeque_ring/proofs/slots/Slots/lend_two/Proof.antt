@@ -1,21 +1,22 @@
 -- `lend_two` lends the values of two runs, and the region follows them under one name. Assumes `Logic`.
 use Rattle.arraydeque_ring.{
   proofs.{
-    memory.{
-      Kit.{◌≤◌, nothing, refl, [], ◌∷◌, ◌+◌, ◌*◌, arith, length, inst_fn, ‵, ◌$◌, ◌∵◌, !, qed, by, move, use2, join},
-      Kit.{frame, fsplit, fjoin, suffices, done, whole, sub, look_in, agg, of_opd, bin, load, stop, fld, no_more},
-      Kit.{and_then, first, blocks, returns, alloc_all, pass_all, free_all, look_at, get, through, sets, sets_last},
-      Kit.{mem, says_two, El, R, args, el_x, common_steps, heard, both_by, named_lft, slice_val},
-      Regions.{Sr, near, run_fits, slots_open, scaled, item_size},
-      Lent.slots_lend,
-      Called.{after_block, first_fact},
-      Methods.{method, spent},
-    },
     loans.{
       Made.{loan_val, loan_made, slice_lent},
       Names.{Pair, both_lent},
       Placed.{apart_cases, length-as_many},
       Runs.{Values, values_out},
+    },
+    memory.{
+      Called.{after_block, first_fact},
+      Kit.{◌≤◌, nothing, refl, [], ◌∷◌, ◌+◌, ◌*◌, arith, length, inst_fn, ‵, ◌$◌, ◌∵◌, !, qed, by},
+      Kit.{move, use2, join, frame, fsplit, fjoin, suffices, done, whole, sub, look_in, agg},
+      Kit.{of_opd, bin, load, stop, fld, no_more, and_then, first, blocks, returns, alloc_all},
+      Kit.{pass_all, free_all, look_at, get, through, sets, sets_last, mem, says_two, El, R, args},
+      Kit.{el_x, common_steps, heard, both_by, named_lft, slice_val},
+      Lent.slots_lend,
+      Methods.{method, spent},
+      Regions.{Sr, near, run_fits, slots_open, scaled, item_size},
     },
     places.Filled.length_filled,
   },

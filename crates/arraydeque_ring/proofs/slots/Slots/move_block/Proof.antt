@@ -2,14 +2,16 @@
 use Rattle.arraydeque_ring.{
   proofs.{
     memory.{
-      Kit.{frame, ◌≡◌, refl, sym, ap, [], ◌∷◌, ℕ, ◌+◌, ◌*◌, arith, length, full_share, fat, froom, inst_fn, ty_array},
-      Kit.{vunit, vptr, ‵, ◌⊛◌, some, ◌$◌, !, move, use1, use2, split, join, pick, rewrite, feq_i, suffices, done},
-      Kit.{whole, sub, look_in, of_opd, unit_lit, bin, load, look, init, stop, fld, assigns_last, first, blocks},
-      Kit.{returns, alloc_all, pass_all, free_all, look_at, get, through, sets, is, heard, says, part_at, El, R, elτ},
-      Kit.{common_steps, a_type, a_number, part_in, part_out, Array, layouts, number},
-      Regions.{Sr, Seen, near, slots_open, slots_close, scaled, item_size, Row, array_out, array_in, room_out, room_in},
       Called.{after_block, first_fact},
+      Kit.{frame, ◌≡◌, refl, sym, ap, [], ◌∷◌, ℕ, ◌+◌, ◌*◌, arith, length, full_share, fat, froom},
+      Kit.{inst_fn, ty_array, vunit, vptr, ‵, ◌⊛◌, some, ◌$◌, !, move, use1, use2, split, join},
+      Kit.{pick, rewrite, feq_i, suffices, done, whole, sub, look_in, of_opd, unit_lit, bin, load},
+      Kit.{look, init, stop, fld, assigns_last, first, blocks, returns, alloc_all, pass_all},
+      Kit.{free_all, look_at, get, through, sets, is, heard, says, part_at, El, R, elτ},
+      Kit.{common_steps, a_type, a_number, part_in, part_out, Array, layouts, number},
       Methods.{method, comes_back},
+      Regions.{Sr, Seen, near, slots_open, slots_close, scaled, item_size, Row, array_out},
+      Regions.{array_in, room_out, room_in},
     },
     moved.Flat.{length-moved, moved_parts},
   },

@@ -1,5 +1,5 @@
 use Rattle.std.proofs.{
-  Common.{length, take, arith},
+  Common.{take, arith},
   lemmas.{Grind.{common_steps, take_at_read}, List.length-take-le},
 }
 use Rattle.arraydeque_ring.proofs.{fills.Filling.with_run-behind, places.Filled.empty_in_run}

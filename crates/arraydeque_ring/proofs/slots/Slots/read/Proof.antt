@@ -1,13 +1,14 @@
 -- `read` empties a filled place. Assumes `Logic`.
 use Rattle.arraydeque_ring.proofs.{
   memory.{
-    Kit.{part_out, frame, refl, sym, [], ◌∷◌, ◌+◌, ◌*◌, arith, set, length-set, None, full_share, fat, froom, inst_fn},
-    Kit.{‵, ◌⊛◌, some, ◌$◌, move, !, use1, split, join, pick, suffices, done, whole, sub, look_in, of_opd, bin, load},
-    Kit.{look, stop, fld, first, blocks, returns, alloc_all, pass_all, free_all, look_at, get, through, sets},
-    Kit.{sets_last, heard, as_raw, says_two, El, R, args, elτ},
-    Regions.{scaled, Sr, Seen, near, slots_open, slots_close, item_size, place_out, place_in},
     Called.{after_block, first_fact},
+    Kit.{part_out, frame, refl, sym, [], ◌∷◌, ◌+◌, ◌*◌, arith, set, length-set, None, full_share},
+    Kit.{fat, froom, inst_fn, ‵, ◌⊛◌, some, ◌$◌, move, !, use1, split, join, pick, suffices, done},
+    Kit.{whole, sub, look_in, of_opd, bin, load, look, stop, fld, first, blocks, returns},
+    Kit.{alloc_all, pass_all, free_all, look_at, get, through, sets, sets_last, heard, as_raw},
+    Kit.{says_two, El, R, args, elτ},
     Methods.{method, comes_back},
+    Regions.{scaled, Sr, Seen, near, slots_open, slots_close, item_size, place_out, place_in},
   },
   places.Filled.filled_within,
 }

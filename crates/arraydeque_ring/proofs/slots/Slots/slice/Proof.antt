@@ -1,13 +1,14 @@
 -- `slice` lends the values of a filled run. Assumes `Logic`.
 use Rattle.arraydeque_ring.proofs.{
   memory.{
-    Kit.{refl, sym, ap, [], ◌∷◌, ℕ, ◌+◌, ◌*◌, ◌<◌, ◌^◌, arith, length, inst_fn, vptr, ‵, ◌$◌, !, move, use1, drop},
-    Kit.{join, fsplit, fjoin, feq_i, flt_i, suffices, done, agg, of_opd, bin, load, look, stop, fld, no_more, and_then},
-    Kit.{first, blocks, returns, alloc_all, pass_all, free_all, look_at, get, through, sets, sets_last, says, heard},
-    Kit.{El, R, args, times_below, slice_val, elements_shared, ◌∙◌, looks, shuts, RawPtr, Ptr, ptr_val, feq_l, rewrite},
+    Called.{after_block, first_fact},
+    Kit.{refl, sym, ap, [], ◌∷◌, ℕ, ◌+◌, ◌*◌, ◌<◌, ◌^◌, arith, length, inst_fn, vptr, ‵, ◌$◌, ! },
+    Kit.{move, use1, drop, join, fsplit, fjoin, feq_i, flt_i, suffices, done, agg, of_opd, bin},
+    Kit.{load, look, stop, fld, no_more, and_then, first, blocks, returns, alloc_all, pass_all},
+    Kit.{free_all, look_at, get, through, sets, sets_last, says, heard, El, R, args, times_below},
+    Kit.{slice_val, elements_shared, ◌∙◌, looks, shuts, RawPtr, Ptr, ptr_val, feq_l, rewrite},
     Kit.{cell_at, frame},
     Lent.slots_seen,
-    Called.{after_block, first_fact},
     Methods.{walked, seen, words},
     Regions.{Sr, scaled, item_size, run_seen},
   },

@@ -1,11 +1,14 @@
 use Rattle.std.proofs.Common.{◌+◌, ◌-◌, ◌%◌, ◌<◌, length, ap, subst, ◌∙◌, refl, arith}
 use Rattle.arraydeque_ring.{
-  specs.{Places.IsFilled, Ring.place_of, Moved.run_moved},
   proofs.{
     moved.{Flat.{distance_is, same_move}, TwoMoves.{StartsAt, Three, three}},
     places.Rotated.{place_of_cases, place_of-sum},
-    slots.Slots.slide_down.{Given.Over, Goals.{After-capacity-last, then-len-upper, else-len-upper}},
+    slots.Slots.slide_down.{
+      Given.Over,
+      Goals.{After-capacity-last, then-len-upper, else-len-upper},
+    },
   },
+  specs.{Moved.run_moved, Places.IsFilled, Ring.place_of},
 }
 use Rattle.arraydeque_ring.proofs.slots.Slots.slide_down.Goals as goal
 

@@ -1,11 +1,14 @@
 use Rattle.std.proofs.Common.{◌+◌, ◌-◌, ◌≤◌, length, ap, refl, arith}
 use Rattle.arraydeque_ring.{
-  specs.{Ring.place_of, Moved.run_moved},
   proofs.{
     moved.{Flat.{distance_is, same_move}, TwoMoves.{StartsAt, Three, three}},
     places.Rotated.place_of_cases,
-    slots.Slots.slide_up.{Given.Over, Goals.{After-capacity-capacity, then-len-upper, else-len-upper}},
+    slots.Slots.slide_up.{
+      Given.Over,
+      Goals.{After-capacity-capacity, then-len-upper, else-len-upper},
+    },
   },
+  specs.{Moved.run_moved, Ring.place_of},
 }
 use Rattle.arraydeque_ring.proofs.slots.Slots.slide_up.Goals as goal
 

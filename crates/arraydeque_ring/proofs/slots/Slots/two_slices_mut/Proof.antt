@@ -1,10 +1,11 @@
 -- `two_slices_mut` lends two runs, and the region follows their slices. Assumes `Logic`.
+use base.Logic.{mono_l}
 use Rattle.arraydeque_ring.{
   proofs.{
     memory.{
-      Kit.{fact, sep, by, refl, [], ◌∷◌, id⊢, tables, ◌$◌, !, move, join, frame, suffices, addr, stop, no_more},
-      Kit.{and_then, returns, alloc_all, pass_all, free_all, look_at, get, through, sets, lands_as, mem, nothing},
-      Kit.{heard, El, R, Array, both_by},
+      Kit.{fact, sep, by, refl, [], ◌∷◌, id⊢, tables, ◌$◌, !, move, join, frame, suffices, addr},
+      Kit.{stop, no_more, and_then, returns, alloc_all, pass_all, free_all, look_at, get, through},
+      Kit.{sets, lands_as, mem, nothing, heard, El, R, Array, both_by},
       Regions.Sr,
       Methods.{passing_on, spent, machine_values},
       Called.{calls_met, first_fact, knows},
@@ -14,7 +15,6 @@ use Rattle.arraydeque_ring.{
   },
   specs.SlotsLends.two_lists,
 }
-use base.Logic.{mono_l}
 use Rattle.arraydeque_ring.specs.contracts.slots.Slots.lend_two as g
 use Rattle.arraydeque_ring.specs.contracts.slots.Slots.two_slices_mut as f
 use Rattle.arraydeque_ring.proofs.slots.Slots.two_slices_mut.Statement as stated

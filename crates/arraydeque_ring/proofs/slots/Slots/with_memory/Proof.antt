@@ -1,24 +1,29 @@
 -- `with_memory` cuts a new block into empty places, and keeps the right to free it. Assumes `Logic`.
 use Rattle.arraydeque_ring.proofs.memory.{
-  Kit.{true, false, ◌≡◌, refl, [], ◌∷◌, ◌*◌, ◌<◌, ◌^◌, arith, lit<, Ok, Err, inst_fn, ty_array, vstruct, vcons, vnil},
-  Kit.{after_seq, at_return, tables, ‵, raw, given, any_q, ◌$◌, !, move, drop, use1, use2, join, learn, frame, fsplit},
-  Kit.{suffices, done, whole, agg, live, vrt, in_variant, of_opd, lit, align_word, stop, fld, no_more, and_then, first},
-  Kit.{switches_on, exec, returns, alloc_all, pass_all, free_all, look_at, get, get_in, get_tag, sets, sets_last},
-  Kit.{lands_as, env, Is, layout, heard, owned, calls_at, framed, says, as_written, first_Good, after, head, arm_body},
-  Kit.{El, args, elτ, Struct},
   Blocks.{scaled, right_at_start},
-  Heap.{Allocates, to_allocate, allocate_goes, allocated},
-  Methods.{walked, seen, handle, words},
   Called.{after_block, first_fact},
-  Regions.{Sr, places, right, heap_Good, slots_val, slots_Good, slots_made, Fits-empty, item_size, of_room},
-  Regions.{empty_region},
+  Heap.{Allocates, to_allocate, allocate_goes, allocated},
+  Kit.{true, false, ◌≡◌, refl, [], ◌∷◌, ◌*◌, ◌<◌, ◌^◌, arith, lit<, Ok, Err, inst_fn, ty_array},
+  Kit.{vstruct, vcons, vnil, after_seq, at_return, tables, ‵, raw, given, any_q, ◌$◌, !, move},
+  Kit.{drop, use1, use2, join, learn, frame, fsplit, suffices, done, whole, agg, live, vrt},
+  Kit.{in_variant, of_opd, lit, align_word, stop, fld, no_more, and_then, first, switches_on, exec},
+  Kit.{returns, alloc_all, pass_all, free_all, look_at, get, get_in, get_tag, sets, sets_last},
+  Kit.{lands_as, env, Is, layout, heard, owned, calls_at, framed, says, as_written, first_Good},
+  Kit.{after, head, arm_body, El, args, elτ, Struct},
+  Methods.{walked, seen, handle, words},
+  Regions.{Sr, places, right, heap_Good, slots_val, slots_Good, slots_made, Fits-empty, item_size},
+  Regions.{of_room, empty_region},
 }
 use denote.Struct.Struct.{Struct-Makes}
+use Rattle.std.proofs.{
+  alloc.Calls.Answer-typed,
+  impls.GlobalAllocator.allocate.Met.met,
+  ResultValues.{ok_of, err_of},
+}
 use denote.Struct.Declared as Declared
 use Rattle.std.specs.contracts.result.Result as results
 use Rattle.std.specs.contracts.alloc.AllocError as refusals
 use Rattle.std.specs.contracts.alloc.Global as heap
-use Rattle.std.proofs.{alloc.Calls.Answer-typed, impls.GlobalAllocator.allocate.Met.met, ResultValues.{ok_of, err_of}}
 use Rattle.arraydeque_ring.specs.contracts.slots.Slots.with_memory as f
 use Rattle.arraydeque_ring.proofs.slots.Slots.with_memory.Statement as stated
 use Rattle.arraydeque_ring.proofs.slots.Slots.with_memory.Code as code

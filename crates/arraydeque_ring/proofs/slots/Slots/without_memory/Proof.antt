@@ -1,11 +1,13 @@
 -- `without_memory` makes places that take no bytes out of nothing. Assumes `Logic`.
 use Rattle.arraydeque_ring.proofs.memory.{
-  Kit.{arith, refl, ‵, ◌$◌, !, use0, suffices, done, agg, addr, from, stop, no_more, and_then, returns, alloc_all},
-  Kit.{pass_all, free_all, look_at, get, sets, says, heard, block_ptr, El, frame, join},
   Blocks.no_right,
-  Methods.{walked, handle, words},
   Called.first_fact,
-  Regions.{Fits-empty, places, right, heap_Good, slots_val, slots_Good, slots_made, of_nothing, empty_region},
+  Kit.{arith, refl, ‵, ◌$◌, !, use0, suffices, done, agg, addr, from, stop, no_more, and_then},
+  Kit.{returns, alloc_all, pass_all, free_all, look_at, get, sets, says, heard, block_ptr, El},
+  Kit.{frame, join},
+  Methods.{walked, handle, words},
+  Regions.{Fits-empty, places, right, heap_Good, slots_val, slots_Good, slots_made, of_nothing},
+  Regions.empty_region,
 }
 use Rattle.arraydeque_ring.specs.contracts.slots.Slots.without_memory as f
 use Rattle.arraydeque_ring.proofs.slots.Slots.without_memory.Statement as stated

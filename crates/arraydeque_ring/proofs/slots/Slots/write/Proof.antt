@@ -1,12 +1,14 @@
 -- `write` fills an empty place. Assumes `Logic`.
 use Rattle.arraydeque_ring.proofs.memory.{
-  Kit.{part_in, full_share, refl, sym, [], ◌∷◌, ◌+◌, ◌*◌, arith, set, length-set, Some, inst_fn, vunit, ‵, ◌$◌, ! },
-  Kit.{move, use2, join, feq_i, suffices, done, whole, sub, look_in, of_opd, unit_lit, bin, load, init, stop, fld},
-  Kit.{assigns_last, first, blocks, returns, alloc_all, pass_all, free_all, look_at, get, through, sets, heard},
-  Kit.{as_written, says, El, R, args, elτ, frame},
   Called.{after_block, first_fact},
+  Kit.{part_in, full_share, refl, sym, [], ◌∷◌, ◌+◌, ◌*◌, arith, set, length-set, Some, inst_fn},
+  Kit.{vunit, ‵, ◌$◌, !, move, use2, join, feq_i, suffices, done, whole, sub, look_in, of_opd},
+  Kit.{unit_lit, bin, load, init, stop, fld, assigns_last, first, blocks, returns, alloc_all},
+  Kit.{pass_all, free_all, look_at, get, through, sets, heard, as_written, says, El, R, args, elτ},
+  Kit.frame,
   Methods.{walked, mutable, comes_back, word, item, words},
-  Regions.{scaled, Sr, Seen, near, slots_open, slots_close, item_size, place_out, place_in, place_owned},
+  Regions.{scaled, Sr, Seen, near, slots_open, slots_close, item_size, place_out, place_in},
+  Regions.place_owned,
 }
 use Rattle.arraydeque_ring.specs.contracts.slots.Slots.write as f
 use Rattle.arraydeque_ring.proofs.slots.Slots.write.Statement as stated

@@ -1,8 +1,8 @@
 -- `size_of_item` answers the size of any type, capped to a word. Assumes `Logic`.
 use Rattle.arraydeque_ring.proofs.memory.{
-  Kit.{refl, [], ◌∷◌, ◌^◌, w64, vint, size, capped, capped_fits, ◌$◌, !, join, fjoin, feq_i, flt_i, suffices, done},
-  Kit.{of_opd, size_word, returns, alloc_all, pass_all, free_all, look_at, sets, says, layout, a_type, layouts, frame},
-  Kit.{drop},
+  Kit.{refl, [], ◌∷◌, ◌^◌, w64, vint, size, capped, capped_fits, ◌$◌, !, join, fjoin, feq_i, flt_i},
+  Kit.{suffices, done, of_opd, size_word, returns, alloc_all, pass_all, free_all, look_at, sets},
+  Kit.{says, layout, a_type, layouts, frame, drop},
   Methods.{walked, words},
 }
 use Rattle.arraydeque_ring.specs.contracts.slots.raw.size_of_item as f

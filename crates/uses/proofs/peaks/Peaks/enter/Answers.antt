@@ -1,4 +1,7 @@
-use Rattle.std.proofs.{Common.{◌≡◌, ◌++◌, ◌∷◌, [], None, ap, ◌∙◌, rules}, lemmas.Result.on_ok_weaker}
+use Rattle.std.proofs.{
+  Common.{◌≡◌, ◌++◌, ◌∷◌, [], None, ap, ◌∙◌, rules},
+  lemmas.Result.on_ok_weaker,
+}
 use Rattle.uses.proofs.Rising.{fallen, pop-lower, pop-none, peaks-enter}
 use Rattle.uses.proofs.peaks.Peaks.enter.Goals as goal
 

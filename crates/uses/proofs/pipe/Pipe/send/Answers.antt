@@ -1,8 +1,8 @@
 use Rattle.std.{
   proofs.{
     Common.{◌≡◌, ◌++◌, take, drop, length, subst, append_assoc, rules, arith},
-    Math.Seq.{take-append_seam},
-    lemmas.{Grind.common_steps, List.{take-append-drop}},
+    lemmas.{Grind.common_steps, List.take-append-drop},
+    Math.Seq.take-append_seam,
   },
   specs.Io.StartsWith,
 }

@@ -1,4 +1,4 @@
-use Rattle.std.proofs.{Common.{◌<◌, ◌^◌, option_to_list, arith}, lemmas.List.Elements.{All-push}}
+use Rattle.std.proofs.{Common.{◌<◌, ◌^◌, option_to_list, arith}, lemmas.List.Elements.All-push}
 use Rattle.uses.proofs.Totals.{All-kept, sum-kept, sum-option, sum-fits}
 use Rattle.uses.proofs.window.Window.push.Goals as goal
 

@@ -1,4 +1,7 @@
-use Rattle.std.proofs.{Common.{◌+◌, length, ap, sym, ◌∙◌, arith}, lemmas.List.{length-append, drop_all}}
+use Rattle.std.proofs.{
+  Common.{◌+◌, length, ap, sym, ◌∙◌, arith},
+  lemmas.List.{length-append, drop_all},
+}
 use Rattle.arraydeque.proofs.BytesRead.{both_read, read_rest}
 use Rattle.arraydeque.proofs.deque.bytes.ArrayDequeU8Read.read.Goals as goal
 

@@ -1,4 +1,4 @@
-use Rattle.std.proofs.{Common.arith}
+use Rattle.std.proofs.Common.{arith}
 use Rattle.arraydeque.proofs.{
   Pushed.{WrapsBack-no_places, WrapsBack-room, WrapsBack-both},
   Taken.{TakesAll-ends, TakesAll-fills, TakesAll-both},

@@ -1,4 +1,4 @@
-use Rattle.std.proofs.{Common.arith}
+use Rattle.std.proofs.Common.{arith}
 use Rattle.arraydeque.proofs.{
   Pushed.{WrapsFront-no_places, WrapsFront-room, WrapsFront-both},
   Taken.{TakesAll-ends, TakesAll-fills, TakesAll-both},

@@ -1,4 +1,4 @@
-use Rattle.std.proofs.{Common.arith, Math.Seq.{take-append_seam}, lemmas.List.take_all}
+use Rattle.std.proofs.{Common.arith, lemmas.List.take_all, Math.Seq.take-append_seam}
 use Rattle.arraydeque.proofs.Taken.{TakesAll-fills, TakesAll-both, TakesAll-drains}
 use Rattle.arraydeque.proofs.deque.extend.ArrayDequeSaturatingExtend.extend.Goals as goal
 

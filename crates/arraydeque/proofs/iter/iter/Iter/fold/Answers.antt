@@ -1,12 +1,14 @@
 use Rattle.std.{
   proofs.{
     Common.{[], subst, refl, sym, arith},
-    lemmas.Iterator.Consumers.{fold_from_yields_List, YieldsList-from_first},
     iter.runs.Consumers.fold_runs,
+    lemmas.Iterator.Consumers.{fold_from_yields_List, YieldsList-from_first},
   },
   specs.Iterator.YieldsFirstRef,
 }
-use Rattle.arraydeque.proofs.Folded.{Folded, nothing_folded, slice_folded, all_folded, going, next_folded}
+use Rattle.arraydeque.proofs.{
+  Folded.{Folded, nothing_folded, slice_folded, all_folded, going, next_folded},
+}
 use Rattle.arraydeque.proofs.iter.iter.Iter.fold.Goals as goal
 
 pub loop-item-init : goal.loop-item-init

@@ -1,4 +1,7 @@
-use Rattle.std.{proofs.{Common.{◌≡◌, ◌++◌, refl}, iter.runs.Folds.for_each_runs}, specs.Iterator.YieldsFirstRef}
+use Rattle.std.{
+  proofs.{Common.{◌≡◌, ◌++◌, refl}, iter.runs.Folds.for_each_runs},
+  specs.Iterator.YieldsFirstRef,
+}
 use Rattle.arraydeque.proofs.Walked.{callable_first, callable_second, walked_both}
 use Rattle.arraydeque.proofs.iter.iter.Iter.for_each.Goals as goal
 

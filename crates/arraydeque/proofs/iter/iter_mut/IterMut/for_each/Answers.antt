@@ -1,5 +1,7 @@
-use Rattle.std.proofs.{Common.{◌≡◌, List, length, refl, arith}, iter.runs.Folds.{for_each_runs}}
-use Rattle.std.specs.Iterator.{YieldsFirstMut}
+use Rattle.std.{
+  proofs.{Common.{◌≡◌, List, length, refl, arith}, iter.runs.Folds.for_each_runs},
+  specs.Iterator.YieldsFirstMut,
+}
 use Rattle.arraydeque_ring.specs.Loans.{LoanState, remaining}
 use Rattle.arraydeque.proofs.Walked.{callable_first, callable_second, walked_both}
 use Rattle.arraydeque.proofs.iter.iter_mut.IterMut.for_each.Goals as goal
