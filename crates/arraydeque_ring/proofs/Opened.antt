@@ -386,7 +386,7 @@ pub ruleset part_facts = (bounds, last_dropped, run_handed, take_rest)
 pub ruleset join_facts = (bounds, behind_empty, piece_joined)
 
 -- or come as copies
-pub ruleset copied_facts = (bounds, behind_empty, piece_laid)
+pub ruleset piece_facts = (bounds, behind_empty, piece_laid)
 
 -- items that come one by one from the first place on
 pub ruleset copy_facts = (

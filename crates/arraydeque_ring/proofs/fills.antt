@@ -1,3 +1,4 @@
+pub mod Copied
 pub mod Displaced
 pub mod Filling
 pub mod FromIterator

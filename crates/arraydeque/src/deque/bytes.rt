@@ -90,7 +90,9 @@ fn copy_to(from: &[u8], to: &mut [u8], at: usize) -> usize
         take at to.old ++ take result from.now ++ drop (at + result) to.old }
 {
     let count = from.len().min(to.len() - at);
-    to[at..at + count].copy_from_slice(&from[..count]);
+    if count > 0 {
+        to[at..at + count].copy_from_slice(&from[..count]);
+    }
     count
 }
 

@@ -7,7 +7,8 @@ use Rattle.arraydeque_ring.proofs.memory.{
   Kit.{fobs, fbor, Borrowed, mem, RattleType, owns, types_at, plain, usize, uint_vals, mut_vals},
   Kit.{mut_Tells, yes, no, nothing, Stays, stay_dropped, Goes-dropped, Goes-spent_ref, heap_Tells},
   Kit.{El, R, elτ, one, lawful, shr_Tells, tables, ftrue, fsep, vint, proved_at, walk_of, use1},
-  Kit.{Item, WpFn, subst, sym, via, drop, Fml, frame, by, Good, layout, Is},
+  Kit.{Item, WpFn, subst, sym, via, drop, Fml, frame, by, Good, layout, Is, number, ty_array},
+  Kit.length,
   Regions.Sr,
 }
 use base.Logic.{emp∗}
@@ -16,8 +17,9 @@ use mir.Syntax.{Callee}
 use contract.{Lifetimes.{Lfts, Shares, AllOutlive, Outlives, toks}, Running.Running}
 use types.Kit.{Sq, prop, runs, allocs, params', ⋆, push}
 use denote.{
-  Exit.{Kept, Last, rest},
+  Exit.{Kept, Last, Entries, all_last, rest},
   Laws.{Ises, Are, Tells},
+  Param.{ArrayAt, param, Laws.{number_array_laws, param_laws}},
   RattleType.{Denots, Valss, flat},
   Signature.{Slot, AllWithin, type_at, mut_ref_to, shr_ref_to, meet_at},
   Triple.{
@@ -93,6 +95,13 @@ abbrev shown : {M : Type 1} {𝓤 : Ura M} → Bool → Fml → List (Item 𝓤)
 shown true F Γ = ‵ F ∷ Γ
 shown false F Γ = Γ
 
+-- at the end nothing is said of items that went by value
+pub none_told : {M : Type 1} {𝓤 : Ura M} (𝓛 : Logic 𝓤) {X : Type 0} (xs : List X) (fs : Entries (λ _. Unit {0}) xs)
+    → ent 𝓤 (sem 𝓛 ftrue) (sem 𝓛 (all_last (λ _. Unit {0}) (λ _ _. ftrue) xs fs))
+none_told {𝓤 = 𝓤} 𝓛 [] fs = id⊢ 𝓤 _
+none_told 𝓛 (x ∷ xs) fs = qed 𝓛 (‵ ftrue ∷ []) ∵
+    use1 𝓛 (‵ (all_last (λ _. Unit {0}) (λ _ _. ftrue) xs fs.1)) (none_told 𝓛 xs fs.1) $ nothing ! $ fjoin ! $ done !
+
 module _ {M : Type 1} {𝓤 : Ura M} {𝓛 : Logic 𝓤} where
   pub beside : {F G : Fml} {Γ : List (Item 𝓤)} (Δ : List (Item 𝓤)) {P : SProp 𝓤} → Sq 𝓛 (‵ F ∷ Δ) (prop P)
       → Sq 𝓛 (‵ G ∷ Γ) (prop (⋆ 𝓛 Δ)) → Sq 𝓛 (‵ (fsep F G) ∷ Γ) (prop P)
@@ -105,16 +114,16 @@ module _ {M : Type 1} {𝓤 : Ura M} {𝓛 : Logic 𝓤} where
 
   module _ {m : ℕ} where
     -- one that ends in the call, shown at entry or not
-    abbrev pub gone : (s : Slot m) (k : Kept) → Silent 𝓛 m s k → Bool
+    abbrev pub ended : (s : Slot m) (k : Kept) → Goes 𝓛 m s k (stay_dropped s k) → Bool
         → (Store : (κs : Lfts m) → (s.row κs).Denot → Type 0)
         (spell : (κs : Lfts m) (x : (s.row κs).Denot) → Store κs x → List Val)
         → ((κs : Lfts m) (x : (s.row κs).Denot) (vs : List Val) → Is (s.row κs) x vs
         → (t : Store κs x) × (vs ≡ spell κs x t)) → Params 𝓛 m → Params 𝓛 m
-    gone s k silent visible Store spell told ps = record {
+    ended s k goes visible Store spell told ps = record {
       slots = s ∷ ps.slots;
       kept = (k, ps.kept);
       stays = (stay_dropped s k, ps.stays);
-      go = (Goes-dropped 𝓛 m s k silent, ps.go);
+      go = (goes, ps.go);
       passed = λ κs a. let r = ps.passed κs a.1 in record {
         Stored = Store κs a.0 × r.Stored;
         vals = λ t. (spell κs a.0 t.0, r.vals t.1);
@@ -131,6 +140,14 @@ module _ {M : Type 1} {𝓤 : Ura M} {𝓛 : Logic 𝓤} where
       };
     }
 
+    -- and of which nothing is told then
+    abbrev pub gone : (s : Slot m) (k : Kept) → Silent 𝓛 m s k → Bool
+        → (Store : (κs : Lfts m) → (s.row κs).Denot → Type 0)
+        (spell : (κs : Lfts m) (x : (s.row κs).Denot) → Store κs x → List Val)
+        → ((κs : Lfts m) (x : (s.row κs).Denot) (vs : List Val) → Is (s.row κs) x vs
+        → (t : Store κs x) × (vs ≡ spell κs x t)) → Params 𝓛 m → Params 𝓛 m
+    gone s k silent = ended s k (Goes-dropped 𝓛 m s k silent)
+
     -- one whose value tells how the machine stores it
     abbrev pub told : (s : Slot m) → Silent 𝓛 m s yes → Bool → {spell : (κs : Lfts m) → (s.row κs).Denot → List Val}
         → ((κs : Lfts m) → Tells (s.row κs) (Is (s.row κs)) (spell κs)) → Params 𝓛 m → Params 𝓛 m
@@ -142,6 +159,15 @@ module _ {M : Type 1} {𝓤 : Ura M} {𝓛 : Logic 𝓤} where
     abbrev pub item : El → Params 𝓛 m → Params 𝓛 m
     item E = gone (plain (λ _. R E)) no (λ _ _ _. refl) true (λ _ _. (v : Val) × Good (elτ E) v) (λ _ x t. t.0 ∷ [])
         (λ _ x vs is. let it = one E vs ((lawful E 𝓛).typed x vs is) in ((it.0, it.2), it.1))
+
+    -- N items by value, as one array
+    abbrev pub block : El → ℕ → Params 𝓛 m → Params 𝓛 m
+    block E N = let N' = param 1 (number N) in let Items = ArrayAt (R E) N' in
+        let laws = number_array_laws (R E) (param_laws 0 E.row E.laws) N' refl in
+        ended (plain (λ _. Items)) no (λ _ xs fs _ _. via 𝓤 _ (none_told 𝓛 xs fs) (𝓛.laws.⇛_intro _)) true
+        (λ _ xs. (v : Val) × Good (ty_array (elτ E) N) v × (length xs ≡ N)) (λ _ _ t. t.0 ∷ [])
+        (λ _ xs vs is. let it = one (record { row = Items; laws = laws }) vs ((laws.lawful 𝓛).typed xs vs is) in
+        ((it.0, it.2, is.1.0.1), it.1))
 
     -- a region by value
     abbrev pub whole_slots : El → Params 𝓛 m → Params 𝓛 m

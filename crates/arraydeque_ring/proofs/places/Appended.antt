@@ -26,7 +26,7 @@ use Rattle.arraydeque_ring.{
 
 module _ {X : Type 0} where
   -- what a place holds once a run is written: the run's value, or what it held
-  get_or-with_run : (at : ℕ) (ys : List X) (ps : List (Option X)) (x : ℕ) → at + length ys ≤ length ps →
+  pub get_or-with_run : (at : ℕ) (ys : List X) (ps : List (Option X)) (x : ℕ) → at + length ys ≤ length ps →
       get_or (with_run at ys ps) x None ≡ (if nat_lt x at then get_or ps x None
       else (if nat_lt x (at + length ys) then slice_get ys (x - at) else get_or ps x None))
   get_or-with_run at ys ps x le =

@@ -68,7 +68,8 @@ impl<T> Ring<T> {
     }
 
     /// Puts copies of items behind the last one, into places that don't go round the end.
-    #[tactic(auto, using(crate::proofs::Opened::copied_facts))]
+    #[tactic(auto, using(crate::proofs::Opened::piece_facts))]
+    #[inline(always)]
     fn copy_run(&mut self, items: &[T])
     where
         T: Copy,

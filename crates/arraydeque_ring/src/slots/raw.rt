@@ -10,7 +10,7 @@ ghost use prog.Memory.{capped};
 ghost use Rattle.arraydeque_ring.specs.Loans.{AreApart};
 ghost use Rattle.arraydeque_ring.specs.Moved.{run_moved};
 ghost use Rattle.arraydeque_ring.specs.Places.{empty_region, held_at, IsFilled, IsEmpty, AreAllEmpty};
-ghost use Rattle.arraydeque_ring.specs.Runs.{IsEmptyRun, run_emptied, HoldsRun, IsFilledRun};
+ghost use Rattle.arraydeque_ring.specs.Runs.{IsEmptyRun, run_emptied, with_run, HoldsRun, IsFilledRun};
 ghost use Rattle.arraydeque_ring.specs.SlotsLends.{lends_value, lends_values, lends_loan};
 
 use super::Slots;
@@ -40,6 +40,17 @@ impl<T> Slots<T> {
         } }
     {
         unsafe { self.ptr.add(place).read() }
+    }
+
+    /// Writes `N` values into the empty places from `place` on, all at once.
+    #[inline(always)]
+    pub(super) fn write_block<const N: usize>(&mut self, place: usize, values: [T; N])
+        requires { IsEmptyRun self.old.places place N }
+        ensures { self.new ≡ record self.old {
+          places = with_run place values self.old.places;
+        } }
+    {
+        unsafe { (self.ptr.add(place) as *mut [T; N]).write(values) }
     }
 
     /// Moves `N` values from the place `src + at` on to the places from `dst + at` on. All are read

@@ -1,9 +1,9 @@
-//! Runs of values that move to other places.
+//! Runs of values that move to other places, or come as copies.
 //!
 //! Between two regions a run goes by one copy. Within a region it is cut into parts that don't pass
 //! the region's end, and each part is copied in blocks by `move_block`, in an order that overwrites
-//! no value that has still to move. Where values move or are exchanged one by one, the region is a
-//! local meanwhile: its pointer is known to stay.
+//! no value that has still to move. Copies of a slice come in blocks, too. Where values move or are
+//! exchanged one by one, the region is a local meanwhile: its pointer is known to stay.
 ghost use Rattle.std.specs.Prelude.{◌≡◌, ◌+◌, ◌-◌, ◌<◌, ◌≤◌, length, take, drop, if◌then◌else◌, ◌==◌};
 ghost use Rattle.std.specs.List.{splice};
 ghost use Rattle.arraydeque_ring.specs.Moved.{MeetAtOneEndAtMost, IsFilledRound, IsFreeRound, CanCopy, CanMove, run_moved};
@@ -38,7 +38,9 @@ impl<T> Slots<T> {
         other.count(StepKind::Put, len);
     }
 
-    /// Puts copies of items into the empty places from `from` on, in order.
+    /// Puts copies of items into the empty places from `from` on, in order: in blocks, the largest
+    /// first.
+    #[inline(never)] // Its five loops have two callers.
     pub(crate) fn put_copies(&mut self, from: usize, items: &[T])
     where
         T: Copy,
@@ -46,11 +48,44 @@ impl<T> Slots<T> {
         ensures places { self.new.places ≡ with_run from items.now self.old.places }
         ensures steps { self.new.steps ≡ more_puts (length items.now) self.old.steps }
     {
-        let mut slots = self.move_out();
-        for k in 0..items.len() {
-            slots.put(from + k, items[k]);
+        let put = self.put_blocks::<1024>(from, items, 0);
+        let put = self.put_blocks::<128>(from, items, put);
+        let put = self.put_blocks::<16>(from, items, put);
+        let put = self.put_blocks::<4>(from, items, put);
+        self.put_blocks::<1>(from, items, put);
+        self.count(StepKind::Put, items.len());
+    }
+
+    /// Puts copies of the items from the index `at` on in blocks of `N`, as long as there are so
+    /// many. Returns the index of the first that is left. Blocks that are too large are not tried,
+    /// unless `N` is 1.
+    #[inline(always)]
+    fn put_blocks<const N: usize>(&mut self, from: usize, items: &[T], at: usize) -> usize
+    where
+        T: Copy,
+        requires some { 0 < N }
+        requires within { at ≤ length items.now }
+        requires empty { IsEmptyRun self.old.places (from + at) (length items.now - at) }
+        ensures within { result ≤ length items.now }
+        ensures empty { IsEmptyRun self.new.places (from + result) (length items.now - result) }
+        ensures all { N ≡ 1 → result ≡ length items.now }
+        ensures written { with_run (from + result) (drop result items.now) self.new.places ≡
+            with_run (from + at) (drop at items.now) self.old.places }
+        ensures steps { self.new.steps ≡ self.old.steps }
+    {
+        let mut put = at;
+        if N == 1 || size_of_item::<T>() <= BLOCK_BYTES / N {
+            while N <= items.len() - put {
+                // Reading the capacity tells the prover that no sum passes `usize::MAX`.
+                let _capacity = self.capacity();
+                let Some(block) = items[put..].first_chunk::<N>() else {
+                    unreachable!()
+                };
+                self.write_block(from + put, *block);
+                put += N;
+            }
         }
-        *self = slots;
+        put
     }
 
     /// Exchanges the values in the `len` places from `a` on with those in the `len` places from `b`

@@ -1,26 +1,13 @@
-use Rattle.std.proofs.{
-  Common.{take, arith},
-  lemmas.{Grind.{common_steps, take_at_read}, List.length-take-le},
-}
-use Rattle.arraydeque_ring.proofs.{fills.Filling.with_run-behind, places.Filled.empty_in_run}
+use Rattle.std.proofs.Common.{◌≡◌, ◌+◌, ◌∙◌, sym, ap, refl, drop, arith}
+use Rattle.arraydeque_ring.{proofs.fills.Copied.with_run-none, specs.Runs.with_run}
 use Rattle.arraydeque_ring.proofs.slots.Slots.put_copies.Goals as goal
 
-pub put-requires : goal.put-requires
-put-requires g c = rw c.loop-k.invariant.places
-    (grind (arith, common_steps, empty_in_run _ _ _ c.loop-k.k c.requires))
-
-pub loop-k-preserved : goal.loop-k-preserved
-loop-k-preserved g c =
-    let k = c.loop-k.k in let xs = c.args.items.now in let ps = c.args.self.now.places in
-    let x = c.index-items-k.result in
-    let long = length-take-le k xs (omega arith) in
-    record {
-      places = rw (
-        c.put.ensures.places,
-        c.loop-k.invariant.places,
-        (take_at_read xs k x c.loop-k-test.true).1,
-        ← c.index-items-k.is,
-      ) (with_run-behind c.args.from (take k xs) ps (omega (arith, c.requires.0)) x _
-          (omega arith) (omega (arith, c.requires.0)));
-      steps = grind arith;
-    }
+pub returns-clause-places : goal.returns-clause-places
+returns-clause-places g c =
+    let from = c.args.from in let xs = c.args.items.now in let ps = c.put_blocks.new.self.places in
+    let first : from + 0 ≡ from = omega arith in
+    rw c.count.ensures (sym (with_run-none _ xs ps)
+    ∙ ap (λ k. with_run (from + k) (drop k xs) ps) (sym (c.put_blocks.ensures.all refl)) ∙ c.put_blocks.ensures.written
+    ∙ c.put_blocks-put-4.ensures.written ∙ c.put_blocks-put-3.ensures.written
+    ∙ c.put_blocks-put-2.ensures.written ∙ c.put_blocks-put.ensures.written
+    ∙ ap (λ k. with_run k xs c.args.self.now.places) first)

@@ -1,0 +1,54 @@
+-- An empty run that is written in two parts, one behind the other.
+use Rattle.std.proofs.{
+  Common.{◌≡◌, ℕ, ◌+◌, ◌-◌, ◌≤◌, List, ◌++◌, length, take, drop, Option, ◌∙◌, sym, arith},
+  lemmas.{Grind.common_steps, List.{length-append, take-append-drop}},
+}
+use Rattle.arraydeque_ring.{
+  proofs.{
+    loans.Placed.length-with_run,
+    places.{
+      Appended.get_or-with_run,
+      Filled.{empty_in_run, empty_run_of},
+      Items.{slice_get-append, same_places},
+    },
+  },
+  specs.Runs.{with_run, IsEmptyRun},
+}
+
+module _ {X : Type 0} (at n len : ℕ) (le : n ≤ len) (ps : List (Option X)) (empty : IsEmptyRun ps at len) where
+  pub first_empty : IsEmptyRun ps at n
+  first_empty = empty_run_of ps at n (omega (arith, empty.0))
+      (λ x a b. grind (arith, empty_in_run ps at len (x - at) empty))
+
+  module _ (xs : List X) (long : length xs ≡ n) where
+    pub rest_empty : IsEmptyRun (with_run at xs ps) (at + n) (len - n)
+    rest_empty = empty_run_of _ (at + n) (len - n) (grind (arith, common_steps, empty.0, long))
+        (λ x a b. grind (arith, common_steps, empty.0, long, empty_in_run ps at len (x - at) empty))
+
+    pub with_run-append : (ys : List X) → length ys ≡ len - n
+        → with_run (at + n) ys (with_run at xs ps) ≡ with_run at (xs ++ ys) ps
+    with_run-append ys long' =
+        let ws = with_run at xs ps in
+        let all = length-append xs ys in
+        let as_long : length ws ≡ length ps = length-with_run at xs ps (omega (arith, empty.0)) in
+        same_places _ _ (length-with_run (at + n) ys ws (omega (arith, empty.0)) ∙ as_long
+        ∙ sym (length-with_run at (xs ++ ys) ps (omega (arith, empty.0)))) (λ k lt. grind (
+          arith,
+          slice_get-append,
+          get_or-with_run at xs ps k (omega (arith, empty.0)),
+          get_or-with_run (at + n) ys ws k (omega (arith, empty.0)),
+          get_or-with_run at (xs ++ ys) ps k (omega (arith, empty.0)),
+        ))
+
+-- a block of n items from the index i on, and those behind it
+module _ {X : Type 0} (i n : ℕ) (xs : List X) where
+  pub block_and_rest : n ≤ length xs - i → take n (take (length xs - i) (drop i xs)) ++ drop (i + n) xs ≡ drop i xs
+  block_and_rest le =
+      let all : take (length xs - i) (drop i xs) ≡ drop i xs = grind (arith, common_steps) in
+      let rest : drop (i + n) xs ≡ drop n (drop i xs) = grind (arith, common_steps) in
+      rw (all, rest) (take-append-drop n (drop i xs))
+
+-- once the last item is written, nothing is left
+pub with_run-none : {X : Type 0} (at : ℕ) (xs : List X) (ps : List (Option X))
+    → with_run at (drop (length xs) xs) ps ≡ ps
+with_run-none at xs ps = grind (arith, common_steps)
