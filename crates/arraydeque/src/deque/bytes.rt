@@ -49,7 +49,7 @@ impl<const CAP: usize, B: Behavior> Read for ArrayDeque<u8, CAP, B> {
 
 impl<const CAP: usize, B: Behavior> BufRead for ArrayDeque<u8, CAP, B> {
     /// Lends the bytes up to the region's end, and those behind it where there are none: only an
-    /// empty deque lends none. It always returns `Ok`.
+    /// empty deque lends none. The deque stays as it was. It always returns `Ok`.
     ///
     /// ```
     /// let mut deque = ArrayDeque::<u8, 4, Saturating>::new(alloc)?;
@@ -62,7 +62,7 @@ impl<const CAP: usize, B: Behavior> BufRead for ArrayDeque<u8, CAP, B> {
         ensures front { IfOk result (λ bytes. StartsWith self.old.items bytes.now) }
         ensures end { IfOk result (λ bytes. length bytes.now ≡ 0 → self.old.items ≡ []) }
         ensures* after_borrow { sem 𝓛 (Rests (the_row byte CAP.row B.row) self.entry (λ new.
-            FillKeeps (Some self.old.items) (Some new.items) None result)) }
+            FillKeeps (Some self.old.items) (Some new.items) None result × (new ≡ self.old))) }
         ensures ok { IsOk result }
     {
         Ok(self.front_bytes())
