@@ -31,9 +31,13 @@ impl<T> Ring<T> {
         }) }
         ensures refused { OnErr result (0 < capacity * type_size T.row) }
     {
-        let mut ring = Ring::new(alloc, capacity)?;
-        ring.copy_back(items);
-        Ok(ring)
+        let mut slots = Slots::new(alloc, capacity)?;
+        slots.put_copies(0, items);
+        Ok(Ring {
+            slots,
+            start: 0,
+            len: items.len(),
+        })
     }
 
     /// Puts copies of the first of some items behind the last one, as many as there is room for.

@@ -40,7 +40,7 @@ impl<T> Slots<T> {
 
     /// Puts copies of items into the empty places from `from` on, in order: in blocks, the largest
     /// first.
-    #[inline(never)] // Its five loops have two callers.
+    #[inline]
     pub(crate) fn put_copies(&mut self, from: usize, items: &[T])
     where
         T: Copy,
