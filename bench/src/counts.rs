@@ -48,7 +48,7 @@ pub fn once(name: &str, who: &str, rounds: usize) {
     });
 }
 
-fn collected(name: &str, who: &str, rounds: usize) -> u64 {
+fn collect(name: &str, who: &str, rounds: usize) -> u64 {
     let itself = std::env::current_exe().expect("a path of this program");
     let mut valgrind = Command::new("valgrind");
     valgrind.args(["--tool=callgrind", "--callgrind-out-file=/dev/null"]).arg(itself);
@@ -60,11 +60,11 @@ fn collected(name: &str, who: &str, rounds: usize) -> u64 {
 
 /// The instructions of a round: what some more rounds take beyond a few.
 fn instructions(name: &str, who: &str, more: usize) -> f64 {
-    let few = collected(name, who, 16);
-    (collected(name, who, 16 + more) - few) as f64 / more as f64
+    let few = collect(name, who, 16);
+    (collect(name, who, 16 + more) - few) as f64 / more as f64
 }
 
-fn counted(name: &str) -> [f64; 3] {
+fn counts_of(name: &str) -> [f64; 3] {
     WHO.map(|who| instructions(name, who, 64))
 }
 
@@ -72,7 +72,7 @@ fn counted(name: &str) -> [f64; 3] {
 pub fn count(wanted: &str) {
     println!("{}", figures::COUNTS_HEAD);
     for workload in all_workloads().iter().filter(|workload| workload.name.contains(wanted)) {
-        println!("{}", figures::counts_line(&workload.name, counted(&workload.name)));
+        println!("{}", figures::counts_line(&workload.name, counts_of(&workload.name)));
     }
 }
 
@@ -81,7 +81,7 @@ pub fn count_long() -> std::io::Result<()> {
     let mut rows = figures::load(figures::TIMES)?;
     rows.retain(Figures::is_long);
     for row in &mut rows {
-        row.columns = counted(&row.name);
+        row.columns = counts_of(&row.name);
     }
     std::fs::write(figures::COUNTS, times::csv(&rows))
 }

@@ -46,7 +46,7 @@ impl Item for Block {
 /// An item that owns memory.
 pub trait Owned: Clone + 'static {
     fn make(number: u64) -> Self;
-    fn told(&self) -> u64;
+    fn number(&self) -> u64;
 }
 
 impl Owned for Box<u64> {
@@ -54,7 +54,7 @@ impl Owned for Box<u64> {
         Box::new(number)
     }
     #[inline]
-    fn told(&self) -> u64 {
+    fn number(&self) -> u64 {
         **self
     }
 }
@@ -64,7 +64,7 @@ impl Owned for String {
         String::from(if number % 2 == 0 { "an even number's text" } else { "a text of an odd number" })
     }
     #[inline]
-    fn told(&self) -> u64 {
+    fn number(&self) -> u64 {
         self.len() as u64
     }
 }
@@ -82,13 +82,13 @@ impl<const LEN: usize> Piece for Bytes<LEN> {
 
 /// The next of a row of numbers that look random.
 #[inline]
-pub fn scrambled(number: u64) -> u64 {
+pub fn next_random(number: u64) -> u64 {
     let number = number ^ (number << 13);
     let number = number ^ (number >> 7);
     number ^ (number << 17)
 }
 
 /// The items of the numbers from 0 on, `len` of them.
-pub fn counted<T: Item>(len: usize) -> Vec<T> {
+pub fn first_items<T: Item>(len: usize) -> Vec<T> {
     (0..len as u64).map(T::of).collect()
 }

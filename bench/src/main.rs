@@ -165,8 +165,8 @@ fn further_workloads() -> Vec<Workload> {
     of_few_items!(list, equal, arraydeque_bench_equal);
     workloads!(list, hash, arraydeque_bench_hash, false, (8, u64, 64), (8, u64, 16));
     of_all_lists!(list, fold, arraydeque_bench_fold, (8, u64, 1000000));
-    of_all_lists!(list, reversed, arraydeque_bench_reversed);
-    of_all_lists!(list, zipped, arraydeque_bench_zipped);
+    of_all_lists!(list, rev, arraydeque_bench_rev);
+    of_all_lists!(list, zip, arraydeque_bench_zip);
     of_all_lists!(list, add_each, arraydeque_bench_add_each, (8, u64, 1000000));
     // Not at capacity 16, whose rounds the compiler sums without making them.
     of_all_items!(list, for_each_mut, arraydeque_bench_for_each_mut, (8, u64, 64), (8, u64, 1000000));
@@ -224,7 +224,7 @@ fn further_workloads() -> Vec<Workload> {
     list
 }
 
-fn timed(work: &dyn Fn(usize) -> u64, rounds: usize) -> Duration {
+fn time(work: &dyn Fn(usize) -> u64, rounds: usize) -> Duration {
     let start = Instant::now();
     black_box(work(black_box(rounds)));
     start.elapsed()
@@ -232,12 +232,12 @@ fn timed(work: &dyn Fn(usize) -> u64, rounds: usize) -> Duration {
 
 /// As many rounds as take about as long as a run is to take, and longer than what comes before the first.
 fn rounds_of(work: &dyn Fn(usize) -> u64) -> usize {
-    let setup = timed(work, 0);
+    let setup = time(work, 0);
     let enough = RUN.max(2 * setup);
     let mut rounds = 16;
     loop {
         // The least of a few, lest another program's turn count as ours.
-        let least = (0..3).map(|_| timed(work, rounds)).min().unwrap_or_default();
+        let least = (0..3).map(|_| time(work, rounds)).min().unwrap_or_default();
         let time = least.saturating_sub(setup);
         if time >= enough / 2 {
             return (rounds as f64 * enough.as_secs_f64() / time.as_secs_f64()).max(1.0) as usize;
@@ -246,9 +246,9 @@ fn rounds_of(work: &dyn Fn(usize) -> u64) -> usize {
     }
 }
 
-fn measured(workload: &Workload, repetitions: usize) -> Figures {
+fn figures_of(workload: &Workload, repetitions: usize) -> Figures {
     let works: [&dyn Fn(usize) -> u64; 3] = [&workload.ours, &workload.peers[0], &workload.peers[1]];
-    let long = timed(works[0], 1) > RUN / 8;
+    let long = time(works[0], 1) > RUN / 8;
     for &rounds in if long { &[0, 1, 2, 7][..] } else { &[0, 1, 2, 7, 1000] } {
         let sums = works.map(|work| work(rounds));
         assert!(
@@ -262,8 +262,8 @@ fn measured(workload: &Workload, repetitions: usize) -> Figures {
     let mut least = [Duration::MAX; 3];
     for _ in 0..repetitions {
         for column in 0..3 {
-            setup[column] = setup[column].min(timed(works[column], 0));
-            least[column] = least[column].min(timed(works[column], rounds[column]));
+            setup[column] = setup[column].min(time(works[column], 0));
+            least[column] = least[column].min(time(works[column], rounds[column]));
         }
     }
     let nanoseconds = [0, 1, 2].map(|column| {
@@ -290,7 +290,7 @@ fn measure(wanted: &str, repetitions: usize, writes: bool) -> std::io::Result<()
         if is_watched {
             eprint!("\r{shift}: {}/{} {:<60}", done + 1, workloads.len(), workload.name);
         }
-        all.push(measured(workload, repetitions));
+        all.push(figures_of(workload, repetitions));
         if is_watched {
             eprint!("\r{:<70}\r", "");
         }

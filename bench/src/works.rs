@@ -1,5 +1,5 @@
 //! The workloads, each as in the proved crate, over a peer.
-use crate::items::{Item, Owned, Piece, counted, scrambled};
+use crate::items::{Item, Owned, Piece, first_items, next_random};
 use crate::peers::{History, Peer, Stream};
 use std::hash::{DefaultHasher, Hash, Hasher};
 use std::hint::black_box;
@@ -127,10 +127,10 @@ pub fn random<T: Item, D: Peer<T>, const CAP: usize>(rounds: usize) -> u64 {
     let mut sum = 0u64;
     let mut state = 1u64;
     for round in 0..rounds as u64 {
-        state = scrambled(state);
+        state = next_random(state);
         let index = (state >> 32) as usize % CAP;
         deque.insert(index, T::of(round));
-        state = scrambled(state);
+        state = next_random(state);
         if let Some(item) = deque.remove((state >> 32) as usize % CAP) {
             sum = sum.wrapping_add(item.number());
         }
@@ -143,7 +143,7 @@ fn last_number<T: Item, D: Peer<T>>(deque: &D) -> u64 {
 }
 
 pub fn extend_slice<T: Item, D: Peer<T>, const CAP: usize>(rounds: usize) -> u64 {
-    let items = counted::<T>(CAP / 2);
+    let items = first_items::<T>(CAP / 2);
     let mut deque: D = peer_at(0, CAP / 3);
     let mut sum = 0u64;
     for _ in 0..rounds {
@@ -155,7 +155,7 @@ pub fn extend_slice<T: Item, D: Peer<T>, const CAP: usize>(rounds: usize) -> u64
 }
 
 pub fn extend_vec<T: Item, D: Peer<T>, const CAP: usize>(rounds: usize) -> u64 {
-    let items = counted::<T>(CAP / 2);
+    let items = first_items::<T>(CAP / 2);
     let mut deque: D = peer_at(0, CAP / 3);
     let mut sum = 0u64;
     for _ in 0..rounds {
@@ -171,7 +171,7 @@ pub fn extend_lent<T: Item, D: Peer<T>, const CAP: usize>(rounds: usize) -> u64 
     fn extend_through<T: Item, D: Peer<T>>(deque: &mut D, items: &[T]) {
         deque.extend_back(items.iter().copied());
     }
-    let items = counted::<T>(CAP / 2);
+    let items = first_items::<T>(CAP / 2);
     let mut deque: D = peer_at(0, CAP / 3);
     let mut sum = 0u64;
     for _ in 0..rounds {
@@ -183,7 +183,7 @@ pub fn extend_lent<T: Item, D: Peer<T>, const CAP: usize>(rounds: usize) -> u64 
 }
 
 pub fn extend_front<T: Item, D: Peer<T>, const CAP: usize>(rounds: usize) -> u64 {
-    let items = counted::<T>(CAP / 2);
+    let items = first_items::<T>(CAP / 2);
     let mut deque: D = peer_at(0, CAP / 3);
     let mut sum = 0u64;
     for _ in 0..rounds {
@@ -195,9 +195,9 @@ pub fn extend_front<T: Item, D: Peer<T>, const CAP: usize>(rounds: usize) -> u64
 }
 
 pub fn extend_history<T: Item, D: Peer<T>, const CAP: usize>(rounds: usize) -> u64 {
-    let items = counted::<T>(CAP / 2);
+    let items = first_items::<T>(CAP / 2);
     let mut deque = D::History::new();
-    deque.extend_back(counted::<T>(CAP));
+    deque.extend_back(first_items::<T>(CAP));
     let mut sum = 0u64;
     for _ in 0..rounds {
         deque.extend_back(items.iter().copied());
@@ -207,7 +207,7 @@ pub fn extend_history<T: Item, D: Peer<T>, const CAP: usize>(rounds: usize) -> u
 }
 
 pub fn drain_middle<T: Item, D: Peer<T>, const CAP: usize>(rounds: usize) -> u64 {
-    let items = counted::<T>(CAP / 2);
+    let items = first_items::<T>(CAP / 2);
     let mut deque: D = peer_at(CAP / 2, CAP);
     let mut sum = 0u64;
     for _ in 0..rounds {
@@ -222,7 +222,7 @@ pub fn drain_middle<T: Item, D: Peer<T>, const CAP: usize>(rounds: usize) -> u64
 }
 
 pub fn drain_all<T: Item, D: Peer<T>, const CAP: usize>(rounds: usize) -> u64 {
-    let items = counted::<T>(CAP / 2);
+    let items = first_items::<T>(CAP / 2);
     let mut deque: D = peer_at(CAP / 2, 0);
     let mut sum = 0u64;
     for _ in 0..rounds {
@@ -236,7 +236,7 @@ pub fn drain_all<T: Item, D: Peer<T>, const CAP: usize>(rounds: usize) -> u64 {
 }
 
 pub fn drain_fold<T: Item, D: Peer<T>, const CAP: usize>(rounds: usize) -> u64 {
-    let items = counted::<T>(CAP / 2);
+    let items = first_items::<T>(CAP / 2);
     let mut deque: D = peer_at(CAP / 2, 0);
     let mut sum = 0u64;
     for _ in 0..rounds {
@@ -248,7 +248,7 @@ pub fn drain_fold<T: Item, D: Peer<T>, const CAP: usize>(rounds: usize) -> u64 {
 }
 
 pub fn split_off<T: Item, D: Peer<T>, const CAP: usize>(rounds: usize) -> u64 {
-    let items = counted::<T>(CAP / 2);
+    let items = first_items::<T>(CAP / 2);
     let mut deque: D = peer_at(CAP / 2, CAP);
     let mut sum = 0u64;
     for _ in 0..rounds {
@@ -268,7 +268,7 @@ pub fn retain<T: Item, D: Peer<T>, const CAP: usize>(rounds: usize) -> u64 {
     let mut bit = 1u64;
     for _ in 0..rounds {
         while deque.len() < CAP {
-            state = scrambled(state);
+            state = next_random(state);
             deque.push_back(T::of(state));
         }
         deque.retain(|item| item.number() & bit != 0);
@@ -284,7 +284,7 @@ pub fn retain_mut<T: Item, D: Peer<T>, const CAP: usize>(rounds: usize) -> u64 {
     let mut state = 1u64;
     for _ in 0..rounds {
         while deque.len() < CAP {
-            state = scrambled(state);
+            state = next_random(state);
             deque.push_back(T::of(state));
         }
         deque.retain_mut(|item| *item = T::of(item.number() >> 1), |item| item.number() & 1 != 0);
@@ -383,7 +383,7 @@ pub fn fold<T: Item, D: Peer<T>, const CAP: usize>(rounds: usize) -> u64 {
     sum
 }
 
-pub fn reversed<T: Item, D: Peer<T>, const CAP: usize>(rounds: usize) -> u64 {
+pub fn rev<T: Item, D: Peer<T>, const CAP: usize>(rounds: usize) -> u64 {
     let deque: D = peer_at(CAP / 2, CAP);
     let mut sum = 0u64;
     for round in 0..rounds as u64 {
@@ -394,7 +394,7 @@ pub fn reversed<T: Item, D: Peer<T>, const CAP: usize>(rounds: usize) -> u64 {
     sum
 }
 
-pub fn zipped<T: Item, D: Peer<T>, const CAP: usize>(rounds: usize) -> u64 {
+pub fn zip<T: Item, D: Peer<T>, const CAP: usize>(rounds: usize) -> u64 {
     let deque: D = peer_at(CAP / 2, CAP);
     let other: D = peer_at(CAP / 3, CAP);
     let mut sum = 0u64;
@@ -466,7 +466,7 @@ pub fn swap<T: Item, D: Peer<T>, const CAP: usize>(rounds: usize) -> u64 {
     let mut deque: D = peer_at(CAP / 2, CAP);
     let mut state = 1u64;
     for _ in 0..rounds {
-        state = scrambled(state);
+        state = next_random(state);
         let (i, j) = (place_of::<CAP>(state), place_of::<CAP>(state << 20));
         if i < deque.len() && j < deque.len() {
             deque.swap(i, j);
@@ -479,7 +479,7 @@ pub fn swap_remove_back<T: Item, D: Peer<T>, const CAP: usize>(rounds: usize) ->
     let mut deque: D = peer_at(CAP / 2, CAP);
     let mut state = 1u64;
     for _ in 0..rounds {
-        state = scrambled(state);
+        state = next_random(state);
         if let Some(item) = deque.swap_remove_back(place_of::<CAP>(state)) {
             deque.push_back(item);
         }
@@ -491,7 +491,7 @@ pub fn swap_remove_front<T: Item, D: Peer<T>, const CAP: usize>(rounds: usize) -
     let mut deque: D = peer_at(CAP / 2, CAP);
     let mut state = 1u64;
     for _ in 0..rounds {
-        state = scrambled(state);
+        state = next_random(state);
         if let Some(item) = deque.swap_remove_front(place_of::<CAP>(state)) {
             deque.push_front(item);
         }
@@ -503,7 +503,7 @@ pub fn index_mut<T: Item, D: Peer<T>, const CAP: usize>(rounds: usize) -> u64 {
     let mut deque: D = peer_at(CAP / 2, CAP);
     let mut state = 1u64;
     for _ in 0..rounds {
-        state = scrambled(state);
+        state = next_random(state);
         let i = place_of::<CAP>(state);
         if i < deque.len() {
             let number = deque.at(i).number();
@@ -517,7 +517,7 @@ pub fn get_mut<T: Item, D: Peer<T>, const CAP: usize>(rounds: usize) -> u64 {
     let mut deque: D = peer_at(CAP / 2, CAP);
     let mut state = 1u64;
     for _ in 0..rounds {
-        state = scrambled(state);
+        state = next_random(state);
         if let Some(item) = deque.get_mut(place_of::<CAP>(state)) {
             *item = T::of(item.number().wrapping_add(1));
         }
@@ -526,7 +526,7 @@ pub fn get_mut<T: Item, D: Peer<T>, const CAP: usize>(rounds: usize) -> u64 {
 }
 
 #[inline(always)]
-fn rotated<T: Item, D: Peer<T>, const CAP: usize>(rounds: usize, len: usize, count: usize) -> u64 {
+fn rotate<T: Item, D: Peer<T>, const CAP: usize>(rounds: usize, len: usize, count: usize) -> u64 {
     let mut deque: D = peer_at(CAP / 3, len);
     let mut sum = 0u64;
     for _ in 0..rounds {
@@ -537,19 +537,19 @@ fn rotated<T: Item, D: Peer<T>, const CAP: usize>(rounds: usize, len: usize, cou
 }
 
 pub fn rotate_full_one<T: Item, D: Peer<T>, const CAP: usize>(rounds: usize) -> u64 {
-    rotated::<T, D, CAP>(rounds, CAP, 1)
+    rotate::<T, D, CAP>(rounds, CAP, 1)
 }
 
 pub fn rotate_full_half<T: Item, D: Peer<T>, const CAP: usize>(rounds: usize) -> u64 {
-    rotated::<T, D, CAP>(rounds, CAP, CAP / 2)
+    rotate::<T, D, CAP>(rounds, CAP, CAP / 2)
 }
 
 pub fn rotate_half_one<T: Item, D: Peer<T>, const CAP: usize>(rounds: usize) -> u64 {
-    rotated::<T, D, CAP>(rounds, CAP / 2, 1)
+    rotate::<T, D, CAP>(rounds, CAP / 2, 1)
 }
 
 pub fn rotate_half_half<T: Item, D: Peer<T>, const CAP: usize>(rounds: usize) -> u64 {
-    rotated::<T, D, CAP>(rounds, CAP / 2, CAP / 4)
+    rotate::<T, D, CAP>(rounds, CAP / 2, CAP / 4)
 }
 
 pub fn search<T: Item, D: Peer<T>, const CAP: usize>(rounds: usize) -> u64 {
@@ -557,7 +557,7 @@ pub fn search<T: Item, D: Peer<T>, const CAP: usize>(rounds: usize) -> u64 {
     let mut sum = 0u64;
     let mut state = 1u64;
     for _ in 0..rounds {
-        state = scrambled(state);
+        state = next_random(state);
         let sought = (state >> 32) % (2 * CAP as u64);
         match deque.binary_search_by(|item| item.number().wrapping_mul(2).cmp(&sought)) {
             Ok(index) => sum = sum.wrapping_add(index as u64),
@@ -572,7 +572,7 @@ pub fn partition_point<T: Item, D: Peer<T>, const CAP: usize>(rounds: usize) -> 
     let mut sum = 0u64;
     let mut state = 1u64;
     for _ in 0..rounds {
-        state = scrambled(state);
+        state = next_random(state);
         let bound = place_of::<CAP>(state) as u64;
         sum = sum.wrapping_add(deque.partition_point(|item| item.number() < bound) as u64);
     }
@@ -580,7 +580,7 @@ pub fn partition_point<T: Item, D: Peer<T>, const CAP: usize>(rounds: usize) -> 
 }
 
 pub fn from_vec<T: Item, D: Peer<T>, const CAP: usize>(rounds: usize) -> u64 {
-    let items = counted::<T>(CAP / 2);
+    let items = first_items::<T>(CAP / 2);
     let mut sum = 0u64;
     for _ in 0..rounds {
         let deque = D::from_vec(items.clone());
@@ -592,7 +592,7 @@ pub fn from_vec<T: Item, D: Peer<T>, const CAP: usize>(rounds: usize) -> u64 {
 }
 
 pub fn into_vec<T: Item, D: Peer<T>, const CAP: usize>(rounds: usize) -> u64 {
-    let items = counted::<T>(CAP / 2);
+    let items = first_items::<T>(CAP / 2);
     let mut sum = 0u64;
     for _ in 0..rounds {
         let mut deque = D::new();
@@ -623,7 +623,7 @@ pub fn from_array<T: Item, D: Peer<T>, const CAP: usize>(rounds: usize) -> u64 {
 }
 
 pub fn into_items<T: Item, D: Peer<T>, const CAP: usize>(rounds: usize) -> u64 {
-    let items = counted::<T>(CAP / 2);
+    let items = first_items::<T>(CAP / 2);
     let mut sum = 0u64;
     for _ in 0..rounds {
         let mut deque = D::new();
@@ -636,7 +636,7 @@ pub fn into_items<T: Item, D: Peer<T>, const CAP: usize>(rounds: usize) -> u64 {
 }
 
 pub fn into_fold<T: Item, D: Peer<T>, const CAP: usize>(rounds: usize) -> u64 {
-    let items = counted::<T>(CAP / 2);
+    let items = first_items::<T>(CAP / 2);
     let mut sum = 0u64;
     for _ in 0..rounds {
         let mut deque = D::new();
@@ -647,7 +647,7 @@ pub fn into_fold<T: Item, D: Peer<T>, const CAP: usize>(rounds: usize) -> u64 {
 }
 
 pub fn into_ends<T: Item, D: Peer<T>, const CAP: usize>(rounds: usize) -> u64 {
-    let items = counted::<T>(CAP / 2);
+    let items = first_items::<T>(CAP / 2);
     let mut sum = 0u64;
     for _ in 0..rounds {
         let mut deque = D::new();
@@ -681,7 +681,7 @@ pub fn lent_queue<T: Item, D: Peer<T>, const CAP: usize>(rounds: usize) -> u64 {
 
 pub fn lent_history<T: Item, D: Peer<T>, const CAP: usize>(rounds: usize) -> u64 {
     #[inline(never)]
-    fn displaced<T: Item, H: History<T>>(deque: &mut H, number: u64) -> u64 {
+    fn push_to_full<T: Item, H: History<T>>(deque: &mut H, number: u64) -> u64 {
         deque.push_back(T::of(number)).map_or(0, |item| item.number())
     }
     let mut deque = D::History::new();
@@ -690,12 +690,12 @@ pub fn lent_history<T: Item, D: Peer<T>, const CAP: usize>(rounds: usize) -> u64
     }
     let mut sum = 0u64;
     for round in 0..rounds as u64 {
-        sum = sum.wrapping_add(displaced(&mut deque, round));
+        sum = sum.wrapping_add(push_to_full(&mut deque, round));
     }
     sum
 }
 
-fn filled<T: Owned, D: Peer<T>>(len: usize) -> D {
+fn deque_of<T: Owned, D: Peer<T>>(len: usize) -> D {
     let mut deque = D::new();
     for number in 0..len as u64 {
         deque.push_back(T::make(number));
@@ -704,23 +704,23 @@ fn filled<T: Owned, D: Peer<T>>(len: usize) -> D {
 }
 
 pub fn owned_queue<T: Owned, D: Peer<T>, const CAP: usize>(rounds: usize) -> u64 {
-    let mut deque: D = filled(CAP / 2);
+    let mut deque: D = deque_of(CAP / 2);
     let mut sum = 0u64;
     for round in 0..rounds as u64 {
         deque.push_back(T::make(round));
         if let Some(item) = deque.pop_front() {
-            sum = sum.wrapping_add(item.told());
+            sum = sum.wrapping_add(item.number());
         }
     }
     sum
 }
 
 pub fn owned_clone<T: Owned, D: Peer<T> + Clone, const CAP: usize>(rounds: usize) -> u64 {
-    let deque: D = filled(CAP / 2);
+    let deque: D = deque_of(CAP / 2);
     let mut sum = 0u64;
     for _ in 0..rounds {
         let clone = deque.clone();
-        sum = sum.wrapping_add(clone.back().map_or(0, Owned::told));
+        sum = sum.wrapping_add(clone.back().map_or(0, Owned::number));
     }
     sum
 }
@@ -732,32 +732,32 @@ pub fn owned_clear<T: Owned, D: Peer<T>, const CAP: usize>(rounds: usize) -> u64
         for number in 0..CAP / 2 {
             deque.push_back(T::make((number ^ round) as u64));
         }
-        sum = sum.wrapping_add(deque.back().map_or(0, Owned::told));
+        sum = sum.wrapping_add(deque.back().map_or(0, Owned::number));
         deque.clear();
     }
     sum
 }
 
 pub fn owned_truncate<T: Owned, D: Peer<T>, const CAP: usize>(rounds: usize) -> u64 {
-    let mut deque: D = filled(CAP - CAP / 4);
+    let mut deque: D = deque_of(CAP - CAP / 4);
     drop(deque.drain(0..CAP / 2));
     let mut sum = 0u64;
     for round in 0..rounds {
         for number in 0..CAP / 2 {
             deque.push_back(T::make((number ^ round) as u64));
         }
-        sum = sum.wrapping_add(deque.back().map_or(0, Owned::told));
+        sum = sum.wrapping_add(deque.back().map_or(0, Owned::number));
         deque.truncate(CAP / 4);
     }
     sum
 }
 
 pub fn owned_insert<T: Owned, D: Peer<T>, const CAP: usize>(rounds: usize) -> u64 {
-    let mut deque: D = filled(CAP);
+    let mut deque: D = deque_of(CAP);
     let mut sum = 0u64;
     for _ in 0..rounds {
         if let Some(item) = deque.remove(CAP / 2) {
-            sum = sum.wrapping_add(item.told());
+            sum = sum.wrapping_add(item.number());
             deque.insert(CAP / 4, item);
         }
     }
@@ -772,7 +772,7 @@ pub fn owned_retain<T: Owned, D: Peer<T>, const CAP: usize>(rounds: usize) -> u6
             deque.push_back(T::make((number ^ round) as u64));
         }
         let turn = round as u64 % 2;
-        deque.retain(|item| item.told() / 2 % 2 == turn);
+        deque.retain(|item| item.number() / 2 % 2 == turn);
         sum = sum.wrapping_add(deque.len() as u64);
     }
     sum
@@ -787,14 +787,14 @@ pub fn owned_drain<T: Owned, D: Peer<T>, const CAP: usize>(rounds: usize) -> u64
         }
         let len = deque.len();
         for item in deque.drain(0..len) {
-            sum = sum.wrapping_add(item.told());
+            sum = sum.wrapping_add(item.number());
         }
     }
     sum
 }
 
 pub fn drain_four<T: Item, D: Peer<T>, const CAP: usize>(rounds: usize) -> u64 {
-    let items = counted::<T>(4);
+    let items = first_items::<T>(4);
     let mut deque: D = peer_at(CAP / 2, CAP);
     let mut sum = 0u64;
     for _ in 0..rounds {
@@ -834,7 +834,7 @@ pub fn split_rejoin<T: Item, D: Peer<T>, const CAP: usize>(rounds: usize) -> u64
 }
 
 pub fn truncate<T: Item, D: Peer<T>, const CAP: usize>(rounds: usize) -> u64 {
-    let items = counted::<T>(CAP / 2);
+    let items = first_items::<T>(CAP / 2);
     let mut deque: D = peer_at(CAP / 4, CAP);
     let mut sum = 0u64;
     for _ in 0..rounds {
@@ -873,7 +873,7 @@ pub fn linearize_64<T: Item, D: Peer<T>, const CAP: usize>(rounds: usize) -> u64
 }
 
 pub fn pipe<T: Piece, D: Peer<u8>, const CAP: usize>(rounds: usize) -> u64 {
-    let piece = counted::<u8>(T::LEN);
+    let piece = first_items::<u8>(T::LEN);
     let mut deque: D = peer_at(0, 100);
     let mut sum = 0u64;
     for _ in 0..rounds {
@@ -893,7 +893,7 @@ pub fn pipe<T: Piece, D: Peer<u8>, const CAP: usize>(rounds: usize) -> u64 {
 pub use self::pipe as pipe_truncating;
 
 pub fn pipe_popping<T: Piece, D: Peer<u8>, const CAP: usize>(rounds: usize) -> u64 {
-    let piece = counted::<u8>(T::LEN);
+    let piece = first_items::<u8>(T::LEN);
     let mut deque: D = peer_at(0, 100);
     let mut sum = 0u64;
     for _ in 0..rounds {
@@ -908,9 +908,9 @@ pub fn pipe_popping<T: Piece, D: Peer<u8>, const CAP: usize>(rounds: usize) -> u
 }
 
 pub fn pipe_wrapping<T: Piece, D: Peer<u8>, const CAP: usize>(rounds: usize) -> u64 {
-    let piece = counted::<u8>(T::LEN);
+    let piece = first_items::<u8>(T::LEN);
     let mut deque = D::History::new();
-    deque.extend_back(counted::<u8>(CAP));
+    deque.extend_back(first_items::<u8>(CAP));
     let mut sum = 0u64;
     for _ in 0..rounds {
         deque.extend_back(piece.iter().copied());
@@ -920,8 +920,8 @@ pub fn pipe_wrapping<T: Piece, D: Peer<u8>, const CAP: usize>(rounds: usize) -> 
 }
 
 pub fn stream<T: Piece, D: Stream, const CAP: usize>(rounds: usize) -> u64 {
-    let piece = counted::<u8>(T::LEN);
-    let mut buffer = counted::<u8>(T::LEN);
+    let piece = first_items::<u8>(T::LEN);
+    let mut buffer = first_items::<u8>(T::LEN);
     let mut deque: D = peer_at(0, 100);
     let mut sum = 0u64;
     for _ in 0..rounds {
@@ -934,7 +934,7 @@ pub fn stream<T: Piece, D: Stream, const CAP: usize>(rounds: usize) -> u64 {
 }
 
 pub fn window<T: Item, D: Peer<T>, const CAP: usize>(rounds: usize) -> u64 {
-    let samples = counted::<T>(1_000_000);
+    let samples = first_items::<T>(1_000_000);
     let mut recent = D::History::new();
     for number in 0..CAP as u64 {
         recent.push_back(T::of(number));
@@ -958,7 +958,7 @@ pub fn window_largest<T: Item, D: Peer<u64>, const CAP: usize>(rounds: usize) ->
     for _ in 0..rounds {
         falling.clear();
         for position in 0..100_000 {
-            state = scrambled(state);
+            state = next_random(state);
             let entry = state << 32 | position;
             while falling.pop_back_if(|last| *last >> 32 <= entry >> 32).is_some() {}
             falling.pop_front_if(|first| position - (*first & 0xFFFF_FFFF) >= CAP as u64);
@@ -976,7 +976,7 @@ pub fn scan<T: Item, D: Peer<T>, const CAP: usize>(rounds: usize) -> u64 {
     let mut state = 1u64;
     let text: Vec<u8> = (0..1_000_000)
         .map(|_| {
-            state = scrambled(state);
+            state = next_random(state);
             if (state >> 32) % 6 == 0 { b' ' } else { b'a' }
         })
         .collect();
@@ -1013,7 +1013,7 @@ enum Reply {
 fn mixed_calls(capacity: usize, seed: u64) -> Vec<Call> {
     let mut state = seed.wrapping_add(1);
     let call = |_| {
-        state = scrambled(state);
+        state = next_random(state);
         let index = (state >> 40) as usize % capacity;
         match (state >> 32) % 8 {
             0 | 1 => Call::PushBack(state),
@@ -1028,7 +1028,7 @@ fn mixed_calls(capacity: usize, seed: u64) -> Vec<Call> {
     (0..100_000).map(call).collect()
 }
 
-fn answered<D: Peer<u64>>(deque: &mut D, call: Call) -> Reply {
+fn reply_of<D: Peer<u64>>(deque: &mut D, call: Call) -> Reply {
     match call {
         Call::PushBack(item) => if deque.push_back(item) { Reply::Done } else { Reply::Full },
         Call::PushFront(item) => if deque.push_front(item) { Reply::Done } else { Reply::Full },
@@ -1053,7 +1053,7 @@ pub fn run<T: Item, D: Peer<u64>, const CAP: usize>(rounds: usize) -> u64 {
     for round in 0..rounds as u64 {
         let mut replies = Vec::with_capacity(100_000);
         for call in mixed_calls(CAP, round) {
-            replies.push(answered(&mut deque, call));
+            replies.push(reply_of(&mut deque, call));
         }
         for reply in replies {
             sum = sum.wrapping_mul(3).wrapping_add(match reply {

@@ -1,5 +1,5 @@
 //! Items of four kinds, as in the proved players.
-use crate::script::folded;
+use crate::script::mix;
 use std::cell::Cell;
 use std::rc::Rc;
 
@@ -9,7 +9,7 @@ pub type Alive = Rc<Cell<u64>>;
 /// An item that is made of a number.
 pub trait Item: Sized + 'static {
     fn make(alive: &Alive, number: u64) -> Self;
-    fn told(&self) -> u64;
+    fn digest(&self) -> u64;
     fn set(&mut self, number: u64);
 }
 
@@ -17,7 +17,7 @@ impl Item for u8 {
     fn make(_: &Alive, number: u64) -> u8 {
         number as u8
     }
-    fn told(&self) -> u64 {
+    fn digest(&self) -> u64 {
         u64::from(*self)
     }
     fn set(&mut self, number: u64) {
@@ -29,7 +29,7 @@ impl Item for u64 {
     fn make(_: &Alive, number: u64) -> u64 {
         number
     }
-    fn told(&self) -> u64 {
+    fn digest(&self) -> u64 {
         *self
     }
     fn set(&mut self, number: u64) {
@@ -54,7 +54,7 @@ impl Item for Block {
     fn make(_: &Alive, number: u64) -> Block {
         Block::of(number)
     }
-    fn told(&self) -> u64 {
+    fn digest(&self) -> u64 {
         self.0.iter().fold(0u64, |sum, word| sum.wrapping_mul(31).wrapping_add(*word))
     }
     fn set(&mut self, number: u64) {
@@ -71,12 +71,12 @@ pub struct Owned {
 
 impl Item for Owned {
     fn make(alive: &Alive, number: u64) -> Owned {
-        let name = folded(1, number);
+        let name = mix(1, number);
         alive.set(alive.get().wrapping_add(name));
         Owned { name, number: Box::new(number), alive: alive.clone() }
     }
-    fn told(&self) -> u64 {
-        folded(self.name, *self.number)
+    fn digest(&self) -> u64 {
+        mix(self.name, *self.number)
     }
     fn set(&mut self, number: u64) {
         *self.number = number;
@@ -90,6 +90,6 @@ impl Drop for Owned {
 }
 
 /// The items of a number and those behind it, `len` of them.
-pub fn counted<T: Item>(alive: &Alive, number: u64, len: usize) -> Vec<T> {
+pub fn items_from<T: Item>(alive: &Alive, number: u64, len: usize) -> Vec<T> {
     (0..len as u64).map(|i| T::make(alive, number.wrapping_add(i))).collect()
 }

@@ -7,7 +7,7 @@ mod script;
 mod theirs;
 
 use pairs::{Pair, Told};
-use script::{BROKEN, Call, REFUSED, Random, folded};
+use script::{BROKEN, Call, REFUSED, Random, mix};
 use std::process::ExitCode;
 use std::sync::atomic::{AtomicU64, Ordering};
 
@@ -61,7 +61,7 @@ fn difference(pair: &Pair, script: &[u64], refused: u64, ours: &mut Told, theirs
     if let Some(other) = refusals.next() {
         return Some(other);
     }
-    let before = if call == 0 { folded(0, 0) } else { ours.lists[call - 1] };
+    let before = if call == 0 { mix(0, 0) } else { ours.lists[call - 1] };
     if ours.replies[call] == BROKEN || ours.lists[call] != before {
         return Some(call);
     }
@@ -76,7 +76,7 @@ fn difference(pair: &Pair, script: &[u64], refused: u64, ours: &mut Told, theirs
 
 /// A script on which the sides still differ, cut behind the first call that differs, without the calls
 /// that can go.
-fn shortened(pair: &Pair, script: &[u64], refused: u64) -> Vec<u64> {
+fn shorten(pair: &Pair, script: &[u64], refused: u64) -> Vec<u64> {
     let (mut ours, mut theirs) = (Told::default(), Told::default());
     let mut short = script.to_vec();
     loop {
@@ -99,7 +99,7 @@ fn shortened(pair: &Pair, script: &[u64], refused: u64) -> Vec<u64> {
 
 /// What is said of a script on which the sides differ.
 fn told_of(pair: &Pair, script: &[u64], refused: u64) -> String {
-    let short = shortened(pair, script, refused);
+    let short = shorten(pair, script, refused);
     let (mut ours, mut theirs) = (Told::default(), Told::default());
     pair.play_ours(&short, refused, &mut ours);
     pair.play_theirs(&short, &mut theirs);

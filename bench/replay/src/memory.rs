@@ -28,7 +28,7 @@ pub fn begin(refused: u64) {
 }
 
 /// How many requests were made since, and how many blocks were not given back.
-pub fn counted() -> (u64, i64) {
+pub fn counts() -> (u64, i64) {
     (REQUESTS.get(), BLOCKS.get())
 }
 

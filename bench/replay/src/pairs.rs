@@ -77,7 +77,7 @@ impl Pair {
                 told.lists.len(),
             )
         };
-        let (requests, blocks) = memory::counted();
+        let (requests, blocks) = memory::counts();
         told.blocks = blocks;
         requests
     }

@@ -111,7 +111,7 @@ impl fmt::Display for Call {
 }
 
 /// A sum, and a word that it is to tell too.
-pub fn folded(sum: u64, word: u64) -> u64 {
+pub fn mix(sum: u64, word: u64) -> u64 {
     let product = (sum ^ word).wrapping_mul(0x9E37_79B9_7F4A_7C15);
     product ^ (product >> 32)
 }

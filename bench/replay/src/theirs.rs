@@ -1,7 +1,7 @@
 //! The Rust crate's side, call by call as in the proved players. Where the crate lacks a call, or means
 //! another thing by it, this makes the call that means the same.
-use crate::items::{Alive, Block, Item, Owned, counted};
-use crate::script::{Call, folded};
+use crate::items::{Alive, Block, Item, Owned, items_from};
+use crate::script::{Call, mix};
 use arraydeque::behavior::Behavior;
 use arraydeque::{ArrayDeque, CapacityError, Saturating, Wrapping};
 use std::cell::Cell;
@@ -26,7 +26,7 @@ pub fn play<T: Item, const CAP: usize, B: Answers<T, CAP>>(
     let mut deque = ArrayDeque::<T, CAP, B>::new();
     for ((word, reply), list) in script.iter().zip(replies).zip(lists) {
         *reply = B::answer(&alive, &mut deque, Call::of(*word));
-        *list = folded(list_of(&deque), alive.get());
+        *list = mix(list_of(&deque), alive.get());
     }
     drop(deque);
     alive.get()
@@ -39,68 +39,68 @@ pub fn list_behind<T: Item, const CAP: usize, B: Answers<T, CAP>>(script: &[u64]
     for word in script {
         B::answer(&alive, &mut deque, Call::of(*word));
     }
-    deque.iter().map(T::told).collect()
+    deque.iter().map(T::digest).collect()
 }
 
-fn told<T: Item>(item: Option<T>) -> u64 {
-    item.map_or(0, |item| folded(1, item.told()))
+fn digest_of<T: Item>(item: Option<T>) -> u64 {
+    item.map_or(0, |item| mix(1, item.digest()))
 }
 
-fn seen<T: Item>(item: Option<&T>) -> u64 {
-    item.map_or(0, |item| folded(1, item.told()))
+fn digest_of_lent<T: Item>(item: Option<&T>) -> u64 {
+    item.map_or(0, |item| mix(1, item.digest()))
 }
 
-fn written<T: Item>(item: Option<&mut T>, number: u64) -> u64 {
+fn write_item<T: Item>(item: Option<&mut T>, number: u64) -> u64 {
     item.map_or(0, |item| {
-        let before = folded(1, item.told());
+        let before = mix(1, item.digest());
         item.set(number);
         before
     })
 }
 
 fn list_of<T: Item, const CAP: usize, B: Behavior>(deque: &ArrayDeque<T, CAP, B>) -> u64 {
-    deque.into_iter().fold(deque.len() as u64, |sum, item| folded(sum, item.told()))
+    deque.into_iter().fold(deque.len() as u64, |sum, item| mix(sum, item.digest()))
 }
 
 fn slice_of<T: Item>(sum: u64, items: &[T]) -> u64 {
-    items.iter().fold(sum, |sum, item| folded(sum, item.told()))
+    items.iter().fold(sum, |sum, item| mix(sum, item.digest()))
 }
 
 fn rest_of<T: Item>(sum: u64, items: impl Iterator<Item = T>) -> u64 {
-    items.fold(sum, |sum, item| folded(sum, item.told()))
+    items.fold(sum, |sum, item| mix(sum, item.digest()))
 }
 
-fn replied<T: Item>(reply: Result<(), CapacityError<T>>) -> u64 {
-    reply.map_or_else(|refusal| folded(2, refusal.element.told()), |()| 1)
+fn reply_word<T: Item>(reply: Result<(), CapacityError<T>>) -> u64 {
+    reply.map_or_else(|refusal| mix(2, refusal.element.digest()), |()| 1)
 }
 
 /// The calls that mean the same under both policies.
-fn shared<T: Item, const CAP: usize, B: Behavior>(deque: &mut ArrayDeque<T, CAP, B>, call: Call) -> u64 {
+fn answer<T: Item, const CAP: usize, B: Behavior>(deque: &mut ArrayDeque<T, CAP, B>, call: Call) -> u64 {
     let len = deque.len();
     let (index, i, j) = (call.index(len), call.place(len), call.other_place(len));
     match call.kind {
-        0 => told(deque.pop_front()),
-        1 => told(deque.pop_back()),
-        2 => folded(seen(deque.front()), seen(deque.back())),
-        3 => written(deque.front_mut(), call.number),
-        4 => written(deque.back_mut(), call.number),
-        5 => seen(deque.get(index)),
-        6 => written(deque.get_mut(index), call.number),
-        7 if index < len => seen(Some(&deque[index])),
+        0 => digest_of(deque.pop_front()),
+        1 => digest_of(deque.pop_back()),
+        2 => mix(digest_of_lent(deque.front()), digest_of_lent(deque.back())),
+        3 => write_item(deque.front_mut(), call.number),
+        4 => write_item(deque.back_mut(), call.number),
+        5 => digest_of_lent(deque.get(index)),
+        6 => write_item(deque.get_mut(index), call.number),
+        7 if index < len => digest_of_lent(Some(&deque[index])),
         8 if index < len => {
             deque[index].set(call.number);
             1
         }
-        9 => told(deque.remove(index)),
-        10 => told(deque.swap_remove_back(index)),
-        11 => told(deque.swap_remove_front(index)),
+        9 => digest_of(deque.remove(index)),
+        10 => digest_of(deque.swap_remove_back(index)),
+        11 => digest_of(deque.swap_remove_front(index)),
         12 if len > 0 => {
             deque.swap(i, j);
             1
         }
         13 => {
             let bits = call.first as u64;
-            deque.retain(|item| (item.told() ^ bits) % 3 != 0);
+            deque.retain(|item| (item.digest() ^ bits) % 3 != 0);
             deque.len() as u64
         }
         14 => {
@@ -111,7 +111,7 @@ fn shared<T: Item, const CAP: usize, B: Behavior>(deque: &mut ArrayDeque<T, CAP,
             deque.linearize();
             u64::from(deque.as_slices().1.is_empty())
         }
-        16..=19 => drained(deque, call),
+        16..=19 => drain_range(deque, call),
         20 => {
             let mut rest = deque.split_off(i);
             if call.number.is_multiple_of(2) {
@@ -127,10 +127,10 @@ fn shared<T: Item, const CAP: usize, B: Behavior>(deque: &mut ArrayDeque<T, CAP,
             let mut items = mem::take(deque).into_iter();
             let mut sum = items.len() as u64;
             for _ in 0..call.number % 4 {
-                sum = folded(sum, told(items.next_back()));
-                sum = folded(sum, told(items.next()));
+                sum = mix(sum, digest_of(items.next_back()));
+                sum = mix(sum, digest_of(items.next()));
             }
-            folded(sum, items.len() as u64)
+            mix(sum, items.len() as u64)
         }
         29 => {
             drop(deque.drain(index.min(len)..));
@@ -141,24 +141,24 @@ fn shared<T: Item, const CAP: usize, B: Behavior>(deque: &mut ArrayDeque<T, CAP,
             1
         }
         46 => {
-            deque.iter_mut().for_each(|item| item.set(item.told() ^ call.second as u64));
-            deque.retain(|item| item.told() % 3 != 0);
+            deque.iter_mut().for_each(|item| item.set(item.digest() ^ call.second as u64));
+            deque.retain(|item| item.digest() % 3 != 0);
             deque.len() as u64
         }
         47 => {
             let is_wanted = |item: &mut T| {
-                item.set(item.told() ^ call.second as u64);
-                item.told().is_multiple_of(2)
+                item.set(item.digest() ^ call.second as u64);
+                item.digest().is_multiple_of(2)
             };
             let first = if deque.front_mut().is_some_and(is_wanted) { deque.pop_front() } else { None };
             let last = if deque.back_mut().is_some_and(is_wanted) { deque.pop_back() } else { None };
-            folded(told(first), told(last))
+            mix(digest_of(first), digest_of(last))
         }
         _ => list_reply(deque, call),
     }
 }
 
-fn drained<T: Item, const CAP: usize, B: Behavior>(deque: &mut ArrayDeque<T, CAP, B>, call: Call) -> u64 {
+fn drain_range<T: Item, const CAP: usize, B: Behavior>(deque: &mut ArrayDeque<T, CAP, B>, call: Call) -> u64 {
     let (one, other) = (call.place(deque.len()), call.other_place(deque.len()));
     let (from, to) = (one.min(other), one.max(other));
     let mut drain = match call.kind {
@@ -169,42 +169,42 @@ fn drained<T: Item, const CAP: usize, B: Behavior>(deque: &mut ArrayDeque<T, CAP
     };
     let mut sum = drain.len() as u64;
     for _ in 0..call.number % 4 {
-        sum = folded(sum, told(drain.next()));
-        sum = folded(sum, told(drain.next_back()));
+        sum = mix(sum, digest_of(drain.next()));
+        sum = mix(sum, digest_of(drain.next_back()));
     }
-    folded(sum, drain.len() as u64)
+    mix(sum, drain.len() as u64)
 }
 
 /// Calls that read or write the whole list.
 fn list_reply<T: Item, const CAP: usize, B: Behavior>(deque: &mut ArrayDeque<T, CAP, B>, call: Call) -> u64 {
     match call.kind {
         23 => {
-            let sum = folded(deque.len() as u64, deque.capacity() as u64);
-            folded(folded(sum, u64::from(deque.is_empty())), u64::from(deque.is_full()))
+            let sum = mix(deque.len() as u64, deque.capacity() as u64);
+            mix(mix(sum, u64::from(deque.is_empty())), u64::from(deque.is_full()))
         }
         24 => {
             let mut items = deque.iter();
             let mut sum = 0u64;
             for _ in 0..call.number % 4 {
-                sum = folded(sum, seen(items.next()));
-                sum = folded(sum, seen(items.next_back()));
+                sum = mix(sum, digest_of_lent(items.next()));
+                sum = mix(sum, digest_of_lent(items.next_back()));
             }
-            sum = folded(sum, items.len() as u64);
-            sum = items.clone().fold(sum, |sum, item| folded(sum, item.told()));
-            items.rev().fold(sum, |sum, item| folded(sum, item.told()))
+            sum = mix(sum, items.len() as u64);
+            sum = items.clone().fold(sum, |sum, item| mix(sum, item.digest()));
+            items.rev().fold(sum, |sum, item| mix(sum, item.digest()))
         }
         25 => {
             let mut items = deque.iter_mut();
             let mut sum = 0u64;
             for _ in 0..call.first % 8 {
-                sum = folded(sum, written(items.next_back(), call.number));
-                sum = folded(sum, written(items.next(), call.number ^ 1));
+                sum = mix(sum, write_item(items.next_back(), call.number));
+                sum = mix(sum, write_item(items.next(), call.number ^ 1));
             }
-            folded(sum, items.len() as u64)
+            mix(sum, items.len() as u64)
         }
         26 => {
             for item in deque {
-                item.set(item.told() ^ call.number);
+                item.set(item.digest() ^ call.number);
             }
             1
         }
@@ -221,7 +221,7 @@ fn list_reply<T: Item, const CAP: usize, B: Behavior>(deque: &mut ArrayDeque<T, 
             }
             number
         }
-        31 => deque.iter().fold(1, |sum, item| folded(sum, item.told())),
+        31 => deque.iter().fold(1, |sum, item| mix(sum, item.digest())),
         _ => 0,
     }
 }
@@ -233,11 +233,11 @@ fn saturating<T: Item, const CAP: usize>(
     call: Call,
 ) -> u64 {
     let (index, place) = (call.index(deque.len()), call.place(deque.len()));
-    let source = || counted(alive, call.number, call.first);
+    let source = || items_from(alive, call.number, call.first);
     match call.kind {
-        32 => replied(deque.push_back(T::make(alive, call.number))),
-        33 => replied(deque.push_front(T::make(alive, call.number))),
-        34 if index <= deque.len() => replied(deque.insert(index, T::make(alive, call.number))),
+        32 => reply_word(deque.push_back(T::make(alive, call.number))),
+        33 => reply_word(deque.push_front(T::make(alive, call.number))),
+        34 if index <= deque.len() => reply_word(deque.insert(index, T::make(alive, call.number))),
         35 => {
             let mut items = source().into_iter();
             deque.extend_back(&mut items);
@@ -267,7 +267,7 @@ fn saturating<T: Item, const CAP: usize>(
         }
         41 => {
             let mut other = ArrayDeque::<T, CAP, Wrapping>::from(mem::take(deque));
-            let reply = told(other.push_back(T::make(alive, call.number)));
+            let reply = digest_of(other.push_back(T::make(alive, call.number)));
             *deque = other.into();
             reply
         }
@@ -287,17 +287,17 @@ fn saturating<T: Item, const CAP: usize>(
             }
             1
         }
-        _ => shared(deque, call),
+        _ => answer(deque, call),
     }
 }
 
 /// The calls of `Wrapping`.
 fn wrapping<T: Item, const CAP: usize>(alive: &Alive, deque: &mut ArrayDeque<T, CAP, Wrapping>, call: Call) -> u64 {
     let (index, place) = (call.index(deque.len()), call.place(deque.len()));
-    let source = || counted(alive, call.number, call.first);
+    let source = || items_from(alive, call.number, call.first);
     match call.kind {
-        32 => told(deque.push_back(T::make(alive, call.number))),
-        33 => told(deque.push_front(T::make(alive, call.number))),
+        32 => digest_of(deque.push_back(T::make(alive, call.number))),
+        33 => digest_of(deque.push_front(T::make(alive, call.number))),
         // The crate's own `extend` takes no more than there is room for.
         35 | 37 => {
             deque.extend_back(source());
@@ -321,7 +321,7 @@ fn wrapping<T: Item, const CAP: usize>(alive: &Alive, deque: &mut ArrayDeque<T, 
         }
         41 => {
             let mut other = ArrayDeque::<T, CAP, Saturating>::from(mem::take(deque));
-            let reply = replied(other.push_back(T::make(alive, call.number)));
+            let reply = reply_word(other.push_back(T::make(alive, call.number)));
             *deque = other.into();
             reply
         }
@@ -341,7 +341,7 @@ fn wrapping<T: Item, const CAP: usize>(alive: &Alive, deque: &mut ArrayDeque<T, 
             }
             1
         }
-        _ => shared(deque, call),
+        _ => answer(deque, call),
     }
 }
 
@@ -355,7 +355,7 @@ fn order_of(order: Option<Ordering>) -> u64 {
 }
 
 /// The calls that ask more of the items.
-fn copied<T, const CAP: usize, B>(
+fn answer_by_copies<T, const CAP: usize, B>(
     alive: &Alive,
     deque: &mut ArrayDeque<T, CAP, B>,
     call: Call,
@@ -381,8 +381,8 @@ where
             if let Some(item) = copy.get_mut(call.second) {
                 item.set(call.number);
             }
-            let orders = folded(u64::from(*deque == copy), order_of(Some((*deque).cmp(&copy))));
-            folded(orders, order_of(copy.partial_cmp(deque)))
+            let orders = mix(u64::from(*deque == copy), order_of(Some((*deque).cmp(&copy))));
+            mix(orders, order_of(copy.partial_cmp(deque)))
         }
         51 => {
             *deque = ArrayDeque::from([0, 1, 2, 3, 4].map(|bits| T::make(alive, call.number ^ bits)));
@@ -393,7 +393,7 @@ where
             slice_of(text.len() as u64, text.as_bytes())
         }
         53 => {
-            let items: Vec<T> = counted(alive, call.number, call.first);
+            let items: Vec<T> = items_from(alive, call.number, call.first);
             extend_back(deque, &items);
             1
         }
@@ -405,13 +405,13 @@ macro_rules! answers {
     ($($item:ty),+) => {
         $(impl<const CAP: usize> Answers<$item, CAP> for Saturating {
             fn answer(alive: &Alive, deque: &mut ArrayDeque<$item, CAP, Self>, call: Call) -> u64 {
-                copied(alive, deque, call, saturating, |deque, items| deque.extend_back(items.iter().copied()))
+                answer_by_copies(alive, deque, call, saturating, |deque, items| deque.extend_back(items.iter().copied()))
             }
         }
 
         impl<const CAP: usize> Answers<$item, CAP> for Wrapping {
             fn answer(alive: &Alive, deque: &mut ArrayDeque<$item, CAP, Self>, call: Call) -> u64 {
-                copied(alive, deque, call, wrapping, |deque, items| deque.extend_back(items.iter().copied()))
+                answer_by_copies(alive, deque, call, wrapping, |deque, items| deque.extend_back(items.iter().copied()))
             }
         })+
     };

@@ -41,7 +41,7 @@ fn append(calls: &mut Vec<Call<i64>>, call: Option<Call<i64>>) -> Result<(), All
 fn call_of(alloc: Global, number: usize, bytes: &[u8]) -> Result<Option<Call<i64>>, Fault>
     ensures { Tells number (LineNames (strip_carriage_return bytes.now)) result }
 {
-    let Ok(rest) = str::from_utf8(stripped(bytes)) else {
+    let Ok(rest) = str::from_utf8(strip_return(bytes)) else {
         return Err(Fault::Line(number));
     };
     let mut line = Line { number, rest };
@@ -52,7 +52,7 @@ fn call_of(alloc: Global, number: usize, bytes: &[u8]) -> Result<Option<Call<i64
 }
 
 /// A line without the carriage return at its end.
-fn stripped(line: &[u8]) -> &[u8]
+fn strip_return(line: &[u8]) -> &[u8]
     ensures { result.now ≡ strip_carriage_return line.now }
 {
     line.strip_suffix(b"\r").unwrap_or(line)

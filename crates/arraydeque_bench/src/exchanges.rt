@@ -1,5 +1,5 @@
 //! Single items exchanged, taken out or written, at random.
-use crate::items::{Item, deque_at, scrambled};
+use crate::items::{Item, deque_at, next_random};
 use arraydeque::{ArrayDeque, Saturating};
 use std::alloc::{AllocError, Global};
 
@@ -26,7 +26,7 @@ pub(crate) fn swap<T: Item, const CAP: usize>(
     let mut deque = deque_at::<T, CAP>(alloc, CAP / 2, CAP)?;
     let mut state = 1u64;
     for _ in 0..rounds {
-        state = scrambled(state);
+        state = next_random(state);
         let (i, j) = (place_of::<CAP>(state), place_of::<CAP>(state << 20));
         if i < deque.len() && j < deque.len() {
             deque.swap(i, j);
@@ -43,7 +43,7 @@ pub(crate) fn swap_remove_back<T: Item, const CAP: usize>(
     let mut deque = deque_at::<T, CAP>(alloc, CAP / 2, CAP)?;
     let mut state = 1u64;
     for _ in 0..rounds {
-        state = scrambled(state);
+        state = next_random(state);
         if let Some(item) = deque.swap_remove_back(place_of::<CAP>(state)) {
             let _ = deque.push_back(item);
         }
@@ -59,7 +59,7 @@ pub(crate) fn swap_remove_front<T: Item, const CAP: usize>(
     let mut deque = deque_at::<T, CAP>(alloc, CAP / 2, CAP)?;
     let mut state = 1u64;
     for _ in 0..rounds {
-        state = scrambled(state);
+        state = next_random(state);
         if let Some(item) = deque.swap_remove_front(place_of::<CAP>(state)) {
             let _ = deque.push_front(item);
         }
@@ -75,7 +75,7 @@ pub(crate) fn index_mut<T: Item, const CAP: usize>(
     let mut deque = deque_at::<T, CAP>(alloc, CAP / 2, CAP)?;
     let mut state = 1u64;
     for _ in 0..rounds {
-        state = scrambled(state);
+        state = next_random(state);
         let i = place_of::<CAP>(state);
         if i < deque.len() {
             let number = deque[i].number();
@@ -93,7 +93,7 @@ pub(crate) fn get_mut<T: Item, const CAP: usize>(
     let mut deque = deque_at::<T, CAP>(alloc, CAP / 2, CAP)?;
     let mut state = 1u64;
     for _ in 0..rounds {
-        state = scrambled(state);
+        state = next_random(state);
         if let Some(item) = deque.get_mut(place_of::<CAP>(state)) {
             *item = T::of(item.number().wrapping_add(1));
         }

@@ -354,10 +354,10 @@ pub extern "C" fn arraydeque_bench_clone(
     rounds: usize,
 ) -> u64 {
     match (bytes, capacity) {
-        (8, 16) => lists::cloned::<16>(alloc, rounds).unwrap_or(0),
-        (8, 64) => lists::cloned::<64>(alloc, rounds).unwrap_or(0),
-        (8, 1000) => lists::cloned::<1000>(alloc, rounds).unwrap_or(0),
-        (8, 1024) => lists::cloned::<1024>(alloc, rounds).unwrap_or(0),
+        (8, 16) => lists::clone::<16>(alloc, rounds).unwrap_or(0),
+        (8, 64) => lists::clone::<64>(alloc, rounds).unwrap_or(0),
+        (8, 1000) => lists::clone::<1000>(alloc, rounds).unwrap_or(0),
+        (8, 1024) => lists::clone::<1024>(alloc, rounds).unwrap_or(0),
         _ => 0,
     }
 }
@@ -375,24 +375,24 @@ pub extern "C" fn arraydeque_bench_fold(
 
 /// All items of a list that wraps, read from the back.
 #[unsafe(no_mangle)]
-pub extern "C" fn arraydeque_bench_reversed(
+pub extern "C" fn arraydeque_bench_rev(
     alloc: Global,
     bytes: usize,
     capacity: usize,
     rounds: usize,
 ) -> u64 {
-    every!(walks, reversed, alloc, rounds, (bytes, capacity))
+    every!(walks, rev, alloc, rounds, (bytes, capacity))
 }
 
 /// The items of two lists, read in pairs.
 #[unsafe(no_mangle)]
-pub extern "C" fn arraydeque_bench_zipped(
+pub extern "C" fn arraydeque_bench_zip(
     alloc: Global,
     bytes: usize,
     capacity: usize,
     rounds: usize,
 ) -> u64 {
-    every!(walks, zipped, alloc, rounds, (bytes, capacity))
+    every!(walks, zip, alloc, rounds, (bytes, capacity))
 }
 
 /// One added to each item.

@@ -53,14 +53,14 @@ impl Item for Block {
 
 /// The next of a row of numbers that look random.
 #[inline]
-pub(crate) fn scrambled(number: u64) -> u64 {
+pub(crate) fn next_random(number: u64) -> u64 {
     let number = number ^ (number << 13);
     let number = number ^ (number >> 7);
     number ^ (number << 17)
 }
 
 /// The items of the numbers from 0 on, `len` of them.
-pub(crate) fn counted<T: Item>(alloc: Global, len: usize) -> Result<Vec<T>, AllocError> {
+pub(crate) fn first_items<T: Item>(alloc: Global, len: usize) -> Result<Vec<T>, AllocError> {
     let mut items = Vec::with_capacity(alloc, len)?;
     for number in 0..len {
         items.push(T::of(number as u64))?;

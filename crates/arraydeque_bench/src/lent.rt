@@ -33,13 +33,13 @@ pub(crate) fn lent_history<T: Item, const CAP: usize>(
     let mut deque = ArrayDeque::<T, CAP, Wrapping>::from(deque_at::<T, CAP>(alloc, 0, CAP)?);
     let mut sum = 0u64;
     for round in 0..rounds {
-        sum = sum.wrapping_add(displaced(&mut deque, round as u64));
+        sum = sum.wrapping_add(push_to_full(&mut deque, round as u64));
     }
     Ok(sum)
 }
 
 #[inline(never)]
-fn displaced<T: Item, const CAP: usize>(
+fn push_to_full<T: Item, const CAP: usize>(
     deque: &mut ArrayDeque<T, CAP, Wrapping>,
     number: u64,
 ) -> u64 {

@@ -1,5 +1,5 @@
 //! Work on the whole list.
-use crate::items::{Item, counted, deque_at};
+use crate::items::{Item, deque_at, first_items};
 use arraydeque::{ArrayDeque, Saturating};
 use std::alloc::{AllocError, Global};
 use std::hash::{DefaultHasher, Hash, Hasher};
@@ -129,7 +129,7 @@ pub(crate) fn hash<T: Item + Eq + Hash, const CAP: usize>(
 }
 
 /// A list that wraps: each round a second deque is made of it, and let go.
-pub(crate) fn cloned<const CAP: usize>(alloc: Global, rounds: usize) -> Result<u64, AllocError> {
+pub(crate) fn clone<const CAP: usize>(alloc: Global, rounds: usize) -> Result<u64, AllocError> {
     let deque = deque_at::<u64, CAP>(alloc, CAP / 2, CAP)?;
     let mut sum = 0u64;
     for _ in 0..rounds {

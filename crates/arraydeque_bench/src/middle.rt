@@ -1,5 +1,5 @@
 //! Work in the middle of the list.
-use crate::items::{Item, deque_at, scrambled};
+use crate::items::{Item, deque_at, next_random};
 use std::alloc::{AllocError, Global};
 
 /// Each round an item goes in at the middle of the list, and one comes out there.
@@ -28,12 +28,12 @@ pub(crate) fn random<T: Item, const CAP: usize>(
     let mut sum = 0u64;
     let mut state = 1u64;
     for round in 0..rounds {
-        state = scrambled(state);
+        state = next_random(state);
         let index = (state >> 32) as usize % CAP.max(1);
         if index <= deque.len() {
             let _ = deque.insert(index, T::of(round as u64));
         }
-        state = scrambled(state);
+        state = next_random(state);
         if let Some(item) = deque.remove((state >> 32) as usize % CAP.max(1)) {
             sum = sum.wrapping_add(item.number());
         }

@@ -8,7 +8,7 @@ pub(crate) trait Owned: Clone + Drop {
     fn make(alloc: Global, number: u64) -> Result<Self, AllocError>;
 
     /// A number that the item tells.
-    fn told(&self) -> u64;
+    fn number(&self) -> u64;
 }
 
 impl Owned for Box<u64> {
@@ -20,7 +20,7 @@ impl Owned for Box<u64> {
     }
 
     #[inline]
-    fn told(&self) -> u64 {
+    fn number(&self) -> u64 {
         **self
     }
 }
@@ -35,13 +35,13 @@ impl Owned for String {
     }
 
     #[inline]
-    fn told(&self) -> u64 {
+    fn number(&self) -> u64 {
         self.len() as u64
     }
 }
 
 /// A deque of `len` new items.
-fn filled<T: Owned, const CAP: usize>(
+fn deque_of<T: Owned, const CAP: usize>(
     alloc: Global,
     len: usize,
 ) -> Result<ArrayDeque<T, CAP, Saturating>, AllocError> {
@@ -57,12 +57,12 @@ pub(crate) fn owned_queue<T: Owned, const CAP: usize>(
     alloc: Global,
     rounds: usize,
 ) -> Result<u64, AllocError> {
-    let mut deque = filled::<T, CAP>(alloc, CAP / 2)?;
+    let mut deque = deque_of::<T, CAP>(alloc, CAP / 2)?;
     let mut sum = 0u64;
     for round in 0..rounds {
         let _ = deque.push_back(T::make(alloc, round as u64)?);
         if let Some(item) = deque.pop_front() {
-            sum = sum.wrapping_add(item.told());
+            sum = sum.wrapping_add(item.number());
         }
     }
     Ok(sum)
@@ -73,7 +73,7 @@ pub(crate) fn owned_clone<T: Owned, const CAP: usize>(
     alloc: Global,
     rounds: usize,
 ) -> Result<u64, AllocError> {
-    let deque = filled::<T, CAP>(alloc, CAP / 2)?;
+    let deque = deque_of::<T, CAP>(alloc, CAP / 2)?;
     let mut sum = 0u64;
     for _ in 0..rounds {
         let mut clone = ArrayDeque::<T, CAP, Saturating>::new(alloc)?;
@@ -81,7 +81,7 @@ pub(crate) fn owned_clone<T: Owned, const CAP: usize>(
             let _ = clone.push_back(item.clone()?);
         }
         if let Some(item) = clone.back() {
-            sum = sum.wrapping_add(item.told());
+            sum = sum.wrapping_add(item.number());
         }
     }
     Ok(sum)
@@ -92,14 +92,14 @@ pub(crate) fn owned_clear<T: Owned, const CAP: usize>(
     alloc: Global,
     rounds: usize,
 ) -> Result<u64, AllocError> {
-    let mut deque = filled::<T, CAP>(alloc, 0)?;
+    let mut deque = deque_of::<T, CAP>(alloc, 0)?;
     let mut sum = 0u64;
     for round in 0..rounds {
         for number in 0..CAP / 2 {
             let _ = deque.push_back(T::make(alloc, (number ^ round) as u64)?);
         }
         if let Some(item) = deque.back() {
-            sum = sum.wrapping_add(item.told());
+            sum = sum.wrapping_add(item.number());
         }
         deque.clear();
     }
@@ -112,7 +112,7 @@ pub(crate) fn owned_truncate<T: Owned, const CAP: usize>(
     alloc: Global,
     rounds: usize,
 ) -> Result<u64, AllocError> {
-    let mut deque = filled::<T, CAP>(alloc, CAP - CAP / 4)?;
+    let mut deque = deque_of::<T, CAP>(alloc, CAP - CAP / 4)?;
     deque.truncate_front(CAP / 4);
     let mut sum = 0u64;
     for round in 0..rounds {
@@ -120,7 +120,7 @@ pub(crate) fn owned_truncate<T: Owned, const CAP: usize>(
             let _ = deque.push_back(T::make(alloc, (number ^ round) as u64)?);
         }
         if let Some(item) = deque.back() {
-            sum = sum.wrapping_add(item.told());
+            sum = sum.wrapping_add(item.number());
         }
         deque.truncate(CAP / 4);
     }
@@ -132,11 +132,11 @@ pub(crate) fn owned_insert<T: Owned, const CAP: usize>(
     alloc: Global,
     rounds: usize,
 ) -> Result<u64, AllocError> {
-    let mut deque = filled::<T, CAP>(alloc, CAP)?;
+    let mut deque = deque_of::<T, CAP>(alloc, CAP)?;
     let mut sum = 0u64;
     for _ in 0..rounds {
         if let Some(item) = deque.remove(CAP / 2) {
-            sum = sum.wrapping_add(item.told());
+            sum = sum.wrapping_add(item.number());
             if CAP / 4 <= deque.len() {
                 let _ = deque.insert(CAP / 4, item);
             }
@@ -150,14 +150,14 @@ pub(crate) fn owned_retain<T: Owned, const CAP: usize>(
     alloc: Global,
     rounds: usize,
 ) -> Result<u64, AllocError> {
-    let mut deque = filled::<T, CAP>(alloc, 0)?;
+    let mut deque = deque_of::<T, CAP>(alloc, 0)?;
     let mut sum = 0u64;
     for round in 0..rounds {
         for number in deque.len()..CAP {
             let _ = deque.push_back(T::make(alloc, (number ^ round) as u64)?);
         }
         let turn = round as u64 % 2;
-        deque.retain(|item| item.told() / 2 % 2 == turn);
+        deque.retain(|item| item.number() / 2 % 2 == turn);
         sum = sum.wrapping_add(deque.len() as u64);
     }
     Ok(sum)
@@ -168,14 +168,14 @@ pub(crate) fn owned_drain<T: Owned, const CAP: usize>(
     alloc: Global,
     rounds: usize,
 ) -> Result<u64, AllocError> {
-    let mut deque = filled::<T, CAP>(alloc, 0)?;
+    let mut deque = deque_of::<T, CAP>(alloc, 0)?;
     let mut sum = 0u64;
     for round in 0..rounds {
         for number in 0..CAP / 2 {
             let _ = deque.push_back(T::make(alloc, (number ^ round) as u64)?);
         }
         for item in deque.drain(..)? {
-            sum = sum.wrapping_add(item.told());
+            sum = sum.wrapping_add(item.number());
         }
     }
     Ok(sum)

@@ -1,5 +1,5 @@
 //! Many items in, and many out.
-use crate::items::{Item, counted, deque_at, scrambled};
+use crate::items::{Item, deque_at, first_items, next_random};
 use arraydeque::{ArrayDeque, Saturating, Wrapping};
 use std::alloc::{AllocError, Global};
 
@@ -8,7 +8,7 @@ pub(crate) fn extend_slice<T: Item, const CAP: usize>(
     alloc: Global,
     rounds: usize,
 ) -> Result<u64, AllocError> {
-    let items = counted::<T>(alloc, CAP / 2)?;
+    let items = first_items::<T>(alloc, CAP / 2)?;
     let mut deque = deque_at::<T, CAP>(alloc, 0, CAP / 3)?;
     let mut sum = 0u64;
     for _ in 0..rounds {
@@ -24,7 +24,7 @@ pub(crate) fn extend_vec<T: Item, const CAP: usize>(
     alloc: Global,
     rounds: usize,
 ) -> Result<u64, AllocError> {
-    let items = counted::<T>(alloc, CAP / 2)?;
+    let items = first_items::<T>(alloc, CAP / 2)?;
     let mut deque = deque_at::<T, CAP>(alloc, 0, CAP / 3)?;
     let mut sum = 0u64;
     for _ in 0..rounds {
@@ -40,7 +40,7 @@ pub(crate) fn extend_lent<T: Item, const CAP: usize>(
     alloc: Global,
     rounds: usize,
 ) -> Result<u64, AllocError> {
-    let items = counted::<T>(alloc, CAP / 2)?;
+    let items = first_items::<T>(alloc, CAP / 2)?;
     let mut deque = deque_at::<T, CAP>(alloc, 0, CAP / 3)?;
     let mut sum = 0u64;
     for _ in 0..rounds {
@@ -65,7 +65,7 @@ pub(crate) fn extend_front<T: Item, const CAP: usize>(
     alloc: Global,
     rounds: usize,
 ) -> Result<u64, AllocError> {
-    let items = counted::<T>(alloc, CAP / 2)?;
+    let items = first_items::<T>(alloc, CAP / 2)?;
     let mut deque = deque_at::<T, CAP>(alloc, 0, CAP / 3)?;
     let mut sum = 0u64;
     for _ in 0..rounds {
@@ -82,9 +82,9 @@ pub(crate) fn extend_history<T: Item, const CAP: usize>(
     alloc: Global,
     rounds: usize,
 ) -> Result<u64, AllocError> {
-    let items = counted::<T>(alloc, CAP / 2)?;
+    let items = first_items::<T>(alloc, CAP / 2)?;
     let mut deque = ArrayDeque::<T, CAP, Wrapping>::new(alloc)?;
-    deque.extend_back(counted::<T>(alloc, CAP)?);
+    deque.extend_back(first_items::<T>(alloc, CAP)?);
     let mut sum = 0u64;
     for _ in 0..rounds {
         deque.extend_back(items.iter().copied());
@@ -110,7 +110,7 @@ pub(crate) fn drain_middle<T: Item, const CAP: usize>(
     alloc: Global,
     rounds: usize,
 ) -> Result<u64, AllocError> {
-    let items = counted::<T>(alloc, CAP / 2)?;
+    let items = first_items::<T>(alloc, CAP / 2)?;
     let mut deque = deque_at::<T, CAP>(alloc, CAP / 2, CAP)?;
     let mut sum = 0u64;
     for _ in 0..rounds {
@@ -131,7 +131,7 @@ pub(crate) fn drain_all<T: Item, const CAP: usize>(
     alloc: Global,
     rounds: usize,
 ) -> Result<u64, AllocError> {
-    let items = counted::<T>(alloc, CAP / 2)?;
+    let items = first_items::<T>(alloc, CAP / 2)?;
     let mut deque = deque_at::<T, CAP>(alloc, CAP / 2, 0)?;
     let mut sum = 0u64;
     for _ in 0..rounds {
@@ -148,7 +148,7 @@ pub(crate) fn drain_fold<T: Item, const CAP: usize>(
     alloc: Global,
     rounds: usize,
 ) -> Result<u64, AllocError> {
-    let items = counted::<T>(alloc, CAP / 2)?;
+    let items = first_items::<T>(alloc, CAP / 2)?;
     let mut deque = deque_at::<T, CAP>(alloc, CAP / 2, 0)?;
     let mut sum = 0u64;
     for _ in 0..rounds {
@@ -165,7 +165,7 @@ pub(crate) fn split_off<T: Item, const CAP: usize>(
     alloc: Global,
     rounds: usize,
 ) -> Result<u64, AllocError> {
-    let items = counted::<T>(alloc, CAP / 2)?;
+    let items = first_items::<T>(alloc, CAP / 2)?;
     let mut deque = deque_at::<T, CAP>(alloc, CAP / 2, CAP)?;
     let mut sum = 0u64;
     for _ in 0..rounds {
@@ -184,7 +184,7 @@ pub(crate) fn truncate<T: Item, const CAP: usize>(
     alloc: Global,
     rounds: usize,
 ) -> Result<u64, AllocError> {
-    let items = counted::<T>(alloc, CAP / 2)?;
+    let items = first_items::<T>(alloc, CAP / 2)?;
     let mut deque = deque_at::<T, CAP>(alloc, CAP / 4, CAP)?;
     let mut sum = 0u64;
     for _ in 0..rounds {
@@ -207,7 +207,7 @@ pub(crate) fn retain<T: Item, const CAP: usize>(
     let mut bit = 1u64;
     for _ in 0..rounds {
         for _ in deque.len()..CAP {
-            state = scrambled(state);
+            state = next_random(state);
             let _ = deque.push_back(T::of(state));
         }
         deque.retain(|item| item.number() & bit != 0);
@@ -228,7 +228,7 @@ pub(crate) fn retain_mut<T: Item, const CAP: usize>(
     let mut state = 1u64;
     for _ in 0..rounds {
         for _ in deque.len()..CAP {
-            state = scrambled(state);
+            state = next_random(state);
             let _ = deque.push_back(T::of(state));
         }
         deque.retain_mut(|item| {

@@ -8,7 +8,7 @@ pub(crate) fn rotate_full_one<T: Item, const CAP: usize>(
     alloc: Global,
     rounds: usize,
 ) -> Result<u64, AllocError> {
-    rotated::<T, CAP>(alloc, rounds, CAP, 1)
+    rotate::<T, CAP>(alloc, rounds, CAP, 1)
 }
 
 /// Each round the front half of a full list goes behind the other.
@@ -16,7 +16,7 @@ pub(crate) fn rotate_full_half<T: Item, const CAP: usize>(
     alloc: Global,
     rounds: usize,
 ) -> Result<u64, AllocError> {
-    rotated::<T, CAP>(alloc, rounds, CAP, CAP / 2)
+    rotate::<T, CAP>(alloc, rounds, CAP, CAP / 2)
 }
 
 /// A list over half of the places: each round the first item goes behind the others.
@@ -24,7 +24,7 @@ pub(crate) fn rotate_half_one<T: Item, const CAP: usize>(
     alloc: Global,
     rounds: usize,
 ) -> Result<u64, AllocError> {
-    rotated::<T, CAP>(alloc, rounds, CAP / 2, 1)
+    rotate::<T, CAP>(alloc, rounds, CAP / 2, 1)
 }
 
 /// A list over half of the places: each round its front half goes behind the other.
@@ -32,12 +32,12 @@ pub(crate) fn rotate_half_half<T: Item, const CAP: usize>(
     alloc: Global,
     rounds: usize,
 ) -> Result<u64, AllocError> {
-    rotated::<T, CAP>(alloc, rounds, CAP / 2, CAP / 4)
+    rotate::<T, CAP>(alloc, rounds, CAP / 2, CAP / 4)
 }
 
 /// Each round the first `count` items of a list go behind the others.
 #[inline(always)]
-fn rotated<T: Item, const CAP: usize>(
+fn rotate<T: Item, const CAP: usize>(
     alloc: Global,
     rounds: usize,
     len: usize,

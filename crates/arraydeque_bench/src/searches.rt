@@ -1,5 +1,5 @@
 //! Binary searches for random numbers, in lists that rise and wrap.
-use crate::items::{Item, deque_at, scrambled};
+use crate::items::{Item, deque_at, next_random};
 use std::alloc::{AllocError, Global};
 
 /// Each round an item is searched for whose number is half of a random one, if that is even.
@@ -11,7 +11,7 @@ pub(crate) fn search<T: Item, const CAP: usize>(
     let mut sum = 0u64;
     let mut state = 1u64;
     for _ in 0..rounds {
-        state = scrambled(state);
+        state = next_random(state);
         let sought = number_below(CAP.saturating_mul(2), state);
         match deque.binary_search_by(|item| item.number().wrapping_mul(2).cmp(&sought)) {
             Ok(index) => sum = sum.wrapping_add(index as u64),
@@ -30,7 +30,7 @@ pub(crate) fn partition_point<T: Item, const CAP: usize>(
     let mut sum = 0u64;
     let mut state = 1u64;
     for _ in 0..rounds {
-        state = scrambled(state);
+        state = next_random(state);
         let bound = number_below(CAP, state);
         let below = deque.partition_point(|item| item.number() < bound);
         sum = sum.wrapping_add(below as u64);

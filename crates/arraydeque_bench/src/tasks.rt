@@ -1,6 +1,6 @@
 //! Small tasks: pipes and streams of bytes, a window's sum and its largest, a few items drained, a
 //! text scanned, calls run.
-use crate::items::{Item, counted, deque_at, scrambled};
+use crate::items::{Item, deque_at, first_items, next_random};
 use arraydeque::lookahead::Scanner;
 use arraydeque::run::{Call, Reply};
 use arraydeque::{ArrayDeque, Saturating, Wrapping};
@@ -13,7 +13,7 @@ pub(crate) fn pipe<const PIECE: usize, const CAP: usize>(
     alloc: Global,
     rounds: usize,
 ) -> Result<u64, AllocError> {
-    let piece = counted::<u8>(alloc, PIECE)?;
+    let piece = first_items::<u8>(alloc, PIECE)?;
     let mut deque = deque_at::<u8, CAP>(alloc, 0, 100)?;
     let mut sum = 0u64;
     for _ in 0..rounds {
@@ -38,7 +38,7 @@ pub(crate) fn pipe_truncating<const PIECE: usize, const CAP: usize>(
     alloc: Global,
     rounds: usize,
 ) -> Result<u64, AllocError> {
-    let piece = counted::<u8>(alloc, PIECE)?;
+    let piece = first_items::<u8>(alloc, PIECE)?;
     let mut deque = deque_at::<u8, CAP>(alloc, 0, 100)?;
     let mut sum = 0u64;
     for _ in 0..rounds {
@@ -63,7 +63,7 @@ pub(crate) fn pipe_popping<const PIECE: usize, const CAP: usize>(
     alloc: Global,
     rounds: usize,
 ) -> Result<u64, AllocError> {
-    let piece = counted::<u8>(alloc, PIECE)?;
+    let piece = first_items::<u8>(alloc, PIECE)?;
     let mut deque = deque_at::<u8, CAP>(alloc, 0, 100)?;
     let mut sum = 0u64;
     for _ in 0..rounds {
@@ -82,7 +82,7 @@ pub(crate) fn pipe_wrapping<const PIECE: usize, const CAP: usize>(
     alloc: Global,
     rounds: usize,
 ) -> Result<u64, AllocError> {
-    let piece = counted::<u8>(alloc, PIECE)?;
+    let piece = first_items::<u8>(alloc, PIECE)?;
     let mut deque = ArrayDeque::<u8, CAP, Wrapping>::from(deque_at::<u8, CAP>(alloc, 0, CAP)?);
     let mut sum = 0u64;
     for _ in 0..rounds {
@@ -99,21 +99,21 @@ pub(crate) fn stream<const PIECE: usize, const CAP: usize>(
     alloc: Global,
     rounds: usize,
 ) -> Result<u64, AllocError> {
-    let piece = counted::<u8>(alloc, PIECE)?;
-    let mut buffer = counted::<u8>(alloc, PIECE)?;
+    let piece = first_items::<u8>(alloc, PIECE)?;
+    let mut buffer = first_items::<u8>(alloc, PIECE)?;
     let mut deque = deque_at::<u8, CAP>(alloc, 0, 100)?;
     let mut sum = 0u64;
     for _ in 0..rounds {
         sum = sum
             .wrapping_mul(3)
-            .wrapping_add(streamed(&mut deque, &piece, &mut buffer));
+            .wrapping_add(write_and_read(&mut deque, &piece, &mut buffer));
     }
     Ok(sum)
 }
 
 /// A piece written, and as many bytes read as there is room for: their number and the last one.
 #[inline]
-fn streamed<const CAP: usize>(
+fn write_and_read<const CAP: usize>(
     deque: &mut ArrayDeque<u8, CAP, Saturating>,
     piece: &[u8],
     buffer: &mut [u8],
@@ -131,7 +131,7 @@ fn streamed<const CAP: usize>(
 
 /// Each round a million samples go through a window of the last ones, whose sum is kept.
 pub(crate) fn window<const CAP: usize>(alloc: Global, rounds: usize) -> Result<u64, AllocError> {
-    let samples = counted::<u64>(alloc, 1000000)?;
+    let samples = first_items::<u64>(alloc, 1000000)?;
     let mut recent = ArrayDeque::<u64, CAP, Wrapping>::from(deque_at::<u64, CAP>(alloc, 0, CAP)?);
     let (mut total, mut sum) = (0u64, 0u64);
     for _ in 0..rounds {
@@ -157,7 +157,7 @@ pub(crate) fn window_largest<const CAP: usize>(
     for _ in 0..rounds {
         falling.clear();
         for position in 0..100000 {
-            state = scrambled(state);
+            state = next_random(state);
             let entry = state << 32 | position;
             for _ in 0..falling.len() {
                 if falling
@@ -183,7 +183,7 @@ pub(crate) fn drain_four<T: Item, const CAP: usize>(
     alloc: Global,
     rounds: usize,
 ) -> Result<u64, AllocError> {
-    let items = counted::<T>(alloc, 4)?;
+    let items = first_items::<T>(alloc, 4)?;
     let mut deque = deque_at::<T, CAP>(alloc, CAP / 2, CAP)?;
     let mut sum = 0u64;
     for _ in 0..rounds {
@@ -259,7 +259,7 @@ pub(crate) fn scan<const CAP: usize>(alloc: Global, rounds: usize) -> Result<u64
     let mut text = Vec::<u8>::with_capacity(alloc, 1000000)?;
     let mut state = 1u64;
     for _ in 0..1000000 {
-        state = scrambled(state);
+        state = next_random(state);
         text.push(if (state >> 32) % 6 == 0 { b' ' } else { b'a' })?;
     }
     let mut sum = 0u64;
@@ -315,7 +315,7 @@ fn mixed_calls(alloc: Global, capacity: usize, seed: u64) -> Result<Vec<Call<u64
     let mut calls = Vec::with_capacity(alloc, 100000)?;
     let mut state = seed.wrapping_add(1);
     for _ in 0..100000 {
-        state = scrambled(state);
+        state = next_random(state);
         let index = (state >> 40) as usize % capacity.max(1);
         calls.push(match (state >> 32) % 8 {
             0 | 1 => Call::PushBack(state),

@@ -1,5 +1,5 @@
 //! Deques made of other collections, and turned into them.
-use crate::items::{Item, counted, deque_at};
+use crate::items::{Item, deque_at, first_items};
 use crate::parts::last_number;
 use arraydeque::{ArrayDeque, Saturating};
 use std::alloc::{AllocError, Global};
@@ -9,18 +9,18 @@ pub(crate) fn from_vec<T: Item, const CAP: usize>(
     alloc: Global,
     rounds: usize,
 ) -> Result<u64, AllocError> {
-    let items = counted::<T>(alloc, CAP / 2)?;
+    let items = first_items::<T>(alloc, CAP / 2)?;
     let mut sum = 0u64;
     for _ in 0..rounds {
         let copy = Vec::from_slice(alloc, items.as_slice())?;
-        let deque = made_of::<T, CAP>(alloc, copy)?;
+        let deque = deque_of::<T, CAP>(alloc, copy)?;
         sum = sum.wrapping_add(last_number(&deque));
     }
     Ok(sum)
 }
 
 /// A deque of the items of a `Vec`.
-fn made_of<T: Item, const CAP: usize>(
+fn deque_of<T: Item, const CAP: usize>(
     alloc: Global,
     items: Vec<T>,
 ) -> Result<ArrayDeque<T, CAP, Saturating>, AllocError> {
@@ -45,7 +45,7 @@ pub(crate) fn into_vec<T: Item, const CAP: usize>(
     alloc: Global,
     rounds: usize,
 ) -> Result<u64, AllocError> {
-    let items = counted::<T>(alloc, CAP / 2)?;
+    let items = first_items::<T>(alloc, CAP / 2)?;
     let mut sum = 0u64;
     for _ in 0..rounds {
         let mut deque = deque_at::<T, CAP>(alloc, 0, 0)?;
@@ -66,7 +66,7 @@ pub(crate) fn vec_and_back<T: Item, const CAP: usize>(
     let mut deque = deque_at::<T, CAP>(alloc, CAP / 2, CAP)?;
     let mut sum = 0u64;
     for _ in 0..rounds {
-        deque = made_of(alloc, items_of(deque)?)?;
+        deque = deque_of(alloc, items_of(deque)?)?;
         sum = sum.wrapping_add(last_number(&deque));
     }
     Ok(sum)
@@ -93,7 +93,7 @@ pub(crate) fn into_items<T: Item, const CAP: usize>(
     alloc: Global,
     rounds: usize,
 ) -> Result<u64, AllocError> {
-    let items = counted::<T>(alloc, CAP / 2)?;
+    let items = first_items::<T>(alloc, CAP / 2)?;
     let mut sum = 0u64;
     for _ in 0..rounds {
         let mut deque = deque_at::<T, CAP>(alloc, 0, 0)?;
@@ -110,7 +110,7 @@ pub(crate) fn into_fold<T: Item, const CAP: usize>(
     alloc: Global,
     rounds: usize,
 ) -> Result<u64, AllocError> {
-    let items = counted::<T>(alloc, CAP / 2)?;
+    let items = first_items::<T>(alloc, CAP / 2)?;
     let mut sum = 0u64;
     for _ in 0..rounds {
         let mut deque = deque_at::<T, CAP>(alloc, 0, 0)?;
@@ -128,7 +128,7 @@ pub(crate) fn into_ends<T: Item, const CAP: usize>(
     alloc: Global,
     rounds: usize,
 ) -> Result<u64, AllocError> {
-    let items = counted::<T>(alloc, CAP / 2)?;
+    let items = first_items::<T>(alloc, CAP / 2)?;
     let mut sum = 0u64;
     for _ in 0..rounds {
         let mut deque = deque_at::<T, CAP>(alloc, 0, 0)?;

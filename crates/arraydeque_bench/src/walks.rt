@@ -19,7 +19,7 @@ pub(crate) fn fold<T: Item, const CAP: usize>(
 }
 
 /// A list that wraps: each round all items are read, the last one first.
-pub(crate) fn reversed<T: Item, const CAP: usize>(
+pub(crate) fn rev<T: Item, const CAP: usize>(
     alloc: Global,
     rounds: usize,
 ) -> Result<u64, AllocError> {
@@ -34,7 +34,7 @@ pub(crate) fn reversed<T: Item, const CAP: usize>(
 }
 
 /// Two lists that wrap elsewhere: each round their items are read in pairs.
-pub(crate) fn zipped<T: Item, const CAP: usize>(
+pub(crate) fn zip<T: Item, const CAP: usize>(
     alloc: Global,
     rounds: usize,
 ) -> Result<u64, AllocError> {

@@ -63,7 +63,7 @@ fn items_are_lent_in_order(rt: HostRuntime) -> Result<(), Fail> {
 }
 
 /// The last total of a fold which appends each item to the total as a digit.
-fn joined(items: Iter<'_, i64>) -> i64 {
+fn fold_digits(items: Iter<'_, i64>) -> i64 {
     items.fold(
         0,
         |total: i64, item| total.wrapping_mul(10).wrapping_add(*item),
@@ -75,13 +75,13 @@ fn items_are_folded_in_order(rt: HostRuntime) -> Result<(), Fail> {
     let deque = deque_at::<5>(rt.alloc(), 3, &[1, 2, 3, 4, 5])?;
     let mut inner = deque.iter();
     let ends = (inner.next(), inner.next_back());
-    assert!(rt; ends == (Some(&1), Some(&5)) && joined(inner) == 234);
-    assert!(rt; joined(deque.iter()) == 12345);
+    assert!(rt; ends == (Some(&1), Some(&5)) && fold_digits(inner) == 234);
+    assert!(rt; fold_digits(deque.iter()) == 12345);
     Ok(())
 }
 
 /// The items on which a `for_each` calls, each appended as a digit.
-fn called(items: Iter<'_, i64>) -> i64 {
+fn for_each_digits(items: Iter<'_, i64>) -> i64 {
     let mut total = 0i64;
     items.for_each(|item| total = total.wrapping_mul(10).wrapping_add(*item));
     total
@@ -99,10 +99,10 @@ fn number_each(items: IterMut<'_, i64>) {
 #[test]
 fn each_item_is_called_on_in_order(rt: HostRuntime) -> Result<(), Fail> {
     let mut deque = deque_at::<5>(rt.alloc(), 3, &[1, 2, 3, 4, 5])?;
-    let is_whole = called(deque.iter()) == 12345;
+    let is_whole = for_each_digits(deque.iter()) == 12345;
     let mut inner = deque.iter();
     let ends = (inner.next(), inner.next_back());
-    assert!(rt; is_whole && ends == (Some(&1), Some(&5)) && called(inner) == 234);
+    assert!(rt; is_whole && ends == (Some(&1), Some(&5)) && for_each_digits(inner) == 234);
     let mut inner = deque.iter_mut();
     let _ = (inner.next(), inner.next_back());
     number_each(inner);

@@ -1,33 +1,33 @@
 //! The calls that mean the same under both policies. A call that has to be in range is left out
 //! where it isn't.
 use crate::items::Item;
-use crate::script::{Call, folded, word_of};
+use crate::script::{Call, mix, word_of};
 use arraydeque::behavior::Behavior;
 use arraydeque::{ArrayDeque, Drain};
 use std::alloc::{AllocError, Global};
 use std::mem;
 
 /// What is told of an item that came out.
-pub(crate) fn told<T: Item>(item: Option<T>) -> u64 {
+pub(crate) fn digest_of<T: Item>(item: Option<T>) -> u64 {
     match item {
-        Some(item) => folded(1, item.told()),
+        Some(item) => mix(1, item.digest()),
         None => 0,
     }
 }
 
 /// What is told of an item that was read.
-pub(crate) fn seen<T: Item>(item: Option<&T>) -> u64 {
+pub(crate) fn digest_of_lent<T: Item>(item: Option<&T>) -> u64 {
     match item {
-        Some(item) => folded(1, item.told()),
+        Some(item) => mix(1, item.digest()),
         None => 0,
     }
 }
 
 /// What is told of an item that is read, and written.
-fn written<T: Item>(item: Option<&mut T>, number: u64) -> u64 {
+fn write_item<T: Item>(item: Option<&mut T>, number: u64) -> u64 {
     match item {
         Some(item) => {
-            let before = folded(1, item.told());
+            let before = mix(1, item.digest());
             item.set(number);
             before
         }
@@ -41,7 +41,7 @@ pub(crate) fn list_of<T: Item, const CAP: usize, B: Behavior>(
 ) -> u64 {
     let mut sum = deque.len() as u64;
     for item in deque {
-        sum = folded(sum, item.told());
+        sum = mix(sum, item.digest());
     }
     sum
 }
@@ -49,7 +49,7 @@ pub(crate) fn list_of<T: Item, const CAP: usize, B: Behavior>(
 /// The items of a slice, behind a sum.
 pub(crate) fn slice_of<T: Item>(mut sum: u64, items: &[T]) -> u64 {
     for item in items {
-        sum = folded(sum, item.told());
+        sum = mix(sum, item.digest());
     }
     sum
 }
@@ -62,15 +62,15 @@ pub(crate) fn answer<T: Item, const CAP: usize, B: Behavior>(
     call: Call,
 ) -> Result<u64, AllocError> {
     match call.kind {
-        0 => Ok(told(deque.pop_front())),
-        1 => Ok(told(deque.pop_back())),
+        0 => Ok(digest_of(deque.pop_front())),
+        1 => Ok(digest_of(deque.pop_back())),
         2..=8 => Ok(item_reply(deque, call)),
-        9..=15 => Ok(moved(deque, call)),
-        16..=19 => drained(deque, call),
+        9..=15 => Ok(move_reply(deque, call)),
+        16..=19 => drain_range(deque, call),
         20 => split(deque, call),
         21 => vector_of(alloc, deque),
-        22 => taken_apart(alloc, deque, call),
-        44..=47 => Ok(rotated_or_asked(deque, call)),
+        22 => take_apart(alloc, deque, call),
+        44..=47 => Ok(rotate_or_ask(deque, call)),
         _ => Ok(list_reply(deque, call)),
     }
 }
@@ -82,12 +82,12 @@ fn item_reply<T: Item, const CAP: usize, B: Behavior>(
 ) -> u64 {
     let index = call.index(deque.len());
     match call.kind {
-        2 => folded(seen(deque.front()), seen(deque.back())),
-        3 => written(deque.front_mut(), call.number),
-        4 => written(deque.back_mut(), call.number),
-        5 => seen(deque.get(index)),
-        6 => written(deque.get_mut(index), call.number),
-        7 if index < deque.len() => seen(Some(&deque[index])),
+        2 => mix(digest_of_lent(deque.front()), digest_of_lent(deque.back())),
+        3 => write_item(deque.front_mut(), call.number),
+        4 => write_item(deque.back_mut(), call.number),
+        5 => digest_of_lent(deque.get(index)),
+        6 => write_item(deque.get_mut(index), call.number),
+        7 if index < deque.len() => digest_of_lent(Some(&deque[index])),
         8 if index < deque.len() => {
             deque[index].set(call.number);
             1
@@ -97,19 +97,19 @@ fn item_reply<T: Item, const CAP: usize, B: Behavior>(
 }
 
 /// Calls that take items out, or have them change places.
-fn moved<T: Item, const CAP: usize, B: Behavior>(
+fn move_reply<T: Item, const CAP: usize, B: Behavior>(
     deque: &mut ArrayDeque<T, CAP, B>,
     call: Call,
 ) -> u64 {
     let index = call.index(deque.len());
     match call.kind {
-        9 => told(deque.remove(index)),
-        10 => told(deque.swap_remove_back(index)),
-        11 => told(deque.swap_remove_front(index)),
-        12 => swapped(deque, call),
+        9 => digest_of(deque.remove(index)),
+        10 => digest_of(deque.swap_remove_back(index)),
+        11 => digest_of(deque.swap_remove_front(index)),
+        12 => swap_two(deque, call),
         13 => {
             let bits = call.first as u64;
-            deque.retain(|item| (item.told() ^ bits) % 3 != 0);
+            deque.retain(|item| (item.digest() ^ bits) % 3 != 0);
             deque.len() as u64
         }
         14 => {
@@ -124,7 +124,7 @@ fn moved<T: Item, const CAP: usize, B: Behavior>(
     }
 }
 
-fn swapped<T: Item, const CAP: usize, B: Behavior>(
+fn swap_two<T: Item, const CAP: usize, B: Behavior>(
     deque: &mut ArrayDeque<T, CAP, B>,
     call: Call,
 ) -> u64 {
@@ -138,7 +138,7 @@ fn swapped<T: Item, const CAP: usize, B: Behavior>(
 }
 
 /// Rotations, and calls that ask a closure about items that it writes.
-fn rotated_or_asked<T: Item, const CAP: usize, B: Behavior>(
+fn rotate_or_ask<T: Item, const CAP: usize, B: Behavior>(
     deque: &mut ArrayDeque<T, CAP, B>,
     call: Call,
 ) -> u64 {
@@ -155,35 +155,35 @@ fn rotated_or_asked<T: Item, const CAP: usize, B: Behavior>(
         }
         46 => {
             deque.retain_mut(|item| {
-                item.set(item.told() ^ bits);
-                item.told() % 3 != 0
+                item.set(item.digest() ^ bits);
+                item.digest() % 3 != 0
             });
             deque.len() as u64
         }
-        47 => popped_if(deque, call),
+        47 => pop_ends_if(deque, call),
         _ => 0,
     }
 }
 
 /// The first item and the last one, written, each if it is wanted then.
-fn popped_if<T: Item, const CAP: usize, B: Behavior>(
+fn pop_ends_if<T: Item, const CAP: usize, B: Behavior>(
     deque: &mut ArrayDeque<T, CAP, B>,
     call: Call,
 ) -> u64 {
     let bits = call.second as u64;
-    let first = told(deque.pop_front_if(|item| {
-        item.set(item.told() ^ bits);
-        item.told() % 2 == 0
+    let first = digest_of(deque.pop_front_if(|item| {
+        item.set(item.digest() ^ bits);
+        item.digest() % 2 == 0
     }));
-    let last = told(deque.pop_back_if(|item| {
-        item.set(item.told() ^ bits);
-        item.told() % 2 == 0
+    let last = digest_of(deque.pop_back_if(|item| {
+        item.set(item.digest() ^ bits);
+        item.digest() % 2 == 0
     }));
-    folded(first, last)
+    mix(first, last)
 }
 
 /// A drain of a range with each kind of bounds.
-fn drained<T: Item, const CAP: usize, B: Behavior>(
+fn drain_range<T: Item, const CAP: usize, B: Behavior>(
     deque: &mut ArrayDeque<T, CAP, B>,
     call: Call,
 ) -> Result<u64, AllocError> {
@@ -205,10 +205,10 @@ fn drained<T: Item, const CAP: usize, B: Behavior>(
 fn drain_of<T: Item>(mut drain: Drain<T>, call: Call) -> u64 {
     let mut sum = drain.len() as u64;
     for _ in 0..call.number % 4 {
-        sum = folded(sum, told(drain.next()));
-        sum = folded(sum, told(drain.next_back()));
+        sum = mix(sum, digest_of(drain.next()));
+        sum = mix(sum, digest_of(drain.next_back()));
     }
-    folded(sum, drain.len() as u64)
+    mix(sum, drain.len() as u64)
 }
 
 /// The list cut in two: one part is told, and the other stays.
@@ -243,7 +243,7 @@ fn vector_of<T: Item, const CAP: usize, B: Behavior>(
 }
 
 /// The items by value from both ends; the others are dropped.
-fn taken_apart<T: Item, const CAP: usize, B: Behavior>(
+fn take_apart<T: Item, const CAP: usize, B: Behavior>(
     alloc: Global,
     deque: &mut ArrayDeque<T, CAP, B>,
     call: Call,
@@ -252,10 +252,10 @@ fn taken_apart<T: Item, const CAP: usize, B: Behavior>(
     let mut items = whole.into_iter();
     let mut sum = items.len() as u64;
     for _ in 0..call.number % 4 {
-        sum = folded(sum, told(items.next_back()));
-        sum = folded(sum, told(items.next()));
+        sum = mix(sum, digest_of(items.next_back()));
+        sum = mix(sum, digest_of(items.next()));
     }
-    Ok(folded(sum, items.len() as u64))
+    Ok(mix(sum, items.len() as u64))
 }
 
 /// Calls that read or write the whole list.
@@ -266,15 +266,15 @@ fn list_reply<T: Item, const CAP: usize, B: Behavior>(
     match call.kind {
         23 => lengths(deque),
         24 => both_ends(deque, call),
-        25 => written_from_both_ends(deque, call),
+        25 => write_from_both_ends(deque, call),
         26 => {
             for item in &mut *deque {
-                item.set(item.told() ^ call.number);
+                item.set(item.digest() ^ call.number);
             }
             1
         }
-        27 => joined(deque),
-        28 => written_in_slices(deque, call),
+        27 => both_slices(deque),
+        28 => write_in_slices(deque, call),
         29 => {
             deque.truncate(call.index(deque.len()));
             1
@@ -283,15 +283,15 @@ fn list_reply<T: Item, const CAP: usize, B: Behavior>(
             deque.truncate_front(call.index(deque.len()));
             1
         }
-        31 => deque.iter().fold(1, |sum, item| folded(sum, item.told())),
+        31 => deque.iter().fold(1, |sum, item| mix(sum, item.digest())),
         _ => 0,
     }
 }
 
 fn lengths<T: Item, const CAP: usize, B: Behavior>(deque: &ArrayDeque<T, CAP, B>) -> u64 {
-    let sum = folded(deque.len() as u64, deque.capacity() as u64);
-    folded(
-        folded(sum, word_of(deque.is_empty())),
+    let sum = mix(deque.len() as u64, deque.capacity() as u64);
+    mix(
+        mix(sum, word_of(deque.is_empty())),
         word_of(deque.is_full()),
     )
 }
@@ -305,43 +305,43 @@ fn both_ends<T: Item, const CAP: usize, B: Behavior>(
     let mut items = deque.iter();
     let mut sum = 0u64;
     for _ in 0..call.number % 4 {
-        sum = folded(sum, seen(items.next()));
-        sum = folded(sum, seen(items.next_back()));
+        sum = mix(sum, digest_of_lent(items.next()));
+        sum = mix(sum, digest_of_lent(items.next_back()));
     }
-    sum = folded(sum, items.len() as u64);
+    sum = mix(sum, items.len() as u64);
     if let Ok(copy) = items.clone() {
         for item in copy {
-            sum = folded(sum, item.told());
+            sum = mix(sum, item.digest());
         }
     }
     for item in items.rev() {
-        sum = folded(sum, item.told());
+        sum = mix(sum, item.digest());
     }
     sum
 }
 
 /// Items written from both ends in turn.
-fn written_from_both_ends<T: Item, const CAP: usize, B: Behavior>(
+fn write_from_both_ends<T: Item, const CAP: usize, B: Behavior>(
     deque: &mut ArrayDeque<T, CAP, B>,
     call: Call,
 ) -> u64 {
     let mut items = deque.iter_mut();
     let mut sum = 0u64;
     for _ in 0..call.first % 8 {
-        sum = folded(sum, written(items.next_back(), call.number));
-        sum = folded(sum, written(items.next(), call.number ^ 1));
+        sum = mix(sum, write_item(items.next_back(), call.number));
+        sum = mix(sum, write_item(items.next(), call.number ^ 1));
     }
-    folded(sum, items.len() as u64)
+    mix(sum, items.len() as u64)
 }
 
 /// The items of the two slices, joined.
-fn joined<T: Item, const CAP: usize, B: Behavior>(deque: &ArrayDeque<T, CAP, B>) -> u64 {
+fn both_slices<T: Item, const CAP: usize, B: Behavior>(deque: &ArrayDeque<T, CAP, B>) -> u64 {
     let (front, back) = deque.as_slices();
     slice_of(slice_of(0, front), back)
 }
 
 /// The items written in the two slices, each by where it stands in the list.
-fn written_in_slices<T: Item, const CAP: usize, B: Behavior>(
+fn write_in_slices<T: Item, const CAP: usize, B: Behavior>(
     deque: &mut ArrayDeque<T, CAP, B>,
     call: Call,
 ) -> u64 {

@@ -1,6 +1,6 @@
 //! The calls that ask more of the items: that they can be copied, compared and written as text.
-use crate::items::{Alive, Block, Item, Owned, counted};
-use crate::script::{Call, folded, word_of};
+use crate::items::{Alive, Block, Item, Owned, items_from};
+use crate::script::{Call, mix, word_of};
 use crate::{calls, saturating, wrapping};
 use arraydeque::behavior::Behavior;
 use arraydeque::{ArrayDeque, Saturating, Wrapping};
@@ -20,17 +20,17 @@ pub(crate) trait Answers<T, const CAP: usize>: Behavior {
 }
 
 /// What a call replies, where the items can be copied.
-macro_rules! answered {
+macro_rules! answer {
     ($item:ty, $own:ident, $alloc:ident, $alive:ident, $deque:ident, $call:ident) => {
         match $call.kind {
             48 => Ok(word_of($deque.contains(&<$item>::make($alloc, $alive, $call.number)?))),
-            49 => Ok(copied($deque, $deque.clone()?)),
-            50 => Ok(compared($deque, $deque.clone()?, $call)),
-            51 => $own::made_of_array($alloc, $deque, five($alloc, $alive, $call.number)?),
+            49 => Ok(put_clone($deque, $deque.clone()?)),
+            50 => Ok(compare_clone($deque, $deque.clone()?, $call)),
+            51 => $own::make_of_array($alloc, $deque, five($alloc, $alive, $call.number)?),
             52 => Ok(text_of(format!(in $alloc; "{:?}", $deque)?.as_str())),
             53 => {
-                let items = counted($alloc, $alive, $call.number, $call.first)?;
-                Ok($own::extended_by_slice($deque, items.as_slice()))
+                let items = items_from($alloc, $alive, $call.number, $call.first)?;
+                Ok($own::extend_by_slice($deque, items.as_slice()))
             }
             _ => $own::answer($alloc, $alive, $deque, $call),
         }
@@ -44,7 +44,7 @@ impl<const CAP: usize> Answers<u8, CAP> for Saturating {
         deque: &mut ArrayDeque<u8, CAP, Saturating>,
         call: Call,
     ) -> Result<u64, AllocError> {
-        answered!(u8, saturating, alloc, alive, deque, call)
+        answer!(u8, saturating, alloc, alive, deque, call)
     }
 }
 
@@ -55,7 +55,7 @@ impl<const CAP: usize> Answers<u8, CAP> for Wrapping {
         deque: &mut ArrayDeque<u8, CAP, Wrapping>,
         call: Call,
     ) -> Result<u64, AllocError> {
-        answered!(u8, wrapping, alloc, alive, deque, call)
+        answer!(u8, wrapping, alloc, alive, deque, call)
     }
 }
 
@@ -66,7 +66,7 @@ impl<const CAP: usize> Answers<u64, CAP> for Saturating {
         deque: &mut ArrayDeque<u64, CAP, Saturating>,
         call: Call,
     ) -> Result<u64, AllocError> {
-        answered!(u64, saturating, alloc, alive, deque, call)
+        answer!(u64, saturating, alloc, alive, deque, call)
     }
 }
 
@@ -77,7 +77,7 @@ impl<const CAP: usize> Answers<u64, CAP> for Wrapping {
         deque: &mut ArrayDeque<u64, CAP, Wrapping>,
         call: Call,
     ) -> Result<u64, AllocError> {
-        answered!(u64, wrapping, alloc, alive, deque, call)
+        answer!(u64, wrapping, alloc, alive, deque, call)
     }
 }
 
@@ -88,7 +88,7 @@ impl<const CAP: usize> Answers<Block, CAP> for Saturating {
         deque: &mut ArrayDeque<Block, CAP, Saturating>,
         call: Call,
     ) -> Result<u64, AllocError> {
-        answered!(Block, saturating, alloc, alive, deque, call)
+        answer!(Block, saturating, alloc, alive, deque, call)
     }
 }
 
@@ -99,7 +99,7 @@ impl<const CAP: usize> Answers<Block, CAP> for Wrapping {
         deque: &mut ArrayDeque<Block, CAP, Wrapping>,
         call: Call,
     ) -> Result<u64, AllocError> {
-        answered!(Block, wrapping, alloc, alive, deque, call)
+        answer!(Block, wrapping, alloc, alive, deque, call)
     }
 }
 
@@ -126,7 +126,7 @@ impl<const CAP: usize> Answers<Owned, CAP> for Wrapping {
 }
 
 /// A clone in place of the list, and whether they are equal.
-fn copied<T: Item + Eq, const CAP: usize, B: Behavior>(
+fn put_clone<T: Item + Eq, const CAP: usize, B: Behavior>(
     deque: &mut ArrayDeque<T, CAP, B>,
     copy: ArrayDeque<T, CAP, B>,
 ) -> u64 {
@@ -136,7 +136,7 @@ fn copied<T: Item + Eq, const CAP: usize, B: Behavior>(
 }
 
 /// The list and its clone, of which items go and one is written, compared.
-fn compared<T: Item + Ord, const CAP: usize, B: Behavior>(
+fn compare_clone<T: Item + Ord, const CAP: usize, B: Behavior>(
     deque: &ArrayDeque<T, CAP, B>,
     mut copy: ArrayDeque<T, CAP, B>,
     call: Call,
@@ -145,8 +145,8 @@ fn compared<T: Item + Ord, const CAP: usize, B: Behavior>(
     if let Some(item) = copy.get_mut(call.second) {
         item.set(call.number);
     }
-    let orders = folded(word_of(*deque == copy), order_of(Some(deque.cmp(&copy))));
-    folded(orders, order_of(copy.partial_cmp(deque)))
+    let orders = mix(word_of(*deque == copy), order_of(Some(deque.cmp(&copy))));
+    mix(orders, order_of(copy.partial_cmp(deque)))
 }
 
 fn order_of(order: Option<Ordering>) -> u64 {

@@ -6,7 +6,7 @@
 use crate::calls::list_of;
 use crate::copies::Answers;
 use crate::items::{Alive, Block, Item, Owned};
-use crate::script::{BROKEN, Call, REFUSED, folded};
+use crate::script::{BROKEN, Call, REFUSED, mix};
 use arraydeque::{ArrayDeque, Saturating, Wrapping};
 use std::alloc::{AllocError, Global};
 use std::rc::Rc;
@@ -24,7 +24,7 @@ fn play<T: Item, const CAP: usize, B: Answers<T, CAP>>(
         let reply = B::answer(alloc, &alive, &mut deque, Call::of(script[i]));
         if i < replies.len() && i < lists.len() {
             replies[i] = reply.unwrap_or(REFUSED);
-            lists[i] = folded(list_of(&deque), alive.sum());
+            lists[i] = mix(list_of(&deque), alive.sum());
         }
     }
     drop(deque);

@@ -1,6 +1,6 @@
 //! Items of four kinds: bytes, words, blocks of sixteen words, and items that own memory and count
 //! their drops.
-use crate::script::folded;
+use crate::script::mix;
 use std::alloc::{AllocError, Global};
 use std::cell::Cell;
 use std::rc::Rc;
@@ -27,7 +27,7 @@ pub(crate) trait Item: Drop {
     fn make(alloc: Global, alive: &Rc<Alive>, number: u64) -> Result<Self, AllocError>;
 
     /// A number that tells all of the item.
-    fn told(&self) -> u64;
+    fn digest(&self) -> u64;
 
     /// Gives the item another number.
     fn set(&mut self, number: u64);
@@ -40,7 +40,7 @@ impl Item for u8 {
     }
 
     #[inline]
-    fn told(&self) -> u64 {
+    fn digest(&self) -> u64 {
         *self as u64
     }
 
@@ -57,7 +57,7 @@ impl Item for u64 {
     }
 
     #[inline]
-    fn told(&self) -> u64 {
+    fn digest(&self) -> u64 {
         *self
     }
 
@@ -87,7 +87,7 @@ impl Item for Block {
         Ok(Block::of(number))
     }
 
-    fn told(&self) -> u64 {
+    fn digest(&self) -> u64 {
         let mut sum = 0u64;
         for word in &self.0 {
             sum = sum.wrapping_mul(31).wrapping_add(*word);
@@ -111,7 +111,7 @@ pub(crate) struct Owned {
 
 impl Item for Owned {
     fn make(alloc: Global, alive: &Rc<Alive>, number: u64) -> Result<Owned, AllocError> {
-        let name = folded(1, number);
+        let name = mix(1, number);
         match Box::new(alloc, number) {
             Ok(number) => {
                 let alive = alive.clone()?;
@@ -126,8 +126,8 @@ impl Item for Owned {
         }
     }
 
-    fn told(&self) -> u64 {
-        folded(self.name, *self.number)
+    fn digest(&self) -> u64 {
+        mix(self.name, *self.number)
     }
 
     fn set(&mut self, number: u64) {
@@ -147,7 +147,7 @@ impl Drop for Owned {
 }
 
 /// The items of a number and those behind it, `len` of them.
-pub(crate) fn counted<T: Item>(
+pub(crate) fn items_from<T: Item>(
     alloc: Global,
     alive: &Rc<Alive>,
     number: u64,

@@ -2,9 +2,9 @@
 //!
 //! Each policy has a file, and each kind of items an `impl`, though they are alike: the gate
 //! refuses a macro that writes an `impl`.
-use crate::calls::{list_of, slice_of, told};
-use crate::items::{Alive, Item, counted};
-use crate::script::{Call, folded, refused};
+use crate::calls::{digest_of, list_of, slice_of};
+use crate::items::{Alive, Item, items_from};
+use crate::script::{Call, mix, refusal_word};
 use arraydeque::{ArrayDeque, CapacityError, Saturating, Wrapping};
 use std::alloc::{AllocError, Global};
 use std::mem;
@@ -21,49 +21,53 @@ pub(crate) fn answer<T: Item, const CAP: usize>(
     call: Call,
 ) -> Result<u64, AllocError> {
     match call.kind {
-        32..=34 => Ok(pushed(deque, call, T::make(alloc, alive, call.number)?)),
-        35..=37 => extended(deque, call, counted(alloc, alive, call.number, call.first)?),
-        38 => made_of_iterator(
+        32..=34 => Ok(push(deque, call, T::make(alloc, alive, call.number)?)),
+        35..=37 => extend(
+            deque,
+            call,
+            items_from(alloc, alive, call.number, call.first)?,
+        ),
+        38 => make_of_iterator(
             alloc,
             deque,
-            counted(alloc, alive, call.number, call.first)?,
+            items_from(alloc, alive, call.number, call.first)?,
         ),
-        39 => made_of_vector(
+        39 => make_of_vector(
             alloc,
             deque,
-            counted(alloc, alive, call.number, call.first)?,
+            items_from(alloc, alive, call.number, call.first)?,
         ),
-        40 => appended(
+        40 => append(
             alloc,
             deque,
-            counted(alloc, alive, call.number, call.first)?,
+            items_from(alloc, alive, call.number, call.first)?,
         ),
-        41 => turned(alloc, deque, T::make(alloc, alive, call.number)?),
-        42 | 43 => rejoined(deque, call),
+        41 => push_under_other(alloc, deque, T::make(alloc, alive, call.number)?),
+        42 | 43 => rejoin(deque, call),
         _ => crate::calls::answer(alloc, deque, call),
     }
 }
 
 /// An item in at an end or an index, or the item that came back.
-fn pushed<T: Item, const CAP: usize>(deque: &mut Deque<T, CAP>, call: Call, element: T) -> u64 {
+fn push<T: Item, const CAP: usize>(deque: &mut Deque<T, CAP>, call: Call, element: T) -> u64 {
     let index = call.index(deque.len());
     match call.kind {
-        32 => replied(deque.push_back(element)),
-        33 => replied(deque.push_front(element)),
-        _ if index <= deque.len() => replied(deque.insert(index, element)),
+        32 => reply_word(deque.push_back(element)),
+        33 => reply_word(deque.push_front(element)),
+        _ if index <= deque.len() => reply_word(deque.insert(index, element)),
         _ => 0,
     }
 }
 
-fn replied<T: Item>(reply: Result<(), CapacityError<T>>) -> u64 {
+fn reply_word<T: Item>(reply: Result<(), CapacityError<T>>) -> u64 {
     match reply {
         Ok(()) => 1,
-        Err(refusal) => folded(2, refusal.element.told()),
+        Err(refusal) => mix(2, refusal.element.digest()),
     }
 }
 
 /// Items in from a vector's iterator, and what it has left.
-fn extended<T: Item, const CAP: usize>(
+fn extend<T: Item, const CAP: usize>(
     deque: &mut Deque<T, CAP>,
     call: Call,
     items: Vec<T>,
@@ -84,13 +88,13 @@ fn extended<T: Item, const CAP: usize>(
 pub(crate) fn rest_of<T: Item>(items: IntoIter<T>) -> u64 {
     let mut sum = 0u64;
     for item in items {
-        sum = folded(sum, item.told());
+        sum = mix(sum, item.digest());
     }
     sum
 }
 
 /// A new deque of a vector's iterator in place of the list.
-fn made_of_iterator<T: Item, const CAP: usize>(
+fn make_of_iterator<T: Item, const CAP: usize>(
     alloc: Global,
     deque: &mut Deque<T, CAP>,
     items: Vec<T>,
@@ -101,12 +105,12 @@ fn made_of_iterator<T: Item, const CAP: usize>(
             *deque = made;
             Ok(1)
         }
-        Err(refusal) => refused(rest_of(refusal.source) == sum),
+        Err(refusal) => refusal_word(rest_of(refusal.source) == sum),
     }
 }
 
 /// A new deque of a vector in place of the list.
-fn made_of_vector<T: Item, const CAP: usize>(
+fn make_of_vector<T: Item, const CAP: usize>(
     alloc: Global,
     deque: &mut Deque<T, CAP>,
     items: Vec<T>,
@@ -117,12 +121,12 @@ fn made_of_vector<T: Item, const CAP: usize>(
             *deque = made;
             Ok(1)
         }
-        Err(refusal) => refused(slice_of(0, refusal.source.as_slice()) == sum),
+        Err(refusal) => refusal_word(slice_of(0, refusal.source.as_slice()) == sum),
     }
 }
 
 /// A new deque of an array in place of the list.
-pub(crate) fn made_of_array<T: Item + Copy, const CAP: usize>(
+pub(crate) fn make_of_array<T: Item + Copy, const CAP: usize>(
     alloc: Global,
     deque: &mut Deque<T, CAP>,
     items: [T; 5],
@@ -132,12 +136,12 @@ pub(crate) fn made_of_array<T: Item + Copy, const CAP: usize>(
             *deque = made;
             Ok(1)
         }
-        Err(refusal) => refused(slice_of(0, &refusal.source) == slice_of(0, &items)),
+        Err(refusal) => refusal_word(slice_of(0, &refusal.source) == slice_of(0, &items)),
     }
 }
 
 /// The items of another deque in, and what it has left.
-fn appended<T: Item, const CAP: usize>(
+fn append<T: Item, const CAP: usize>(
     alloc: Global,
     deque: &mut Deque<T, CAP>,
     items: Vec<T>,
@@ -148,20 +152,20 @@ fn appended<T: Item, const CAP: usize>(
 }
 
 /// An item in at the back under the other policy.
-fn turned<T: Item, const CAP: usize>(
+fn push_under_other<T: Item, const CAP: usize>(
     alloc: Global,
     deque: &mut Deque<T, CAP>,
     element: T,
 ) -> Result<u64, AllocError> {
     let whole = mem::replace(deque, Deque::<T, CAP>::new(alloc)?);
     let mut other = ArrayDeque::<T, CAP, Wrapping>::from(whole);
-    let reply = told(other.push_back(element));
+    let reply = digest_of(other.push_back(element));
     *deque = Deque::<T, CAP>::from(other);
     Ok(reply)
 }
 
 /// The items from an index on, taken out and put in at the front, by a deque or by a drain.
-fn rejoined<T: Item, const CAP: usize>(
+fn rejoin<T: Item, const CAP: usize>(
     deque: &mut Deque<T, CAP>,
     call: Call,
 ) -> Result<u64, AllocError> {
@@ -180,7 +184,7 @@ fn rejoined<T: Item, const CAP: usize>(
 }
 
 /// Items in at the back from a slice's iterator.
-pub(crate) fn extended_by_slice<T: Item + Copy, const CAP: usize>(
+pub(crate) fn extend_by_slice<T: Item + Copy, const CAP: usize>(
     deque: &mut Deque<T, CAP>,
     items: &[T],
 ) -> u64 {

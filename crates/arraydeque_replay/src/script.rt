@@ -46,13 +46,13 @@ impl Call {
 
 /// A sum, and a word that it is to tell too.
 #[inline]
-pub(crate) fn folded(sum: u64, word: u64) -> u64 {
+pub(crate) fn mix(sum: u64, word: u64) -> u64 {
     let product = (sum ^ word).wrapping_mul(0x9E37_79B9_7F4A_7C15);
     product ^ (product >> 32)
 }
 
 /// The reply of a call that was refused memory, by whether its source came back as it was.
-pub(crate) fn refused(is_whole: bool) -> Result<u64, AllocError> {
+pub(crate) fn refusal_word(is_whole: bool) -> Result<u64, AllocError> {
     if is_whole {
         Err(AllocError)
     } else {

@@ -1,8 +1,8 @@
 //! The calls that the policy `Wrapping` has in its own way.
-use crate::calls::{list_of, slice_of, told};
-use crate::items::{Alive, Item, counted};
+use crate::calls::{digest_of, list_of, slice_of};
+use crate::items::{Alive, Item, items_from};
 use crate::saturating::rest_of;
-use crate::script::{Call, folded, refused};
+use crate::script::{Call, mix, refusal_word};
 use arraydeque::{ArrayDeque, Saturating, Wrapping};
 use std::alloc::{AllocError, Global};
 use std::mem;
@@ -18,40 +18,44 @@ pub(crate) fn answer<T: Item, const CAP: usize>(
     call: Call,
 ) -> Result<u64, AllocError> {
     match call.kind {
-        32..=34 => Ok(pushed(deque, call, T::make(alloc, alive, call.number)?)),
-        35..=37 => extended(deque, call, counted(alloc, alive, call.number, call.first)?),
-        38 => made_of_iterator(
+        32..=34 => Ok(push(deque, call, T::make(alloc, alive, call.number)?)),
+        35..=37 => extend(
+            deque,
+            call,
+            items_from(alloc, alive, call.number, call.first)?,
+        ),
+        38 => make_of_iterator(
             alloc,
             deque,
-            counted(alloc, alive, call.number, call.first)?,
+            items_from(alloc, alive, call.number, call.first)?,
         ),
-        39 => made_of_vector(
+        39 => make_of_vector(
             alloc,
             deque,
-            counted(alloc, alive, call.number, call.first)?,
+            items_from(alloc, alive, call.number, call.first)?,
         ),
-        40 => appended(
+        40 => append(
             alloc,
             deque,
-            counted(alloc, alive, call.number, call.first)?,
+            items_from(alloc, alive, call.number, call.first)?,
         ),
-        41 => turned(alloc, deque, T::make(alloc, alive, call.number)?),
-        42 | 43 => rejoined(deque, call),
+        41 => push_under_other(alloc, deque, T::make(alloc, alive, call.number)?),
+        42 | 43 => rejoin(deque, call),
         _ => crate::calls::answer(alloc, deque, call),
     }
 }
 
 /// An item in at an end, and the one that it displaced.
-fn pushed<T: Item, const CAP: usize>(deque: &mut Deque<T, CAP>, call: Call, element: T) -> u64 {
+fn push<T: Item, const CAP: usize>(deque: &mut Deque<T, CAP>, call: Call, element: T) -> u64 {
     match call.kind {
-        32 => told(deque.push_back(element)),
-        33 => told(deque.push_front(element)),
+        32 => digest_of(deque.push_back(element)),
+        33 => digest_of(deque.push_front(element)),
         _ => 0,
     }
 }
 
 /// Items in from a vector.
-fn extended<T: Item, const CAP: usize>(
+fn extend<T: Item, const CAP: usize>(
     deque: &mut Deque<T, CAP>,
     call: Call,
     items: Vec<T>,
@@ -65,7 +69,7 @@ fn extended<T: Item, const CAP: usize>(
 }
 
 /// A new deque of a vector's iterator in place of the list.
-fn made_of_iterator<T: Item, const CAP: usize>(
+fn make_of_iterator<T: Item, const CAP: usize>(
     alloc: Global,
     deque: &mut Deque<T, CAP>,
     items: Vec<T>,
@@ -76,12 +80,12 @@ fn made_of_iterator<T: Item, const CAP: usize>(
             *deque = made;
             Ok(1)
         }
-        Err(refusal) => refused(rest_of(refusal.source) == sum),
+        Err(refusal) => refusal_word(rest_of(refusal.source) == sum),
     }
 }
 
 /// A new deque of a vector in place of the list.
-fn made_of_vector<T: Item, const CAP: usize>(
+fn make_of_vector<T: Item, const CAP: usize>(
     alloc: Global,
     deque: &mut Deque<T, CAP>,
     items: Vec<T>,
@@ -92,12 +96,12 @@ fn made_of_vector<T: Item, const CAP: usize>(
             *deque = made;
             Ok(1)
         }
-        Err(refusal) => refused(slice_of(0, refusal.source.as_slice()) == sum),
+        Err(refusal) => refusal_word(slice_of(0, refusal.source.as_slice()) == sum),
     }
 }
 
 /// A new deque of an array in place of the list.
-pub(crate) fn made_of_array<T: Item + Copy, const CAP: usize>(
+pub(crate) fn make_of_array<T: Item + Copy, const CAP: usize>(
     alloc: Global,
     deque: &mut Deque<T, CAP>,
     items: [T; 5],
@@ -107,12 +111,12 @@ pub(crate) fn made_of_array<T: Item + Copy, const CAP: usize>(
             *deque = made;
             Ok(1)
         }
-        Err(refusal) => refused(slice_of(0, &refusal.source) == slice_of(0, &items)),
+        Err(refusal) => refusal_word(slice_of(0, &refusal.source) == slice_of(0, &items)),
     }
 }
 
 /// The items of another deque in; it has none left.
-fn appended<T: Item, const CAP: usize>(
+fn append<T: Item, const CAP: usize>(
     alloc: Global,
     deque: &mut Deque<T, CAP>,
     items: Vec<T>,
@@ -123,7 +127,7 @@ fn appended<T: Item, const CAP: usize>(
 }
 
 /// An item in at the back under the other policy, or the item that came back.
-fn turned<T: Item, const CAP: usize>(
+fn push_under_other<T: Item, const CAP: usize>(
     alloc: Global,
     deque: &mut Deque<T, CAP>,
     element: T,
@@ -132,14 +136,14 @@ fn turned<T: Item, const CAP: usize>(
     let mut other = ArrayDeque::<T, CAP, Saturating>::from(whole);
     let reply = match other.push_back(element) {
         Ok(()) => 1,
-        Err(refusal) => folded(2, refusal.element.told()),
+        Err(refusal) => mix(2, refusal.element.digest()),
     };
     *deque = Deque::<T, CAP>::from(other);
     Ok(reply)
 }
 
 /// The items from an index on, taken out and put in at the front, by a deque or by a drain.
-fn rejoined<T: Item, const CAP: usize>(
+fn rejoin<T: Item, const CAP: usize>(
     deque: &mut Deque<T, CAP>,
     call: Call,
 ) -> Result<u64, AllocError> {
@@ -158,7 +162,7 @@ fn rejoined<T: Item, const CAP: usize>(
 }
 
 /// Items in at the back from a slice's iterator.
-pub(crate) fn extended_by_slice<T: Item + Copy, const CAP: usize>(
+pub(crate) fn extend_by_slice<T: Item + Copy, const CAP: usize>(
     deque: &mut Deque<T, CAP>,
     items: &[T],
 ) -> u64 {

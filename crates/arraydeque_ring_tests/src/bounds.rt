@@ -69,7 +69,7 @@ fn put<T>(ring: &mut Ring<T>, (first, second, third): (T, T, T)) -> Option<(T, T
 }
 
 /// What the calls that take an item out make of a ring.
-fn taken<T>(ring: &mut Ring<T>) -> [Option<T>; 5] {
+fn take_items<T>(ring: &mut Ring<T>) -> [Option<T>; 5] {
     [
         ring.swap_remove_back(0),
         ring.swap_remove_front(0),
@@ -84,13 +84,13 @@ fn taken<T>(ring: &mut Ring<T>) -> [Option<T>; 5] {
 }
 
 /// A ring of all items, drained.
-fn drained<T>(ring: &mut Ring<T>) -> Result<Ring<T>, AllocError> {
+fn drain_all<T>(ring: &mut Ring<T>) -> Result<Ring<T>, AllocError> {
     let len = ring.len();
     ring.drain(0, len)
 }
 
 /// A ring of all items, split off.
-fn split<T>(ring: &mut Ring<T>) -> Result<Ring<T>, AllocError> {
+fn split_all<T>(ring: &mut Ring<T>) -> Result<Ring<T>, AllocError> {
     ring.split_off(0)
 }
 
@@ -111,12 +111,12 @@ fn fill<T, I: Iterator<Item = T>>(ring: &mut Ring<T>, back: &mut I, front: &mut 
 }
 
 /// A vector of all items.
-fn listed<T>(ring: Ring<T>) -> Result<Vec<T>, Ring<T>> {
+fn into_list<T>(ring: Ring<T>) -> Result<Vec<T>, Ring<T>> {
     ring.into_vec()
 }
 
 /// An iterator that owns all items.
-fn owned<T>(ring: Ring<T>) -> IntoIter<T> {
+fn into_items<T>(ring: Ring<T>) -> IntoIter<T> {
     IntoIter::of(ring)
 }
 
@@ -169,7 +169,7 @@ fn copy_back<T: Copy>(ring: &mut Ring<T>, items: &[T]) -> usize {
 }
 
 /// A ring of clones.
-fn cloned<T: Clone>(ring: &Ring<T>) -> Result<Ring<T>, AllocError>
+fn clone<T: Clone>(ring: &Ring<T>) -> Result<Ring<T>, AllocError>
     requires { ClonesAreSame T.is_clone ring.now.items }
 {
     ring.clone()
@@ -222,7 +222,7 @@ fn region_alloc<T>(slots: &Slots<T>) -> Global {
 }
 
 /// The value in a place.
-fn held<T>(slots: &Slots<T>, place: usize) -> &T
+fn value_at<T>(slots: &Slots<T>, place: usize) -> &T
     requires { IsFilled slots.now.places place }
 {
     slots.get(place)
@@ -236,7 +236,7 @@ fn run_held<T>(slots: &Slots<T>, from: usize, len: usize) -> &[T]
 }
 
 /// The value in a place, lent for writing.
-pub(crate) fn lent<T>(slots: &mut Slots<T>, place: usize) -> &mut T
+pub(crate) fn lend_place<T>(slots: &mut Slots<T>, place: usize) -> &mut T
     requires { IsFilled slots.old.places place }
     ensures* writes_back { sem 𝓛 (lends_place T.row slots.entry place result) }
     ensures value { held_at slots.old.places place ≡ Some result.now }
@@ -268,13 +268,13 @@ fn asks_nothing(alloc: Global) -> Result<bool, Fail> {
         &mut Some(2).into_iter(),
     );
     let is_held = reads(&ring) && writes(&mut ring);
-    let mut drain = drained(&mut ring)?;
-    let out = taken(&mut drain);
+    let mut drain = drain_all(&mut ring)?;
+    let out = take_items(&mut drain);
     join(&mut ring, &mut drain);
     let is_put = put(&mut ring, (3, 4, 5)).is_none();
-    let mut tail = split(&mut ring)?;
+    let mut tail = split_all(&mut ring)?;
     let first = tail.pop_front();
-    let list = listed(tail).map_err(|_| "refused")?;
+    let list = into_list(tail).map_err(|_| "refused")?;
     Ok(
         ends == (true, true)
             && is_held
@@ -295,8 +295,8 @@ fn asks_to_drop(alloc: Global) -> Result<bool, Fail> {
     Ok(
         copied == 2
             && ring.as_slices() == ([5, 2].as_slice(), [].as_slice())
-            && gives(owned(ring))
-            && lets_go(cloned(&copies)?),
+            && gives(into_items(ring))
+            && lets_go(clone(&copies)?),
     )
 }
 

@@ -18,7 +18,7 @@ pub(crate) fn saturating<const CAP: usize>(
     deque: &mut ArrayDeque<i64, CAP, Saturating>,
     rows: Rows<'_>,
 ) -> Result<(), Fail> {
-    let (calls, told) = parted(alloc, rows)?;
+    let (calls, told) = part_rows(alloc, rows)?;
     compare(rt, alloc, made(deque.run(calls))?, told.as_slice())
 }
 
@@ -29,12 +29,12 @@ pub(crate) fn wrapping<const CAP: usize>(
     deque: &mut ArrayDeque<i64, CAP, Wrapping>,
     rows: Rows<'_>,
 ) -> Result<(), Fail> {
-    let (calls, told) = parted(alloc, rows)?;
+    let (calls, told) = part_rows(alloc, rows)?;
     compare(rt, alloc, made(deque.run(calls))?, told.as_slice())
 }
 
 /// The calls and the texts, each by themselves.
-fn parted<'a>(alloc: Global, rows: Rows<'a>) -> Result<(Vec<Call<i64>>, Vec<&'a str>), Fail> {
+fn part_rows<'a>(alloc: Global, rows: Rows<'a>) -> Result<(Vec<Call<i64>>, Vec<&'a str>), Fail> {
     let mut calls = Vec::new(alloc);
     let mut told = Vec::new(alloc);
     for (call, text) in rows {

@@ -144,7 +144,9 @@ fn writes<T, const CAP: usize, B: Behavior>(deque: &mut ArrayDeque<T, CAP, B>) -
 }
 
 /// The item at an index, lent for writing.
-fn lent<T, const CAP: usize, B: Behavior>(deque: &mut ArrayDeque<T, CAP, B>) -> Option<&mut T> {
+fn lend_first<T, const CAP: usize, B: Behavior>(
+    deque: &mut ArrayDeque<T, CAP, B>,
+) -> Option<&mut T> {
     if deque.len() == 0 {
         return None;
     }
@@ -152,7 +154,9 @@ fn lent<T, const CAP: usize, B: Behavior>(deque: &mut ArrayDeque<T, CAP, B>) -> 
 }
 
 /// What the calls that take an item out make of a deque.
-fn taken<T, const CAP: usize, B: Behavior>(deque: &mut ArrayDeque<T, CAP, B>) -> [Option<T>; 7] {
+fn take_items<T, const CAP: usize, B: Behavior>(
+    deque: &mut ArrayDeque<T, CAP, B>,
+) -> [Option<T>; 7] {
     [
         deque.pop_front(),
         deque.pop_back(),
@@ -165,7 +169,7 @@ fn taken<T, const CAP: usize, B: Behavior>(deque: &mut ArrayDeque<T, CAP, B>) ->
 }
 
 /// The items that a range names, which may be of any type that names all.
-fn drained<T, const CAP: usize, B: Behavior, R: RangeArgument<usize> + Drop>(
+fn drain_all<T, const CAP: usize, B: Behavior, R: RangeArgument<usize> + Drop>(
     deque: &mut ArrayDeque<T, CAP, B>,
     range: R,
 ) -> Result<Drain<T>, AllocError>
@@ -176,7 +180,7 @@ fn drained<T, const CAP: usize, B: Behavior, R: RangeArgument<usize> + Drop>(
 }
 
 /// A second deque, of all items.
-fn split<T, const CAP: usize, B: Behavior>(
+fn split_all<T, const CAP: usize, B: Behavior>(
     deque: &mut ArrayDeque<T, CAP, B>,
 ) -> Result<ArrayDeque<T, CAP, B>, AllocError> {
     deque.split_off(0)
@@ -190,14 +194,14 @@ fn new<T, const CAP: usize, B: Behavior>(
 }
 
 /// A vector of all items.
-fn listed<T, const CAP: usize, B: Behavior>(
+fn into_list<T, const CAP: usize, B: Behavior>(
     deque: ArrayDeque<T, CAP, B>,
 ) -> Result<Vec<T>, MakeError<ArrayDeque<T, CAP, B>>> {
     deque.into_vec()
 }
 
 /// The same deque, by way of the other policy.
-fn converted<T, const CAP: usize>(
+fn convert<T, const CAP: usize>(
     deque: ArrayDeque<T, CAP, Saturating>,
 ) -> ArrayDeque<T, CAP, Saturating> {
     let wrapping: ArrayDeque<T, CAP, Wrapping> = deque.into();
@@ -205,7 +209,7 @@ fn converted<T, const CAP: usize>(
 }
 
 /// What becomes of three elements in a deque that refuses.
-fn refused<T, const CAP: usize>(
+fn push_three<T, const CAP: usize>(
     deque: &mut ArrayDeque<T, CAP, Saturating>,
     (first, second, third): (T, T, T),
 ) -> [Result<(), CapacityError<T>>; 3] {
@@ -217,7 +221,7 @@ fn refused<T, const CAP: usize>(
 }
 
 /// What becomes of two elements in a deque that displaces.
-fn displaced<T, const CAP: usize>(
+fn push_two<T, const CAP: usize>(
     deque: &mut ArrayDeque<T, CAP, Wrapping>,
     (first, second): (T, T),
 ) -> [Option<T>; 2] {
@@ -266,7 +270,7 @@ fn scanner<I: Iterator, const CAP: usize>(
 }
 
 /// The next item of a scanner, and what becomes of another that is put on.
-fn scanned<I: Iterator, const CAP: usize>(
+fn scan<I: Iterator, const CAP: usize>(
     scanner: &mut Scanner<I, CAP>,
     item: I::Item,
 ) -> (Option<I::Item>, Result<(), CapacityError<I::Item>>) {
@@ -276,7 +280,7 @@ fn scanned<I: Iterator, const CAP: usize>(
 }
 
 /// The next item of a scanner, by a closure that accepts any.
-fn accepted<I: Iterator, const CAP: usize>(scanner: &mut Scanner<I, CAP>) -> Option<I::Item> {
+fn accept_any<I: Iterator, const CAP: usize>(scanner: &mut Scanner<I, CAP>) -> Option<I::Item> {
     if CAP == 0 {
         return None;
     }
@@ -295,7 +299,7 @@ fn next_of<I: Iterator<Item: Drop>, const CAP: usize>(
 }
 
 /// The bounds that the ranges between two values name.
-fn named<T: Copy>(start: T, end: T) -> [(Option<T>, Option<T>); 3] {
+fn names<T: Copy>(start: T, end: T) -> [(Option<T>, Option<T>); 3] {
     let (from, to, both) = (start.., ..end, start..end);
     [
         (from.start(), from.end()),
@@ -305,7 +309,7 @@ fn named<T: Copy>(start: T, end: T) -> [(Option<T>, Option<T>); 3] {
 }
 
 /// The bounds that a range of everything names, whatever they would be.
-fn unnamed<T>() -> (Option<T>, Option<T>) {
+fn no_names<T>() -> (Option<T>, Option<T>) {
     let all = ..;
     (
         RangeArgument::<T>::start(&all),
@@ -473,7 +477,7 @@ fn order<T: Ord, const CAP: usize, B: Behavior>(
 }
 
 /// Where an item is, in order.
-fn found<T: Ord, const CAP: usize, B: Behavior>(
+fn find<T: Ord, const CAP: usize, B: Behavior>(
     deque: &ArrayDeque<T, CAP, B>,
     item: &T,
 ) -> Result<usize, usize> {
@@ -497,7 +501,7 @@ fn text<T: Debug, const CAP: usize, B: Behavior>(
 }
 
 /// A deque of clones.
-fn cloned<T: Clone, const CAP: usize, B: Behavior>(
+fn clone<T: Clone, const CAP: usize, B: Behavior>(
     deque: &ArrayDeque<T, CAP, B>,
 ) -> Result<ArrayDeque<T, CAP, B>, AllocError>
     requires { (x y : T) → Contains deque.now.items x → T.is_clone x y → y ≡ x }
@@ -557,18 +561,18 @@ fn asks_nothing(alloc: Global) -> Result<bool, Fail> {
     let mut deque = made(first_of::<u8, 3, _>(alloc, Some(1)))?;
     fill(&mut deque, Some(2), None);
     join(&mut deque, &mut new::<u8, 2, Wrapping>(alloc)?);
-    let mut deque = converted(deque);
+    let mut deque = convert(deque);
     let is_held = reads(&deque)?
         && searches(&deque)
         && writes(&mut deque)
-        && lent(&mut deque) == Some(&mut 2);
-    let refusals = refused(&mut deque, (3, 4, 5));
+        && lend_first(&mut deque) == Some(&mut 2);
+    let refusals = push_three(&mut deque, (3, 4, 5));
     let mut wrapping: ArrayDeque<u8, 3, Wrapping> = deque.into();
-    let given_up = displaced(&mut wrapping, (6, 7));
-    let items: Vec<u8> = drained(&mut wrapping, All)?.collect(alloc)?;
+    let given_up = push_two(&mut wrapping, (6, 7));
+    let items: Vec<u8> = drain_all(&mut wrapping, All)?.collect(alloc)?;
     wrapping.push_back(8);
-    let mut tail = split(&mut wrapping)?;
-    let out = taken(&mut tail);
+    let mut tail = split_all(&mut wrapping)?;
+    let out = take_items(&mut tail);
     Ok(
         is_held
             && refusals
@@ -580,7 +584,7 @@ fn asks_nothing(alloc: Global) -> Result<bool, Fail> {
             && given_up == [Some(1), Some(6)]
             && items.as_slice() == [3, 2, 7].as_slice()
             && out == [Some(8), None, None, None, None, None, None]
-            && made(listed(new::<u8, 3, Wrapping>(alloc)?))?.is_empty(),
+            && made(into_list(new::<u8, 3, Wrapping>(alloc)?))?.is_empty(),
     )
 }
 
@@ -605,8 +609,8 @@ fn asks_to_drop(alloc: Global) -> Result<bool, Fail> {
             && gives(first)
             && lets_go(last)
             && !drains(all)
-            && named(1, 2) == [(Some(1), None), (None, Some(2)), (Some(1), Some(2))]
-            && unnamed::<u8>() == (None, None),
+            && names(1, 2) == [(Some(1), None), (None, Some(2)), (Some(1), Some(2))]
+            && no_names::<u8>() == (None, None),
     )
 }
 
@@ -619,7 +623,7 @@ fn asks_for_bytes(alloc: Global) -> Result<bool, Fail> {
 /// Whether comparisons, texts and clones do.
 fn asks_for_traits(alloc: Global) -> Result<bool, Fail> {
     let deque = made(first_of::<u8, 2, _>(alloc, [1, 2]))?;
-    let copy = cloned(&deque)?;
+    let copy = clone(&deque)?;
     let mut hasher = DefaultHasher::new();
     feed(&deque, &mut hasher);
     let mut other = DefaultHasher::new();
@@ -628,7 +632,7 @@ fn asks_for_traits(alloc: Global) -> Result<bool, Fail> {
     Ok(
         partial_order(&deque, deque_itself(&copy)) == Some(Ordering::Equal)
             && order(&deque, &copy) == Ordering::Equal
-            && found(&deque, &2) == Ok(1)
+            && find(&deque, &2) == Ok(1)
             && hasher.finish() == other.finish()
             && text(alloc, &copy)?.as_str() == "[1, 2]"
             && have_texts(
@@ -646,8 +650,8 @@ fn asks_for_traits(alloc: Global) -> Result<bool, Fail> {
 fn scans(alloc: Global) -> Result<bool, Fail> {
     let mut scanner = made(scanner::<_, 1>(alloc, [1_u8, 2].into_iter()))?;
     Ok(
-        scanned(&mut scanner, 3) == (Some(1), Ok(()))
-            && accepted(&mut scanner) == Some(3)
+        scan(&mut scanner, 3) == (Some(1), Ok(()))
+            && accept_any(&mut scanner) == Some(3)
             && next_of(&mut scanner) == Some(2),
     )
 }

@@ -21,7 +21,7 @@ fn edit_in_turn<const CAP: usize>(
     for &(edit, answer, left) in edits {
         let is_answered = match edit {
             Edit::Insert(index, item) => {
-                index <= deque.len() && refused(deque.insert(index, item)) == answer
+                index <= deque.len() && refusal_of(deque.insert(index, item)) == answer
             }
             Edit::Remove(index) => deque.remove(index) == answer,
         };
@@ -33,7 +33,7 @@ fn edit_in_turn<const CAP: usize>(
 }
 
 /// The element that an insert hands back, if it does.
-fn refused(inserted: Result<(), CapacityError<i64>>) -> Option<i64> {
+fn refusal_of(inserted: Result<(), CapacityError<i64>>) -> Option<i64> {
     match inserted {
         Ok(()) => None,
         Err(refusal) => Some(refusal.element),

@@ -59,7 +59,7 @@ fn with_digit(digits: i64, digit: i64) -> i64 {
 }
 
 /// Those of the items that the mask has, as the digits of a number.
-fn masked(items: &[i64], mask: i64) -> i64 {
+fn digits_of(items: &[i64], mask: i64) -> i64 {
     let mut digits = 0;
     for item in items {
         if item & mask != 0 {
@@ -84,7 +84,7 @@ fn retain_masked(
         item & mask != 0
     });
     let left = made(deque.into_vec())?;
-    Ok((asked, masked(&left, -1)))
+    Ok((asked, digits_of(&left, -1)))
 }
 
 #[test]
@@ -100,7 +100,8 @@ fn retain_asks_once_at_each_item_in_order(rt: HostRuntime) -> Result<(), Fail> {
         for (items, digits) in rows {
             for mask in 0..16 {
                 assert!(rt;
-                    retain_masked(rt.alloc(), start, items, mask)? == (digits, masked(items, mask)),
+                    retain_masked(rt.alloc(), start, items, mask)?
+                        == (digits, digits_of(items, mask)),
                     "mask {mask} of {items:?}, start {start}"
                 );
             }

@@ -6,7 +6,7 @@ use std::test::Fail;
 type Deque = ArrayDeque<i64, 5, Saturating>;
 
 /// Where a scan finds a number among items that rise, or in the error where it would go.
-fn scanned(items: &[i64], number: i64) -> Result<usize, usize> {
+fn scan(items: &[i64], number: i64) -> Result<usize, usize> {
     for index in 0..items.len() {
         if items[index] == number {
             return Ok(index);
@@ -20,7 +20,7 @@ fn scanned(items: &[i64], number: i64) -> Result<usize, usize> {
 
 /// Whether each search finds what a scan does, and asks at most `limit` times.
 fn searches_alike(deque: &Deque, items: &[i64], number: i64, limit: usize) -> bool {
-    let found = scanned(items, number);
+    let found = scan(items, number);
     let less = match found {
         Ok(index) => index,
         Err(index) => index,

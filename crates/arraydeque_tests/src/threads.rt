@@ -8,75 +8,75 @@ use std::marker::{Send, Sync};
 use std::test::Fail;
 
 /// Takes what may go to another thread.
-fn sent<T: Send>(value: T) -> T {
+fn send<T: Send>(value: T) -> T {
     value
 }
 
 /// Takes what several threads may read.
-fn shared<T: Sync>(value: &T) -> &T {
+fn share<T: Sync>(value: &T) -> &T {
     value
 }
 
 fn deque_sent<T: Send, const CAP: usize, B: Behavior + Send>(
     deque: ArrayDeque<T, CAP, B>,
 ) -> ArrayDeque<T, CAP, B> {
-    sent(deque)
+    send(deque)
 }
 
 fn deque_shared<T: Sync, const CAP: usize, B: Behavior + Sync>(
     deque: &ArrayDeque<T, CAP, B>,
 ) -> &ArrayDeque<T, CAP, B> {
-    sent(shared(deque))
+    send(share(deque))
 }
 
 fn drain_sent<T: Send>(drain: Drain<T>) -> Drain<T> {
-    sent(drain)
+    send(drain)
 }
 
 fn drain_shared<T: Sync>(drain: &Drain<T>) -> &Drain<T> {
-    sent(shared(drain))
+    send(share(drain))
 }
 
 fn iter_sent<'a, T: Sync>(items: Iter<'a, T>) -> Iter<'a, T> {
-    sent(items)
+    send(items)
 }
 
 fn iter_shared<'a, 'b, T: Sync>(items: &'b Iter<'a, T>) -> &'b Iter<'a, T> {
-    sent(shared(items))
+    send(share(items))
 }
 
 fn iter_mut_sent<'a, T: Send>(items: IterMut<'a, T>) -> IterMut<'a, T> {
-    sent(items)
+    send(items)
 }
 
 fn iter_mut_shared<'a, 'b, T: Sync>(items: &'b IterMut<'a, T>) -> &'b IterMut<'a, T> {
-    sent(shared(items))
+    send(share(items))
 }
 
 fn into_iter_sent<T: Send, const CAP: usize, B: Behavior + Send>(
     items: IntoIter<T, CAP, B>,
 ) -> IntoIter<T, CAP, B> {
-    sent(items)
+    send(items)
 }
 
 fn into_iter_shared<T: Sync, const CAP: usize, B: Behavior + Sync>(
     items: &IntoIter<T, CAP, B>,
 ) -> &IntoIter<T, CAP, B> {
-    sent(shared(items))
+    send(share(items))
 }
 
 fn errors_sent<T: Send>(
     full: CapacityError<T>,
     refused: MakeError<T>,
 ) -> (CapacityError<T>, MakeError<T>) {
-    (sent(full), sent(refused))
+    (send(full), send(refused))
 }
 
 fn errors_shared<'a, T: Sync>(
     full: &'a CapacityError<T>,
     refused: &'a MakeError<T>,
 ) -> (&'a CapacityError<T>, &'a MakeError<T>) {
-    (sent(shared(full)), sent(shared(refused)))
+    (send(share(full)), send(share(refused)))
 }
 
 #[test]

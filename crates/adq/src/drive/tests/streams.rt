@@ -31,7 +31,7 @@ impl Calls {
     }
 
     /// How many bytes the call of this number moves, of so many that it is asked for.
-    fn moved(self, call: usize, asked: usize) -> io::Result<usize>
+    fn count_at(self, call: usize, asked: usize) -> io::Result<usize>
         ensures { IfOk result (λ count. count ≤ asked) }
     {
         if self.first <= call && call <= self.last {
@@ -69,7 +69,7 @@ impl Read for Input<'_> {
         let call = self.made;
         self.made = call.saturating_add(1);
         let asked = buf.len().min(self.rest.len());
-        let count = self.calls.moved(call, asked)?;
+        let count = self.calls.count_at(call, asked)?;
         buf[..count].copy_from_slice(&self.rest[..count]);
         self.rest = &self.rest[count..];
         Ok(count)
@@ -111,26 +111,26 @@ impl<'a> Output<'a> {
     }
 
     /// How many bytes the next call moves.
-    fn moved(&mut self, asked: usize) -> io::Result<usize>
+    fn next_count(&mut self, asked: usize) -> io::Result<usize>
         ensures { IfOk result (λ count. count ≤ asked) }
     {
         let call = self.made;
         self.made = call.saturating_add(1);
-        let moved = self.calls.moved(call, asked);
-        self.has_failed |= moved.is_err();
-        moved
+        let count = self.calls.count_at(call, asked);
+        self.has_failed |= count.is_err();
+        count
     }
 }
 
 impl Write for Output<'_> {
     fn write(&mut self, buf: &[u8]) -> io::Result<usize> {
-        let count = self.moved(buf.len())?;
+        let count = self.next_count(buf.len())?;
         self.bytes.extend_from_slice(&buf[..count])?;
         Ok(count)
     }
 
     fn flush(&mut self) -> io::Result<()> {
-        self.moved(0)?;
+        self.next_count(0)?;
         self.flushed = self.bytes.len();
         Ok(())
     }
