@@ -104,29 +104,16 @@ pub(crate) fn stream<const PIECE: usize, const CAP: usize>(
     let mut deque = deque_at::<u8, CAP>(alloc, 0, 100)?;
     let mut sum = 0u64;
     for _ in 0..rounds {
-        sum = sum
-            .wrapping_mul(3)
-            .wrapping_add(write_and_read(&mut deque, &piece, &mut buffer));
+        let written = deque.write(piece.as_slice()).unwrap_or(0);
+        let read = deque.read(buffer.as_mut_slice()).unwrap_or(0);
+        let last = match buffer.last() {
+            Some(byte) => *byte as u64,
+            None => 0,
+        };
+        let told = (written as u64).wrapping_add(read as u64);
+        sum = sum.wrapping_mul(3).wrapping_add(told).wrapping_add(last);
     }
     Ok(sum)
-}
-
-/// A piece written, and as many bytes read as there is room for: their number and the last one.
-#[inline]
-fn write_and_read<const CAP: usize>(
-    deque: &mut ArrayDeque<u8, CAP, Saturating>,
-    piece: &[u8],
-    buffer: &mut [u8],
-) -> u64 {
-    let written = deque.write(piece).unwrap_or(0);
-    let read = deque.read(buffer).unwrap_or(0);
-    let last = match buffer.last() {
-        Some(byte) => *byte as u64,
-        None => 0,
-    };
-    (written as u64)
-        .wrapping_add(read as u64)
-        .wrapping_add(last)
 }
 
 /// Each round a million samples go through a window of the last ones, whose sum is kept.

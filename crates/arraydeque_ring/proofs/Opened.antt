@@ -1,8 +1,8 @@
 -- What the fields of an open ring say of the value that its contracts see.
 use Rattle.std.{
   proofs.{
-    Common.{◌≡◌, ℕ, suc, ◌+◌, ◌-◌, ◌<◌, ◌≤◌, ◌==◌, [], ◌∷◌, ◌++◌, length, take, drop, set, swap},
-    Common.{slice_get, Some, None, refl, subst, sym, ap, ap₂, ◌∙◌, arith, inl, inr, Option, List},
+    Common.{◌≡◌, ℕ, zero, suc, ◌+◌, ◌-◌, ◌<◌, ◌≤◌, ◌==◌, [], ◌∷◌, ◌++◌, length, take, drop, set},
+    Common.{swap, slice_get, Some, None, refl, subst, sym, ap, ap₂, ◌∙◌, arith, inl, inr, Option, List},
     Common.replicate,
     lemmas.{
       Grind.take_at_read,
@@ -31,7 +31,7 @@ use Rattle.arraydeque_ring.{
       LaidOut.{IsFilled-place_of, HoldsRun-rotated, IsFilledRun-LaidOut, HoldsRun-LaidOut},
       LaidOut.{same_run, LaidOut-set, LaidOut-swap},
       Rotated.{MayStartAt, MayStartAt-place_of, place_of-first, place_of-zero, place_of-lt},
-      Rotated.{one_place, length-rotated},
+      Rotated.{one_place, place_of_cases, length-rotated},
     },
   },
   specs.{
@@ -353,6 +353,55 @@ module _ {X : Type 0} (r : Inside X) (kept : Kept r) where
         ≡ with_run behind xs places = ap₂ (λ k l. splice places behind (behind + k) l) (sym many) held in
         rw written (piece_laid xs many some)
 
+  -- of the items ws the first m come behind the last one, and those that go round the end from the first place on
+  module _ (ws : List X) (m : ℕ) (some : 0 < m) (le : m ≤ length ws) (fits : behind + m ≤ n)
+      (room : r.len + length ws ≤ n) (end : m < length ws → behind + m ≡ n) where
+    abbrev rest : List X
+    rest = take (length ws - m) (drop m ws)
+
+    many : length (take m ws) ≡ m
+    many = length-take-le m ws le
+
+    others : length rest ≡ length ws - m
+    others = length-take-le (length ws - m) (drop m ws) (omega (arith, length-drop m ws))
+
+    all : (items ++ take m ws) ++ rest ≡ items ++ ws
+    all = append_assoc items (take m ws) rest ∙ ap (λ l. items ++ l)
+        (rw (take_all (length ws - m) (drop m ws) (omega (arith, length-drop m ws))) (take-append-drop m ws))
+
+    first_laid : LaidOut n r.start (items ++ take m ws) (with_run behind (take m ws) places)
+    first_laid = LaidOut-appended laid (take m ws) behind (lies m fits (omega arith) some) (omega (arith, many))
+        (omega (arith, len, many))
+
+    starts_again : m < length ws → MayStartAt r.start (length (items ++ take m ws)) n 0
+    starts_again more = inr (grind (
+      arith,
+      len,
+      many,
+      laid.in_region,
+      length-append items (take m ws),
+      place_of_cases r.start r.len n,
+      end more,
+    ))
+
+    empty_again : (k : ℕ) → k ≡ length ws - m → IsEmptyRun (with_run behind (take m ws) places) 0 k
+    empty_again zero is = (omega arith, refl)
+    empty_again (suc k) is = IsEmptyRun-behind first_laid 0 (suc k) (starts_again (omega (arith, is)))
+        (omega (arith, is)) (omega (arith, is, len, many, length-append items (take m ws)))
+
+    pub rest_empty : IsEmptyRun (with_run behind (take m ws) places) 0 (length rest)
+    rest_empty = empty_again (length rest) others
+
+    laid_again : (ys : List X) → length ys ≡ length ws - m
+        → LaidOut n r.start ((items ++ take m ws) ++ ys) (with_run 0 ys (with_run behind (take m ws) places))
+    laid_again [] is = rw (append-nil (items ++ take m ws)) first_laid
+    laid_again (y ∷ ys) is = LaidOut-appended first_laid (y ∷ ys) 0 (starts_again (omega (arith, is)))
+        (omega (arith, is)) (omega (arith, is, len, many, length-append items (take m ws)))
+
+    pub round_laid : Become n r.start (r.len + length ws) (items ++ ws)
+        (with_run 0 rest (with_run behind (take m ws) places))
+    round_laid = become (rw all at (laid_again rest others)) _ (omega (arith, len, length-append items ws))
+
 -- for the goals of the ring that have no answer by hand
 pub ruleset ring_facts = (bounds, items_within, nothing_laid, slice_get_past, place_of-lt)
 
@@ -386,7 +435,7 @@ pub ruleset part_facts = (bounds, last_dropped, run_handed, take_rest)
 pub ruleset join_facts = (bounds, behind_empty, piece_joined)
 
 -- or come as copies
-pub ruleset piece_facts = (bounds, behind_empty, piece_laid)
+pub ruleset piece_facts = (bounds, behind_empty, rest_empty, round_laid, items_within, length-take-le)
 
 -- items that come one by one from the first place on
 pub ruleset copy_facts = (

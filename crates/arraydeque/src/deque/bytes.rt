@@ -26,6 +26,7 @@ impl<const CAP: usize, B: Behavior> Read for ArrayDeque<u8, CAP, B> {
     /// assert!(rt; deque.read(&mut buf)? == 2 && buf == [1, 2]);
     /// assert!(rt; deque.read(&mut buf)? == 1 && buf == [3, 2]);
     /// ```
+    #[inline(always)] // A caller knows the capacity, and often the length of `buf`.
     fn read(&mut self, buf: &mut [u8]) -> Result<usize>
         ensures bound { ReadsAtMost result buf.new }
         ensures bytes { ReadConsumes (Some self.old.items) (Some self.new.items) result buf.new }
@@ -39,11 +40,12 @@ impl<const CAP: usize, B: Behavior> Read for ArrayDeque<u8, CAP, B> {
         ensures steps { let count = min (length self.old.items) (length buf.old) in
             self.new.steps ≡ more_takes count self.old.steps }
     {
+        let count = self.len().min(buf.len());
         let (front, back) = self.as_slices();
         let first = copy_to(front, buf, 0);
-        let second = copy_to(back, buf, first);
-        self.consume(first + second);
-        Ok(first + second)
+        copy_to(back, buf, first);
+        self.consume(count);
+        Ok(count)
     }
 }
 
@@ -69,6 +71,7 @@ impl<const CAP: usize, B: Behavior> BufRead for ArrayDeque<u8, CAP, B> {
     }
 
     /// Drops the first `amount` bytes, or all if there are no more. No other byte moves.
+    #[inline]
     fn consume(&mut self, amount: usize)
         ensures bytes { DropsConsumable (Some self.old.items) (Some self.new.items) None amount }
         ensures items { self.new.items ≡ drop amount self.old.items }
@@ -83,6 +86,7 @@ impl<const CAP: usize, B: Behavior> BufRead for ArrayDeque<u8, CAP, B> {
 }
 
 /// Copies as many bytes as there is room for from the index `at` on, and returns their number.
+#[inline]
 fn copy_to(from: &[u8], to: &mut [u8], at: usize) -> usize
     requires { at ≤ length to.old }
     ensures count { result ≡ min (length from.now) (length to.old - at) }
@@ -120,6 +124,7 @@ impl<const CAP: usize> Write for ArrayDeque<u8, CAP, Saturating> {
     /// assert!(rt; deque.write(&[4])? == 0 && deque.write_all(&[4]).is_err());
     /// assert!(rt; deque.into_vec()?.as_slice() == [1, 2, 3].as_slice());
     /// ```
+    #[inline(always)] // As `read`.
     fn write(&mut self, buf: &[u8]) -> Result<usize>
         ensures bound { WritesAtMost result buf.now }
         ensures bytes { WriteAppends (Some self.old.items) (Some self.new.items) result buf.now }

@@ -48,6 +48,8 @@ impl<T> Ring<T> {
     /// assert!(rt; ring.copy_back(&[2, 3]) == 2 && ring.copy_back(&[4, 5]) == 1);
     /// assert!(rt; IntoIter::of(ring).eq([1, 2, 3, 4]));
     /// ```
+    #[tactic(auto, using(crate::proofs::Opened::piece_facts))]
+    #[inline(always)] // As `put_copies`.
     pub fn copy_back(&mut self, items: &[T]) -> usize
     where
         T: Copy,
@@ -64,33 +66,13 @@ impl<T> Ring<T> {
         if count == 0 {
             return 0;
         }
+        let taken = &items[..count];
         let behind = wrap_add(self.start, self.len, capacity);
         let first = count.min(capacity - behind);
-        self.copy_run(&items[..first]);
-        self.copy_run(&items[first..count]);
+        self.slots.put_copies(behind, &taken[..first]);
+        self.slots.put_wrapped(&taken[first..]);
+        self.len += count;
         count
-    }
-
-    /// Puts copies of items behind the last one, into places that don't go round the end.
-    #[tactic(auto, using(crate::proofs::Opened::piece_facts))]
-    #[inline(always)]
-    fn copy_run(&mut self, items: &[T])
-    where
-        T: Copy,
-        requires fits { place_of self.old.start (length self.old.items) self.old.capacity
-            + length items.now ≤ self.old.capacity }
-        requires room { length self.old.items + length items.now ≤ self.old.capacity }
-        ensures { self.new ≡ record self.old {
-          items = self.old.items ++ items.now;
-          steps = more_puts (length items.now) self.old.steps;
-        } }
-    {
-        if items.is_empty() {
-            return;
-        }
-        let place = wrap_add(self.start, self.len, self.slots.capacity());
-        self.slots.put_copies(place, items);
-        self.len += items.len();
     }
 
     /// A ring of the items of a vector, in order from the first place on, as many as there are

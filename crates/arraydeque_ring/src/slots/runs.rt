@@ -18,6 +18,9 @@ use crate::wrap::wrap_add;
 /// The most bytes that a block may have: above the 8 kB from which on the C library copies fastest.
 const BLOCK_BYTES: usize = 32_768;
 
+/// How many items make a run long: it is copied in blocks of as many first.
+const LONG_RUN: usize = 1024;
+
 impl<T> Slots<T> {
     /// Hands the values in the `len` places from `from` on to another region, into its empty places
     /// from `to` on. It is one copy of the run, in time that grows with `len` alone.
@@ -40,7 +43,7 @@ impl<T> Slots<T> {
 
     /// Puts copies of items into the empty places from `from` on, in order: in blocks, the largest
     /// first.
-    #[inline]
+    #[inline(always)] // Where a caller knows how many items come, blocks of one size are left.
     pub(crate) fn put_copies(&mut self, from: usize, items: &[T])
     where
         T: Copy,
@@ -48,12 +51,57 @@ impl<T> Slots<T> {
         ensures places { self.new.places ≡ with_run from items.now self.old.places }
         ensures steps { self.new.steps ≡ more_puts (length items.now) self.old.steps }
     {
-        let put = self.put_blocks::<1024>(from, items, 0);
-        let put = self.put_blocks::<128>(from, items, put);
+        self.count(StepKind::Put, items.len());
+        if items.len() < LONG_RUN {
+            self.put_short(from, items, 0);
+        } else {
+            self.put_long(from, items);
+        }
+    }
+
+    /// Puts copies of items into the first places: what of a run goes round the region's end.
+    #[inline(always)]
+    pub(crate) fn put_wrapped(&mut self, items: &[T])
+    where
+        T: Copy,
+        requires { IsEmptyRun self.old.places 0 (length items.now) }
+        ensures places { self.new.places ≡ with_run 0 items.now self.old.places }
+        ensures steps { self.new.steps ≡ more_puts (length items.now) self.old.steps }
+    {
+        self.count(StepKind::Put, items.len());
+        if !items.is_empty() {
+            self.put_long(0, items);
+        }
+    }
+
+    /// Puts copies of any number of items. No step is counted.
+    #[inline(never)] // Inlined, its calls of the C library made a short run slower (bench/README).
+    fn put_long(&mut self, from: usize, items: &[T])
+    where
+        T: Copy,
+        requires { IsEmptyRun self.old.places from (length items.now) }
+        ensures places { self.new.places ≡ with_run from items.now self.old.places }
+        ensures steps { self.new.steps ≡ self.old.steps }
+    {
+        let put = self.put_blocks::<LONG_RUN>(from, items, 0);
+        self.put_short(from, items, put);
+    }
+
+    /// Puts copies of the items from the index `at` on, in blocks of at most 128.
+    #[inline(always)]
+    fn put_short(&mut self, from: usize, items: &[T], at: usize)
+    where
+        T: Copy,
+        requires within { at ≤ length items.now }
+        requires empty { IsEmptyRun self.old.places (from + at) (length items.now - at) }
+        ensures places { self.new.places ≡
+            with_run (from + at) (drop at items.now) self.old.places }
+        ensures steps { self.new.steps ≡ self.old.steps }
+    {
+        let put = self.put_blocks::<128>(from, items, at);
         let put = self.put_blocks::<16>(from, items, put);
         let put = self.put_blocks::<4>(from, items, put);
         self.put_blocks::<1>(from, items, put);
-        self.count(StepKind::Put, items.len());
     }
 
     /// Puts copies of the items from the index `at` on in blocks of `N`, as long as there are so
