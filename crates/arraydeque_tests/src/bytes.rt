@@ -90,6 +90,32 @@ fn reads_and_writes_at_every_start_and_length(rt: HostRuntime) -> Result<(), Fai
     Ok(())
 }
 
+/// Whether a piece goes through an empty deque as it is.
+fn passes<const CAP: usize>(
+    alloc: Global,
+    deque: &mut ArrayDeque<u8, CAP, Saturating>,
+    piece: &[u8],
+) -> Result<bool, Fail> {
+    let mut buf: Vec<u8> = piece.iter().map(|_| 0).collect(alloc)?;
+    let is_written = deque.write(piece)? == piece.len() && holds(deque, piece);
+    let is_read = deque.read(&mut buf)? == piece.len() && buf.as_slice() == piece;
+    Ok(is_written && is_read && deque.is_empty())
+}
+
+#[test]
+fn pieces_of_each_length_pass(rt: HostRuntime) -> Result<(), Fail> {
+    let alloc = rt.alloc();
+    let bytes: Vec<u8> = (1_u8..=250).cycle().take(2500).collect(alloc)?;
+    let mut deque = ArrayDeque::<u8, 2500, Saturating>::new(alloc)?;
+    for len in [1, 3, 5, 15, 17, 127, 129, 300, 1023, 1025, 2047, 2300, 2500] {
+        assert!(rt;
+            passes(alloc, &mut deque, bytes.get(..len).unwrap_or(&[]))?,
+            "{len} bytes"
+        );
+    }
+    Ok(())
+}
+
 /// Whether two bytes are read exactly, and not a second time from three.
 fn is_read_exactly(alloc: Global, start: usize) -> Result<bool, Fail> {
     let mut deque = bytes_at::<4>(alloc, start, &[1, 2, 3])?;
