@@ -4,12 +4,15 @@ use Rattle.std.proofs.{
   lemmas.List.{places, same_lists},
 }
 
-module _ {X : Type 0} (xs ys bs : List X) (m k : ℕ) (first : m ≡ min (length xs) (length bs))
-    (second : k ≡ min (length ys) (length bs - m)) where
-  abbrev front : List X
-  front = take m xs ++ drop (0 + m) bs
+module _ {X : Type 0} (xs ys bs : List X) (n m : ℕ) (all : n ≡ min (length (xs ++ ys)) (length bs))
+    (first : m ≡ min n (length xs)) where
+  abbrev ws : List X
+  ws = take m xs
 
-  pub both_read : take m front ++ take k ys ++ drop (m + k) front
+  abbrev front : List X
+  front = ws ++ drop (0 + length ws) bs
+
+  pub both_read : take m front ++ take (n - m) ys ++ drop (m + length (take (n - m) ys)) front
       ≡ take (length bs) (xs ++ ys) ++ drop (length (xs ++ ys)) bs
   both_read = same_lists _ _ (grind (arith, places)) (λ i d lt. grind (arith, places))
 

@@ -356,18 +356,11 @@ module _ {X : Type 0} (r : Inside X) (kept : Kept r) where
   -- of the items ws the first m come behind the last one, and those that go round the end from the first place on
   module _ (ws : List X) (m : ℕ) (some : 0 < m) (le : m ≤ length ws) (fits : behind + m ≤ n)
       (room : r.len + length ws ≤ n) (end : m < length ws → behind + m ≡ n) where
-    abbrev rest : List X
-    rest = take (length ws - m) (drop m ws)
-
     many : length (take m ws) ≡ m
     many = length-take-le m ws le
 
-    others : length rest ≡ length ws - m
-    others = length-take-le (length ws - m) (drop m ws) (omega (arith, length-drop m ws))
-
-    all : (items ++ take m ws) ++ rest ≡ items ++ ws
-    all = append_assoc items (take m ws) rest ∙ ap (λ l. items ++ l)
-        (rw (take_all (length ws - m) (drop m ws) (omega (arith, length-drop m ws))) (take-append-drop m ws))
+    all : (items ++ take m ws) ++ drop m ws ≡ items ++ ws
+    all = append_assoc items (take m ws) (drop m ws) ∙ ap (λ l. items ++ l) (take-append-drop m ws)
 
     first_laid : LaidOut n r.start (items ++ take m ws) (with_run behind (take m ws) places)
     first_laid = LaidOut-appended laid (take m ws) behind (lies m fits (omega arith) some) (omega (arith, many))
@@ -389,8 +382,8 @@ module _ {X : Type 0} (r : Inside X) (kept : Kept r) where
     empty_again (suc k) is = IsEmptyRun-behind first_laid 0 (suc k) (starts_again (omega (arith, is)))
         (omega (arith, is)) (omega (arith, is, len, many, length-append items (take m ws)))
 
-    pub rest_empty : IsEmptyRun (with_run behind (take m ws) places) 0 (length rest)
-    rest_empty = empty_again (length rest) others
+    pub rest_empty : IsEmptyRun (with_run behind (take m ws) places) 0 (length ws - m)
+    rest_empty = empty_again _ refl
 
     laid_again : (ys : List X) → length ys ≡ length ws - m
         → LaidOut n r.start ((items ++ take m ws) ++ ys) (with_run 0 ys (with_run behind (take m ws) places))
@@ -399,8 +392,9 @@ module _ {X : Type 0} (r : Inside X) (kept : Kept r) where
         (omega (arith, is)) (omega (arith, is, len, many, length-append items (take m ws)))
 
     pub round_laid : Become n r.start (r.len + length ws) (items ++ ws)
-        (with_run 0 rest (with_run behind (take m ws) places))
-    round_laid = become (rw all at (laid_again rest others)) _ (omega (arith, len, length-append items ws))
+        (with_run 0 (drop m ws) (with_run behind (take m ws) places))
+    round_laid = become (rw all at (laid_again (drop m ws) (length-drop m ws))) _
+        (omega (arith, len, length-append items ws))
 
 -- for the goals of the ring that have no answer by hand
 pub ruleset ring_facts = (bounds, items_within, nothing_laid, slice_get_past, place_of-lt)

@@ -1,5 +1,9 @@
 //! The ring.
+ghost use Rattle.std.specs.Prelude.{◌^◌, ◌<◌};
+
 use arraydeque_ring::ring::Ring;
+use arraydeque_ring::ring::into_iter::IntoIter;
+use std::alloc::Global;
 use std::test::Fail;
 
 /// Whether items go in and out at either end, and stand where the list wraps.
@@ -95,5 +99,34 @@ fn calls_of_a_ring_2_requests_6_bytes(rt: HostRuntime) -> Result<(), Fail> {
     let drained = ring.drain(1, 1)?;
     let mut empty = Ring::<u8>::new(ring.alloc(), 0)?;
     assert!(rt; drained.capacity() == 0 && empty.split_off(0)?.capacity() == 0);
+    Ok(())
+}
+
+/// Whether copies of items of some words come in order: into a new ring, and then behind those that
+/// are left of them, round the end.
+fn copies_come<const WORDS: usize>(alloc: Global, count: usize) -> Result<bool, Fail>
+    requires { WORDS < 2 ^ 32 }
+{
+    let items: Vec<[usize; WORDS]> = (0..count).map(|number| [number; WORDS]).collect(alloc)?;
+    let mut ring = Ring::of_copies(alloc, items.len(), &items)?;
+    let (quarter, half) = (count / 4, count / 2);
+    ring.truncate(half);
+    ring.truncate_front(half - quarter);
+    let room = count - ring.len();
+    let copied = ring.copy_back(&items);
+    let numbers = (quarter..half).chain(0..room);
+    Ok(copied == room && IntoIter::of(ring).eq(numbers.map(|number| [number; WORDS])))
+}
+
+#[test]
+fn copies_of_items_of_every_size_come_in_order(rt: HostRuntime) -> Result<(), Fail> {
+    let alloc = rt.alloc();
+    assert!(rt; copies_come::<1>(alloc, 20_000)?);
+    assert!(rt; copies_come::<4>(alloc, 5_000)?);
+    assert!(rt; copies_come::<5>(alloc, 1_300)?);
+    assert!(rt; copies_come::<20>(alloc, 700)?);
+    assert!(rt; copies_come::<100>(alloc, 400)?);
+    assert!(rt; copies_come::<600>(alloc, 90)?);
+    assert!(rt; copies_come::<1_100>(alloc, 30)?);
     Ok(())
 }

@@ -105,9 +105,12 @@ fn passes<const CAP: usize>(
 #[test]
 fn pieces_of_each_length_pass(rt: HostRuntime) -> Result<(), Fail> {
     let alloc = rt.alloc();
-    let bytes: Vec<u8> = (1_u8..=250).cycle().take(2500).collect(alloc)?;
-    let mut deque = ArrayDeque::<u8, 2500, Saturating>::new(alloc)?;
-    for len in [1, 3, 5, 15, 17, 127, 129, 300, 1023, 1025, 2047, 2300, 2500] {
+    let bytes: Vec<u8> = (1_u8..=250).cycle().take(9500).collect(alloc)?;
+    let mut deque = ArrayDeque::<u8, 9500, Saturating>::new(alloc)?;
+    for len in [
+        1, 2, 3, 5, 8, 15, 17, 33, 63, 65, 127, 129, 256, 300, 511, 767, 1023, 1025, 2047, 2300,
+        2500, 4095, 4096, 5119, 8197, 9500,
+    ] {
         assert!(rt;
             passes(alloc, &mut deque, bytes.get(..len).unwrap_or(&[]))?,
             "{len} bytes"

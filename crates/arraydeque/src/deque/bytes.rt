@@ -40,11 +40,13 @@ impl<const CAP: usize, B: Behavior> Read for ArrayDeque<u8, CAP, B> {
         ensures steps { let count = min (length self.old.items) (length buf.old) in
             self.new.steps ≡ more_takes count self.old.steps }
     {
-        let count = self.len().min(buf.len());
+        let len = self.len();
+        let count = len.min(buf.len());
         let (front, back) = self.as_slices();
-        let first = copy_to(front, buf, 0);
-        copy_to(back, buf, first);
-        self.consume(count);
+        let first = count.min(front.len());
+        copy_at(&front[..first], buf, 0);
+        copy_at(&back[..count - first], buf, first);
+        self.truncate_front(len - count);
         Ok(count)
     }
 }
@@ -85,19 +87,15 @@ impl<const CAP: usize, B: Behavior> BufRead for ArrayDeque<u8, CAP, B> {
     }
 }
 
-/// Copies as many bytes as there is room for from the index `at` on, and returns their number.
+/// Copies bytes over those from the index `at` on.
 #[inline]
-fn copy_to(from: &[u8], to: &mut [u8], at: usize) -> usize
-    requires { at ≤ length to.old }
-    ensures count { result ≡ min (length from.now) (length to.old - at) }
-    ensures copied { to.new ≡
-        take at to.old ++ take result from.now ++ drop (at + result) to.old }
+fn copy_at(from: &[u8], to: &mut [u8], at: usize)
+    requires { at + length from.now ≤ length to.old }
+    ensures { to.new ≡ take at to.old ++ from.now ++ drop (at + length from.now) to.old }
 {
-    let count = from.len().min(to.len() - at);
-    if count > 0 {
-        to[at..at + count].copy_from_slice(&from[..count]);
+    if !from.is_empty() {
+        to[at..at + from.len()].copy_from_slice(from);
     }
-    count
 }
 
 impl<const CAP: usize, B: Behavior> ArrayDeque<u8, CAP, B> {

@@ -1,7 +1,7 @@
 -- An empty run that is written in two parts, one behind the other.
 use Rattle.std.proofs.{
   Common.{◌≡◌, ℕ, ◌+◌, ◌-◌, ◌≤◌, List, ◌++◌, length, take, drop, Option, ◌∙◌, sym, arith},
-  lemmas.{Grind.common_steps, List.{length-append, take-append-drop}},
+  lemmas.{Grind.common_steps, List.{drop_all, length-append, take-append-drop}},
 }
 use Rattle.arraydeque_ring.{
   proofs.{
@@ -49,6 +49,6 @@ module _ {X : Type 0} (i n : ℕ) (xs : List X) where
       rw (all, rest) (take-append-drop n (drop i xs))
 
 -- once the last item is written, nothing is left
-pub with_run-none : {X : Type 0} (at : ℕ) (xs : List X) (ps : List (Option X))
-    → with_run at (drop (length xs) xs) ps ≡ ps
-with_run-none at xs ps = grind (arith, common_steps)
+pub with_run-none : {X : Type 0} (at k : ℕ) (xs : List X) (ps : List (Option X)) → length xs ≤ k
+    → with_run at (drop k xs) ps ≡ ps
+with_run-none at k xs ps all = rw (drop_all k xs all) (grind (arith, common_steps))

@@ -49,7 +49,7 @@ impl<T> Ring<T> {
     /// assert!(rt; IntoIter::of(ring).eq([1, 2, 3, 4]));
     /// ```
     #[tactic(auto, using(crate::proofs::Opened::piece_facts))]
-    #[inline(always)] // As `put_copies`.
+    #[inline(always)] // As `put_round`.
     pub fn copy_back(&mut self, items: &[T]) -> usize
     where
         T: Copy,
@@ -66,11 +66,9 @@ impl<T> Ring<T> {
         if count == 0 {
             return 0;
         }
-        let taken = &items[..count];
         let behind = wrap_add(self.start, self.len, capacity);
         let first = count.min(capacity - behind);
-        self.slots.put_copies(behind, &taken[..first]);
-        self.slots.put_wrapped(&taken[first..]);
+        self.slots.put_round(behind, &items[..count], first);
         self.len += count;
         count
     }

@@ -18,8 +18,8 @@ use crate::wrap::wrap_add;
 /// The most bytes that a block may have: above the 8 kB from which on the C library copies fastest.
 const BLOCK_BYTES: usize = 32_768;
 
-/// How many items make a run long: it is copied in blocks of as many first.
-const LONG_RUN: usize = 1024;
+/// The most bytes of a narrow item, of which 1024 are a block.
+const NARROW: usize = BLOCK_BYTES / 1024;
 
 impl<T> Slots<T> {
     /// Hands the values in the `len` places from `from` on to another region, into its empty places
@@ -43,7 +43,7 @@ impl<T> Slots<T> {
 
     /// Puts copies of items into the empty places from `from` on, in order: in blocks, the largest
     /// first.
-    #[inline(always)] // Where a caller knows how many items come, blocks of one size are left.
+    #[inline(always)] // Where a caller knows how many items come, only their blocks are left.
     pub(crate) fn put_copies(&mut self, from: usize, items: &[T])
     where
         T: Copy,
@@ -52,30 +52,38 @@ impl<T> Slots<T> {
         ensures steps { self.new.steps ≡ more_puts (length items.now) self.old.steps }
     {
         self.count(StepKind::Put, items.len());
-        if items.len() < LONG_RUN {
+        if items.len() < 1024 && size_of_item::<T>() <= NARROW {
             self.put_short(from, items, 0);
         } else {
             self.put_long(from, items);
         }
     }
 
-    /// Puts copies of items into the first places: what of a run goes round the region's end.
-    #[inline(always)]
-    pub(crate) fn put_wrapped(&mut self, items: &[T])
+    /// Puts copies of the first items into the empty places from `from` on, and of the others into
+    /// the first places. Where the run ends before the region does, all are first.
+    #[inline(always)] // As `put_copies`, for a run that ends before the region does.
+    pub(crate) fn put_round(&mut self, from: usize, items: &[T], first: usize)
     where
         T: Copy,
-        requires { IsEmptyRun self.old.places 0 (length items.now) }
-        ensures places { self.new.places ≡ with_run 0 items.now self.old.places }
+        requires within { first ≤ length items.now }
+        requires here { IsEmptyRun self.old.places from first }
+        requires there { IsEmptyRun (with_run from (take first items.now) self.old.places) 0
+            (length items.now - first) }
+        ensures places { self.new.places ≡ with_run 0 (drop first items.now)
+            (with_run from (take first items.now) self.old.places) }
         ensures steps { self.new.steps ≡ more_puts (length items.now) self.old.steps }
     {
-        self.count(StepKind::Put, items.len());
-        if !items.is_empty() {
-            self.put_long(0, items);
+        if first == items.len() {
+            self.put_copies(from, items);
+        } else {
+            self.count(StepKind::Put, items.len());
+            self.put_long(from, &items[..first]);
+            self.put_long(0, &items[first..]);
         }
     }
 
-    /// Puts copies of any number of items. No step is counted.
-    #[inline(never)] // Inlined, its calls of the C library made a short run slower (bench/README).
+    /// Puts copies of any number of items of any size. No step is counted.
+    #[inline(never)] // Inlined, its calls of the C library made a short run slower.
     fn put_long(&mut self, from: usize, items: &[T])
     where
         T: Copy,
@@ -83,11 +91,21 @@ impl<T> Slots<T> {
         ensures places { self.new.places ≡ with_run from items.now self.old.places }
         ensures steps { self.new.steps ≡ self.old.steps }
     {
-        let put = self.put_blocks::<LONG_RUN>(from, items, 0);
-        self.put_short(from, items, put);
+        let put = self.put_blocks::<4096>(from, items, 0);
+        let put = self.put_blocks::<1024>(from, items, put);
+        if size_of_item::<T>() <= NARROW {
+            self.put_short(from, items, put);
+        } else {
+            let put = self.put_blocks::<256>(from, items, put);
+            let put = self.put_blocks::<64>(from, items, put);
+            let put = self.put_blocks::<16>(from, items, put);
+            let put = self.put_blocks::<4>(from, items, put);
+            self.put_blocks::<1>(from, items, put);
+        }
     }
 
-    /// Puts copies of the items from the index `at` on, in blocks of at most 128.
+    /// Puts copies of the items from the index `at` on: where fewer than 1024 are left, in one
+    /// block at most of each power of two.
     #[inline(always)]
     fn put_short(&mut self, from: usize, items: &[T], at: usize)
     where
@@ -98,10 +116,35 @@ impl<T> Slots<T> {
             with_run (from + at) (drop at items.now) self.old.places }
         ensures steps { self.new.steps ≡ self.old.steps }
     {
-        let put = self.put_blocks::<128>(from, items, at);
-        let put = self.put_blocks::<16>(from, items, put);
-        let put = self.put_blocks::<4>(from, items, put);
-        self.put_blocks::<1>(from, items, put);
+        let put = self.put_block::<512>(from, items, at);
+        let put = self.put_block::<256>(from, items, put);
+        if put < items.len() {
+            let put = self.put_block::<128>(from, items, put);
+            let put = self.put_block::<64>(from, items, put);
+            let put = self.put_block::<32>(from, items, put);
+            let put = self.put_block::<16>(from, items, put);
+            self.put_few(from, items, put);
+        }
+    }
+
+    /// Puts copies of the items from the index `at` on, if there are any: where fewer than 16 are
+    /// left, in one block at most of each power of two.
+    #[inline(always)]
+    fn put_few(&mut self, from: usize, items: &[T], at: usize)
+    where
+        T: Copy,
+        requires within { at ≤ length items.now }
+        requires empty { IsEmptyRun self.old.places (from + at) (length items.now - at) }
+        ensures places { self.new.places ≡
+            with_run (from + at) (drop at items.now) self.old.places }
+        ensures steps { self.new.steps ≡ self.old.steps }
+    {
+        if at < items.len() {
+            let put = self.put_block::<8>(from, items, at);
+            let put = self.put_block::<4>(from, items, put);
+            let put = self.put_block::<2>(from, items, put);
+            self.put_blocks::<1>(from, items, put);
+        }
     }
 
     /// Puts copies of the items from the index `at` on in blocks of `N`, as long as there are so
@@ -124,16 +167,37 @@ impl<T> Slots<T> {
         let mut put = at;
         if N == 1 || size_of_item::<T>() <= BLOCK_BYTES / N {
             while N <= items.len() - put {
-                // Reading the capacity tells the prover that no sum passes `usize::MAX`.
-                let _capacity = self.capacity();
-                let Some(block) = items[put..].first_chunk::<N>() else {
-                    unreachable!()
-                };
-                self.write_block(from + put, *block);
-                put += N;
+                put = self.put_block::<N>(from, items, put);
             }
         }
         put
+    }
+
+    /// Puts a copy of the `N` items from the index `at` on, if there are so many. Returns the index
+    /// of the first that is left.
+    #[inline(always)]
+    fn put_block<const N: usize>(&mut self, from: usize, items: &[T], at: usize) -> usize
+    where
+        T: Copy,
+        requires within { at ≤ length items.now }
+        requires empty { IsEmptyRun self.old.places (from + at) (length items.now - at) }
+        ensures within { result ≤ length items.now }
+        ensures empty { IsEmptyRun self.new.places (from + result) (length items.now - result) }
+        ensures some { N ≤ length items.now - at → result ≡ at + N }
+        ensures written { with_run (from + result) (drop result items.now) self.new.places ≡
+            with_run (from + at) (drop at items.now) self.old.places }
+        ensures steps { self.new.steps ≡ self.old.steps }
+    {
+        if items.len() - at < N {
+            return at;
+        }
+        // Reading the capacity tells the prover that no sum passes `usize::MAX`.
+        let _capacity = self.capacity();
+        let Some(block) = items[at..].first_chunk::<N>() else {
+            unreachable!()
+        };
+        self.write_block(from + at, *block);
+        at + N
     }
 
     /// Exchanges the values in the `len` places from `a` on with those in the `len` places from `b`
