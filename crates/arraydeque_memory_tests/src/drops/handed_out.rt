@@ -56,6 +56,24 @@ fn edits_drop_nothing(rt: HostRuntime) -> Result<(), Fail> {
 }
 
 #[test]
+fn rotations_drop_nothing(rt: HostRuntime) -> Result<(), Fail> {
+    let drops = Drops::new();
+    for start in 0..5 {
+        let mut full = deque_at::<4>(rt.alloc(), &drops, start, 4)?;
+        let mut with_room = deque_at::<5>(rt.alloc(), &drops, start, 4)?;
+        drops.since();
+        assert!(rt; full.len() == 4 && with_room.len() == 4);
+        full.rotate_left(1);
+        full.rotate_right(2);
+        with_room.rotate_left(1);
+        with_room.rotate_right(2);
+        let seen = [drops.since(), drops.with(full), drops.with(with_room)];
+        assert!(rt; seen == [0, 4123, 4123], "start {start}");
+    }
+    Ok(())
+}
+
+#[test]
 fn what_is_handed_out_is_not_dropped(rt: HostRuntime) -> Result<(), Fail> {
     let drops = Drops::new();
     let calls = vec![in rt.alloc(); Call::Replace(0, drops.item(4))]?;
