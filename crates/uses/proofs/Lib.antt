@@ -1,4 +1,5 @@
 pub mod Cut
+pub mod Recent
 pub mod Rising
 pub mod Taken
 pub mod Totals

@@ -3,6 +3,7 @@
 //! It uses `arraydeque` under `Saturating`, and is proved over the deque's public contract alone: a
 //! request is admitted exactly if fewer than `CAP` of those admitted before are recent.
 ghost use Rattle.std.specs.Prelude.{◌≡◌, ◌<◌, ◌++◌, ◌∷◌, [], ◌↔◌, length, IsTrue, IfOk, OnErr};
+ghost use Rattle.std.specs.List.Sorted.{IsNonDecreasing};
 ghost use Rattle.uses.specs.Limiter.{recent};
 
 use arraydeque::{ArrayDeque, Saturating};
@@ -48,6 +49,27 @@ impl<const CAP: usize> Limiter<CAP> {
         let span = self.span;
         self.admitted
             .retain(|time| now.saturating_sub(*time) < span);
+        self.admitted.push_back(now).is_ok()
+    }
+
+    /// As `admit`, at a time that isn't before those admitted: only the requests that are no longer
+    /// recent are asked about, and the first that is.
+    pub fn admit_in_turn(&mut self, now: u64) -> bool
+        requires in_turn { IsNonDecreasing (self.old.times ++ now ∷ []) }
+        ensures possible { IsTrue result
+            ↔ (length (recent self.old.span now self.old.times) < CAP) }
+        ensures admitted { IsTrue result →
+            self.new.times ≡ recent self.old.span now self.old.times ++ now ∷ [] }
+        ensures refused { ¬ IsTrue result →
+            self.new.times ≡ recent self.old.span now self.old.times }
+        ensures span { self.new.span ≡ self.old.span }
+    {
+        let span = self.span;
+        while self
+            .admitted
+            .pop_front_if(|time| span <= now.saturating_sub(*time))
+            .is_some()
+        {}
         self.admitted.push_back(now).is_ok()
     }
 }

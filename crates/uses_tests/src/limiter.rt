@@ -22,3 +22,15 @@ fn a_fourth_request_waits_for_the_first_to_grow_old(rt: HostRuntime) -> Result<(
     assert!(rt; !none.admit(0));
     Ok(())
 }
+
+#[test]
+fn times_in_turn_are_admitted_alike(rt: HostRuntime) -> Result<(), Fail> {
+    let mut limiter = Limiter::<2>::new(rt.alloc(), 10)?;
+    assert!(rt; limiter.admit_in_turn(0));
+    assert!(rt; limiter.admit_in_turn(2));
+    assert!(rt; !limiter.admit_in_turn(9));
+    assert!(rt; limiter.admit_in_turn(10));
+    assert!(rt; !limiter.admit_in_turn(11));
+    assert!(rt; limiter.admit_in_turn(30));
+    Ok(())
+}
