@@ -1,5 +1,5 @@
 //! Laying the list in one piece.
-ghost use Rattle.std.specs.Prelude.{◌≡◌, length};
+ghost use Rattle.std.specs.Prelude.{◌≡◌, ◌≤◌, length};
 ghost use Rattle.arraydeque_ring.specs.Ring.{IsInOnePiece};
 ghost use Rattle.arraydeque_ring.specs.Steps.{Rearranges};
 ghost use Rattle.arraydeque.specs.Deque.{as_ring};
@@ -24,6 +24,7 @@ impl<T, const CAP: usize, B: Behavior> ArrayDeque<T, CAP, B> {
     /// ```
     pub fn linearize(&mut self)
         ensures items { self.new.items ≡ self.old.items }
+        ensures within { length self.new.items ≤ CAP }
         ensures one_piece { IsInOnePiece (as_ring CAP self.new) }
         ensures start { ¬ IsInOnePiece (as_ring CAP self.old) → self.new.start ≡ 0 }
         ensures steps { Rearranges (length self.old.items) self.old.steps self.new.steps }

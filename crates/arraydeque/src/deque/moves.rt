@@ -65,6 +65,7 @@ impl<T, const CAP: usize, B: Behavior> ArrayDeque<T, CAP, B> {
     pub fn remove(&mut self, index: usize) -> Option<T>
         ensures value { result ≡ slice_get self.old.items index }
         ensures items { self.new.items ≡ remove self.old.items index }
+        ensures within { length self.new.items ≤ CAP }
         ensures room { OnSome result (length self.new.items < CAP) }
         ensures start { OnSome result (self.new.start ≡
             start_closed index 1 (length self.old.items - 1 - index) CAP self.old.start) }

@@ -1,5 +1,5 @@
 //! Exchanges, and removals by an exchange.
-ghost use Rattle.std.specs.Prelude.{◌≡◌, ◌-◌, ◌<◌, ◌==◌, length, take, drop, slice_get, nat_lt, if◌then◌else◌, OnSome, IfNone};
+ghost use Rattle.std.specs.Prelude.{◌≡◌, ◌≤◌, ◌-◌, ◌<◌, ◌==◌, length, take, drop, slice_get, nat_lt, if◌then◌else◌, OnSome, IfNone};
 ghost use Rattle.std.specs.List.{swap};
 ghost use Rattle.arraydeque_ring.specs.Ring.{place_of};
 ghost use Rattle.arraydeque_ring.specs.Steps.{more_exchanges, more_takes};
@@ -25,6 +25,7 @@ impl<T, const CAP: usize, B: Behavior> ArrayDeque<T, CAP, B> {
             then take (length self.old.items - 1)
             (swap self.old.items index (length self.old.items - 1))
             else self.old.items) }
+        ensures within { length self.new.items ≤ CAP }
         ensures room { OnSome result (length self.new.items < CAP) }
         ensures start { self.new.start ≡ self.old.start }
         ensures steps { OnSome result (self.new.steps ≡ more_takes 1
@@ -50,6 +51,7 @@ impl<T, const CAP: usize, B: Behavior> ArrayDeque<T, CAP, B> {
             (if nat_lt index (length self.old.items)
             then drop 1 (swap self.old.items index 0)
             else self.old.items) }
+        ensures within { length self.new.items ≤ CAP }
         ensures room { OnSome result (length self.new.items < CAP) }
         ensures start { OnSome result (self.new.start ≡ place_of self.old.start 1 CAP) }
         ensures steps { OnSome result (self.new.steps ≡ more_takes 1
@@ -74,6 +76,7 @@ impl<T, const CAP: usize, B: Behavior> ArrayDeque<T, CAP, B> {
         requires i_in_bounds { i < length self.old.items }
         requires j_in_bounds { j < length self.old.items }
         ensures items { self.new.items ≡ swap self.old.items i j }
+        ensures within { length self.new.items ≤ CAP }
         ensures start { self.new.start ≡ self.old.start }
         ensures steps { self.new.steps ≡ more_exchanges (if i == j then 0 else 1) self.old.steps }
     {
