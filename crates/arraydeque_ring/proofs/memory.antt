@@ -1,3 +1,4 @@
+pub mod Apart
 pub mod Blocks
 pub mod Called
 pub mod Heap

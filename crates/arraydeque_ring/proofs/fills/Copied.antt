@@ -52,3 +52,6 @@ module _ {X : Type 0} (i n : ℕ) (xs : List X) where
 pub with_run-none : {X : Type 0} (at k : ℕ) (xs : List X) (ps : List (Option X)) → length xs ≤ k
     → with_run at (drop k xs) ps ≡ ps
 with_run-none at k xs ps all = rw (drop_all k xs all) (grind (arith, common_steps))
+
+-- for `grind`: what is left once all is written
+pub ruleset all_written = with_run-none

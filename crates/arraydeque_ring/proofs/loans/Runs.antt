@@ -100,7 +100,7 @@ module _ (E : El) (b o : ℕ) where
         use3 𝓛 (‵ (Row o (placed i m us (placed j n vs ps)))) (back vs us e' e) $
         rewrite ! 0 (λ qs. ‵ (Row o qs)) (same us vs e e') refl $ done !)
 
-    two_out : (i m j n : ℕ) → i + m ≤ length ps → j + n ≤ length ps → AreApart i m j n → Next i m j n
+    pub two_out : (i m j n : ℕ) → i + m ≤ length ps → j + n ≤ length ps → AreApart i m j n → Next i m j n
         → Seq K 𝓛 (‵ (Row o ps) ∷ Γ) G
     two_out i m j n in_i in_j apart = elim (apart_cases i m j n apart) [
       | inl in_order ↦ elim in_order [

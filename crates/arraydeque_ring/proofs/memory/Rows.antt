@@ -7,7 +7,7 @@ use Rattle.arraydeque_ring.{
       Kit.{fat, froom, ty_array, Logic, sem, ‵, ◌⊛◌, some, given, ◌$◌, ◌∵◌, !, qed, by, move, keep},
       Kit.{use1, use2, pick, learn, split, fsplit, fjoin, rewrite, done, part_at, El, R, el_x, elτ},
       Kit.{Array, ◌<◌, get_or, set, drop-cons, part_out, set_split, nothing, suc, Item, Goal, Step},
-      Kit.{step, length-map, length-replicate, replicate},
+      Kit.{step, length-map, length-replicate, replicate, Seq},
       Owned.{item_size, Place, Row, cut, glue, of_room},
     },
     places.Filled.length_filled,
@@ -82,12 +82,28 @@ module _ (E : El) {M : Type 1} {𝓤 : Ura M} (𝓛 : Logic 𝓤) (b : ℕ) wher
   same_row [] o = refl
   same_row (x ∷ xs) o = ap (λ F. fsep (part_at (R E) full_share x b o) F) (same_row xs (o + s))
 
+-- a filled run is an array of values, and such an array is a filled run
+module _ (E : El) {M : Type 1} {𝓤 : Ura M} {𝓛 : Logic 𝓤} {K : Type 0} {Γ : List (Item 𝓤)} {G : Goal 𝓤 𝓛.H} (t : K)
+    (b at n : ℕ) {qs : List (Place E)} (xs : List (el_x E)) (is : qs ≡ map Some xs) where
+  pub as_array : length xs ≡ n
+      → Step K 𝓛 (‵ (part_at (Array (R E) n) full_share xs b at) ∷ Γ) G (‵ (Row E 𝓛 b at qs) ∷ Γ) G
+  as_array long = step (λ s.
+      rewrite t 0 (λ F. ‵ F) (ap (Row E 𝓛 b at) is ∙ same_row E 𝓛 b xs at) refl $
+      use1 𝓛 (‵ (part_at (Array (R E) n) full_share xs b at)) (arrays.whole (Cells E 𝓛 b) 𝓛 full_share n xs b at long) $ s)
+
+  pub as_row : (length xs ≡ n → Seq K 𝓛 (‵ (Row E 𝓛 b at qs) ∷ Γ) G)
+      → Seq K 𝓛 (‵ (part_at (Array (R E) n) full_share xs b at) ∷ Γ) G
+  as_row next =
+      use1 𝓛 (given (length xs ≡ n) (‵ (row (R E) full_share xs b at)))
+      (arrays.apart (Cells E 𝓛 b) 𝓛 full_share n xs b at) $ learn t (λ long.
+      rewrite t 0 (λ F. ‵ F) (sym (ap (Row E 𝓛 b at) is ∙ same_row E 𝓛 b xs at)) refl $ next long)
+
 -- the n places from the i-th on, as an array of values, and as room for one
 module _ (E : El) (b o i n : ℕ) where
-  abbrev Filled : List (el_x E) → Fml
+  abbrev pub Filled : List (el_x E) → Fml
   Filled xs = part_at (Array (R E) n) full_share xs b (i * item_size E + o)
 
-  abbrev Room : Fml
+  abbrev pub Room : Fml
   Room = froom (ty_array (elτ E) n) b (i * item_size E + o)
 
 -- they are taken from the others, and put back
@@ -95,20 +111,16 @@ module _ (E : El) {M : Type 1} {𝓤 : Ura M} {𝓛 : Logic 𝓤} {K : Type 0} {
     (b o : ℕ) (ps : List (Place E)) (i n : ℕ) where
   pub array_out : (filled : IsFilledRun ps i n)
       → Step K 𝓛 (‵ (Filled E b o i n filled.1.0) ∷ ‵ (Around E 𝓛 b o ps i n) ∷ Γ) G (‵ (Row E 𝓛 b o ps) ∷ Γ) G
-  array_out filled = let xs = filled.1.0 in let at = i * item_size E + o in step (λ s.
+  array_out filled = let at = i * item_size E + o in step (λ s.
       use1 𝓛 (‵ (Row E 𝓛 b at (take n (drop_list i ps))) ⊛ ‵ (Around E 𝓛 b o ps i n))
       (run_out E 𝓛 b o ps i n filled.0) $ split t $
-      rewrite t 0 (λ F. ‵ F) (ap (Row E 𝓛 b at) filled.1.1 ∙ same_row E 𝓛 b xs at) refl $
-      use1 𝓛 (‵ (Filled E b o i n xs))
-      (arrays.whole (Cells E 𝓛 b) 𝓛 full_share n xs b at (length_filled ps i n filled)) $ s)
+      as_array E t b at n filled.1.0 filled.1.1 (length_filled ps i n filled) $ s)
 
   pub array_in : i + n ≤ length ps → (xs : List (el_x E)) {qs : List (Place E)} → qs ≡ map Some xs
       → Step K 𝓛 (‵ (Row E 𝓛 b o (take i ps ++ (qs ++ drop_list (i + n) ps))) ∷ Γ) G
       (‵ (Filled E b o i n xs) ∷ ‵ (Around E 𝓛 b o ps i n) ∷ Γ) G
-  array_in within xs {qs} e = let at = i * item_size E + o in step (λ s.
-      use1 𝓛 (given (length xs ≡ n) (‵ (row (R E) full_share xs b at)))
-      (arrays.apart (Cells E 𝓛 b) 𝓛 full_share n xs b at) $ learn t (λ long.
-      rewrite t 0 (λ F. ‵ F) (sym (ap (Row E 𝓛 b at) e ∙ same_row E 𝓛 b xs at)) refl $
+  array_in within xs {qs} e = step (λ s.
+      as_row E t b (i * item_size E + o) n xs e (λ long.
       use2 𝓛 (‵ (Row E 𝓛 b o (take i ps ++ (qs ++ drop_list (i + n) ps))))
       (run_in E 𝓛 b o ps i n within qs (ap length e ∙ length-map xs Some ∙ long)) $ s))
 

@@ -1,10 +1,11 @@
 -- Runs that move where neither side passes the region's end.
 use Rattle.std.proofs.{
-  Common.{◌≡◌, ℕ, ◌+◌, ◌-◌, ◌<◌, ◌≤◌, ◌⊎◌, inl, inr, List, ◌++◌, length, take, drop, get_or},
+  Common.{◌≡◌, ◌≢◌, ℕ, ◌+◌, ◌-◌, ◌<◌, ◌≤◌, ◌⊎◌, inl, inr, List, ◌++◌, length, take, drop, get_or, set},
   Common.{nat_lt, if◌then◌else◌, Option, None, refl, sym, ◌∙◌, arith},
   lemmas.{
     Bool.Decides.nat_tests,
-    List.{places, FromFn.{length-map-range_with_len, get_or-map-range_with_len}},
+    Grind.common_steps,
+    List.{length-set, places, FromFn.{length-map-range_with_len, get_or-map-range_with_len}},
   },
   Math.Nat.mod-eq_of_lt,
 }
@@ -85,3 +86,15 @@ module _ {X : Type 0} where
   pub moved_nowhere : (at len : ℕ) (ps : List (Option X)) → at < length ps → run_moved at at len ps ≡ ps
   moved_nowhere at len ps lt = same_places _ _ (length-moved at at len ps)
       (λ x x_in. moved_at at at len ps x refl x_in ∙ grind (arith, up_from x at (length ps) x_in lt))
+
+  -- one value moves, out of its place and into the other
+  pub moved_one : (dst src : ℕ) (ps : List (Option X)) → dst < length ps → src < length ps → dst ≢ src
+      → set (set ps src None) dst (held_at ps src) ≡ run_moved dst src 1 ps
+  moved_one dst src ps a b apart =
+      let out : length (set ps src None) ≡ length ps = length-set ps src None in
+      let long : length (set (set ps src None) dst (held_at ps src)) ≡ length ps =
+      length-set (set ps src None) dst (held_at ps src) ∙ out in
+      same_places _ _ (long ∙ sym (length-moved dst src 1 ps)) (λ x lt.
+      let in_it : x < length ps = omega (arith, length-moved dst src 1 ps) in
+      grind (arith, nat_tests, common_steps, length-set)
+      ∙ sym (flat_at dst src 1 ps x (omega arith) (omega arith) in_it))

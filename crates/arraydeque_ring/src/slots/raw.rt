@@ -85,6 +85,19 @@ impl<T> Slots<T> {
         unsafe { ptr::copy_nonoverlapping(self.ptr.add(from), other.ptr.add(to), len) }
     }
 
+    /// Copies the values in the `len` places from `src` on to those from `dst` on, and leaves their
+    /// own places empty. The two runs have no place in common.
+    pub(super) fn copy_apart(&mut self, dst: usize, src: usize, len: usize)
+        requires filled { IsFilledRun self.old.places src len }
+        requires target { dst + len ≤ length self.old.places }
+        requires apart { AreApart src len dst len }
+        ensures { self.new ≡ record self.old {
+          places = run_moved dst src len self.old.places;
+        } }
+    {
+        unsafe { ptr::copy_nonoverlapping(self.ptr.add(src), self.ptr.add(dst), len) }
+    }
+
     /// Lends a place for writing.
     pub(super) fn lend(&mut self, place: usize) -> &mut T
         requires { IsFilled self.old.places place }

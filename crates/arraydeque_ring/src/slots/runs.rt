@@ -1,9 +1,10 @@
 //! Runs of values that move to other places, or come as copies.
 //!
 //! Between two regions a run goes by one copy. Within a region it is cut into parts that don't pass
-//! the region's end, and each part is copied in blocks by `move_block`, in an order that overwrites
-//! no value that has still to move. Copies of a slice come in blocks, too. Where values move or are
-//! exchanged one by one, the region is a local meanwhile: its pointer is known to stay.
+//! the region's end. A part goes by one copy, too, or where its new places meet its old ones in
+//! blocks by `move_block`, in an order that overwrites no value that has still to move. Copies of a
+//! slice come in blocks. Where values move or are exchanged one by one, the region is a local
+//! meanwhile: its pointer is known to stay.
 ghost use Rattle.std.specs.Prelude.{◌≡◌, ◌+◌, ◌-◌, ◌<◌, ◌≤◌, length, take, drop, if◌then◌else◌, ◌==◌};
 ghost use Rattle.std.specs.List.{splice};
 ghost use Rattle.arraydeque_ring.specs.Moved.{MeetAtOneEndAtMost, IsFilledRound, IsFreeRound, CanCopy, CanMove, run_moved};
@@ -83,6 +84,7 @@ impl<T> Slots<T> {
     }
 
     /// Puts copies of any number of items of any size. No step is counted.
+    #[tactic(auto, using(crate::proofs::fills::Copied::all_written))]
     #[inline(never)] // Inlined, its calls of the C library made a short run slower.
     fn put_long(&mut self, from: usize, items: &[T])
     where
@@ -129,6 +131,7 @@ impl<T> Slots<T> {
 
     /// Puts copies of the items from the index `at` on, if there are any: where fewer than 16 are
     /// left, in one block at most of each power of two.
+    #[tactic(auto, using(crate::proofs::fills::Copied::all_written))]
     #[inline(always)]
     fn put_few(&mut self, from: usize, items: &[T], at: usize)
     where
@@ -247,6 +250,10 @@ impl<T> Slots<T> {
         if dst == src {
             return;
         }
+        if len == 1 {
+            self.shift(dst, src);
+            return;
+        }
         let capacity = self.capacity();
         if len <= (capacity - dst).min(capacity - src) {
             self.copy(dst, src, len);
@@ -341,10 +348,24 @@ impl<T> Slots<T> {
         }
     }
 
+    /// Copies a run where neither side passes the end: by one copy, unless its new places meet its
+    /// old ones.
+    #[inline(never)] // Inlined, it made its seven callers longer and none faster.
+    fn copy(&mut self, dst: usize, src: usize, len: usize)
+        requires { CanCopy dst src len self.old.places }
+        ensures { self.new ≡ record self.old { places = run_moved dst src len self.old.places } }
+    {
+        if len <= dst.abs_diff(src) {
+            self.copy_apart(dst, src, len);
+        } else {
+            self.copy_blocks(dst, src, len);
+        }
+    }
+
     /// Copies a run where neither side passes the end, in blocks, the largest first: from the first
     /// value on where the run moves down, else from the last on.
-    #[inline(never)] // Its twelve loops have seven callers.
-    fn copy(&mut self, dst: usize, src: usize, len: usize)
+    #[inline(never)] // Its twelve loops are long.
+    fn copy_blocks(&mut self, dst: usize, src: usize, len: usize)
         requires { CanCopy dst src len self.old.places }
         ensures { self.new ≡ record self.old { places = run_moved dst src len self.old.places } }
     {
