@@ -12,14 +12,22 @@ use Rattle.arraydeque_ring.specs.{
   Steps.more_lends,
 }
 
--- the item at the index ends as what was last written through r, and nothing else changes but that
--- one lend is counted; with no r nothing changes
 module _ (R : RattleType) (ring : MutBor (RingState R.Denot)) (index : ℕ) where
-  abbrev pub lends_item : Option (MutBor R.Denot) → Fml
-  lends_item r = LendsIf (the_row R) R ring r (λ w. record ring.now {
+  -- the ring with w at the index, and one lend counted
+  abbrev pub with_item : R.Denot → RingState R.Denot
+  with_item w = record ring.now {
     items = slice_set ring.now.items index w;
     steps = more_lends 1 ring.now.steps;
-  }) ring.now
+  }
+
+  -- the item at the index ends as what was last written through r, and nothing else changes but
+  -- that one lend is counted; with no r nothing changes
+  abbrev pub lends_item : Option (MutBor R.Denot) → Fml
+  lends_item r = LendsIf (the_row R) R ring r with_item ring.now
+
+  -- the same of an index that is there
+  abbrev pub lends_index : MutBor R.Denot → Fml
+  lends_index r = Lends (the_row R) R ring r with_item
 
 -- a ring with the items xs, as many of them as it had, and two lends counted
 abbrev pub rewritten : {X : Type 0} → RingState X → List X → RingState X

@@ -52,7 +52,7 @@ impl<T> Model for Ring<T> {
 }
 
 impl<T> Ring<T> {
-    ghost use Rattle.arraydeque_ring.specs.RingLends.{lends_item};
+    ghost use Rattle.arraydeque_ring.specs.RingLends.{lends_item, lends_index};
 
     /// An empty ring that starts at the first place. It is refused where its region is, which is
     /// never at capacity 0 or for items of size zero.
@@ -232,8 +232,23 @@ impl<T> Ring<T> {
         if index >= self.len {
             return None;
         }
+        Some(self.item(index))
+    }
+
+    /// The item at an index, which has to be below the length.
+    ///
+    /// ```
+    /// let ring = Ring::of_copies(alloc, 3, &[1, 2])?;
+    /// assert!(rt; *ring.item(1) == 2);
+    /// ```
+    #[tactic(auto, using(crate::proofs::Opened::end_facts))]
+    #[inline]
+    pub fn item(&self, index: usize) -> &T
+        requires { index < length self.now.items }
+        ensures { slice_get self.now.items index ≡ Some result.now }
+    {
         let place = wrap_add(self.start, index, self.slots.capacity());
-        Some(self.slots.get(place))
+        self.slots.get(place)
     }
 
     /// The item at an index for writing, if there is one. What is written through it changes that
@@ -255,9 +270,27 @@ impl<T> Ring<T> {
         if index >= self.len {
             return None;
         }
+        Some(self.item_mut(index))
+    }
+
+    /// The item at an index, which has to be below the length, for writing. What is written through
+    /// it changes that item and no other.
+    ///
+    /// ```
+    /// let mut ring = Ring::of_copies(alloc, 3, &[1, 2])?;
+    /// *ring.item_mut(1) = 5;
+    /// assert!(rt; (ring.get(0), ring.get(1)) == (Some(&1), Some(&5)));
+    /// ```
+    #[tactic(auto, using(crate::proofs::Opened::end_facts))]
+    #[inline]
+    pub fn item_mut(&mut self, index: usize) -> &mut T
+        requires { index < length self.old.items }
+        ensures* writes_back { sem 𝓛 (lends_index T.row self.entry index result) }
+        ensures value { slice_get self.old.items index ≡ Some result.now }
+    {
         let place = self.place(index);
         let slots = &mut self.slots;
-        Some(slots.get_mut(place))
+        slots.get_mut(place)
     }
 
     /// The place of an item. No branch depends on the index, since indexes may come at random: it

@@ -150,7 +150,7 @@ impl<T, const CAP: usize, B: Behavior> Index<usize> for ArrayDeque<T, CAP, B> {
     /// ```
     #[inline]
     fn index(&self, index: usize) -> &T {
-        self.get(index).unwrap()
+        self.ring.item(index)
     }
 }
 
@@ -171,6 +171,6 @@ impl<T, const CAP: usize, B: Behavior> IndexMut<usize> for ArrayDeque<T, CAP, B>
         ensures* writes_back { sem 𝓛 (lends_index T.row CAP.row B.row self.entry index result) }
         ensures value { result.now ≡ slice_index_or self.old.items index result.now }
     {
-        self.get_mut(index).unwrap()
+        self.ring.item_mut(index)
     }
 }
