@@ -54,8 +54,8 @@ impl<T> Model for Ring<T> {
 impl<T> Ring<T> {
     ghost use Rattle.arraydeque_ring.specs.RingLends.{lends_item, lends_index};
 
-    /// An empty ring that starts at the first place. It is refused where its region is, which is
-    /// never at capacity 0 or for items of size zero.
+    /// Returns an empty ring that starts at the first place. It is refused if its region is, which
+    /// is never at capacity 0 or for items of size zero.
     ///
     /// ```
     /// let mut ring = Ring::<i64>::new(alloc, 2)?;
@@ -74,7 +74,7 @@ impl<T> Ring<T> {
         })
     }
 
-    /// How many items there are.
+    /// Returns how many items there are.
     ///
     /// ```
     /// let ring = Ring::of_copies(alloc, 4, &[1, 2, 3])?;
@@ -89,7 +89,7 @@ impl<T> Ring<T> {
         self.len
     }
 
-    /// How many items there may be.
+    /// Returns how many items there may be.
     ///
     /// ```
     /// let ring = Ring::of_copies(alloc, 4, &[1, 2, 3])?;
@@ -103,7 +103,7 @@ impl<T> Ring<T> {
         self.slots.capacity()
     }
 
-    /// The allocator that the region came from.
+    /// Returns the allocator that the region came from.
     ///
     /// ```
     /// let ring = Ring::<i64>::new(alloc, 4)?;
@@ -114,7 +114,7 @@ impl<T> Ring<T> {
         self.slots.alloc()
     }
 
-    /// Adds an element behind the last item. No kept item moves.
+    /// Adds an element behind the last item. Requires room. No kept item moves.
     ///
     /// ```
     /// let mut ring = Ring::new(alloc, 2)?;
@@ -136,7 +136,8 @@ impl<T> Ring<T> {
         self.slots.put(behind, element);
     }
 
-    /// Adds an element before the first item. The start goes down to its place. No kept item moves.
+    /// Adds an element before the first item. Requires room. The start goes down to its place, and
+    /// no kept item moves.
     ///
     /// ```
     /// let mut ring = Ring::new(alloc, 2)?;
@@ -216,7 +217,7 @@ impl<T> Ring<T> {
         Some(self.slots.take(last))
     }
 
-    /// The item at an index, if there is one. Index 0 is the front.
+    /// Returns the item at an index, if there is one. Index 0 is the front.
     ///
     /// ```
     /// let mut ring = Ring::of_copies(alloc, 3, &[1, 2])?;
@@ -235,7 +236,7 @@ impl<T> Ring<T> {
         Some(self.item(index))
     }
 
-    /// The item at an index, which has to be below the length.
+    /// Returns the item at an index. Requires an index below the length.
     ///
     /// ```
     /// let ring = Ring::of_copies(alloc, 3, &[1, 2])?;
@@ -251,8 +252,8 @@ impl<T> Ring<T> {
         self.slots.get(place)
     }
 
-    /// The item at an index for writing, if there is one. What is written through it changes that
-    /// item and no other.
+    /// Lends the item at an index for writing, if there is one. What is written through it changes
+    /// that item and no other.
     ///
     /// ```
     /// let mut ring = Ring::of_copies(alloc, 3, &[1, 2])?;
@@ -273,8 +274,8 @@ impl<T> Ring<T> {
         Some(self.item_mut(index))
     }
 
-    /// The item at an index, which has to be below the length, for writing. What is written through
-    /// it changes that item and no other.
+    /// Lends the item at an index for writing. Requires an index below the length. What is written
+    /// through it changes that item and no other.
     ///
     /// ```
     /// let mut ring = Ring::of_copies(alloc, 3, &[1, 2])?;
@@ -294,8 +295,8 @@ impl<T> Ring<T> {
     }
 
     /// The place of an item. No branch depends on the index, since indexes may come at random: it
-    /// is found by a mask where the capacity is a power of two, else by taking the capacity or 0
-    /// off the sum. Where sums might pass `usize::MAX`, as only items of size zero allow, it is
+    /// is found by a mask if the capacity is a power of two, else by taking the capacity or 0
+    /// off the sum. If sums might pass `usize::MAX`, as only items of size zero allow, it is
     /// found by `wrap_add`.
     #[inline(always)]
     fn place(&self, index: usize) -> usize

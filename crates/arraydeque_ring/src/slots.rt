@@ -67,11 +67,11 @@ unsafe impl<T: Sync> Sync for Slots<T> {}
 impl<T> Slots<T> {
     ghost use Rattle.arraydeque_ring.specs.SlotsLends.{lends_place};
 
-    /// A region of `capacity` empty places.
+    /// Returns a region of `capacity` empty places.
     ///
-    /// It is refused where the allocator refuses the memory, and where the region would be larger
-    /// than the machine can name. A region of no bytes, of no places or of items of size zero,
-    /// takes no memory and is never refused.
+    /// It is refused if the allocator refuses the memory, or if the region would be larger than the
+    /// machine can name. A region of no bytes, of no places or of items of size zero, takes no
+    /// memory and is never refused.
     pub fn new(alloc: Global, capacity: usize) -> Result<Slots<T>, AllocError>
         ensures ok { IfOk result (λ slots. slots ≡ empty_region capacity) }
         ensures refused { OnErr result (0 < capacity * type_size T.row) }
@@ -86,7 +86,7 @@ impl<T> Slots<T> {
         Slots::with_memory(&alloc, alloc, capacity)
     }
 
-    /// How many places there are.
+    /// Returns how many places there are.
     #[inline]
     pub fn capacity(&self) -> usize
         ensures { result ≡ length self.now.places }
@@ -94,12 +94,12 @@ impl<T> Slots<T> {
         self.capacity
     }
 
-    /// The allocator that the region came from.
+    /// Returns the allocator that the region came from.
     pub fn alloc(&self) -> Global {
         self.alloc
     }
 
-    /// Puts a value into an empty place.
+    /// Puts a value into a place. Requires an empty place.
     #[inline]
     pub fn put(&mut self, place: usize, value: T)
         requires { IsEmpty self.old.places place }
@@ -110,7 +110,7 @@ impl<T> Slots<T> {
         self.count(StepKind::Put, 1);
     }
 
-    /// Takes the value out of a place, which is empty from then on.
+    /// Takes the value out of a place, which is empty from then on. Requires a filled place.
     #[inline]
     pub fn take(&mut self, place: usize) -> T
         requires { IsFilled self.old.places place }
@@ -122,7 +122,8 @@ impl<T> Slots<T> {
         self.read(place)
     }
 
-    /// Moves the value in the place `src` to the empty place `dst`.
+    /// Moves the value in the place `src` to the place `dst`. Requires a filled `src` and an empty
+    /// `dst`.
     #[inline]
     pub fn shift(&mut self, dst: usize, src: usize)
         requires filled { IsFilled self.old.places src }
@@ -136,7 +137,8 @@ impl<T> Slots<T> {
         self.count(StepKind::Move, 1);
     }
 
-    /// Exchanges the values in two places. Nothing happens where the two are one.
+    /// Exchanges the values in two places. Requires filled places. If the two are one nothing
+    /// happens.
     #[inline]
     pub fn exchange(&mut self, a: usize, b: usize)
         requires a_filled { IsFilled self.old.places a }
@@ -163,7 +165,7 @@ impl<T> Slots<T> {
         replace(self, Slots::without_memory(alloc, 0))
     }
 
-    /// The value in a place.
+    /// Returns the value in a place. Requires a filled place.
     #[inline]
     pub fn get(&self, place: usize) -> &T
         requires { IsFilled self.now.places place }
@@ -172,8 +174,8 @@ impl<T> Slots<T> {
         &self.slice(place, 1)[0]
     }
 
-    /// The value in a place, for writing. What is written through it changes that place and no
-    /// other.
+    /// Lends the value in a place for writing. Requires a filled place. What is written through it
+    /// changes that place and no other.
     #[inline]
     pub fn get_mut(&mut self, place: usize) -> &mut T
         requires { IsFilled self.old.places place }
@@ -191,7 +193,7 @@ impl<T> Slots<T> {
 }
 
 impl<T> Drop for Slots<T> {
-    /// Gives the region back. Every place must be empty.
+    /// Gives the region back. Requires that every place is empty.
     fn drop(self)
         requires { AreAllEmpty self.places }
     {

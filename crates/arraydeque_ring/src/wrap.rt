@@ -2,7 +2,7 @@
 ghost use Rattle.std.specs.Prelude.{◌≡◌, ◌+◌, ◌%◌, ◌<◌, ◌≤◌};
 
 /// The place `offset` places after `place` in a region of `capacity` places, round its end: by a
-/// mask where the capacity is a power of two, else by a branch, which a processor foresees where
+/// mask if the capacity is a power of two, else by a branch, which a processor foresees if
 /// places come in a row.
 #[inline(always)]
 pub(crate) fn wrap_add(place: usize, offset: usize, capacity: usize) -> usize

@@ -11,8 +11,8 @@ use crate::wrap::wrap_add;
 use std::alloc::{AllocError, Global};
 
 impl<T> Ring<T> {
-    /// A ring of copies of items, in order from the first place on. It is refused where its region
-    /// is.
+    /// Returns a ring of copies of items, in order from the first place on. Requires no more items
+    /// than places. It is refused if its region is.
     ///
     /// ```
     /// let ring = Ring::of_copies(alloc, 3, &[1, 2])?;
@@ -73,8 +73,8 @@ impl<T> Ring<T> {
         count
     }
 
-    /// A ring of the items of a vector, in order from the first place on, as many as there are
-    /// places for. The others are dropped, front to back. It is refused where its region is; then
+    /// Returns a ring of the items of a vector, in order from the first place on, as many as there
+    /// are places for. The others are dropped, front to back. It is refused if its region is; then
     /// the vector comes back as it was.
     ///
     /// ```
@@ -112,9 +112,10 @@ impl<T> Ring<T> {
         })
     }
 
-    /// A ring of a clone of each item, of the same capacity, from the first place on. The region is
-    /// taken first, and then the items are cloned front to back. It is refused where its region or
-    /// the clone of an item is; the clones that were made are dropped then.
+    /// Returns a ring of a clone of each item, of the same capacity, from the first place on.
+    /// Requires that the clone of an item, if it succeeds, is that item once more. The region is
+    /// taken first, and then the items are cloned front to back. It is refused if its region or the
+    /// clone of an item is; the clones that were made are dropped then.
     ///
     /// ```
     /// let ring = Ring::of_copies(alloc, 3, &[1, 2])?;
@@ -143,8 +144,8 @@ impl<T> Ring<T> {
         Ok(clones)
     }
 
-    /// Puts a clone of each item behind the last one, where the list starts at the first place and
-    /// there is room.
+    /// Puts a clone of each item behind the last one of a list that starts at the first place and
+    /// has room.
     #[tactic(auto, using(crate::proofs::Opened::copy_facts))]
     #[inline]
     fn clone_back(&mut self, items: &[T]) -> Result<(), AllocError>
@@ -169,8 +170,8 @@ impl<T> Ring<T> {
         Ok(())
     }
 
-    /// A vector of the items, front to back. Where its memory is refused, which never happens to an
-    /// empty ring, the ring comes back as it was.
+    /// Returns a vector of the items, front to back. If its memory is refused, which never happens
+    /// to an empty ring, the ring comes back as it was.
     ///
     /// ```
     /// let mut ring = Ring::of_copies(alloc, 3, &[2, 3])?;

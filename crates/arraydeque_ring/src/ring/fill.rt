@@ -101,8 +101,9 @@ impl<T> Ring<T> {
         ended
     }
 
-    /// Puts what the iterator gives behind the last item of a full ring, one by one. Each takes the
-    /// place of the first item, which is dropped.
+    /// Puts what the iterator gives behind the last item, one by one. Requires a full ring of one
+    /// place or more, and an iterator that ends. Each takes the place of the first item, which is
+    /// dropped.
     ///
     /// ```
     /// let mut ring = Ring::of_copies(alloc, 3, &[1, 2, 3])?;
@@ -136,8 +137,9 @@ impl<T> Ring<T> {
         self.slots = slots;
     }
 
-    /// Puts what the iterator gives before the first item of a full ring, one by one. Each takes
-    /// the place of the last item, which is dropped.
+    /// Puts what the iterator gives before the first item, one by one. Requires a full ring of one
+    /// place or more, and an iterator that ends. Each takes the place of the last item, which is
+    /// dropped.
     ///
     /// ```
     /// let mut ring = Ring::of_copies(alloc, 3, &[1, 2, 3])?;
@@ -177,7 +179,7 @@ impl<T> Ring<T> {
 }
 
 /// Puts what the iterator gives into the `len` empty places from `from` on, upwards. Returns how
-/// many came: fewer than `len` only where the iterator ended.
+/// many came: fewer than `len` only if the iterator ended.
 #[inline]
 fn fill_up<T, I: Iterator<Item = T>>(
     mut slots: Slots<T>,
@@ -204,7 +206,7 @@ fn fill_up<T, I: Iterator<Item = T>>(
 }
 
 /// Puts what the iterator gives into the `len` empty places below `from`, downwards. Returns how
-/// many came: fewer than `len` only where the iterator ended.
+/// many came: fewer than `len` only if the iterator ended.
 #[inline]
 fn fill_down<T, I: Iterator<Item = T>>(
     mut slots: Slots<T>,
@@ -231,7 +233,7 @@ fn fill_down<T, I: Iterator<Item = T>>(
 }
 
 /// Puts what the iterator gives into the `len` filled places from `from` on, upwards, and drops
-/// what was there. Returns how many came: fewer than `len` only where the iterator ended.
+/// what was there. Returns how many came: fewer than `len` only if the iterator ended.
 #[inline]
 fn displace_up<T: Drop, I: Iterator<Item = T>>(
     mut slots: Slots<T>,
@@ -264,7 +266,7 @@ fn displace_up<T: Drop, I: Iterator<Item = T>>(
 }
 
 /// Puts what the iterator gives into the `len` filled places below `from`, downwards, and drops
-/// what was there. Returns how many came: fewer than `len` only where the iterator ended.
+/// what was there. Returns how many came: fewer than `len` only if the iterator ended.
 #[inline]
 fn displace_down<T: Drop, I: Iterator<Item = T>>(
     mut slots: Slots<T>,

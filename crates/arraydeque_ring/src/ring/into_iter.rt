@@ -29,7 +29,7 @@ impl<T> Model for IntoIter<T> {
 }
 
 impl<T> IntoIter<T> {
-    /// The iterator over the items of a ring.
+    /// Returns the iterator over the items of a ring.
     ///
     /// ```
     /// let mut items = IntoIter::of(Ring::of_copies(alloc, 4, &[1, 2, 3])?);
@@ -109,8 +109,8 @@ impl<T: Drop> ExactSizeIterator for IntoIter<T> {
 impl<T: Drop> FusedIterator for IntoIter<T> {}
 
 impl<T> Ring<T> {
-    /// How many items [`Ring::take_before_end`] can't take: the one in the region's last place, and
-    /// those past its end.
+    /// Returns how many items [`Ring::take_before_end`] can't take: the one in the region's last
+    /// place, and those past its end.
     #[inline(always)]
     fn len_from_last_place(&self) -> usize
         ensures { result ≡ length self.now.items - (self.now.capacity - 1 - self.now.start) }
@@ -119,7 +119,7 @@ impl<T> Ring<T> {
         self.len.saturating_sub(to_end.saturating_sub(1))
     }
 
-    /// Takes the first item off, as [`Ring::pop_front`] does, where the next place is before the
+    /// Takes the first item off, as [`Ring::pop_front`] does, if the next place is before the
     /// region's end. Many such calls together empty a run of places.
     #[tactic(auto, using(crate::proofs::Opened::end_facts))]
     #[inline(always)]

@@ -10,7 +10,8 @@ use super::Ring;
 use crate::slots::loan::Loan;
 
 impl<T> Ring<T> {
-    /// The items in two slices: those from the start to the region's end, then those past it.
+    /// Returns the items in two slices: those from the start to the region's end, then those past
+    /// it.
     ///
     /// ```
     /// let mut ring = Ring::of_copies(alloc, 4, &[2, 3])?;
@@ -34,7 +35,7 @@ impl<T> Ring<T> {
         }
     }
 
-    /// The items in one slice.
+    /// Returns the items in one slice. Requires a list in one piece, as `linearize` leaves it.
     ///
     /// ```
     /// let mut ring = Ring::of_copies(alloc, 3, &[3, 1])?;
@@ -51,8 +52,8 @@ impl<T> Ring<T> {
         items
     }
 
-    /// The items for writing in one slice. The list ends as it was written, and starts where it
-    /// did.
+    /// Lends the items for writing in one slice. Requires a list in one piece, as `linearize`
+    /// leaves it. The list ends as it was written, and starts where it did.
     ///
     /// ```
     /// let mut ring = Ring::of_copies(alloc, 4, &[3, 1, 2])?;
@@ -74,8 +75,8 @@ impl<T> Ring<T> {
         slots.slice_mut(start, len)
     }
 
-    /// The items for writing in two slices: those from the start to the region's end, then those
-    /// past it.
+    /// Lends the items for writing in two slices: those from the start to the region's end, then
+    /// those past it.
     ///
     /// Whatever is written, there are as many items as before, and they start where they did. A
     /// caller whose proof needs that writes `lend_items().into_slices()`: the prover follows the
@@ -97,7 +98,7 @@ impl<T> Ring<T> {
         self.lend().into_slices()
     }
 
-    /// The items for writing, as one loan of two slices: its clause says what
+    /// Lends the items for writing, as one loan of two slices: its clause says what
     /// [`Ring::as_mut_slices`] says, and that the ring follows the loan's name. A caller of this
     /// one is proved by hand; [`Ring::lend_items`] is for all others.
     ///
@@ -119,7 +120,7 @@ impl<T> Ring<T> {
         slots.lend_round(start, len)
     }
 
-    /// The items for writing, as one loan of two slices.
+    /// Lends the items for writing, as one loan of two slices.
     ///
     /// Whatever is written, there are as many items as before, and they start where they did.
     ///

@@ -10,7 +10,7 @@ use crate::slots::Slots;
 
 impl<T> Ring<T> {
     /// Lays the list in one piece that starts at the first place, by no more moves and exchanges
-    /// than there are items. Nothing happens where it lies in one piece already, wherever that is.
+    /// than there are items. If it lies in one piece already, wherever that is, nothing happens.
     ///
     /// ```
     /// let mut ring = Ring::of_copies(alloc, 4, &[2, 3])?;

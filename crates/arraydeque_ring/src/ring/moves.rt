@@ -14,8 +14,9 @@ use crate::slots::Slots;
 use crate::wrap::wrap_add;
 
 impl<T> Ring<T> {
-    /// Adds an element before the item at an index, or behind the last one. The items before it
-    /// move, and the start with them, where they are the fewer, else those behind it.
+    /// Adds an element before the item at an index, or behind the last one. Requires room, and an
+    /// index up to the length. The items before it move, and the start with them, if they are
+    /// fewer; else those behind it.
     ///
     /// ```
     /// let mut ring = Ring::of_copies(alloc, 4, &[1, 3])?;
@@ -49,8 +50,8 @@ impl<T> Ring<T> {
         self.slots.put(place, element);
     }
 
-    /// Takes out the item at an index. The items before it move, and the start with them, where
-    /// they are the fewer, else those behind it.
+    /// Takes out the item at an index. Requires an index below the length. The items before it
+    /// move, and the start with them, if they are fewer; else those behind it.
     ///
     /// ```
     /// let mut ring = Ring::of_copies(alloc, 4, &[1, 2, 3])?;
@@ -77,9 +78,9 @@ impl<T> Ring<T> {
         item
     }
 
-    /// Puts the first `count` items behind the others. In a full ring no item moves. Else the first
-    /// `count` or the others move across the empty places, whichever are fewer, and on a tie the
-    /// first.
+    /// Puts the first `count` items behind the others. Requires a count up to the length. In a full
+    /// ring no item moves. Else the first `count` or the others move across the empty places,
+    /// whichever are fewer, and on a tie the first.
     ///
     /// ```
     /// let mut ring = Ring::of_copies(alloc, 4, &[1, 2, 3])?;
@@ -114,8 +115,8 @@ impl<T> Ring<T> {
 }
 
 /// Closes the `gap` empty places between the `before` values from the place `start` on and the
-/// `behind` values that follow the gap. The values on one side move: those before it where they are
-/// the fewer, else those behind it. Returns the place where the list starts then.
+/// `behind` values that follow the gap. The values on one side move: those before it if they are
+/// fewer, else those behind it. Returns the place where the list starts then.
 #[inline(always)]
 pub(super) fn close_gap<T>(
     slots: &mut Slots<T>,

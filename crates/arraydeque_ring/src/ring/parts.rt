@@ -16,13 +16,13 @@ use crate::wrap::wrap_add;
 use std::alloc::AllocError;
 
 impl<T> Ring<T> {
-    /// Takes out the items from the index `from` up to `to`, which is not among them. The items
-    /// before these move, and the start with them, where they are the fewer, else those behind
-    /// them. Nothing moves for an empty range.
+    /// Takes out the items from the index `from` up to `to`, which is not among them. Requires a
+    /// range that is in order and ends within the list. The items before these move, and the start
+    /// with them, if they are fewer; else those behind them. Nothing moves for an empty range.
     ///
     /// The items go into a ring of their own, whose region is taken first and has no place to
-    /// spare. Where that is refused nothing has changed. A range of no items, or of items of size
-    /// zero, takes no memory and is never refused. Of a ring of 8 places:
+    /// spare. If that is refused nothing has changed. A range of no items, or of items of size
+    /// zero, takes no memory and is never refused. In a ring of 8 places:
     ///
     ///     place                 0 1 2 3 4 5 6 7
     ///     before, from 5 on     d e . . . a b c
@@ -74,8 +74,8 @@ impl<T> Ring<T> {
     }
 
     /// Takes out the items from the index `at` on, into a ring of the same capacity, whose region
-    /// is taken first. Where that is refused nothing has changed; it never is at capacity 0 or for
-    /// items of size zero. No kept item moves.
+    /// is taken first. Requires an index up to the length. If the region is refused nothing has
+    /// changed; it never is at capacity 0 or for items of size zero. No kept item moves.
     ///
     /// ```
     /// let mut ring = Ring::of_copies(alloc, 4, &[1, 2, 3])?;
@@ -111,8 +111,9 @@ impl<T> Ring<T> {
         })
     }
 
-    /// Takes the first `len` items of another ring behind the last one. They go over in at most
-    /// three copies, since either ring may wrap once.
+    /// Takes the first `len` items of another ring behind the last one. Requires room for so many,
+    /// and that the other ring has them. They go over in at most three copies, since either ring
+    /// may wrap once.
     ///
     /// ```
     /// let mut ring = Ring::of_copies(alloc, 4, &[1, 2])?;

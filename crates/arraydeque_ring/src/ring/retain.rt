@@ -87,7 +87,7 @@ impl<T> Ring<T> {
         self.len -= gone;
     }
 
-    /// Keeps the items at which `f` answers true, in their order, and drops the others, in place.
+    /// Keeps the items for which `f` returns true, in their order, and drops the others, in place.
     /// `f` is called once on each item, front to back. Each item that stays behind the first that
     /// goes moves once.
     ///
@@ -126,8 +126,8 @@ impl<T> Ring<T> {
         self.len = kept;
     }
 
-    /// Keeps the items at which `f` answers true, as it left them and in their order, and drops the
-    /// others, in place. `f` is called once on each item, front to back. Each item that stays
+    /// Keeps the items for which `f` returns true, as it left them and in their order, and drops
+    /// the others, in place. `f` is called once on each item, front to back. Each item that stays
     /// behind the first that goes moves once.
     ///
     /// ```
@@ -166,8 +166,8 @@ impl<T> Ring<T> {
         self.len = kept;
     }
 
-    /// How many items stay before the first that goes, at which `f` is called last. None of them
-    /// moves, so the loop has nothing to count but places.
+    /// Returns how many items stay before the first that goes, on which `f` is called last. None of
+    /// them moves, so the loop has nothing to count but places.
     #[tactic(auto, using(crate::proofs::Opened::slice_facts))]
     fn kept_count<F: FnMut(&T) -> bool>(&self, f: &mut F) -> usize
         requires { MayBeAsked F.FnMut f.old self.now.items }
@@ -184,7 +184,7 @@ impl<T> Ring<T> {
     }
 }
 
-/// How many items of a slice stay before the first that goes.
+/// Returns how many items of a slice stay before the first that goes.
 fn kept_count_of<T, F: FnMut(&T) -> bool>(items: &[T], f: &mut F) -> usize
     requires { MayBeAsked F.FnMut f.old items.now }
     ensures within { result ≤ length items.now }

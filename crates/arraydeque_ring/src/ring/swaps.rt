@@ -6,7 +6,7 @@ ghost use Rattle.arraydeque_ring.specs.Steps.{more_takes, more_exchanges};
 use super::Ring;
 
 impl<T> Ring<T> {
-    /// Exchanges two items. Nothing happens where the two are one.
+    /// Exchanges two items. Requires indexes below the length. If they are equal nothing happens.
     ///
     /// ```
     /// let mut ring = Ring::of_copies(alloc, 4, &[1, 2, 3])?;

@@ -50,7 +50,7 @@ impl<'a, T> Model for Loan<'a, T> {
 }
 
 impl<'a, T> Loan<'a, T> {
-    /// The two slices.
+    /// Returns the two slices.
     #[inline]
     pub fn into_slices(self) -> (&'a mut [T], &'a mut [T])
         ensures first { result.0 ≡ self.entry.first }
@@ -60,7 +60,7 @@ impl<'a, T> Loan<'a, T> {
         (first, second)
     }
 
-    /// The two slices, and the name that the lender follows.
+    /// Returns the two slices, and the name that the lender follows.
     #[inline]
     pub fn into_parts(self) -> (&'a mut [T], &'a mut [T], LoanName<'a, T>)
         ensures first { result.0 ≡ self.entry.first }
@@ -78,8 +78,8 @@ impl<'a, T> Loan<'a, T> {
 }
 
 impl<T> Slots<T> {
-    /// The values in the `len` places from the place `from` on, in order, for writing. An empty run
-    /// may start at the capacity.
+    /// Lends the values in the `len` places from the place `from` on, in order, for writing.
+    /// Requires filled places. An empty run may start at the capacity.
     ///
     /// Whatever is written, no place is filled or emptied, and no place outside the run changes.
     #[inline]
@@ -92,7 +92,8 @@ impl<T> Slots<T> {
         self.lend_run(from, len)
     }
 
-    /// The values of two runs that have no place in common, in order, for writing.
+    /// Lends the values of two runs, in order, for writing. Requires filled places, and runs with
+    /// none in common.
     ///
     /// Whatever is written, no place is filled or emptied, and no place outside the runs changes.
     #[inline]
@@ -113,8 +114,8 @@ impl<T> Slots<T> {
         self.lend_two(a, a_len, b, b_len).into_slices()
     }
 
-    /// The values of a run of `len` places, for writing: it starts at the place `start`, and may
-    /// wrap.
+    /// Lends the values of a run of `len` places, for writing: it starts at the place `start`, and
+    /// may wrap.
     ///
     /// Whatever is written, no place is filled or emptied, and no place outside the run changes.
     pub(crate) fn lend_round(&mut self, start: usize, len: usize) -> Loan<'_, T>

@@ -107,8 +107,8 @@ impl<T> Slots<T> {
         unsafe { &mut *self.ptr.add(place) }
     }
 
-    /// The values in the `len` places from the place `from` on, in order. An empty run may start at
-    /// the capacity.
+    /// Returns the values in the `len` places from the place `from` on, in order. Requires filled
+    /// places. An empty run may start at the capacity.
     #[inline]
     pub fn slice(&self, from: usize, len: usize) -> &[T]
         requires { IsFilledRun self.now.places from len }

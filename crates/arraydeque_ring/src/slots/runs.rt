@@ -236,6 +236,7 @@ impl<T> Slots<T> {
     }
 
     /// Moves the values in the `len` places from `src` on to those from `dst` on, all at once.
+    /// Requires filled places from `src` on, and empty ones from `dst` on that aren't among them.
     /// Either run may wrap. The two may share places, as long as one doesn't meet the other at both
     /// its ends.
     pub fn wrap_move(&mut self, dst: usize, src: usize, len: usize)
