@@ -82,7 +82,7 @@ impl<T, const CAP: usize, B: Behavior> ArrayDeque<T, CAP, B> {
         Ok(Self::of(ring))
     }
 
-    /// The deque over a ring of `CAP` places.
+    /// Returns the deque over a ring of `CAP` places.
     #[inline]
     fn of(ring: Ring<T>) -> Self
         requires capacity { ring.capacity ≡ CAP }
@@ -95,7 +95,7 @@ impl<T, const CAP: usize, B: Behavior> ArrayDeque<T, CAP, B> {
         }
     }
 
-    /// The deque's ring.
+    /// Returns the deque's ring.
     #[inline]
     pub(crate) fn into_ring(self) -> Ring<T>
         ensures { result ≡ as_ring CAP self }
@@ -139,7 +139,7 @@ impl<T, const CAP: usize, B: Behavior> ArrayDeque<T, CAP, B> {
         self.ring.len()
     }
 
-    /// Whether the deque holds no item.
+    /// Returns whether the deque holds no item.
     ///
     /// ```
     /// let mut deque = ArrayDeque::<i64, 1, Saturating>::new(alloc)?;
@@ -154,7 +154,7 @@ impl<T, const CAP: usize, B: Behavior> ArrayDeque<T, CAP, B> {
         self.len() == 0
     }
 
-    /// Whether the deque holds `CAP` items. At capacity 0 it is full, and empty as well.
+    /// Returns whether the deque holds `CAP` items. At capacity 0 it is full, and empty as well.
     ///
     /// ```
     /// let mut deque = ArrayDeque::<i64, 1, Saturating>::new(alloc)?;

@@ -111,7 +111,7 @@ impl<S: Drop> fmt::Debug for MakeError<S> {
 }
 
 impl<S: Drop> From<MakeError<S>> for AllocError {
-    /// Drops what was handed in, so that `?` serves where only the refusal counts.
+    /// Drops what was handed in, so that `?` serves if only the refusal counts.
     ///
     /// ```
     /// let deque = ArrayDeque::<i64, 2, Saturating>::from_array(alloc, [1, 2])?;

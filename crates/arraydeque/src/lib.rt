@@ -13,6 +13,10 @@
 //! assert!(rt; (queue.pop_front(), queue.pop_front()) == (Some(3), Some(4)));
 //! ```
 //!
+//! Beside the deque: [`run`] makes a list of calls given as values, [`lookahead::Scanner`] looks
+//! ahead in an iterator, and a deque of bytes is std's `Read` and `BufRead`, and under
+//! [`Saturating`] its `Write`.
+//!
 //! # Policies
 //!
 //! - [`Saturating`]: a push or an insert into a full deque returns its element in a
@@ -35,14 +39,24 @@
 //! - No such item: a pop, `front`, `back`, `get`, their `_mut`, `remove`, `swap_remove_back` or
 //!   `swap_remove_front` returns `None`.
 //!
-//! After each of these the deque is as it was. `deque[index]`, `insert`, `swap`, `drain` and
-//! `split_off` require indexes that are in range: the caller shows that they are, as by a test of
-//! `len`. `run` makes that test itself. `as_mut_slice` requires a list in one piece, as `linearize`
-//! leaves it. `truncate` and `truncate_front` take any length.
+//! After each of these the deque is as it was.
 //!
-//! A `pop_front_if` or `pop_back_if` also returns `None` where its closure rejects the item, which
+//! A `pop_front_if` or `pop_back_if` also returns `None` if its closure rejects the item, which
 //! stays as the closure left it. `read` and `write` of a deque of bytes always return `Ok`, with
 //! how many bytes went, which may be none: `read_exact` and `write_all` fail then.
+//!
+//! # What a call requires
+//!
+//! The caller shows it, as by a test of `len`; `run` makes such tests itself.
+//!
+//! - `deque[index]` and `swap`: indexes below the length. `insert`, `split_off`, `rotate_left` and
+//!   `rotate_right`: an index or a count up to the length.
+//! - `drain` and `range`: a range that is in order and ends within the list.
+//! - `as_slice` and `as_mut_slice`: a list in one piece, as `linearize` leaves it.
+//! - `extend_back`, `extend_front` and `from_iter` under [`Wrapping`], and `extend` under either
+//!   policy: an iterator that ends.
+//! - `clone`: that the clone of an item is that item once more, as for numbers.
+//! - [`lookahead::Scanner`]: `peek(k)` a k below its capacity, `next_if` a capacity above 0.
 //!
 //! # What a call moves
 //!
@@ -53,11 +67,13 @@
 //! | `insert` | the items before the index or those from it on, whichever are fewer |
 //! | `remove`, `drain` | the items before what goes or those behind it, whichever are fewer |
 //! | `swap`, `swap_remove_back`, `swap_remove_front` | two items, by one exchange at most |
+//! | rotations | those that go round or the others, whichever are fewer; none in a full deque |
 //! | `retain`, `retain_mut` | each kept item behind the first that goes, once |
 //! | `linearize` | in place, by no more moves and exchanges, taken together, than items |
 //! | a conversion to the other policy | no item |
 //!
-//! On a tie the items behind the gap move. Each item that moves moves once, except in `linearize`.
+//! On a tie a rotation moves the first half of the list, and `insert`, `remove` and `drain` move
+//! the items behind the gap. Each item that moves moves once, except in `linearize`.
 #![tactic(auto)]
 
 pub mod behavior;

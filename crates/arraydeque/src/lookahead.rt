@@ -138,7 +138,7 @@ impl<I: Iterator, const CAP: usize> Scanner<I, CAP> {
         }
     }
 
-    /// Removes the next item and returns it if `accepts` answers `true` of it. Otherwise returns
+    /// Removes the next item and returns it if `accepts` returns `true` for it. Otherwise returns
     /// `None`, as at the end, and the item stays the next one, in the buffer. Requires `CAP` above
     /// 0.
     ///

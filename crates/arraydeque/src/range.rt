@@ -23,11 +23,11 @@ pub trait RangeArgument<T> {
     // The first index after the range, if the value names it.
     ghost names_end: { Self → Option T };
 
-    /// Returns the first index of the range, or `None` where the range leaves it open.
+    /// Returns the first index of the range, or `None` if the range leaves it open.
     fn start(&self) -> Option<T>
         ensures { result ≡ names_start self.now };
 
-    /// Returns the first index after the range, or `None` where the range leaves it open.
+    /// Returns the first index after the range, or `None` if the range leaves it open.
     fn end(&self) -> Option<T>
         ensures { result ≡ names_end self.now };
 }

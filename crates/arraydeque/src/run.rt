@@ -146,7 +146,7 @@ pub(crate) trait MachinePolicy<T, const CAP: usize>: Behavior {
         ensures makes { Makes policy CAP (type_size T.row) (PushBack element) result
             deque.old deque.new };
 
-    /// An insert, where the policy offers it.
+    /// An insert, if the policy offers it.
     fn answer_insert(
         deque: &mut ArrayDeque<T, CAP, Self>,
         index: usize,

@@ -12,7 +12,7 @@ use crate::behavior::Behavior;
 use std::ops::{Index, IndexMut};
 
 impl<T, const CAP: usize, B: Behavior> ArrayDeque<T, CAP, B> {
-    /// Whether some item equals `x`, by the items' own equality.
+    /// Returns whether some item equals `x`, by the items' own equality.
     ///
     /// ```
     /// let mut deque = ArrayDeque::<i64, 3, Wrapping>::new(alloc)?;

@@ -21,7 +21,8 @@ const SMALL_BYTES: usize = 16;
 /// or 4 bytes std does so.
 const LEAST_BYTES: usize = 5;
 
-/// Whether some item equals `x`. Small items are compared block by block, and others one by one.
+/// Returns whether some item equals `x`. Small items are compared block by block, others one by
+/// one.
 pub(super) fn has_equal<T: PartialEq>(items: &[T], x: &T) -> bool
     ensures { result ≡ list_any (λ y. T.eq y x.now) items.now }
 {
@@ -39,8 +40,8 @@ pub(super) fn has_equal<T: PartialEq>(items: &[T], x: &T) -> bool
     is_any_equal(back, x)
 }
 
-/// Whether some item equals `x`. It looks at every item, so that the compiler can compare several
-/// together.
+/// Returns whether some item equals `x`. It looks at every item, so that the compiler can compare
+/// several together.
 #[inline(always)]
 fn is_any_equal<T: PartialEq>(items: &[T], x: &T) -> bool
     ensures { result ≡ list_any (λ y. T.eq y x.now) items.now }
@@ -52,7 +53,7 @@ fn is_any_equal<T: PartialEq>(items: &[T], x: &T) -> bool
     found
 }
 
-/// Whether two slices are equal.
+/// Returns whether two slices are equal.
 #[inline(always)]
 pub(super) fn are_equal<T: PartialEq>(left: &[T], right: &[T]) -> bool
     ensures { result ≡ pointwise T.eq left.now right.now }
@@ -64,7 +65,7 @@ pub(super) fn are_equal<T: PartialEq>(left: &[T], right: &[T]) -> bool
     left == right
 }
 
-/// How two slices compare, if they are in some order.
+/// Returns how two slices compare, if they are in some order.
 pub(super) fn partial_order<T: PartialOrd>(left: &[T], right: &[T]) -> Option<Ordering>
     ensures { result ≡ slice_partial_cmp T.partial_cmp left.now right.now }
 {
@@ -73,7 +74,7 @@ pub(super) fn partial_order<T: PartialOrd>(left: &[T], right: &[T]) -> Option<Or
     left.partial_cmp(&right)
 }
 
-/// How two slices compare.
+/// Returns how two slices compare.
 #[inline(always)]
 pub(super) fn order<T: Ord>(left: &[T], right: &[T]) -> Ordering
     ensures { result ≡ slice_cmp T.cmp left.now right.now }
@@ -82,9 +83,9 @@ pub(super) fn order<T: Ord>(left: &[T], right: &[T]) -> Ordering
     left.cmp(&right)
 }
 
-/// Two slices without the blocks of equal pairs that they begin with. They stay whole where an item
-/// has fewer than `least_bytes` or more than `SMALL_BYTES`, or where the first pair differs, as it
-/// often does.
+/// Returns two slices without the blocks of equal pairs that they begin with. They stay whole if an
+/// item has fewer than `least_bytes` or more than `SMALL_BYTES`, or if the first pair differs, as
+/// it often does.
 #[inline(always)]
 fn behind_equal<'a, T: PartialEq>(
     left: &'a [T],
@@ -115,8 +116,8 @@ fn behind_equal<'a, T: PartialEq>(
     (left_back, right_back)
 }
 
-/// Whether all pairs of two slices of one length are equal. It looks at every pair, so that the
-/// compiler can compare several together.
+/// Returns whether all pairs of two slices of one length are equal. It looks at every pair, so that
+/// the compiler can compare several together.
 #[inline(always)]
 fn are_all_equal<T: PartialEq>(left: &[T], right: &[T]) -> bool
     requires { length left.now ≡ length right.now }

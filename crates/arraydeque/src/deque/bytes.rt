@@ -52,7 +52,7 @@ impl<const CAP: usize, B: Behavior> Read for ArrayDeque<u8, CAP, B> {
 }
 
 impl<const CAP: usize, B: Behavior> BufRead for ArrayDeque<u8, CAP, B> {
-    /// Lends the bytes up to the region's end, and those behind it where there are none: only an
+    /// Lends the bytes up to the region's end, and those behind it if there are none: only an
     /// empty deque lends none. The deque stays as it was. It always returns `Ok`.
     ///
     /// ```
@@ -99,7 +99,7 @@ fn copy_at(from: &[u8], to: &mut [u8], at: usize)
 }
 
 impl<const CAP: usize, B: Behavior> ArrayDeque<u8, CAP, B> {
-    /// The bytes up to the region's end, or those behind it where there are none.
+    /// The bytes up to the region's end, or those behind it if there are none.
     fn front_bytes(&self) -> &[u8]
         ensures front { StartsWith self.now.items result.now }
         ensures end { length result.now ≡ 0 → self.now.items ≡ [] }
@@ -113,7 +113,7 @@ impl<const CAP: usize> Write for ArrayDeque<u8, CAP, Saturating> {
     ghost contents = { λ deque. Some deque.items };
 
     /// Adds the first bytes of `buf` at the back, as many as there is room for, and returns their
-    /// number, which is 0 where the deque is full. No byte moves. It always returns `Ok`; a
+    /// number, which is 0 if the deque is full. No byte moves. It always returns `Ok`; a
     /// `write_all` that finds too little room fails with `WriteZero`.
     ///
     /// ```

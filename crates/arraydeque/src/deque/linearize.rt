@@ -8,8 +8,8 @@ use super::ArrayDeque;
 use crate::behavior::Behavior;
 
 impl<T, const CAP: usize, B: Behavior> ArrayDeque<T, CAP, B> {
-    /// Lays the list in one piece, so that the first slice of `as_slices` has all items. Nothing
-    /// happens where it lies in one piece already.
+    /// Lays the list in one piece, so that the first slice of `as_slices` has all items. If it lies
+    /// in one piece already nothing happens.
     ///
     /// It works in place and takes no memory: there are no more moves and exchanges, taken
     /// together, than items.

@@ -11,7 +11,7 @@ use crate::behavior::{Behavior, Saturating};
 use crate::error::CapacityError;
 
 impl<T, const CAP: usize> ArrayDeque<T, CAP, Saturating> {
-    /// Adds an element before the item at an index, or at the back where the index is the length.
+    /// Adds an element before the item at an index, or at the back if the index is the length.
     /// Requires an index up to the length. If the deque is full, returns the element in the error,
     /// and nothing has changed.
     ///

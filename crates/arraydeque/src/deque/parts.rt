@@ -140,7 +140,7 @@ impl<T: Drop, const CAP: usize> ArrayDeque<T, CAP, Wrapping> {
     /// others are dropped, front to back. No memory is taken, and no item that stays moves.
     ///
     /// Each item of the other deque that is kept is put in once, and each item that goes is taken
-    /// out of its place and dropped. So where the other deque has more than `CAP` items, there are
+    /// out of its place and dropped. So if the other deque has more than `CAP` items, there are
     /// fewer steps than pushes would make.
     ///
     /// ```

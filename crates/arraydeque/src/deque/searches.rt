@@ -10,8 +10,8 @@ use crate::behavior::Behavior;
 use std::cmp::Ordering;
 
 impl<T, const CAP: usize, B: Behavior> ArrayDeque<T, CAP, B> {
-    /// Returns how many items `pred` accepts, where it accepts none behind one that it does not:
-    /// the index where the others begin.
+    /// Returns how many items `pred` accepts, if it accepts none behind one that it does not: the
+    /// index at which the others begin.
     ///
     /// ```
     /// let mut deque = ArrayDeque::<i64, 3, Wrapping>::new(alloc)?;
@@ -38,8 +38,8 @@ impl<T, const CAP: usize, B: Behavior> ArrayDeque<T, CAP, B> {
         }
     }
 
-    /// Returns the index of an item that equals `x`, where the items rise. If none does, returns in
-    /// the error the index where `x` would go.
+    /// Returns the index of an item that equals `x`, if the items rise. If none does, returns in
+    /// the error the index at which `x` would go.
     ///
     /// ```
     /// let mut deque = ArrayDeque::<i64, 3, Wrapping>::new(alloc)?;
@@ -57,8 +57,8 @@ impl<T, const CAP: usize, B: Behavior> ArrayDeque<T, CAP, B> {
         self.binary_search_by(|item| item.cmp(x))
     }
 
-    /// Returns the index of an item for which `f` returns `Equal`, where what it returns rises from
-    /// `Less` to `Greater`. If there is none, returns in the error the index where such an item
+    /// Returns the index of an item for which `f` returns `Equal`, if what it returns rises from
+    /// `Less` to `Greater`. If there is none, returns in the error the index at which such an item
     /// would go.
     ///
     /// ```
@@ -88,8 +88,8 @@ impl<T, const CAP: usize, B: Behavior> ArrayDeque<T, CAP, B> {
         }
     }
 
-    /// Returns the index of an item whose key, which `f` tells, equals `key`, where the keys rise.
-    /// If none does, returns in the error the index where such an item would go.
+    /// Returns the index of an item whose key, which `f` tells, equals `key`, if the keys rise. If
+    /// none does, returns in the error the index at which such an item would go.
     ///
     /// ```
     /// let mut deque = ArrayDeque::<(i64, bool), 3, Saturating>::new(alloc)?;

@@ -9,7 +9,7 @@ use crate::behavior::Behavior;
 
 impl<T, const CAP: usize, B: Behavior> ArrayDeque<T, CAP, B> {
     /// Removes the item at an index and returns it, or returns `None` if there is none. The last
-    /// item takes its place, by one exchange at most. Where the order matters, use `remove`.
+    /// item takes its place, by one exchange at most. If the order matters, use `remove`.
     ///
     /// ```
     /// let mut deque = ArrayDeque::<i64, 4, Saturating>::new(alloc)?;
@@ -36,7 +36,7 @@ impl<T, const CAP: usize, B: Behavior> ArrayDeque<T, CAP, B> {
     }
 
     /// Removes the item at an index and returns it, or returns `None` if there is none. The first
-    /// item takes its place, by one exchange at most. Where the order matters, use `remove`.
+    /// item takes its place, by one exchange at most. If the order matters, use `remove`.
     ///
     /// ```
     /// let mut deque = ArrayDeque::<i64, 4, Saturating>::new(alloc)?;
@@ -61,7 +61,7 @@ impl<T, const CAP: usize, B: Behavior> ArrayDeque<T, CAP, B> {
         self.ring.swap_remove_front(index)
     }
 
-    /// Exchanges the items at two indexes. Nothing happens where the two are the same. Requires
+    /// Exchanges the items at two indexes. If the two are the same nothing happens. Requires
     /// both to be below the length.
     ///
     /// ```

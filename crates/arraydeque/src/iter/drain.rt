@@ -31,7 +31,7 @@ impl<T> Model for Drain<T> {
 }
 
 impl<T> Drain<T> {
-    /// The drain of the items of a ring.
+    /// Returns the drain of the items of a ring.
     #[inline]
     pub(crate) fn of(ring: Ring<T>) -> Drain<T>
         ensures { result ≡ ring.items }

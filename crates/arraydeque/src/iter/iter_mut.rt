@@ -40,7 +40,7 @@ impl<'a, T> Model for IterMut<'a, T> {
 }
 
 impl<'a, T> IterMut<'a, T> {
-    /// The iterator over what is lent.
+    /// Returns the iterator over what is lent.
     #[inline]
     pub(crate) fn of(loan: Loan<'a, T>) -> IterMut<'a, T>
         ensures { result ≡ loan.entry }
