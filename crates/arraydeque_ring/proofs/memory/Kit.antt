@@ -3,23 +3,25 @@
 -- The parts of a walk, in their order:
 --   f, stated, code             contract, statement and compiled code, written by the tool
 --   E, here                     the items' type with its laws; the code at that type
---   walked m L (..)             the parameters one by one: `mutable` for a `&mut`, `seen` for a `&`, and by value `word`,
---                               `item`, `whole_slots`, `handle` or `told`, last `words n`; m lifetimes besides the first.
---                               `method` is `walked` for a `&mut` and words, `passing_on` the same if what is owned goes
---                               on to a call in one piece
---   (.. fit post ends.          lifetimes, their tokens and bounds, the arguments, the contract's ghosts, that the machine
---                               stores these arguments, the goal at the return, how the walk ends
+--   walked m L (..)             the parameters one by one: `mutable` for a `&mut`, `seen` for a `&`, and by value
+--                               `word`, `item`, `whole_slots`, `handle` or `told`, last `words n`; m lifetimes besides
+--                               the first. `method` is `walked` for a `&mut` and words, `passing_on` the same if what
+--                               is owned goes on to a call in one piece
+--   (.. fit post ends.          lifetimes, their tokens and bounds, the arguments, the contract's ghosts, that the
+--                               machine stores these arguments, the goal at the return, how the walk ends
 --   drop, move, keep            what is required, what is had of the parameters, the tokens, in order
 --   first_fact, heard           a requirement, or what a call ensures, as a fact: each but the last, the last
 --   alloc_all, pass_all         the locals come, holding the arguments
---   slots_open, slots_close     the region behind the `&mut` as places and pointer, and back with other places or steps
+--   slots_open, slots_close     the region behind the `&mut` as places and pointer, and back with other places or
+--                               steps
 --   sets, after_block           an assignment; on past a block
 --   knows, calls_met, returned  what is known is handed to a call, and what that gives is taken apart
 --   returns, free_all           the result is read; the locals go
 --   suffices .. ends, frame, join, says, done
 --                               what is owed, in order: what is left of the parameters, the result, the tokens, the
 --                               `ensures`
--- A comment in brackets lists what is owned. The names come from here, `Called`, `Methods` and, for the region, `Regions`.
+-- A comment in brackets lists what is owned. The names come from here, `Called`, `Methods` and,
+-- for the region, `Regions`.
 pub use mathlib.Core.{
   Path.{◌≡◌, refl, sym, ap, subst, ◌∙◌},
   Bool.{Bool, true, false},
