@@ -5,6 +5,9 @@ use crate::times;
 use std::hint::black_box;
 use std::process::Command;
 
+/// Where the instructions of rows that take long are written.
+const COUNTS: &str = "counts.csv";
+
 /// Who does a workload, in the order of the columns.
 const WHO: [&str; 3] = ["ours", "crate", "VecDeque"];
 
@@ -70,9 +73,10 @@ fn counts_of(name: &str) -> [f64; 3] {
 
 /// Prints the instructions of a round of each of the three, of the workloads whose names hold the words.
 pub fn count(wanted: &str) {
-    println!("{}", figures::COUNTS_HEAD);
+    println!("| Instructions a round | ours | crate | `VecDeque` |\n|---|---|---|---|");
     for workload in all_workloads().iter().filter(|workload| workload.name.contains(wanted)) {
-        println!("{}", figures::counts_line(&workload.name, counts_of(&workload.name)));
+        let [ours, rust, std] = counts_of(&workload.name);
+        println!("| {} | {ours:.1} | {rust:.1} | {std:.1} |", workload.name);
     }
 }
 
@@ -83,7 +87,7 @@ pub fn count_long() -> std::io::Result<()> {
     for row in &mut rows {
         row.columns = counts_of(&row.name);
     }
-    std::fs::write(figures::COUNTS, times::csv(&rows))
+    std::fs::write(COUNTS, times::csv(&rows))
 }
 
 /// Prints the instructions of a round of ours at four capacities.

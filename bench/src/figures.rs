@@ -4,9 +4,6 @@ use std::io::{Error, Result};
 /// Where the least times are written.
 pub const TIMES: &str = "figures.csv";
 
-/// Where the instructions of rows that take long are written.
-pub const COUNTS: &str = "counts.csv";
-
 /// How much of the better peer's time is long.
 pub const LONG: f64 = 1.5;
 
@@ -35,14 +32,6 @@ impl Figures {
 pub fn geometric_mean(ratios: impl Iterator<Item = f64>) -> f64 {
     let logarithms: Vec<f64> = ratios.map(f64::ln).collect();
     (logarithms.iter().sum::<f64>() / logarithms.len() as f64).exp()
-}
-
-/// The head of the table of instructions.
-pub const COUNTS_HEAD: &str = "| Instructions a round | ours | crate | `VecDeque` |\n|---|---|---|---|";
-
-/// A row of the table of instructions.
-pub fn counts_line(name: &str, [ours, rust, std]: [f64; 3]) -> String {
-    format!("| {name} | {ours:.1} | {rust:.1} | {std:.1} |")
 }
 
 pub fn load(path: &str) -> Result<Vec<Figures>> {

@@ -1,5 +1,5 @@
 //! The figures as tables: by workload, and what costs the rows that take long.
-use crate::figures::{COUNTS, COUNTS_HEAD, Figures, LONG, counts_line, geometric_mean, load};
+use crate::figures::{Figures, LONG, geometric_mean};
 use std::fmt::Write;
 use std::io::Result;
 
@@ -88,14 +88,65 @@ fn short_table(all: &[Figures], summaries: &[Summary]) -> String {
     table
 }
 
-/// The instructions of the rows that take long, as far as they were counted.
-fn counts_table(rows: &[&Figures]) -> String {
-    let counts = load(COUNTS).unwrap_or_default();
-    let lines = rows.iter().filter_map(|row| {
-        let counted = counts.iter().find(|counted| counted.name == row.name)?;
-        Some(counts_line(&row.name, counted.columns) + "\n")
-    });
-    format!("{COUNTS_HEAD}\n{}", lines.collect::<String>())
+/// Tasks of README's table, with the workloads that do them.
+const TASKS: [(&str, &[&str]); 11] = [
+    ("in and out at the ends: `queue`, `ends`, `history`", &["queue", "ends", "history"]),
+    ("all items read: `iterate`, `rev`, `fold`", &["iterate", "rev", "fold"]),
+    ("an item by its index: `get`, `index`", &["get", "index"]),
+    ("`contains`", &["contains"]),
+    ("a slice added", &["extend_slice", "extend_lent"]),
+    ("`retain`", &["retain"]),
+    ("an item inserted and one removed", &["middle", "random"]),
+    ("rotations", &["rotate_full_one", "rotate_full_half", "rotate_half_one", "rotate_half_half"]),
+    ("a range drained", &["drain_middle", "drain_all", "drain_four", "drain_fold"]),
+    ("binary searches", &["search", "partition_point"]),
+    ("a vector in and out", &OF_VECTORS),
+];
+
+/// The row that takes the greatest part of a peer's time.
+fn worst_row(rows: &[&Figures], peer: usize) -> String {
+    let worst = rows.iter().max_by(|one, other| one.ratio(peer).total_cmp(&other.ratio(peer)));
+    worst.map(|row| format!("{:.1} times (`{}`)", row.ratio(peer), row.name)).unwrap_or_default()
+}
+
+/// README's table: what a task takes, as a part of either peer's time, and where ours is slowest.
+pub fn by_task(all: &[Figures]) -> String {
+    let every: Vec<&Figures> = all.iter().collect();
+    let mut table = String::from("| Task (rows) | Rust crate | `VecDeque` |\n|---|---|---|\n");
+    for (task, works) in TASKS.iter().chain(&[("all", [].as_slice())]) {
+        let chosen = |row: &&Figures| works.is_empty() || works.contains(&workload(row));
+        let rows: Vec<&Figures> = all.iter().filter(chosen).collect();
+        let [rust, std] = Summary::of(task, &rows).beside;
+        let _ = writeln!(table, "| {task} ({}) | {:.2} | {:.2} |", rows.len(), rust.mean, std.mean);
+    }
+    let [rust, std] = Summary::of("all", &every).beside;
+    let [crate_worst, std_worst] = [0, 1].map(|peer| worst_row(&every, peer));
+    format!(
+        "{table}\nIt is slower than the crate in {} rows, at worst {crate_worst}, and than `VecDeque` in {}, at worst \
+         {std_worst}.\n",
+        rust.slower, std.slower,
+    )
+}
+
+/// The table of the bench's page: what all rows come to, beside either peer.
+pub fn of_all(all: &[Figures]) -> String {
+    let every: Vec<&Figures> = all.iter().collect();
+    let others: Vec<&Figures> = all.iter().filter(|row| !OF_VECTORS.contains(&workload(row))).collect();
+    let mut table = format!(
+        "{} rows of {} workloads:\n\n\
+         | Our time as a part of | geometric mean | rows in which ours is slower | worst row |\n|---|---|---|---|\n",
+        all.len(),
+        by_workload(all).len(),
+    );
+    for (whose, rows, peer) in [
+        ("the Rust crate's", &every, 0),
+        ("`VecDeque`'s", &every, 1),
+        ("`VecDeque`'s, but for vectors in and out", &others, 1),
+    ] {
+        let Span { mean, slower, .. } = Span::of(rows, peer);
+        let _ = writeln!(table, "| {whose} | {mean:.2} | {slower} | {} |", worst_row(rows, peer));
+    }
+    table
 }
 
 /// A workload with its greatest ratio and the count of its rows, if it has any of these.
@@ -159,19 +210,19 @@ pub fn page(all: &[Figures], summaries: &[Summary]) -> Result<String> {
         all.iter().filter(|row| row.worse_ratio() > LONGER).partition(|row| row.is_long());
     Ok(format!(
         "# The figures\n\n\
-         Written by `bench/run`. [README.md](README.md) says what they mean, and `figures.csv` has the nanoseconds of \
-         each row.\n\n\
-         By workload: the geometric mean of its rows, the least and the greatest of them, and in how many ours is \
-         slower.\n\n\
-         {}\n## Where it is slower, and why\n\n\
+         Written by `bench/run`. [README.md](README.md) says what they mean, `figures.csv` has the nanoseconds of each \
+         row, and `counts.csv` the instructions of those that take long.\n\n\
+         ## Where it is slower, and why\n\n\
          {} rows take more than {LONG} times the better peer's time, and {} others more than {LONGER}. \
-         `ends` 1.66 (1), as an example, says that 1 row of `ends` does, and that the slowest takes 1.66 times.\n\n\
-         {}\n{}\n{}",
-        short_table(all, summaries),
+         `NAME` 1.66 (1) means: 1 row of `NAME` is above the limit, and the slowest takes 1.66 times.\n\n\
+         {}\n{}\n## By workload\n\n\
+         The geometric mean of a workload's rows, the least and the greatest of them, and in how many ours is \
+         slower.\n\n\
+         {}",
         long.len(),
         shorter.len(),
         causes_table(LONG, &long)?,
-        counts_table(&long),
         causes_table(LONGER, &shorter)?,
+        short_table(all, summaries),
     ))
 }
