@@ -35,7 +35,7 @@ enum StepKind {
 /// A place is named by its number, below the capacity. A region can be dropped only once every
 /// place is empty, so that no value is ever lost with it.
 pub struct Slots<T> {
-    ptr: *mut T,
+    ptr: *const T,
     capacity: usize,
     alloc: Global,
     ghost places: { List (Option T) },

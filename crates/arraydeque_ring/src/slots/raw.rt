@@ -28,7 +28,7 @@ impl<T> Slots<T> {
           places = slice_set self.old.places place (Some value);
         } }
     {
-        unsafe { self.ptr.add(place).write(value) }
+        unsafe { (self.ptr as *mut T).add(place).write(value) }
     }
 
     /// Reads a place, which is empty from then on.
@@ -65,7 +65,7 @@ impl<T> Slots<T> {
     {
         unsafe {
             (self.ptr.add(dst).add(at) as *mut [T; N]).write(
-                (self.ptr.add(src).add(at) as *mut [T; N]).read(),
+                (self.ptr.add(src).add(at) as *const [T; N]).read(),
             )
         }
     }
@@ -82,7 +82,7 @@ impl<T> Slots<T> {
           places = splice other.old.places to (to + len) (take len (drop from self.old.places));
         } }
     {
-        unsafe { ptr::copy_nonoverlapping(self.ptr.add(from), other.ptr.add(to), len) }
+        unsafe { ptr::copy_nonoverlapping(self.ptr.add(from), (other.ptr as *mut T).add(to), len) }
     }
 
     /// Copies the values in the `len` places from `src` on to those from `dst` on, and leaves their
@@ -95,7 +95,7 @@ impl<T> Slots<T> {
           places = run_moved dst src len self.old.places;
         } }
     {
-        unsafe { ptr::copy_nonoverlapping(self.ptr.add(src), self.ptr.add(dst), len) }
+        unsafe { ptr::copy_nonoverlapping(self.ptr.add(src), (self.ptr as *mut T).add(dst), len) }
     }
 
     /// Lends a place for writing.
@@ -104,7 +104,7 @@ impl<T> Slots<T> {
         ensures* writes_back { sem 𝓛 (lends_value T.row self.entry place result) }
         ensures value { held_at self.old.places place ≡ Some result.now }
     {
-        unsafe { &mut *self.ptr.add(place) }
+        unsafe { &mut *(self.ptr as *mut T).add(place) }
     }
 
     /// Returns the values in the `len` places from the place `from` on, in order. Requires filled
@@ -123,7 +123,7 @@ impl<T> Slots<T> {
         ensures* writes_back { sem 𝓛 (lends_values T.row self.entry from result) }
         ensures values { HoldsRun self.old.places from len result.now }
     {
-        unsafe { slice::from_raw_parts_mut(self.ptr.add(from), len) }
+        unsafe { slice::from_raw_parts_mut((self.ptr as *mut T).add(from), len) }
     }
 
     /// Lends two runs of places for writing, which have no place in common, and counts two lends.
@@ -137,8 +137,8 @@ impl<T> Slots<T> {
     {
         unsafe {
             Loan {
-                first: slice::from_raw_parts_mut(self.ptr.add(a), a_len),
-                second: slice::from_raw_parts_mut(self.ptr.add(b), b_len),
+                first: slice::from_raw_parts_mut((self.ptr as *mut T).add(a), a_len),
+                second: slice::from_raw_parts_mut((self.ptr as *mut T).add(b), b_len),
                 name: LoanName { mark: PhantomData },
             }
         }
@@ -151,7 +151,7 @@ impl<T> Slots<T> {
     {
         let mut nothing: [T; 0] = [];
         Slots {
-            ptr: &raw mut nothing as *mut T,
+            ptr: &raw const nothing as *const T,
             capacity,
             alloc,
         }
@@ -169,7 +169,7 @@ impl<T> Slots<T> {
     {
         match heap.allocate(capacity * size_of::<T>(), align_of::<T>()) {
             Ok(block) => Ok(Slots {
-                ptr: block as *mut T,
+                ptr: block as *const T,
                 capacity,
                 alloc,
             }),

@@ -49,6 +49,7 @@ copy_apart_spec 𝓤 𝓛 𝓜 𝓡 wired X L =
     sets ! (bin ! (get ! refl) (get ! refl) tt) refl (tt, tt) $
     sets ! (of_opd ! (load ! (through ! refl (fld ! refl (stop !))) (look_in ! 2 (sub ! 0 refl (whole !)))))
     refl (tt, tt) $
+    sets ! (of_opd ! (get ! refl)) refl (tt, tt) $
     sets ! (scaled ! (get ! refl) to_near) refl (tt, record { fits = to_near }) $
     sets ! (bin ! (get ! refl) (get ! refl) tt) refl (tt, tt) $
     apart_out E ! b o ps to from n filled target apart (λ Rest back. fjoin ! $

@@ -45,12 +45,14 @@ lend_two_spec 𝓤 𝓛 𝓜 𝓡 wired X L =
     first ! $ blocks ! $
     sets ! (of_opd ! (load ! (through ! refl (fld ! refl (stop !))) (look_in ! 2 (sub ! 0 refl (whole !)))))
     refl (tt, tt) $
+    sets ! (of_opd ! (get ! refl)) refl (tt, tt) $
     sets ! (scaled ! (get ! refl) far) refl (tt, record { fits = far }) $
     sets ! (bin ! (get ! refl) (get ! refl) tt) refl (tt, tt) $
     sets ! (agg ! (and_then ! (get ! refl) (and_then ! (get ! refl) (no_more !)))) refl
     (tt, (tt, (la_ok, tt))) $
     sets ! (of_opd ! (load ! (through ! refl (fld ! refl (stop !))) (look_in ! 2 (sub ! 0 refl (whole !)))))
     refl (tt, tt) $
+    sets ! (of_opd ! (get ! refl)) refl (tt, tt) $
     sets ! (scaled ! (get ! refl) far') refl (tt, record { fits = far' }) $
     sets ! (bin ! (get ! refl) (get ! refl) tt) refl (tt, tt) $
     sets ! (agg ! (and_then ! (get ! refl) (and_then ! (get ! refl) (no_more !)))) refl
