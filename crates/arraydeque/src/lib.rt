@@ -63,13 +63,15 @@
 //! | Call | Moves |
 //! |---|---|
 //! | pushes, pops, extends, `append`, `split_off`, `clear`, truncates | no item that stays |
+//! | `pop_front_if`, `pop_back_if` | the same |
 //! | `read`, `consume` and `write` of a deque of bytes | no byte that stays |
 //! | `insert` | the items before the index or those from it on, whichever are fewer |
 //! | `remove`, `drain` | the items before what goes or those behind it, whichever are fewer |
+//! | `rotate_left`, `rotate_right` | those that go round or the others, whichever are fewer; if full, none |
 //! | `swap`, `swap_remove_back`, `swap_remove_front` | two items, by one exchange at most |
-//! | rotations | those that go round or the others, whichever are fewer; none in a full deque |
 //! | `retain`, `retain_mut` | each kept item behind the first that goes, once |
 //! | `linearize` | in place, by no more moves and exchanges, taken together, than items |
+//! | `front_mut`, `back_mut`, `get_mut`, `iter_mut`, `as_mut_slices`, `as_mut_slice` | no item |
 //! | a conversion to the other policy | no item |
 //!
 //! On a tie a rotation moves the first half of the list, and `insert`, `remove` and `drain` move
