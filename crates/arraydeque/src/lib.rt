@@ -67,7 +67,7 @@
 //! | `read`, `consume` and `write` of a deque of bytes | no byte that stays |
 //! | `insert` | the items before the index or those from it on, whichever are fewer |
 //! | `remove`, `drain` | the items before what goes or those behind it, whichever are fewer |
-//! | `rotate_left`, `rotate_right` | those that go round or the others, whichever are fewer; if full, none |
+//! | `rotate_left`, `rotate_right` | those that go round or the rest, whichever are fewer |
 //! | `swap`, `swap_remove_back`, `swap_remove_front` | two items, by one exchange at most |
 //! | `retain`, `retain_mut` | each kept item behind the first that goes, once |
 //! | `linearize` | in place, by no more moves and exchanges, taken together, than items |
@@ -75,7 +75,8 @@
 //! | a conversion to the other policy | no item |
 //!
 //! On a tie a rotation moves the first half of the list, and `insert`, `remove` and `drain` move
-//! the items behind the gap. Each item that moves moves once, except in `linearize`.
+//! the items behind the gap. In a full deque a rotation moves none. Each item that moves moves
+//! once, except in `linearize`.
 #![tactic(auto)]
 
 pub mod behavior;
