@@ -294,10 +294,11 @@ impl<T> Ring<T> {
         slots.get_mut(place)
     }
 
-    /// The place of an item. No branch depends on the index, since indexes may come at random: it
-    /// is found by a mask if the capacity is a power of two, else by taking the capacity or 0
-    /// off the sum. If sums might pass `usize::MAX`, as only items of size zero allow, it is
-    /// found by `wrap_add`.
+    /// Returns the place of an item. No branch depends on the index, since indexes may come at
+    /// random (with one a random `swap` at capacity 1000 took 13 ns, without it 4.4): the place is
+    /// found by a mask if the capacity is a power of two, else by taking the capacity or 0 off the
+    /// sum. If sums might pass `usize::MAX`, as only items of size zero allow, it is found by
+    /// `wrap_add`.
     #[inline(always)]
     fn place(&self, index: usize) -> usize
         requires { index < length self.now.items }
