@@ -1,8 +1,18 @@
 //! A ring of items in one raw region: what a fixed-capacity deque stands on.
 //!
+//! A [`Ring`] is a list of items that wraps round the region's end. Its capacity is given at run
+//! time, and it has no policy: a push requires room. In all examples `alloc` is `rt.alloc()`.
+//!
+//! ```
+//! let mut ring = Ring::new(alloc, 2)?;
+//! ring.push_back(1);
+//! ring.push_front(0);
+//! assert!(rt; ring.len() == ring.capacity());
+//! assert!(rt; (ring.pop_front(), ring.pop_front()) == (Some(0), Some(1)));
+//! ```
+//!
 //! [`slots`] is the region, places that each hold a value or nothing, and the only module with raw
 //! pointers.
-//! [`ring`] is a list of items that wraps round the region's end.
 #![tactic(auto)]
 
 pub mod ring;

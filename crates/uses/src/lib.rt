@@ -1,4 +1,4 @@
-//! Uses of the deque, to be read as examples. Each is proved, over the deque's public contract
+//! Uses of deque and ring, to be read as examples. Each is proved, over their public contracts
 //! alone, to keep what its users care about.
 #![tactic(auto)]
 
