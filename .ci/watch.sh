@@ -22,20 +22,20 @@ watched() {
     TOLD="$scratch/told" LD_PRELOAD="$scratch/watch.so" "$@"
 }
 
-# test_programs: the programs of the tests, as the gate built them.
-test_programs() {
-    local folder
+# each_program CALL FAULT: calls CALL for each program of tests, as the gate built them, with the program and the names of
+# its tests. Calls FAULT with a text where one was not built, or lists other tests than its crate has.
+each_program() {
+    local folder program names
     for folder in crates/*; do
-        if grep -rqF '#[test]' "$folder/src"; then
-            echo "$folder/out/${folder##*/}_tests"
+        grep -rqF '#[test]' "$folder/src" || continue
+        program=$folder/out/${folder##*/}_tests
+        if [ ! -x "$program" ]; then
+            "$2" "$program was not built"
+            continue
         fi
+        mapfile -t names < <("$program" --list | sed -n 's/: test$//p')
+        [ "${#names[@]}" -eq "$(grep -rhF '#[test]' "$folder/src" | wc -l)" ] ||
+            "$2" "$program lists other tests than its crate has"
+        "$1" "$program" "${names[@]}"
     done
-}
-
-# tests_of PROGRAM: the names of its tests. Answers whether they are as many as its crate has.
-tests_of() {
-    local names
-    names=$("$1" --list | sed -n 's/: test$//p')
-    echo "$names"
-    [ "$(grep -c . <<<"$names")" -eq "$(grep -rhF '#[test]' "${1%/out/*}/src" | wc -l)" ]
 }
