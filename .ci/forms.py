@@ -1,0 +1,74 @@
+"""What must stand as it does in the sources, at every size, since no contract says it.
+
+A region stays whole, and its memory goes back whenever it is dropped. A call of the region makes just the raw reads,
+writes and loans that it counts. Items are dropped front to back.
+"""
+import re
+
+from rattle import BRANCH, body
+
+TAKEN_APART = re.compile(r'\bSlots(?:::<.*>)? ?\{.*|\btype \w+.*\bSlots\b.*')
+OTHER_DROP = re.compile(r'\bDrop for (?!Slots<T> \{|Ring<T> \{).*')
+
+# The leaves of `slots/raw.rt` that make a step of each kind, and those that touch no item or count by themselves.
+LEAVES_OF = {
+    'Put': 'write',
+    'Take': 'read',
+    'Move': 'read write',
+    'Exchange': 'read read write write',
+    'Lend': 'lend',
+}
+NO_STEP = 'slice size_of_item without_memory with_memory give_back lend_two'.split()
+
+# By what each of these drops items, front to back. Beside that it counts places, or returns where there is no item.
+DROPS = {
+    'ArrayDeque::clear': 'self.ring.clear();',
+    'ArrayDeque::truncate': 'self.ring.truncate(len);',
+    'ArrayDeque::truncate_front': 'self.ring.truncate_front(len);',
+    'Ring::drop': 'self.clear();',
+    'Ring::clear': 'drop_round(&mut self.slots, self.start, 0, self.len);',
+    'Ring::truncate': 'drop_round(&mut self.slots, self.start, len, self.len - len);',
+    'Ring::truncate_front': 'drop_round(&mut self.slots, self.start, 0, gone);',
+    'drop_round': 'drop_run(slots, place, first); drop_run(slots, 0, len - first);',
+    'drop_run': 'for place in from..from + len { drop(slots.take(place)); }',
+}
+# A return, and a call of another kind than those that count places.
+EARLY_RETURN = re.compile(r'\bif [^{}]* \{ return; \}')
+OTHER_CALL = re.compile(r'(?<!\bcapacity)(?<!\bwrap_add)(?<!\bmin)(?:(?<=\w)|(?<=[!>]))\(')
+
+
+def faults_of_regions(path, text):
+    """Where a region is made or taken apart outside of the file with pointers, or another drop is written."""
+    if not path.endswith('/slots/raw.rt'):
+        own = re.findall(r'\bSelf ?\{.*', text) if '/slots' in path else []
+        for found in [*TAKEN_APART.findall(text), *own]:
+            yield f'{path}: a region is made or taken apart: {found}'
+    yield from (f'{path}: another drop is written: {found}' for found in OTHER_DROP.findall(text))
+
+
+def faults_of_steps(functions):
+    """Which calls of the region touch places otherwise than they count."""
+    below = [name.split('::')[-1] for path, name, _ in functions if path.endswith(('/slots/raw.rt', '/slots/runs.rt'))]
+    touching = re.compile(rf'(?<!fn )\b({"|".join(set(below) - set(NO_STEP))})(?:::<.*?>)?\(')
+    for path, name, code in functions:
+        if path.endswith(('/slots.rt', '/slots/loan.rt')):
+            counted, called = re.findall(r'\bStepKind::(\w+)', code), touching.findall(code)
+            due = ' '.join(LEAVES_OF[kind] for kind in counted).split()
+            told = f'{path}: {name} counts {" ".join(counted) or "no step"}'
+            if sorted(leaf.removesuffix('_run') for leaf in called) != sorted(due):
+                yield f'{told}, and calls {" ".join(called) or "no leaf"}'
+            if counted and re.search(r'\b(?:for|while|loop)\b', body(code)):
+                yield f'{told}, and has a loop'
+
+
+def faults_of_drops(functions):
+    """Which functions drop items otherwise than told above, and whether a region's drop gives its memory back."""
+    bodies = [(name, body(code)) for _, name, code in functions]
+    for wanted, drops in DROPS.items():
+        before, found, after = next((it for name, it in bodies if name == wanted), '').partition(drops)
+        rest = EARLY_RETURN.sub('', before + after)
+        if not found or BRANCH.search(rest) or OTHER_CALL.search(rest):
+            yield f'{wanted} drops items otherwise than by `{drops}`'
+    for name, it in bodies:
+        if name == 'Slots::drop' and (it.count('.give_back(') != 1 or BRANCH.search(it)):
+            yield f'{name} gives the memory back otherwise than by one call'

@@ -1,0 +1,61 @@
+"""Reads sources as text: without comments, literals and tests, function by function."""
+import re
+
+COMMENT_OR_LITERAL = re.compile(
+    r'''//[^\n]*|/\*.*?\*/|\br(#*)".*?"\1|"(?:[^"\\]|\\.)*"|'(?:[^'\\\n]|\\[^\n]+?)\'''', re.S
+)
+TEST_ITEM = re.compile(
+    r'^( *)#\[cfg\(test\)\]\n(?:\1#\[.*\]\n)*\1(?:pub\S* )?(?:mod \w+;'
+    r'|(?:(?:mod|impl|trait|struct|enum)\b.*\{|fn\b.*[^;}])\n(?:(?!\1(?!where\b)\w).*\n)*?\1\})$',
+    re.M,
+)
+ITEM = re.compile(
+    r'(?:pub\S* )?(?:unsafe )?(?:impl|trait|struct|enum|const|static|mod|type)\b(?:.*?(\w+)(?:<[^<>]*>)?(?: \{)?$)?'
+)
+FUNCTION = re.compile(r' *(?:pub\S* )?(?:const )?(?:unsafe )?fn (\w+)')
+BODY = re.compile(r'^( *)(?:(?:pub|fn|const|unsafe|\))[^\n]* )?\{\n(.*?)^\1\}$', re.M | re.S)
+BRANCH = re.compile(r'\b(?:if|else|match|for|while|loop|return)\b|\?')
+
+
+def without_comments(text):
+    """A text without comments, whose literals are empty."""
+    return COMMENT_OR_LITERAL.sub(lambda it: '' if it[0].startswith('/') else '""', text)
+
+
+def without_tests(text):
+    """A text without modules of tests and without items that stand in tests alone, each over several lines."""
+    return TEST_ITEM.sub('', text)
+
+
+def functions(text):
+    """The functions of a text, each with its name and its code, from its head up to the next item."""
+    owner, found = '', []
+    for line in text.splitlines():
+        if function := FUNCTION.match(line):
+            found.append([f'{owner}::{function[1]}' if line.startswith(' ') else function[1], ''])
+        elif item := ITEM.match(line):
+            owner = item[1]
+            found.append(['', ''])
+        if found:
+            found[-1][1] += line + '\n'
+    return [(name, code) for name, code in found if name]
+
+
+def body(code):
+    """The body of a function, in one line."""
+    found = BODY.search(code)
+    return ' '.join(found[2].split()) if found else ''
+
+
+def in_loops(code):
+    """The lines of a function that stand in a loop."""
+    found, loop = [], None
+    for line in code.splitlines():
+        indent = len(line) - len(line.lstrip())
+        if loop is None and re.match(r"\s*(?:let .*= )?(?:'\w+: )?(?:for|while|loop)\b", line):
+            loop = indent
+        elif loop is not None and indent > loop:
+            found.append(line)
+        elif loop is not None:
+            loop = None
+    return '\n'.join(found)
