@@ -36,6 +36,7 @@ fn takes_nothing_out<const CAP: usize, B: Behavior>(deque: &mut ArrayDeque<i64, 
     deque.retain_mut(|_| true);
     deque.truncate(0);
     deque.truncate_front(0);
+    deque.resize(0, 7);
     deque.clear();
     deque.rotate_left(0);
     deque.rotate_right(0);

@@ -1,4 +1,6 @@
-//! Clearing, truncating and retaining.
+//! Clearing, truncating, resizing and retaining.
+ghost use Rattle.std.specs.Prelude.{◌≤◌};
+
 use crate::build::{deque_at, holds, made, numbers};
 use std::alloc::Global;
 use std::process::Abort;
@@ -198,5 +200,46 @@ fn truncates_at_every_start_and_length(rt: HostRuntime) -> Result<(), Fail> {
     truncate_all::<5>(&rt, rt.alloc())?;
     truncate_all::<8>(&rt, rt.alloc())?;
     assert!(rt; truncates_alike::<5>(rt.alloc(), 3, 4, usize::MAX)?);
+    Ok(())
+}
+
+/// Whether a resize leaves what it leaves of a plain list, and the list starts where it did.
+fn resizes_alike<const CAP: usize>(
+    alloc: Global,
+    start: usize,
+    len: usize,
+    wanted: usize,
+) -> Result<bool, Fail>
+    requires { wanted ≤ CAP }
+{
+    let mut list = numbers(alloc, len)?;
+    let mut deque = deque_at::<CAP>(alloc, start, &list)?;
+    let front = deque.as_slices().0.len().min(wanted);
+    deque.resize(wanted, 77);
+    list.resize(wanted, 77)?;
+    Ok(holds(&deque, &list) && deque.as_slices().0.len() >= front)
+}
+
+/// Resizes to each length up to the capacity, at each start and length.
+fn resize_all<const CAP: usize>(rt: &impl Abort, alloc: Global) -> Result<(), Fail> {
+    for start in 0..CAP {
+        for len in 0..=CAP {
+            for wanted in 0..=CAP {
+                assert!(rt;
+                    resizes_alike::<CAP>(alloc, start, len, wanted)?,
+                    "{wanted} of {CAP}, start {start}, length {len}"
+                );
+            }
+        }
+    }
+    Ok(())
+}
+
+#[test]
+fn resizes_at_every_start_and_length(rt: HostRuntime) -> Result<(), Fail> {
+    resize_all::<1>(&rt, rt.alloc())?;
+    resize_all::<2>(&rt, rt.alloc())?;
+    resize_all::<5>(&rt, rt.alloc())?;
+    resize_all::<8>(&rt, rt.alloc())?;
     Ok(())
 }

@@ -1,11 +1,12 @@
-//! Dropping items at their places: all, those at one end, or those that a closure rejects.
-ghost use Rattle.std.specs.Prelude.{◌≡◌, ◌-◌, ◌≤◌, Bool, [], length, map, take};
+//! Dropping items at their places: all, those at one end, or those that a closure rejects; and
+//! another length.
+ghost use Rattle.std.specs.Prelude.{◌≡◌, ◌-◌, ◌≤◌, ◌++◌, Bool, [], length, map, take, replicate};
 ghost use Rattle.std.specs.List.{filter};
 ghost use Rattle.std.specs.Fn.{CalledAt, CalledAtMut};
 ghost use Rattle.std.specs.List.Retain.{IsFiltered, RetainsInTurn};
 ghost use Rattle.arraydeque_ring.specs.Ring.{up_by};
 ghost use Rattle.arraydeque_ring.specs.Retained.{Retains, RetainsMut, MayBeAsked, MayWrite};
-ghost use Rattle.arraydeque_ring.specs.Steps.{more_takes};
+ghost use Rattle.arraydeque_ring.specs.Steps.{more_puts, more_takes};
 ghost use Rattle.arraydeque.specs.Deque.{as_ring, keep_last};
 
 use super::ArrayDeque;
@@ -52,6 +53,33 @@ impl<T, const CAP: usize, B: Behavior> ArrayDeque<T, CAP, B> {
         ensures steps { self.new.steps ≡ more_takes (length self.old.items - len) self.old.steps }
     {
         self.ring.truncate(len);
+    }
+
+    /// Makes the list `len` items long: keeps the first `len`, or all and puts copies of `value`
+    /// behind them. The others are dropped, front to back. No item moves, and no memory is taken.
+    /// Requires a length up to `CAP`.
+    ///
+    /// ```
+    /// let mut deque = ArrayDeque::<i64, 4, Saturating>::new(alloc)?;
+    /// deque.extend_back([1, 2]);
+    /// deque.resize(4, 7);
+    /// assert!(rt; (deque.len(), deque.back()) == (4, Some(&7)));
+    /// deque.resize(1, 7);
+    /// assert!(rt; deque.into_vec()?.as_slice() == [1].as_slice());
+    /// ```
+    pub fn resize(&mut self, len: usize, value: T)
+    where
+        T: Copy,
+        requires { len ≤ CAP }
+        ensures items { self.new.items ≡
+            take len self.old.items ++ replicate (len - length self.old.items) value }
+        ensures len { length self.new.items ≡ len }
+        ensures within { length self.new.items ≤ CAP }
+        ensures start { self.new.start ≡ self.old.start }
+        ensures steps { self.new.steps ≡ more_puts (len - length self.old.items)
+            (more_takes (length self.old.items - len) self.old.steps) }
+    {
+        self.ring.resize(len, value);
     }
 
     /// Keeps the last `len` items, or all if there are no more. The others are dropped, front to

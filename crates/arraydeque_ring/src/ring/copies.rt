@@ -1,9 +1,9 @@
-//! Items once more: copies behind the last one, a second ring of clones or copies, a ring of a
-//! vector's items, and a vector of a ring's.
-ghost use Rattle.std.specs.Prelude.{◌≡◌, ◌⊎◌, ◌*◌, ◌+◌, ◌-◌, ◌<◌, ◌≤◌, ◌++◌, length, min, take, Any, IfOk, IfErr, OnOk, OnErr};
+//! Items once more: copies of items or of one value behind the last one, a second ring of clones or
+//! copies, a ring of a vector's items, and a vector of a ring's.
+ghost use Rattle.std.specs.Prelude.{◌≡◌, ◌⊎◌, ◌*◌, ◌+◌, ◌-◌, ◌<◌, ◌≤◌, ◌++◌, length, min, take, replicate, Any, IfOk, IfErr, OnOk, OnErr};
 ghost use Rattle.std.specs.Mem.{type_size};
 ghost use Rattle.arraydeque_ring.specs.Ring.{place_of, ClonesAreSame};
-ghost use Rattle.arraydeque_ring.specs.Steps.{no_steps, more_puts};
+ghost use Rattle.arraydeque_ring.specs.Steps.{no_steps, more_puts, more_takes};
 
 use super::Ring;
 use crate::slots::Slots;
@@ -71,6 +71,56 @@ impl<T> Ring<T> {
         self.slots.put_round(behind, &items[..count], first);
         self.len += count;
         count
+    }
+
+    /// Makes the list `len` items long: keeps the first ones, or all and puts copies of a value
+    /// behind them. What goes is dropped, front to back. Requires a length up to the capacity.
+    ///
+    /// ```
+    /// let mut ring = Ring::of_copies(alloc, 4, &[1, 2])?;
+    /// ring.resize(4, 7);
+    /// ring.resize(3, 8);
+    /// assert!(rt; IntoIter::of(ring).eq([1, 2, 7]));
+    /// ```
+    #[tactic(auto, using(crate::proofs::Opened::copy_facts))]
+    pub fn resize(&mut self, len: usize, value: T)
+    where
+        T: Copy,
+        requires { len ≤ self.old.capacity }
+        ensures { let more = len - length self.old.items in self.new ≡ record self.old {
+          items = take len self.old.items ++ replicate more value;
+          steps = more_puts more (more_takes (length self.old.items - len) self.old.steps);
+        } }
+    {
+        if len <= self.len {
+            self.truncate(len);
+        } else {
+            self.repeat_back(len - self.len, value);
+        }
+    }
+
+    /// Puts copies of a value behind the last item. Requires room for all.
+    #[tactic(auto, using(crate::proofs::Opened::piece_facts))]
+    #[inline]
+    fn repeat_back(&mut self, count: usize, value: T)
+    where
+        T: Copy,
+        requires { length self.old.items + count ≤ self.old.capacity }
+        ensures { self.new ≡ record self.old {
+          items = self.old.items ++ replicate count value;
+          steps = more_puts count self.old.steps;
+        } }
+    {
+        if count == 0 {
+            return;
+        }
+        let capacity = self.slots.capacity();
+        let behind = wrap_add(self.start, self.len, capacity);
+        let first = count.min(capacity - behind);
+        let slots = self.slots.move_out();
+        let slots = slots.put_same(behind, first, value);
+        self.slots = slots.put_same(0, count - first, value);
+        self.len += count;
     }
 
     /// Returns a ring of the items of a vector, in order from the first place on, as many as there

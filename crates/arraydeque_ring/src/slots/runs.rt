@@ -5,7 +5,7 @@
 //! blocks by `move_block`, in an order that overwrites no value that has still to move. Copies of a
 //! slice come in blocks. Where values move or are exchanged one by one, the region is a local
 //! meanwhile: its pointer is known to stay.
-ghost use Rattle.std.specs.Prelude.{◌≡◌, ◌+◌, ◌-◌, ◌<◌, ◌≤◌, length, take, drop, if◌then◌else◌, ◌==◌};
+ghost use Rattle.std.specs.Prelude.{◌≡◌, ◌+◌, ◌-◌, ◌<◌, ◌≤◌, length, take, drop, replicate, if◌then◌else◌, ◌==◌};
 ghost use Rattle.std.specs.List.{splice};
 ghost use Rattle.arraydeque_ring.specs.Moved.{MeetAtOneEndAtMost, IsFilledRound, IsFreeRound, CanCopy, CanMove, run_moved};
 ghost use Rattle.arraydeque_ring.specs.Ring.{place_of};
@@ -443,5 +443,23 @@ impl<T> Slots<T> {
             }
         }
         moved
+    }
+
+    /// Puts copies of one value into the `len` empty places from `from` on.
+    ///
+    /// It takes the region by value, so that its memory need not be looked up anew for each place.
+    pub(crate) fn put_same(mut self, from: usize, len: usize, value: T) -> Slots<T>
+    where
+        T: Copy,
+        requires { IsEmptyRun self.places from len }
+        ensures places { result.places ≡ with_run from (replicate len value) self.places }
+        ensures steps { result.steps ≡ more_puts len self.steps }
+    {
+        // Reading the capacity tells the prover that no sum passes `usize::MAX`.
+        let _capacity = self.capacity();
+        for k in 0..len {
+            self.put(from + k, value);
+        }
+        self
     }
 }
