@@ -118,6 +118,7 @@ fn no_items_of_no_places_0_requests_0_bytes(rt: HostRuntime) -> Result<(), Fail>
 fn reads_one<B: Behavior>(deque: &mut ArrayDeque<i64, 1, B>) -> bool {
     deque.truncate(1);
     deque.truncate_front(2);
+    deque.resize(1, 7);
     deque.linearize();
     (deque.len(), deque.capacity()) == (1, 1)
         && (deque.is_empty(), deque.is_full()) == (false, true)
@@ -150,7 +151,7 @@ fn finds_one<B: Behavior>(deque: &mut ArrayDeque<i64, 1, B>) -> bool {
         && deque.binary_search_by_key(&5, |item| *item) == Err(0)
 }
 
-/// Whether the one item is written over where it stands, and is 6 again.
+/// Whether the one item is written over where it stands, or by a resize, and is 6 again.
 fn writes_one<B: Behavior>(deque: &mut ArrayDeque<i64, 1, B>) -> bool {
     if let Some(item) = deque.front_mut() {
         *item = 7;
@@ -169,6 +170,9 @@ fn writes_one<B: Behavior>(deque: &mut ArrayDeque<i64, 1, B>) -> bool {
         true
     });
     let by_retain_mut = holds(deque, &[5]);
+    deque.clear();
+    deque.resize(1, 4);
+    let by_resize = holds(deque, &[4]);
     if deque.len() == 1 {
         deque[0] = 6;
         deque.swap(0, 0);
@@ -177,6 +181,7 @@ fn writes_one<B: Behavior>(deque: &mut ArrayDeque<i64, 1, B>) -> bool {
         && by_the_back
         && by_get
         && by_retain_mut
+        && by_resize
         && deque.get_mut(1).is_none()
         && holds(deque, &[6])
 }
@@ -253,6 +258,7 @@ enum Out {
     Clear,
     Truncate,
     TruncateFront,
+    Resize,
     Retain,
     RetainMut,
 }
@@ -277,6 +283,10 @@ fn take_out<B: Behavior>(deque: &mut ArrayDeque<i64, 1, B>, out: Out) -> Option<
         }
         Out::TruncateFront => {
             deque.truncate_front(0);
+            Some(6)
+        }
+        Out::Resize => {
+            deque.resize(0, 7);
             Some(6)
         }
         Out::Retain => {
@@ -319,6 +329,7 @@ fn one_place_is_free_once_its_item_goes(rt: HostRuntime) -> Result<(), Fail> {
         Out::Clear,
         Out::Truncate,
         Out::TruncateFront,
+        Out::Resize,
         Out::Retain,
         Out::RetainMut,
     ];
