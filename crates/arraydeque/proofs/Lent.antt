@@ -1,9 +1,10 @@
 -- A deque in memory is taken apart into its ring, and made of it again.
 -- All its items are lent as its ring lends them. Assumes `Logic`.
+use Rattle.std.proofs.Common.{take, drop, arith}
 use Rattle.arraydeque_ring.{
   proofs.{
-    loans.{Placed.{as_many-same, as_many-twice, length-as_many}, Rings.Rr},
-    memory.Kit.{◌≡◌, sym, ap, subst, ◌∙◌, List, [], ◌∷◌, ℕ, ◌+◌, ◌≤◌, length, Ura, full_share},
+    loans.{Parts.{length_rewritten, part_twice}, Placed.{as_many-same, as_many-twice, length-as_many}, Rings.Rr},
+    memory.Kit.{◌≡◌, refl, sym, ap, subst, ◌∙◌, List, [], ◌∷◌, ℕ, ◌+◌, ◌≤◌, length, Ura, full_share},
     memory.Kit.{SProp, ent, sep, ex, Logic, sem, RattleType, part_at, param_laws, Fml, El, R, el_x},
     memory.Kit.via,
   },
@@ -19,7 +20,7 @@ use denote.{
 use Rattle.arraydeque.specs.{
   declared.deque.ArrayDeque.TheInside.Inside,
   Deque.DequeState,
-  DequeLends.rewritten,
+  DequeLends.{rewritten, part_rewritten},
 }
 use Rattle.std.specs.contracts.marker.PhantomData as phantom
 use Rattle.std.proofs.marker.PhantomData.TheLaws as phantom_laws
@@ -120,6 +121,30 @@ module _ (E : El) (N : ℕ) (B : RattleType) (x : Fields E N B) (d : DequeState 
     ap (λ (v : DequeState (el_x E)). v.start) seen,
     ap (λ (v : DequeState (el_x E)). v.steps) seen,
   )
+
+module _ (E : El) (N : ℕ) (B : RattleType) (x : Fields E N B) (d : DequeState (el_x E)) (seen : view E N B x ≡ d)
+    (kept : Kept E N B x) (from len : ℕ) (within : from + len ≤ length d.items) where
+  -- the ring and the deque after any writing to a part
+  abbrev pub after_part : List (el_x E) → Fields E N B
+  after_part ws = with_ring E N B x (ring.part_rewritten from len x.ring ws)
+
+  all_items : x.ring.items ≡ d.items
+  all_items = ap (λ (v : DequeState (el_x E)). v.items) seen
+
+  pub kept_part : (ws : List (el_x E)) → Kept E N B (after_part ws)
+  kept_part ws = (
+    kept.0,
+    rw all_items (omega (arith, length_rewritten d.items ws from len within, ap length all_items, kept.1)),
+  )
+
+  pub seen_part : (ws : List (el_x E))
+      → view E N B (after_part ws) ≡ part_rewritten from len d (take len (drop from (view E N B (after_part ws)).items))
+  seen_part ws = rw (
+    all_items,
+    part_twice d.items ws from len within,
+    ap (λ (v : DequeState (el_x E)). v.start) seen,
+    ap (λ (v : DequeState (el_x E)). v.steps) seen,
+  ) refl
 
 -- what was rewritten is rewritten by its own items: the same
 pub rewritten-twice : {X : Type 0} (d : DequeState X) (xs : List X)

@@ -2,7 +2,8 @@
 use Rattle.std.specs.{
   Borrow.{Fml, GName, RattleType, MutBor, Array, Lends, LendsIf, LendsBoth, fsep, follows},
   Borrow.follows_both,
-  Prelude.{ℕ, List, ◌++◌, slice_set, Option},
+  List.splice,
+  Prelude.{ℕ, ◌+◌, List, ◌++◌, take, drop, slice_set, Option},
 }
 use Rattle.arraydeque_ring.specs.{Loans.LoanState, Runs.as_many, Steps.more_lends}
 use Rattle.arraydeque.specs.{contracts.deque.ArrayDeque.the_row, Deque.DequeState}
@@ -31,7 +32,21 @@ rewritten deque xs = record deque {
   steps = more_lends 2 deque.steps;
 }
 
+-- a deque with the items xs in the stead of the len items from the index `from` on, as many of them
+-- as these were, and two lends counted
+abbrev pub part_rewritten : {X : Type 0} → ℕ → ℕ → DequeState X → List X → DequeState X
+part_rewritten from len deque xs = record deque {
+  items = splice deque.items from (from + len) (as_many (take len (drop from deque.items)) xs);
+  steps = more_lends 2 deque.steps;
+}
+
 module _ (T CAP B : RattleType) (deque : MutBor (DequeState T.Denot)) where
+  -- of the len items from the index `from` on there are as many as before and two lends are
+  -- counted, and nothing else changes
+  abbrev pub lends_part : ℕ → ℕ → GName → Fml
+  lends_part from len name = follows (the_row T CAP B) (the_row T CAP B) deque.ghost_name name
+      (λ w. part_rewritten from len deque.now (take len (drop from w.items)))
+
   -- there are as many items as before and two lends are counted, and nothing else changes
   abbrev pub lends_items : GName → Fml
   lends_items name = follows (the_row T CAP B) (the_row T CAP B) deque.ghost_name name

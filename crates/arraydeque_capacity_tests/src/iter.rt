@@ -36,7 +36,8 @@ fn lends_nothing<const CAP: usize, B: Behavior>(
 ) -> Result<bool, AllocError> {
     let is_read = has_nothing(deque.iter())? && has_nothing((&*deque).into_iter())?;
     let is_written = has_nothing_to_write(deque.iter_mut())
-        && has_nothing_to_write((&mut *deque).into_iter());
+        && has_nothing_to_write((&mut *deque).into_iter())
+        && has_nothing_to_write(deque.range_mut(..));
     let (front, back) = deque.as_mut_slices();
     let is_cut = front.is_empty() && back.is_empty();
     deque.linearize();
@@ -131,6 +132,12 @@ fn is_written_by_a_loan<B: Behavior>(mut deque: ArrayDeque<i64, 1, B>) -> bool {
     is_lent && holds(&deque, &[8])
 }
 
+/// Whether it is by the iterator over a range, from the back.
+fn is_written_by_range_mut<B: Behavior>(mut deque: ArrayDeque<i64, 1, B>) -> bool {
+    let is_lent = writes_over(deque.range_mut(..), true, 4);
+    is_lent && holds(&deque, &[4])
+}
+
 /// Whether it stands in the first slice for writing. It becomes 9.
 fn writes_in_slices<B: Behavior>(deque: &mut ArrayDeque<i64, 1, B>) -> bool {
     let (front, back) = deque.as_mut_slices();
@@ -152,6 +159,7 @@ fn is_written_in_one_slice<B: Behavior>(mut deque: ArrayDeque<i64, 1, B>) -> boo
 fn writes_over_one<B: Behavior>(mut deque: ArrayDeque<i64, 1, B>) -> Result<bool, Fail> {
     let is_lent = is_written_by_iter_mut(deque.clone()?)
         && is_written_by_a_loan(deque.clone()?)
+        && is_written_by_range_mut(deque.clone()?)
         && is_written_in_one_slice(deque.clone()?);
     let is_whole = writes_in_slices(&mut deque);
     Ok(is_lent && is_whole && holds(&deque, &[9]))

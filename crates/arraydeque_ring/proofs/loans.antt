@@ -1,6 +1,7 @@
 pub mod Lending
 pub mod Made
 pub mod Names
+pub mod Parts
 pub mod Placed
 pub mod Rings
 pub mod Runs

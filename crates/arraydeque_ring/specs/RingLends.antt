@@ -2,7 +2,8 @@
 use Rattle.std.specs.{
   Borrow.{Fml, GName, RattleType, MutBor, Array, Lends, LendsIf, LendsBoth, fsep, follows},
   Borrow.follows_both,
-  Prelude.{ℕ, List, ◌++◌, slice_set, Option},
+  List.splice,
+  Prelude.{ℕ, ◌+◌, List, ◌++◌, take, drop, slice_set, Option},
 }
 use Rattle.arraydeque_ring.specs.{
   contracts.ring.Ring.the_row,
@@ -36,7 +37,21 @@ rewritten ring xs = record ring {
   steps = more_lends 2 ring.steps;
 }
 
+-- a ring with the items xs in the stead of the len items from the index `from` on, as many of them
+-- as these were, and two lends counted
+abbrev pub part_rewritten : {X : Type 0} → ℕ → ℕ → RingState X → List X → RingState X
+part_rewritten from len ring xs = record ring {
+  items = splice ring.items from (from + len) (as_many (take len (drop from ring.items)) xs);
+  steps = more_lends 2 ring.steps;
+}
+
 module _ (R : RattleType) (ring : MutBor (RingState R.Denot)) where
+  -- of the len items from the index `from` on there are as many as before and two lends are
+  -- counted, and nothing else changes
+  abbrev pub lends_part : ℕ → ℕ → GName → Fml
+  lends_part from len name = follows (the_row R) (the_row R) ring.ghost_name name
+      (λ w. part_rewritten from len ring.now (take len (drop from w.items)))
+
   -- there are as many items as before and two lends are counted, and nothing else changes
   abbrev pub lends_items : GName → Fml
   lends_items name = follows (the_row R) (the_row R) ring.ghost_name name

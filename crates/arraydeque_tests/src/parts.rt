@@ -185,6 +185,32 @@ fn lends_alike<const CAP: usize>(
     Ok(is_lent && deque.as_slice() == list.as_slice())
 }
 
+/// Whether writing over a part writes over that of a plain list, and leaves the others.
+fn writes_alike<const CAP: usize>(
+    alloc: Global,
+    start: usize,
+    len: usize,
+    from: usize,
+    to: usize,
+) -> Result<bool, Fail> {
+    let mut list = numbers(alloc, len)?;
+    let mut deque = deque_at::<CAP>(alloc, start, &list)?;
+    if from > to || to > deque.len() || to > list.len() {
+        return Ok(false);
+    }
+    let mut count = 100;
+    for item in deque.range_mut(from..to) {
+        *item = item.wrapping_add(count);
+        count = count.wrapping_add(100);
+    }
+    let mut count = 100;
+    for item in &mut list[from..to] {
+        *item = item.wrapping_add(count);
+        count = count.wrapping_add(100);
+    }
+    Ok(holds(&deque, &list))
+}
+
 /// Edits, rotations, drains, splits and ranges beside a plain list, at each start and length, for
 /// each part.
 fn compare_all<const CAP: usize>(rt: &impl Abort, alloc: Global) -> Result<(), Fail> {
@@ -200,7 +226,8 @@ fn compare_all<const CAP: usize>(rt: &impl Abort, alloc: Global) -> Result<(), F
                 for from in 0..=to {
                     assert!(rt;
                         parts_alike::<CAP>(alloc, start, len, from, to)?
-                            && lends_alike::<CAP>(alloc, start, len, from, to)?,
+                            && lends_alike::<CAP>(alloc, start, len, from, to)?
+                            && writes_alike::<CAP>(alloc, start, len, from, to)?,
                         "{from} to {to} of {CAP}, start {start}, length {len}"
                     );
                 }

@@ -1,6 +1,6 @@
 //! Callers of what a deque or a ring lends for writing, proved with no proof file: by its contracts
 //! alone each knows the length and the start afterwards, whatever it wrote.
-ghost use Rattle.std.specs.Prelude.{◌≡◌, ◌+◌, ◌-◌, ◌<◌, length};
+ghost use Rattle.std.specs.Prelude.{◌≡◌, ◌+◌, ◌-◌, ◌<◌, length, slice_get};
 
 use arraydeque::behavior::Behavior;
 use arraydeque::{ArrayDeque, CapacityError, IterMut, Saturating, Wrapping};
@@ -75,6 +75,18 @@ pub fn fill_until<const CAP: usize, B: Behavior>(
         *other = 1;
     }
     false
+}
+
+/// Writes over all items but the first, which stays.
+pub fn fill_behind_first<const CAP: usize, B: Behavior>(deque: &mut ArrayDeque<i64, CAP, B>)
+    requires { 0 < length deque.old.items }
+    ensures len { length deque.new.items ≡ length deque.old.items }
+    ensures first { slice_get deque.new.items 0 ≡ slice_get deque.old.items 0 }
+    ensures start { deque.new.start ≡ deque.old.start }
+{
+    for item in deque.range_mut(1..) {
+        *item = 0;
+    }
 }
 
 /// Writes over the first and the last item, and pushes the length.

@@ -4,8 +4,8 @@ use arraydeque_ring::ring::Ring;
 use arraydeque_samples::build::{deque_at, holds};
 use std::test::Fail;
 use uses::writing::{
-    count_in_slices, fill, fill_by_hand, fill_from_the_back, fill_until, fill_walked, wipe_and_pop,
-    write_ends_and_push, write_ring_slices, write_slices_and_push,
+    count_in_slices, fill, fill_behind_first, fill_by_hand, fill_from_the_back, fill_until,
+    fill_walked, wipe_and_pop, write_ends_and_push, write_ring_slices, write_slices_and_push,
 };
 
 #[test]
@@ -16,6 +16,10 @@ fn each_item_is_written(rt: HostRuntime) -> Result<(), Fail> {
         assert!(rt; holds(&deque, &[7, 7, 7]), "start {start}");
         let filled = fill_from_the_back(&mut deque, 8);
         assert!(rt; filled == 3 && holds(&deque, &[8, 8, 8]), "start {start}");
+        if deque.len() != 0 {
+            fill_behind_first(&mut deque);
+        }
+        assert!(rt; holds(&deque, &[8, 0, 0]), "start {start}");
         fill_walked(&mut deque, 9);
         assert!(rt; holds(&deque, &[9, 9, 9]), "start {start}");
         let (filled, counted) = (fill_by_hand(&mut deque), count_in_slices(&mut deque));

@@ -1,12 +1,12 @@
 //! Items of a deque, all or a part, lent for reading or for writing.
-ghost use Rattle.std.specs.Prelude.{◌≡◌, ◌≤◌, ◌++◌, [], List, length, slice_range};
+ghost use Rattle.std.specs.Prelude.{◌≡◌, ◌≤◌, ◌+◌, ◌-◌, ◌++◌, [], List, length, take, drop, slice_range};
 ghost use Rattle.std.specs.List.{refill};
 ghost use Rattle.std.specs.Borrow.{sem};
 ghost use Rattle.arraydeque_ring.specs.Loans.{remaining};
 ghost use Rattle.arraydeque_ring.specs.Ring.{IsInOnePiece};
 ghost use Rattle.arraydeque.specs.Deque.{as_ring};
 ghost use Rattle.arraydeque.specs.Range.{span_of};
-ghost use Rattle.arraydeque.specs.DequeLends.{lends_items, lends_list, lends_slices, lends_loan};
+ghost use Rattle.arraydeque.specs.DequeLends.{lends_items, lends_part, lends_list, lends_slices, lends_loan};
 
 use super::ArrayDeque;
 use crate::behavior::Behavior;
@@ -89,6 +89,43 @@ impl<T, const CAP: usize, B: Behavior> ArrayDeque<T, CAP, B> {
         ensures value { remaining result ≡ self.old.items }
     {
         IterMut::of(self.lend())
+    }
+
+    /// Returns an iterator over mutable references to the items of a range, from both ends.
+    /// Requires a range that is in order and ends within the list.
+    ///
+    /// Whatever is written, the deque holds as many items as before, they start where they did, and
+    /// those outside the range are as they were.
+    ///
+    /// ```
+    /// let mut deque = ArrayDeque::<i64, 4, Saturating>::new(alloc)?;
+    /// deque.extend_back([1, 2, 3, 4]);
+    /// assert!(rt; deque.len() == 4);
+    /// for item in deque.range_mut(1..3) {
+    ///     *item = 0;
+    /// }
+    /// assert!(rt; deque.into_vec()?.as_slice() == [1, 0, 0, 4].as_slice());
+    /// ```
+    pub fn range_mut<R: RangeArgument<usize>>(&mut self, range: R) -> IterMut<'_, T>
+    where
+        R: Drop,
+        requires in_order { let span =
+            span_of (R.names_start range) (R.names_end range) self.old.items in
+            span.from ≤ span.to }
+        requires in_bounds { let span =
+            span_of (R.names_start range) (R.names_end range) self.old.items in
+            span.to ≤ length self.old.items }
+        ensures* writes_back { let span =
+            span_of (R.names_start range) (R.names_end range) self.old.items in
+            sem 𝓛 (lends_part T.row CAP.row B.row self.entry
+            span.from (span.to - span.from) result.name) }
+        ensures value { let span =
+            span_of (R.names_start range) (R.names_end range) self.old.items in
+            remaining result ≡ slice_range self.old.items span.from span.to }
+    {
+        let from = range.start().unwrap_or(0);
+        let to = range.end().unwrap_or(self.len());
+        IterMut::of(self.lend_part(from, to - from))
     }
 
     /// Returns the items in two slices: those from the front to the region's end, and the rest,
@@ -187,5 +224,17 @@ impl<T, const CAP: usize, B: Behavior> ArrayDeque<T, CAP, B> {
     {
         let ring = &mut self.ring;
         ring.lend()
+    }
+
+    /// The `len` items from the index `from` on, for writing.
+    #[inline]
+    fn lend_part(&mut self, from: usize, len: usize) -> Loan<'_, T>
+        requires { from + len ≤ length self.old.items }
+        ensures* writes_back { sem 𝓛
+            (lends_part T.row CAP.row B.row self.entry from len result.name) }
+        ensures value { remaining result ≡ take len (drop from self.old.items) }
+    {
+        let ring = &mut self.ring;
+        ring.lend_part(from, len)
     }
 }

@@ -1,10 +1,10 @@
-//! All items of a ring, lent for reading or for writing.
-ghost use Rattle.std.specs.Prelude.{◌≡◌, [], ◌++◌, List, length};
+//! Items of a ring, all or a part, lent for reading or for writing.
+ghost use Rattle.std.specs.Prelude.{◌≡◌, ◌⊎◌, ◌+◌, ◌≤◌, [], ◌++◌, List, length, take, drop};
 ghost use Rattle.std.specs.List.{refill};
 ghost use Rattle.std.specs.Borrow.{sem};
 ghost use Rattle.arraydeque_ring.specs.Loans.{remaining};
 ghost use Rattle.arraydeque_ring.specs.Ring.{IsInOnePiece};
-ghost use Rattle.arraydeque_ring.specs.RingLends.{lends_items, lends_list, lends_slices, lends_loan};
+ghost use Rattle.arraydeque_ring.specs.RingLends.{lends_items, lends_part, lends_list, lends_slices, lends_loan};
 
 use super::Ring;
 use crate::slots::loan::Loan;
@@ -139,5 +139,47 @@ impl<T> Ring<T> {
         ensures one_piece { IsInOnePiece self.old → result.second.now ≡ [] }
     {
         self.lend()
+    }
+
+    /// The `len` items from the index `from` on, for writing, as one loan of two slices.
+    ///
+    /// Whatever is written, there are as many items as before, they start where they did, and those
+    /// outside the part are as they were.
+    ///
+    /// ```
+    /// let mut ring = Ring::of_copies(alloc, 4, &[2, 3, 4])?;
+    /// ring.push_front(1);
+    /// let (first, second) = ring.lend_part(1, 2).into_slices();
+    /// first.fill(7);
+    /// second.fill(7);
+    /// assert!(rt; IntoIter::of(ring).eq([1, 7, 7, 4]));
+    /// ```
+    #[inline]
+    pub fn lend_part(&mut self, from: usize, len: usize) -> Loan<'_, T>
+        requires { from + len ≤ length self.old.items }
+        ensures* writes_back { sem 𝓛 (lends_part T.row self.entry from len result.name) }
+        ensures value { remaining result ≡ take len (drop from self.old.items) }
+    {
+        let to_end = self.slots.capacity() - self.start;
+        let place = if from <= to_end {
+            self.start + from
+        } else {
+            from - to_end
+        };
+        self.lend_at(place, from, len)
+    }
+
+    /// The same, of a part that starts at a known place: where the item at the index `from` stands,
+    /// or the next one would.
+    fn lend_at(&mut self, place: usize, from: usize, len: usize) -> Loan<'_, T>
+        requires in_bounds { from + len ≤ length self.old.items }
+        requires in_region { place ≤ self.old.capacity }
+        requires here { (place ≡ self.old.start + from)
+            ⊎ (place + self.old.capacity ≡ self.old.start + from) }
+        ensures* writes_back { sem 𝓛 (lends_part T.row self.entry from len result.name) }
+        ensures value { remaining result ≡ take len (drop from self.old.items) }
+    {
+        let slots = &mut self.slots;
+        slots.lend_round(place, len)
     }
 }
