@@ -51,7 +51,8 @@
 //!
 //! - `deque[index]` and `swap`: indexes below the length. `insert`, `split_off`, `rotate_left` and
 //!   `rotate_right`: an index or a count up to the length.
-//! - `drain` and `range`: a range that is in order and ends within the list.
+//! - `drain`, `range` and `range_mut`: a range that is in order and ends within the list.
+//! - `resize`: a length up to `CAP`. (`truncate` and `truncate_front` take any.)
 //! - `as_slice` and `as_mut_slice`: a list in one piece, as `linearize` leaves it.
 //! - `extend_back`, `extend_front` and `from_iter` under [`Wrapping`], and `extend` under either
 //!   policy: an iterator that ends.
@@ -62,7 +63,8 @@
 //!
 //! | Call | Moves |
 //! |---|---|
-//! | pushes, pops, extends, `append`, `split_off`, `clear`, truncates | no item that stays |
+//! | pushes, pops, extends, `append`, `split_off` | no item that stays |
+//! | `clear`, truncates, `resize` | no item that stays |
 //! | `pop_front_if`, `pop_back_if` | the same |
 //! | `read`, `consume` and `write` of a deque of bytes | no byte that stays |
 //! | `insert` | the items before the index or those from it on, whichever are fewer |
@@ -71,7 +73,8 @@
 //! | `swap`, `swap_remove_back`, `swap_remove_front` | two items, by one exchange at most |
 //! | `retain`, `retain_mut` | each kept item behind the first that goes, once |
 //! | `linearize` | in place, by no more moves and exchanges, taken together, than items |
-//! | `front_mut`, `back_mut`, `get_mut`, `iter_mut`, `as_mut_slices`, `as_mut_slice` | no item |
+//! | `front_mut`, `back_mut`, `get_mut` | no item |
+//! | `iter_mut`, `range_mut`, `as_mut_slices`, `as_mut_slice` | no item |
 //! | a conversion to the other policy | no item |
 //!
 //! On a tie a rotation moves the first half of the list, and `insert`, `remove` and `drain` move
