@@ -3,7 +3,7 @@
 //!
 //! A contract sees a [`Slots`] as what each place holds and as the steps made so far. The steps are
 //! counted for contracts alone: they take no bytes.
-ghost use Rattle.std.specs.Prelude.{◌≡◌, ◌*◌, ◌+◌, ◌<◌, ◌≤◌, List, Option, Some, None, length, slice_set, swap, if◌then◌else◌, ◌==◌, IfOk, OnErr};
+ghost use Rattle.std.specs.Prelude.{◌≡◌, ◌*◌, ◌+◌, ◌^◌, ◌<◌, ◌≤◌, nat_lt, List, Option, Some, None, length, slice_set, swap, if◌then◌else◌, ◌==◌, IfOk, OnErr};
 ghost use Rattle.std.specs.Borrow.{sem};
 ghost use Rattle.std.specs.Mem.{type_size};
 ghost use Rattle.arraydeque_ring.specs.Places.{empty_region, held_at, IsFilled, IsEmpty, AreAllEmpty};
@@ -76,11 +76,10 @@ impl<T> Slots<T> {
         ensures ok { IfOk result (λ slots. slots ≡ empty_region capacity) }
         ensures refused { OnErr result (0 < capacity * type_size T.row) }
     {
-        let size = size_of_item::<T>();
-        if capacity == 0 || size == 0 {
+        if capacity == 0 || size_of_item::<T>() == 0 {
             return Ok(Slots::without_memory(alloc, capacity));
         }
-        if capacity > isize::MAX as usize / size {
+        if !can_be_named::<T>(capacity) {
             return Err(AllocError);
         }
         Slots::with_memory(&alloc, alloc, capacity)
@@ -190,6 +189,14 @@ impl<T> Slots<T> {
     fn count(&mut self, kind: StepKind, times: usize)
         ensures { self.new ≡ record self.old { steps = counted kind times self.old.steps } }
     {}
+}
+
+/// Whether the machine can name a region of so many places: its bytes are below 2^63.
+fn can_be_named<T>(capacity: usize) -> bool
+    ensures { result ≡ nat_lt (capacity * type_size T.row) (2 ^ 63) }
+{
+    let size = size_of_item::<T>();
+    size == 0 || capacity <= isize::MAX as usize / size
 }
 
 impl<T> Drop for Slots<T> {
