@@ -3,7 +3,7 @@
 ghost use Rattle.std.specs.Prelude.{◌≡◌, ◌-◌, ◌+◌, ◌*◌, ◌<◌, ◌≤◌, ◌++◌, length, take, drop, slice_range, min, nat_lt, if◌then◌else◌, IfOk, OnOk, OnErr};
 ghost use Rattle.std.specs.List.{remove_range};
 ghost use Rattle.std.specs.Mem.{type_size};
-ghost use Rattle.arraydeque_ring.specs.Ring.{rotated, up_by};
+ghost use Rattle.arraydeque_ring.specs.Ring.{place_of, rotated, up_by};
 ghost use Rattle.arraydeque_ring.specs.Runs.{IsFilledRun, IsEmptyRun, run_emptied};
 ghost use Rattle.arraydeque_ring.specs.Sides.{moves_to_drain, start_closed};
 ghost use Rattle.arraydeque_ring.specs.Changed.{DrainMovesFewest};
@@ -149,7 +149,9 @@ impl<T> Ring<T> {
         requires room { length self.old.items + len ≤ self.old.capacity }
         requires within { len ≤ length other.old.items }
         ensures some { 0 < result }
-        ensures within { result ≤ len }
+        ensures count { let n = self.old.capacity in
+            let place = place_of self.old.start (length self.old.items) n in
+            result ≡ min len (min (n - place) (other.old.capacity - other.old.start)) }
         ensures here { self.new ≡ record self.old {
           items = self.old.items ++ take result other.old.items;
           steps = more_puts result self.old.steps;
