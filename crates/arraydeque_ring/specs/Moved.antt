@@ -1,8 +1,8 @@
 -- A run of values that moves to other places, all at once, round the region's end.
 use Rattle.std.specs.{
   List.range_with_len,
-  Prelude.{ℕ, ◌+◌, ◌-◌, ◌<◌, ◌≤◌, ◌⊎◌, List, length, map, Bool, nat_lt, if◌then◌else◌, Option},
-  Prelude.None,
+  Prelude.{ℕ, ◌+◌, ◌-◌, ◌*◌, ◌<◌, ◌≤◌, ◌⊎◌, List, length, map, Bool, ◌||◌, ◌==◌, nat_le, nat_lt},
+  Prelude.{if◌then◌else◌, Option, None},
 }
 use Rattle.arraydeque_ring.specs.{Places.{held_at, IsFilled, IsEmpty}, Ring.place_of}
 
@@ -17,6 +17,10 @@ is_among from len n place = nat_lt (distance from place n) len
 -- of n places, the len from dst on don't meet those from src on at both their ends
 abbrev pub MeetAtOneEndAtMost : ℕ → ℕ → ℕ → ℕ → Type 0
 MeetAtOneEndAtMost dst src len n = (len ≤ distance src dst n) ⊎ (distance src dst n + len ≤ n)
+
+-- whether a block may have n items of `size` bytes each: it is one item, or has at most 32 kB
+abbrev pub is_block : ℕ → ℕ → Bool
+is_block n size = (n == 1) || nat_le (n * size) 32768
 
 module _ {X : Type 0} where
   -- the len places from `from` on, round the end, hold values

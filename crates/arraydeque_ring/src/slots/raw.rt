@@ -2,13 +2,13 @@
 //!
 //! A leaf is a function of this file: it touches the memory, and its callers know its contract
 //! alone. No leaf counts a step, but for `lend_two`, which counts its two lends.
-ghost use Rattle.std.specs.Prelude.{◌≡◌, ◌+◌, ◌*◌, ◌^◌, ◌<◌, ◌≤◌, length, take, drop, slice_set, Some, None, IfOk};
+ghost use Rattle.std.specs.Prelude.{◌≡◌, ◌+◌, ◌*◌, ◌^◌, ◌<◌, ◌≤◌, length, take, drop, slice_set, Some, None, IfOk, true};
 ghost use Rattle.std.specs.Borrow.{sem};
 ghost use Rattle.std.specs.List.{splice};
 ghost use Rattle.std.specs.Mem.{type_size};
 ghost use prog.Memory.{capped};
 ghost use Rattle.arraydeque_ring.specs.Loans.{AreApart};
-ghost use Rattle.arraydeque_ring.specs.Moved.{run_moved};
+ghost use Rattle.arraydeque_ring.specs.Moved.{is_block, run_moved};
 ghost use Rattle.arraydeque_ring.specs.Places.{empty_region, held_at, IsFilled, IsEmpty, AreAllEmpty};
 ghost use Rattle.arraydeque_ring.specs.Runs.{IsEmptyRun, run_emptied, with_run, HoldsRun, IsFilledRun};
 ghost use Rattle.arraydeque_ring.specs.SlotsLends.{lends_value, lends_values, lends_loan};
@@ -57,6 +57,7 @@ impl<T> Slots<T> {
     /// before one is written, so the two runs may overlap.
     #[inline(always)]
     pub(super) fn move_block<const N: usize>(&mut self, dst: usize, src: usize, at: usize)
+        requires block { is_block N (type_size T.row) ≡ true }
         requires filled { IsFilledRun self.old.places (src + at) N }
         requires target { dst + at + N ≤ length self.old.places }
         ensures { self.new ≡ record self.old {

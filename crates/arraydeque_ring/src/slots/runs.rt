@@ -7,7 +7,8 @@
 //! meanwhile: its pointer is known to stay.
 ghost use Rattle.std.specs.Prelude.{◌≡◌, ◌+◌, ◌-◌, ◌<◌, ◌≤◌, length, take, drop, replicate, if◌then◌else◌, ◌==◌};
 ghost use Rattle.std.specs.List.{splice};
-ghost use Rattle.arraydeque_ring.specs.Moved.{MeetAtOneEndAtMost, IsFilledRound, IsFreeRound, CanCopy, CanMove, run_moved};
+ghost use Rattle.std.specs.Mem.{type_size};
+ghost use Rattle.arraydeque_ring.specs.Moved.{MeetAtOneEndAtMost, IsFilledRound, IsFreeRound, CanCopy, CanMove, is_block, run_moved};
 ghost use Rattle.arraydeque_ring.specs.Ring.{place_of};
 ghost use Rattle.arraydeque_ring.specs.Runs.{runs_exchanged, with_run, IsEmptyRun, run_emptied, IsFilledRun};
 ghost use Rattle.arraydeque_ring.specs.Steps.{more_puts, more_takes, more_moves, more_exchanges};
@@ -403,7 +404,7 @@ impl<T> Slots<T> {
         ensures steps { self.new.steps ≡ self.old.steps }
     {
         let mut moved = 0;
-        if N == 1 || size_of_item::<T>() <= BLOCK_BYTES / N {
+        if is_block::<T, N>() {
             while N <= len - moved {
                 moved += N;
                 self.move_block::<N>(dst, src, len - moved);
@@ -436,7 +437,7 @@ impl<T> Slots<T> {
         ensures steps { self.new.steps ≡ self.old.steps }
     {
         let mut moved = from;
-        if N == 1 || size_of_item::<T>() <= BLOCK_BYTES / N {
+        if is_block::<T, N>() {
             while N <= len - moved {
                 self.move_block::<N>(dst, src, moved);
                 moved += N;
@@ -462,4 +463,13 @@ impl<T> Slots<T> {
         }
         self
     }
+}
+
+/// Whether a block may have `N` items: it is one item, or no larger than a block may be.
+#[inline(always)]
+fn is_block<T, const N: usize>() -> bool
+    requires { 0 < N }
+    ensures { result ≡ is_block N (type_size T.row) }
+{
+    N == 1 || size_of_item::<T>() <= BLOCK_BYTES / N
 }

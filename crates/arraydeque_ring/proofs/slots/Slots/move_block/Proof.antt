@@ -33,7 +33,7 @@ move_block_spec 𝓤 𝓛 𝓜 𝓡 wired X N L N_fits =
     let r = a.0.now in let ps = r.places in let τ = ty_array (elτ E) N in let Items = Array (R E) N in
     let to = a.1.0 in let from = a.1.1.0 in let at = a.1.1.1.0 in let dst = to + at in
     let src = from + at in let s = item_size E in
-    first_fact ! (λ _. first_fact ! (λ _. first_fact ! (λ filled. heard ! _ (λ target.
+    first_fact ! (λ _. first_fact ! (λ _. first_fact ! (λ _. first_fact ! (λ filled. heard ! _ (λ target.
     let within = filled.0 in let xs = filled.1.0 in
     let es = run_emptied src N ps in
     let es_long : length es ≡ length ps = grind (arith, common_steps) in
@@ -78,4 +78,4 @@ move_block_spec 𝓤 𝓛 𝓜 𝓡 wired X N L N_fits =
     slots_close E ! tt new ok (sym (length-moved dst src N ps)) $
     returns ! (look_at ! 0 refl) $ free_all ! refl $
     suffices ! _ (ends vunit tt (new, tt)) $ frame ! $ frame ! $
-    feq_i ! _ (vunit ∷ []) _ refl $ frame ! $ join ! $ says ! refl $ done !)))))))))
+    feq_i ! _ (vunit ∷ []) _ refl $ frame ! $ join ! $ says ! refl $ done !))))))))))
