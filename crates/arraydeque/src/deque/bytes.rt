@@ -52,8 +52,8 @@ impl<const CAP: usize, B: Behavior> Read for ArrayDeque<u8, CAP, B> {
 }
 
 impl<const CAP: usize, B: Behavior> BufRead for ArrayDeque<u8, CAP, B> {
-    /// Lends the bytes up to the region's end, and those behind it if there are none: only an
-    /// empty deque lends none. The deque stays as it was. It always returns `Ok`.
+    /// Lends the bytes up to the region's end: only an empty deque lends none. The deque stays as
+    /// it was. It always returns `Ok`.
     ///
     /// ```
     /// let mut deque = ArrayDeque::<u8, 4, Saturating>::new(alloc)?;
@@ -67,6 +67,8 @@ impl<const CAP: usize, B: Behavior> BufRead for ArrayDeque<u8, CAP, B> {
         ensures end { IfOk result (λ bytes. length bytes.now ≡ 0 → self.old.items ≡ []) }
         ensures* after_borrow { sem 𝓛 (Rests (the_row byte CAP.row B.row) self.entry (λ new.
             FillKeeps (Some self.old.items) (Some new.items) None result × (new ≡ self.old))) }
+        ensures cut { IfOk result (λ bytes.
+            length bytes.now ≡ min (length self.old.items) (CAP - self.old.start)) }
         ensures ok { IsOk result }
     {
         Ok(self.front_bytes())
@@ -99,13 +101,16 @@ fn copy_at(from: &[u8], to: &mut [u8], at: usize)
 }
 
 impl<const CAP: usize, B: Behavior> ArrayDeque<u8, CAP, B> {
-    /// The bytes up to the region's end, or those behind it if there are none.
+    /// The bytes up to the region's end.
     fn front_bytes(&self) -> &[u8]
         ensures front { StartsWith self.now.items result.now }
+        ensures cut { length result.now ≡ min (length self.now.items) (CAP - self.now.start) }
         ensures end { length result.now ≡ 0 → self.now.items ≡ [] }
     {
-        let (first, second) = self.as_slices();
-        if first.is_empty() { second } else { first }
+        // Reading the length tells the prover that the start is one of the places.
+        let _len = self.len();
+        let (first, _) = self.ring.as_slices();
+        first
     }
 }
 

@@ -98,6 +98,10 @@ module _ {X : Type 0} where
                 (take-append-drop first v.items)
           ]
 
+      -- the first goes as far as the region's end, or is all
+      pub cut : length xs ≡ min (length v.items) (v.capacity - v.start)
+      cut = omega (arith, first_length, o.len, o.start, o.laid.length_is)
+
       pub one_piece : v.start + length v.items ≤ v.capacity → ys ≡ []
       one_piece within = nil_from_length ys (omega (arith, rest_length))
 

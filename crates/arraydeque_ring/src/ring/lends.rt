@@ -1,5 +1,5 @@
 //! Items of a ring, all or a part, lent for reading or for writing.
-ghost use Rattle.std.specs.Prelude.{◌≡◌, ◌⊎◌, ◌+◌, ◌≤◌, [], ◌++◌, List, length, take, drop};
+ghost use Rattle.std.specs.Prelude.{◌≡◌, ◌⊎◌, ◌+◌, ◌-◌, ◌≤◌, [], ◌++◌, List, length, min, take, drop};
 ghost use Rattle.std.specs.List.{refill};
 ghost use Rattle.std.specs.Borrow.{sem};
 ghost use Rattle.arraydeque_ring.specs.Loans.{remaining};
@@ -22,6 +22,8 @@ impl<T> Ring<T> {
     #[inline]
     pub fn as_slices(&self) -> (&[T], &[T])
         ensures joined { result.0.now ++ result.1.now ≡ self.now.items }
+        ensures cut { length result.0.now ≡
+            min (length self.now.items) (self.now.capacity - self.now.start) }
         ensures one_piece { IsInOnePiece self.now → result.1.now ≡ [] }
     {
         let to_end = self.slots.capacity() - self.start;
@@ -93,6 +95,8 @@ impl<T> Ring<T> {
     pub fn as_mut_slices(&mut self) -> (&mut [T], &mut [T])
         ensures* writes_back { sem 𝓛 (lends_slices T.row self.entry result) }
         ensures joined { result.0.now ++ result.1.now ≡ self.old.items }
+        ensures cut { length result.0.now ≡
+            min (length self.old.items) (self.old.capacity - self.old.start) }
         ensures one_piece { IsInOnePiece self.old → result.1.now ≡ [] }
     {
         self.lend().into_slices()
@@ -112,6 +116,8 @@ impl<T> Ring<T> {
     pub fn lend(&mut self) -> Loan<'_, T>
         ensures* writes_back { sem 𝓛 (lends_loan T.row self.entry result) }
         ensures value { remaining result ≡ self.old.items }
+        ensures cut { length result.first.now ≡
+            min (length self.old.items) (self.old.capacity - self.old.start) }
         ensures one_piece { IsInOnePiece self.old → result.second.now ≡ [] }
     {
         let start = self.start;
@@ -136,6 +142,8 @@ impl<T> Ring<T> {
     pub fn lend_items(&mut self) -> Loan<'_, T>
         ensures* writes_back { sem 𝓛 (lends_items T.row self.entry result.name) }
         ensures value { remaining result ≡ self.old.items }
+        ensures cut { length result.first.now ≡
+            min (length self.old.items) (self.old.capacity - self.old.start) }
         ensures one_piece { IsInOnePiece self.old → result.second.now ≡ [] }
     {
         self.lend()

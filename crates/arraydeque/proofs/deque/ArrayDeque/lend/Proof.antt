@@ -72,7 +72,7 @@ lend_spec 𝓤 𝓛 𝓜 𝓡 wired X N B L fits LB members dict dict_met =
     (and_then ! (get ! refl) (no_more !)) (loan_lawful E) (λ v it ws typed. lands_as ! refl refl typed.0 $
     let α : NamedLft = named_lft 2 0 tt (Two κs) in let It = loan.the_row α (R E) in
     move ! (2 ∷ []) $ use1 𝓛 (‵ (ring.lends_loan (R E) lent it) ⊛ raw _) (id⊢ 𝓤 _) $
-    split ! $ move ! (1 ∷ []) $ first_fact ! (λ value. heard ! _ (λ piece. fsplit ! $
+    split ! $ move ! (1 ∷ []) $ first_fact ! (λ value. first_fact ! (λ _. heard ! _ (λ piece. fsplit ! $
     -- [what δ follows; what the loan's name follows;
     -- the loan; the tokens; the right; the open borrow; the other field; the way back; obs γ; auth γ; the others]
     let V : RingState (el_x E) → DequeState (el_x E) = λ u. view E N B (after E N B x d seen kept u.items) in
@@ -105,4 +105,4 @@ lend_spec 𝓤 𝓛 𝓜 𝓡 wired X N B L fits LB members dict dict_met =
       ap (λ (u : DequeState (el_x E)). u.start) seen,
       ap (λ (u : DequeState (el_x E)). length u.items) seen,
     )) in
-    says_two ! (value ∙ ap (λ (u : DequeState (el_x E)). u.items) seen, none) $ done !))))))))))
+    says_two ! (value ∙ ap (λ (u : DequeState (el_x E)). u.items) seen, none) $ done !)))))))))))

@@ -41,6 +41,6 @@ as_mut_slices_spec 𝓤 𝓛 𝓜 𝓡 wired X L =
     -- [the pair; the tokens; what `lend` ensures]
     returns ! (look_at ! 0 refl) $ free_all ! refl $
     suffices ! _ (ends u (it.first, it.second) tt) $ nothing ! $ frame ! $ frame ! $ frame ! $
-    by ! (mono_l 𝓤 (sep 𝓤 (fact {0} 𝓤 _) (fact {0} 𝓤 _))
+    by ! (mono_l 𝓤 (sep 𝓤 (fact {0} 𝓤 _) (sep 𝓤 (fact {0} 𝓤 _) (fact {0} 𝓤 _)))
     (followed_both 𝓛 (mem (Rr E)) (mem (Rr E)) (mem (Array (R E) 0)) _ _ _ _ _ _ _
     (λ us vs. rewritten-twice a.0.now (as_many it.first.now us ++ as_many it.second.now vs)))))))))

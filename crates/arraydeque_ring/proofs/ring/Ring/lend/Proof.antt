@@ -1,8 +1,9 @@
 -- `lend` lends all items: its slots lend two runs, and the ring follows what they follow. Assumes `Logic`.
+use Rattle.std.proofs.mem.Facts.{says_three}
 use Rattle.arraydeque_ring.{
   proofs.{
     loans.{
-      Lending.{open_after, lent_items, one_piece, first_run_filled, second_run_filled},
+      Lending.{open_after, lent_items, cut, one_piece, first_run_filled, second_run_filled},
       Made.{loan_lawful, loan_renamed},
       Names.{hands_on, followed_both, part_lent},
       Rings.{Rr, ring_apart},
@@ -13,7 +14,7 @@ use Rattle.arraydeque_ring.{
       Kit.{full_share, id⊢, emp, fat, flft, w64, tables, owns, ‵, raw, ◌⊛◌, ◌$◌, !, move, use1},
       Kit.{use2, drop, split, join, frame, fsplit, fjoin, suffices, done, of_opd, addr, load, look},
       Kit.{stop, fld, no_more, and_then, returns, alloc_all, pass_all, free_all, look_at, get},
-      Kit.{through, sets, lands_as, usize, mem, part_at, says_two, heard, El, R, el_x, after₂},
+      Kit.{through, sets, lands_as, usize, mem, part_at, heard, El, R, el_x, after₂},
       Kit.{Array, both_by, MutBor, named_lft, pure_i},
       Methods.{method, spent, machine_values},
       Regions.{Sr, Seen},
@@ -105,7 +106,8 @@ lend_spec 𝓤 𝓛 𝓜 𝓡 wired X L =
     use2 𝓛 (‵ (flft κ q)) (𝓛.lfts.lft_join κ q) $ join ! $
     returns ! (look_at ! 0 refl) $ free_all ! refl $
     suffices ! _ (ends v out tt) $ nothing ! $ frame ! $ move ! (1 ∷ []) $ frame ! $ frame ! $
-    says_two ! (
+    says_three ! (
       lent_items open_ring it.first.now it.second.now held held',
+      cut open_ring it.first.now it.second.now held held',
       one_piece open_ring it.first.now it.second.now held held',
     ) $ done !))))))))))))

@@ -1,4 +1,5 @@
 -- `lend_items` is `lend`, of which it says what the loan's name tells. Assumes `Logic`.
+use Rattle.std.proofs.mem.Facts.{says_three}
 use Rattle.arraydeque_ring.{
   proofs.{
     loans.{Made.loan_lawful, Rings.Rr},
@@ -6,7 +7,7 @@ use Rattle.arraydeque_ring.{
       Called.{calls_met, first_fact, knows},
       Kit.{emp, refl, [], ◌∷◌, id⊢, tables, ‵, raw, ◌⊛◌, ◌$◌, !, move, keep, use1, split, join},
       Kit.{frame, fsplit, suffices, done, addr, stop, no_more, and_then, returns, alloc_all},
-      Kit.{pass_all, free_all, look_at, get, through, sets, lands_as, says_two, nothing, heard, El},
+      Kit.{pass_all, free_all, look_at, get, through, sets, lands_as, nothing, heard, El},
       Kit.R,
       Methods.{passing_on, spent, machine_values},
     },
@@ -33,8 +34,8 @@ lend_items_spec 𝓤 𝓛 𝓜 𝓡 wired X L =
     ((κs, qs, bounds, a, machine_values 1 κs 0 a), tt) (id⊢ 𝓤 _) (and_then ! (get ! refl) (no_more !)) (loan_lawful E)
     (λ v it ws it_typed. lands_as ! refl refl it_typed.0 $
     move ! (2 ∷ []) $ use1 𝓛 (‵ (lends_loan (R E) a.0 it) ⊛ raw _) (id⊢ 𝓤 _) $ split ! $
-    move ! (1 ∷ []) $ first_fact ! (λ value. heard ! _ (λ piece. fsplit ! $
+    move ! (1 ∷ []) $ first_fact ! (λ value. first_fact ! (λ cut. heard ! _ (λ piece. fsplit ! $
     -- [what the ring follows; what the loan's name follows; the loan; the tokens]
     returns ! (look_at ! 0 refl) $ free_all ! refl $ keep ! (2 ∷ 3 ∷ 0 ∷ []) $
     suffices ! _ (ends v it tt) $ nothing ! $ frame ! $ frame ! $ frame ! $
-    says_two ! (value, piece) $ done !))))))
+    says_three ! (value, cut, piece) $ done !)))))))

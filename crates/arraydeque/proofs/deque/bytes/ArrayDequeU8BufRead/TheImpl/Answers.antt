@@ -1,6 +1,6 @@
--- The method's clauses give the trait's: `after_borrow` gets weaker, and `ok` is dropped.
+-- The method's clauses give the trait's: `after_borrow` gets weaker, and `cut` and `ok` are dropped.
 use mathlib.Core.List.{[]}
-use base.Logic.{emp, id⊢, via, mono_r, fst∗}
+use base.Logic.{sep, emp, id⊢, via, mono_r, fst∗}
 use contract.Monad.{fact, fact_i}
 use denote.{Builtin.u8, Param.{number, param}}
 use borrow.Fn.Refines.{by_parts}
@@ -13,6 +13,6 @@ fill_buf-meets g c =
     let row = the_row u8 (param 0 (number g.row.CAP)) (param 1 g.row.B) in
     by_parts 𝓤 [] [] (emp 𝓤) (emp 𝓤) _ _ (λ r e. []) (λ r e. []) _ _
     (fact_i 𝓤 (Unit {0}) (emp 𝓤) tt) (λ asked. id⊢ 𝓤 (emp 𝓤)) (λ r e. fact_i 𝓤 (Unit {0}) _ tt)
-    (λ r e told. mono_r 𝓤 (fact 𝓤 _) (mono_r 𝓤 (fact 𝓤 _) (via 𝓤 _ (fst∗ 𝓤 _ (fact 𝓤 _))
+    (λ r e told. mono_r 𝓤 (fact 𝓤 _) (mono_r 𝓤 (fact 𝓤 _) (via 𝓤 _ (fst∗ 𝓤 _ (sep 𝓤 (fact 𝓤 _) (fact 𝓤 _)))
     (rests_weaker g.world.𝓛 row c.args.self _ _ (λ new kept. kept.0)))))
     (λ pre. tt) (λ pre r e told. tt)
