@@ -1,5 +1,5 @@
 //! A whole list of calls on a deque, as values, and a reply to each.
-ghost use Rattle.std.specs.Prelude.{◌≡◌, ◌<◌, length, IfOk, IfErr, OnErr};
+ghost use Rattle.std.specs.Prelude.{◌≡◌, ◌<◌, length, IfOk, IfErr, OnErr, vec_capacity};
 ghost use Rattle.std.specs.Mem.{type_size};
 ghost use Rattle.arraydeque.specs.Costs.{RunCosts};
 ghost use Rattle.arraydeque.specs.Makes.{Makes};
@@ -93,8 +93,9 @@ impl<T: Drop, const CAP: usize, B: MachinePolicy<T, CAP>> ArrayDeque<T, CAP, B> 
     /// Makes the calls in order, and returns a reply to each. A call that is refused doesn't stop
     /// the run: its reply says so, and the list is as it was.
     ///
-    /// Memory for the replies is taken before the first call, and none if there is no call. Fails
-    /// only if that is refused; then nothing has changed, and the calls come back in the error.
+    /// Memory for just the replies is taken before the first call, and none if there is no call.
+    /// Fails only if that is refused; then nothing has changed, and the calls come back in the
+    /// error.
     ///
     /// ```
     /// let mut deque = ArrayDeque::<i64, 1, Saturating>::new(alloc)?;
@@ -114,6 +115,7 @@ impl<T: Drop, const CAP: usize, B: MachinePolicy<T, CAP>> ArrayDeque<T, CAP, B> 
             MachineRun B.policy self.old.items calls.items replies.items self.new.items) }
         ensures costs { IfOk result (λ replies.
             RunCosts B.policy self.old calls.items replies.items self.new) }
+        ensures exact { IfOk result (λ replies. vec_capacity replies ≡ length calls.items) }
         ensures source { IfErr result (λ refusal. refusal.source ≡ calls) }
         ensures unchanged { OnErr result (self.new ≡ self.old) }
         ensures refused { OnErr result (0 < length calls.items) }

@@ -1,5 +1,5 @@
 //! Deques made of other collections, a vector of a deque, and the other policy.
-ghost use Rattle.std.specs.Prelude.{◌≡◌, ◌<◌, ◌*◌, length, take, IfOk, IfErr, OnErr};
+ghost use Rattle.std.specs.Prelude.{◌≡◌, ◌<◌, ◌*◌, length, take, IfOk, IfErr, OnErr, vec_capacity};
 ghost use Rattle.std.specs.Iterator.{IsFiniteIterable};
 ghost use Rattle.std.specs.Mem.{type_size};
 ghost use Rattle.arraydeque.specs.Deque.{empty_deque, keep_last, with_back, wrapped_back, WrapsBack};
@@ -164,7 +164,7 @@ impl<T: Drop, const CAP: usize> ArrayDeque<T, CAP, Wrapping> {
 }
 
 impl<T, const CAP: usize, B: Behavior> ArrayDeque<T, CAP, B> {
-    /// Returns a vector of the items, front to back.
+    /// Returns a vector of the items, front to back, with no room to spare.
     ///
     /// Fails only if memory is refused; then the deque comes back in the error as it was. An empty
     /// deque takes no memory.
@@ -177,6 +177,7 @@ impl<T, const CAP: usize, B: Behavior> ArrayDeque<T, CAP, B> {
     /// ```
     pub fn into_vec(self) -> Result<Vec<T>, MakeError<Self>>
         ensures items { IfOk result (λ v. v.items ≡ self.items) }
+        ensures exact { IfOk result (λ v. vec_capacity v ≡ length self.items) }
         ensures source { IfErr result (λ refusal. refusal.source ≡ self) }
         ensures refused { OnErr result (0 < length self.items) }
     {

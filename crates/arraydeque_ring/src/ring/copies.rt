@@ -1,6 +1,6 @@
 //! Items once more: copies of items or of one value behind the last one, a second ring of clones or
 //! copies, a ring of a vector's items, and a vector of a ring's.
-ghost use Rattle.std.specs.Prelude.{◌≡◌, ◌⊎◌, ◌*◌, ◌+◌, ◌-◌, ◌<◌, ◌≤◌, ◌++◌, length, min, take, replicate, Any, IfOk, IfErr, OnOk, OnErr};
+ghost use Rattle.std.specs.Prelude.{◌≡◌, ◌⊎◌, ◌*◌, ◌+◌, ◌-◌, ◌<◌, ◌≤◌, ◌++◌, length, min, take, replicate, Any, IfOk, IfErr, OnOk, OnErr, vec_capacity};
 ghost use Rattle.std.specs.Mem.{type_size};
 ghost use Rattle.arraydeque_ring.specs.Ring.{place_of, ClonesAreSame};
 ghost use Rattle.arraydeque_ring.specs.Steps.{no_steps, more_puts, more_takes};
@@ -220,8 +220,8 @@ impl<T> Ring<T> {
         Ok(())
     }
 
-    /// Returns a vector of the items, front to back. If its memory is refused, which never happens
-    /// to an empty ring, the ring comes back as it was.
+    /// Returns a vector of the items, front to back, with no room to spare. If its memory is
+    /// refused, which never happens to an empty ring, the ring comes back as it was.
     ///
     /// ```
     /// let mut ring = Ring::of_copies(alloc, 3, &[2, 3])?;
@@ -231,6 +231,7 @@ impl<T> Ring<T> {
     /// ```
     pub fn into_vec(self) -> Result<Vec<T>, Ring<T>>
         ensures items { IfOk result (λ v. v.items ≡ self.items) }
+        ensures exact { IfOk result (λ v. vec_capacity v ≡ length self.items) }
         ensures source { IfErr result (λ ring. ring ≡ self) }
         ensures refused { OnErr result (0 < length self.items) }
     {

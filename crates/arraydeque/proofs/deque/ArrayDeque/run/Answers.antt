@@ -14,6 +14,7 @@ use Rattle.arraydeque.proofs.deque.ArrayDeque.run.Goals as goal
 
 pub loop-call-preserved : goal.loop-call-preserved
 loop-call-preserved g c = record {
+  exact = c.push_reserved.ensures.capacity ∙ c.loop-call.invariant.exact;
   room = omega (
     arith,
     c.loop-call.invariant.room,
@@ -39,6 +40,7 @@ returns g c =
       whole = whole;
       ok = costs.run;
       costs = costs;
+      exact = c.loop-call.invariant.exact;
       source = search rules;
       unchanged = search rules;
       refused = search rules;

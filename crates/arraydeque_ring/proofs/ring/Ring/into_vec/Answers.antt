@@ -42,7 +42,8 @@ module _ {X : Type 0} {old : RingState X} {k : ℕ} {v : Vec X Global} {ps : Lis
       → w.items ≡ v.items ++ x ∷ [] → vec_len w ≡ vec_len v + 1 → vec_capacity w ≡ vec_capacity v
       → AreOut old (k + 1) w qs
   next_out {x = x} is taken pushed len capacity = record {
-    room = omega arith;
+    len = omega arith;
+    exact = omega arith;
     items = grind (arith, get_or_from_slice_get old.items k x x (sym held ∙ is), take_more old.items k x lt);
     reads = rw (taken, ← here) (Holds-set was.reads k None (omega arith) (grind arith) (λ i i_in other. grind arith));
   }
@@ -51,7 +52,8 @@ pub loop-k-init : goal.loop-k-init
 loop-k-init g c =
     let ring = opened _ c.self.invariant c.self.view_is in
     record {
-      room = grind (arith, common_steps);
+      len = grind (arith, common_steps);
+      exact = grind (arith, common_steps);
       items = grind (arith, common_steps);
       reads = rw (← ring.start) (Holds-same (holds ring.laid) (λ i lt. grind arith));
     }
