@@ -28,7 +28,7 @@ pub struct CapacityError<T> {
 
 impl<T: Drop> Error for CapacityError<T> {}
 
-impl<T: Drop> fmt::Display for CapacityError<T> {
+impl<T> fmt::Display for CapacityError<T> {
     ghost output = { λ _. Some (codes "insufficient capacity") };
 
     /// ```
@@ -40,7 +40,7 @@ impl<T: Drop> fmt::Display for CapacityError<T> {
     }
 }
 
-impl<T: Drop> fmt::Debug for CapacityError<T> {
+impl<T> fmt::Debug for CapacityError<T> {
     ghost debug_output = { λ _. Some (codes "CapacityError: insufficient capacity") };
 
     /// ```
@@ -86,7 +86,7 @@ pub struct MakeError<S> {
 
 impl<S: Drop> Error for MakeError<S> {}
 
-impl<S: Drop> fmt::Display for MakeError<S> {
+impl<S> fmt::Display for MakeError<S> {
     ghost output = { λ _. Some (codes "out of memory") };
 
     /// ```
@@ -98,7 +98,7 @@ impl<S: Drop> fmt::Display for MakeError<S> {
     }
 }
 
-impl<S: Drop> fmt::Debug for MakeError<S> {
+impl<S> fmt::Debug for MakeError<S> {
     ghost debug_output = { λ _. Some (codes "out of memory") };
 
     /// ```

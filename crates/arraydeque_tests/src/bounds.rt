@@ -509,6 +509,21 @@ fn clone<T: Clone, const CAP: usize, B: Behavior>(
     deque.clone()
 }
 
+/// The texts of the errors of anything.
+fn write_texts<S>(
+    alloc: Global,
+    full: &CapacityError<S>,
+    refused: &MakeError<S>,
+) -> Result<bool, Fail> {
+    let (full, debug) = (format!(in alloc; "{full}")?, format!(in alloc; "{full:?}")?);
+    let refused = format!(in alloc; "{refused}{refused:?}")?;
+    Ok(
+        full.as_str() == "insufficient capacity"
+            && debug.as_str() == "CapacityError: insufficient capacity"
+            && refused.as_str() == "out of memoryout of memory",
+    )
+}
+
 /// What is an error, and its texts.
 fn texts<E: Error>(alloc: Global, error: &E) -> Result<(String, String), Fail> {
     Ok((
@@ -635,6 +650,11 @@ fn asks_for_traits(alloc: Global) -> Result<bool, Fail> {
             && find(&deque, &2) == Ok(1)
             && hasher.finish() == other.finish()
             && text(alloc, &copy)?.as_str() == "[1, 2]"
+            && write_texts(
+                alloc,
+                &CapacityError { element: 1 },
+                &MakeError { source: 1 },
+            )?
             && have_texts(
                 alloc,
                 &CapacityError { element: 1 },
