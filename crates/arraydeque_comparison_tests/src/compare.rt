@@ -339,12 +339,20 @@ fn a_long_deque_prints_as_a_list(rt: HostRuntime) -> Result<(), Fail> {
     Ok(())
 }
 
+/// Whether a full deque whose first item stands at the place `start` prints as a vector of the
+/// items does.
+fn prints_as_a_vector<const CAP: usize>(alloc: Global, start: usize) -> Result<bool, Fail> {
+    let list = numbers(alloc, CAP)?;
+    let text = format!(in alloc; "{list:?}")?;
+    prints(alloc, &deque_at::<CAP>(alloc, start, &list)?, text.as_str())
+}
+
 #[test]
-fn a_thousand_items_print_as_a_list(rt: HostRuntime) -> Result<(), Fail> {
-    let list = numbers(rt.alloc(), 1000)?;
-    let text = format!(in rt.alloc(); "{:?}", list.as_slice())?;
-    let deque = deque_at::<1000>(rt.alloc(), 600, &list)?;
-    assert!(rt; prints(rt.alloc(), &deque, text.as_str())?);
+fn thousands_of_items_print_as_a_vector(rt: HostRuntime) -> Result<(), Fail> {
+    assert!(rt;
+        prints_as_a_vector::<1000>(rt.alloc(), 600)?
+            && prints_as_a_vector::<10000>(rt.alloc(), 5000)?
+    );
     Ok(())
 }
 

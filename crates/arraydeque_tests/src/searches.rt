@@ -3,8 +3,6 @@ use crate::build::deque_at;
 use arraydeque::{ArrayDeque, Saturating};
 use std::test::Fail;
 
-type Deque = ArrayDeque<i64, 5, Saturating>;
-
 /// Where a scan finds a number among items that rise, or in the error where it would go.
 fn scan(items: &[i64], number: i64) -> Result<usize, usize> {
     for index in 0..items.len() {
@@ -19,7 +17,12 @@ fn scan(items: &[i64], number: i64) -> Result<usize, usize> {
 }
 
 /// Whether each search finds what a scan does, and asks at most `limit` times.
-fn searches_alike(deque: &Deque, items: &[i64], number: i64, limit: usize) -> bool {
+fn searches_alike<const CAP: usize>(
+    deque: &ArrayDeque<i64, CAP, Saturating>,
+    items: &[i64],
+    number: i64,
+    limit: usize,
+) -> bool {
     let found = scan(items, number);
     let less = match found {
         Ok(index) => index,
@@ -65,6 +68,20 @@ fn searches_from_each_start(rt: HostRuntime) -> Result<(), Fail> {
                 );
             }
         }
+    }
+    Ok(())
+}
+
+/// The same of a thousand items, the second half of which wraps.
+#[test]
+fn searches_of_a_thousand_items(rt: HostRuntime) -> Result<(), Fail> {
+    let mut items = Vec::with_capacity(rt.alloc(), 1000)?;
+    for number in (0..2000).step_by(2) {
+        items.push(number)?;
+    }
+    let deque = deque_at::<1000>(rt.alloc(), 500, &items)?;
+    for number in -1..2000 {
+        assert!(rt; searches_alike(&deque, &items, number, 11), "{number}");
     }
     Ok(())
 }
