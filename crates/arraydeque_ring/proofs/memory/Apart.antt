@@ -1,12 +1,26 @@
--- A run of values goes to other places of its block, with none in common: it is taken out as an array, and the places as
+-- A run of values goes to other places of its block, with none in common: it is taken out as an array, and these as
 -- room for one. Assumes `Logic`.
-use Rattle.arraydeque_ring.{proofs.{loans.{Placed.{placed, run}, Runs.two_out}, memory.{Kit.{refl, List, [], ◌∷◌, ℕ, ◌+◌, ◌*◌, ◌≤◌, length, None, replicate}, Kit.{length-replicate, Ura, ent, sep, Fml, Logic, sem, Item, Goal, Seq, ‵, ◌$◌, ◌∵◌}, Kit.{!, qed, move, use1, use3, rewrite, done, El}, Owned.{item_size, Place, Row, of_room}, Rows.{Filled, Room, as_array, as_row, row_room}}, moved.Flat.moved_parts, places.Filled.length_filled}, specs.{Loans.AreApart, Moved.run_moved, Runs.{run_emptied, IsFilledRun}}}
+use Rattle.arraydeque_ring.{
+  proofs.{
+    loans.{Placed.{placed, run}, Runs.two_out},
+    memory.{
+      Kit.{refl, List, [], ◌∷◌, ℕ, ◌+◌, ◌*◌, ◌≤◌, length, None, replicate, length-replicate, Ura},
+      Kit.{ent, sep, Fml, Logic, sem, Item, Goal, Seq, ‵, ◌$◌, ◌∵◌, !, qed, move, use1, use3},
+      Kit.{rewrite, done, El},
+      Owned.{item_size, Place, Row, of_room},
+      Rows.{Filled, Room, as_array, as_row, row_room},
+    },
+    moved.Flat.moved_parts,
+    places.Filled.length_filled,
+  },
+  specs.{Loans.AreApart, Moved.run_moved, Runs.{run_emptied, IsFilledRun}},
+}
 use Rattle.std.below.core.proofs.slots.Runs.{run_long}
 
 module _ (E : El) {M : Type 1} {𝓤 : Ura M} {𝓛 : Logic 𝓤} {K : Type 0} {Γ : List (Item 𝓤)} {G : Goal 𝓤 𝓛.H} (t : K)
     (b o : ℕ) (ps : List (Place E)) (dst src n : ℕ) (filled : IsFilledRun ps src n) where
-  pub apart_out : dst + n ≤ length ps → AreApart src n dst n
-      → ((Rest : Fml) → ent 𝓤 (sep 𝓤 (sem 𝓛 (Filled E b o dst n filled.1.0)) (sep 𝓤 (sem 𝓛 (Room E b o src n)) (sem 𝓛 Rest)))
+  pub apart_out : dst + n ≤ length ps → AreApart src n dst n → ((Rest : Fml)
+      → ent 𝓤 (sep 𝓤 (sem 𝓛 (Filled E b o dst n filled.1.0)) (sep 𝓤 (sem 𝓛 (Room E b o src n)) (sem 𝓛 Rest)))
       (sem 𝓛 (Row E 𝓛 b o (run_moved dst src n ps)))
       → Seq K 𝓛 (‵ (Filled E b o src n filled.1.0) ∷ ‵ (Room E b o dst n) ∷ ‵ Rest ∷ Γ) G)
       → Seq K 𝓛 (‵ (Row E 𝓛 b o ps) ∷ Γ) G

@@ -89,7 +89,8 @@ module _ (E : El) {M : Type 1} {𝓤 : Ura M} {𝓛 : Logic 𝓤} {K : Type 0} {
       → Step K 𝓛 (‵ (part_at (Array (R E) n) full_share xs b at) ∷ Γ) G (‵ (Row E 𝓛 b at qs) ∷ Γ) G
   as_array long = step (λ s.
       rewrite t 0 (λ F. ‵ F) (ap (Row E 𝓛 b at) is ∙ same_row E 𝓛 b xs at) refl $
-      use1 𝓛 (‵ (part_at (Array (R E) n) full_share xs b at)) (arrays.whole (Cells E 𝓛 b) 𝓛 full_share n xs b at long) $ s)
+      use1 𝓛 (‵ (part_at (Array (R E) n) full_share xs b at))
+      (arrays.whole (Cells E 𝓛 b) 𝓛 full_share n xs b at long) $ s)
 
   pub as_row : (length xs ≡ n → Seq K 𝓛 (‵ (Row E 𝓛 b at qs) ∷ Γ) G)
       → Seq K 𝓛 (‵ (part_at (Array (R E) n) full_share xs b at) ∷ Γ) G

@@ -91,10 +91,6 @@ module _ {X : Type 0} where
   pub moved_one : (dst src : ℕ) (ps : List (Option X)) → dst < length ps → src < length ps → dst ≢ src
       → set (set ps src None) dst (held_at ps src) ≡ run_moved dst src 1 ps
   moved_one dst src ps a b apart =
-      let out : length (set ps src None) ≡ length ps = length-set ps src None in
-      let long : length (set (set ps src None) dst (held_at ps src)) ≡ length ps =
-      length-set (set ps src None) dst (held_at ps src) ∙ out in
-      same_places _ _ (long ∙ sym (length-moved dst src 1 ps)) (λ x lt.
-      let in_it : x < length ps = omega (arith, length-moved dst src 1 ps) in
-      grind (arith, nat_tests, common_steps, length-set)
-      ∙ sym (flat_at dst src 1 ps x (omega arith) (omega arith) in_it))
+      let long = length-moved dst src 1 ps in
+      same_places _ _ (grind (arith, length-set, long)) (λ x lt. grind (arith, nat_tests, common_steps, length-set)
+      ∙ sym (flat_at dst src 1 ps x (omega arith) (omega arith) (omega (arith, long))))
