@@ -12,8 +12,11 @@ use Rattle.std.{
   specs.Prelude.swap,
 }
 use Rattle.arraydeque_ring.{
-  proofs.places.Items.same_places,
-  specs.{Places.{held_at, IsFilled, IsEmpty}, Runs.{run_rotated, runs_exchanged}},
+  proofs.places.{Filled.{empty_in_run, filled_in_run}, Items.same_places},
+  specs.{
+    Places.{held_at, IsFilled, IsEmpty},
+    Runs.{run_rotated, runs_exchanged, IsEmptyRun, IsFilledRun},
+  },
 }
 
 -- the place whose value the place x has, once m values from `at` on and the k behind them have changed places
@@ -66,39 +69,38 @@ module _ {X : Type 0} (a b : ℕ) (ps : List (Option X)) where
       grind (arith, common_steps, get_or-runs_exchanged a b 1 ps (omega arith) (omega arith) x))
 
 -- the pairs of two runs are exchanged one after another: the pair k comes next
-module _ {X : Type 0} (a b k : ℕ) (ps : List (Option X)) (before : a + (k + 1) ≤ b)
-    (within : b + (k + 1) ≤ length ps) where
-  still_filled : (x : ℕ) → exchanged_from a b k x ≡ x → IsFilled ps x → IsFilled (runs_exchanged a b k ps) x
-  still_filled x same filled = (
-    filled.0,
-    get_or-runs_exchanged a b k ps (omega arith) (omega arith) x ∙ ap (held_at ps) same ∙ filled.1,
-  )
+module _ {X : Type 0} (a b k len : ℕ) (ps : List (Option X)) (lt : k < len) (before : a + len ≤ b) where
+  module _ (within : b + len ≤ length ps) where
+    still : (x : ℕ) → exchanged_from a b k x ≡ x → held_at (runs_exchanged a b k ps) x ≡ held_at ps x
+    still x same = get_or-runs_exchanged a b k ps (omega arith) (omega arith) x ∙ ap (held_at ps) same
 
-  pub next_first : IsFilled ps (a + k) → IsFilled (runs_exchanged a b k ps) (a + k)
-  next_first = still_filled (a + k) (grind arith)
+    pub runs_exchanged_more : swap (runs_exchanged a b k ps) (a + k) (b + k) ≡ runs_exchanged a b (k + 1) ps
+    runs_exchanged_more = swap-runs (a + k) (b + k) _ (omega arith)
+        (omega (arith, length-runs_exchanged a b k ps)) ∙ runs_exchanged_both a b ps k 1 (omega arith) (omega arith)
 
-  pub next_second : IsFilled ps (b + k) → IsFilled (runs_exchanged a b k ps) (b + k)
-  next_second = still_filled (b + k) (grind arith)
+  module _ (second : IsFilledRun ps b len) where
+    pub next_second : IsFilled (runs_exchanged a b k ps) (b + k)
+    next_second = let was = filled_in_run ps b len k second lt in
+        (was.0, still second.0 (b + k) (grind arith) ∙ was.1)
 
-  pub runs_exchanged_more : swap (runs_exchanged a b k ps) (a + k) (b + k) ≡ runs_exchanged a b (k + 1) ps
-  runs_exchanged_more =
-      swap-runs (a + k) (b + k) _ (omega arith) (omega (arith, length-runs_exchanged a b k ps))
-      ∙ runs_exchanged_both a b ps k 1 before within
+    pub next_first : IsFilledRun ps a len → IsFilled (runs_exchanged a b k ps) (a + k)
+    next_first first = let was = filled_in_run ps a len k first lt in
+        (was.0, still second.0 (a + k) (grind arith) ∙ was.1)
 
-  module _ (empty : held_at ps (a + k) ≡ None) where
-    still_empty : held_at (runs_exchanged a b k ps) (a + k) ≡ None
-    still_empty = get_or-runs_exchanged a b k ps (omega arith) (omega arith) (a + k)
-        ∙ ap (held_at ps) (grind arith) ∙ empty
+    module _ (first : IsEmptyRun ps a len) where
+      still_empty : held_at (runs_exchanged a b k ps) (a + k) ≡ None
+      still_empty = still second.0 (a + k) (grind arith) ∙ empty_in_run ps a len k first lt
 
-    pub next_empty : IsEmpty (runs_exchanged a b k ps) (a + k)
-    next_empty = (omega (arith, length-runs_exchanged a b k ps), still_empty)
+      pub next_empty : IsEmpty (runs_exchanged a b k ps) (a + k)
+      next_empty = (omega (arith, second.0, length-runs_exchanged a b k ps), still_empty)
 
-    -- and to move a value to an empty place is to exchange it with nothing
-    pub runs_moved_more : let now = runs_exchanged a b k ps in
-        set (set now (b + k) None) (a + k) (held_at now (b + k)) ≡ runs_exchanged a b (k + 1) ps
-    runs_moved_more =
-        let now = runs_exchanged a b k ps in
-        let long = length-runs_exchanged a b k ps (omega arith) (omega arith) in
-        set_comm now (b + k) (a + k) None (held_at now (b + k)) (λ same. omega arith)
-        ∙ ap (λ q. set (set now (a + k) (held_at now (b + k))) (b + k) q) (sym still_empty)
-        ∙ swap_is now (a + k) (b + k) None (omega arith) (omega arith) ∙ runs_exchanged_more
+      -- and to move a value to an empty place is to exchange it with nothing
+      pub runs_moved_more : let now = runs_exchanged a b k ps in
+          set (set now (b + k) None) (a + k) (held_at now (b + k)) ≡ runs_exchanged a b (k + 1) ps
+      runs_moved_more =
+          let now = runs_exchanged a b k ps in
+          let within = second.0 in
+          let long = length-runs_exchanged a b k ps (omega arith) (omega arith) in
+          set_comm now (b + k) (a + k) None (held_at now (b + k)) (λ same. omega arith)
+          ∙ ap (λ q. set (set now (a + k) (held_at now (b + k))) (b + k) q) (sym still_empty)
+          ∙ swap_is now (a + k) (b + k) None (omega arith) (omega arith) ∙ runs_exchanged_more within

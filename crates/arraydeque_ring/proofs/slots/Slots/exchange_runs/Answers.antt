@@ -1,8 +1,5 @@
 use Rattle.std.proofs.Common.{sym, arith}
-use Rattle.arraydeque_ring.proofs.{
-  moved.Reads.{runs_exchanged_none, runs_exchanged_more, next_first, next_second},
-  places.Filled.filled_in_run,
-}
+use Rattle.arraydeque_ring.proofs.moved.Reads.{next_first, next_second, runs_exchanged_more, runs_exchanged_none}
 use Rattle.arraydeque_ring.proofs.slots.Slots.exchange_runs.Goals as goal
 
 pub loop-k-init : goal.loop-k-init
@@ -12,18 +9,15 @@ loop-k-init g c = record {
 }
 
 pub exchange-requires-clause-a_filled : goal.exchange-requires-clause-a_filled
-exchange-requires-clause-a_filled g c =
-    rw c.loop-k.invariant.places (next_first c.args.a c.args.b c.loop-k.k _ (omega arith) (omega arith)
-    (filled_in_run _ _ _ _ c.requires.a_filled (omega arith)))
+exchange-requires-clause-a_filled g c = rw c.loop-k.invariant.places
+    (next_first _ _ c.loop-k.k _ _ (omega arith) c.requires.apart c.requires.b_filled c.requires.a_filled)
 
 pub exchange-requires-clause-b_filled : goal.exchange-requires-clause-b_filled
-exchange-requires-clause-b_filled g c =
-    rw c.loop-k.invariant.places (next_second c.args.a c.args.b c.loop-k.k _ (omega arith) (omega arith)
-    (filled_in_run _ _ _ _ c.requires.b_filled (omega arith)))
+exchange-requires-clause-b_filled g c = rw c.loop-k.invariant.places
+    (next_second _ _ c.loop-k.k _ _ (omega arith) c.requires.apart c.requires.b_filled)
 
 pub loop-k-preserved : goal.loop-k-preserved
-loop-k-preserved g c = record {
-  places = rw (c.exchange.ensures.places, c.loop-k.invariant.places)
-      (runs_exchanged_more c.args.a c.args.b c.loop-k.k c.args.self.places (omega arith) (omega arith));
-  steps = rw c.exchange.ensures.steps (grind arith);
-}
+loop-k-preserved g c = rw (c.exchange.ensures.places, c.exchange.ensures.steps, c.loop-k.invariant.places) (record {
+  places = runs_exchanged_more _ _ c.loop-k.k _ _ (omega arith) c.requires.apart c.requires.b_filled.0;
+  steps = grind arith;
+})
