@@ -1,7 +1,11 @@
 -- An empty run that is written in two parts, one behind the other.
 use Rattle.std.proofs.{
-  Common.{◌≡◌, ℕ, ◌+◌, ◌-◌, ◌≤◌, List, ◌++◌, length, take, drop, Option, ◌∙◌, sym, arith},
-  lemmas.{Grind.common_steps, List.{drop_all, length-append, take-append-drop}},
+  Common.{◌≡◌, ℕ, ◌+◌, ◌-◌, ◌≤◌, List, ◌++◌, length, take, drop, Option, ◌∙◌, ap, sym, arith},
+  lemmas.{
+    Grind.common_steps,
+    List.{drop_all, length-append, length-drop, take-append-drop, take_rest},
+  },
+  Math.Nat.add_assoc,
 }
 use Rattle.arraydeque_ring.{
   proofs.{
@@ -21,11 +25,11 @@ module _ {X : Type 0} (at n len : ℕ) (le : n ≤ len) (ps : List (Option X)) (
       (λ x a b. grind (arith, empty_in_run ps at len (x - at) empty))
 
   module _ (xs : List X) (long : length xs ≡ n) where
-    pub rest_empty : IsEmptyRun (with_run at xs ps) (at + n) (len - n)
+    rest_empty : IsEmptyRun (with_run at xs ps) (at + n) (len - n)
     rest_empty = empty_run_of _ (at + n) (len - n) (grind (arith, common_steps, empty.0, long))
         (λ x a b. grind (arith, common_steps, empty.0, long, empty_in_run ps at len (x - at) empty))
 
-    pub with_run-append : (ys : List X) → length ys ≡ len - n
+    with_run-append : (ys : List X) → length ys ≡ len - n
         → with_run (at + n) ys (with_run at xs ps) ≡ with_run at (xs ++ ys) ps
     with_run-append ys long' =
         let ws = with_run at xs ps in
@@ -40,13 +44,26 @@ module _ {X : Type 0} (at n len : ℕ) (le : n ≤ len) (ps : List (Option X)) (
           get_or-with_run at (xs ++ ys) ps k (omega (arith, empty.0)),
         ))
 
--- a block of n items from the index i on, and those behind it
-module _ {X : Type 0} (i n : ℕ) (xs : List X) where
-  pub block_and_rest : n ≤ length xs - i → take n (take (length xs - i) (drop i xs)) ++ drop (i + n) xs ≡ drop i xs
-  block_and_rest le =
-      let all : take (length xs - i) (drop i xs) ≡ drop i xs = grind (arith, common_steps) in
+-- of the items xs, those from the index i on go into an empty run, and of these the first n as a block
+module _ {X : Type 0} (from i n : ℕ) (xs : List X) (le : n ≤ length xs - i) (ps : List (Option X))
+    (empty : IsEmptyRun ps (from + i) (length xs - i)) (block : List X)
+    (is : block ≡ take n (take (length xs - i) (drop i xs))) where
+  long : length block ≡ n
+  long = grind (arith, common_steps, is)
+
+  pub block_leaves : IsEmptyRun (with_run (from + i) block ps) (from + (i + n)) (length xs - (i + n))
+  block_leaves =
+      let fewer : length xs - (i + n) ≡ length xs - i - n = omega arith in
+      rw (← add_assoc from i n, fewer) (rest_empty (from + i) n (length xs - i) le ps empty block long)
+
+  pub block_written : with_run (from + (i + n)) (drop (i + n) xs) (with_run (from + i) block ps)
+      ≡ with_run (from + i) (drop i xs) ps
+  block_written =
       let rest : drop (i + n) xs ≡ drop n (drop i xs) = grind (arith, common_steps) in
-      rw (all, rest) (take-append-drop n (drop i xs))
+      let same : block ++ drop (i + n) xs ≡ drop i xs =
+      rw (is, take_rest xs i, rest) (take-append-drop n (drop i xs)) in
+      rw (← add_assoc from i n) (with_run-append (from + i) n (length xs - i) le ps empty block long _
+      (omega (arith, length-drop (i + n) xs)) ∙ ap (λ ys. with_run (from + i) ys ps) same)
 
 -- once the last item is written, nothing is left
 pub with_run-none : {X : Type 0} (at k : ℕ) (xs : List X) (ps : List (Option X)) → length xs ≤ k

@@ -31,13 +31,9 @@ impl<T> Ring<T> {
         }) }
         ensures refused { OnErr result (0 < capacity * type_size T.row) }
     {
-        let mut slots = Slots::new(alloc, capacity)?;
-        slots.put_copies(0, items);
-        Ok(Ring {
-            slots,
-            start: 0,
-            len: items.len(),
-        })
+        let mut ring = Ring::new(alloc, capacity)?;
+        ring.copy_back(items);
+        Ok(ring)
     }
 
     /// Puts copies of the first of some items behind the last one, as many as there is room for.
@@ -49,7 +45,7 @@ impl<T> Ring<T> {
     /// assert!(rt; IntoIter::of(ring).eq([1, 2, 3, 4]));
     /// ```
     #[tactic(auto, using(crate::proofs::Opened::piece_facts))]
-    #[inline(always)] // As `put_round`.
+    #[inline(always)] // With `put_copies`, so that a caller's sizes choose the blocks.
     pub fn copy_back(&mut self, items: &[T]) -> usize
     where
         T: Copy,
@@ -68,7 +64,7 @@ impl<T> Ring<T> {
         }
         let behind = wrap_add(self.start, self.len, capacity);
         let first = count.min(capacity - behind);
-        self.slots.put_round(behind, &items[..count], first);
+        self.slots.put_copies(behind, &items[..count], first);
         self.len += count;
         count
     }

@@ -5,8 +5,8 @@ use Rattle.std.proofs.{
 use Rattle.arraydeque_ring.{proofs.Opened.{bounds, rest_empty, piece_facts}, specs.Ring.place_of}
 use Rattle.arraydeque_ring.proofs.ring.Ring.copy_back.Goals as goal
 
-pub put_round-requires-clause-there : goal.put_round-requires-clause-there
-put_round-requires-clause-there g c =
+pub put_copies-requires-clause-there : goal.put_copies-requires-clause-there
+put_copies-requires-clause-there g c =
     let known = bounds c.self.inside _ c.self.invariant c.self.view_is in
     let ws = take c.min-count.result c.args.items.now in
     let many = length-take-le c.min-count.result c.args.items.now (omega arith) in
