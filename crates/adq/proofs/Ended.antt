@@ -1,9 +1,7 @@
 -- The end of a run.
 use Rattle.std.proofs.{
-  Common.{◌≡◌, ◌≢◌, ◌∙◌, ℕ, ℤ, List, [], ◌∷◌, ◌++◌, map, flat_map, get_or, codes, bytes_eq, true},
-  Common.{false, ap, append_assoc, refl, Some, None, Result, Ok, Err, IfOk, IfErr, IfSome, Option},
-  Common.{String, string_bytes, Global, sym, subst},
-  lemmas.Slice.Eq.bytes_eq-Decides,
+  Common.{◌≡◌, ◌∙◌, ℕ, ℤ, List, [], ◌∷◌, ◌++◌, flat_map, codes, ap, append_assoc, refl, Some},
+  Common.{Result, Ok, Err, IfOk, IfErr, IfSome, Option, String, string_bytes, Global, sym, subst},
 }
 use Rattle.arraydeque.specs.{
   declared.run.{Call.Call, Reply.Reply},
@@ -14,7 +12,7 @@ use Rattle.arraydeque.specs.{
 use Rattle.adq.specs.{
   declared.fault.Fault.{Fault, TheVariants.Memory},
   Line.{lines_of, LinesName},
-  Run.{IsOutcome, Prints, ReadsWhole, settings_of},
+  Run.{IsOutcome, Prints, ReadsWhole},
   Text.{list_text, text_of},
 }
 
@@ -39,14 +37,14 @@ pub ended : {B : Type 0} (p : Policy) (n : ℕ) (read text : List ℕ) (calls : 
     (replies : List (Reply ℤ n B)) (first last : List ℤ) (r : Result (String Global) Fault)
     → read ≡ text → LinesName (lines_of read) calls → first ≡ [] → MachineRun p first calls replies last
     → IfOk r (λ t. string_bytes t ≡ output_of replies last) → IfErr r (λ fault. fault ≡ Memory)
-    → IsOutcome (Some (p, n)) text r
+    → IsOutcome (Some (n, p)) text r
 ended p n read text calls replies first last (Ok t) same named none run text_is e = (
   calls,
   subst (λ t. LinesName (lines_of t) calls) same named,
   printed p n [] calls replies last (string_bytes t) (subst (λ l. MachineRun p l calls replies last) none run) text_is,
 )
 ended p n read text calls replies first last (Err fault) same named none run printed e =
-    subst (λ f. IsOutcome {A = Global} (Some (p, n)) text (Err f)) (sym e) tt
+    subst (λ f. IsOutcome {A = Global} (Some (n, p)) text (Err f)) (sym e) tt
 
 -- where all was read, whatever the run ends with
 pub read_whole : (known : Option (List ℕ)) (old new : List ℕ) (r : Result (String Global) Fault)
@@ -56,21 +54,3 @@ read_whole known old new (Err (Fault.Line n)) h = h
 read_whole known old new (Err Fault.Arguments) h = tt
 read_whole known old new (Err Fault.Memory) h = tt
 read_whole known old new (Err Fault.Io) h = tt
-
-unlike : (xs ys : List ℕ) → xs ≢ ys → bytes_eq xs ys ≡ false
-unlike xs ys h = elim (bytes_eq xs ys) as (λ b. bytes_eq xs ys ≡ b → b ≡ false) [
-  | true ↦ λ e. absurd (h ((bytes_eq-Decides xs ys).0 e))
-  | false ↦ λ e. refl
-] refl
-
--- the first argument names no policy
-pub unsettled : (args : List (String Global)) (a : String Global) → a ≡ get_or args 0 a → string_bytes a ≢ codes "sat"
-    → string_bytes a ≢ codes "wrap" → settings_of (map (λ word. string_bytes word) args) ≡ None
-unsettled [] a e s w = refl
-unsettled (x ∷ []) a e s w = refl
-unsettled (x ∷ y ∷ z ∷ zs) a e s w = refl
-unsettled (x ∷ y ∷ []) a e s w =
-    let p = ap (λ t. string_bytes t) e in
-    let not_sat = unlike (string_bytes x) (codes "sat") (λ h. s (p ∙ h)) in
-    let not_wrap = unlike (string_bytes x) (codes "wrap") (λ h. w (p ∙ h)) in
-    rw (not_sat, not_wrap)

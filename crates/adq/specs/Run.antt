@@ -12,12 +12,19 @@ use Rattle.adq.specs.{
   Text.{text_of, list_text},
 }
 
--- the policy and the capacity that the arguments name
-abbrev pub settings_of : List (List ℕ) → Option (Policy × ℕ)
-settings_of (policy ∷ capacity ∷ []) = option_zip (lookup (bytes_eq policy)
-    ((codes "sat", Policy.saturating) ∷ (codes "wrap", Policy.wrapping) ∷ []))
-    (lookup (bytes_eq capacity) ((codes "0", 0) ∷ (codes "1", 1) ∷ (codes "2", 2) ∷ (codes "3", 3)
-    ∷ (codes "5", 5) ∷ (codes "7", 7) ∷ (codes "8", 8) ∷ []))
+-- the policy that a word names
+abbrev pub policy_of : List ℕ → Option Policy
+policy_of word = lookup (bytes_eq word)
+    ((codes "sat", Policy.saturating) ∷ (codes "wrap", Policy.wrapping) ∷ [])
+
+-- the capacity that a word names
+abbrev pub capacity_of : List ℕ → Option ℕ
+capacity_of word = lookup (bytes_eq word) ((codes "0", 0) ∷ (codes "1", 1) ∷ (codes "2", 2)
+    ∷ (codes "3", 3) ∷ (codes "5", 5) ∷ (codes "7", 7) ∷ (codes "8", 8) ∷ [])
+
+-- the capacity and the policy that the arguments name
+abbrev pub settings_of : List (List ℕ) → Option (ℕ × Policy)
+settings_of (policy ∷ capacity ∷ []) = option_zip (capacity_of capacity) (policy_of policy)
 settings_of _ = None
 
 -- the calls, made one after another from the list l, print their answers, and the last list
@@ -28,11 +35,11 @@ Prints p n l (call ∷ calls) text = (a : Answer ℤ) × (next : List ℤ) × (r
 
 -- what is printed, or why nothing is: the arguments are bad, this line is the first bad one,
 -- memory was refused, or a stream failed
-abbrev pub IsOutcome : {A : Type 0} → Option (Policy × ℕ) → List ℕ → Result (String A) Fault
+abbrev pub IsOutcome : {A : Type 0} → Option (ℕ × Policy) → List ℕ → Result (String A) Fault
     → Type 0
 IsOutcome None text result = result ≡ Err Fault.Arguments
 IsOutcome (Some s) text (Ok printed) = (calls : List (Call ℤ)) × LinesName (lines_of text) calls
-    × Prints s.0 s.1 [] calls (string_bytes printed)
+    × Prints s.1 s.0 [] calls (string_bytes printed)
 IsOutcome (Some s) text (Err Fault.Arguments) = ⊥
 IsOutcome (Some s) text (Err (Fault.Line n)) = (k : ℕ) × (n ≡ k + 1) × IsFirstBad (lines_of text) k
 IsOutcome (Some s) text (Err _) = ⊤

@@ -1,9 +1,11 @@
 //! The whole program, over any streams.
+ghost use Rattle.std.specs.Option.{option_zip};
 ghost use Rattle.std.specs.Prelude.{◌≡◌, ◌≤◌, ◌⊎◌, ◌∷◌, [], ◌++◌, IfOk, IfErr, IfSome, OnOk, Some, None, codes, flat_map, map, string_bytes};
 ghost use Rattle.std.specs.Io.KnownBytes.{Appends, IsAtEnd};
-ghost use Rattle.arraydeque.specs.Policy.{saturating, wrapping};
+ghost use Rattle.arraydeque.specs.Policy.{Policy, saturating, wrapping};
 ghost use Rattle.arraydeque.specs.Machine.{answer_of};
-ghost use Rattle.adq.specs.Run.{settings_of, IsOutcome, ReadsWhole};
+ghost use Rattle.arraydeque.specs.Run.{MachineRun};
+ghost use Rattle.adq.specs.Run.{policy_of, settings_of, IsOutcome, ReadsWhole};
 ghost use Rattle.adq.specs.Text.{text_of, list_text};
 ghost use Rattle.adq.specs.declared.fault.Fault.TheVariants.{Memory, Io};
 
@@ -11,8 +13,8 @@ use crate::fault::Fault;
 use crate::line::calls;
 use crate::print::{print_deque, print_reply};
 use arraydeque::behavior::Behavior;
-use arraydeque::run::Reply;
-use arraydeque::{ArrayDeque, Saturating, Wrapping};
+use arraydeque::run::{Call, Reply};
+use arraydeque::{ArrayDeque, MakeError, Saturating, Wrapping};
 use std::alloc::Global;
 use std::io::{ErrorKind, Read, Write};
 
@@ -58,88 +60,102 @@ fn dispatch<R: Read>(
     let [policy, capacity] = args else {
         return Err(Fault::Arguments);
     };
-    match policy.as_str() {
-        "sat" => saturating(alloc, capacity.as_str(), input, text),
-        "wrap" => wrapping(alloc, capacity.as_str(), input, text),
-        _ => Err(Fault::Arguments),
-    }
+    run_with(alloc, capacity.as_str(), policy.as_str(), input, text)
 }
 
-/// The same on a `Saturating` deque of the capacity that the word names.
-fn saturating<R: Read>(
+/// The same at the capacity that a word names, under the policy that another names.
+fn run_with<R: Read>(
     alloc: Global,
     capacity: &str,
+    policy: &str,
     input: &mut R,
     text: &mut Vec<u8>,
 ) -> Result<String, Fault>
     ensures outcome { IsOutcome
-        (settings_of (codes "sat" ∷ capacity.now ∷ [])) text.new.items result }
+        (settings_of (policy.now ∷ capacity.now ∷ [])) text.new.items result }
     ensures whole { ReadsWhole (R.remaining input.old) text.old.items text.new.items result }
 {
     match capacity {
-        "0" => saturating_of::<R, 0>(alloc, input, text),
-        "1" => saturating_of::<R, 1>(alloc, input, text),
-        "2" => saturating_of::<R, 2>(alloc, input, text),
-        "3" => saturating_of::<R, 3>(alloc, input, text),
-        "5" => saturating_of::<R, 5>(alloc, input, text),
-        "7" => saturating_of::<R, 7>(alloc, input, text),
-        "8" => saturating_of::<R, 8>(alloc, input, text),
+        "0" => run_at::<R, 0>(alloc, policy, input, text),
+        "1" => run_at::<R, 1>(alloc, policy, input, text),
+        "2" => run_at::<R, 2>(alloc, policy, input, text),
+        "3" => run_at::<R, 3>(alloc, policy, input, text),
+        "5" => run_at::<R, 5>(alloc, policy, input, text),
+        "7" => run_at::<R, 7>(alloc, policy, input, text),
+        "8" => run_at::<R, 8>(alloc, policy, input, text),
         _ => Err(Fault::Arguments),
     }
 }
 
-/// The same on a `Wrapping` one.
-fn wrapping<R: Read>(
+/// The same at one capacity.
+fn run_at<R: Read, const CAP: usize>(
     alloc: Global,
-    capacity: &str,
+    policy: &str,
     input: &mut R,
     text: &mut Vec<u8>,
 ) -> Result<String, Fault>
     ensures outcome { IsOutcome
-        (settings_of (codes "wrap" ∷ capacity.now ∷ [])) text.new.items result }
+        (option_zip (Some CAP) (policy_of policy.now)) text.new.items result }
     ensures whole { ReadsWhole (R.remaining input.old) text.old.items text.new.items result }
 {
-    match capacity {
-        "0" => wrapping_of::<R, 0>(alloc, input, text),
-        "1" => wrapping_of::<R, 1>(alloc, input, text),
-        "2" => wrapping_of::<R, 2>(alloc, input, text),
-        "3" => wrapping_of::<R, 3>(alloc, input, text),
-        "5" => wrapping_of::<R, 5>(alloc, input, text),
-        "7" => wrapping_of::<R, 7>(alloc, input, text),
-        "8" => wrapping_of::<R, 8>(alloc, input, text),
+    match policy {
+        "sat" => run_on::<R, CAP, Saturating>(alloc, input, text),
+        "wrap" => run_on::<R, CAP, Wrapping>(alloc, input, text),
         _ => Err(Fault::Arguments),
     }
 }
 
-/// The deque is made first, then all input is read, and then every line of it.
-fn saturating_of<R: Read, const CAP: usize>(
+/// The same under one policy. The deque is made first, then all input is read, and then every line
+/// of it.
+fn run_on<R: Read, const CAP: usize, B: Runs<CAP>>(
     alloc: Global,
     input: &mut R,
     text: &mut Vec<u8>,
 ) -> Result<String, Fault>
-    ensures outcome { IsOutcome (Some (saturating, CAP)) text.new.items result }
+    ensures outcome { IsOutcome (Some (CAP, B.policy)) text.new.items result }
     ensures whole { ReadsWhole (R.remaining input.old) text.old.items text.new.items result }
 {
-    let mut deque = ArrayDeque::<i64, CAP, Saturating>::new(alloc)?;
+    let mut deque = ArrayDeque::<i64, CAP, B>::new(alloc)?;
     read(input, text)?;
     let calls = calls(alloc, text.as_slice())?;
-    let replies = deque.run(calls)?;
+    let replies = B::run(&mut deque, calls)?;
     print(alloc, replies, &deque)
 }
 
-fn wrapping_of<R: Read, const CAP: usize>(
-    alloc: Global,
-    input: &mut R,
-    text: &mut Vec<u8>,
-) -> Result<String, Fault>
-    ensures outcome { IsOutcome (Some (wrapping, CAP)) text.new.items result }
-    ensures whole { ReadsWhole (R.remaining input.old) text.old.items text.new.items result }
-{
-    let mut deque = ArrayDeque::<i64, CAP, Wrapping>::new(alloc)?;
-    read(input, text)?;
-    let calls = calls(alloc, text.as_slice())?;
-    let replies = deque.run(calls)?;
-    print(alloc, replies, &deque)
+/// A policy, by which one function runs deques of either: a bound of `ArrayDeque::run` is private.
+trait Runs<const CAP: usize>: Behavior {
+    // What the list machine calls it.
+    ghost policy: { Policy };
+
+    /// `ArrayDeque::run`.
+    fn run(
+        deque: &mut ArrayDeque<i64, CAP, Self>,
+        calls: Vec<Call<i64>>,
+    ) -> Result<Vec<Reply<i64, CAP, Self>>, MakeError<Vec<Call<i64>>>>
+        ensures ok { IfOk result (λ replies. MachineRun policy
+            deque.old.items calls.items replies.items deque.new.items) };
+}
+
+impl<const CAP: usize> Runs<CAP> for Saturating {
+    ghost policy = { saturating };
+
+    fn run(
+        deque: &mut ArrayDeque<i64, CAP, Saturating>,
+        calls: Vec<Call<i64>>,
+    ) -> Result<Vec<Reply<i64, CAP, Saturating>>, MakeError<Vec<Call<i64>>>> {
+        deque.run(calls)
+    }
+}
+
+impl<const CAP: usize> Runs<CAP> for Wrapping {
+    ghost policy = { wrapping };
+
+    fn run(
+        deque: &mut ArrayDeque<i64, CAP, Wrapping>,
+        calls: Vec<Call<i64>>,
+    ) -> Result<Vec<Reply<i64, CAP, Wrapping>>, MakeError<Vec<Call<i64>>>> {
+        deque.run(calls)
+    }
 }
 
 /// Appends the input, up to its end. A read takes no memory from the program, so a failed one is a
