@@ -307,6 +307,13 @@ fn measure(wanted: &str, repetitions: usize, writes: bool) -> std::io::Result<()
     if writes && wanted.is_empty() { std::fs::write(figures::TIMES, times::csv(&all)) } else { Ok(()) }
 }
 
+/// Prints what so many rounds of `VecDeque` come to, in the workloads whose names hold the words.
+fn print_sums(rounds: usize, wanted: &str) {
+    for workload in all_workloads().iter().filter(|workload| workload.name.contains(wanted)) {
+        println!("{}: {}", workload.name, workload.peers[1](rounds));
+    }
+}
+
 fn all_workloads() -> Vec<Workload> {
     common_workloads().into_iter().chain(further_workloads()).collect()
 }
@@ -326,6 +333,7 @@ fn work(words: &[String]) {
             counts::count_long().expect("figures.csv can be read, and what was counted be written");
         }
         "--count" => counts::count(word(1)),
+        "--sums" => print_sums(word(1).parse().expect("a number of rounds"), word(2)),
         "--once" => counts::once(word(1), word(2), word(3).parse().expect("a number of rounds")),
         wanted => {
             let repetitions = word(1).parse().unwrap_or(13);

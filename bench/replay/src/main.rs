@@ -169,8 +169,24 @@ fn play_all(pairs: &[Pair], wanted: u64, seed: u64, refuses: bool) -> (Count, Op
     (count, results.into_iter().filter_map(|(_, difference)| difference).min())
 }
 
+/// Prints what the crate tells of the script that the tests of our players play: a sum for each of them.
+fn print_sums(mut pairs: Vec<Pair>) {
+    let mut told = Told::default();
+    pairs.retain(|pair| [("Saturating", 5), ("Wrapping", 8)].contains(&(pair.policy, pair.capacity)));
+    for pair in pairs {
+        pair.play_theirs(&script::tried(pair.copied), &mut told);
+        let calls = told.replies.iter().zip(&told.lists);
+        let sum = calls.fold(told.end, |sum, (reply, list)| mix(mix(sum, *reply), *list));
+        println!("{}, {}, capacity {}: {sum}", pair.items, pair.policy, pair.capacity);
+    }
+}
+
 fn main() -> ExitCode {
     let mut words: Vec<String> = std::env::args().skip(1).collect();
+    if words.first().is_some_and(|word| word == "--sums") {
+        print_sums(pairs::all());
+        return ExitCode::SUCCESS;
+    }
     let refuses = words.first().is_some_and(|word| word == "--refuse");
     if refuses {
         words.remove(0);

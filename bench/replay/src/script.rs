@@ -166,3 +166,13 @@ pub fn script(random: &mut Random, len: usize, capacity: usize, copied: bool, sc
         script.push(kind | first << 8 | (word >> 20 & 0xFFF) << 20 | number << 32);
     }
 }
+
+/// The script that the tests of our players play.
+pub fn tried(copied: bool) -> Vec<u64> {
+    let kinds = if copied { CALLS.len() } else { COPIED } as u64;
+    let call = |number| {
+        let random = mix(mix(number, 1), 2);
+        (random >> 40) % kinds | (random & 0x1F) << 8 | (random >> 5 & 0xFFF) << 20 | (random >> 17 & 0xFF) << 32
+    };
+    (0..500).map(call).collect()
+}
