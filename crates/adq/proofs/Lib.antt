@@ -1,3 +1,4 @@
+pub mod Driven
 pub mod Ended
 pub mod FirstWord
 pub mod LinesRead

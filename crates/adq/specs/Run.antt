@@ -1,15 +1,17 @@
 -- What a run of the program prints, and why another prints nothing.
 use Rattle.std.specs.{
+  Global.Global,
+  Io.{KnownBytes.{Appends, Keeps}, StartsWith},
   Map.lookup,
   Option.option_zip,
   Prelude.{◌≡◌, ℕ, ℤ, List, [], ◌∷◌, ◌++◌, Option, Some, None, Result, Ok, Err, String},
-  Prelude.{string_bytes, codes, bytes_eq, ◌+◌, ⊤, IfSome},
+  Prelude.{string_bytes, codes, bytes_eq, ◌+◌, ⊤, IfSome, Bool, true},
 }
 use Rattle.arraydeque.specs.{declared.run.Call.Call, Machine.{Answer, Answers}, Policy.Policy}
 use Rattle.adq.specs.{
   declared.fault.Fault.Fault,
   Line.{lines_of, LinesName, IsFirstBad},
-  Text.{text_of, list_text},
+  Text.{text_of, list_text, report_of},
 }
 
 -- the policy that a word names
@@ -50,3 +52,37 @@ abbrev pub ReadsWhole : {A : Type 0} → Option (List ℕ) → List ℕ → List
 ReadsWhole known old new (Ok printed) = IfSome known (λ xs. new ≡ old ++ xs)
 ReadsWhole known old new (Err (Fault.Line n)) = IfSome known (λ xs. new ≡ old ++ xs)
 ReadsWhole known old new (Err _) = ⊤
+
+-- all of the text was written; or a stream failed, and some beginning of the text was written
+abbrev pub Writes : {X : Type 0} → Option (List ℕ) → Option (List ℕ) → List ℕ → Result X Fault
+    → Type 0
+Writes old new text (Ok done) = Appends old new text
+Writes old new text (Err fault) = (fault ≡ Fault.Io)
+    × ((front : List ℕ) × StartsWith text front × Appends old new front)
+
+-- what is printed was written so; or nothing is printed, and for the same fault nothing was written
+abbrev pub WritesOutcome : {A X : Type 0} → Option (List ℕ) → Option (List ℕ)
+    → Result (String A) Fault → Result X Fault → Type 0
+WritesOutcome old new (Ok printed) end = Writes old new (string_bytes printed) end
+WritesOutcome old new (Err fault) end = (end ≡ Err fault) × Keeps old new
+
+-- from the input's bytes to the output's: a text was read, what it prints was written
+abbrev pub Drives : {X : Type 0} → Option (ℕ × Policy) → Option (List ℕ) → Option (List ℕ)
+    → Option (List ℕ) → Result X Fault → Type 0
+Drives settings input old new end = (text : List ℕ) × (outcome : Result (String Global) Fault)
+    × IsOutcome settings text outcome × ReadsWhole input [] text outcome
+    × WritesOutcome old new outcome end
+
+-- the status of a run that a fault ends
+abbrev pub status_of : Fault → ℕ
+status_of Fault.Io = 1
+status_of Fault.Arguments = 2
+status_of (Fault.Line n) = 2
+status_of Fault.Memory = 3
+
+-- the status of a run; a fault is reported, if the stream took the report, and nothing else is
+abbrev pub Reports : {X : Type 0} → Result X Fault → ℕ → Bool → Option (List ℕ) → Option (List ℕ)
+    → Type 0
+Reports (Ok done) status is_told old new = (status ≡ 0) × Keeps old new
+Reports (Err fault) status is_told old new = (status ≡ status_of fault)
+    × (is_told ≡ true → Appends old new (report_of fault))

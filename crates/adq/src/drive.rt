@@ -1,12 +1,13 @@
 //! The whole program, over any streams.
 ghost use Rattle.std.specs.Option.{option_zip};
-ghost use Rattle.std.specs.Prelude.{◌≡◌, ◌≤◌, ◌⊎◌, ◌∷◌, [], ◌++◌, IfOk, IfErr, IfSome, OnOk, Some, None, codes, flat_map, map, string_bytes};
-ghost use Rattle.std.specs.Io.KnownBytes.{Appends, IsAtEnd};
+ghost use Rattle.std.specs.Prelude.{◌≡◌, ◌≤◌, ◌⊎◌, ◌∷◌, [], ◌++◌, Result, IfOk, IfErr, IfSome, OnOk, Some, None, ⊤, codes, flat_map, map, string_bytes};
+ghost use Rattle.std.specs.Io.KnownBytes.{IsAtEnd};
 ghost use Rattle.arraydeque.specs.Policy.{Policy, saturating, wrapping};
 ghost use Rattle.arraydeque.specs.Machine.{answer_of};
 ghost use Rattle.arraydeque.specs.Run.{MachineRun};
-ghost use Rattle.adq.specs.Run.{policy_of, settings_of, IsOutcome, ReadsWhole};
+ghost use Rattle.adq.specs.Run.{policy_of, settings_of, Drives, IsOutcome, ReadsWhole, Reports, Writes};
 ghost use Rattle.adq.specs.Text.{text_of, list_text};
+ghost use Rattle.adq.specs.declared.fault.Fault.{Fault};
 ghost use Rattle.adq.specs.declared.fault.Fault.TheVariants.{Memory, Io};
 
 use crate::fault::Fault;
@@ -32,18 +33,51 @@ pub fn drive<R: Read + Drop, W: Write + Drop, F: Write + Drop>(
     args: &[String],
     mut input: R,
     mut output: W,
-    faults: F,
+    mut faults: F,
 ) -> u8
     ensures bound { result ≤ 3 }
     ensures arguments { settings_of (map (λ word. string_bytes word) args.now) ≡ None
         → result ≡ 2 }
 {
-    let mut text = Vec::new(alloc);
-    let printed = dispatch(alloc, args, &mut input, &mut text);
-    match printed.and_then(|printed| write(&mut output, printed.as_bytes())) {
-        Ok(()) => 0,
-        Err(fault) => fault.report(faults),
+    drive_over(alloc, args, &mut input, &mut output, &mut faults).0
+}
+
+/// The same over streams that are lent. Returns the status, and whether `faults` took the report of
+/// a fault, if there is one.
+fn drive_over<R: Read, W: Write, F: Write>(
+    alloc: Global,
+    args: &[String],
+    input: &mut R,
+    output: &mut W,
+    faults: &mut F,
+) -> (u8, bool)
+    ensures { (end : Result ⊤ Fault)
+        × Drives (settings_of (map (λ word. string_bytes word) args.now)) (R.remaining input.old)
+        (W.contents output.old) (W.contents output.new) end
+        × Reports end result.0 result.1 (F.contents faults.old) (F.contents faults.new) }
+{
+    match write_run(alloc, args, input, output) {
+        Ok(()) => (0, true),
+        Err(fault) => {
+            let is_told = fault.tell(faults).is_ok();
+            (fault.status(), is_told)
+        }
     }
+}
+
+/// Reads all input, and writes what it prints.
+fn write_run<R: Read, W: Write>(
+    alloc: Global,
+    args: &[String],
+    input: &mut R,
+    output: &mut W,
+) -> Result<(), Fault>
+    ensures { Drives (settings_of (map (λ word. string_bytes word) args.now))
+        (R.remaining input.old) (W.contents output.old) (W.contents output.new) result }
+{
+    let mut text = Vec::new(alloc);
+    let printed = dispatch(alloc, args, input, &mut text)?;
+    write(output, printed.as_bytes())
 }
 
 /// Reads the text into `text`, and returns what it prints.
@@ -199,13 +233,22 @@ fn print<const CAP: usize, B: Behavior>(
     Ok(text)
 }
 
-/// Writes all of the output.
+/// Writes all of the output and flushes it, or writes some beginning of it.
 fn write<W: Write>(output: &mut W, printed: &[u8]) -> Result<(), Fault>
-    ensures bytes { OnOk result
-        (Appends (W.contents output.old) (W.contents output.new) printed.now) }
-    ensures failed { IfErr result (λ fault. fault ≡ Io) }
+    ensures { Writes (W.contents output.old) (W.contents output.new) printed.now result }
 {
-    output.write_all(printed)?;
-    output.flush()?;
-    Ok(())
+    let mut rest = printed;
+    for _ in 0..u64::MAX {
+        if rest.is_empty() {
+            return Ok(output.flush()?);
+        }
+        match output.write(rest) {
+            Ok(0) => return Err(Fault::Io),
+            Ok(count) => rest = &rest[count..],
+            Err(error) if error.kind() == ErrorKind::Interrupted => {}
+            Err(_) => return Err(Fault::Io),
+        }
+    }
+    // Most of so many writes were interrupted: no memory holds as many bytes.
+    Err(Fault::Io)
 }

@@ -1,6 +1,9 @@
 //! Why a run ends early, and how it says so.
-ghost use Rattle.std.specs.Prelude.{◌≡◌, ◌≤◌, ◌++◌, ℕ, Some, codes, decimal};
-ghost use Rattle.adq.specs.declared.fault.Fault.TheVariants.{Arguments, Io, Line, Memory};
+ghost use Rattle.std.specs.Io.KnownBytes.{Appends};
+ghost use Rattle.std.specs.Prelude.{◌≡◌, ◌≤◌, ℕ, OnOk, Some};
+ghost use Rattle.adq.specs.Run.{status_of};
+ghost use Rattle.adq.specs.Text.{fault_text, report_of};
+ghost use Rattle.adq.specs.declared.fault.Fault.TheVariants.{Io, Memory};
 
 use arraydeque::MakeError;
 use std::alloc::{AllocError, AllocFailed};
@@ -29,8 +32,23 @@ impl Fault {
         ensures io { self ≡ Fault.Io → result ≡ 1 }
         ensures bound { result ≤ 3 }
     {
-        let _ = writeln!(faults, "adq: {self}");
-        let _ = faults.flush();
+        let _ = self.tell(&mut faults);
+        self.status()
+    }
+
+    /// Writes to `faults` why the run ends, as a line.
+    pub fn tell<F: Write>(&self, faults: &mut F) -> io::Result<()>
+        ensures { OnOk result (Appends
+            (F.contents faults.old) (F.contents faults.new) (report_of self.now)) }
+    {
+        writeln!(faults, "adq: {self}")?;
+        faults.flush()
+    }
+
+    /// The status of a run that ends so.
+    pub fn status(&self) -> u8
+        ensures { result ≡ status_of self.now }
+    {
         match self {
             Fault::Io => 1,
             Fault::Arguments | Fault::Line(_) => 2,
@@ -40,12 +58,7 @@ impl Fault {
 }
 
 impl fmt::Display for Fault {
-    ghost output = { λ fault. Some (elim fault [
-      | Arguments ↦ codes "bad arguments"
-      | Line number ↦ codes "bad line " ++ decimal number
-      | Memory ↦ codes "out of memory"
-      | Io ↦ codes "input or output failed"
-    ]) };
+    ghost output = { λ fault. Some (fault_text fault) };
 
     fn fmt<W: fmt::Write>(&self, f: &mut fmt::Formatter<W>) -> fmt::Result {
         match self {
