@@ -41,6 +41,14 @@ mod swaps;
 /// assert!(rt; (deque.pop_front(), deque.pop_back()) == (Some(1), Some(3)));
 /// assert!(rt; (deque.len(), deque.capacity()) == (1, 4));
 /// ```
+///
+/// A deque of long-lived items goes where one of short-lived items is wanted:
+///
+/// ```
+/// let deque = ArrayDeque::<&'static str, 2, Saturating>::from_array(alloc, ["a", "b"])?;
+/// let word = format!(in alloc; "{}", 'b')?;
+/// assert!(rt; deque.contains(&word.as_str()));
+/// ```
 #[derive(Drop)]
 pub struct ArrayDeque<T, const CAP: usize, B: Behavior> {
     ring: Ring<T>,

@@ -28,6 +28,16 @@ use std::alloc::{AllocError, Global};
 use std::marker::Model;
 
 /// A list of at most `capacity` items in one region, whose front may stand at any place.
+///
+/// A ring of long-lived items goes where one of short-lived items is wanted:
+///
+/// ```
+/// let ring: Ring<&'static str> = Ring::of_copies(alloc, 2, &["a"])?;
+/// let word = format!(in alloc; "{}", 'b')?;
+/// let mut ring: Ring<&str> = ring;
+/// ring.push_back(word.as_str());
+/// assert!(rt; ring.pop_back() == Some("b"));
+/// ```
 pub struct Ring<T> {
     slots: Slots<T>,
     start: usize,

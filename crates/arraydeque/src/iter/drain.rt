@@ -17,6 +17,17 @@ use std::marker::Model;
 /// assert!(rt; (drained.next(), drained.next_back()) == (Some(1), Some(3)));
 /// assert!(rt; (drained.len(), deque.len()) == (1, 0));
 /// ```
+///
+/// A drain of long-lived items goes where one of short-lived items is wanted:
+///
+/// ```
+/// fn ends_with<'a>(mut drained: arraydeque::Drain<&'a str>, word: &'a str) -> bool {
+///     drained.next_back() == Some(word)
+/// }
+/// let mut deque = ArrayDeque::<&'static str, 2, Saturating>::from_array(alloc, ["a", "b"])?;
+/// let word = format!(in alloc; "{}", 'b')?;
+/// assert!(rt; ends_with(deque.drain(..)?, word.as_str()));
+/// ```
 #[derive(Drop)]
 pub struct Drain<T> {
     items: into_iter::IntoIter<T>,
