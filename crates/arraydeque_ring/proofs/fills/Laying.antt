@@ -16,10 +16,10 @@ use Rattle.arraydeque_ring.{
   proofs.{
     fills.{
       Displaced.{displaced_first, displaced_last},
-      FromIterator.{Fills-both, Fills-none},
+      FromIterator.{Fills-as, Fills-both, Fills-none},
       InRows.{filled_back, filled_front},
     },
-    Opened.{Opened, Kept, kept},
+    Opened.{Opened, Kept, closed, items_within, kept, view},
     places.{
       Appended.{Holds-run, LaidOut-appended, IsEmptyRun-from, IsEmptyRun-behind},
       Holds.Holds-from,
@@ -92,6 +92,21 @@ module _ {S X : Type 0} {it : Ghosts S X} {word : List X → RingState X → Rin
     so_far = Fills-both _ was.so_far now _ on (subst (Opened _) (both was.so_far.items now.items) o);
     goes = λ some. let next = goes some in (next.0, λ f. next.1 ((was.goes on).1 f));
     kept = kept o;
+  }
+
+  -- what a fill promises where the iterator ended, or the ring is full
+  pub filled : {from to : S} {ended : Bool} (was : Laying it word v from to ended n r slots)
+      → let now = word was.so_far.items v in now.capacity ≡ v.capacity
+      → length now.items ≡ length v.items + length was.so_far.items → (ended ≡ false → n ≤ r.len)
+      → let new = view record r { slots = slots } in record {
+        came : Fills it.next_gives from to (v.capacity - length v.items) ended (λ xs. new ≡ word xs v);
+        within : length new.items ≤ new.capacity;
+        goes : GoesOn it.can_next it.remaining from to ended;
+      }
+  filled was same long full = record {
+    came = Fills-as _ was.so_far _ _ (omega arith) (λ on. let all = full on in omega arith) (λ xs. closed);
+    within = items_within record r { slots = slots } was.kept;
+    goes = was.goes;
   }
 
 -- in an open ring, whose region has n places; the region is taken out, written, and put back

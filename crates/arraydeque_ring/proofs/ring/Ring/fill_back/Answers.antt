@@ -4,11 +4,10 @@ use Rattle.std.proofs.{
 }
 use Rattle.arraydeque_ring.proofs.{
   fills.{
-    FromIterator.Fills-as,
     InRows.{filled_back, filled_back-both},
-    Laying.{Laying, begun, more, empty_behind, laid_back},
+    Laying.{Laying, begun, more, filled, empty_behind, laid_back},
   },
-  Opened.{opened, closed, items_within},
+  Opened.opened,
   ring.Ring.fill_back.{
     Given.Over,
     Goals.{After-drop-self-inside, Joined-self-to_end, then-self-to_end, else-self-to_end},
@@ -84,15 +83,5 @@ module _ (g : Over) (c : After-drop-self-inside g) where
 pub invariant_of-self : goal.invariant_of-self
 invariant_of-self g c = (last g c).kept
 
-pub returns-clause-came : goal.returns-clause-came
-returns-clause-came g c =
-    let laid = last g c in let was = laid.so_far in
-    let same = laid.all in let long = length-append c.args.self.now.items was.items in
-    Fills-as _ was _ _ (omega arith) (λ on. let all = full g c on in omega arith) (λ xs. closed)
-
-pub returns-clause-within : goal.returns-clause-within
-returns-clause-within g c =
-    items_within record c.if-not-ended.self-inside { slots = c.if-not-ended.slots } (last g c).kept
-
-pub returns-clause-goes : goal.returns-clause-goes
-returns-clause-goes g c = (last g c).goes
+pub returns : goal.returns
+returns g c = filled (last g c) refl (length-append c.args.self.now.items _) (full g c)

@@ -4,11 +4,10 @@ use Rattle.std.proofs.{
 }
 use Rattle.arraydeque_ring.proofs.{
   fills.{
-    FromIterator.Fills-as,
     InRows.{filled_front, filled_front-both},
-    Laying.{Laying, begun, more, empty_before, laid_front},
+    Laying.{Laying, begun, more, filled, empty_before, laid_front},
   },
-  Opened.{opened, closed, items_within},
+  Opened.opened,
   places.Rotated.place_of_cases,
   ring.Ring.fill_front.{
     Given.Over,
@@ -89,15 +88,7 @@ module _ (g : Over) (c : After-drop-self-inside g) where
 pub invariant_of-self : goal.invariant_of-self
 invariant_of-self g c = (last g c).kept
 
-pub returns-clause-came : goal.returns-clause-came
-returns-clause-came g c =
-    let laid = last g c in let was = laid.so_far in let same = laid.all in
-    let long = length-append (reverse was.items) c.args.self.now.items in let as_long = length-reverse was.items in
-    Fills-as _ was _ _ (omega arith) (λ on. let all = full g c on in omega arith) (λ xs. closed)
-
-pub returns-clause-within : goal.returns-clause-within
-returns-clause-within g c =
-    items_within record c.if-not-ended.self-inside { slots = c.if-not-ended.slots } (last g c).kept
-
-pub returns-clause-goes : goal.returns-clause-goes
-returns-clause-goes g c = (last g c).goes
+pub returns : goal.returns
+returns g c =
+    let xs = (last g c).so_far.items in filled (last g c) refl
+    (omega (arith, length-append (reverse xs) c.args.self.now.items, length-reverse xs)) (full g c)
