@@ -78,8 +78,7 @@ impl<T: Drop> Iterator for Drain<T> {
         ensures lower { IsWithinCount result.0 (item_count (λ remaining. remaining) self.now) }
         ensures upper { IfSome result.1 (UpTo (item_count (λ remaining. remaining) self.now)) }
     {
-        let len = self.len();
-        (len, Some(len))
+        self.items.size_hint()
     }
 }
 

@@ -58,8 +58,7 @@ impl<T: Drop, const CAP: usize, B: Behavior> Iterator for IntoIter<T, CAP, B> {
         ensures lower { IsWithinCount result.0 (item_count (λ remaining. remaining) self.now) }
         ensures upper { IfSome result.1 (UpTo (item_count (λ remaining. remaining) self.now)) }
     {
-        let len = self.len();
-        (len, Some(len))
+        self.items.size_hint()
     }
 }
 
