@@ -64,9 +64,6 @@ impl<T, const CAP: usize, B: Behavior> ArrayDeque<T, CAP, B> {
         ensures full { result ≡ false → length self.new.items ≡ CAP }
         ensures goes { GoesOn I.can_next I.remaining elements.old elements.new result }
     {
-        if self.is_full() {
-            return false;
-        }
         self.ring.fill_back(elements)
     }
 
@@ -81,9 +78,6 @@ impl<T, const CAP: usize, B: Behavior> ArrayDeque<T, CAP, B> {
         ensures full { result ≡ false → length self.new.items ≡ CAP }
         ensures goes { GoesOn I.can_next I.remaining elements.old elements.new result }
     {
-        if self.is_full() {
-            return false;
-        }
         self.ring.fill_front(elements)
     }
 }
