@@ -42,7 +42,7 @@ pub(super) fn has_equal<T: PartialEq>(items: &[T], x: &T) -> bool
 
 /// Returns whether some item equals `x`. It looks at every item, so that the compiler can compare
 /// several together.
-#[inline(always)]
+#[inline]
 fn is_any_equal<T: PartialEq>(items: &[T], x: &T) -> bool
     ensures { result ≡ list_any (λ y. T.eq y x.now) items.now }
 {
@@ -54,7 +54,7 @@ fn is_any_equal<T: PartialEq>(items: &[T], x: &T) -> bool
 }
 
 /// Returns whether two slices are equal.
-#[inline(always)]
+#[inline(always)] // By a hint, `equal` took 2529 instructions, not 2460.
 pub(super) fn are_equal<T: PartialEq>(left: &[T], right: &[T]) -> bool
     ensures { result ≡ pointwise T.eq left.now right.now }
 {
@@ -75,7 +75,7 @@ pub(super) fn partial_order<T: PartialOrd>(left: &[T], right: &[T]) -> Option<Or
 }
 
 /// Returns how two slices compare.
-#[inline(always)]
+#[inline(always)] // Measured with `are_equal`.
 pub(super) fn order<T: Ord>(left: &[T], right: &[T]) -> Ordering
     ensures { result ≡ slice_cmp T.cmp left.now right.now }
 {
@@ -87,7 +87,7 @@ pub(super) fn order<T: Ord>(left: &[T], right: &[T]) -> Ordering
 /// item has fewer than `least_bytes` or more than `SMALL_BYTES`, or if the first pair differs, as
 /// it often does. By this an order of 8-byte items took 0.2 of the Rust crate's time in place of
 /// 0.55.
-#[inline(always)]
+#[inline(always)] // Measured with `are_equal`.
 fn behind_equal<'a, T: PartialEq>(
     left: &'a [T],
     right: &'a [T],
@@ -119,7 +119,7 @@ fn behind_equal<'a, T: PartialEq>(
 
 /// Returns whether all pairs of two slices of one length are equal. It looks at every pair, so that
 /// the compiler can compare several together.
-#[inline(always)]
+#[inline(always)] // Measured with `are_equal`.
 fn are_all_equal<T: PartialEq>(left: &[T], right: &[T]) -> bool
     requires { length left.now ≡ length right.now }
     ensures { result ≡ pointwise T.eq left.now right.now }

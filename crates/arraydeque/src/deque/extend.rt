@@ -22,7 +22,7 @@ impl<T, const CAP: usize> ArrayDeque<T, CAP, Saturating> {
     /// assert!(rt; numbers.next() == Some(4));
     /// assert!(rt; deque.into_vec()?.as_slice() == [1, 2, 3].as_slice());
     /// ```
-    #[inline(never)] // Inlined, it was slower for items of 64 bytes (bench/README).
+    #[inline(never)] // Inlined, 64 bytes took 1.15 of `VecDeque`'s time, not 1.
     pub fn extend_back<I: IntoIterator<Item = T>>(&mut self, iter: I)
         requires { IsIterable I.into_iter_gives I.IntoIter.can_next iter }
         ensures { TakesFrom I.into_iter_gives I.IntoIter.next_gives iter
@@ -55,7 +55,7 @@ impl<T, const CAP: usize> ArrayDeque<T, CAP, Saturating> {
 impl<T, const CAP: usize, B: Behavior> ArrayDeque<T, CAP, B> {
     /// Puts what the iterator gives behind the last item while there is room. Returns whether the
     /// iterator ended before the deque was full.
-    #[inline(always)]
+    #[inline(always)] // As a ring's `fill_back`.
     fn fill_back<I: Iterator<Item = T>>(&mut self, elements: &mut I) -> bool
         requires { I.can_next elements.old }
         ensures came { Fills I.next_gives elements.old elements.new
@@ -69,7 +69,7 @@ impl<T, const CAP: usize, B: Behavior> ArrayDeque<T, CAP, B> {
 
     /// Puts what the iterator gives before the first item, one by one, while there is room. Returns
     /// whether the iterator ended before the deque was full.
-    #[inline(always)]
+    #[inline(always)] // As a ring's `fill_back`.
     fn fill_front<I: Iterator<Item = T>>(&mut self, elements: &mut I) -> bool
         requires { I.can_next elements.old }
         ensures came { Fills I.next_gives elements.old elements.new

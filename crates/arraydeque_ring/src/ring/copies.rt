@@ -45,7 +45,7 @@ impl<T> Ring<T> {
     /// assert!(rt; IntoIter::of(ring).eq([1, 2, 3, 4]));
     /// ```
     #[tactic(auto, using(crate::proofs::Opened::piece_facts))]
-    #[inline(always)] // With `put_copies`, so that a caller's sizes choose the blocks.
+    #[inline(always)] // As a `write`: by calls, 16 bytes took 13.8 ns, not 8.2.
     pub fn copy_back(&mut self, items: &[T]) -> usize
     where
         T: Copy,

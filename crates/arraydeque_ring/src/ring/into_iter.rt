@@ -111,7 +111,7 @@ impl<T: Drop> FusedIterator for IntoIter<T> {}
 impl<T> Ring<T> {
     /// Returns how many items [`Ring::take_before_end`] can't take: the one in the region's last
     /// place, and those past its end.
-    #[inline(always)]
+    #[inline]
     fn len_from_last_place(&self) -> usize
         ensures { result ≡ length self.now.items - (self.now.capacity - 1 - self.now.start) }
     {
@@ -122,7 +122,7 @@ impl<T> Ring<T> {
     /// Takes the first item off, as [`Ring::pop_front`] does, if the next place is before the
     /// region's end. Many such calls together empty a run of places.
     #[tactic(auto, using(crate::proofs::Opened::end_facts))]
-    #[inline(always)]
+    #[inline]
     fn take_before_end(&mut self) -> T
         requires some { 0 < length self.old.items }
         requires before_end { self.old.start + 1 < self.old.capacity }

@@ -69,7 +69,7 @@ fn rotate<T>(mut slots: Slots<T>, start: usize, len: usize) -> Slots<T>
 
 /// Moves the values that aren't in their places yet to these, without an exchange: they are in one
 /// piece from `next` on, or there is room before `next` for those that come after the end.
-#[inline(never)] // Inlined, it made a `linearize` with nothing to do longer (bench/README).
+#[inline(never)] // Inlined, nothing to do took 33 instructions, not 19.
 fn place_rest<T>(slots: Slots<T>, dst: usize, next: usize, len: usize) -> Slots<T>
     requires in_order { dst ≤ next }
     requires in_region { next < length slots.places }

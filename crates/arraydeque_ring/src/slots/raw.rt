@@ -43,7 +43,7 @@ impl<T> Slots<T> {
     }
 
     /// Writes `N` values into the empty places from `place` on, all at once.
-    #[inline(always)]
+    #[inline(always)] // As a `write`, which comes down to it.
     pub(super) fn write_block<const N: usize>(&mut self, place: usize, values: [T; N])
         requires { IsEmptyRun self.old.places place N }
         ensures { self.new ≡ record self.old {
@@ -55,7 +55,7 @@ impl<T> Slots<T> {
 
     /// Moves `N` values from the place `src + at` on to the places from `dst + at` on. All are read
     /// before one is written, so the two runs may overlap.
-    #[inline(always)]
+    #[inline(always)] // Measured with `move_gap`.
     pub(super) fn move_block<const N: usize>(&mut self, dst: usize, src: usize, at: usize)
         requires block { is_block N (type_size T.row) ≡ true }
         requires filled { IsFilledRun self.old.places (src + at) N }
