@@ -2,8 +2,8 @@
 use Rattle.std.specs.{
   Iterator.{Count, IsFinite, UpTo, size, count_map, count_unless, Yields, YieldsThen},
   Option.option_to_list,
-  Prelude.{◌≡◌, ℕ, ◌+◌, ◌<◌, ◌≤◌, max, List, [], ◌∷◌, ◌++◌, length, drop, slice_get, Option, None},
-  Prelude.{IfNone, IfSome, OnSome, MatchOption, Bool, true, false},
+  Prelude.{◌≡◌, ℕ, ◌+◌, ◌<◌, ◌≤◌, max, List, [], ◌∷◌, ◌++◌, length, take, drop, slice_get},
+  Prelude.{Option, None, IfNone, IfSome, OnSome, MatchOption, Bool, true, false},
 }
 
 -- a scanner: its iterator, the items read ahead, whether the iterator has given its first None, and
@@ -72,16 +72,36 @@ module _ {S A : Type 0} (gives : S → Option A → S → Type 0) where
     pub none : IfNone item (new.ended ≡ true)
     pub over : IfNone item (HasRest old [])
 
-  -- a look at item k of the rest saw `seen`, and left new
-  pub record Peeks (remaining : S → Count) (old : ScannerState S A) (k : ℕ) (seen : Option A)
+  -- what was read went behind the buffer, up to n items there, and no item went out
+  pub record ReadsOn (remaining : S → Count) (old : ScannerState S A) (n : ℕ)
       (new : ScannerState S A) : Type 0 where
     pub hands_out : HandsOut old [] new
     pub rest : TakesOff old [] new
+    pub keeps : take (length old.buffer) new.buffer ≡ old.buffer
+    pub within : length new.buffer ≤ max (length old.buffer) n
+    pub unchanged : n ≤ length old.buffer → new ≡ old
+    pub left : IsFinite old.left → UpTo new.left (size old.left)
+    pub lowers : Lowers remaining old None new
+    pub counts : CountsLeft remaining new
+
+  -- a look at item k of the rest saw `seen`, and left new
+  pub record Peeks (remaining : S → Count) (old : ScannerState S A) (k : ℕ) (seen : Option A)
+      (new : ScannerState S A) : Type 0 where
     pub sees : seen ≡ slice_get new.buffer k
     pub none : IfNone seen (new.ended ≡ true)
     pub some : OnSome seen (new.ended ≡ old.ended)
-    pub within : length new.buffer ≤ max (length old.buffer) (k + 1)
-    pub unchanged : k < length old.buffer → new ≡ old
-    pub left : IsFinite old.left → UpTo new.left (size old.left)
-    pub lowers : Lowers remaining old None new
+    pub reads_on : ReadsOn remaining old (k + 1) new
+
+  -- n items went off the rest, and left new
+  pub record Advances (remaining : S → Count) (old : ScannerState S A) (n : ℕ)
+      (new : ScannerState S A) : Type 0 where
+    pub items : List A
+    pub as_many : length items ≡ n
+    pub hands_out : HandsOut old items new
+    pub rest : TakesOff old items new
+    pub buffer : new.buffer ≡ drop n old.buffer
+    pub buffered : n ≤ length old.buffer → items ≡ take n old.buffer
+    pub left : IsFinite old.left → IsFinite new.left × (size new.left + n ≤ size old.left)
+    pub lowers : IsFinite (remaining old.iter) → IsFinite (remaining new.iter)
+        × (size new.left + n ≤ size old.left)
     pub counts : CountsLeft remaining new

@@ -1,7 +1,11 @@
 //! What a push into a full deque does: the policies.
 
 /// A policy: what a push into a full deque does. This crate has two, [`Saturating`] and
-/// [`Wrapping`].
+/// [`Wrapping`]. A deque's type names one, and no call takes its value, which has nothing in it.
+///
+/// ```
+/// let _policies = (Saturating, Wrapping);
+/// ```
 pub trait Behavior {}
 
 /// Under this policy a push or an insert into a full deque returns its element in the error, and
@@ -13,6 +17,7 @@ pub trait Behavior {}
 /// assert!(rt; deque.push_front(0) == Err(CapacityError { element: 0 }));
 /// assert!(rt; deque.into_vec()?.as_slice() == [1, 2].as_slice());
 /// ```
+#[derive(Drop)]
 pub struct Saturating;
 
 /// Under this policy a push into a full deque removes the item at the other end, and returns it. At
@@ -24,6 +29,7 @@ pub struct Saturating;
 /// assert!(rt; deque.push_front(0) == Some(3));
 /// assert!(rt; deque.into_vec()?.as_slice() == [0, 2].as_slice());
 /// ```
+#[derive(Drop)]
 pub struct Wrapping;
 
 impl Behavior for Saturating {}

@@ -57,7 +57,8 @@
 //! - `extend_back`, `extend_front` and `from_iter` under [`Wrapping`], and `extend` under either
 //!   policy: an iterator that ends.
 //! - `clone`: that the clone of an item is that item once more, as for numbers.
-//! - [`lookahead::Scanner`]: `peek(k)` a k below its capacity, `next_if` a capacity above 0.
+//! - [`lookahead::Scanner`]: `peek(k)` a k below its capacity, `read_ahead(k)` a k up to it,
+//!   `ahead(k)` a k up to what it has read ahead, `next_if` a capacity above 0.
 //!
 //! # What a call moves
 //!

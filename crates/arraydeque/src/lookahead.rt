@@ -1,16 +1,17 @@
 //! Looking ahead in an iterator.
-ghost use Rattle.std.specs.Prelude.{◌≡◌, ◌<◌, ◌+◌, ◌-◌, ◌*◌, ◌∷◌, [], List, length, drop, slice_get, option_copied, ⊤, true, IfOk, IfErr, OnOk, OnErr, IsOk, OnSome, IfSome, IfNone, false, ◌↔◌};
+ghost use Rattle.std.specs.Prelude.{◌≡◌, ◌<◌, ◌≤◌, ◌+◌, ◌-◌, ◌*◌, ◌∷◌, [], List, length, min, take, drop, slice_get, option_copied, ⊤, true, IfOk, IfErr, OnOk, OnErr, IsOk, OnSome, IfSome, IfNone, false, ◌↔◌};
 ghost use Rattle.std.specs.Borrow.{sem};
 ghost use Rattle.std.specs.Fn.{FnOnceReturnsAt};
 ghost use Rattle.std.specs.Iterator.{IsFinite, MakesProgress, UpTo, count_map, size};
 ghost use Rattle.std.specs.Iterator.Runs.{WholeRun};
 ghost use Rattle.std.specs.Mem.{type_size};
 ghost use Rattle.std.specs.Option.{option_to_list};
-ghost use Rattle.arraydeque.specs.Lookahead.{fresh_scanner, CountsLeft, Lowers, Reads, HandsOut, HasRest, TakesOff, PutsOn, NextIs, Peeks, Gives};
+ghost use Rattle.arraydeque.specs.Lookahead.{fresh_scanner, CountsLeft, Lowers, Reads, HandsOut, HasRest, TakesOff, PutsOn, NextIs, ReadsOn, Peeks, Advances, Gives};
 
 use crate::behavior::Saturating;
 use crate::deque::ArrayDeque;
 use crate::error::{CapacityError, MakeError};
+use crate::iter::Iter;
 use std::alloc::Global;
 use std::marker::Model;
 
@@ -101,8 +102,54 @@ impl<I: Iterator, const CAP: usize> Scanner<I, CAP> {
             (the_row I.row CAP.row I.Item.row I.Iterator) self.entry.ghost_name none (λ _ _. ⊤)
             (λ new. Peeks I.next_gives I.remaining self.old k (option_copied result) new)) }
     {
-        self.fill(k);
+        self.read_ahead(k + 1);
         self.buffer.get(k)
+    }
+
+    /// Reads on until `count` items are in the buffer, and returns how many of the next `count` are
+    /// there: fewer only if the input ends before. Requires `count` up to `CAP`.
+    ///
+    /// ```
+    /// let mut scanner = Scanner::<_, 3>::new(alloc, [1, 2].into_iter())?;
+    /// assert!(rt; scanner.read_ahead(1) == 1);
+    /// assert!(rt; scanner.read_ahead(3) == 2);
+    /// assert!(rt; scanner.next() == Some(1));
+    /// ```
+    #[tactic(auto, unfolding(crate::specs::Lookahead::left_of))]
+    pub fn read_ahead(&mut self, count: usize) -> usize
+        requires { count ≤ CAP }
+        ensures count { result ≡ min count (length self.new.buffer) }
+        ensures reads_on { ReadsOn I.next_gives I.remaining self.old count self.new }
+        ensures all { result ≡ count → self.new.ended ≡ self.old.ended }
+        ensures fewer { result < count → self.new.ended ≡ true }
+        ensures over { result < count → HasRest I.next_gives self.new self.new.buffer }
+    {
+        while self.buffer.len() < count {
+            let Some(item) = self.read() else {
+                return self.buffer.len();
+            };
+            match self.buffer.push_back(item) {
+                Ok(()) => {}
+                Err(_) => unreachable!(),
+            }
+        }
+        count
+    }
+
+    /// Returns an iterator over the next `count` items, which stay. Requires that they are in the
+    /// buffer, as [`Scanner::read_ahead`] puts them there.
+    ///
+    /// ```
+    /// let mut scanner = Scanner::<_, 2>::new(alloc, b"<!--".iter().copied())?;
+    /// let there = scanner.read_ahead(2);
+    /// assert!(rt; scanner.ahead(there).copied().eq(*b"<!"));
+    /// assert!(rt; scanner.next() == Some(b'<'));
+    /// ```
+    pub fn ahead(&self, count: usize) -> Iter<'_, I::Item>
+        requires { count ≤ length self.now.buffer }
+        ensures { result ≡ take count self.now.buffer }
+    {
+        self.buffer.range(..count)
     }
 
     /// Removes the next item and returns it: the first of the buffer, or what the iterator gives if
@@ -130,12 +177,43 @@ impl<I: Iterator, const CAP: usize> Scanner<I, CAP> {
         ensures lowers { Lowers I.remaining self.old result self.new }
         ensures counts { CountsLeft I.remaining self.new }
     {
-        // This call makes it known that the buffer fits the capacity.
-        let _len = self.buffer.len();
         match self.buffer.pop_front() {
             Some(item) => Some(item),
             None => self.read(),
         }
+    }
+
+    /// Drops the next items, up to `count`, and returns how many went: fewer only if the input ends
+    /// before.
+    ///
+    /// ```
+    /// let mut scanner = Scanner::<_, 2>::new(alloc, [1, 2, 3, 4].into_iter())?;
+    /// assert!(rt; scanner.peek(1) == Some(&2));
+    /// assert!(rt; scanner.advance(3) == 3);
+    /// assert!(rt; (scanner.next(), scanner.advance(2)) == (Some(4), 0));
+    /// ```
+    #[tactic(auto, unfolding(crate::specs::Lookahead::left_of))]
+    pub fn advance(&mut self, count: usize) -> usize
+    where
+        I::Item: Drop,
+        ensures bound { result ≤ count }
+        ensures advances { Advances I.next_gives I.remaining self.old result self.new }
+        ensures buffered { count ≤ length self.old.buffer
+            → (result ≡ count) × (self.new.iter ≡ self.old.iter) }
+        ensures all { result ≡ count → self.new.ended ≡ self.old.ended }
+        ensures fewer { result < count → self.new.ended ≡ true }
+        ensures over { result < count → HasRest I.next_gives self.new [] }
+    {
+        // This borrow makes it known that `left` counts what there is.
+        let _iter = &self.iter;
+        let mut gone = 0;
+        while gone < count {
+            let Some(_) = self.next() else {
+                return gone;
+            };
+            gone += 1;
+        }
+        gone
     }
 
     /// Removes the next item and returns it if `accepts` returns `true` for it. Otherwise returns
@@ -198,23 +276,6 @@ impl<I: Iterator, const CAP: usize> Scanner<I, CAP> {
         ensures unchanged { OnErr result (self.new ≡ self.old) }
     {
         self.buffer.push_front(item)
-    }
-
-    /// Reads on until the buffer has an item at `k`, or the iterator ends.
-    #[tactic(auto, unfolding(crate::specs::Lookahead::left_of))]
-    fn fill(&mut self, k: usize)
-        requires { k < CAP }
-        ensures { Peeks I.next_gives I.remaining self.old k (slice_get self.new.buffer k) self.new }
-    {
-        while self.buffer.len() <= k {
-            let Some(item) = self.read() else {
-                return;
-            };
-            match self.buffer.push_back(item) {
-                Ok(()) => {}
-                Err(_) => unreachable!(),
-            }
-        }
     }
 
     /// Asks the iterator once, unless it has given its first `None`. The buffer stays as it is.

@@ -34,7 +34,11 @@ impl<I: Iterator> Iterator for Watched<'_, I> {
 #[derive(Clone, Copy)]
 enum Call {
     Peek(usize),
+    /// The next items, up to so many, as the digits of a number.
+    Ahead(usize),
     Next,
+    /// How many of the next items, up to so many, went.
+    Advance(usize),
     /// The next item, if it is below this.
     NextBelow(i64),
     Unread(i64),
@@ -54,7 +58,16 @@ fn scans<I: Iterator<Item = i64>, const CAP: usize>(
         let got = match call {
             Call::Peek(k) if k < CAP => scanner.peek(k).copied(),
             Call::Peek(_) => return false,
+            Call::Ahead(count) if count <= CAP => {
+                let there = scanner.read_ahead(count);
+                let number_of = |number: i64, item: &i64| {
+                    number.saturating_mul(10).saturating_add(*item)
+                };
+                Some(scanner.ahead(there).fold(0, number_of))
+            }
+            Call::Ahead(_) => return false,
             Call::Next => scanner.next(),
+            Call::Advance(count) => i64::try_from(scanner.advance(count)).ok(),
             Call::NextBelow(limit) if 0 < CAP => scanner.next_if(|item| *item < limit),
             Call::NextBelow(_) => return false,
             Call::Unread(item) => match scanner.unread(item) {
@@ -152,6 +165,39 @@ fn leaves_what_is_not_accepted(alloc: Global) -> Result<bool, Fail> {
     Ok(scans(&mut scanner, &asked, &calls))
 }
 
+/// Whether several items are looked at and dropped together, and no more are asked for.
+fn looks_at_several_and_drops_several(alloc: Global) -> Result<bool, Fail> {
+    let calls = [
+        (Call::Ahead(0), Some(0), 0),
+        (Call::Ahead(2), Some(12), 2),
+        (Call::Ahead(1), Some(1), 2),
+        (Call::Advance(1), Some(1), 2),
+        (Call::Unread(9), None, 2),
+        (Call::Ahead(3), Some(923), 3),
+        (Call::Advance(0), Some(0), 3),
+        (Call::Advance(5), Some(5), 5),
+        (Call::Ahead(2), Some(6), 7),
+        (Call::Ahead(3), Some(6), 7),
+        (Call::Advance(2), Some(1), 7),
+        (Call::Advance(2), Some(0), 7),
+        (Call::Next, None, 7),
+    ];
+    let asked = Cell::new(0);
+    let input = [
+        Some(1),
+        Some(2),
+        Some(3),
+        Some(4),
+        Some(5),
+        Some(6),
+        None,
+        Some(7),
+    ];
+    let iter = Watched::by(&asked, Script::of(&input));
+    let mut scanner = made(Scanner::<_, 3>::new(alloc, iter))?;
+    Ok(scans(&mut scanner, &asked, &calls))
+}
+
 /// Whether a walk that is left early leaves the rest, also of what was looked at.
 fn leaves_the_rest_of_a_walk(alloc: Global) -> Result<bool, Fail> {
     let mut scanner = made(Scanner::<_, 3>::new(alloc, [1, 2, 3, 4].into_iter()))?;
@@ -172,6 +218,7 @@ fn scanners_answer_and_ask_as_they_should(rt: HostRuntime) -> Result<(), Fail> {
     assert!(rt; asks_no_more_after_the_first_none(rt.alloc())?);
     assert!(rt; asks_for_no_more_than_it_wants(rt.alloc())?);
     assert!(rt; leaves_what_is_not_accepted(rt.alloc())?);
+    assert!(rt; looks_at_several_and_drops_several(rt.alloc())?);
     assert!(rt; leaves_the_rest_of_a_walk(rt.alloc())?);
     Ok(())
 }

@@ -2,6 +2,8 @@
 mod handed_out;
 mod long;
 
+use crate::build::made;
+use arraydeque::lookahead::Scanner;
 use arraydeque::{ArrayDeque, Saturating, Wrapping};
 use std::alloc::{AllocError, Global};
 use std::cell::Cell;
@@ -276,6 +278,18 @@ fn a_drain_drops_what_is_left(rt: HostRuntime) -> Result<(), Fail> {
     let left = drops.with(drain);
     drop(last);
     assert!(rt; [left, drops.with(deque)] == [23, 415]);
+    Ok(())
+}
+
+#[test]
+fn an_advance_drops_what_goes(rt: HostRuntime) -> Result<(), Fail> {
+    let drops = Drops::new();
+    let items = vector_of(rt.alloc(), &drops, &[1, 2, 3, 4, 5])?;
+    let mut scanner = made(Scanner::<_, 2>::new(rt.alloc(), items.into_iter()))?;
+    let there = scanner.read_ahead(2);
+    let gone = scanner.advance(3);
+    let seen = [drops.since(), drops.with(scanner)];
+    assert!(rt; (there, gone) == (2, 3) && seen == [123, 45]);
     Ok(())
 }
 

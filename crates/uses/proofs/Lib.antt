@@ -1,5 +1,4 @@
 pub mod Cut
 pub mod Recent
 pub mod Rising
-pub mod Taken
 pub mod Totals

@@ -1,5 +1,5 @@
 //! Reading and writing items in place.
-ghost use Rattle.std.specs.Prelude.{◌≡◌, ◌<◌, ◌-◌, [], length, slice_get, slice_index_or, option_copied, IfNone};
+ghost use Rattle.std.specs.Prelude.{◌≡◌, ◌<◌, ◌≤◌, ◌-◌, [], length, slice_get, slice_index_or, option_copied, IfNone};
 ghost use Rattle.std.specs.Borrow.{sem};
 ghost use Rattle.std.specs.List.{list_any};
 ghost use Rattle.std.specs.Option.{option_copied_mut};
@@ -41,6 +41,7 @@ impl<T, const CAP: usize, B: Behavior> ArrayDeque<T, CAP, B> {
     pub fn front(&self) -> Option<&T>
         ensures value { option_copied result ≡ slice_get self.now.items 0 }
         ensures empty { IfNone result (self.now.items ≡ []) }
+        ensures within { length self.now.items ≤ CAP }
     {
         self.get(0)
     }
@@ -57,6 +58,7 @@ impl<T, const CAP: usize, B: Behavior> ArrayDeque<T, CAP, B> {
     pub fn back(&self) -> Option<&T>
         ensures value { option_copied result ≡ last_item self.now.items }
         ensures empty { IfNone result (self.now.items ≡ []) }
+        ensures within { length self.now.items ≤ CAP }
     {
         self.get(self.len().saturating_sub(1))
     }
@@ -72,7 +74,8 @@ impl<T, const CAP: usize, B: Behavior> ArrayDeque<T, CAP, B> {
     /// ```
     #[inline]
     pub fn get(&self, index: usize) -> Option<&T>
-        ensures { option_copied result ≡ slice_get self.now.items index }
+        ensures value { option_copied result ≡ slice_get self.now.items index }
+        ensures within { length self.now.items ≤ CAP }
     {
         self.ring.get(index)
     }
@@ -90,6 +93,7 @@ impl<T, const CAP: usize, B: Behavior> ArrayDeque<T, CAP, B> {
         ensures* writes_back { sem 𝓛 (lends_item T.row CAP.row B.row self.entry 0 result) }
         ensures value { option_copied_mut result ≡ slice_get self.old.items 0 }
         ensures empty { IfNone result (self.old.items ≡ []) }
+        ensures within { length self.old.items ≤ CAP }
     {
         self.get_mut(0)
     }
@@ -108,6 +112,7 @@ impl<T, const CAP: usize, B: Behavior> ArrayDeque<T, CAP, B> {
             sem 𝓛 (lends_item T.row CAP.row B.row self.entry last result) }
         ensures value { option_copied_mut result ≡ last_item self.old.items }
         ensures empty { IfNone result (self.old.items ≡ []) }
+        ensures within { length self.old.items ≤ CAP }
     {
         let last = self.len().saturating_sub(1);
         self.get_mut(last)
@@ -127,6 +132,7 @@ impl<T, const CAP: usize, B: Behavior> ArrayDeque<T, CAP, B> {
     pub fn get_mut(&mut self, index: usize) -> Option<&mut T>
         ensures* writes_back { sem 𝓛 (lends_item T.row CAP.row B.row self.entry index result) }
         ensures value { option_copied_mut result ≡ slice_get self.old.items index }
+        ensures within { length self.old.items ≤ CAP }
     {
         self.ring.get_mut(index)
     }

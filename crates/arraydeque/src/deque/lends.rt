@@ -30,9 +30,6 @@ impl<T, const CAP: usize, B: Behavior> ArrayDeque<T, CAP, B> {
     {
         // No clause speaks of all calls of the iterator, as one of `drain` does: with it in reach
         // the prover's search misses what a plain loop over the iterator keeps.
-
-        // This call makes it known that the two slices fit the capacity.
-        let _len = self.len();
         let (first, second) = self.as_slices();
         Iter { first, second }
     }
@@ -142,6 +139,7 @@ impl<T, const CAP: usize, B: Behavior> ArrayDeque<T, CAP, B> {
     #[inline]
     pub fn as_slices(&self) -> (&[T], &[T])
         ensures joined { result.0.now ++ result.1.now ≡ self.now.items }
+        ensures within { length self.now.items ≤ CAP }
         ensures one_piece { IsInOnePiece (as_ring CAP self.now) → result.1.now ≡ [] }
     {
         self.ring.as_slices()

@@ -35,8 +35,6 @@ impl<T, const CAP: usize, B: Behavior> ArrayDeque<T, CAP, B> {
           steps = more_lends (min 1 (length self.old.items)) self.old.steps;
         }) }
     {
-        // This call makes it known that the list fits the capacity.
-        let _len = self.len();
         let item = self.front_mut()?;
         if predicate(item) {
             self.pop_front()
@@ -69,7 +67,6 @@ impl<T, const CAP: usize, B: Behavior> ArrayDeque<T, CAP, B> {
           steps = more_lends (min 1 (length self.old.items)) self.old.steps;
         }) }
     {
-        let _len = self.len();
         let item = self.back_mut()?;
         if predicate(item) {
             self.pop_back()

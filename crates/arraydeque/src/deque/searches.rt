@@ -21,6 +21,7 @@ impl<T, const CAP: usize, B: Behavior> ArrayDeque<T, CAP, B> {
     pub fn partition_point<P: FnMut(&T) -> bool>(&self, mut pred: P) -> usize
         requires { P.IsAlwaysCallable pred }
         ensures bound { result ≤ length self.now.items }
+        ensures within { length self.now.items ≤ CAP }
         ensures partitioned { (p : T → Bool) → ComputesKey P.FnMut p pred
             → IsPartitionedBy p self.now.items
             → IsPartitionPoint (λ y. p y ≡ true) (λ y. p y ≡ false) self.now.items result }

@@ -2,8 +2,9 @@ use Rattle.std.proofs.{
   Common.{◌≡◌, ◌≢◌, [], ◌∷◌, slice_get, rules, arith},
   lemmas.{Grind.common_steps, List.Elements.All-push},
 }
+use Rattle.arraydeque.proofs.Scanned.{TakesOff-append}
 use Rattle.uses.{
-  proofs.{Cut.some_weaker, Taken.TakesOff-append},
+  proofs.Cut.some_weaker,
   specs.{declared.tokens.Kind.TheVariants.Sign, Tokens.kind_of},
 }
 use Rattle.uses.proofs.tokens.next_token.Goals as goal

@@ -2,7 +2,8 @@ use Rattle.std.proofs.{
   Common.{[], ◌∷◌, ◌++◌, append-nil, arith},
   lemmas.Grind.{common_steps, flat_map-append},
 }
-use Rattle.uses.{proofs.{Cut.AreCut-push, Taken.TakesOff-append}, specs.Tokens.joined}
+use Rattle.arraydeque.proofs.Scanned.{TakesOff-append}
+use Rattle.uses.{proofs.Cut.AreCut-push, specs.Tokens.joined}
 use Rattle.uses.proofs.tokens.tokenize.Goals as goal
 
 pub loop-tokens-preserved : goal.loop-tokens-preserved

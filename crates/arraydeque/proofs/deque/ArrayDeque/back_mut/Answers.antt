@@ -12,5 +12,6 @@ returns g c =
         value = value;
         empty = no_last _ c.get_mut.result c.args.self.now.items
             (rw (c.saturating_sub-last.ensures, c.len.ensures.len) at value);
+        within = c.len.ensures.within;
       },
     )

@@ -20,7 +20,8 @@ returns-then-not-is_accepted-clause-rejected g c =
 
 pub returns-clause-hands_out : goal.returns-clause-hands_out
 returns-clause-hands_out g c = HandsOut-append g.I.Iterator.next_gives c.args.self.now
-    c.peek.follows.lender-at-none c.next.new.self [] _ c.peek.follows.holds-at-none.hands_out c.next.ensures.hands_out
+    c.peek.follows.lender-at-none c.next.new.self [] _ c.peek.follows.holds-at-none.reads_on.hands_out
+    c.next.ensures.hands_out
 
 pub returns-clause-accepted : goal.returns-clause-accepted
 returns-clause-accepted g c =
