@@ -5,8 +5,6 @@
 #[cfg(test)]
 mod block_moves;
 #[cfg(test)]
-mod bounds;
-#[cfg(test)]
 mod capacities;
 #[cfg(test)]
 mod items;

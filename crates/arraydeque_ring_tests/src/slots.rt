@@ -1,5 +1,4 @@
 //! The region.
-use crate::bounds::{lend_place, run_lent};
 use arraydeque_ring::slots::Slots;
 use std::test::Fail;
 
@@ -18,8 +17,8 @@ fn calls_of_a_region_1_request_4_bytes(rt: HostRuntime) -> Result<(), Fail> {
     assert!(rt;
         slots.capacity() == 4 && *slots.get(1) == 10 && slots.slice(1, 2) == [10, 20].as_slice()
     );
-    *lend_place(&mut slots, 1) = 30;
-    run_lent(&mut slots, 1, 2)[1] = 40;
+    *slots.get_mut(1) = 30;
+    slots.slice_mut(1, 2)[1] = 40;
     assert!(rt; slots.slice(4, 0) == [].as_slice() && (slots.take(2), slots.take(1)) == (40, 30));
     Ok(())
 }

@@ -8,8 +8,6 @@ use arraydeque_samples::{asked, build};
 #[cfg(test)]
 mod access;
 #[cfg(test)]
-mod bounds;
-#[cfg(test)]
 mod bytes;
 #[cfg(test)]
 mod deque;

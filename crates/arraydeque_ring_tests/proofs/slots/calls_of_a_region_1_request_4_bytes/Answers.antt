@@ -45,8 +45,8 @@ slice-requires g c =
     rw before at c.wrap_move.ensures.places in
     rw now (omega arith, (10 ∷ 20 ∷ [], refl))
 
-pub run_lent-requires : goal.run_lent-requires
-run_lent-requires g c =
+pub slice_mut-requires : goal.slice_mut-requires
+slice_mut-requires g c =
     let before : c.exchange.new.self.places ≡ Some 20 ∷ None ∷ None ∷ Some 10 ∷ [] = search rules in
     let now : c.wrap_move.new.self.places ≡ None ∷ Some 10 ∷ Some 20 ∷ None ∷ [] =
     rw before at c.wrap_move.ensures.places in
@@ -57,11 +57,11 @@ take-requires g c =
     let before : c.exchange.new.self.places ≡ Some 20 ∷ None ∷ None ∷ Some 10 ∷ [] = search rules in
     let now : c.wrap_move.new.self.places ≡ None ∷ Some 10 ∷ Some 20 ∷ None ∷ [] =
     rw before at c.wrap_move.ensures.places in
-    rw (lent 30 20 c.run_lent.result.now (rw now at c.run_lent.ensures.values), now) (40, refl)
+    rw (lent 30 20 c.slice_mut.result.now (rw now at c.slice_mut.ensures.values), now) (40, refl)
 
 pub take-requires-then-eq : goal.take-requires-then-eq
 take-requires-then-eq g c =
     let before : c.exchange.new.self.places ≡ Some 20 ∷ None ∷ None ∷ Some 10 ∷ [] = search rules in
     let now : c.wrap_move.new.self.places ≡ None ∷ Some 10 ∷ Some 20 ∷ None ∷ [] =
     rw before at c.wrap_move.ensures.places in
-    rw (c.take.ensures.places, lent 30 20 c.run_lent.result.now (rw now at c.run_lent.ensures.values), now) (30, refl)
+    rw (c.take.ensures.places, lent 30 20 c.slice_mut.result.now (rw now at c.slice_mut.ensures.values), now) (30, refl)
