@@ -21,6 +21,9 @@ fn capacity_zero_has_no_items_0_requests_0_bytes(rt: HostRuntime) -> Result<(), 
     assert!(rt; (ring.len(), ring.capacity(), ring.get(0)) == (0, 0, None));
     assert!(rt; (ring.pop_front(), ring.pop_back()) == (None, None));
     assert!(rt; (ring.drain(0, 0)?.capacity(), ring.split_off(0)?.capacity()) == (0, 0));
+    ring.resize(0, 7);
+    let (first, second) = ring.lend_part(0, 0).into_slices();
+    assert!(rt; first.is_empty() && second.is_empty());
     let mut slots = Slots::<i64>::new(rt.alloc(), 0)?;
     let (first, second) = slots.two_slices_mut(0, 0, 0, 0);
     assert!(rt; first.is_empty() && second.is_empty());
@@ -28,7 +31,7 @@ fn capacity_zero_has_no_items_0_requests_0_bytes(rt: HostRuntime) -> Result<(), 
     Ok(())
 }
 
-/// Two copies of an item, pushed, lent and popped.
+/// Two copies of an item, pushed, lent, put by a resize and popped.
 fn hold_two<T: Copy + PartialEq + Debug>(
     rt: &impl Abort,
     alloc: Global,
@@ -44,6 +47,8 @@ fn hold_two<T: Copy + PartialEq + Debug>(
     let (first, second) = ring.as_slices();
     assert!(rt; (first, second) == ([item].as_slice(), [item].as_slice()));
     assert!(rt; (ring.get(1).copied(), ring.get(2).copied()) == (Some(item), None));
+    ring.resize(1, item);
+    ring.resize(2, item);
     assert!(rt;
         (ring.pop_front(), ring.pop_back(), ring.pop_back()) == (Some(item), Some(item), None)
     );
