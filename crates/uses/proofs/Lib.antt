@@ -1,4 +1,6 @@
 pub mod Cut
+pub mod Grouped
 pub mod Recent
 pub mod Rising
+pub mod Runs
 pub mod Totals

@@ -1,4 +1,6 @@
 pub mod Ageing
+pub mod Edits
+pub mod Encoder
 pub mod History
 pub mod Limiter
 pub mod Peaks

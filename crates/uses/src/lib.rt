@@ -4,9 +4,12 @@
 
 pub mod ageing;
 pub mod copying;
+pub mod edits;
+pub mod encoder;
 pub mod history;
 pub mod in_place;
 pub mod jobs;
+pub mod journal;
 pub mod limiter;
 pub mod log;
 pub mod moving;

@@ -56,8 +56,6 @@ impl<const CAP: usize> Window<CAP> {
     pub fn push(&mut self, sample: u32)
         ensures { self.new ≡ keep_last CAP (self.old ++ sample ∷ []) }
     {
-        // This call makes it known that the samples fit the capacity.
-        let _count = self.recent.len();
         let left = self.recent.push_back(sample).unwrap_or(0);
         self.total = self.total + sample as u64 - left as u64;
     }

@@ -6,11 +6,17 @@ mod ageing;
 #[cfg(test)]
 mod copying;
 #[cfg(test)]
+mod edits;
+#[cfg(test)]
+mod encoder;
+#[cfg(test)]
 mod history;
 #[cfg(test)]
 mod in_place;
 #[cfg(test)]
 mod jobs;
+#[cfg(test)]
+mod journal;
 #[cfg(test)]
 mod limiter;
 #[cfg(test)]

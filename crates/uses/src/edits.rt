@@ -1,0 +1,89 @@
+//! Edits of a text, of which those of one kind in a row become one.
+//!
+//! It uses `arraydeque::lookahead::Scanner`, and is proved over the scanner's public contract
+//! alone: the runs, written out, are the edits, so none is lost.
+ghost use Rattle.std.specs.Prelude.{◌≡◌, ◌≢◌, ◌<◌, ◌≤◌, [], length, take, drop, slice_get, replicate, IfOk, IfSome, IfNone, ⊤};
+ghost use Rattle.std.specs.Iterator.{IsFinite, MakesProgress};
+ghost use Rattle.std.specs.Option.{option_to_list};
+ghost use Rattle.arraydeque.specs.Lookahead.{HasRest, TakesOff, NextIs};
+ghost use Rattle.uses.specs.Edits.{written_out};
+
+use arraydeque::Iter;
+use arraydeque::lookahead::Scanner;
+use std::alloc::{AllocError, Global};
+
+/// What becomes of the next line of a text.
+#[derive(Clone, Copy, Debug, PartialEq, Eq)]
+pub enum Edit {
+    /// It stays.
+    Keep,
+    /// It goes.
+    Delete,
+    /// Another one comes before it.
+    Insert,
+}
+
+/// Edits of one kind in a row.
+#[derive(Clone, Copy, Debug, PartialEq, Eq)]
+pub struct Run {
+    /// Their kind.
+    pub edit: Edit,
+    /// Their number.
+    pub count: usize,
+}
+
+/// Merges all edits that a scanner has left into runs, none longer than it can look ahead.
+///
+/// It requires a scanner that can look at least one edit ahead.
+pub fn merge<I: Iterator<Item = Edit>, const AHEAD: usize>(
+    alloc: Global,
+    edits: &mut Scanner<I, AHEAD>,
+) -> Result<Vec<Run>, AllocError>
+    requires ahead { 0 < AHEAD }
+    requires ends { IsFinite edits.old.left }
+    ensures none_lost { IfOk result (λ runs.
+        HasRest I.next_gives edits.old (written_out runs.items)) }
+{
+    let mut runs = Vec::new(alloc);
+    while let Some(run) = next_run(edits) {
+        runs.push(run)?;
+    }
+    Ok(runs)
+}
+
+/// Takes the edits of one kind that come next, or returns `None` at the end.
+pub fn next_run<I: Iterator<Item = Edit>, const AHEAD: usize>(
+    edits: &mut Scanner<I, AHEAD>,
+) -> Option<Run>
+    requires ahead { 0 < AHEAD }
+    ensures taken { let runs = option_to_list result in
+        TakesOff I.next_gives edits.old (written_out runs) edits.new }
+    ensures over { IfNone result (HasRest I.next_gives edits.old []) }
+    ensures longest { IfSome result (λ run. run.count < AHEAD →
+        NextIs I.next_gives (λ edit. edit ≢ run.edit) edits.new) }
+    ensures goes { MakesProgress (λ _. ⊤) (λ s. s.left) edits.old result edits.new }
+{
+    let there = edits.read_ahead(AHEAD);
+    let edit = *edits.ahead(there).next()?;
+    let count = count_equal(edits.ahead(there), edit);
+    edits.advance(count);
+    Some(Run { edit, count })
+}
+
+/// How many edits equal `edit`, before the first that doesn't.
+fn count_equal(edits: Iter<'_, Edit>, edit: Edit) -> usize
+    ensures bound { result ≤ length edits.entry }
+    ensures equal { take result edits.entry ≡ replicate result edit }
+    ensures other { IfSome (slice_get (drop result edits.entry) 0) (λ other. other ≢ edit) }
+{
+    // This call makes it known that their number fits a `usize`.
+    let _len = edits.len();
+    let mut count = 0;
+    for other in edits {
+        if *other != edit {
+            break;
+        }
+        count += 1;
+    }
+    count
+}
