@@ -1,6 +1,7 @@
 pub mod Changed
 pub mod Counted
 pub mod Fills
+pub mod formers
 pub mod Gaps
 pub mod Loans
 pub mod Moved

@@ -5,4 +5,5 @@ pub mod History
 pub mod Limiter
 pub mod Peaks
 pub mod Tokens
+pub mod Tree
 pub mod Window

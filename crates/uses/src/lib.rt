@@ -18,5 +18,6 @@ pub mod pipe;
 pub mod reorder;
 pub mod scanning;
 pub mod tokens;
+pub mod tree;
 pub mod window;
 pub mod writing;

@@ -34,6 +34,8 @@ mod scanning;
 #[cfg(test)]
 mod tokens;
 #[cfg(test)]
+mod tree;
+#[cfg(test)]
 mod window;
 #[cfg(test)]
 mod writing;
