@@ -149,7 +149,8 @@ impl<T> Ring<T> {
         self.lend()
     }
 
-    /// The `len` items from the index `from` on, for writing, as one loan of two slices.
+    /// Lends the `len` items from the index `from` on for writing, as one loan of two slices.
+    /// Requires that the list has them.
     ///
     /// Whatever is written, there are as many items as before, they start where they did, and those
     /// outside the part are as they were.
