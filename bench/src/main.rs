@@ -170,6 +170,7 @@ fn further_workloads() -> Vec<Workload> {
     of_all_lists!(list, add_each, arraydeque_bench_add_each, (8, u64, 1000000));
     // Not at capacity 16, whose rounds the compiler sums without making them.
     of_all_items!(list, for_each_mut, arraydeque_bench_for_each_mut, (8, u64, 64), (8, u64, 1000000));
+    of_all_lists!(list, range_mut, arraydeque_bench_range_mut, (8, u64, 1000000));
     of_all_lists!(list, contains, arraydeque_bench_contains, (8, u64, 1000000));
     workloads!(
         list, compare, arraydeque_bench_compare, true,
@@ -194,6 +195,8 @@ fn further_workloads() -> Vec<Workload> {
     of_all_lists!(list, split_append, arraydeque_bench_split_append);
     of_all_lists!(list, split_rejoin, arraydeque_bench_split_rejoin);
     of_all_lists!(list, truncate, arraydeque_bench_truncate);
+    // Not at capacity 16, whose rounds the compiler sums without making them.
+    of_all_items!(list, resize, arraydeque_bench_resize, (8, u64, 64));
     of_all_lists!(list, retain_mut, arraydeque_bench_retain_mut);
     of_all_lists!(list, rotate_full_one, arraydeque_bench_rotate_full_one);
     of_all_lists!(list, rotate_full_half, arraydeque_bench_rotate_full_half);

@@ -4,6 +4,7 @@ use std::cmp::Ordering;
 use std::collections::VecDeque;
 use std::hash::Hash;
 use std::io::{Read, Write};
+use std::iter::repeat;
 use std::ops::Range;
 
 /// A deque of at most `CAP` items. A push into a full one is refused.
@@ -41,6 +42,9 @@ pub trait Peer<T>: Sized {
     fn split_off(&mut self, at: usize) -> Self;
     fn append(&mut self, other: Self);
     fn truncate(&mut self, len: usize);
+    fn resize(&mut self, len: usize, value: T)
+    where
+        T: Clone;
     fn into_items(self) -> impl DoubleEndedIterator<Item = T>;
     fn retain(&mut self, keeps: impl FnMut(&T) -> bool);
     /// Writes each item, and keeps those that are wanted then.
@@ -54,6 +58,9 @@ pub trait Peer<T>: Sized {
     where
         T: 'a;
     fn iter_mut<'a>(&'a mut self) -> impl Iterator<Item = &'a mut T>
+    where
+        T: 'a;
+    fn range_mut<'a>(&'a mut self, range: Range<usize>) -> impl Iterator<Item = &'a mut T>
     where
         T: 'a;
     fn linearize(&mut self);
@@ -238,6 +245,21 @@ impl<T, const CAP: usize> Peer<T> for Crate<T, CAP> {
         }
     }
     #[inline]
+    fn resize(&mut self, len: usize, value: T)
+    where
+        T: Clone,
+    {
+        self.truncate(len);
+        self.0.extend_back(repeat(value).take(len - self.0.len()));
+    }
+    #[inline]
+    fn range_mut<'a>(&'a mut self, range: Range<usize>) -> impl Iterator<Item = &'a mut T>
+    where
+        T: 'a,
+    {
+        self.0.iter_mut().skip(range.start).take(range.len())
+    }
+    #[inline]
     fn linearize(&mut self) {
         self.0.linearize();
     }
@@ -376,6 +398,20 @@ impl<T, const CAP: usize> Peer<T> for Bounded<T, CAP> {
     #[inline]
     fn truncate(&mut self, len: usize) {
         self.0.truncate(len);
+    }
+    #[inline]
+    fn resize(&mut self, len: usize, value: T)
+    where
+        T: Clone,
+    {
+        self.0.resize(len, value);
+    }
+    #[inline]
+    fn range_mut<'a>(&'a mut self, range: Range<usize>) -> impl Iterator<Item = &'a mut T>
+    where
+        T: 'a,
+    {
+        self.0.range_mut(range)
     }
     #[inline]
     fn linearize(&mut self) {

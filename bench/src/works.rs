@@ -428,6 +428,22 @@ pub fn for_each_mut<T: Item, D: Peer<T>, const CAP: usize>(rounds: usize) -> u64
     sum
 }
 
+pub fn range_mut<T: Item, D: Peer<T>, const CAP: usize>(rounds: usize) -> u64 {
+    let mut deque: D = peer_at(CAP / 2, CAP);
+    let mut sum = 0u64;
+    for _ in 0..rounds {
+        let from = deque.len() / 4;
+        let to = deque.len() - from;
+        for item in deque.range_mut(from..to) {
+            *item = T::of(item.number().wrapping_add(1));
+        }
+        if let Some(item) = deque.get(CAP / 2) {
+            sum = sum.wrapping_add(item.number());
+        }
+    }
+    sum
+}
+
 pub fn contains<T: Item + PartialEq, D: Peer<T>, const CAP: usize>(rounds: usize) -> u64 {
     let mut deque: D = peer_at(CAP / 2, CAP);
     for item in deque.iter_mut() {
@@ -841,6 +857,17 @@ pub fn truncate<T: Item, D: Peer<T>, const CAP: usize>(rounds: usize) -> u64 {
         deque.truncate(CAP / 2);
         sum = sum.wrapping_add(last_number(&deque));
         deque.extend_back(items.iter().copied());
+    }
+    sum
+}
+
+pub fn resize<T: Item, D: Peer<T>, const CAP: usize>(rounds: usize) -> u64 {
+    let mut deque: D = peer_at(CAP / 4, CAP / 2);
+    let mut sum = 0u64;
+    for round in 0..rounds as u64 {
+        deque.resize(CAP, T::of(round));
+        sum = sum.wrapping_add(last_number(&deque));
+        deque.resize(CAP / 2, T::of(0));
     }
     sum
 }
