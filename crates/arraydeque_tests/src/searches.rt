@@ -76,8 +76,8 @@ fn searches_from_each_start(rt: HostRuntime) -> Result<(), Fail> {
 #[test]
 fn searches_of_a_thousand_items(rt: HostRuntime) -> Result<(), Fail> {
     let mut items = Vec::with_capacity(rt.alloc(), 1000)?;
-    for number in (0..2000).step_by(2) {
-        items.push(number)?;
+    for half in 0..1000_u16 {
+        items.push(2 * i64::from(half))?;
     }
     let deque = deque_at::<1000>(rt.alloc(), 500, &items)?;
     for number in -1..2000 {
