@@ -9,21 +9,21 @@ use std::fmt;
 use std::fmt::Debug;
 use std::hash::{Hash, Hasher};
 
-pub fn contains<T: PartialEq, const CAP: usize, B: Behavior>(
+fn contains<T: PartialEq, const CAP: usize, B: Behavior>(
     deque: &ArrayDeque<T, CAP, B>,
     x: &T,
 ) -> bool {
     deque.contains(x)
 }
 
-pub fn binary_search<T: Ord, const CAP: usize, B: Behavior>(
+fn binary_search<T: Ord, const CAP: usize, B: Behavior>(
     deque: &ArrayDeque<T, CAP, B>,
     x: &T,
 ) -> Result<usize, usize> {
     deque.binary_search(x)
 }
 
-pub fn eq<T: PartialEq, const CAP: usize, B: Behavior>(
+fn eq<T: PartialEq, const CAP: usize, B: Behavior>(
     left: &ArrayDeque<T, CAP, B>,
     right: &ArrayDeque<T, CAP, B>,
 ) -> bool {
@@ -35,41 +35,41 @@ pub fn as_eq<D: Eq>(value: &D) -> &D {
     value
 }
 
-pub fn deque_as_eq<T: Eq, const CAP: usize, B: Behavior>(
+fn deque_as_eq<T: Eq, const CAP: usize, B: Behavior>(
     deque: &ArrayDeque<T, CAP, B>,
 ) -> &ArrayDeque<T, CAP, B> {
     as_eq(deque)
 }
 
-pub fn partial_cmp<T: PartialOrd, const CAP: usize, B: Behavior>(
+fn partial_cmp<T: PartialOrd, const CAP: usize, B: Behavior>(
     left: &ArrayDeque<T, CAP, B>,
     right: &ArrayDeque<T, CAP, B>,
 ) -> Option<Ordering> {
     left.partial_cmp(right)
 }
 
-pub fn cmp<T: Ord, const CAP: usize, B: Behavior>(
+fn cmp<T: Ord, const CAP: usize, B: Behavior>(
     left: &ArrayDeque<T, CAP, B>,
     right: &ArrayDeque<T, CAP, B>,
 ) -> Ordering {
     left.cmp(right)
 }
 
-pub fn hash<T: Hash, const CAP: usize, B: Behavior, H: Hasher>(
+fn hash<T: Hash, const CAP: usize, B: Behavior, H: Hasher>(
     deque: &ArrayDeque<T, CAP, B>,
     state: &mut H,
 ) {
     deque.hash(state);
 }
 
-pub fn fmt<T: Debug, const CAP: usize, B: Behavior, W: fmt::Write>(
+fn fmt<T: Debug, const CAP: usize, B: Behavior, W: fmt::Write>(
     deque: &ArrayDeque<T, CAP, B>,
     f: &mut fmt::Formatter<W>,
 ) -> fmt::Result {
     deque.fmt(f)
 }
 
-pub fn clone<T: Clone, const CAP: usize, B: Behavior>(
+fn clone<T: Clone, const CAP: usize, B: Behavior>(
     deque: &ArrayDeque<T, CAP, B>,
 ) -> Result<ArrayDeque<T, CAP, B>, AllocError>
     requires { ClonesAreSame T.is_clone deque.now.items }

@@ -13,37 +13,37 @@ use std::cmp::Ordering;
 use std::io;
 use std::io::{BufRead, Read};
 
-pub fn new<T, const CAP: usize, B: Behavior>(
+fn new<T, const CAP: usize, B: Behavior>(
     alloc: Global,
 ) -> Result<ArrayDeque<T, CAP, B>, AllocError> {
     ArrayDeque::new(alloc)
 }
 
-pub fn len<T, const CAP: usize, B: Behavior>(deque: &ArrayDeque<T, CAP, B>) -> usize {
+fn len<T, const CAP: usize, B: Behavior>(deque: &ArrayDeque<T, CAP, B>) -> usize {
     deque.len()
 }
 
-pub fn capacity<T, const CAP: usize, B: Behavior>(deque: &ArrayDeque<T, CAP, B>) -> usize {
+fn capacity<T, const CAP: usize, B: Behavior>(deque: &ArrayDeque<T, CAP, B>) -> usize {
     deque.capacity()
 }
 
-pub fn is_empty<T, const CAP: usize, B: Behavior>(deque: &ArrayDeque<T, CAP, B>) -> bool {
+fn is_empty<T, const CAP: usize, B: Behavior>(deque: &ArrayDeque<T, CAP, B>) -> bool {
     deque.is_empty()
 }
 
-pub fn is_full<T, const CAP: usize, B: Behavior>(deque: &ArrayDeque<T, CAP, B>) -> bool {
+fn is_full<T, const CAP: usize, B: Behavior>(deque: &ArrayDeque<T, CAP, B>) -> bool {
     deque.is_full()
 }
 
-pub fn pop_front<T, const CAP: usize, B: Behavior>(deque: &mut ArrayDeque<T, CAP, B>) -> Option<T> {
+fn pop_front<T, const CAP: usize, B: Behavior>(deque: &mut ArrayDeque<T, CAP, B>) -> Option<T> {
     deque.pop_front()
 }
 
-pub fn pop_back<T, const CAP: usize, B: Behavior>(deque: &mut ArrayDeque<T, CAP, B>) -> Option<T> {
+fn pop_back<T, const CAP: usize, B: Behavior>(deque: &mut ArrayDeque<T, CAP, B>) -> Option<T> {
     deque.pop_back()
 }
 
-pub fn pop_front_if<T, const CAP: usize, B: Behavior, P: FnOnce(&mut T) -> bool>(
+fn pop_front_if<T, const CAP: usize, B: Behavior, P: FnOnce(&mut T) -> bool>(
     deque: &mut ArrayDeque<T, CAP, B>,
     predicate: P,
 ) -> Option<T>
@@ -53,7 +53,7 @@ pub fn pop_front_if<T, const CAP: usize, B: Behavior, P: FnOnce(&mut T) -> bool>
     deque.pop_front_if(predicate)
 }
 
-pub fn pop_back_if<T, const CAP: usize, B: Behavior, P: FnOnce(&mut T) -> bool>(
+fn pop_back_if<T, const CAP: usize, B: Behavior, P: FnOnce(&mut T) -> bool>(
     deque: &mut ArrayDeque<T, CAP, B>,
     predicate: P,
 ) -> Option<T>
@@ -63,47 +63,45 @@ pub fn pop_back_if<T, const CAP: usize, B: Behavior, P: FnOnce(&mut T) -> bool>(
     deque.pop_back_if(predicate)
 }
 
-pub fn front<T, const CAP: usize, B: Behavior>(deque: &ArrayDeque<T, CAP, B>) -> Option<&T> {
+fn front<T, const CAP: usize, B: Behavior>(deque: &ArrayDeque<T, CAP, B>) -> Option<&T> {
     deque.front()
 }
 
-pub fn back<T, const CAP: usize, B: Behavior>(deque: &ArrayDeque<T, CAP, B>) -> Option<&T> {
+fn back<T, const CAP: usize, B: Behavior>(deque: &ArrayDeque<T, CAP, B>) -> Option<&T> {
     deque.back()
 }
 
-pub fn get<T, const CAP: usize, B: Behavior>(
+fn get<T, const CAP: usize, B: Behavior>(
     deque: &ArrayDeque<T, CAP, B>,
     index: usize,
 ) -> Option<&T> {
     deque.get(index)
 }
 
-pub fn index<T, const CAP: usize, B: Behavior>(deque: &ArrayDeque<T, CAP, B>, index: usize) -> &T
+fn index<T, const CAP: usize, B: Behavior>(deque: &ArrayDeque<T, CAP, B>, index: usize) -> &T
     requires { index < length deque.now.items }
 {
     &deque[index]
 }
 
-pub fn front_mut<T, const CAP: usize, B: Behavior>(
+fn front_mut<T, const CAP: usize, B: Behavior>(
     deque: &mut ArrayDeque<T, CAP, B>,
 ) -> Option<&mut T> {
     deque.front_mut()
 }
 
-pub fn back_mut<T, const CAP: usize, B: Behavior>(
-    deque: &mut ArrayDeque<T, CAP, B>,
-) -> Option<&mut T> {
+fn back_mut<T, const CAP: usize, B: Behavior>(deque: &mut ArrayDeque<T, CAP, B>) -> Option<&mut T> {
     deque.back_mut()
 }
 
-pub fn get_mut<T, const CAP: usize, B: Behavior>(
+fn get_mut<T, const CAP: usize, B: Behavior>(
     deque: &mut ArrayDeque<T, CAP, B>,
     index: usize,
 ) -> Option<&mut T> {
     deque.get_mut(index)
 }
 
-pub fn index_mut<T, const CAP: usize, B: Behavior>(
+fn index_mut<T, const CAP: usize, B: Behavior>(
     deque: &mut ArrayDeque<T, CAP, B>,
     index: usize,
 ) -> &mut T
@@ -112,35 +110,31 @@ pub fn index_mut<T, const CAP: usize, B: Behavior>(
     &mut deque[index]
 }
 
-pub fn iter<T, const CAP: usize, B: Behavior>(deque: &ArrayDeque<T, CAP, B>) -> Iter<'_, T> {
+fn iter<T, const CAP: usize, B: Behavior>(deque: &ArrayDeque<T, CAP, B>) -> Iter<'_, T> {
     deque.iter()
 }
 
-pub fn iter_mut<T, const CAP: usize, B: Behavior>(
-    deque: &mut ArrayDeque<T, CAP, B>,
-) -> IterMut<'_, T> {
+fn iter_mut<T, const CAP: usize, B: Behavior>(deque: &mut ArrayDeque<T, CAP, B>) -> IterMut<'_, T> {
     deque.iter_mut()
 }
 
-pub fn ref_into_iter<T, const CAP: usize, B: Behavior>(
-    deque: &ArrayDeque<T, CAP, B>,
-) -> Iter<'_, T> {
+fn ref_into_iter<T, const CAP: usize, B: Behavior>(deque: &ArrayDeque<T, CAP, B>) -> Iter<'_, T> {
     deque.into_iter()
 }
 
-pub fn mut_into_iter<T, const CAP: usize, B: Behavior>(
+fn mut_into_iter<T, const CAP: usize, B: Behavior>(
     deque: &mut ArrayDeque<T, CAP, B>,
 ) -> IterMut<'_, T> {
     deque.into_iter()
 }
 
-pub fn into_iter<T: Drop, const CAP: usize, B: Behavior>(
+fn into_iter<T: Drop, const CAP: usize, B: Behavior>(
     deque: ArrayDeque<T, CAP, B>,
 ) -> IntoIter<T, CAP, B> {
     deque.into_iter()
 }
 
-pub fn range<T, const CAP: usize, B: Behavior, R: RangeArgument<usize> + Drop>(
+fn range<T, const CAP: usize, B: Behavior, R: RangeArgument<usize> + Drop>(
     deque: &ArrayDeque<T, CAP, B>,
     range: R,
 ) -> Iter<'_, T>
@@ -154,7 +148,7 @@ pub fn range<T, const CAP: usize, B: Behavior, R: RangeArgument<usize> + Drop>(
     deque.range(range)
 }
 
-pub fn range_mut<T, const CAP: usize, B: Behavior, R: RangeArgument<usize> + Drop>(
+fn range_mut<T, const CAP: usize, B: Behavior, R: RangeArgument<usize> + Drop>(
     deque: &mut ArrayDeque<T, CAP, B>,
     range: R,
 ) -> IterMut<'_, T>
@@ -168,79 +162,73 @@ pub fn range_mut<T, const CAP: usize, B: Behavior, R: RangeArgument<usize> + Dro
     deque.range_mut(range)
 }
 
-pub fn as_slices<T, const CAP: usize, B: Behavior>(deque: &ArrayDeque<T, CAP, B>) -> (&[T], &[T]) {
+fn as_slices<T, const CAP: usize, B: Behavior>(deque: &ArrayDeque<T, CAP, B>) -> (&[T], &[T]) {
     deque.as_slices()
 }
 
-pub fn as_slice<T, const CAP: usize, B: Behavior>(deque: &ArrayDeque<T, CAP, B>) -> &[T]
+fn as_slice<T, const CAP: usize, B: Behavior>(deque: &ArrayDeque<T, CAP, B>) -> &[T]
     requires { IsInOnePiece (as_ring CAP deque.now) }
 {
     deque.as_slice()
 }
 
-pub fn as_mut_slices<T, const CAP: usize, B: Behavior>(
+fn as_mut_slices<T, const CAP: usize, B: Behavior>(
     deque: &mut ArrayDeque<T, CAP, B>,
 ) -> (&mut [T], &mut [T]) {
     deque.as_mut_slices()
 }
 
-pub fn as_mut_slice<T, const CAP: usize, B: Behavior>(deque: &mut ArrayDeque<T, CAP, B>) -> &mut [T]
+fn as_mut_slice<T, const CAP: usize, B: Behavior>(deque: &mut ArrayDeque<T, CAP, B>) -> &mut [T]
     requires { IsInOnePiece (as_ring CAP deque.old) }
 {
     deque.as_mut_slice()
 }
 
-pub fn linearize<T, const CAP: usize, B: Behavior>(deque: &mut ArrayDeque<T, CAP, B>) {
+fn linearize<T, const CAP: usize, B: Behavior>(deque: &mut ArrayDeque<T, CAP, B>) {
     deque.linearize();
 }
 
-pub fn swap<T, const CAP: usize, B: Behavior>(deque: &mut ArrayDeque<T, CAP, B>, i: usize, j: usize)
+fn swap<T, const CAP: usize, B: Behavior>(deque: &mut ArrayDeque<T, CAP, B>, i: usize, j: usize)
     requires i_in_bounds { i < length deque.old.items }
     requires j_in_bounds { j < length deque.old.items }
 {
     deque.swap(i, j);
 }
 
-pub fn swap_remove_back<T, const CAP: usize, B: Behavior>(
+fn swap_remove_back<T, const CAP: usize, B: Behavior>(
     deque: &mut ArrayDeque<T, CAP, B>,
     index: usize,
 ) -> Option<T> {
     deque.swap_remove_back(index)
 }
 
-pub fn swap_remove_front<T, const CAP: usize, B: Behavior>(
+fn swap_remove_front<T, const CAP: usize, B: Behavior>(
     deque: &mut ArrayDeque<T, CAP, B>,
     index: usize,
 ) -> Option<T> {
     deque.swap_remove_front(index)
 }
 
-pub fn remove<T, const CAP: usize, B: Behavior>(
+fn remove<T, const CAP: usize, B: Behavior>(
     deque: &mut ArrayDeque<T, CAP, B>,
     index: usize,
 ) -> Option<T> {
     deque.remove(index)
 }
 
-pub fn rotate_left<T, const CAP: usize, B: Behavior>(
-    deque: &mut ArrayDeque<T, CAP, B>,
-    count: usize,
-)
+fn rotate_left<T, const CAP: usize, B: Behavior>(deque: &mut ArrayDeque<T, CAP, B>, count: usize)
     requires { count ≤ length deque.old.items }
 {
     deque.rotate_left(count);
 }
 
-pub fn rotate_right<T, const CAP: usize, B: Behavior>(
-    deque: &mut ArrayDeque<T, CAP, B>,
-    count: usize,
-)
+fn rotate_right<T, const CAP: usize, B: Behavior>(deque: &mut ArrayDeque<T, CAP, B>, count: usize)
     requires { count ≤ length deque.old.items }
 {
     deque.rotate_right(count);
 }
 
-pub fn drain<T, const CAP: usize, B: Behavior, R: RangeArgument<usize> + Drop>(
+fn drain<T, const CAP: usize, B: Behavior, R: RangeArgument<usize> + Drop>(
     deque: &mut ArrayDeque<T, CAP, B>,
     range: R,
 ) -> Result<Drain<T>, AllocError>
@@ -254,7 +242,7 @@ pub fn drain<T, const CAP: usize, B: Behavior, R: RangeArgument<usize> + Drop>(
     deque.drain(range)
 }
 
-pub fn split_off<T, const CAP: usize, B: Behavior>(
+fn split_off<T, const CAP: usize, B: Behavior>(
     deque: &mut ArrayDeque<T, CAP, B>,
     at: usize,
 ) -> Result<ArrayDeque<T, CAP, B>, AllocError>
@@ -263,13 +251,13 @@ pub fn split_off<T, const CAP: usize, B: Behavior>(
     deque.split_off(at)
 }
 
-pub fn into_vec<T, const CAP: usize, B: Behavior>(
+fn into_vec<T, const CAP: usize, B: Behavior>(
     deque: ArrayDeque<T, CAP, B>,
 ) -> Result<Vec<T>, MakeError<ArrayDeque<T, CAP, B>>> {
     deque.into_vec()
 }
 
-pub fn partition_point<T, const CAP: usize, B: Behavior, P: FnMut(&T) -> bool>(
+fn partition_point<T, const CAP: usize, B: Behavior, P: FnMut(&T) -> bool>(
     deque: &ArrayDeque<T, CAP, B>,
     pred: P,
 ) -> usize
@@ -278,7 +266,7 @@ pub fn partition_point<T, const CAP: usize, B: Behavior, P: FnMut(&T) -> bool>(
     deque.partition_point(pred)
 }
 
-pub fn binary_search_by<T, const CAP: usize, B: Behavior, F: FnMut(&T) -> Ordering>(
+fn binary_search_by<T, const CAP: usize, B: Behavior, F: FnMut(&T) -> Ordering>(
     deque: &ArrayDeque<T, CAP, B>,
     f: F,
 ) -> Result<usize, usize>
@@ -287,7 +275,7 @@ pub fn binary_search_by<T, const CAP: usize, B: Behavior, F: FnMut(&T) -> Orderi
     deque.binary_search_by(f)
 }
 
-pub fn binary_search_by_key<T, const CAP: usize, B: Behavior, K: Ord + Drop, F: FnMut(&T) -> K>(
+fn binary_search_by_key<T, const CAP: usize, B: Behavior, K: Ord + Drop, F: FnMut(&T) -> K>(
     deque: &ArrayDeque<T, CAP, B>,
     key: &K,
     f: F,
@@ -297,27 +285,24 @@ pub fn binary_search_by_key<T, const CAP: usize, B: Behavior, K: Ord + Drop, F: 
     deque.binary_search_by_key(key, f)
 }
 
-pub fn drop<T: Drop, const CAP: usize, B: Behavior>(_deque: ArrayDeque<T, CAP, B>) {}
+fn drop<T: Drop, const CAP: usize, B: Behavior>(_deque: ArrayDeque<T, CAP, B>) {}
 
-pub fn clear<T: Drop, const CAP: usize, B: Behavior>(deque: &mut ArrayDeque<T, CAP, B>) {
+fn clear<T: Drop, const CAP: usize, B: Behavior>(deque: &mut ArrayDeque<T, CAP, B>) {
     deque.clear();
 }
 
-pub fn truncate<T: Drop, const CAP: usize, B: Behavior>(
-    deque: &mut ArrayDeque<T, CAP, B>,
-    len: usize,
-) {
+fn truncate<T: Drop, const CAP: usize, B: Behavior>(deque: &mut ArrayDeque<T, CAP, B>, len: usize) {
     deque.truncate(len);
 }
 
-pub fn truncate_front<T: Drop, const CAP: usize, B: Behavior>(
+fn truncate_front<T: Drop, const CAP: usize, B: Behavior>(
     deque: &mut ArrayDeque<T, CAP, B>,
     len: usize,
 ) {
     deque.truncate_front(len);
 }
 
-pub fn resize<T: Copy, const CAP: usize, B: Behavior>(
+fn resize<T: Copy, const CAP: usize, B: Behavior>(
     deque: &mut ArrayDeque<T, CAP, B>,
     len: usize,
     value: T,
@@ -327,7 +312,7 @@ pub fn resize<T: Copy, const CAP: usize, B: Behavior>(
     deque.resize(len, value);
 }
 
-pub fn retain<T: Drop, const CAP: usize, B: Behavior, F: FnMut(&T) -> bool + Drop>(
+fn retain<T: Drop, const CAP: usize, B: Behavior, F: FnMut(&T) -> bool + Drop>(
     deque: &mut ArrayDeque<T, CAP, B>,
     f: F,
 )
@@ -336,7 +321,7 @@ pub fn retain<T: Drop, const CAP: usize, B: Behavior, F: FnMut(&T) -> bool + Dro
     deque.retain(f);
 }
 
-pub fn retain_mut<T: Drop, const CAP: usize, B: Behavior, F: FnMut(&mut T) -> bool + Drop>(
+fn retain_mut<T: Drop, const CAP: usize, B: Behavior, F: FnMut(&mut T) -> bool + Drop>(
     deque: &mut ArrayDeque<T, CAP, B>,
     f: F,
 )
@@ -345,19 +330,19 @@ pub fn retain_mut<T: Drop, const CAP: usize, B: Behavior, F: FnMut(&mut T) -> bo
     deque.retain_mut(f);
 }
 
-pub fn read<const CAP: usize, B: Behavior>(
+fn read<const CAP: usize, B: Behavior>(
     deque: &mut ArrayDeque<u8, CAP, B>,
     buf: &mut [u8],
 ) -> io::Result<usize> {
     deque.read(buf)
 }
 
-pub fn fill_buf<const CAP: usize, B: Behavior>(
+fn fill_buf<const CAP: usize, B: Behavior>(
     deque: &mut ArrayDeque<u8, CAP, B>,
 ) -> io::Result<&[u8]> {
     deque.fill_buf()
 }
 
-pub fn consume<const CAP: usize, B: Behavior>(deque: &mut ArrayDeque<u8, CAP, B>, amount: usize) {
+fn consume<const CAP: usize, B: Behavior>(deque: &mut ArrayDeque<u8, CAP, B>, amount: usize) {
     deque.consume(amount);
 }

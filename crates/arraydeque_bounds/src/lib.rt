@@ -4,12 +4,12 @@
 //! hands out is handed on. `Ring::lend` alone is left out, since its callers are proved by hand.
 #![tactic(auto)]
 
-pub mod compare;
-pub mod deque;
-pub mod error;
-pub mod iter;
-pub mod lookahead;
-pub mod policies;
-pub mod range;
-pub mod ring;
-pub mod slots;
+mod compare;
+mod deque;
+mod error;
+mod iter;
+mod lookahead;
+mod policies;
+mod range;
+mod ring;
+mod slots;

@@ -5,7 +5,7 @@ use arraydeque::lookahead::Scanner;
 use arraydeque::{CapacityError, Iter, MakeError};
 use std::alloc::Global;
 
-pub fn new<I: Iterator, const CAP: usize>(
+fn new<I: Iterator, const CAP: usize>(
     alloc: Global,
     iter: I,
 ) -> Result<Scanner<I, CAP>, MakeError<I>>
@@ -14,20 +14,17 @@ pub fn new<I: Iterator, const CAP: usize>(
     Scanner::new(alloc, iter)
 }
 
-pub fn peek<I: Iterator, const CAP: usize>(
-    scanner: &mut Scanner<I, CAP>,
-    k: usize,
-) -> Option<&I::Item>
+fn peek<I: Iterator, const CAP: usize>(scanner: &mut Scanner<I, CAP>, k: usize) -> Option<&I::Item>
     requires { k < CAP }
 {
     scanner.peek(k)
 }
 
-pub fn next<I: Iterator, const CAP: usize>(scanner: &mut Scanner<I, CAP>) -> Option<I::Item> {
+fn next<I: Iterator, const CAP: usize>(scanner: &mut Scanner<I, CAP>) -> Option<I::Item> {
     scanner.next()
 }
 
-pub fn next_if<I: Iterator, const CAP: usize, P: FnOnce(&I::Item) -> bool>(
+fn next_if<I: Iterator, const CAP: usize, P: FnOnce(&I::Item) -> bool>(
     scanner: &mut Scanner<I, CAP>,
     accepts: P,
 ) -> Option<I::Item>
@@ -37,16 +34,13 @@ pub fn next_if<I: Iterator, const CAP: usize, P: FnOnce(&I::Item) -> bool>(
     scanner.next_if(accepts)
 }
 
-pub fn read_ahead<I: Iterator, const CAP: usize>(
-    scanner: &mut Scanner<I, CAP>,
-    count: usize,
-) -> usize
+fn read_ahead<I: Iterator, const CAP: usize>(scanner: &mut Scanner<I, CAP>, count: usize) -> usize
     requires { count ≤ CAP }
 {
     scanner.read_ahead(count)
 }
 
-pub fn ahead<I: Iterator, const CAP: usize>(
+fn ahead<I: Iterator, const CAP: usize>(
     scanner: &Scanner<I, CAP>,
     count: usize,
 ) -> Iter<'_, I::Item>
@@ -55,14 +49,14 @@ pub fn ahead<I: Iterator, const CAP: usize>(
     scanner.ahead(count)
 }
 
-pub fn advance<I: Iterator<Item: Drop>, const CAP: usize>(
+fn advance<I: Iterator<Item: Drop>, const CAP: usize>(
     scanner: &mut Scanner<I, CAP>,
     count: usize,
 ) -> usize {
     scanner.advance(count)
 }
 
-pub fn unread<I: Iterator, const CAP: usize>(
+fn unread<I: Iterator, const CAP: usize>(
     scanner: &mut Scanner<I, CAP>,
     item: I::Item,
 ) -> Result<(), CapacityError<I::Item>> {
@@ -70,7 +64,7 @@ pub fn unread<I: Iterator, const CAP: usize>(
 }
 
 /// The scanner is an iterator too, if its items can be dropped.
-pub fn iterator<I: Iterator<Item: Drop>, const CAP: usize>(
+fn iterator<I: Iterator<Item: Drop>, const CAP: usize>(
     scanner: &mut Scanner<I, CAP>,
 ) -> Option<I::Item> {
     Iterator::next(scanner)

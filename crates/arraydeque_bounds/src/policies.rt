@@ -10,35 +10,35 @@ use std::alloc::{AllocError, Global};
 use std::io;
 use std::io::Write;
 
-pub fn saturating_push_front<T, const CAP: usize>(
+fn saturating_push_front<T, const CAP: usize>(
     deque: &mut ArrayDeque<T, CAP, Saturating>,
     element: T,
 ) -> Result<(), CapacityError<T>> {
     deque.push_front(element)
 }
 
-pub fn saturating_push_back<T, const CAP: usize>(
+fn saturating_push_back<T, const CAP: usize>(
     deque: &mut ArrayDeque<T, CAP, Saturating>,
     element: T,
 ) -> Result<(), CapacityError<T>> {
     deque.push_back(element)
 }
 
-pub fn wrapping_push_front<T, const CAP: usize>(
+fn wrapping_push_front<T, const CAP: usize>(
     deque: &mut ArrayDeque<T, CAP, Wrapping>,
     element: T,
 ) -> Option<T> {
     deque.push_front(element)
 }
 
-pub fn wrapping_push_back<T, const CAP: usize>(
+fn wrapping_push_back<T, const CAP: usize>(
     deque: &mut ArrayDeque<T, CAP, Wrapping>,
     element: T,
 ) -> Option<T> {
     deque.push_back(element)
 }
 
-pub fn saturating_insert<T, const CAP: usize>(
+fn saturating_insert<T, const CAP: usize>(
     deque: &mut ArrayDeque<T, CAP, Saturating>,
     index: usize,
     element: T,
@@ -48,7 +48,7 @@ pub fn saturating_insert<T, const CAP: usize>(
     deque.insert(index, element)
 }
 
-pub fn saturating_extend_back<T, const CAP: usize, I: IntoIterator<Item = T>>(
+fn saturating_extend_back<T, const CAP: usize, I: IntoIterator<Item = T>>(
     deque: &mut ArrayDeque<T, CAP, Saturating>,
     iter: I,
 )
@@ -57,7 +57,7 @@ pub fn saturating_extend_back<T, const CAP: usize, I: IntoIterator<Item = T>>(
     deque.extend_back(iter);
 }
 
-pub fn saturating_extend_front<T, const CAP: usize, I: IntoIterator<Item = T>>(
+fn saturating_extend_front<T, const CAP: usize, I: IntoIterator<Item = T>>(
     deque: &mut ArrayDeque<T, CAP, Saturating>,
     iter: I,
 )
@@ -66,7 +66,7 @@ pub fn saturating_extend_front<T, const CAP: usize, I: IntoIterator<Item = T>>(
     deque.extend_front(iter);
 }
 
-pub fn wrapping_extend_back<T: Drop, const CAP: usize, I: IntoIterator<Item = T>>(
+fn wrapping_extend_back<T: Drop, const CAP: usize, I: IntoIterator<Item = T>>(
     deque: &mut ArrayDeque<T, CAP, Wrapping>,
     iter: I,
 )
@@ -75,7 +75,7 @@ pub fn wrapping_extend_back<T: Drop, const CAP: usize, I: IntoIterator<Item = T>
     deque.extend_back(iter);
 }
 
-pub fn wrapping_extend_front<T: Drop, const CAP: usize, I: IntoIterator<Item = T>>(
+fn wrapping_extend_front<T: Drop, const CAP: usize, I: IntoIterator<Item = T>>(
     deque: &mut ArrayDeque<T, CAP, Wrapping>,
     iter: I,
 )
@@ -84,7 +84,7 @@ pub fn wrapping_extend_front<T: Drop, const CAP: usize, I: IntoIterator<Item = T
     deque.extend_front(iter);
 }
 
-pub fn saturating_extend<T: Drop, const CAP: usize, I: IntoIterator<Item = T>>(
+fn saturating_extend<T: Drop, const CAP: usize, I: IntoIterator<Item = T>>(
     deque: &mut ArrayDeque<T, CAP, Saturating>,
     iter: I,
 ) -> Result<(), AllocError>
@@ -93,7 +93,7 @@ pub fn saturating_extend<T: Drop, const CAP: usize, I: IntoIterator<Item = T>>(
     deque.extend(iter)
 }
 
-pub fn wrapping_extend<T: Drop, const CAP: usize, I: IntoIterator<Item = T>>(
+fn wrapping_extend<T: Drop, const CAP: usize, I: IntoIterator<Item = T>>(
     deque: &mut ArrayDeque<T, CAP, Wrapping>,
     iter: I,
 ) -> Result<(), AllocError>
@@ -102,18 +102,16 @@ pub fn wrapping_extend<T: Drop, const CAP: usize, I: IntoIterator<Item = T>>(
     deque.extend(iter)
 }
 
-pub fn saturating_extend_by_copies<
-    'a,
-    T: Copy + 'a,
-    const CAP: usize,
-    I: IntoIterator<Item = &'a T>,
->(deque: &mut ArrayDeque<T, CAP, Saturating>, iter: I) -> Result<(), AllocError>
+fn saturating_extend_by_copies<'a, T: Copy + 'a, const CAP: usize, I: IntoIterator<Item = &'a T>>(
+    deque: &mut ArrayDeque<T, CAP, Saturating>,
+    iter: I,
+) -> Result<(), AllocError>
     requires { IsFiniteIterable I.into_iter_gives I.IntoIter.can_next I.IntoIter.remaining iter }
 {
     deque.extend(iter)
 }
 
-pub fn wrapping_extend_by_copies<'a, T: Copy + 'a, const CAP: usize, I: IntoIterator<Item = &'a T>>(
+fn wrapping_extend_by_copies<'a, T: Copy + 'a, const CAP: usize, I: IntoIterator<Item = &'a T>>(
     deque: &mut ArrayDeque<T, CAP, Wrapping>,
     iter: I,
 ) -> Result<(), AllocError>
@@ -122,21 +120,21 @@ pub fn wrapping_extend_by_copies<'a, T: Copy + 'a, const CAP: usize, I: IntoIter
     deque.extend(iter)
 }
 
-pub fn saturating_append<T, const CAP: usize, const N: usize, P: Behavior>(
+fn saturating_append<T, const CAP: usize, const N: usize, P: Behavior>(
     deque: &mut ArrayDeque<T, CAP, Saturating>,
     other: &mut ArrayDeque<T, N, P>,
 ) {
     deque.append(other);
 }
 
-pub fn wrapping_append<T: Drop, const CAP: usize, const N: usize, P: Behavior>(
+fn wrapping_append<T: Drop, const CAP: usize, const N: usize, P: Behavior>(
     deque: &mut ArrayDeque<T, CAP, Wrapping>,
     other: &mut ArrayDeque<T, N, P>,
 ) {
     deque.append(other);
 }
 
-pub fn saturating_from_iter<T, const CAP: usize, I: IntoIterator<Item = T>>(
+fn saturating_from_iter<T, const CAP: usize, I: IntoIterator<Item = T>>(
     alloc: Global,
     iter: I,
 ) -> Result<ArrayDeque<T, CAP, Saturating>, MakeError<I>>
@@ -145,7 +143,7 @@ pub fn saturating_from_iter<T, const CAP: usize, I: IntoIterator<Item = T>>(
     ArrayDeque::<T, CAP, Saturating>::from_iter(alloc, iter)
 }
 
-pub fn wrapping_from_iter<T: Drop, const CAP: usize, I: IntoIterator<Item = T>>(
+fn wrapping_from_iter<T: Drop, const CAP: usize, I: IntoIterator<Item = T>>(
     alloc: Global,
     iter: I,
 ) -> Result<ArrayDeque<T, CAP, Wrapping>, MakeError<I>>
@@ -154,68 +152,68 @@ pub fn wrapping_from_iter<T: Drop, const CAP: usize, I: IntoIterator<Item = T>>(
     ArrayDeque::<T, CAP, Wrapping>::from_iter(alloc, iter)
 }
 
-pub fn saturating_from_vec<T: Drop, const CAP: usize>(
+fn saturating_from_vec<T: Drop, const CAP: usize>(
     alloc: Global,
     v: Vec<T>,
 ) -> Result<ArrayDeque<T, CAP, Saturating>, MakeError<Vec<T>>> {
     ArrayDeque::<T, CAP, Saturating>::from_vec(alloc, v)
 }
 
-pub fn wrapping_from_vec<T: Drop, const CAP: usize>(
+fn wrapping_from_vec<T: Drop, const CAP: usize>(
     alloc: Global,
     v: Vec<T>,
 ) -> Result<ArrayDeque<T, CAP, Wrapping>, MakeError<Vec<T>>> {
     ArrayDeque::<T, CAP, Wrapping>::from_vec(alloc, v)
 }
 
-pub fn saturating_from_array<T: Copy, const CAP: usize, const N: usize>(
+fn saturating_from_array<T: Copy, const CAP: usize, const N: usize>(
     alloc: Global,
     a: [T; N],
 ) -> Result<ArrayDeque<T, CAP, Saturating>, MakeError<[T; N]>> {
     ArrayDeque::<T, CAP, Saturating>::from_array(alloc, a)
 }
 
-pub fn wrapping_from_array<T: Copy, const CAP: usize, const N: usize>(
+fn wrapping_from_array<T: Copy, const CAP: usize, const N: usize>(
     alloc: Global,
     a: [T; N],
 ) -> Result<ArrayDeque<T, CAP, Wrapping>, MakeError<[T; N]>> {
     ArrayDeque::<T, CAP, Wrapping>::from_array(alloc, a)
 }
 
-pub fn saturating_from_wrapping<T, const CAP: usize>(
+fn saturating_from_wrapping<T, const CAP: usize>(
     deque: ArrayDeque<T, CAP, Wrapping>,
 ) -> ArrayDeque<T, CAP, Saturating> {
     deque.into()
 }
 
-pub fn wrapping_from_saturating<T, const CAP: usize>(
+fn wrapping_from_saturating<T, const CAP: usize>(
     deque: ArrayDeque<T, CAP, Saturating>,
 ) -> ArrayDeque<T, CAP, Wrapping> {
     deque.into()
 }
 
-pub fn saturating_run<T: Drop, const CAP: usize>(
+fn saturating_run<T: Drop, const CAP: usize>(
     deque: &mut ArrayDeque<T, CAP, Saturating>,
     calls: Vec<Call<T>>,
 ) -> Result<Vec<Reply<T, CAP, Saturating>>, MakeError<Vec<Call<T>>>> {
     deque.run(calls)
 }
 
-pub fn wrapping_run<T: Drop, const CAP: usize>(
+fn wrapping_run<T: Drop, const CAP: usize>(
     deque: &mut ArrayDeque<T, CAP, Wrapping>,
     calls: Vec<Call<T>>,
 ) -> Result<Vec<Reply<T, CAP, Wrapping>>, MakeError<Vec<Call<T>>>> {
     deque.run(calls)
 }
 
-pub fn saturating_write<const CAP: usize>(
+fn saturating_write<const CAP: usize>(
     deque: &mut ArrayDeque<u8, CAP, Saturating>,
     buf: &[u8],
 ) -> io::Result<usize> {
     deque.write(buf)
 }
 
-pub fn saturating_flush<const CAP: usize>(
+fn saturating_flush<const CAP: usize>(
     deque: &mut ArrayDeque<u8, CAP, Saturating>,
 ) -> io::Result<()> {
     deque.flush()

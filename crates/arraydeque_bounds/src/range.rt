@@ -3,22 +3,22 @@ use arraydeque::RangeArgument;
 use std::ops::{Range, RangeFrom, RangeFull, RangeTo};
 
 /// A range of values of type `T`, with the bounds that its caller has.
-pub fn as_argument<T, R: RangeArgument<T>>(range: R) -> R {
+fn as_argument<T, R: RangeArgument<T>>(range: R) -> R {
     range
 }
 
-pub fn range_full<T>(range: RangeFull) -> RangeFull {
+fn range_full<T>(range: RangeFull) -> RangeFull {
     as_argument::<T, RangeFull>(range)
 }
 
-pub fn range_from<T: Copy>(range: RangeFrom<T>) -> RangeFrom<T> {
+fn range_from<T: Copy>(range: RangeFrom<T>) -> RangeFrom<T> {
     as_argument::<T, RangeFrom<T>>(range)
 }
 
-pub fn range_to<T: Copy>(range: RangeTo<T>) -> RangeTo<T> {
+fn range_to<T: Copy>(range: RangeTo<T>) -> RangeTo<T> {
     as_argument::<T, RangeTo<T>>(range)
 }
 
-pub fn range<T: Copy>(range: Range<T>) -> Range<T> {
+fn range<T: Copy>(range: Range<T>) -> Range<T> {
     as_argument::<T, Range<T>>(range)
 }

@@ -8,205 +8,205 @@ use arraydeque_ring::slots::loan::{Loan, LoanName};
 use arraydeque_ring::{IntoIter, Ring};
 use std::alloc::{AllocError, Global};
 
-pub fn new<T>(alloc: Global, capacity: usize) -> Result<Ring<T>, AllocError> {
+fn new<T>(alloc: Global, capacity: usize) -> Result<Ring<T>, AllocError> {
     Ring::new(alloc, capacity)
 }
 
-pub fn len<T>(ring: &Ring<T>) -> usize {
+fn len<T>(ring: &Ring<T>) -> usize {
     ring.len()
 }
 
-pub fn capacity<T>(ring: &Ring<T>) -> usize {
+fn capacity<T>(ring: &Ring<T>) -> usize {
     ring.capacity()
 }
 
-pub fn alloc<T>(ring: &Ring<T>) -> Global {
+fn alloc<T>(ring: &Ring<T>) -> Global {
     ring.alloc()
 }
 
-pub fn push_back<T>(ring: &mut Ring<T>, element: T)
+fn push_back<T>(ring: &mut Ring<T>, element: T)
     requires { length ring.old.items < ring.old.capacity }
 {
     ring.push_back(element);
 }
 
-pub fn push_front<T>(ring: &mut Ring<T>, element: T)
+fn push_front<T>(ring: &mut Ring<T>, element: T)
     requires { length ring.old.items < ring.old.capacity }
 {
     ring.push_front(element);
 }
 
-pub fn pop_front<T>(ring: &mut Ring<T>) -> Option<T> {
+fn pop_front<T>(ring: &mut Ring<T>) -> Option<T> {
     ring.pop_front()
 }
 
-pub fn pop_back<T>(ring: &mut Ring<T>) -> Option<T> {
+fn pop_back<T>(ring: &mut Ring<T>) -> Option<T> {
     ring.pop_back()
 }
 
-pub fn get<T>(ring: &Ring<T>, index: usize) -> Option<&T> {
+fn get<T>(ring: &Ring<T>, index: usize) -> Option<&T> {
     ring.get(index)
 }
 
-pub fn item<T>(ring: &Ring<T>, index: usize) -> &T
+fn item<T>(ring: &Ring<T>, index: usize) -> &T
     requires { index < length ring.now.items }
 {
     ring.item(index)
 }
 
-pub fn get_mut<T>(ring: &mut Ring<T>, index: usize) -> Option<&mut T> {
+fn get_mut<T>(ring: &mut Ring<T>, index: usize) -> Option<&mut T> {
     ring.get_mut(index)
 }
 
-pub fn item_mut<T>(ring: &mut Ring<T>, index: usize) -> &mut T
+fn item_mut<T>(ring: &mut Ring<T>, index: usize) -> &mut T
     requires { index < length ring.old.items }
 {
     ring.item_mut(index)
 }
 
-pub fn as_slices<T>(ring: &Ring<T>) -> (&[T], &[T]) {
+fn as_slices<T>(ring: &Ring<T>) -> (&[T], &[T]) {
     ring.as_slices()
 }
 
-pub fn as_slice<T>(ring: &Ring<T>) -> &[T]
+fn as_slice<T>(ring: &Ring<T>) -> &[T]
     requires { IsInOnePiece ring.now }
 {
     ring.as_slice()
 }
 
-pub fn as_mut_slice<T>(ring: &mut Ring<T>) -> &mut [T]
+fn as_mut_slice<T>(ring: &mut Ring<T>) -> &mut [T]
     requires { IsInOnePiece ring.old }
 {
     ring.as_mut_slice()
 }
 
-pub fn as_mut_slices<T>(ring: &mut Ring<T>) -> (&mut [T], &mut [T]) {
+fn as_mut_slices<T>(ring: &mut Ring<T>) -> (&mut [T], &mut [T]) {
     ring.as_mut_slices()
 }
 
-pub fn lend_part<T>(ring: &mut Ring<T>, from: usize, len: usize) -> Loan<'_, T>
+fn lend_part<T>(ring: &mut Ring<T>, from: usize, len: usize) -> Loan<'_, T>
     requires { from + len ≤ length ring.old.items }
 {
     ring.lend_part(from, len)
 }
 
-pub fn lend_items<T>(ring: &mut Ring<T>) -> Loan<'_, T> {
+fn lend_items<T>(ring: &mut Ring<T>) -> Loan<'_, T> {
     ring.lend_items()
 }
 
-pub fn loan_into_slices<T>(loan: Loan<'_, T>) -> (&mut [T], &mut [T]) {
+fn loan_into_slices<T>(loan: Loan<'_, T>) -> (&mut [T], &mut [T]) {
     loan.into_slices()
 }
 
-pub fn loan_into_parts<'a, T>(loan: Loan<'a, T>) -> (&'a mut [T], &'a mut [T], LoanName<'a, T>) {
+fn loan_into_parts<'a, T>(loan: Loan<'a, T>) -> (&'a mut [T], &'a mut [T], LoanName<'a, T>) {
     loan.into_parts()
 }
 
-pub fn linearize<T>(ring: &mut Ring<T>) {
+fn linearize<T>(ring: &mut Ring<T>) {
     ring.linearize();
 }
 
-pub fn swap<T>(ring: &mut Ring<T>, i: usize, j: usize)
+fn swap<T>(ring: &mut Ring<T>, i: usize, j: usize)
     requires i_in_bounds { i < length ring.old.items }
     requires j_in_bounds { j < length ring.old.items }
 {
     ring.swap(i, j);
 }
 
-pub fn swap_remove_back<T>(ring: &mut Ring<T>, index: usize) -> Option<T> {
+fn swap_remove_back<T>(ring: &mut Ring<T>, index: usize) -> Option<T> {
     ring.swap_remove_back(index)
 }
 
-pub fn swap_remove_front<T>(ring: &mut Ring<T>, index: usize) -> Option<T> {
+fn swap_remove_front<T>(ring: &mut Ring<T>, index: usize) -> Option<T> {
     ring.swap_remove_front(index)
 }
 
-pub fn insert<T>(ring: &mut Ring<T>, index: usize, element: T)
+fn insert<T>(ring: &mut Ring<T>, index: usize, element: T)
     requires in_bounds { index ≤ length ring.old.items }
     requires room { length ring.old.items < ring.old.capacity }
 {
     ring.insert(index, element);
 }
 
-pub fn remove<T>(ring: &mut Ring<T>, index: usize) -> T
+fn remove<T>(ring: &mut Ring<T>, index: usize) -> T
     requires { index < length ring.old.items }
 {
     ring.remove(index)
 }
 
-pub fn rotate_left<T>(ring: &mut Ring<T>, count: usize)
+fn rotate_left<T>(ring: &mut Ring<T>, count: usize)
     requires { count ≤ length ring.old.items }
 {
     ring.rotate_left(count);
 }
 
-pub fn drain<T>(ring: &mut Ring<T>, from: usize, to: usize) -> Result<Ring<T>, AllocError>
+fn drain<T>(ring: &mut Ring<T>, from: usize, to: usize) -> Result<Ring<T>, AllocError>
     requires in_order { from ≤ to }
     requires in_bounds { to ≤ length ring.old.items }
 {
     ring.drain(from, to)
 }
 
-pub fn split_off<T>(ring: &mut Ring<T>, at: usize) -> Result<Ring<T>, AllocError>
+fn split_off<T>(ring: &mut Ring<T>, at: usize) -> Result<Ring<T>, AllocError>
     requires { at ≤ length ring.old.items }
 {
     ring.split_off(at)
 }
 
-pub fn append<T>(ring: &mut Ring<T>, other: &mut Ring<T>, len: usize)
+fn append<T>(ring: &mut Ring<T>, other: &mut Ring<T>, len: usize)
     requires room { length ring.old.items + len ≤ ring.old.capacity }
     requires within { len ≤ length other.old.items }
 {
     ring.append(other, len);
 }
 
-pub fn fill_back<T, I: Iterator<Item = T>>(ring: &mut Ring<T>, elements: &mut I) -> bool
+fn fill_back<T, I: Iterator<Item = T>>(ring: &mut Ring<T>, elements: &mut I) -> bool
     requires { I.can_next elements.old }
 {
     ring.fill_back(elements)
 }
 
-pub fn fill_front<T, I: Iterator<Item = T>>(ring: &mut Ring<T>, elements: &mut I) -> bool
+fn fill_front<T, I: Iterator<Item = T>>(ring: &mut Ring<T>, elements: &mut I) -> bool
     requires { I.can_next elements.old }
 {
     ring.fill_front(elements)
 }
 
-pub fn into_vec<T>(ring: Ring<T>) -> Result<Vec<T>, Ring<T>> {
+fn into_vec<T>(ring: Ring<T>) -> Result<Vec<T>, Ring<T>> {
     ring.into_vec()
 }
 
-pub fn into_iter<T>(ring: Ring<T>) -> IntoIter<T> {
+fn into_iter<T>(ring: Ring<T>) -> IntoIter<T> {
     IntoIter::of(ring)
 }
 
-pub fn drop<T: Drop>(_ring: Ring<T>) {}
+fn drop<T: Drop>(_ring: Ring<T>) {}
 
-pub fn clear<T: Drop>(ring: &mut Ring<T>) {
+fn clear<T: Drop>(ring: &mut Ring<T>) {
     ring.clear();
 }
 
-pub fn truncate<T: Drop>(ring: &mut Ring<T>, len: usize) {
+fn truncate<T: Drop>(ring: &mut Ring<T>, len: usize) {
     ring.truncate(len);
 }
 
-pub fn truncate_front<T: Drop>(ring: &mut Ring<T>, len: usize) {
+fn truncate_front<T: Drop>(ring: &mut Ring<T>, len: usize) {
     ring.truncate_front(len);
 }
 
-pub fn retain<T: Drop, F: FnMut(&T) -> bool + Drop>(ring: &mut Ring<T>, f: F)
+fn retain<T: Drop, F: FnMut(&T) -> bool + Drop>(ring: &mut Ring<T>, f: F)
     requires { MayBeAsked F.FnMut f ring.old.items }
 {
     ring.retain(f);
 }
 
-pub fn retain_mut<T: Drop, F: FnMut(&mut T) -> bool + Drop>(ring: &mut Ring<T>, f: F)
+fn retain_mut<T: Drop, F: FnMut(&mut T) -> bool + Drop>(ring: &mut Ring<T>, f: F)
     requires { MayWrite F.FnMut f ring.old.items }
 {
     ring.retain_mut(f);
 }
 
-pub fn displace_first<T: Drop, I: Iterator<Item = T>>(ring: &mut Ring<T>, elements: I)
+fn displace_first<T: Drop, I: Iterator<Item = T>>(ring: &mut Ring<T>, elements: I)
     requires some { 0 < ring.old.capacity }
     requires full { length ring.old.items ≡ ring.old.capacity }
     requires may { I.can_next elements }
@@ -215,7 +215,7 @@ pub fn displace_first<T: Drop, I: Iterator<Item = T>>(ring: &mut Ring<T>, elemen
     ring.displace_first(elements);
 }
 
-pub fn displace_last<T: Drop, I: Iterator<Item = T>>(ring: &mut Ring<T>, elements: I)
+fn displace_last<T: Drop, I: Iterator<Item = T>>(ring: &mut Ring<T>, elements: I)
     requires some { 0 < ring.old.capacity }
     requires full { length ring.old.items ≡ ring.old.capacity }
     requires may { I.can_next elements }
@@ -224,25 +224,25 @@ pub fn displace_last<T: Drop, I: Iterator<Item = T>>(ring: &mut Ring<T>, element
     ring.displace_last(elements);
 }
 
-pub fn of_vec<T: Drop>(alloc: Global, capacity: usize, items: Vec<T>) -> Result<Ring<T>, Vec<T>> {
+fn of_vec<T: Drop>(alloc: Global, capacity: usize, items: Vec<T>) -> Result<Ring<T>, Vec<T>> {
     Ring::of_vec(alloc, capacity, items)
 }
 
-pub fn of_copies<T: Copy>(alloc: Global, items: &[T]) -> Result<Ring<T>, AllocError> {
+fn of_copies<T: Copy>(alloc: Global, items: &[T]) -> Result<Ring<T>, AllocError> {
     Ring::of_copies(alloc, items.len(), items)
 }
 
-pub fn resize<T: Copy>(ring: &mut Ring<T>, len: usize, value: T)
+fn resize<T: Copy>(ring: &mut Ring<T>, len: usize, value: T)
     requires { len ≤ ring.old.capacity }
 {
     ring.resize(len, value);
 }
 
-pub fn copy_back<T: Copy>(ring: &mut Ring<T>, items: &[T]) -> usize {
+fn copy_back<T: Copy>(ring: &mut Ring<T>, items: &[T]) -> usize {
     ring.copy_back(items)
 }
 
-pub fn clone<T: Clone>(ring: &Ring<T>) -> Result<Ring<T>, AllocError>
+fn clone<T: Clone>(ring: &Ring<T>) -> Result<Ring<T>, AllocError>
     requires { ClonesAreSame T.is_clone ring.now.items }
 {
     ring.clone()

@@ -8,45 +8,45 @@ ghost use Rattle.arraydeque_ring.specs.Runs.{IsFilledRun};
 use arraydeque_ring::Slots;
 use std::alloc::{AllocError, Global};
 
-pub fn new<T>(alloc: Global, capacity: usize) -> Result<Slots<T>, AllocError> {
+fn new<T>(alloc: Global, capacity: usize) -> Result<Slots<T>, AllocError> {
     Slots::new(alloc, capacity)
 }
 
-pub fn capacity<T>(slots: &Slots<T>) -> usize {
+fn capacity<T>(slots: &Slots<T>) -> usize {
     slots.capacity()
 }
 
-pub fn alloc<T>(slots: &Slots<T>) -> Global {
+fn alloc<T>(slots: &Slots<T>) -> Global {
     slots.alloc()
 }
 
-pub fn put<T>(slots: &mut Slots<T>, place: usize, value: T)
+fn put<T>(slots: &mut Slots<T>, place: usize, value: T)
     requires { IsEmpty slots.old.places place }
 {
     slots.put(place, value);
 }
 
-pub fn take<T>(slots: &mut Slots<T>, place: usize) -> T
+fn take<T>(slots: &mut Slots<T>, place: usize) -> T
     requires { IsFilled slots.old.places place }
 {
     slots.take(place)
 }
 
-pub fn shift<T>(slots: &mut Slots<T>, dst: usize, src: usize)
+fn shift<T>(slots: &mut Slots<T>, dst: usize, src: usize)
     requires filled { IsFilled slots.old.places src }
     requires empty { IsEmpty slots.old.places dst }
 {
     slots.shift(dst, src);
 }
 
-pub fn exchange<T>(slots: &mut Slots<T>, a: usize, b: usize)
+fn exchange<T>(slots: &mut Slots<T>, a: usize, b: usize)
     requires a_filled { IsFilled slots.old.places a }
     requires b_filled { IsFilled slots.old.places b }
 {
     slots.exchange(a, b);
 }
 
-pub fn wrap_move<T>(slots: &mut Slots<T>, dst: usize, src: usize, len: usize)
+fn wrap_move<T>(slots: &mut Slots<T>, dst: usize, src: usize, len: usize)
     requires dst_in_region { dst < length slots.old.places }
     requires src_in_region { src < length slots.old.places }
     requires apart { MeetAtOneEndAtMost dst src len (length slots.old.places) }
@@ -56,31 +56,31 @@ pub fn wrap_move<T>(slots: &mut Slots<T>, dst: usize, src: usize, len: usize)
     slots.wrap_move(dst, src, len);
 }
 
-pub fn get<T>(slots: &Slots<T>, place: usize) -> &T
+fn get<T>(slots: &Slots<T>, place: usize) -> &T
     requires { IsFilled slots.now.places place }
 {
     slots.get(place)
 }
 
-pub fn get_mut<T>(slots: &mut Slots<T>, place: usize) -> &mut T
+fn get_mut<T>(slots: &mut Slots<T>, place: usize) -> &mut T
     requires { IsFilled slots.old.places place }
 {
     slots.get_mut(place)
 }
 
-pub fn slice<T>(slots: &Slots<T>, from: usize, len: usize) -> &[T]
+fn slice<T>(slots: &Slots<T>, from: usize, len: usize) -> &[T]
     requires { IsFilledRun slots.now.places from len }
 {
     slots.slice(from, len)
 }
 
-pub fn slice_mut<T>(slots: &mut Slots<T>, from: usize, len: usize) -> &mut [T]
+fn slice_mut<T>(slots: &mut Slots<T>, from: usize, len: usize) -> &mut [T]
     requires { IsFilledRun slots.old.places from len }
 {
     slots.slice_mut(from, len)
 }
 
-pub fn two_slices_mut<T>(slots: &mut Slots<T>, a: usize, b: usize) -> (&mut [T], &mut [T])
+fn two_slices_mut<T>(slots: &mut Slots<T>, a: usize, b: usize) -> (&mut [T], &mut [T])
     requires a_filled { IsFilledRun slots.old.places a 1 }
     requires b_filled { IsFilledRun slots.old.places b 1 }
     requires apart { AreApart a 1 b 1 }
