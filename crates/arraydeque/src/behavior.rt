@@ -5,6 +5,7 @@
 ///
 /// ```
 /// let _policies = (Saturating, Wrapping);
+/// assert!(rt; std::mem::size_of::<(Saturating, Wrapping)>() == 0);
 /// ```
 pub trait Behavior {}
 

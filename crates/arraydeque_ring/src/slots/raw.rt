@@ -45,7 +45,8 @@ impl<T> Slots<T> {
     /// Writes `N` values into the empty places from `place` on, all at once.
     #[inline(always)] // As a `write`, which comes down to it.
     pub(super) fn write_block<const N: usize>(&mut self, place: usize, values: [T; N])
-        requires { IsEmptyRun self.old.places place N }
+        requires block { is_block N (type_size T.row) ≡ true }
+        requires empty { IsEmptyRun self.old.places place N }
         ensures { self.new ≡ record self.old {
           places = with_run place values self.old.places;
         } }

@@ -5,7 +5,7 @@
 //! blocks by `move_block`, in an order that overwrites no value that has still to move. Copies of a
 //! slice come in blocks. Where values move or are exchanged one by one, the region is a local
 //! meanwhile: its pointer is known to stay.
-ghost use Rattle.std.specs.Prelude.{◌≡◌, ◌+◌, ◌-◌, ◌<◌, ◌≤◌, length, take, drop, replicate, if◌then◌else◌, ◌==◌};
+ghost use Rattle.std.specs.Prelude.{◌≡◌, ◌+◌, ◌-◌, ◌<◌, ◌≤◌, length, take, drop, replicate, true, if◌then◌else◌, ◌==◌};
 ghost use Rattle.std.specs.List.{splice};
 ghost use Rattle.std.specs.Mem.{type_size};
 ghost use Rattle.arraydeque_ring.specs.Moved.{MeetAtOneEndAtMost, IsFilledRound, IsFreeRound, CanCopy, CanMove, is_block, run_moved};
@@ -90,14 +90,15 @@ impl<T> Slots<T> {
         self.put_blocks::<1>(from, items, put);
     }
 
-    /// Puts copies of some items, in one block at most of each power of two where fewer than 1024
-    /// come. No step is counted.
+    /// Puts copies of narrow items: if fewer than 1024 come, in one block at most of each power of
+    /// two. No step is counted.
     #[tactic(auto, using(crate::proofs::fills::Copied::all_written))]
     #[inline(always)] // No loops: `stream` of 16 and 256 bytes 7.5 and 16.3 ns, not 8.2 and 18.4.
     fn put_short(&mut self, from: usize, items: &[T])
     where
         T: Copy,
-        requires { IsEmptyRun self.old.places from (length items.now) }
+        requires narrow { type_size T.row ≤ 32 }
+        requires empty { IsEmptyRun self.old.places from (length items.now) }
         ensures places { self.new.places ≡ with_run from items.now self.old.places }
         ensures steps { self.new.steps ≡ self.old.steps }
     {
@@ -137,7 +138,7 @@ impl<T> Slots<T> {
         ensures steps { self.new.steps ≡ self.old.steps }
     {
         let mut put = at;
-        if N == 1 || size_of_item::<T>() <= BLOCK_BYTES / N {
+        if is_block::<T, N>() {
             while N <= items.len() - put {
                 put = self.put_block::<N>(from, items, put);
             }
@@ -151,6 +152,7 @@ impl<T> Slots<T> {
     fn put_block<const N: usize>(&mut self, from: usize, items: &[T], at: usize) -> usize
     where
         T: Copy,
+        requires block { is_block N (type_size T.row) ≡ true }
         requires within { at ≤ length items.now }
         requires empty { IsEmptyRun self.old.places (from + at) (length items.now - at) }
         ensures within { result ≤ length items.now }

@@ -25,7 +25,8 @@ write_block_spec 𝓤 𝓛 𝓜 𝓡 wired X N L N_fits =
     let r = a.0.now in let ps = r.places in let τ = ty_array (elτ E) N in let Items = Array (R E) N in
     let i = a.1.0 in let s = item_size E in
     let xs = a.1.1.0 in let v = fit.1.0.0 in let v_fits = fit.1.0.1 in let long = fit.1.0.2 in
-    first_fact ! (λ _. first_fact ! (λ _. first_fact ! (λ _. heard ! _ (λ empty. let within = empty.0 in
+    first_fact ! (λ _. first_fact ! (λ _. first_fact ! (λ _. first_fact ! (λ _. heard ! _ (λ empty.
+    let within = empty.0 in
     alloc_all ! (λ l. pass_all ! refl ((tt, tt), (fit.0, (v_fits, tt))) $ move ! (0 ∷ 1 ∷ 3 ∷ []) $
     slots_open E ! tt r (λ g b o n ok.
     let far = near E ok i (omega arith) in let at = i * s + o in
@@ -50,4 +51,4 @@ write_block_spec 𝓤 𝓛 𝓜 𝓡 wired X N L N_fits =
     slots_close E ! tt (new N) ok same $
     returns ! (look_at ! 0 refl) $ free_all ! refl $
     suffices ! _ (ends vunit tt (new N, tt)) $ frame ! $ frame ! $
-    feq_i ! _ (vunit ∷ []) _ refl $ frame ! $ join ! $ says ! (ap new (sym long)) $ done !)))))))
+    feq_i ! _ (vunit ∷ []) _ refl $ frame ! $ join ! $ says ! (ap new (sym long)) $ done !))))))))
