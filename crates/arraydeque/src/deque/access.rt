@@ -23,7 +23,8 @@ impl<T, const CAP: usize, B: Behavior> ArrayDeque<T, CAP, B> {
     pub fn contains(&self, x: &T) -> bool
     where
         T: PartialEq,
-        ensures { result ≡ list_any (λ y. T.eq y x.now) self.now.items }
+        ensures value { result ≡ list_any (λ y. T.eq y x.now) self.now.items }
+        ensures within { length self.now.items ≤ CAP }
     {
         let (front, back) = self.as_slices();
         has_equal(front, x) || has_equal(back, x)

@@ -158,7 +158,8 @@ impl<T, const CAP: usize, B: Behavior> ArrayDeque<T, CAP, B> {
     #[inline]
     pub fn as_slice(&self) -> &[T]
         requires { IsInOnePiece (as_ring CAP self.now) }
-        ensures { result.now ≡ self.now.items }
+        ensures value { result.now ≡ self.now.items }
+        ensures within { length self.now.items ≤ CAP }
     {
         self.ring.as_slice()
     }

@@ -52,6 +52,7 @@ impl<T, const CAP: usize, B: Behavior> ArrayDeque<T, CAP, B> {
     where
         T: Ord,
         ensures bound { IsSearchInRange result (length self.now.items) }
+        ensures within { length self.now.items ≤ CAP }
         ensures ok { IfOk result (HoldsAt (λ y. T.cmp y x.now ≡ Ordering.Equal) self.now.items) }
         ensures position { IsBinarySearchResult (λ y. T.cmp y x.now) self.now.items result }
     {
@@ -70,6 +71,7 @@ impl<T, const CAP: usize, B: Behavior> ArrayDeque<T, CAP, B> {
     pub fn binary_search_by<F: FnMut(&T) -> Ordering>(&self, mut f: F) -> Result<usize, usize>
         requires { F.IsAlwaysCallable f }
         ensures bound { IsSearchInRange result (length self.now.items) }
+        ensures within { length self.now.items ≤ CAP }
         ensures position { (ord : T → Ordering) → ComputesKey F.FnMut ord f
             → IsBinarySearchResult ord self.now.items result }
     {
@@ -106,6 +108,7 @@ impl<T, const CAP: usize, B: Behavior> ArrayDeque<T, CAP, B> {
         K: Drop,
         requires { F.IsAlwaysCallable f }
         ensures bound { IsSearchInRange result (length self.now.items) }
+        ensures within { length self.now.items ≤ CAP }
         ensures position { (key_of : T → K) → ComputesKey F.FnMut key_of f
             → IsBinarySearchResult (λ y. K.cmp (key_of y) key.now) self.now.items result }
     {
