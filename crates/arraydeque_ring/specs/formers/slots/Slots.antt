@@ -2,7 +2,7 @@
 use Rattle.std.specs.{
   declared.{alloc.Global.Global, option.Option.{Option, TheVariants.{None, Some}}},
   Mem.type_size,
-  Prelude.{◌≡◌, ℕ, ◌+◌, ◌*◌, ◌^◌, max, nat_lt, List, [], ◌∷◌, map, length},
+  Prelude.{◌≡◌, ℕ, ◌+◌, ◌*◌, ◌^◌, max, nat_lt, List, [], ◌∷◌, map},
 }
 use mathlib.Core.{
   Former.{Former, Count, Row, this, const, pair, list, option, via, children},
