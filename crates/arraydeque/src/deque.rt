@@ -76,6 +76,8 @@ impl<T, const CAP: usize, B: Behavior> ArrayDeque<T, CAP, B> {
     /// Fails only if memory is refused, as it is for a region larger than the machine can name. At
     /// capacity 0 or for items of size zero it never fails.
     ///
+    /// Start: 0. Steps: none.
+    ///
     /// ```
     /// let deque = ArrayDeque::<i64, 4, Saturating>::new(alloc)?;
     /// assert!(rt; (deque.len(), deque.capacity()) == (0, 4));
@@ -183,6 +185,8 @@ impl<T, const CAP: usize, B: Behavior> ArrayDeque<T, CAP, B> {
     /// Removes the first item and returns it, or returns `None` if the deque is empty. No other
     /// item moves.
     ///
+    /// Start: 1 up. Steps: 1 take.
+    ///
     /// ```
     /// let mut deque = ArrayDeque::<i64, 3, Saturating>::new(alloc)?;
     /// deque.extend_back([1, 2]);
@@ -207,6 +211,8 @@ impl<T, const CAP: usize, B: Behavior> ArrayDeque<T, CAP, B> {
 
     /// Removes the last item and returns it, or returns `None` if the deque is empty. No other item
     /// moves.
+    ///
+    /// Start: stays. Steps: 1 take.
     ///
     /// ```
     /// let mut deque = ArrayDeque::<i64, 3, Saturating>::new(alloc)?;

@@ -57,6 +57,8 @@
 //! - `extend_back`, `extend_front` and `from_iter` under [`Wrapping`], and `extend` under either
 //!   policy: an iterator that ends.
 //! - `clone`: that the clone of an item is that item once more, as for numbers.
+//! - A call with a closure: that it may be called, by a search always, by `retain` and `retain_mut`
+//!   once on each item in turn, by `pop_front_if` and `pop_back_if` on the item at that end.
 //! - [`lookahead::Scanner`]: `peek(k)` a k below its capacity, `read_ahead(k)` a k up to it,
 //!   `ahead(k)` a k up to what it has read ahead, `next_if` a capacity above 0.
 //!
@@ -81,6 +83,10 @@
 //! On a tie a rotation moves the first half of the list, and `insert`, `remove` and `drain` move
 //! the items behind the gap. In a full deque a rotation moves none. Each item that moves moves
 //! once, except in `linearize`.
+//!
+//! For proofs, the lines `Start:` and `Steps:` of a call say by how many places the first item's
+//! place goes up or down in the region, and how many values are put into a place, taken out, moved,
+//! exchanged or lent for writing. A call without these lines leaves both as they were.
 #![tactic(auto)]
 
 pub mod behavior;

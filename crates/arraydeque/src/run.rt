@@ -97,6 +97,8 @@ impl<T: Drop, const CAP: usize, B: MachinePolicy<T, CAP>> ArrayDeque<T, CAP, B> 
     /// Fails only if that is refused; then nothing has changed, and the calls come back in the
     /// error.
     ///
+    /// Start: as the calls leave it in turn. Steps: those of the calls.
+    ///
     /// ```
     /// let mut deque = ArrayDeque::<i64, 1, Saturating>::new(alloc)?;
     /// let calls = vec![in alloc; Call::PushBack(1), Call::PushBack(2), Call::Len]?;

@@ -83,6 +83,8 @@ impl<T, const CAP: usize, B: Behavior> ArrayDeque<T, CAP, B> {
 
     /// Returns a mutable reference to the first item, or `None` if the deque is empty.
     ///
+    /// Start: stays. Steps: 1 lend.
+    ///
     /// ```
     /// let mut deque = ArrayDeque::<i64, 3, Saturating>::new(alloc)?;
     /// deque.extend_back([1, 2, 3]);
@@ -100,6 +102,8 @@ impl<T, const CAP: usize, B: Behavior> ArrayDeque<T, CAP, B> {
     }
 
     /// Returns a mutable reference to the last item, or `None` if the deque is empty.
+    ///
+    /// Start: stays. Steps: 1 lend.
     ///
     /// ```
     /// let mut deque = ArrayDeque::<i64, 3, Saturating>::new(alloc)?;
@@ -121,6 +125,8 @@ impl<T, const CAP: usize, B: Behavior> ArrayDeque<T, CAP, B> {
 
     /// Returns a mutable reference to the item at an index, or `None` if there is none. The front
     /// has index 0.
+    ///
+    /// Start: stays. Steps: 1 lend.
     ///
     /// ```
     /// let mut deque = ArrayDeque::<i64, 3, Saturating>::new(alloc)?;
@@ -164,6 +170,8 @@ impl<T, const CAP: usize, B: Behavior> Index<usize> for ArrayDeque<T, CAP, B> {
 impl<T, const CAP: usize, B: Behavior> IndexMut<usize> for ArrayDeque<T, CAP, B> {
     /// Returns a mutable reference to the item at an index. The front has index 0. Requires an
     /// index below the length.
+    ///
+    /// Start: stays. Steps: 1 lend.
     ///
     /// ```
     /// let mut deque = ArrayDeque::<i64, 3, Saturating>::new(alloc)?;

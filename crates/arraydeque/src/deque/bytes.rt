@@ -16,8 +16,11 @@ use std::io::{BufRead, Read, Result, Write};
 impl<const CAP: usize, B: Behavior> Read for ArrayDeque<u8, CAP, B> {
     ghost remaining = { λ deque. Some deque.items };
 
-    /// Takes the first bytes out, as many as `buf` has room for, and returns their number. No byte
-    /// that stays moves. It always returns `Ok`.
+    /// Takes the first bytes out, as many as `buf` has room for, and returns their number. `buf`
+    /// begins with them then, and the rest of it stays. No byte that stays in the deque moves. It
+    /// always returns `Ok`.
+    ///
+    /// Start: 1 up for each byte taken. Steps: 1 take for each.
     ///
     /// ```
     /// let mut deque = ArrayDeque::<u8, 4, Wrapping>::new(alloc)?;
@@ -75,6 +78,8 @@ impl<const CAP: usize, B: Behavior> BufRead for ArrayDeque<u8, CAP, B> {
     }
 
     /// Drops the first `amount` bytes, or all if there are no more. No other byte moves.
+    ///
+    /// Start: 1 up for each byte dropped. Steps: 1 take for each.
     #[inline]
     fn consume(&mut self, amount: usize)
         ensures bytes { DropsConsumable (Some self.old.items) (Some self.new.items) None amount }
@@ -120,6 +125,8 @@ impl<const CAP: usize> Write for ArrayDeque<u8, CAP, Saturating> {
     /// Adds the first bytes of `buf` at the back, as many as there is room for, and returns their
     /// number, which is 0 if the deque is full. No byte moves. It always returns `Ok`; a
     /// `write_all` that finds too little room fails with `WriteZero`.
+    ///
+    /// Start: stays. Steps: 1 put for each byte added.
     ///
     /// ```
     /// let mut deque = ArrayDeque::<u8, 3, Saturating>::new(alloc)?;

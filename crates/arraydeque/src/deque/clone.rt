@@ -15,6 +15,8 @@ impl<T: Clone, const CAP: usize, B: Behavior> ArrayDeque<T, CAP, B> {
     /// The region is taken first, and then the items are cloned front to back. Fails only if memory
     /// is refused or the clone of an item fails; then the clones that were made are dropped.
     ///
+    /// Start: 0. Steps: 1 put for each item.
+    ///
     /// ```
     /// let mut deque = ArrayDeque::<i64, 3, Saturating>::new(alloc)?;
     /// deque.extend_back([1, 2]);

@@ -14,6 +14,8 @@ impl<T, const CAP: usize> ArrayDeque<T, CAP, Saturating> {
     /// asked for no more items than there is room for, and never after its first `None`. No item
     /// moves.
     ///
+    /// Start: stays. Steps: 1 put for each item added.
+    ///
     /// ```
     /// let mut deque = ArrayDeque::<i64, 3, Saturating>::new(alloc)?;
     /// let mut numbers = 1..=5;
@@ -35,6 +37,8 @@ impl<T, const CAP: usize> ArrayDeque<T, CAP, Saturating> {
     /// Adds the items of an iterator at the front, one by one, while there is room: the last one
     /// taken is the first afterwards. The iterator is asked for no more items than there is room
     /// for, and never after its first `None`. No item moves.
+    ///
+    /// Start: 1 down for each item added. Steps: 1 put for each.
     ///
     /// ```
     /// let mut deque = ArrayDeque::<i64, 3, Saturating>::new(alloc)?;
@@ -98,6 +102,9 @@ impl<T: Drop, const CAP: usize> ArrayDeque<T, CAP, Wrapping> {
     /// the first item is dropped, and at capacity 0 the one itself. Requires an iterator that ends.
     /// No kept item moves.
     ///
+    /// Start: 1 up for each item dropped.
+    /// Steps: 1 put for each item of the iterator, 1 take for each item dropped.
+    ///
     /// ```
     /// let mut deque = ArrayDeque::<i64, 3, Wrapping>::new(alloc)?;
     /// deque.extend_back([1, 2]);
@@ -125,6 +132,9 @@ impl<T: Drop, const CAP: usize> ArrayDeque<T, CAP, Wrapping> {
     /// Adds the items of an iterator at the front, one by one: the last one is the first
     /// afterwards. For each one that finds the deque full, the last item is dropped, and at
     /// capacity 0 the one itself. Requires an iterator that ends. No kept item moves.
+    ///
+    /// Start: 1 down for each item of the iterator.
+    /// Steps: 1 put for each of these, 1 take for each item dropped.
     ///
     /// ```
     /// let mut deque = ArrayDeque::<i64, 3, Wrapping>::new(alloc)?;
@@ -157,6 +167,8 @@ impl<T: Drop, const CAP: usize> Extend<T> for ArrayDeque<T, CAP, Saturating> {
     /// Adds the items of an iterator at the back, in order, while there is room, and drops the
     /// others: unlike `extend_back` it runs the iterator to its end. Requires an iterator that
     /// ends. It always returns `Ok`.
+    ///
+    /// Start: stays. Steps: 1 put for each item added.
     ///
     /// ```
     /// let mut deque = ArrayDeque::<i64, 3, Saturating>::new(alloc)?;
@@ -191,6 +203,9 @@ impl<T: Drop, const CAP: usize> Extend<T> for ArrayDeque<T, CAP, Wrapping> {
     /// Adds the items of an iterator at the back, as `extend_back` does: a full deque drops its
     /// first item for each. Requires an iterator that ends. It always returns `Ok`.
     ///
+    /// Start: 1 up for each item dropped.
+    /// Steps: 1 put for each item of the iterator, 1 take for each item dropped.
+    ///
     /// ```
     /// let mut deque = ArrayDeque::<i64, 3, Wrapping>::new(alloc)?;
     /// deque.extend([1, 2, 3, 4])?;
@@ -216,6 +231,8 @@ impl<'a, T: Copy + 'a, const CAP: usize> Extend<&'a T> for ArrayDeque<T, CAP, Sa
 
     /// Adds copies of the items of an iterator at the back, in order, while there is room, and runs
     /// the iterator to its end. Requires an iterator that ends. It always returns `Ok`.
+    ///
+    /// Start: stays. Steps: 1 put for each copy added.
     ///
     /// ```
     /// let mut deque = ArrayDeque::<i64, 3, Saturating>::new(alloc)?;
@@ -243,6 +260,9 @@ impl<'a, T: Copy + 'a, const CAP: usize> Extend<&'a T> for ArrayDeque<T, CAP, Wr
 
     /// Adds copies of the items of an iterator at the back, as `extend_back` does: a full deque
     /// drops its first item for each. Requires an iterator that ends. It always returns `Ok`.
+    ///
+    /// Start: 1 up for each item dropped.
+    /// Steps: 1 put for each item of the iterator, 1 take for each item dropped.
     ///
     /// ```
     /// let mut deque = ArrayDeque::<i64, 3, Wrapping>::new(alloc)?;

@@ -70,7 +70,9 @@ impl<T, const CAP: usize, B: Behavior> ArrayDeque<T, CAP, B> {
 
     /// Returns an iterator over mutable references to the items, from both ends.
     ///
-    /// Whatever is written, the deque holds as many items as before, and they start where they did.
+    /// Whatever is written, the deque holds as many items as before.
+    ///
+    /// Start: stays. Steps: 2 lends.
     ///
     /// ```
     /// let mut deque = ArrayDeque::<i64, 3, Saturating>::new(alloc)?;
@@ -91,8 +93,10 @@ impl<T, const CAP: usize, B: Behavior> ArrayDeque<T, CAP, B> {
     /// Returns an iterator over mutable references to the items of a range, from both ends.
     /// Requires a range that is in order and ends within the list.
     ///
-    /// Whatever is written, the deque holds as many items as before, they start where they did, and
-    /// those outside the range are as they were.
+    /// Whatever is written, the deque holds as many items as before, and those outside the range
+    /// are as they were.
+    ///
+    /// Start: stays. Steps: 2 lends.
     ///
     /// ```
     /// let mut deque = ArrayDeque::<i64, 4, Saturating>::new(alloc)?;
@@ -171,6 +175,8 @@ impl<T, const CAP: usize, B: Behavior> ArrayDeque<T, CAP, B> {
     /// A caller whose proof needs that writes `iter_mut().into_slices()`: the prover follows the
     /// one name of that loan, and not a pair.
     ///
+    /// Start: stays. Steps: 2 lends.
+    ///
     /// ```
     /// let mut deque = ArrayDeque::<i64, 3, Saturating>::new(alloc)?;
     /// deque.extend_back([2, 3]);
@@ -191,7 +197,9 @@ impl<T, const CAP: usize, B: Behavior> ArrayDeque<T, CAP, B> {
     /// Returns the items for writing in one slice. Requires a list in one piece, as
     /// [`ArrayDeque::linearize`] leaves it.
     ///
-    /// The list ends as it was written, and starts where it did.
+    /// The list ends as it was written.
+    ///
+    /// Start: stays. Steps: 1 lend.
     ///
     /// ```
     /// let mut deque = ArrayDeque::<i64, 3, Saturating>::new(alloc)?;

@@ -11,8 +11,10 @@ impl<T, const CAP: usize, B: Behavior> ArrayDeque<T, CAP, B> {
     /// Lays the list in one piece, so that the first slice of `as_slices` has all items. If it lies
     /// in one piece already nothing happens.
     ///
-    /// It works in place and takes no memory: there are no more moves and exchanges, taken
-    /// together, than items.
+    /// It works in place and takes no memory.
+    ///
+    /// Start: 0, or stays if nothing happens.
+    /// Steps: moves and exchanges, taken together no more than items, or none if nothing happens.
     ///
     /// ```
     /// let mut deque = ArrayDeque::<i64, 4, Saturating>::new(alloc)?;

@@ -17,6 +17,8 @@ impl<T, const CAP: usize> ArrayDeque<T, CAP, Saturating> {
     /// Fails only if memory is refused; then the source was asked for nothing, and comes back in
     /// the error as it was.
     ///
+    /// Start: 0. Steps: 1 put for each item of the deque.
+    ///
     /// ```
     /// let mut numbers = 1..=5;
     /// let deque = ArrayDeque::<i64, 3, Saturating>::from_iter(alloc, &mut numbers)?;
@@ -47,6 +49,8 @@ impl<T, const CAP: usize> ArrayDeque<T, CAP, Saturating> {
     ///
     /// Fails only if memory is refused; then the vector comes back in the error as it was.
     ///
+    /// Start: 0. Steps: 1 put for each item of the deque.
+    ///
     /// ```
     /// let list = vec![in alloc; 1, 2, 3]?;
     /// let deque = ArrayDeque::<i64, 2, Saturating>::from_vec(alloc, list)?;
@@ -68,6 +72,8 @@ impl<T, const CAP: usize> ArrayDeque<T, CAP, Saturating> {
     /// Returns a deque of the first `CAP` items of an array.
     ///
     /// Fails only if memory is refused; then the array comes back in the error as it was.
+    ///
+    /// Start: 0. Steps: 1 put for each item of the deque.
     ///
     /// ```
     /// let deque = ArrayDeque::<i64, 2, Saturating>::from_array(alloc, [1, 2, 3])?;
@@ -94,6 +100,9 @@ impl<T: Drop, const CAP: usize> ArrayDeque<T, CAP, Wrapping> {
     ///
     /// Fails only if memory is refused; then the source was asked for nothing, and comes back in
     /// the error as it was.
+    ///
+    /// Start: from 0 on, 1 up for each item dropped.
+    /// Steps: 1 put for each item of the iterator, 1 take for each item dropped.
     ///
     /// ```
     /// let deque = ArrayDeque::<i64, 3, Wrapping>::from_iter(alloc, 1..=5)?;
@@ -124,6 +133,9 @@ impl<T: Drop, const CAP: usize> ArrayDeque<T, CAP, Wrapping> {
     ///
     /// Fails only if memory is refused; then the vector comes back in the error as it was.
     ///
+    /// Start: from 0 on, 1 up for each item dropped.
+    /// Steps: 1 put for each item of the vector, 1 take for each item dropped.
+    ///
     /// ```
     /// let list = vec![in alloc; 1, 2, 3]?;
     /// let deque = ArrayDeque::<i64, 2, Wrapping>::from_vec(alloc, list)?;
@@ -143,6 +155,8 @@ impl<T: Drop, const CAP: usize> ArrayDeque<T, CAP, Wrapping> {
     /// Returns a deque of the last `CAP` items of an array.
     ///
     /// Fails only if memory is refused; then the array comes back in the error as it was.
+    ///
+    /// Start: 0. Steps: 1 put for each item of the deque.
     ///
     /// ```
     /// let deque = ArrayDeque::<i64, 2, Wrapping>::from_array(alloc, [1, 2, 3])?;
@@ -193,8 +207,9 @@ impl<T, const CAP: usize, B: Behavior> ArrayDeque<T, CAP, B> {
 impl<T, const CAP: usize> From<ArrayDeque<T, CAP, Wrapping>> for ArrayDeque<T, CAP, Saturating> {
     ghost from_gives = { λ wrapping saturating. saturating ≡ wrapping };
 
-    /// Returns the same deque under the other policy. The region, the list and the place where it
-    /// starts stay.
+    /// Returns the same deque under the other policy. The region and the list stay.
+    ///
+    /// Start: stays. Steps: none.
     ///
     /// ```
     /// let mut wrapping = ArrayDeque::<i64, 2, Wrapping>::new(alloc)?;
@@ -211,8 +226,9 @@ impl<T, const CAP: usize> From<ArrayDeque<T, CAP, Wrapping>> for ArrayDeque<T, C
 impl<T, const CAP: usize> From<ArrayDeque<T, CAP, Saturating>> for ArrayDeque<T, CAP, Wrapping> {
     ghost from_gives = { λ saturating wrapping. wrapping ≡ saturating };
 
-    /// Returns the same deque under the other policy. The region, the list and the place where it
-    /// starts stay.
+    /// Returns the same deque under the other policy. The region and the list stay.
+    ///
+    /// Start: stays. Steps: none.
     ///
     /// ```
     /// let mut saturating = ArrayDeque::<i64, 2, Saturating>::new(alloc)?;

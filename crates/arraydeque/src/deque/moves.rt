@@ -18,6 +18,9 @@ impl<T, const CAP: usize> ArrayDeque<T, CAP, Saturating> {
     /// The items before the index or those from it on move by one place, whichever are fewer, and
     /// on a tie the latter: at most half of the items.
     ///
+    /// Start: 1 down if fewer items are before the index than from it on, else stays.
+    /// Steps: 1 put, 1 move for each item that moves.
+    ///
     /// ```
     /// let mut deque = ArrayDeque::<i64, 4, Saturating>::new(alloc)?;
     /// deque.extend_back([1, 2, 3]);
@@ -54,6 +57,9 @@ impl<T, const CAP: usize, B: Behavior> ArrayDeque<T, CAP, B> {
     /// The items before it or those behind it move by one place, whichever are fewer, and on a tie
     /// the latter: fewer than half of the items.
     ///
+    /// Start: 1 up if fewer items are before the index than behind it, else stays.
+    /// Steps: 1 take, 1 move for each item that moves.
+    ///
     /// ```
     /// let mut deque = ArrayDeque::<i64, 4, Saturating>::new(alloc)?;
     /// deque.extend_back([1, 2, 3, 4]);
@@ -87,6 +93,9 @@ impl<T, const CAP: usize, B: Behavior> ArrayDeque<T, CAP, B> {
     /// In a full deque no item moves. Else the first `count` items or the others move, whichever
     /// are fewer, and on a tie the first: at most half of the items.
     ///
+    /// Start: `count` up, or if the others are fewer, 1 down for each of these.
+    /// Steps: 1 move for each item that moves.
+    ///
     /// ```
     /// let mut deque = ArrayDeque::<i64, 5, Saturating>::new(alloc)?;
     /// deque.extend_back([1, 2, 3, 4]);
@@ -113,6 +122,9 @@ impl<T, const CAP: usize, B: Behavior> ArrayDeque<T, CAP, B> {
     ///
     /// In a full deque no item moves. Else the last `count` items or the others move, whichever are
     /// fewer, and on a tie the others: at most half of the items.
+    ///
+    /// Start: 1 up for each of the others, or if the last `count` are fewer, `count` down.
+    /// Steps: 1 move for each item that moves.
     ///
     /// ```
     /// let mut deque = ArrayDeque::<i64, 5, Saturating>::new(alloc)?;

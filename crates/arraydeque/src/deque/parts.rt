@@ -19,8 +19,13 @@ impl<T, const CAP: usize, B: Behavior> ArrayDeque<T, CAP, B> {
     /// of its own. Requires a range that is in order and ends within the list.
     ///
     /// The deque has no gap when the call returns: the items before the range or those behind it
-    /// have moved, whichever are fewer, and none for an empty range. Fails only if memory is
-    /// refused; then nothing has changed. An empty range, or items of size zero, take no memory.
+    /// have moved, whichever are fewer, on a tie the latter, and none for an empty range. Fails
+    /// only if memory is refused; then nothing has changed. An empty range, or items of size zero,
+    /// take no memory.
+    ///
+    /// Start: 1 up for each item of the range if fewer items are before it than behind it, else
+    /// stays.
+    /// Steps: 1 take for each item of the range, 1 move for each item that moves.
     ///
     /// ```
     /// let mut deque = ArrayDeque::<i64, 5, Saturating>::new(alloc)?;
@@ -73,6 +78,9 @@ impl<T, const CAP: usize, B: Behavior> ArrayDeque<T, CAP, B> {
     /// No kept item moves. Fails only if memory is refused; then nothing has changed. At capacity 0
     /// or for items of size zero it never fails.
     ///
+    /// Start: stays.
+    /// Steps: 1 take for each item that goes. The new deque starts at 0, with 1 put for each item.
+    ///
     /// ```
     /// let mut deque = ArrayDeque::<i64, 3, Saturating>::new(alloc)?;
     /// deque.extend_back([1, 2, 3]);
@@ -104,6 +112,10 @@ impl<T, const CAP: usize, B: Behavior> ArrayDeque<T, CAP, B> {
 impl<T, const CAP: usize> ArrayDeque<T, CAP, Saturating> {
     /// Takes the first items of another deque behind the last of this one, as many as there is room
     /// for. The others stay there. No memory is taken, and no item that stays moves.
+    ///
+    /// Start: stays.
+    /// Steps: 1 put for each item that comes. The start of the other deque goes 1 up for each of
+    /// these, with 1 take.
     ///
     /// ```
     /// let mut deque = ArrayDeque::<i64, 3, Saturating>::new(alloc)?;
@@ -139,9 +151,11 @@ impl<T: Drop, const CAP: usize> ArrayDeque<T, CAP, Wrapping> {
     /// Takes all items of another deque behind the last one, and keeps the last `CAP` of both. The
     /// others are dropped, front to back. No memory is taken, and no item that stays moves.
     ///
-    /// Each item of the other deque that is kept is put in once, and each item that goes is taken
-    /// out of its place and dropped. So if the other deque has more than `CAP` items, there are
-    /// fewer steps than pushes would make.
+    /// If the other deque has more than `CAP` items, there are fewer steps than pushes would make.
+    ///
+    /// Start: 1 up for each item of this deque that goes.
+    /// Steps: 1 take for each of these, 1 put for each item of the other deque that is kept. The
+    /// start of the other deque goes 1 up for each of its items, with 1 take.
     ///
     /// ```
     /// let mut deque = ArrayDeque::<i64, 3, Wrapping>::new(alloc)?;

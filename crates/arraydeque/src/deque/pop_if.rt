@@ -14,6 +14,9 @@ impl<T, const CAP: usize, B: Behavior> ArrayDeque<T, CAP, B> {
     /// `None`, and the item stays, as `predicate` left it. No other item moves. An empty deque
     /// doesn't call `predicate`.
     ///
+    /// Start: 1 up if the item goes, else stays.
+    /// Steps: 1 lend if there is an item, 1 take if it goes.
+    ///
     /// ```
     /// let mut deque = ArrayDeque::<i64, 3, Saturating>::new(alloc)?;
     /// deque.extend_back([1, 2, 3]);
@@ -46,6 +49,8 @@ impl<T, const CAP: usize, B: Behavior> ArrayDeque<T, CAP, B> {
     /// Removes the last item and returns it, if `predicate` returns true for it. Else returns
     /// `None`, and the item stays, as `predicate` left it. No other item moves. An empty deque
     /// doesn't call `predicate`.
+    ///
+    /// Start: stays. Steps: 1 lend if there is an item, 1 take if it goes.
     ///
     /// ```
     /// let mut deque = ArrayDeque::<i64, 3, Saturating>::new(alloc)?;

@@ -12,6 +12,8 @@ impl<T, const CAP: usize> ArrayDeque<T, CAP, Saturating> {
     /// Adds an element at the front. If the deque is full, returns it in the error, and nothing has
     /// changed. No item moves.
     ///
+    /// Start: 1 down. Steps: 1 put.
+    ///
     /// ```
     /// let mut deque = ArrayDeque::<i64, 2, Saturating>::new(alloc)?;
     /// assert!(rt; deque.push_front(2) == Ok(()));
@@ -38,6 +40,8 @@ impl<T, const CAP: usize> ArrayDeque<T, CAP, Saturating> {
 
     /// Adds an element at the back. If the deque is full, returns it in the error, and nothing has
     /// changed. No item moves.
+    ///
+    /// Start: stays. Steps: 1 put.
     ///
     /// ```
     /// let mut deque = ArrayDeque::<i64, 3, Saturating>::new(alloc)?;
@@ -66,6 +70,8 @@ impl<T, const CAP: usize> ArrayDeque<T, CAP, Saturating> {
 impl<T, const CAP: usize> ArrayDeque<T, CAP, Wrapping> {
     /// Adds an element at the front. If the deque is full, removes the last item for it and returns
     /// that, and at capacity 0 returns the element itself. No kept item moves.
+    ///
+    /// Start: 1 down. Steps: 1 put, 1 take if the deque is full.
     ///
     /// ```
     /// let mut deque = ArrayDeque::<i64, 2, Wrapping>::new(alloc)?;
@@ -100,6 +106,8 @@ impl<T, const CAP: usize> ArrayDeque<T, CAP, Wrapping> {
 
     /// Adds an element at the back. If the deque is full, removes the first item for it and returns
     /// that, and at capacity 0 returns the element itself. No kept item moves.
+    ///
+    /// Start: 1 up if the deque is full, else stays. Steps: 1 put, 1 take if it is full.
     ///
     /// ```
     /// let mut deque = ArrayDeque::<i64, 2, Wrapping>::new(alloc)?;

@@ -13,8 +13,9 @@ use super::ArrayDeque;
 use crate::behavior::Behavior;
 
 impl<T, const CAP: usize, B: Behavior> ArrayDeque<T, CAP, B> {
-    /// Drops every item, front to back. The region stays, and the list starts again at its first
-    /// place.
+    /// Drops every item, front to back. The region stays.
+    ///
+    /// Start: 0. Steps: 1 take for each item.
     ///
     /// ```
     /// let mut deque = ArrayDeque::<i64, 2, Saturating>::new(alloc)?;
@@ -38,6 +39,8 @@ impl<T, const CAP: usize, B: Behavior> ArrayDeque<T, CAP, B> {
     /// Keeps the first `len` items, or all if there are no more. The others are dropped, front to
     /// back. No item moves.
     ///
+    /// Start: stays. Steps: 1 take for each item dropped.
+    ///
     /// ```
     /// let mut deque = ArrayDeque::<i64, 3, Saturating>::new(alloc)?;
     /// deque.extend_back([1, 2, 3]);
@@ -58,6 +61,8 @@ impl<T, const CAP: usize, B: Behavior> ArrayDeque<T, CAP, B> {
     /// Makes the list `len` items long: keeps the first `len`, or all and puts copies of `value`
     /// behind them. The others are dropped, front to back. No item moves, and no memory is taken.
     /// Requires a length up to `CAP`.
+    ///
+    /// Start: stays. Steps: 1 take for each item dropped, 1 put for each copy.
     ///
     /// ```
     /// let mut deque = ArrayDeque::<i64, 4, Saturating>::new(alloc)?;
@@ -85,6 +90,8 @@ impl<T, const CAP: usize, B: Behavior> ArrayDeque<T, CAP, B> {
     /// Keeps the last `len` items, or all if there are no more. The others are dropped, front to
     /// back. No item moves, and no memory is taken.
     ///
+    /// Start: 1 up for each item dropped. Steps: 1 take for each.
+    ///
     /// ```
     /// let mut deque = ArrayDeque::<i64, 3, Saturating>::new(alloc)?;
     /// deque.extend_back([1, 2, 3]);
@@ -106,6 +113,8 @@ impl<T, const CAP: usize, B: Behavior> ArrayDeque<T, CAP, B> {
     /// once on each item, front to back.
     ///
     /// It works in place and takes no memory: each kept item behind the first that goes moves once.
+    ///
+    /// Start: stays. Steps: 1 take for each item dropped, 1 move for each whose index changes.
     ///
     /// ```
     /// let mut deque = ArrayDeque::<i64, 5, Saturating>::new(alloc)?;
@@ -135,6 +144,10 @@ impl<T, const CAP: usize, B: Behavior> ArrayDeque<T, CAP, B> {
     /// others. `f` is called once on each item, front to back.
     ///
     /// It works in place and takes no memory: each kept item behind the first that goes moves once.
+    ///
+    /// Start: stays.
+    /// Steps: 1 lend for each item, 1 take for each item dropped, 1 move for each whose index
+    /// changes.
     ///
     /// ```
     /// let mut deque = ArrayDeque::<i64, 4, Saturating>::new(alloc)?;

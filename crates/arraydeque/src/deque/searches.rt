@@ -39,8 +39,8 @@ impl<T, const CAP: usize, B: Behavior> ArrayDeque<T, CAP, B> {
         }
     }
 
-    /// Returns the index of an item that equals `x`, if the items rise. If none does, returns in
-    /// the error the index at which `x` would go.
+    /// Returns the index of an item that compares as equal to `x`, if the items rise. If none does,
+    /// returns in the error the index behind all that are less, at which `x` would go.
     ///
     /// ```
     /// let mut deque = ArrayDeque::<i64, 3, Wrapping>::new(alloc)?;
@@ -60,8 +60,8 @@ impl<T, const CAP: usize, B: Behavior> ArrayDeque<T, CAP, B> {
     }
 
     /// Returns the index of an item for which `f` returns `Equal`, if what it returns rises from
-    /// `Less` to `Greater`. If there is none, returns in the error the index at which such an item
-    /// would go.
+    /// `Less` to `Greater`. If there is none, returns in the error the index behind all items with
+    /// `Less`, at which such an item would go.
     ///
     /// ```
     /// let mut deque = ArrayDeque::<i64, 3, Wrapping>::new(alloc)?;
@@ -91,8 +91,9 @@ impl<T, const CAP: usize, B: Behavior> ArrayDeque<T, CAP, B> {
         }
     }
 
-    /// Returns the index of an item whose key, which `f` tells, equals `key`, if the keys rise. If
-    /// none does, returns in the error the index at which such an item would go.
+    /// Returns the index of an item whose key, which `f` tells, compares as equal to `key`, if the
+    /// keys rise. If none does, returns in the error the index behind all items with a lesser key,
+    /// at which such an item would go.
     ///
     /// ```
     /// let mut deque = ArrayDeque::<(i64, bool), 3, Saturating>::new(alloc)?;

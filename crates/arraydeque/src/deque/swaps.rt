@@ -11,6 +11,8 @@ impl<T, const CAP: usize, B: Behavior> ArrayDeque<T, CAP, B> {
     /// Removes the item at an index and returns it, or returns `None` if there is none. The last
     /// item takes its place, by one exchange at most. If the order matters, use `remove`.
     ///
+    /// Start: stays. Steps: 1 take, 1 exchange unless the item is the last.
+    ///
     /// ```
     /// let mut deque = ArrayDeque::<i64, 4, Saturating>::new(alloc)?;
     /// deque.extend_back([1, 2, 3, 4]);
@@ -38,6 +40,8 @@ impl<T, const CAP: usize, B: Behavior> ArrayDeque<T, CAP, B> {
     /// Removes the item at an index and returns it, or returns `None` if there is none. The first
     /// item takes its place, by one exchange at most. If the order matters, use `remove`.
     ///
+    /// Start: 1 up. Steps: 1 take, 1 exchange unless the item is the first.
+    ///
     /// ```
     /// let mut deque = ArrayDeque::<i64, 4, Saturating>::new(alloc)?;
     /// deque.extend_back([1, 2, 3, 4]);
@@ -63,6 +67,8 @@ impl<T, const CAP: usize, B: Behavior> ArrayDeque<T, CAP, B> {
 
     /// Exchanges the items at two indexes. If the two are the same nothing happens. Requires
     /// both to be below the length.
+    ///
+    /// Start: stays. Steps: 1 exchange, but none if the two indexes are the same.
     ///
     /// ```
     /// let mut deque = ArrayDeque::<i64, 3, Saturating>::new(alloc)?;

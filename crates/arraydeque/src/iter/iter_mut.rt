@@ -185,6 +185,8 @@ impl<'a, T, const CAP: usize, B: Behavior> IntoIterator for &'a mut ArrayDeque<T
 
     ghost into_iter_gives = { λ deque it. remaining it ≡ deque.now.items };
 
+    /// Start: stays. Steps: 2 lends.
+    ///
     /// ```
     /// let mut deque = ArrayDeque::<i64, 3, Saturating>::new(alloc)?;
     /// deque.extend_back([1, 2, 3]);
