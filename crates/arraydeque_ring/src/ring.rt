@@ -287,6 +287,8 @@ impl<T> Ring<T> {
     /// Lends the item at an index for writing. Requires an index below the length. What is written
     /// through it changes that item and no other.
     ///
+    /// Start: stays. Steps: 1 lend.
+    ///
     /// ```
     /// let mut ring = Ring::of_copies(alloc, 3, &[1, 2])?;
     /// *ring.item_mut(1) = 5;

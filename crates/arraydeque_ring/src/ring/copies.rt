@@ -14,6 +14,8 @@ impl<T> Ring<T> {
     /// Returns a ring of copies of items, in order from the first place on. Requires no more items
     /// than places. It is refused if its region is.
     ///
+    /// Start: 0. Steps: 1 put for each item.
+    ///
     /// ```
     /// let ring = Ring::of_copies(alloc, 3, &[1, 2])?;
     /// assert!(rt; (ring.len(), ring.capacity()) == (2, 3));
@@ -38,6 +40,8 @@ impl<T> Ring<T> {
 
     /// Puts copies of the first of some items behind the last one, as many as there is room for.
     /// Returns their number.
+    ///
+    /// Start: stays. Steps: 1 put for each copy.
     ///
     /// ```
     /// let mut ring = Ring::of_copies(alloc, 4, &[1])?;
@@ -122,6 +126,8 @@ impl<T> Ring<T> {
     /// Returns a ring of the items of a vector, in order from the first place on, as many as there
     /// are places for. The others are dropped, front to back. It is refused if its region is; then
     /// the vector comes back as it was.
+    ///
+    /// Start: 0. Steps: 1 put for each item of the ring.
     ///
     /// ```
     /// let items = vec![in alloc; 1, 2, 3]?;

@@ -15,6 +15,8 @@ impl<T> Ring<T> {
     /// Puts what the iterator gives behind the last item, one by one, while there is room. Returns
     /// whether the iterator ended before the ring was full; else it wasn't asked for more.
     ///
+    /// Start: stays. Steps: 1 put for each item that comes.
+    ///
     /// ```
     /// let mut ring = Ring::of_copies(alloc, 3, &[1])?;
     /// let mut numbers = 2..9;
@@ -59,6 +61,8 @@ impl<T> Ring<T> {
     /// Puts what the iterator gives before the first item, one by one, while there is room: the
     /// last one stands first then. Returns whether the iterator ended before the ring was full;
     /// else it wasn't asked for more.
+    ///
+    /// Start: 1 down for each item that comes. Steps: 1 put for each.
     ///
     /// ```
     /// let mut ring = Ring::of_copies(alloc, 4, &[1])?;
@@ -105,6 +109,8 @@ impl<T> Ring<T> {
     /// place or more, and an iterator that ends. Each takes the place of the first item, which is
     /// dropped.
     ///
+    /// Start: 1 up for each item that comes. Steps: 1 take, 1 put for each.
+    ///
     /// ```
     /// let mut ring = Ring::of_copies(alloc, 3, &[1, 2, 3])?;
     /// ring.displace_first(4..6);
@@ -140,6 +146,8 @@ impl<T> Ring<T> {
     /// Puts what the iterator gives before the first item, one by one. Requires a full ring of one
     /// place or more, and an iterator that ends. Each takes the place of the last item, which is
     /// dropped.
+    ///
+    /// Start: 1 down for each item that comes. Steps: 1 take, 1 put for each.
     ///
     /// ```
     /// let mut ring = Ring::of_copies(alloc, 3, &[1, 2, 3])?;

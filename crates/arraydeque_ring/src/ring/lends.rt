@@ -106,6 +106,8 @@ impl<T> Ring<T> {
     /// [`Ring::as_mut_slices`] says, and that the ring follows the loan's name. A caller of this
     /// one is proved by hand; [`Ring::lend_items`] is for all others.
     ///
+    /// Start: stays. Steps: 2 lends.
+    ///
     /// ```
     /// let mut ring = Ring::of_copies(alloc, 4, &[2, 3])?;
     /// ring.push_front(1);
@@ -128,7 +130,9 @@ impl<T> Ring<T> {
 
     /// Lends the items for writing, as one loan of two slices.
     ///
-    /// Whatever is written, there are as many items as before, and they start where they did.
+    /// Whatever is written, there are as many items as before.
+    ///
+    /// Start: stays. Steps: 2 lends.
     ///
     /// ```
     /// let mut ring = Ring::<i64>::new(alloc, 3)?;
@@ -152,8 +156,10 @@ impl<T> Ring<T> {
     /// Lends the `len` items from the index `from` on for writing, as one loan of two slices.
     /// Requires that the list has them.
     ///
-    /// Whatever is written, there are as many items as before, they start where they did, and those
-    /// outside the part are as they were.
+    /// Whatever is written, there are as many items as before, and those outside the part are as
+    /// they were.
+    ///
+    /// Start: stays. Steps: 2 lends.
     ///
     /// ```
     /// let mut ring = Ring::of_copies(alloc, 4, &[2, 3, 4])?;

@@ -115,6 +115,10 @@ impl<T> Ring<T> {
     /// and that the other ring has them. They go over in at most three copies, since either ring
     /// may wrap once.
     ///
+    /// Start: stays.
+    /// Steps: 1 put for each item that comes. The start of the other ring goes 1 up for each of
+    /// these, with 1 take.
+    ///
     /// ```
     /// let mut ring = Ring::of_copies(alloc, 4, &[1, 2])?;
     /// let mut other = Ring::of_copies(alloc, 3, &[3, 4, 5])?;
