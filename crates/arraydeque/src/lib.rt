@@ -57,8 +57,9 @@
 //! - `extend_back`, `extend_front` and `from_iter` under [`Wrapping`], and `extend` under either
 //!   policy: an iterator that ends.
 //! - `clone`: that the clone of an item is that item once more, as for numbers.
-//! - A call with a closure: that it may be called, by a search always, by `retain` and `retain_mut`
-//!   once on each item in turn, by `pop_front_if` and `pop_back_if` on the item at that end.
+//! - A call with an iterator or a closure: that it may be called. A search and `next_if` may always
+//!   call their closure, `retain` and `retain_mut` once on each item in turn, `pop_front_if` and
+//!   `pop_back_if` on the item at that end.
 //! - [`lookahead::Scanner`]: `peek(k)` a k below its capacity, `read_ahead(k)` a k up to it,
 //!   `ahead(k)` a k up to what it has read ahead, `next_if` a capacity above 0.
 //!

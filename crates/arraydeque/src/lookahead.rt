@@ -85,7 +85,10 @@ impl<I: Iterator, const CAP: usize> Scanner<I, CAP> {
     }
 
     /// Returns item `k` of what is left, or `None` if the input ends before it. Item 0 is what
-    /// `next` will return. Requires `k` below `CAP`. What was read for it is kept in the buffer.
+    /// `next` will return. Requires `k` below `CAP`.
+    ///
+    /// If the buffer has more than `k` items nothing changes. Else what is read is kept there,
+    /// behind the others, until it has `k + 1`.
     ///
     /// A function over any iterator names `CAP` by a const parameter, and requires that `k` is
     /// below it: with a number there the prover doesn't see that.
@@ -107,7 +110,8 @@ impl<I: Iterator, const CAP: usize> Scanner<I, CAP> {
     }
 
     /// Reads on until `count` items are in the buffer, and returns how many of the next `count` are
-    /// there: fewer only if the input ends before. Requires `count` up to `CAP`.
+    /// there: fewer only if the input ends before. Requires `count` up to `CAP`. What is read goes
+    /// behind what is in the buffer; if that has `count` items already nothing changes.
     ///
     /// ```
     /// let mut scanner = Scanner::<_, 3>::new(alloc, [1, 2].into_iter())?;
@@ -183,8 +187,8 @@ impl<I: Iterator, const CAP: usize> Scanner<I, CAP> {
         }
     }
 
-    /// Drops the next items, up to `count`, and returns how many went: fewer only if the input ends
-    /// before.
+    /// Drops the next items, up to `count`, front to back, and returns how many went: fewer only if
+    /// the input ends before.
     ///
     /// ```
     /// let mut scanner = Scanner::<_, 2>::new(alloc, [1, 2, 3, 4].into_iter())?;
