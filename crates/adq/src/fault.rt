@@ -24,7 +24,7 @@ pub enum Fault {
 }
 
 impl Fault {
-    /// Writes to `faults` why the run ends, and returns its status, also where the write fails.
+    /// Writes to `faults` why the run ends, and returns its status, also if the write fails.
     pub fn report<F: Write + Drop>(self, mut faults: F) -> u8
         ensures arguments { self ≡ Fault.Arguments → result ≡ 2 }
         ensures line { (number : ℕ) → self ≡ Fault.Line number → result ≡ 2 }

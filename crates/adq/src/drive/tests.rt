@@ -175,8 +175,8 @@ fn bad_arguments_are_refused(rt: HostRuntime) -> Result<(), Fail> {
     Ok(())
 }
 
-/// Whether a run ends with status 1, after some beginning of what it prints, where calls of its
-/// output fail.
+/// Whether a run ends with status 1, after some beginning of what it prints, if calls of its output
+/// fail.
 fn fails(
     alloc: Global,
     words: &str,
@@ -284,7 +284,7 @@ fn long_replies(
     Ok(text)
 }
 
-/// A bad line behind many others is blamed, and where the flush fails, some beginning was written.
+/// A bad line behind many others is blamed, and if the flush fails, some beginning was written.
 #[test]
 fn a_hundred_thousand_lines_are_run(rt: HostRuntime) -> Result<(), Fail> {
     let mut lines = long_lines(rt.alloc())?;

@@ -3,7 +3,7 @@
 /// Words after the program's name, an input and its output.
 pub(crate) type Row = (&'static str, &'static str, &'static str);
 
-/// What the program says where it can't read or write.
+/// What the program says if it can't read or write.
 pub(crate) const FAILED: &str = "adq: input or output failed\n";
 
 /// The lines of a run on `sat 3`.

@@ -1,4 +1,4 @@
-//! Streams in memory, which move few bytes a call and fail where a test has them fail.
+//! Streams in memory, which move few bytes a call and fail when a test has them fail.
 ghost use Rattle.std.specs.Prelude.{◌≤◌, IfOk};
 
 use std::alloc::Global;
@@ -99,7 +99,7 @@ impl<'a> Output<'a> {
         }
     }
 
-    /// Whether just what is due was written and flushed, or, where a call failed, some beginning of
+    /// Whether just what is due was written and flushed, or, if a call failed, some beginning of
     /// it was written.
     pub(crate) fn is_due(&self) -> bool {
         let (due, bytes) = (self.due.as_bytes(), self.bytes.as_slice());
