@@ -1,7 +1,8 @@
 """What must stand as it does in the sources, at every size, since no contract says it.
 
 A region stays whole, and its memory goes back whenever it is dropped. A call of the region makes just the raw reads,
-writes and loans that it counts. Items are dropped front to back.
+writes and loans that it counts. What asks for memory asks for as much as it needs, so that no refusal is of its own
+making. Items are dropped front to back.
 """
 import re
 
@@ -19,6 +20,21 @@ LEAVES_OF = {
     'Lend': 'lend',
 }
 NO_STEP = 'slice size_of_item without_memory with_memory give_back lend_two'.split()
+
+# For how much each of these asks.
+SIZES = {
+    'Slots::with_memory': 'heap.allocate(capacity * size_of::<T>(), align_of::<T>())',
+    'Slots::new': 'Slots::with_memory(&alloc, alloc, capacity)',
+    'Ring::new': 'Slots::new(alloc, capacity)',
+    'Ring::of_copies': 'Ring::new(alloc, capacity)',
+    'Ring::of_vec': 'Slots::new(alloc, capacity)',
+    'Ring::clone': 'Ring::new(self.alloc(), self.capacity())',
+    'Ring::split_off': 'Slots::new(self.slots.alloc(), self.slots.capacity())',
+    'Ring::drain': 'Slots::new(self.slots.alloc(), count)',
+    'Ring::into_vec': 'Vec::with_capacity(self.alloc(), self.len())',
+    'ArrayDeque::new': 'Ring::new(alloc, CAP)',
+    'ArrayDeque::run': 'Vec::with_capacity(self.alloc(), calls.len())',
+}
 
 # By what each of these drops items, front to back. Beside that it counts places, or returns where there is no item.
 DROPS = {
@@ -59,6 +75,14 @@ def faults_of_steps(functions):
                 yield f'{told}, and calls {" ".join(called) or "no leaf"}'
             if counted and re.search(r'\b(?:for|while|loop)\b', body(code)):
                 yield f'{told}, and has a loop'
+
+
+def faults_of_sizes(functions):
+    """Which functions ask for another size than is told above."""
+    bodies = {name: body(code) for _, name, code in functions}
+    for name, asks in SIZES.items():
+        if asks not in bodies.get(name, ''):
+            yield f'{name} asks otherwise than by `{asks}`'
 
 
 def faults_of_drops(functions):
