@@ -2,7 +2,7 @@
 //!
 //! It uses `arraydeque` under `Saturating`, and is proved over the deque's public contract alone:
 //! what it gives to read is the text of the bytes that were written.
-ghost use Rattle.std.specs.Prelude.{◌≡◌, ◌<◌, ◌≤◌, ◌+◌, ◌++◌, ◌∷◌, [], length, take, None, Some, IsTrue, IfOk, IsOk, OnErr};
+ghost use Rattle.std.specs.Prelude.{◌≡◌, ◌<◌, ◌≤◌, ◌+◌, ◌++◌, ◌∷◌, [], length, take, drop, min, None, Some, Ok, IsTrue, IfOk, IsOk, OnErr};
 ghost use Rattle.std.specs.Io.{ReadsAtMost, WritesAtMost};
 ghost use Rattle.std.specs.Io.KnownBytes.{Keeps, ReadConsumes, WriteAppends};
 ghost use Rattle.uses.specs.Encoder.{four_of, text_of, left_of};
@@ -44,6 +44,7 @@ impl<const CAP: usize> Encoder<CAP> {
         ensures group { IsTrue result → self.new.group ≡ left_of (self.old.group ++ byte ∷ []) }
         ensures unchanged { ¬ IsTrue result → self.new ≡ self.old }
         ensures room { length self.old.text + 4 ≤ CAP → IsTrue result }
+        ensures third { ¬ IsTrue result → length self.old.group ≡ 2 }
     {
         if self.group.push_back(byte).is_ok() {
             return true;
@@ -79,6 +80,10 @@ impl<const CAP: usize> Write for Encoder<CAP> {
             self.new.text ≡ self.old.text ++ text_of (self.old.group ++ take count buf.now)) }
         ensures group { IfOk result (λ count.
             self.new.group ≡ left_of (self.old.group ++ take count buf.now)) }
+        ensures third { IfOk result (λ count.
+            count < length buf.now → length self.new.group ≡ 2) }
+        ensures full { IfOk result (λ count.
+            count < length buf.now → CAP < length self.new.text + 4) }
         ensures ok { IsOk result }
     {
         // This call makes it known that fewer than three bytes wait.
@@ -102,10 +107,15 @@ impl<const CAP: usize> Write for Encoder<CAP> {
 impl<const CAP: usize> Read for Encoder<CAP> {
     ghost remaining = { λ encoder. Some encoder.text };
 
-    /// Takes the first characters out, as many as `buf` has room for, and returns their number.
+    /// Takes the first characters out, as many as `buf` has room for, and returns their number. It
+    /// always returns `Ok`.
     fn read(&mut self, buf: &mut [u8]) -> io::Result<usize>
         ensures bound { ReadsAtMost result buf.new }
         ensures bytes { ReadConsumes (Some self.old.text) (Some self.new.text) result buf.new }
+        ensures count { result ≡ Ok (min (length self.old.text) (length buf.old)) }
+        ensures read { buf.new ≡ take (length buf.old) self.old.text
+            ++ drop (length self.old.text) buf.old }
+        ensures text { self.new.text ≡ drop (length buf.old) self.old.text }
         ensures group { self.new.group ≡ self.old.group }
     {
         self.text.read(buf)
