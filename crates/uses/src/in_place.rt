@@ -1,9 +1,9 @@
 //! Callers that lay a deque in one piece and work on its items in one slice.
 //!
-//! They are proved with no proof file: by the deque's contracts, and those of std's slices, each
-//! knows what the deque ends with.
+//! By the deque's contracts, and those of std's slices, each knows what the deque ends with.
 ghost use Rattle.std.specs.Prelude.{◌≡◌, length, All, Some, OnOk, IfOk, OnErr, slice_get, slice_set};
-ghost use Rattle.std.specs.List.Sorted.{IsPermutation, IsSorted};
+ghost use Rattle.std.specs.List.Sorted.{IsPermutation, IsSorted, IsBinarySearchResult, IsSearchInRange};
+ghost use Rattle.std.specs.Ordering.{int_cmp};
 
 use arraydeque::ArrayDeque;
 use arraydeque::behavior::Behavior;
@@ -31,8 +31,9 @@ pub fn fill<const CAP: usize, B: Behavior>(deque: &mut ArrayDeque<i64, CAP, B>, 
     deque.as_mut_slice().fill(value);
 }
 
-/// Writes `value` over one item that equals `wanted`, and returns its index, or `Err` where a
-/// binary search finds none. The list should be sorted.
+/// Writes `value` over one item that equals `wanted`, and returns its index. If a binary search
+/// finds none, returns in the error the index at which `wanted` would go. The list should be
+/// sorted: then none is found only if there is none.
 pub fn replace_found<const CAP: usize, B: Behavior>(
     deque: &mut ArrayDeque<i64, CAP, B>,
     wanted: i64,
@@ -42,6 +43,8 @@ pub fn replace_found<const CAP: usize, B: Behavior>(
     ensures replaced { IfOk result (λ index.
         deque.new.items ≡ slice_set deque.old.items index value) }
     ensures unchanged { OnErr result (deque.new.items ≡ deque.old.items) }
+    ensures bound { IsSearchInRange result (length deque.old.items) }
+    ensures position { IsBinarySearchResult (λ item. int_cmp item wanted) deque.old.items result }
 {
     deque.linearize();
     let items = deque.as_mut_slice();
