@@ -1,6 +1,12 @@
-//! Callers of what a deque or a ring lends for writing, proved with no proof file: by its contracts
-//! alone each knows the length and the start afterwards, whatever it wrote.
-ghost use Rattle.std.specs.Prelude.{◌≡◌, ◌+◌, ◌-◌, ◌<◌, length, slice_get};
+//! Callers of what a deque or a ring lends for writing: by its contracts alone each knows the
+//! length afterwards, and most the start, whatever it wrote.
+//!
+//! Which values are there then, only the contract of [`fill_from`] says, which writes item by item.
+//! A loan of several items has a name, which the lender follows, and no clause tells what this name
+//! has of what is written. So of the others a body that writes nothing would be proved too: tests
+//! show that they write.
+ghost use Rattle.std.specs.Prelude.{◌≡◌, ◌+◌, ◌-◌, ◌<◌, ◌≤◌, ◌↔◌, length, take, drop, slice_get, All, IsOk, IsSome, Some, pos};
+ghost use Rattle.arraydeque.specs.Deque.{last_item};
 
 use arraydeque::behavior::Behavior;
 use arraydeque::{ArrayDeque, CapacityError, IterMut, Saturating, Wrapping};
@@ -89,6 +95,22 @@ pub fn fill_behind_first<const CAP: usize, B: Behavior>(deque: &mut ArrayDeque<i
     }
 }
 
+/// Writes over each item from the index `from` on, by its index. Those before it stay.
+pub fn fill_from<T: Copy + Drop, const CAP: usize, B: Behavior>(
+    deque: &mut ArrayDeque<T, CAP, B>,
+    from: usize,
+    x: T,
+)
+    ensures filled { All (λ item. item ≡ x) (drop from deque.new.items) }
+    ensures before { take from deque.new.items ≡ take from deque.old.items }
+    ensures len { length deque.new.items ≡ length deque.old.items }
+    ensures start { deque.new.start ≡ deque.old.start }
+{
+    for index in from..deque.len() {
+        deque[index] = x;
+    }
+}
+
 /// Writes over the first and the last item, and pushes the length.
 pub fn write_ends_and_push<const CAP: usize>(
     deque: &mut ArrayDeque<i64, CAP, Saturating>,
@@ -96,6 +118,7 @@ pub fn write_ends_and_push<const CAP: usize>(
     ensures ok { length deque.old.items < CAP →
         length deque.new.items ≡ length deque.old.items + 1 }
     ensures full { length deque.old.items ≡ CAP → length deque.new.items ≡ CAP }
+    ensures room { IsOk result ↔ (length deque.old.items < CAP) }
 {
     let mut items = deque.iter_mut();
     if let Some(first) = items.next() {
@@ -110,9 +133,11 @@ pub fn write_ends_and_push<const CAP: usize>(
 
 /// Writes over the first item of each of the two slices, pushes, and returns how many items there
 /// were.
+#[tactic(auto, using(arraydeque::proofs::LastItem::last_item_rules))]
 pub fn write_slices_and_push<const CAP: usize>(deque: &mut ArrayDeque<i64, CAP, Wrapping>) -> usize
     ensures len { length deque.old.items < CAP →
         length deque.new.items ≡ length deque.old.items + 1 }
+    ensures pushed { 0 < CAP → last_item deque.new.items ≡ Some (pos 3) }
     ensures result { result ≡ length deque.old.items }
 {
     let (front, back) = deque.iter_mut().into_slices();
@@ -148,7 +173,8 @@ fn wipe(items: IterMut<'_, i64>) {
 pub fn wipe_and_pop<const CAP: usize, B: Behavior>(
     deque: &mut ArrayDeque<i64, CAP, B>,
 ) -> Option<i64>
-    ensures { length deque.new.items ≡ length deque.old.items - 1 }
+    ensures len { length deque.new.items ≡ length deque.old.items - 1 }
+    ensures some { IsSome result ↔ (0 < length deque.old.items) }
 {
     wipe(deque.iter_mut());
     deque.pop_front()
