@@ -1,8 +1,8 @@
 //! Bytes copied out of a deque, and into one.
 //!
 //! It uses `arraydeque` as a reader and a writer, and is proved over the deque's public contract
-//! alone: what was copied is all that was there.
-ghost use Rattle.std.specs.Prelude.{◌≡◌, ◌++◌, [], OnOk};
+//! alone: what was copied is all that was there. When a copy fails, std's `copy` doesn't say.
+ghost use Rattle.std.specs.Prelude.{◌≡◌, ◌++◌, [], length, OnOk, IfOk};
 
 use arraydeque::behavior::Behavior;
 use arraydeque::{ArrayDeque, Saturating};
@@ -15,7 +15,10 @@ pub fn pour<const CAP: usize, B: Behavior>(
 ) -> io::Result<u64>
     ensures bytes { OnOk result (into.new.items ≡ into.old.items ++ from.old.items) }
     ensures emptied { OnOk result (from.new.items ≡ []) }
+    ensures count { IfOk result (λ count. count ≡ length from.old.items) }
 {
+    // This call makes it known that the number of bytes fits a `u64`.
+    let _len = from.len();
     io::copy(from, into)
 }
 
@@ -27,6 +30,9 @@ pub fn pour_over<const CAP: usize, const N: usize, B: Behavior>(
 ) -> io::Result<u64>
     ensures bytes { OnOk result (into.new.items ≡ into.old.items ++ from.old.items) }
     ensures emptied { OnOk result (from.new.items ≡ []) }
+    ensures count { IfOk result (λ count. count ≡ length from.old.items) }
 {
+    // This call makes it known that the number of bytes fits a `u64`.
+    let _len = from.len();
     io::copy(from, into)
 }

@@ -58,7 +58,8 @@ impl<const CAP: usize> Pipe<CAP> {
     }
 
     /// Hands waiting bytes to a writer, once, drops as many as it took, and returns their number.
-    /// Where it fails, all still wait.
+    /// If it fails, all still wait. No word of std says that the writer was asked: a body that only
+    /// fails, or hands it nothing and returns 0, would be proved too.
     pub fn write_to<W: Write>(&mut self, writer: &mut W) -> io::Result<usize>
         ensures left { IfOk result (λ count. self.new ≡ drop count self.old) }
         ensures within { WritesAtMost result self.old }
