@@ -2,8 +2,8 @@
 //!
 //! It is a type that holds deques of itself, and is proved over the deque's public contract alone:
 //! a tree's nodes are counted, and a branch that finds no room comes back.
-ghost use Rattle.std.specs.Prelude.{◌≡◌, ◌+◌, ◌^◌, ◌<◌, IfOk, IfErr, OnErr, OnOk};
-ghost use Rattle.uses.specs.Tree.{node_count};
+ghost use Rattle.std.specs.Prelude.{◌≡◌, ◌+◌, ◌++◌, ◌∷◌, [], ◌^◌, ◌<◌, length, Some, IsOk, IfSome, IfOk, IfErr, OnErr, OnOk};
+ghost use Rattle.uses.specs.Tree.{branches_of, node_count};
 
 use arraydeque::{ArrayDeque, Saturating};
 use std::alloc::{AllocError, Global};
@@ -18,7 +18,8 @@ pub enum Tree {
 impl Tree {
     /// A fork without branches.
     pub fn fork(alloc: Global) -> Result<Tree, AllocError>
-        ensures { IfOk result (λ tree. node_count tree ≡ 1) }
+        ensures nodes { IfOk result (λ tree. node_count tree ≡ 1) }
+        ensures branches { IfOk result (λ tree. branches_of tree ≡ Some []) }
     {
         let branches = ArrayDeque::new(alloc)?;
         Ok(Tree::Fork(branches))
@@ -28,6 +29,10 @@ impl Tree {
     pub fn graft(&mut self, branch: Tree) -> Result<(), Tree>
         ensures nodes { OnOk result
             (node_count self.new ≡ node_count self.old + node_count branch) }
+        ensures branches { OnOk result (IfSome (branches_of self.old) (λ branches.
+            branches_of self.new ≡ Some (branches ++ branch ∷ []))) }
+        ensures room { IfSome (branches_of self.old) (λ branches.
+            length branches < 4 → IsOk result) }
         ensures handed_back { IfErr result (λ back. back ≡ branch) }
         ensures unchanged { OnErr result (self.new ≡ self.old) }
     {
