@@ -2,7 +2,7 @@
 //!
 //! It uses `arraydeque` under `Wrapping`, and is proved over the deque's public contract alone:
 //! what it lends of a time on is just the entries of that time and later ones.
-ghost use Rattle.std.specs.Prelude.{◌≡◌, ◌++◌, ◌∷◌, [], ℕ, filter, nat_le, IfOk};
+ghost use Rattle.std.specs.Prelude.{◌≡◌, ◌<◌, ◌++◌, ◌∷◌, [], ℕ, filter, nat_le, IfOk, OnErr};
 ghost use Rattle.std.specs.List.Sorted.{IsNonDecreasingBy};
 ghost use Rattle.arraydeque.specs.Deque.{keep_last};
 
@@ -31,6 +31,7 @@ impl<T: Drop, const CAP: usize> Journal<T, CAP> {
     /// A journal without an entry.
     pub fn new(alloc: Global) -> Result<Self, AllocError>
         ensures empty { IfOk result (λ journal. journal ≡ []) }
+        ensures refused { OnErr result (0 < CAP) }
     {
         let entries = ArrayDeque::new(alloc)?;
         Ok(Journal { entries })

@@ -2,7 +2,7 @@
 //!
 //! It uses `arraydeque` under `Saturating`, and is proved over the deque's public contract alone:
 //! whatever samples are in the window, the first peak is the largest.
-ghost use Rattle.std.specs.Prelude.{◌≡◌, ◌<◌, ◌++◌, ◌∷◌, [], ℕ, List, length, IfOk, IsOk, OnOk, OnErr};
+ghost use Rattle.std.specs.Prelude.{◌≡◌, ◌<◌, ◌++◌, ◌∷◌, [], ℕ, List, length, IfOk, IfErr, IsOk, OnOk, OnErr};
 ghost use Rattle.uses.specs.Peaks.{largest, peaks_of};
 
 use arraydeque::{ArrayDeque, CapacityError, Saturating};
@@ -46,6 +46,7 @@ impl<const CAP: usize> Peaks<CAP> {
         ensures room { length self.old < CAP → IsOk result }
         ensures peaks { OnOk result ((samples : List ℕ) → self.old ≡ peaks_of samples →
             self.new ≡ peaks_of (samples ++ sample ∷ [])) }
+        ensures handed_back { IfErr result (λ refusal. refusal.element ≡ sample) }
     {
         while self.peaks.pop_back_if(|peak| *peak < sample).is_some() {}
         self.peaks.push_back(sample)

@@ -30,6 +30,7 @@ impl<T, const CAP: usize> Reorder<T, CAP> {
     /// A buffer in which no piece waits.
     pub fn new(alloc: Global) -> Result<Self, AllocError>
         ensures empty { IfOk result (λ reorder. reorder ≡ []) }
+        ensures refused { OnErr result (0 < CAP) }
     {
         let waiting = ArrayDeque::new(alloc)?;
         Ok(Reorder { waiting })
