@@ -17,8 +17,9 @@ pub some_weaker : {X : Type 0} {P Q : X → Type 0} (o : Option X) → IfSome o 
 some_weaker None holds weaker = tt
 some_weaker (Some x) holds weaker = weaker x holds
 
-adjacent_push : {X : Type 0} (R : X → X → Type 0) (xs : List X) (x : X) → AllAdjacentBelow R xs (length xs) → ((d : X)
-    → 0 < length xs → R (get_or xs (length xs - 1) d) x) → AllAdjacentBelow R (xs ++ x ∷ []) (length (xs ++ x ∷ []))
+pub adjacent_push : {X : Type 0} (R : X → X → Type 0) (xs : List X) (x : X) → AllAdjacentBelow R xs (length xs)
+    → ((d : X) → 0 < length xs → R (get_or xs (length xs - 1) d) x)
+    → AllAdjacentBelow R (xs ++ x ∷ []) (length (xs ++ x ∷ []))
 adjacent_push R xs x each last k d within =
     let many = length-append xs (x ∷ []) in
     elim (cases_lt (k + 1) (length xs)) [
@@ -32,7 +33,7 @@ adjacent_push R xs x each last k d within =
           (last d (omega (arith, end)))
     ]
 
-last_push : {X : Type 0} (xs : List X) (x d : X) → get_or (xs ++ x ∷ []) (length (xs ++ x ∷ []) - 1) d ≡ x
+pub last_push : {X : Type 0} (xs : List X) (x d : X) → get_or (xs ++ x ∷ []) (length (xs ++ x ∷ []) - 1) d ≡ x
 last_push xs x d =
     let end : length (xs ++ x ∷ []) - 1 ≡ length xs = omega (arith, length-append xs (x ∷ [])) in
     rw end (get_or-append_seam xs x [] d)

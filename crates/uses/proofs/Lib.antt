@@ -1,5 +1,6 @@
 pub mod Cut
 pub mod Grouped
+pub mod Merged
 pub mod Recent
 pub mod Rising
 pub mod Runs

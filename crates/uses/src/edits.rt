@@ -1,12 +1,13 @@
 //! Edits of a text, of which those of one kind in a row become one.
 //!
 //! It uses `arraydeque::lookahead::Scanner`, and is proved over the scanner's public contract
-//! alone: the runs, written out, are the edits, so none is lost.
-ghost use Rattle.std.specs.Prelude.{◌≡◌, ◌≢◌, ◌<◌, ◌≤◌, [], length, take, drop, slice_get, replicate, IfOk, IfSome, IfNone, ⊤};
+//! alone: the runs, written out, are the edits, so none is lost, and no two side by side could be
+//! one.
+ghost use Rattle.std.specs.Prelude.{◌≡◌, ◌≢◌, ◌<◌, ◌≤◌, [], length, take, drop, slice_get, replicate, All, IfOk, IfSome, IfNone, ⊤};
 ghost use Rattle.std.specs.Iterator.{IsFinite, MakesProgress};
 ghost use Rattle.std.specs.Option.{option_to_list};
 ghost use Rattle.arraydeque.specs.Lookahead.{HasRest, TakesOff, NextIs};
-ghost use Rattle.uses.specs.Edits.{written_out};
+ghost use Rattle.uses.specs.Edits.{written_out, AreMerged};
 
 use arraydeque::Iter;
 use arraydeque::lookahead::Scanner;
@@ -43,6 +44,8 @@ pub fn merge<I: Iterator<Item = Edit>, const AHEAD: usize>(
     requires ends { IsFinite edits.old.left }
     ensures none_lost { IfOk result (λ runs.
         HasRest I.next_gives edits.old (written_out runs.items)) }
+    ensures within { IfOk result (λ runs. All (λ run. run.count ≤ AHEAD) runs.items) }
+    ensures merged { IfOk result (λ runs. AreMerged AHEAD runs.items) }
 {
     let mut runs = Vec::new(alloc);
     while let Some(run) = next_run(edits) {
@@ -59,6 +62,8 @@ pub fn next_run<I: Iterator<Item = Edit>, const AHEAD: usize>(
     ensures taken { let runs = option_to_list result in
         TakesOff I.next_gives edits.old (written_out runs) edits.new }
     ensures over { IfNone result (HasRest I.next_gives edits.old []) }
+    ensures some { IfSome result (λ run. 0 < run.count) }
+    ensures within { IfSome result (λ run. run.count ≤ AHEAD) }
     ensures longest { IfSome result (λ run. run.count < AHEAD →
         NextIs I.next_gives (λ edit. edit ≢ run.edit) edits.new) }
     ensures goes { MakesProgress (λ _. ⊤) (λ s. s.left) edits.old result edits.new }

@@ -1,11 +1,20 @@
-use Rattle.std.specs.Iterator.{IsFinite, size}
-use Rattle.arraydeque.specs.Lookahead.{TakesOff}
-use Rattle.uses.specs.Edits.{written_out}
+use Rattle.std.{
+  proofs.Common.{◌≤◌, List, All},
+  specs.Iterator.{IsFinite, size},
+}
+use Rattle.arraydeque.specs.Lookahead.{HasRest, TakesOff}
+use Rattle.uses.{
+  proofs.Merged.AreMergedBefore,
+  specs.{declared.edits.Edit.Edit, Edits.written_out},
+}
 use Rattle.uses.proofs.edits.merge.Given as goal
 
 abbrev pub invariant-loop-run : goal.invariant-loop-run
 invariant-loop-run g l = record {
   taken : TakesOff g.I.Iterator.next_gives l.fn.edits (written_out l.runs.items) l.edits;
+  within : All (λ run. run.count ≤ g.row.AHEAD) l.runs.items;
+  merged : (rest : List Edit) → HasRest g.I.Iterator.next_gives l.edits rest
+      → AreMergedBefore g.row.AHEAD l.runs.items rest;
   ends : IsFinite l.edits.left;
 }
 
