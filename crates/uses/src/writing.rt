@@ -5,7 +5,7 @@
 //! A loan of several items has a name, which the lender follows, and no clause tells what this name
 //! has of what is written. So of the others a body that writes nothing would be proved too: tests
 //! show that they write.
-ghost use Rattle.std.specs.Prelude.{◌≡◌, ◌+◌, ◌-◌, ◌<◌, ◌≤◌, ◌↔◌, length, take, drop, slice_get, All, IsOk, IsSome, Some, pos};
+ghost use Rattle.std.specs.Prelude.{◌≡◌, ◌≢◌, ◌+◌, ◌-◌, ◌<◌, ◌≤◌, ◌↔◌, length, take, drop, slice_get, All, IsTrue, IsOk, IsSome, Some, pos};
 ghost use Rattle.arraydeque.specs.Deque.{last_item};
 
 use arraydeque::behavior::Behavior;
@@ -70,6 +70,8 @@ pub fn fill_until<const CAP: usize, B: Behavior>(
 ) -> bool
     ensures len { length deque.new.items ≡ length deque.old.items }
     ensures start { deque.new.start ≡ deque.old.start }
+    ensures found { IsTrue result → ¬ All (λ item. item ≢ stop) deque.old.items }
+    ensures none { ¬ IsTrue result → All (λ item. item ≢ stop) deque.old.items }
 {
     for found in deque.iter_mut() {
         if *found == stop {
