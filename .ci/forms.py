@@ -1,8 +1,7 @@
 """What must stand as it does in the sources, at every size, since no contract says it.
 
-A region stays whole, and its memory goes back whenever it is dropped. A call of the region makes just the raw reads,
-writes and loans that it counts. What asks for memory asks for as much as it needs, so that no refusal is of its own
-making. Items are dropped front to back.
+A region stays whole, and its memory goes back whenever it is dropped. What asks for memory asks for as much as it
+needs, so that no refusal is of its own making. Items are dropped front to back.
 """
 import re
 
@@ -10,16 +9,6 @@ from rattle import BRANCH, body
 
 TAKEN_APART = re.compile(r'\bSlots(?:::<.*>)? ?\{.*|\btype \w+.*\bSlots\b.*')
 OTHER_DROP = re.compile(r'\bDrop for (?!Slots<T> \{|Ring<T> \{).*')
-
-# The leaves of `slots/raw.rt` that make a step of each kind, and those that touch no item or count by themselves.
-LEAVES_OF = {
-    'Put': 'write',
-    'Take': 'read',
-    'Move': 'read write',
-    'Exchange': 'read read write write',
-    'Lend': 'lend',
-}
-NO_STEP = 'slice size_of_item without_memory with_memory give_back lend_two'.split()
 
 # For how much each of these asks.
 SIZES = {
@@ -60,21 +49,6 @@ def faults_of_regions(path, text):
         for found in [*TAKEN_APART.findall(text), *own]:
             yield f'{path}: a region is made or taken apart: {found}'
     yield from (f'{path}: another drop is written: {found}' for found in OTHER_DROP.findall(text))
-
-
-def faults_of_steps(functions):
-    """Which calls of the region touch places otherwise than they count."""
-    below = [name.split('::')[-1] for path, name, _ in functions if path.endswith(('/slots/raw.rt', '/slots/runs.rt'))]
-    touching = re.compile(rf'(?<!fn )\b({"|".join(set(below) - set(NO_STEP))})(?:::<.*?>)?\(')
-    for path, name, code in functions:
-        if path.endswith(('/slots.rt', '/slots/loan.rt')):
-            counted, called = re.findall(r'\bStepKind::(\w+)', code), touching.findall(code)
-            due = ' '.join(LEAVES_OF[kind] for kind in counted).split()
-            told = f'{path}: {name} counts {" ".join(counted) or "no step"}'
-            if sorted(leaf.removesuffix('_run') for leaf in called) != sorted(due):
-                yield f'{told}, and calls {" ".join(called) or "no leaf"}'
-            if counted and re.search(r'\b(?:for|while|loop)\b', body(code)):
-                yield f'{told}, and has a loop'
 
 
 def faults_of_sizes(functions):

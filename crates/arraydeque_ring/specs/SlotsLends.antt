@@ -18,13 +18,8 @@ two_lists R = Tuple (Array R 0 ∷ Array R 0 ∷ [])
 
 module _ (R : RattleType) (region : MutBor (Region R.Denot)) where
   module _ (place : ℕ) (r : MutBor R.Denot) where
-    -- the place ends with the value last written through r, and every other place as it was
-    abbrev pub lends_value : Fml
-    lends_value = Lends (the_row R) R region r (λ w. record region.now {
-      places = slice_set region.now.places place (Some w);
-    })
-
-    -- the same, and one lend is counted
+    -- the place ends with the value last written through r, every other place as it was, and one
+    -- lend is counted
     abbrev pub lends_place : Fml
     lends_place = Lends (the_row R) R region r (λ w. record {
       places = slice_set region.now.places place (Some w);
@@ -32,14 +27,8 @@ module _ (R : RattleType) (region : MutBor (Region R.Denot)) where
     })
 
   module _ (from : ℕ) (r : MutBor (List R.Denot)) where
-    -- the run from the place `from` on ends with the values last written through r, and every other
-    -- place as it was
-    abbrev pub lends_values : Fml
-    lends_values = Lends (the_row R) (Array R 0) region r (λ ws. record region.now {
-      places = with_run from (as_many r.now ws) region.now.places;
-    })
-
-    -- the same, and one lend is counted
+    -- the run from the place `from` on ends with the values last written through r, every other
+    -- place as it was, and one lend is counted
     abbrev pub lends_run : Fml
     lends_run = Lends (the_row R) (Array R 0) region r (λ ws. record {
       places = with_run from (as_many r.now ws) region.now.places;

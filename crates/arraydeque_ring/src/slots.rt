@@ -27,7 +27,6 @@ enum StepKind {
     Take,
     Move,
     Exchange,
-    Lend,
 }
 
 /// A region of places for values of type `T`, taken from the allocator at once and never grown.
@@ -65,8 +64,6 @@ unsafe impl<T: Send> Send for Slots<T> {}
 unsafe impl<T: Sync> Sync for Slots<T> {}
 
 impl<T> Slots<T> {
-    ghost use Rattle.arraydeque_ring.specs.SlotsLends.{lends_place};
-
     /// Returns a region of `capacity` empty places.
     ///
     /// It is refused if the allocator refuses the memory, or if the region would be larger than the
@@ -173,19 +170,7 @@ impl<T> Slots<T> {
         &self.slice(place, 1)[0]
     }
 
-    /// Lends the value in a place for writing. Requires a filled place. What is written through it
-    /// changes that place and no other.
-    #[inline]
-    pub fn get_mut(&mut self, place: usize) -> &mut T
-        requires { IsFilled self.old.places place }
-        ensures* writes_back { sem 𝓛 (lends_place T.row self.entry place result) }
-        ensures value { held_at self.old.places place ≡ Some result.now }
-    {
-        self.count(StepKind::Lend, 1);
-        self.lend(place)
-    }
-
-    /// Counts steps of a kind. It does nothing at run time.
+    /// Counts steps of a kind, but not what they read and write. It does nothing at run time.
     fn count(&mut self, kind: StepKind, times: usize)
         ensures { self.new ≡ record self.old { steps = counted kind times self.old.steps } }
     {}

@@ -6,10 +6,10 @@ ghost use Rattle.std.specs.Prelude.{◌≡◌, ◌-◌, ◌+◌, ◌^◌, ◌<�
 ghost use Rattle.std.specs.Borrow.{sem};
 ghost use Rattle.arraydeque_ring.specs.Loans.{AreApart};
 ghost use Rattle.arraydeque_ring.specs.Runs.{HoldsRun, IsFilledRun};
-ghost use Rattle.arraydeque_ring.specs.SlotsLends.{lends_run, lends_two_runs, lends_loan};
+ghost use Rattle.arraydeque_ring.specs.SlotsLends.{lends_two_runs, lends_loan};
 ghost use base.Fml.{GName};
 
-use super::{Slots, StepKind};
+use super::Slots;
 use std::marker::{Model, PhantomData, Send, Sync};
 
 /// The name of a loan, and nothing else. It takes no bytes.
@@ -78,20 +78,6 @@ impl<'a, T> Loan<'a, T> {
 }
 
 impl<T> Slots<T> {
-    /// Lends the values in the `len` places from the place `from` on, in order, for writing.
-    /// Requires filled places. An empty run may start at the capacity.
-    ///
-    /// Whatever is written, no place is filled or emptied, and no place outside the run changes.
-    #[inline]
-    pub fn slice_mut(&mut self, from: usize, len: usize) -> &mut [T]
-        requires { IsFilledRun self.old.places from len }
-        ensures* writes_back { sem 𝓛 (lends_run T.row self.entry from result) }
-        ensures values { HoldsRun self.old.places from len result.now }
-    {
-        self.count(StepKind::Lend, 1);
-        self.lend_run(from, len)
-    }
-
     /// Lends the values of two runs, in order, for writing. Requires filled places, and runs with
     /// none in common.
     ///

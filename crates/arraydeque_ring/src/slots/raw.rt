@@ -1,7 +1,7 @@
 //! The raw memory of a region: the one file with pointers.
 //!
 //! A leaf is a function of this file: it touches the memory, and its callers know its contract
-//! alone. No leaf counts a step, but for `lend_two`, which counts its two lends.
+//! alone. A leaf counts each read and write of a place, and each lend. No other function does.
 ghost use Rattle.std.specs.Prelude.{◌≡◌, ◌+◌, ◌*◌, ◌^◌, ◌<◌, ◌≤◌, length, take, drop, slice_set, Some, None, IfOk, true};
 ghost use Rattle.std.specs.Borrow.{sem};
 ghost use Rattle.std.specs.List.{splice};
@@ -11,7 +11,8 @@ ghost use Rattle.arraydeque_ring.specs.Loans.{AreApart};
 ghost use Rattle.arraydeque_ring.specs.Moved.{is_block, run_moved};
 ghost use Rattle.arraydeque_ring.specs.Places.{empty_region, held_at, IsFilled, IsEmpty, AreAllEmpty};
 ghost use Rattle.arraydeque_ring.specs.Runs.{IsEmptyRun, run_emptied, with_run, HoldsRun, IsFilledRun};
-ghost use Rattle.arraydeque_ring.specs.SlotsLends.{lends_value, lends_values, lends_loan};
+ghost use Rattle.arraydeque_ring.specs.SlotsLends.{lends_place, lends_run, lends_loan};
+ghost use Rattle.arraydeque_ring.specs.Steps.{more_transfers};
 
 use super::Slots;
 use super::loan::{Loan, LoanName};
@@ -24,8 +25,9 @@ impl<T> Slots<T> {
     /// Writes into an empty place.
     pub(super) fn write(&mut self, place: usize, value: T)
         requires { IsEmpty self.old.places place }
-        ensures { self.new ≡ record self.old {
+        ensures { self.new ≡ record {
           places = slice_set self.old.places place (Some value);
+          steps = more_transfers 1 self.old.steps;
         } }
     {
         unsafe { (self.ptr as *mut T).add(place).write(value) }
@@ -35,8 +37,9 @@ impl<T> Slots<T> {
     pub(super) fn read(&mut self, place: usize) -> T
         requires { IsFilled self.old.places place }
         ensures value { held_at self.old.places place ≡ Some result }
-        ensures region { self.new ≡ record self.old {
+        ensures region { self.new ≡ record {
           places = slice_set self.old.places place None;
+          steps = more_transfers 1 self.old.steps;
         } }
     {
         unsafe { self.ptr.add(place).read() }
@@ -47,8 +50,9 @@ impl<T> Slots<T> {
     pub(super) fn write_block<const N: usize>(&mut self, place: usize, values: [T; N])
         requires block { is_block N (type_size T.row) ≡ true }
         requires empty { IsEmptyRun self.old.places place N }
-        ensures { self.new ≡ record self.old {
+        ensures { self.new ≡ record {
           places = with_run place values self.old.places;
+          steps = more_transfers N self.old.steps;
         } }
     {
         unsafe { (self.ptr.add(place) as *mut [T; N]).write(values) }
@@ -61,8 +65,9 @@ impl<T> Slots<T> {
         requires block { is_block N (type_size T.row) ≡ true }
         requires filled { IsFilledRun self.old.places (src + at) N }
         requires target { dst + at + N ≤ length self.old.places }
-        ensures { self.new ≡ record self.old {
+        ensures { self.new ≡ record {
           places = run_moved (dst + at) (src + at) N self.old.places;
+          steps = more_transfers (2 * N) self.old.steps;
         } }
     {
         unsafe {
@@ -77,11 +82,13 @@ impl<T> Slots<T> {
     pub(super) fn copy_over(&mut self, from: usize, other: &mut Slots<T>, to: usize, len: usize)
         requires filled { IsFilledRun self.old.places from len }
         requires empty { IsEmptyRun other.old.places to len }
-        ensures here { self.new ≡ record self.old {
+        ensures here { self.new ≡ record {
           places = run_emptied from len self.old.places;
+          steps = more_transfers len self.old.steps;
         } }
-        ensures there { other.new ≡ record other.old {
+        ensures there { other.new ≡ record {
           places = splice other.old.places to (to + len) (take len (drop from self.old.places));
+          steps = more_transfers len other.old.steps;
         } }
     {
         unsafe { ptr::copy_nonoverlapping(self.ptr.add(from), (other.ptr as *mut T).add(to), len) }
@@ -93,17 +100,20 @@ impl<T> Slots<T> {
         requires filled { IsFilledRun self.old.places src len }
         requires target { dst + len ≤ length self.old.places }
         requires apart { AreApart src len dst len }
-        ensures { self.new ≡ record self.old {
+        ensures { self.new ≡ record {
           places = run_moved dst src len self.old.places;
+          steps = more_transfers (2 * len) self.old.steps;
         } }
     {
         unsafe { ptr::copy_nonoverlapping(self.ptr.add(src), (self.ptr as *mut T).add(dst), len) }
     }
 
-    /// Lends a place for writing.
-    pub(super) fn lend(&mut self, place: usize) -> &mut T
+    /// Lends the value in a place for writing. Requires a filled place. What is written through it
+    /// changes that place and no other.
+    #[inline]
+    pub fn get_mut(&mut self, place: usize) -> &mut T
         requires { IsFilled self.old.places place }
-        ensures* writes_back { sem 𝓛 (lends_value T.row self.entry place result) }
+        ensures* writes_back { sem 𝓛 (lends_place T.row self.entry place result) }
         ensures value { held_at self.old.places place ≡ Some result.now }
     {
         unsafe { &mut *(self.ptr as *mut T).add(place) }
@@ -119,16 +129,20 @@ impl<T> Slots<T> {
         unsafe { slice::from_raw_parts(self.ptr.add(from), len) }
     }
 
-    /// Lends a run of places for writing.
-    pub(super) fn lend_run(&mut self, from: usize, len: usize) -> &mut [T]
+    /// Lends the values in the `len` places from the place `from` on, in order, for writing.
+    /// Requires filled places. An empty run may start at the capacity.
+    ///
+    /// Whatever is written, no place is filled or emptied, and no place outside the run changes.
+    #[inline]
+    pub fn slice_mut(&mut self, from: usize, len: usize) -> &mut [T]
         requires { IsFilledRun self.old.places from len }
-        ensures* writes_back { sem 𝓛 (lends_values T.row self.entry from result) }
+        ensures* writes_back { sem 𝓛 (lends_run T.row self.entry from result) }
         ensures values { HoldsRun self.old.places from len result.now }
     {
         unsafe { slice::from_raw_parts_mut((self.ptr as *mut T).add(from), len) }
     }
 
-    /// Lends two runs of places for writing, which have no place in common, and counts two lends.
+    /// Lends two runs of places for writing, which have no place in common.
     pub(super) fn lend_two(&mut self, a: usize, a_len: usize, b: usize, b_len: usize) -> Loan<'_, T>
         requires a_filled { IsFilledRun self.old.places a a_len }
         requires b_filled { IsFilledRun self.old.places b b_len }

@@ -5,13 +5,13 @@
 //! blocks by `move_block`, in an order that overwrites no value that has still to move. Copies of a
 //! slice come in blocks. While values move or are exchanged one by one, the region is a local: its
 //! pointer is known to stay.
-ghost use Rattle.std.specs.Prelude.{◌≡◌, ◌+◌, ◌-◌, ◌<◌, ◌≤◌, length, take, drop, replicate, true, if◌then◌else◌, ◌==◌};
+ghost use Rattle.std.specs.Prelude.{◌≡◌, ◌+◌, ◌-◌, ◌*◌, ◌<◌, ◌≤◌, length, take, drop, replicate, true, if◌then◌else◌, ◌==◌};
 ghost use Rattle.std.specs.List.{splice};
 ghost use Rattle.std.specs.Mem.{type_size};
 ghost use Rattle.arraydeque_ring.specs.Moved.{MeetAtOneEndAtMost, IsFilledRound, IsFreeRound, CanCopy, CanMove, is_block, run_moved};
 ghost use Rattle.arraydeque_ring.specs.Ring.{place_of};
 ghost use Rattle.arraydeque_ring.specs.Runs.{runs_exchanged, with_run, IsEmptyRun, run_emptied, IsFilledRun};
-ghost use Rattle.arraydeque_ring.specs.Steps.{more_puts, more_takes, more_moves, more_exchanges};
+ghost use Rattle.arraydeque_ring.specs.Steps.{more_transfers, more_puts, more_takes, more_moves, more_exchanges};
 
 use super::raw::size_of_item;
 use super::{Slots, StepKind};
@@ -71,7 +71,7 @@ impl<T> Slots<T> {
         }
     }
 
-    /// Puts copies of any number of items of any size, in blocks, the largest first. No step is
+    /// Puts copies of any number of items of any size, in blocks, the largest first. No put is
     /// counted.
     #[tactic(auto, using(crate::proofs::fills::Copied::all_written))]
     #[inline(never)] // Seven loops, seldom run: without this, `stream` takes as long (±3 %).
@@ -80,7 +80,7 @@ impl<T> Slots<T> {
         T: Copy,
         requires { IsEmptyRun self.old.places from (length items.now) }
         ensures places { self.new.places ≡ with_run from items.now self.old.places }
-        ensures steps { self.new.steps ≡ self.old.steps }
+        ensures steps { self.new.steps ≡ more_transfers (length items.now) self.old.steps }
     {
         let put = self.put_blocks::<4096>(from, items, 0);
         let put = self.put_blocks::<1024>(from, items, put);
@@ -92,7 +92,7 @@ impl<T> Slots<T> {
     }
 
     /// Puts copies of narrow items: if fewer than 1024 come, in one block at most of each power of
-    /// two. No step is counted.
+    /// two. No put is counted.
     #[tactic(auto, using(crate::proofs::fills::Copied::all_written))]
     #[inline(always)] // No loops: `stream` of 16 and 256 bytes 7.5 and 16.3 ns, not 8.2 and 18.4.
     fn put_short(&mut self, from: usize, items: &[T])
@@ -101,7 +101,7 @@ impl<T> Slots<T> {
         requires narrow { type_size T.row ≤ 32 }
         requires empty { IsEmptyRun self.old.places from (length items.now) }
         ensures places { self.new.places ≡ with_run from items.now self.old.places }
-        ensures steps { self.new.steps ≡ self.old.steps }
+        ensures steps { self.new.steps ≡ more_transfers (length items.now) self.old.steps }
     {
         let put = self.put_block::<512>(from, items, 0);
         let put = self.put_block::<256>(from, items, put);
@@ -131,12 +131,13 @@ impl<T> Slots<T> {
         requires some { 0 < N }
         requires within { at ≤ length items.now }
         requires empty { IsEmptyRun self.old.places (from + at) (length items.now - at) }
+        ensures forth { at ≤ result }
         ensures within { result ≤ length items.now }
         ensures empty { IsEmptyRun self.new.places (from + result) (length items.now - result) }
         ensures all { N ≡ 1 → result ≡ length items.now }
         ensures written { with_run (from + result) (drop result items.now) self.new.places ≡
             with_run (from + at) (drop at items.now) self.old.places }
-        ensures steps { self.new.steps ≡ self.old.steps }
+        ensures steps { self.new.steps ≡ more_transfers (result - at) self.old.steps }
     {
         let mut put = at;
         if is_block::<T, N>() {
@@ -156,12 +157,13 @@ impl<T> Slots<T> {
         requires block { is_block N (type_size T.row) ≡ true }
         requires within { at ≤ length items.now }
         requires empty { IsEmptyRun self.old.places (from + at) (length items.now - at) }
+        ensures forth { at ≤ result }
         ensures within { result ≤ length items.now }
         ensures empty { IsEmptyRun self.new.places (from + result) (length items.now - result) }
         ensures some { N ≤ length items.now - at → result ≡ at + N }
         ensures written { with_run (from + result) (drop result items.now) self.new.places ≡
             with_run (from + at) (drop at items.now) self.old.places }
-        ensures steps { self.new.steps ≡ self.old.steps }
+        ensures steps { self.new.steps ≡ more_transfers (result - at) self.old.steps }
     {
         if items.len() - at < N {
             return at;
@@ -302,7 +304,10 @@ impl<T> Slots<T> {
     #[inline(never)] // Inlined, it made a move that passes no end up to 15 instructions longer.
     fn copy_in_parts(&mut self, dst: usize, src: usize, len: usize)
         requires { CanMove dst src len self.old.places }
-        ensures { self.new ≡ record self.old { places = run_moved dst src len self.old.places } }
+        ensures { self.new ≡ record {
+          places = run_moved dst src len self.old.places;
+          steps = more_transfers (2 * len) self.old.steps;
+        } }
     {
         let capacity = self.capacity();
         let (dst_end, src_end) = (capacity - dst, capacity - src);
@@ -326,7 +331,10 @@ impl<T> Slots<T> {
     #[inline(never)] // Inlined, it made `copy_in_parts` 1842 bytes of 346, and no rotation faster.
     fn copy(&mut self, dst: usize, src: usize, len: usize)
         requires { CanCopy dst src len self.old.places }
-        ensures { self.new ≡ record self.old { places = run_moved dst src len self.old.places } }
+        ensures { self.new ≡ record {
+          places = run_moved dst src len self.old.places;
+          steps = more_transfers (2 * len) self.old.steps;
+        } }
     {
         if len <= dst.abs_diff(src) {
             self.copy_apart(dst, src, len);
@@ -340,7 +348,10 @@ impl<T> Slots<T> {
     #[inline(never)] // Inlined, `rotate_half_half` of 16 places took 218 instructions, not 186.
     fn copy_blocks(&mut self, dst: usize, src: usize, len: usize)
         requires { CanCopy dst src len self.old.places }
-        ensures { self.new ≡ record self.old { places = run_moved dst src len self.old.places } }
+        ensures { self.new ≡ record {
+          places = run_moved dst src len self.old.places;
+          steps = more_transfers (2 * len) self.old.steps;
+        } }
     {
         if dst < src {
             let moved = self.move_first::<1024>(dst, src, len, 0);
@@ -367,12 +378,14 @@ impl<T> Slots<T> {
         requires up { src ≤ dst }
         requires can { CanCopy dst src len self.old.places }
         ensures can { CanCopy dst src result self.new.places }
-        ensures all { N ≡ 1 → self.new ≡ record self.old {
+        ensures all { N ≡ 1 → self.new ≡ record {
           places = run_moved dst src len self.old.places;
+          steps = more_transfers (2 * len) self.old.steps;
         } }
         ensures moved { run_moved dst src result self.new.places ≡
             run_moved dst src len self.old.places }
-        ensures steps { self.new.steps ≡ self.old.steps }
+        ensures within { result ≤ len }
+        ensures steps { self.new.steps ≡ more_transfers (2 * (len - result)) self.old.steps }
     {
         let mut moved = 0;
         if is_block::<T, N>() {
@@ -400,12 +413,14 @@ impl<T> Slots<T> {
         requires can { CanCopy (dst + from) (src + from) (len - from) self.old.places }
         ensures within { result ≤ len }
         ensures can { CanCopy (dst + result) (src + result) (len - result) self.new.places }
-        ensures all { N ≡ 1 → self.new ≡ record self.old {
+        ensures all { N ≡ 1 → self.new ≡ record {
           places = run_moved (dst + from) (src + from) (len - from) self.old.places;
+          steps = more_transfers (2 * (len - from)) self.old.steps;
         } }
         ensures moved { run_moved (dst + result) (src + result) (len - result) self.new.places ≡
             run_moved (dst + from) (src + from) (len - from) self.old.places }
-        ensures steps { self.new.steps ≡ self.old.steps }
+        ensures forth { from ≤ result }
+        ensures steps { self.new.steps ≡ more_transfers (2 * (result - from)) self.old.steps }
     {
         let mut moved = from;
         if is_block::<T, N>() {

@@ -16,7 +16,7 @@ use Rattle.arraydeque_ring.{
     },
     moved.Flat.length-moved,
   },
-  specs.Moved.run_moved,
+  specs.{Moved.run_moved, Steps.more_transfers},
 }
 use denote.Plain.{Nothing-Lawful}
 use Rattle.std.specs.contracts.ptr.copy_nonoverlapping as copy
@@ -37,7 +37,7 @@ copy_apart_spec 𝓤 𝓛 𝓜 𝓡 wired X L =
     let to = a.1.0 in let from = a.1.1.0 in let n = a.1.1.1.0 in let s = item_size E in
     first_fact ! (λ lives. first_fact ! (λ filled. first_fact ! (λ target. heard ! _ (λ apart.
     let within = filled.0 in let xs = filled.1.0 in
-    let new : Seen E = record { places = run_moved to from n ps; steps = r.steps } in
+    let new : Seen E = record { places = run_moved to from n ps; steps = more_transfers (2 * n) r.steps } in
     alloc_all ! (λ l. pass_all ! refl ((tt, tt), fit) $
     slots_open E ! tt r (λ g b o m ok.
     let from_near = near E ok from (omega arith) in let to_near = near E ok to (omega arith) in

@@ -1,4 +1,4 @@
-use Rattle.std.proofs.Common.{◌+◌, ◌-◌, ◌≤◌, refl, arith}
+use Rattle.std.proofs.Common.{◌+◌, ◌-◌, ◌≤◌, arith}
 use Rattle.arraydeque_ring.{
   proofs.{
     moved.TwoMoves.{StartsAt, Three, three},
@@ -41,7 +41,7 @@ returns-then-len-wrap_add g c = rw (
   c.copy-then-len-wrap_add.ensures,
   c.copy.ensures,
   ((copies g (goal.at.returns-then-len-wrap_add g c).After-wrap_add).0 (omega arith)).is,
-) refl
+) (grind arith)
 
 pub copy-requires-else-len-wrap_add : goal.copy-requires-else-len-wrap_add
 copy-requires-else-len-wrap_add g c =
@@ -61,4 +61,4 @@ returns-else-len-wrap_add g c = rw (
   c.copy-else-len-wrap_add-2.ensures,
   c.copy-else-len-wrap_add.ensures,
   ((copies g (goal.at.returns-else-len-wrap_add g c).After-wrap_add).1 (grind arith)).is,
-) refl
+) (grind arith)

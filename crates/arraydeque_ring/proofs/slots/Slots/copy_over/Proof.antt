@@ -14,7 +14,7 @@ use Rattle.arraydeque_ring.{
     Regions.{Sr, Seen, near, run_fits, slots_open, slots_close, scaled, item_size, array_out},
     Regions.{array_in, room_out, room_in},
   },
-  specs.Runs.run_emptied,
+  specs.{Runs.run_emptied, Steps.more_transfers},
 }
 use denote.Plain.{Nothing-Lawful}
 use Rattle.std.specs.contracts.ptr.copy_nonoverlapping as copy
@@ -40,8 +40,8 @@ copy_over_spec 𝓤 𝓛 𝓜 𝓡 wired X L =
     let us = take to ts ++ (take n (drop_list from ps) ++ drop_list (to + n) ts) in
     let es_long : length ps ≡ length es = grind (arith, common_steps) in
     let us_long : length ts ≡ length us = grind (arith, common_steps) in
-    let new : Seen E = record { places = es; steps = r.steps } in
-    let new' : Seen E = record { places = us; steps = r'.steps } in
+    let new : Seen E = record { places = es; steps = more_transfers n r.steps } in
+    let new' : Seen E = record { places = us; steps = more_transfers n r'.steps } in
     move ! (5 ∷ []) $ use1 𝓛 (‵ (flft κs.1.0 qs.1.0) ⊛ ‵ (flft κ₂ q₂) ⊛ ‵ ftrue) (id⊢ 𝓤 _) $ split ! $
     alloc_all ! (λ l. pass_all ! refl ((tt, tt), (fit.0, ((tt, tt), fit.1))) $ move ! (2 ∷ 3 ∷ 6 ∷ 4 ∷ 5 ∷ 0 ∷ []) $
     slots_open E ! tt r (λ g b o m ok. move ! (6 ∷ 7 ∷ 8 ∷ []) $ slots_open E ! tt r' (λ g' b' o' m' ok'.

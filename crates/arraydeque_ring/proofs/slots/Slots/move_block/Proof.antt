@@ -15,7 +15,7 @@ use Rattle.arraydeque_ring.{
     },
     moved.Flat.{length-moved, moved_parts},
   },
-  specs.{Moved.run_moved, Runs.run_emptied},
+  specs.{Moved.run_moved, Runs.run_emptied, Steps.more_transfers},
 }
 use Rattle.std.proofs.Math.Nat.{add-mul}
 use types.Run.{well_typed}
@@ -37,7 +37,7 @@ move_block_spec 𝓤 𝓛 𝓜 𝓡 wired X N L N_fits =
     let within = filled.0 in let xs = filled.1.0 in
     let es = run_emptied src N ps in
     let es_long : length es ≡ length ps = grind (arith, common_steps) in
-    let new : Seen E = record { places = run_moved dst src N ps; steps = r.steps } in
+    let new : Seen E = record { places = run_moved dst src N ps; steps = more_transfers (2 * N) r.steps } in
     alloc_all ! (λ l. pass_all ! refl ((tt, tt), fit) $
     slots_open E ! tt r (λ g b o n ok.
     let to_near = near E ok to (omega arith) in let from_near = near E ok from (omega arith) in

@@ -21,7 +21,8 @@ loop-moved-preserved g c =
       within = omega arith;
       can = can_copy (length-moved _ _ _ _) (omega arith) goes.second;
       moved = goes.is ∙ c.loop-moved.invariant.moved;
-      steps = c.loop-moved.invariant.steps;
+      forth = omega (arith, c.loop-moved.invariant.forth);
+      steps = grind (arith, c.loop-moved.invariant.steps);
     })
 
 pub returns-else-is_block-clause-all : goal.returns-else-is_block-clause-all
@@ -30,4 +31,4 @@ returns-else-is_block-clause-all g c = λ one. absurd (grind (arith, rw one at c
 pub returns-after-loop-moved-clause-all : goal.returns-after-loop-moved-clause-all
 returns-after-loop-moved-clause-all g c = λ one. all_moved (c.args.dst + c.loop-moved.moved)
     (c.args.src + c.loop-moved.moved) (c.args.len - c.loop-moved.moved) c.loop-moved.self
-    (omega arith) c.loop-moved.invariant.moved c.loop-moved.invariant.steps
+    (omega arith) c.loop-moved.invariant.moved (grind (arith, c.loop-moved.invariant.steps))

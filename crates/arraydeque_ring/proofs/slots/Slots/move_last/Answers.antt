@@ -19,13 +19,13 @@ loop-moved-preserved g c =
       within = omega arith;
       can = can_copy (length-moved _ _ _ _) (omega arith) goes.second;
       moved = goes.is ∙ c.loop-moved.invariant.moved;
-      steps = c.loop-moved.invariant.steps;
+      steps = grind (arith, c.loop-moved.invariant.steps);
     })
 
 pub returns-clause-all : goal.returns-clause-all
 returns-clause-all g c = λ one. elim c.if-is_block.branch [
   | then-is_block+else-loop-moved-test w ↦ w.self-is
       ∙ all_moved c.args.dst c.args.src (c.args.len - w.loop-moved.moved) w.loop-moved.self
-      (omega arith) w.loop-moved.invariant.moved w.loop-moved.invariant.steps
+      (omega arith) w.loop-moved.invariant.moved (grind (arith, w.loop-moved.invariant.steps))
   | else-is_block w ↦ absurd (grind (arith, rw one at c.is_block.ensures, w.if-is_block.false))
 ]

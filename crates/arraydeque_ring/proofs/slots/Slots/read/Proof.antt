@@ -13,6 +13,7 @@ use Rattle.arraydeque_ring.proofs.{
   places.Filled.filled_within,
 }
 use types.Run.{well_typed}
+use Rattle.arraydeque_ring.specs.Steps.{more_transfers}
 use Rattle.arraydeque_ring.specs.contracts.slots.Slots.read as f
 use Rattle.arraydeque_ring.proofs.slots.Slots.read.Statement as stated
 use Rattle.arraydeque_ring.proofs.slots.Slots.read.Code as code
@@ -28,7 +29,7 @@ read_spec 𝓤 𝓛 𝓜 𝓡 wired X L =
     alloc_all ! (λ l. pass_all ! refl ((tt, tt), fit) $
     slots_open E ! tt r (λ g b o n ok.
     let far = near E ok i (omega arith) in let at = i * item_size E + o in
-    let new : Seen E = record r { places = set r.places i None } in
+    let new : Seen E = record { places = set r.places i None; steps = more_transfers 1 r.steps } in
     place_out E ! b o r.places i within asked.1 $
     use1 𝓛 (some (λ v. ‵ (fat full_share (elτ E) b at v) ⊛ ‵ (X.own_val x (v ∷ []))))
     (part_out 𝓛 (R E) refl full_share x b at) $ pick ! (λ v. split ! $ well_typed ! (λ v_fits.

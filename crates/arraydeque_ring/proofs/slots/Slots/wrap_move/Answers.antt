@@ -1,4 +1,4 @@
-use Rattle.std.proofs.Common.{inl, inr, length, sym, arith}
+use Rattle.std.proofs.Common.{inl, inr, length, arith}
 use Rattle.arraydeque_ring.proofs.{
   moved.Flat.{distance_is, moved_nowhere, moved_one},
   places.Rotated.place_of-zero,
@@ -6,8 +6,7 @@ use Rattle.arraydeque_ring.proofs.{
 use Rattle.arraydeque_ring.proofs.slots.Slots.wrap_move.Goals as goal
 
 pub returns-then-dst-src-clause-places : goal.returns-then-dst-src-clause-places
-returns-then-dst-src-clause-places g c =
-    rw (← c.if-dst-src.true) (sym (moved_nowhere c.args.dst c.args.len c.args.self.now.places c.requires.dst_in_region))
+returns-then-dst-src-clause-places g c = grind (arith, moved_nowhere)
 
 pub shift-requires-clause-filled : goal.shift-requires-clause-filled
 shift-requires-clause-filled g c = rw (place_of-zero c.args.src (length c.args.self.now.places) (omega arith)) at

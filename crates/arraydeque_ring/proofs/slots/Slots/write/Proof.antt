@@ -10,6 +10,7 @@ use Rattle.arraydeque_ring.proofs.memory.{
   Regions.{scaled, Sr, Seen, near, slots_open, slots_close, item_size, place_out, place_in},
   Regions.place_owned,
 }
+use Rattle.arraydeque_ring.specs.Steps.{more_transfers}
 use Rattle.arraydeque_ring.specs.contracts.slots.Slots.write as f
 use Rattle.arraydeque_ring.proofs.slots.Slots.write.Statement as stated
 use Rattle.arraydeque_ring.proofs.slots.Slots.write.Code as code
@@ -25,7 +26,7 @@ write_spec 𝓤 𝓛 𝓜 𝓡 wired X L =
     alloc_all ! (λ l. pass_all ! refl ((tt, tt), (fit.0, (v_fits, tt))) $ move ! (0 ∷ 1 ∷ 3 ∷ []) $
     slots_open E ! tt r (λ g b o n ok.
     let far = near E ok i (omega arith) in let at = i * item_size E + o in
-    let new : Seen E = record r { places = set r.places i (Some x) } in
+    let new : Seen E = record { places = set r.places i (Some x); steps = more_transfers 1 r.steps } in
     place_out E ! b o r.places i within asked.1 $
     as_written ! (elτ E) b at $
     -- [the room; the other places; the right; the words; the open borrow, in three; what x owns; the other token]

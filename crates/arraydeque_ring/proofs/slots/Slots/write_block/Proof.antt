@@ -10,6 +10,7 @@ use Rattle.arraydeque_ring.proofs.memory.{
   Methods.{walked, mutable, comes_back, word, block, words},
   Regions.{Sr, Seen, near, slots_open, slots_close, scaled, item_size, array_in, room_out},
 }
+use Rattle.arraydeque_ring.specs.Steps.{more_transfers}
 use Rattle.arraydeque_ring.specs.contracts.slots.Slots.write_block as f
 use Rattle.arraydeque_ring.proofs.slots.Slots.write_block.Statement as stated
 use Rattle.arraydeque_ring.proofs.slots.Slots.write_block.Code as code
@@ -30,7 +31,10 @@ write_block_spec 𝓤 𝓛 𝓜 𝓡 wired X N L N_fits =
     alloc_all ! (λ l. pass_all ! refl ((tt, tt), (fit.0, (v_fits, tt))) $ move ! (0 ∷ 1 ∷ 3 ∷ []) $
     slots_open E ! tt r (λ g b o n ok.
     let far = near E ok i (omega arith) in let at = i * s + o in
-    let new : ℕ → Seen E = λ k. record r { places = take i ps ++ (map Some xs ++ drop_list (i + k) ps) } in
+    let new : ℕ → Seen E = λ k. record {
+      places = take i ps ++ (map Some xs ++ drop_list (i + k) ps);
+      steps = more_transfers N r.steps;
+    } in
     let same : length ps ≡ length (new N).places = grind (arith, common_steps, long) in
     room_out E ! b o ps i N within $
     -- [the room; the other places; the right; the words; the open borrow, in three; what the array owns;

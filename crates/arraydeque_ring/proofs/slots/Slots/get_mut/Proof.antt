@@ -1,23 +1,26 @@
--- `lend` lends the value in a filled place, and that place follows it. Assumes `Logic`.
-use Rattle.arraydeque_ring.proofs.{
-  memory.{
-    Called.{after_block, first_fact},
-    Kit.{feq_i, fjoin3, nothing, join, refl, sym, [], ◌∷◌, ◌+◌, ◌*◌, arith, set, length-set, Some},
-    Kit.{inst_fn, vptr, ‵, ◌$◌, ◌∵◌, !, qed, move, frame, suffices, done, whole, sub, look_in},
-    Kit.{of_opd, bin, load, addr, stop, fld, first, blocks, returns, alloc_all, pass_all, free_all},
-    Kit.{look_at, get, through, sets, sets_last, mem, says, El, R, args, heard},
-    Lent.slots_lend,
-    Methods.{method, spent},
-    Regions.{scaled, Sr, near, slots_open, item_size, Around, place_out, place_in, place_owned},
+-- `get_mut` lends the value in a filled place, and that place follows it. Assumes `Logic`.
+use Rattle.arraydeque_ring.{
+  proofs.{
+    memory.{
+      Called.{after_block, first_fact},
+      Kit.{feq_i, fjoin3, nothing, join, refl, sym, [], ◌∷◌, ◌+◌, ◌*◌, arith, set, length-set, Some},
+      Kit.{inst_fn, vptr, ‵, ◌$◌, ◌∵◌, !, qed, move, frame, suffices, done, whole, sub, look_in},
+      Kit.{of_opd, bin, load, addr, stop, fld, first, blocks, returns, alloc_all, pass_all, free_all},
+      Kit.{look_at, get, through, sets, sets_last, mem, says, El, R, args, heard},
+      Lent.slots_lend,
+      Methods.{method, spent},
+      Regions.{scaled, Sr, near, slots_open, item_size, Around, place_out, place_in, place_owned},
+    },
+    places.Filled.filled_within,
   },
-  places.Filled.filled_within,
+  specs.Steps.more_lends,
 }
-use Rattle.arraydeque_ring.specs.contracts.slots.Slots.lend as f
-use Rattle.arraydeque_ring.proofs.slots.Slots.lend.Statement as stated
-use Rattle.arraydeque_ring.proofs.slots.Slots.lend.Code as code
+use Rattle.arraydeque_ring.specs.contracts.slots.Slots.get_mut as f
+use Rattle.arraydeque_ring.proofs.slots.Slots.get_mut.Statement as stated
+use Rattle.arraydeque_ring.proofs.slots.Slots.get_mut.Code as code
 
-pub lend_spec : {M : Type 1} → stated.statement M
-lend_spec 𝓤 𝓛 𝓜 𝓡 wired X L =
+pub get_mut_spec : {M : Type 1} → stated.statement M
+get_mut_spec 𝓤 𝓛 𝓜 𝓡 wired X L =
     let E : El = record { row = X; laws = L } in let here = inst_fn (args E) code.function in
     method 1 1 (Sr E) 𝓛 (spent 1 𝓛 _) 𝓜 𝓡 _ _ (f.clauses X 𝓛 𝓜.mem 𝓡.returns) _ _
     (code.unfolded 𝓤 𝓛.H 𝓜 𝓡 wired (X, tt)) (λ κs qs bounds a _ typed post ends.
@@ -38,7 +41,10 @@ lend_spec 𝓤 𝓛 𝓜 𝓡 wired X L =
     sets ! (of_opd ! (get ! refl)) refl (tt, tt) $
     let at = i * item_size E + o in
     place_out E ! b o r.places i within asked.1 $
-    slots_lend E ! tt ok (mem (R E)) (λ w. record r { places = set r.places i (Some w) }) x at
+    slots_lend E ! tt ok (mem (R E)) (λ w. record {
+      places = set r.places i (Some w);
+      steps = more_lends 1 r.steps;
+    }) x at
     (λ w. sym (length-set r.places i (Some w)))
     (λ w. qed 𝓛 (‵ (place_owned (R E) b at (Some w)) ∷ ‵ (Around E 𝓛 b o r.places i 1) ∷ []) ∵
     place_in E ! b o r.places i within (Some w) $ done !) (λ δ. feq_i ! _ (vptr b at ∷ []) _ refl $ fjoin3 ! $

@@ -1,4 +1,4 @@
--- `lend_run` lends the values of a filled run, and the region follows them. Assumes `Logic`.
+-- `slice_mut` lends the values of a filled run, and the region follows them. Assumes `Logic`.
 use Rattle.arraydeque_ring.{
   proofs.{
     loans.{
@@ -20,14 +20,14 @@ use Rattle.arraydeque_ring.{
     },
     places.Filled.length_filled,
   },
-  specs.Runs.{as_many, with_run},
+  specs.{Runs.{as_many, with_run}, Steps.more_lends},
 }
-use Rattle.arraydeque_ring.specs.contracts.slots.Slots.lend_run as f
-use Rattle.arraydeque_ring.proofs.slots.Slots.lend_run.Statement as stated
-use Rattle.arraydeque_ring.proofs.slots.Slots.lend_run.Code as code
+use Rattle.arraydeque_ring.specs.contracts.slots.Slots.slice_mut as f
+use Rattle.arraydeque_ring.proofs.slots.Slots.slice_mut.Statement as stated
+use Rattle.arraydeque_ring.proofs.slots.Slots.slice_mut.Code as code
 
-pub lend_run_spec : {M : Type 1} → stated.statement M
-lend_run_spec 𝓤 𝓛 𝓜 𝓡 wired X L =
+pub slice_mut_spec : {M : Type 1} → stated.statement M
+slice_mut_spec 𝓤 𝓛 𝓜 𝓡 wired X L =
     let E : El = record { row = X; laws = L } in let here = inst_fn (args E) code.function in
     method 1 2 (Sr E) 𝓛 (spent 1 𝓛 _) 𝓜 𝓡 _ _ (f.clauses X 𝓛 𝓜.mem 𝓡.returns) _ _
     (code.unfolded 𝓤 𝓛.H 𝓜 𝓡 wired (X, tt)) (λ κs qs bounds a _ typed post ends.
@@ -51,7 +51,10 @@ lend_run_spec 𝓤 𝓛 𝓜 𝓡 wired X L =
     let at = from * item_size E + o in let Others = Around E 𝓛 b o ps from len in
     use1 𝓛 (‵ (places_owned (R E) b at (run ps from len)) ⊛ ‵ Others) (run_out E 𝓛 b o ps from len asked.0) $ split ! $
     as_values E b o ! from xs asked.1.1 long $
-    slots_lend E ! tt ok (Values E len) (λ ws. record r { places = with_run from (as_many xs ws) ps }) xs at
+    slots_lend E ! tt ok (Values E len) (λ ws. record {
+      places = with_run from (as_many xs ws) ps;
+      steps = more_lends 1 r.steps;
+    }) xs at
     (λ ws. sym (length-with_run from (as_many xs ws) ps (omega (arith, length-as_many xs ws)))) (λ ws.
     qed 𝓛 (‵ ((Values E len).own_at ws b at) ∷ ‵ Others ∷ []) ∵ as_places E b o ! from ws (λ same.
     use2 𝓛 (‵ (places_owned (R E) b o (placed from len (map Some ws) ps)))
