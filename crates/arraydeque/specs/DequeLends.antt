@@ -3,7 +3,7 @@ use Rattle.std.specs.{
   Borrow.{Fml, GName, RattleType, MutBor, Array, Lends, LendsIf, LendsBoth, fsep, follows},
   Borrow.follows_both,
   List.splice,
-  Prelude.{ℕ, ◌+◌, List, ◌++◌, take, drop, slice_set, Option},
+  Prelude.{ℕ, ◌+◌, ◌-◌, List, ◌++◌, length, take, drop, slice_set, Option},
 }
 use Rattle.arraydeque_ring.specs.{Loans.LoanState, Runs.as_many, Steps.more_lends}
 use Rattle.arraydeque.specs.{contracts.deque.ArrayDeque.the_row, Deque.DequeState}
@@ -71,5 +71,20 @@ module _ (T CAP B : RattleType) (deque : MutBor (DequeState T.Denot)) where
   abbrev pub lends_list : MutBor (List T.Denot) → Fml
   lends_list r = Lends (the_row T CAP B) (Array T 0) deque r (λ ws. record deque.now {
     items = as_many deque.now.items ws;
+    steps = more_lends 1 deque.now.steps;
+  })
+
+  -- the items in a slice of the first ones end as they were written, and one lend is counted, and
+  -- nothing else changes
+  abbrev pub lends_first : MutBor (List T.Denot) → Fml
+  lends_first r = Lends (the_row T CAP B) (Array T 0) deque r (λ ws. record deque.now {
+    items = as_many r.now ws ++ drop (length r.now) deque.now.items;
+    steps = more_lends 1 deque.now.steps;
+  })
+
+  -- the same of a slice of the others
+  abbrev pub lends_rest : MutBor (List T.Denot) → Fml
+  lends_rest r = Lends (the_row T CAP B) (Array T 0) deque r (λ ws. record deque.now {
+    items = take (length deque.now.items - length r.now) deque.now.items ++ as_many r.now ws;
     steps = more_lends 1 deque.now.steps;
   })

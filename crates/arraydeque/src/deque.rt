@@ -16,6 +16,7 @@ mod blocks;
 mod bytes;
 mod clone;
 mod compare;
+mod each;
 mod extend;
 mod lends;
 mod linearize;

@@ -58,8 +58,8 @@
 //!   policy: an iterator that ends.
 //! - `clone`: that the clone of an item is that item once more, as for numbers.
 //! - A call with an iterator or a closure: that it may be called. A search and `next_if` may always
-//!   call their closure, `retain` and `retain_mut` once on each item in turn, `pop_front_if` and
-//!   `pop_back_if` on the item at that end.
+//!   call their closure, `retain`, `retain_mut` and `for_each_mut` once on each item in turn,
+//!   `pop_front_if` and `pop_back_if` on the item at that end.
 //! - [`lookahead::Scanner`]: `peek(k)` a k below its capacity, `read_ahead(k)` a k up to it,
 //!   `ahead(k)` a k up to what it has read ahead, `next_if` a capacity above 0.
 //!
@@ -79,6 +79,7 @@
 //! | `linearize` | in place, by no more moves and exchanges, taken together, than items |
 //! | `front_mut`, `back_mut`, `get_mut` | no item |
 //! | `iter_mut`, `range_mut`, `as_mut_slices`, `as_mut_slice` | no item |
+//! | `for_each_mut`, `first_slice_mut`, `second_slice_mut` | no item |
 //! | a conversion to the other policy | no item |
 //!
 //! On a tie a rotation moves the first half of the list, and `insert`, `remove` and `drain` move

@@ -5,6 +5,7 @@ ghost use Rattle.arraydeque.specs.Deque.{as_ring, last_item};
 ghost use Rattle.arraydeque.specs.Range.{span_of};
 ghost use Rattle.arraydeque_ring.specs.Retained.{MayBeAsked, MayWrite};
 ghost use Rattle.arraydeque_ring.specs.Ring.{IsInOnePiece};
+ghost use Rattle.arraydeque_ring.specs.Written.{MayWriteEach};
 
 use arraydeque::behavior::Behavior;
 use arraydeque::{ArrayDeque, Drain, IntoIter, Iter, IterMut, MakeError, RangeArgument};
@@ -182,6 +183,27 @@ fn as_mut_slice<T, const CAP: usize, B: Behavior>(deque: &mut ArrayDeque<T, CAP,
     requires { IsInOnePiece (as_ring CAP deque.old) }
 {
     deque.as_mut_slice()
+}
+
+fn first_slice_mut<T, const CAP: usize, B: Behavior>(
+    deque: &mut ArrayDeque<T, CAP, B>,
+) -> &mut [T] {
+    deque.first_slice_mut()
+}
+
+fn second_slice_mut<T, const CAP: usize, B: Behavior>(
+    deque: &mut ArrayDeque<T, CAP, B>,
+) -> &mut [T] {
+    deque.second_slice_mut()
+}
+
+fn for_each_mut<T, const CAP: usize, B: Behavior, F: FnMut(&mut T) + Drop>(
+    deque: &mut ArrayDeque<T, CAP, B>,
+    f: F,
+)
+    requires { MayWriteEach F.FnMut f deque.old.items }
+{
+    deque.for_each_mut(f);
 }
 
 fn linearize<T, const CAP: usize, B: Behavior>(deque: &mut ArrayDeque<T, CAP, B>) {

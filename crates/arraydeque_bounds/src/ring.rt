@@ -3,6 +3,7 @@ ghost use Rattle.std.specs.Prelude.{◌≡◌, ◌+◌, ◌<◌, ◌≤◌, leng
 ghost use Rattle.std.specs.Iterator.{IsFinite};
 ghost use Rattle.arraydeque_ring.specs.Retained.{MayBeAsked, MayWrite};
 ghost use Rattle.arraydeque_ring.specs.Ring.{ClonesAreSame, IsInOnePiece};
+ghost use Rattle.arraydeque_ring.specs.Written.{MayWriteEach};
 
 use arraydeque_ring::slots::loan::{Loan, LoanName};
 use arraydeque_ring::{IntoIter, Ring};
@@ -82,6 +83,20 @@ fn as_mut_slice<T>(ring: &mut Ring<T>) -> &mut [T]
 
 fn as_mut_slices<T>(ring: &mut Ring<T>) -> (&mut [T], &mut [T]) {
     ring.as_mut_slices()
+}
+
+fn first_slice_mut<T>(ring: &mut Ring<T>) -> &mut [T] {
+    ring.first_slice_mut()
+}
+
+fn second_slice_mut<T>(ring: &mut Ring<T>) -> &mut [T] {
+    ring.second_slice_mut()
+}
+
+fn for_each_mut<T, F: FnMut(&mut T) + Drop>(ring: &mut Ring<T>, f: F)
+    requires { MayWriteEach F.FnMut f ring.old.items }
+{
+    ring.for_each_mut(f);
 }
 
 fn lend_part<T>(ring: &mut Ring<T>, from: usize, len: usize) -> Loan<'_, T>

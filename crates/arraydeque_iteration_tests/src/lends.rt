@@ -150,6 +150,31 @@ fn lends_slices(alloc: Global) -> Result<bool, Fail> {
     Ok(is_lent && is_pushed && is_cut && holds(&deque, &[2, 9, 1]))
 }
 
+/// Whether each item is called on once and in order, at each start, and one slice and the other
+/// keep what is written.
+fn is_written_in_place(alloc: Global) -> Result<bool, Fail> {
+    for start in 0..5 {
+        let mut deque = deque_at::<5>(alloc, start, &[1, 2, 3, 4])?;
+        let mut count = 0i64;
+        deque.for_each_mut(|item| {
+            count = count.wrapping_add(1);
+            *item = item.wrapping_mul(10).wrapping_add(count);
+        });
+        let is_called = holds(&deque, &[11, 22, 33, 44]);
+        let (front, rest) = deque.as_slices();
+        let (front, rest) = (front.len(), rest.len());
+        let is_cut = deque.first_slice_mut().len() == front;
+        deque.first_slice_mut().fill(1);
+        deque.second_slice_mut().fill(2);
+        let is_filled = deque.iter().filter(|item| **item == 1).count() == front
+            && deque.iter().rev().take(rest).all(|item| *item == 2);
+        if !(is_called && is_cut && is_filled && deque.len() == 4) {
+            return Ok(false);
+        }
+    }
+    Ok(true)
+}
+
 /// Whether both iterators lend what those of an array do.
 fn lends_as_an_array(alloc: Global) -> Result<bool, Fail> {
     let mut deque = deque_at::<3>(alloc, 0, &[0, 1, 2])?;
@@ -162,6 +187,7 @@ fn items_are_lent_for_writing(rt: HostRuntime) -> Result<(), Fail> {
     assert!(rt;
         lends_for_writing(rt.alloc())?
             && lends_slices(rt.alloc())?
+            && is_written_in_place(rt.alloc())?
             && lends_as_an_array(rt.alloc())?
     );
     Ok(())

@@ -10,3 +10,4 @@ pub mod moved
 pub mod Opened
 pub mod places
 pub mod retained
+mod Written

@@ -1,3 +1,4 @@
+pub mod Halves
 pub mod Lending
 pub mod Made
 pub mod Names

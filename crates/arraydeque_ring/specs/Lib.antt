@@ -14,3 +14,4 @@ pub mod Runs
 pub mod Sides
 pub mod SlotsLends
 pub mod Steps
+pub mod Written

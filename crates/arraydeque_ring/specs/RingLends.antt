@@ -3,7 +3,7 @@ use Rattle.std.specs.{
   Borrow.{Fml, GName, RattleType, MutBor, Array, Lends, LendsIf, LendsBoth, fsep, follows},
   Borrow.follows_both,
   List.splice,
-  Prelude.{ℕ, ◌+◌, List, ◌++◌, take, drop, slice_set, Option},
+  Prelude.{ℕ, ◌+◌, ◌-◌, List, ◌++◌, length, take, drop, slice_set, Option},
 }
 use Rattle.arraydeque_ring.specs.{
   contracts.ring.Ring.the_row,
@@ -76,5 +76,20 @@ module _ (R : RattleType) (ring : MutBor (RingState R.Denot)) where
   abbrev pub lends_list : MutBor (List R.Denot) → Fml
   lends_list r = Lends (the_row R) (Array R 0) ring r (λ ws. record ring.now {
     items = as_many ring.now.items ws;
+    steps = more_lends 1 ring.now.steps;
+  })
+
+  -- the items in a slice of the first ones end as they were written, and one lend is counted, and
+  -- nothing else changes
+  abbrev pub lends_first : MutBor (List R.Denot) → Fml
+  lends_first r = Lends (the_row R) (Array R 0) ring r (λ ws. record ring.now {
+    items = as_many r.now ws ++ drop (length r.now) ring.now.items;
+    steps = more_lends 1 ring.now.steps;
+  })
+
+  -- the same of a slice of the others
+  abbrev pub lends_rest : MutBor (List R.Denot) → Fml
+  lends_rest r = Lends (the_row R) (Array R 0) ring r (λ ws. record ring.now {
+    items = take (length ring.now.items - length r.now) ring.now.items ++ as_many r.now ws;
     steps = more_lends 1 ring.now.steps;
   })

@@ -12,6 +12,7 @@ ghost use Rattle.arraydeque_ring.specs.Ring.{empty_ring, place_of};
 ghost use Rattle.arraydeque_ring.specs.Steps.{more_puts, more_takes};
 
 mod copies;
+mod each;
 mod fill;
 pub mod into_iter;
 mod lends;

@@ -1,16 +1,52 @@
 //! Callers of what a deque or a ring lends for writing: by its contracts alone each knows the
 //! length afterwards, and most the start, whatever it wrote.
 //!
-//! Which values are there then, only the contract of [`fill_from`] says, which writes item by item.
-//! A loan of several items has a name, which the lender follows, and no clause tells what this name
-//! has of what is written. So of the others a body that writes nothing would be proved too: tests
-//! show that they write.
-ghost use Rattle.std.specs.Prelude.{◌≡◌, ◌≢◌, ◌+◌, ◌-◌, ◌<◌, ◌≤◌, ◌↔◌, length, take, drop, slice_get, All, IsTrue, IsOk, IsSome, Some, pos};
+//! Which values are there then, say the contracts of those that write by a closure, slice by slice,
+//! or by the index: [`add_to_each`], [`fill_each`], [`fill_slices`] and [`fill_from`]. The others
+//! hold a loan of several items. It has a name, which the lender follows, and no clause tells what
+//! this name has of what is written. So of the others a body that writes nothing would be proved
+//! too: tests show that they write.
+ghost use Rattle.std.specs.Prelude.{◌≡◌, ◌≢◌, ◌+◌, ◌-◌, ◌^◌, ◌<◌, ◌≤◌, ◌↔◌, length, map, take, drop, slice_get, All, IsTrue, IsOk, IsSome, Some, pos};
 ghost use Rattle.arraydeque.specs.Deque.{last_item};
 
 use arraydeque::behavior::Behavior;
 use arraydeque::{ArrayDeque, CapacityError, IterMut, Saturating, Wrapping};
 use arraydeque_ring::Ring;
+
+/// Adds `by` to each item. Requires sums that fit.
+pub fn add_to_each<const CAP: usize, B: Behavior>(deque: &mut ArrayDeque<u64, CAP, B>, by: u64)
+    requires { All (λ item. item + by < 2 ^ 64) deque.old.items }
+    ensures added { deque.new.items ≡ map (λ item. item + by) deque.old.items }
+    ensures len { length deque.new.items ≡ length deque.old.items }
+    ensures start { deque.new.start ≡ deque.old.start }
+{
+    deque.for_each_mut(
+        |item: &mut u64|
+            requires { item.old + by < 2 ^ 64 }
+        { *item += by },
+    );
+}
+
+/// Writes over each item, by a closure.
+pub fn fill_each<T: Copy + Drop, const CAP: usize, B: Behavior>(
+    deque: &mut ArrayDeque<T, CAP, B>,
+    x: T,
+)
+    ensures filled { deque.new.items ≡ map (λ _. x) deque.old.items }
+    ensures start { deque.new.start ≡ deque.old.start }
+{
+    deque.for_each_mut(|item| *item = x);
+}
+
+/// Writes over each item, by one slice and then the other.
+pub fn fill_slices<const CAP: usize, B: Behavior>(deque: &mut ArrayDeque<i64, CAP, B>, x: i64)
+    ensures filled { All (λ item. item ≡ x) deque.new.items }
+    ensures len { length deque.new.items ≡ length deque.old.items }
+    ensures start { deque.new.start ≡ deque.old.start }
+{
+    deque.first_slice_mut().fill(x);
+    deque.second_slice_mut().fill(x);
+}
 
 /// Writes over each item.
 pub fn fill<T: Copy + Drop, const CAP: usize, B: Behavior>(deque: &mut ArrayDeque<T, CAP, B>, x: T)

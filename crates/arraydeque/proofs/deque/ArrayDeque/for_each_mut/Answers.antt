@@ -1,0 +1,7 @@
+use Rattle.arraydeque_ring.specs.Written.{WritesAt}
+use Rattle.arraydeque.proofs.WrittenEach.{changed_each}
+use Rattle.arraydeque.proofs.deque.ArrayDeque.for_each_mut.Goals as goal
+
+pub returns-clause-changed : goal.returns-clause-changed
+returns-clause-changed g c = rw (← c.self.view_is)
+    (λ change says. changed_each (WritesAt g.F.FnMut) _ change says _ _ _ c.for_each_mut.ensures.in_turn)

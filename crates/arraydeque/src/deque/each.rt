@@ -1,0 +1,83 @@
+//! The items written in place: each by a closure, or those of one of the two slices.
+ghost use Rattle.std.specs.Prelude.{◌≡◌, ◌-◌, ◌≤◌, length, min, map, take, drop};
+ghost use Rattle.std.specs.Borrow.{sem};
+ghost use Rattle.std.specs.Fn.{CalledAtMut};
+ghost use Rattle.arraydeque_ring.specs.Steps.{more_lends};
+ghost use Rattle.arraydeque_ring.specs.Written.{MayWriteEach, WritesAt, WrittenInTurn};
+ghost use Rattle.arraydeque.specs.DequeLends.{lends_first, lends_rest};
+
+use super::ArrayDeque;
+use crate::behavior::Behavior;
+
+impl<T, const CAP: usize, B: Behavior> ArrayDeque<T, CAP, B> {
+    /// Calls `f` on each item in turn, front to back, for writing. The list ends as `f` left its
+    /// items.
+    ///
+    /// Start: stays. Steps: 2 lends.
+    ///
+    /// ```
+    /// let mut deque = ArrayDeque::<i64, 3, Saturating>::new(alloc)?;
+    /// deque.extend_back([1, 2, 3]);
+    /// deque.for_each_mut(|item| *item = item.saturating_mul(2));
+    /// assert!(rt; deque.into_vec()?.as_slice() == [2, 4, 6].as_slice());
+    /// ```
+    pub fn for_each_mut<F: FnMut(&mut T)>(&mut self, f: F)
+    where
+        F: Drop,
+        requires { MayWriteEach F.FnMut f self.old.items }
+        ensures in_turn { WrittenInTurn (WritesAt F.FnMut) f self.old.items self.new.items }
+        ensures changed { (change : T → T) → ((item : T) (after : F) (left : T) →
+            CalledAtMut F.FnMut f item tt after left → (left ≡ change item) × (after ≡ f))
+            → map change self.old.items ≡ self.new.items }
+        ensures len { length self.new.items ≡ length self.old.items }
+        ensures within { length self.new.items ≤ CAP }
+        ensures start { self.new.start ≡ self.old.start }
+        ensures steps { self.new.steps ≡ more_lends 2 self.old.steps }
+    {
+        self.ring.for_each_mut(f);
+    }
+
+    /// Returns the first of the two slices of [`ArrayDeque::as_slices`], for writing: the items
+    /// from the front to the region's end. They end as they were written.
+    ///
+    /// Start: stays. Steps: 1 lend.
+    ///
+    /// ```
+    /// let mut deque = ArrayDeque::<i64, 3, Saturating>::new(alloc)?;
+    /// deque.extend_back([2, 3]);
+    /// deque.extend_front([1]);
+    /// deque.first_slice_mut().fill(0);
+    /// assert!(rt; deque.into_vec()?.as_slice() == [0, 2, 3].as_slice());
+    /// ```
+    #[inline]
+    pub fn first_slice_mut(&mut self) -> &mut [T]
+        ensures* writes_back { sem 𝓛 (lends_first T.row CAP.row B.row self.entry result) }
+        ensures value { result.now ≡
+            take (min (length self.old.items) (CAP - self.old.start)) self.old.items }
+    {
+        let ring = &mut self.ring;
+        ring.first_slice_mut()
+    }
+
+    /// Returns the second of the two slices of [`ArrayDeque::as_slices`], for writing: the other
+    /// items, from the region's first place on. They end as they were written.
+    ///
+    /// Start: stays. Steps: 1 lend.
+    ///
+    /// ```
+    /// let mut deque = ArrayDeque::<i64, 3, Saturating>::new(alloc)?;
+    /// deque.extend_back([2, 3]);
+    /// deque.extend_front([1]);
+    /// deque.second_slice_mut().fill(0);
+    /// assert!(rt; deque.into_vec()?.as_slice() == [1, 0, 0].as_slice());
+    /// ```
+    #[inline]
+    pub fn second_slice_mut(&mut self) -> &mut [T]
+        ensures* writes_back { sem 𝓛 (lends_rest T.row CAP.row B.row self.entry result) }
+        ensures value { result.now ≡
+            drop (min (length self.old.items) (CAP - self.old.start)) self.old.items }
+    {
+        let ring = &mut self.ring;
+        ring.second_slice_mut()
+    }
+}
