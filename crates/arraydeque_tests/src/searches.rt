@@ -16,7 +16,8 @@ fn scan(items: &[i64], number: i64) -> Result<usize, usize> {
     Err(items.len())
 }
 
-/// Whether each search finds what a scan does, and asks at most `limit` times.
+/// Whether each search finds what a scan does, and asks at most `limit` times. A binary search asks
+/// once more, whether the item is the one at which it ended.
 fn searches_alike<const CAP: usize>(
     deque: &ArrayDeque<i64, CAP, Saturating>,
     items: &[i64],
@@ -44,7 +45,7 @@ fn searches_alike<const CAP: usize>(
     point == less
         && deque.binary_search(&number) == found
         && (by_order, by_key) == (found, found)
-        && (tests <= limit && orders <= limit && keys <= limit)
+        && (tests <= limit && orders <= limit + 1 && keys <= limit + 1)
 }
 
 /// One step more than halving takes: the first item of the second slice is asked about too.

@@ -1,63 +1,22 @@
-use Rattle.std.proofs.{Common.{length, ap, sym, ◌∙◌, of_calls, arith}, lemmas.List.length-append}
-use Rattle.arraydeque.proofs.{
-  deque.ArrayDeque.binary_search_by_key.Goals.{in-Some, in-None},
-  Searched.{answers_first, found_behind, missed_behind, searched_before},
-}
+use Rattle.std.proofs.Common.{◌≡◌, rules, of_calls, refl}
+use denote.Param.Always.{always_mut, mut_by}
+use Rattle.arraydeque.proofs.Searched.{answers_through}
 use Rattle.arraydeque.proofs.deque.ArrayDeque.binary_search_by_key.Goals as goal
 
-pub binary_search_by_key-requires : goal.binary_search_by_key-requires
-binary_search_by_key-requires g c = elim c.match-first.branch [
-  | in-Some w ↦ rw w.f-is (search of_calls)
-  | in-None w ↦ rw w.f-is c.requires
-]
+pub binary_search_by-requires : goal.binary_search_by-requires
+binary_search_by-requires g c = (
+  search rules,
+  mut_by _ (λ s. always_mut g.F.FnMut s.0.now) (λ s a i. i) (λ s a r t i e. search of_calls) _ c.requires,
+)
 
-pub returns-then-is_before-clause-position : goal.returns-then-is_before-clause-position
-returns-then-is_before-clause-position g c =
-    let front = c.as_slices.result.0.now in
-    let back = c.as_slices.result.1.now in
-    let found = c.binary_search_by_key.ensures in
-    rw (← c.as_slices.ensures.joined) (λ key says.
-    let ord = λ (y : g.row.T.Denot). g.K.Ord.cmp (key y) c.args.key.now in elim c.match-first.branch [
-      | in-Some w ↦
-          let item = rw w.in-Some.is at c.first.ensures.item in
-          let asked = answers_first g.F.FnMut says w.f.ensures in
-          searched_before ord front back _ found.bound
-          (λ some d. rw (← item.3.1 d, ← asked.0, ← w.cmp-order.ensures, ← w.order-is)
-          (sym c.is_gt-is_before.ensures ∙ c.if-is_before.true))
-          (found.position key (rw w.f-is asked.1))
-      | in-None w ↦
-          let none = rw w.in-None.is at c.first.ensures.item in
-          searched_before ord front back _ found.bound (λ some d. absurd (omega (arith, none.3)))
-          (found.position key (rw w.f-is says))
-    ])
+pub returns-clause-position : goal.returns-clause-position
+returns-clause-position g c = λ key says.
+    let order = λ (k : g.row.K.Denot). g.K.Ord.cmp k c.args.key.now in
+    c.binary_search_by.ensures.position (λ y. order (key y)) (answers_through g.F.FnMut _ (λ s. s.0.now)
+    (λ s. s.1.now ≡ c.args.key.now) order (λ s a r t called kept. search of_calls) key _ refl says)
 
-pub returns-in-Ok-clause-position : goal.returns-in-Ok-clause-position
-returns-in-Ok-clause-position g c =
-    let front = c.as_slices.result.0.now in
-    let back = c.as_slices.result.1.now in
-    let many = ap length c.as_slices.ensures.joined in
-    rw (← c.as_slices.ensures.joined) (λ key says.
-    let ord = λ (y : g.row.T.Denot). g.K.Ord.cmp (key y) c.args.key.now in elim c.match-first.branch [
-      | in-Some w ↦
-          let asked = answers_first g.F.FnMut says w.f.ensures in
-          found_behind ord front back _ _ (omega (arith, many, length-append front back))
-          (c.in-Ok.ensures.position key (rw w.f-is asked.1))
-      | in-None w ↦ grind arith
-    ])
-
-pub returns-in-Err-clause-position : goal.returns-in-Err-clause-position
-returns-in-Err-clause-position g c =
-    let front = c.as_slices.result.0.now in
-    let back = c.as_slices.result.1.now in
-    let many = ap length c.as_slices.ensures.joined in
-    rw (← c.as_slices.ensures.joined) (λ key says.
-    let ord = λ (y : g.row.T.Denot). g.K.Ord.cmp (key y) c.args.key.now in elim c.match-first.branch [
-      | in-Some w ↦
-          let item = rw w.in-Some.is at c.first.ensures.item in
-          let asked = answers_first g.F.FnMut says w.f.ensures in
-          missed_behind ord front back _ _ (omega (arith, many, length-append front back)) item.3.0
-          (λ d. rw (← item.3.1 d, ← asked.0, ← w.cmp-order.ensures, ← w.order-is)
-          (sym c.is_gt-is_before.ensures ∙ c.if-is_before.false))
-          (c.in-Err.ensures.position key (rw w.f-is asked.1))
-      | in-None w ↦ grind arith
-    ])
+pub returns-clause-first : goal.returns-clause-first
+returns-clause-first g c = λ key says.
+    let order = λ (k : g.row.K.Denot). g.K.Ord.cmp k c.args.key.now in
+    c.binary_search_by.ensures.first (λ y. order (key y)) (answers_through g.F.FnMut _ (λ s. s.0.now)
+    (λ s. s.1.now ≡ c.args.key.now) order (λ s a r t called kept. search of_calls) key _ refl says)
