@@ -104,6 +104,7 @@ impl<T, const CAP: usize, B: Behavior> ArrayDeque<T, CAP, B> {
     /// deque.rotate_left(1);
     /// assert!(rt; deque.into_vec()?.as_slice() == [2, 3, 4, 1].as_slice());
     /// ```
+    #[inline]
     pub fn rotate_left(&mut self, count: usize)
         requires { count ≤ length self.old.items }
         ensures items { self.new.items ≡ drop count self.old.items ++ take count self.old.items }
@@ -134,6 +135,7 @@ impl<T, const CAP: usize, B: Behavior> ArrayDeque<T, CAP, B> {
     /// deque.rotate_right(1);
     /// assert!(rt; deque.into_vec()?.as_slice() == [4, 1, 2, 3].as_slice());
     /// ```
+    #[inline]
     pub fn rotate_right(&mut self, count: usize)
         requires { count ≤ length self.old.items }
         ensures items { let others = length self.old.items - count in

@@ -3,7 +3,7 @@ use Rattle.arraydeque_ring.proofs.{
   gaps.Turned.{fewest_rotate, may_turn, start_turned, turned, turned_full},
   Opened.{opened, bounds, Shows},
   places.Rotated.place_of-zero,
-  ring.Ring.rotate_left.{Given.Over, Goals.{After-close_gap-self-inside, Else-has_room}},
+  ring.Ring.rotate_left.{Given.Over, Goals.{After-close_room-slots, Else-has_room}},
 }
 use Rattle.arraydeque_ring.proofs.ring.Ring.rotate_left.Goals as goal
 
@@ -17,21 +17,31 @@ returns-then-count-eq0-clause-fewest g c =
     rw (← returns-then-count-eq0-clause-start g c) at
     (fewest_rotate c.args.count (length old.items) old.capacity old.start (omega arith) c.requires (omega arith))
 
-pub close_gap-self-inside-requires : goal.close_gap-self-inside-requires
-close_gap-self-inside-requires g c =
+pub close_room-slots-requires : goal.close_room-slots-requires
+close_room-slots-requires g c =
     let ring = opened c.self.inside c.self.invariant c.self.view_is in
-    rw (c.wrap_add-first.ensures, c.capacity-capacity.ensures ∙ ring.laid.length_is)
+    rw (c.move_out.ensures.region, c.wrap_add-first.ensures, c.capacity-capacity.ensures ∙ ring.laid.length_is)
     (may_turn ring c.args.count c.requires (omega arith) (omega arith))
 
-after : (g : Over) (c : After-close_gap-self-inside g) → let old = c.args.self.now in
-    Shows old.capacity c.close_gap-self-inside.result c.self.inside.len
-    (drop c.args.count old.items ++ take c.args.count old.items) c.close_gap-self-inside.new.slots.places
+after : (g : Over) (c : After-close_room-slots g) → let old = c.args.self.now in
+    Shows old.capacity c.close_room-slots.result.1 c.self.inside.len
+    (drop c.args.count old.items ++ take c.args.count old.items) c.close_room-slots.result.0.places
 after g c =
     let ring = opened c.self.inside c.self.invariant c.self.view_is in
-    let moved = c.close_gap-self-inside.ensures in
+    let moved = c.close_room-slots.ensures in
     turned ring c.args.count c.requires (omega arith) _ _
-    (rw (c.wrap_add-first.ensures, c.capacity-capacity.ensures, ring.laid.length_is) at moved.start)
-    (rw (c.wrap_add-first.ensures, c.capacity-capacity.ensures, ring.laid.length_is) at moved.places)
+    (rw (
+      c.move_out.ensures.region,
+      c.wrap_add-first.ensures,
+      c.capacity-capacity.ensures,
+      ring.laid.length_is,
+    ) at moved.start)
+    (rw (
+      c.move_out.ensures.region,
+      c.wrap_add-first.ensures,
+      c.capacity-capacity.ensures,
+      ring.laid.length_is,
+    ) at moved.places)
 
 full : (g : Over) (c : Else-has_room g) → let old = c.args.self.now in
     Shows old.capacity c.wrap_add-first.result c.self.inside.len
@@ -42,22 +52,25 @@ full g c =
     (turned_full ring c.args.count c.requires (omega arith) (omega arith))
 
 pub invariant_of-self : goal.invariant_of-self
-invariant_of-self g c = let now = after g c.before in (now.1, now.2)
+invariant_of-self g c = let now = after g (goal.at.invariant_of-self g c).After-close_room-slots in (now.1, now.2)
 
 pub invariant_of-self-else-has_room : goal.invariant_of-self-else-has_room
 invariant_of-self-else-has_room g c = let now = full g c in (now.1, now.2)
 
 pub returns-then-has_room-clause-items : goal.returns-then-has_room-clause-items
-returns-then-has_room-clause-items g c = (after g c.before).3
+returns-then-has_room-clause-items g c =
+    (after g (goal.at.returns-then-has_room-clause-items g c).After-close_room-slots).3
 
 pub returns-then-has_room-clause-capacity : goal.returns-then-has_room-clause-capacity
-returns-then-has_room-clause-capacity g c = (after g c.before).0
+returns-then-has_room-clause-capacity g c =
+    (after g (goal.at.returns-then-has_room-clause-capacity g c).After-close_room-slots).0
 
 pub returns-then-has_room-clause-start : goal.returns-then-has_room-clause-start
 returns-then-has_room-clause-start g c =
     let ring = opened c.self.inside c.self.invariant c.self.view_is in
     rw (
-      c.close_gap-self-inside.ensures.start,
+      c.close_room-slots.ensures.start,
+      c.move_out.ensures.region,
       c.wrap_add-first.ensures,
       c.capacity-capacity.ensures,
       ring.laid.length_is,
