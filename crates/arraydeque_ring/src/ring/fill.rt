@@ -37,19 +37,12 @@ impl<T> Ring<T> {
         ensures goes { GoesOn I.can_next I.remaining elements.old elements.new result }
     {
         let capacity = self.slots.capacity();
-        let to_end = capacity - self.start;
         let mut slots = self.slots.move_out();
         let mut ended = false;
-        if self.len < to_end {
-            let len = to_end - self.len;
-            let (written, filled) = fill_up(slots, self.start + self.len, len, elements);
-            slots = written;
-            self.len += filled;
-            ended = filled < len;
-        }
-        if !ended && self.len < capacity {
-            let len = capacity - self.len;
-            let (written, filled) = fill_up(slots, self.len - to_end, len, elements);
+        while !ended && self.len < capacity {
+            let from = wrap_add(self.start, self.len, capacity);
+            let len = (capacity - self.len).min(capacity - from);
+            let (written, filled) = fill_up(slots, from, len, elements);
             slots = written;
             self.len += filled;
             ended = filled < len;
@@ -85,17 +78,14 @@ impl<T> Ring<T> {
         let capacity = self.slots.capacity();
         let mut slots = self.slots.move_out();
         let mut ended = false;
-        if self.start > 0 {
-            let len = (capacity - self.len).min(self.start);
-            let (written, filled) = fill_down(slots, self.start, len, elements);
-            slots = written;
-            self.start -= filled;
-            self.len += filled;
-            ended = filled < len;
-        }
-        if !ended && self.len < capacity {
-            let len = capacity - self.len;
-            let (written, filled) = fill_down(slots, capacity, len, elements);
+        while !ended && self.len < capacity {
+            let from = if self.start == 0 {
+                capacity
+            } else {
+                self.start
+            };
+            let len = (capacity - self.len).min(from);
+            let (written, filled) = fill_down(slots, from, len, elements);
             slots = written;
             self.start = wrap_add(self.start, capacity - filled, capacity);
             self.len += filled;
