@@ -7,7 +7,7 @@ from textwrap import dedent
 ROOT = Path(__file__).resolve().parent.parent
 LIBRARIES = ('arraydeque_ring', 'arraydeque')
 FIRST = 'A first program'
-STEPS = 'In a repository of your own'
+START = ROOT / 'docs/START.md'
 FENCE = re.compile(r'^( *)```([^\n`]*)\n(.*?)^\1```$', re.M | re.S)
 
 
