@@ -1,13 +1,17 @@
-//! Writes figures.md, chart.svg, and between marks the tables of README and of the bench's page: of what was measured, and
-//! of the causes that are written by hand.
+//! Writes figures.md, chart.svg, README's picture, and between marks the tables of README and of the bench's page: of
+//! what was measured, and of the causes that are written by hand.
 mod chart;
 mod figures;
+mod summaries;
 mod tables;
 
 use std::io::{Error, Result};
 
 /// A page's lines between these marks are written here.
 const MARKS: [&str; 2] = ["<!-- written by bench/run --draw -->\n", "<!-- up to here -->\n"];
+
+/// README's picture, as README names it.
+const PICTURE: &str = "docs/speed.svg";
 
 /// Writes a text between the marks of a page.
 fn write_between_marks(path: &str, text: &str) -> Result<()> {
@@ -17,17 +21,26 @@ fn write_between_marks(path: &str, text: &str) -> Result<()> {
     std::fs::write(path, [head, MARKS[0], "\n", text, "\n", MARKS[1], tail].concat())
 }
 
+/// When, at which commit and by what the rows were measured.
+fn when() -> Result<String> {
+    let text = std::fs::read_to_string(figures::TIMES)?;
+    let when = text.lines().find_map(|line| line.strip_prefix(figures::WHEN));
+    when.map(str::to_string).ok_or_else(|| Error::other(format!("{} doesn't say when", figures::TIMES)))
+}
+
+/// Fails if a list that has to be empty names something.
+fn fail_of(what: &str, names: &[String]) -> Result<()> {
+    if names.is_empty() { Ok(()) } else { Err(Error::other(format!("{what}: {}", names.join(", ")))) }
+}
+
 fn main() -> Result<()> {
     let all = figures::load(figures::TIMES)?;
-    let summaries = tables::by_workload(&all);
-    std::fs::write("figures.md", tables::page(&all, &summaries)?)?;
-    std::fs::write("chart.svg", chart::drawn(&summaries))?;
-    write_between_marks("../README.md", &tables::by_task(&all))?;
-    write_between_marks("README.md", &tables::of_all(&all))?;
-    let unexplained = tables::unexplained(&all)?;
-    if unexplained.is_empty() {
-        Ok(())
-    } else {
-        Err(Error::other(format!("causes.csv has no cause above {} of: {}", figures::LONG, unexplained.join(", "))))
-    }
+    fail_of("summaries.rs has no task of", &summaries::without_task(&all))?;
+    let workloads = summaries::by_workload(&all);
+    std::fs::write("figures.md", tables::page(&all, &workloads)?)?;
+    std::fs::write("chart.svg", chart::of_workloads(&workloads))?;
+    std::fs::write(format!("../{PICTURE}"), chart::of_tasks(&summaries::by_task(&all)))?;
+    write_between_marks("../README.md", &tables::of_tasks(&all, PICTURE))?;
+    write_between_marks("README.md", &tables::of_all(&all, &when()?))?;
+    fail_of(&format!("causes.csv has no cause above {} of", figures::LONG), &tables::unexplained(&all)?)
 }

@@ -4,6 +4,9 @@ use std::io::{Error, Result};
 /// Where the least times are written.
 pub const TIMES: &str = "figures.csv";
 
+/// What begins a file's line that says when, at which commit and by what its rows were measured.
+pub const WHEN: &str = "# ";
+
 /// How much of the better peer's time is long.
 pub const LONG: f64 = 1.5;
 
@@ -36,7 +39,7 @@ pub fn geometric_mean(ratios: impl Iterator<Item = f64>) -> f64 {
 
 pub fn load(path: &str) -> Result<Vec<Figures>> {
     let text = std::fs::read_to_string(path)?;
-    let all: Option<Vec<Figures>> = text.lines().skip(1).map(read).collect();
+    let all: Option<Vec<Figures>> = text.lines().filter(|line| !line.starts_with(WHEN)).skip(1).map(read).collect();
     all.ok_or_else(|| Error::other(format!("a line of {path} isn't one")))
 }
 

@@ -307,7 +307,7 @@ fn measure(wanted: &str, repetitions: usize, writes: bool) -> std::io::Result<()
     println!("{}", times::HEAD);
     all.iter().for_each(|row| println!("{}", times::line(row)));
     println!("{}", times::mean_line(&all));
-    if writes && wanted.is_empty() { std::fs::write(figures::TIMES, times::csv(&all)) } else { Ok(()) }
+    if writes && wanted.is_empty() { times::write(&all) } else { Ok(()) }
 }
 
 /// Prints what so many rounds of `VecDeque` come to, in the workloads whose names hold the words.

@@ -1,107 +1,81 @@
-//! The figures as tables: by workload, and what costs the rows that take long.
-use crate::figures::{Figures, LONG, geometric_mean};
+//! The figures as tables: by task, by workload, and what costs the rows that take long.
+use crate::figures::{Figures, LONG};
+use crate::summaries::{Span, Summary, TASKS, Task};
 use std::fmt::Write;
 use std::io::Result;
+use std::ops::RangeInclusive;
 
-/// From how much of the better peer's time on a cause is looked for.
+/// From how much of the better peer's time on a cause is looked for, and a row counts as slower.
 const LONGER: f64 = 1.1;
 
-/// Where the causes are written, by hand: the rows above `LONG` or above `LONGER`, their workloads, and what costs them.
+/// Where the causes are written, by hand: the workloads of rows above `LONG` or above `LONGER`, and what costs them.
 const CAUSES: &str = "causes.csv";
 
 /// The workloads in which a vector goes in or out, which `VecDeque` hands over whole.
 const OF_VECTORS: [&str; 3] = ["from_vec", "into_vec", "vec_and_back"];
 
-/// The workload, without the bytes of an item and the capacity.
-fn workload(row: &Figures) -> &str {
-    row.name.split(',').next().unwrap_or_default()
-}
+/// The capacities that README's table tells apart beside the Rust crate.
+const CAPACITIES: [RangeInclusive<usize>; 3] = [16..=16, 64..=64, 1000..=usize::MAX];
 
-/// Some rows, beside one peer.
-pub struct Span {
-    pub mean: f64,
-    pub least: f64,
-    pub greatest: f64,
-    slower: usize,
-}
+/// What README tells in nanoseconds: a `push_back` with a `pop_front`, and a vector in and back.
+const QUEUES: [(&str, &str); 2] =
+    [("1,024", "queue, 8 bytes, capacity 1024"), ("1,000", "queue, 8 bytes, capacity 1000")];
+const VECTOR: &str = "vec_and_back, 64 bytes, capacity 1024";
 
-impl Span {
-    fn of(rows: &[&Figures], peer: usize) -> Span {
-        let ratios = || rows.iter().map(|row| row.ratio(peer));
-        Span {
-            mean: geometric_mean(ratios()),
-            least: ratios().fold(f64::INFINITY, f64::min),
-            greatest: ratios().fold(0.0, f64::max),
-            slower: ratios().filter(|&ratio| ratio > 1.0).count(),
-        }
+/// A row of README's table: the means beside the crate by capacity, the mean beside `VecDeque`, and what is worst.
+fn task_line(name: &str, rows: &[&Figures], worst: &str) -> String {
+    let mut line = format!("| {name} ({}) |", rows.len());
+    for capacities in &CAPACITIES {
+        let some: Vec<&Figures> = rows.iter().copied().filter(|row| capacities.contains(&row.capacity())).collect();
+        let mean = if some.is_empty() { String::new() } else { format!("{:.2} ", Span::of(&some, 0).mean) };
+        let _ = write!(line, " {mean}|");
     }
+    let _ = writeln!(line, " {:.2} |{worst} |", Span::of(rows, 1).mean);
+    line
 }
 
-/// Some rows by their name, beside the Rust crate and beside `VecDeque`.
-pub struct Summary {
-    pub name: String,
-    rows: usize,
-    pub beside: [Span; 2],
+/// In how many rows our time is above that part of the crate's, and of `VecDeque`'s.
+fn above(all: &[Figures], limit: f64) -> [usize; 2] {
+    [0, 1].map(|peer| all.iter().filter(|row| row.ratio(peer) > limit).count())
 }
 
-impl Summary {
-    fn of(name: &str, rows: &[&Figures]) -> Summary {
-        Summary { name: name.to_string(), rows: rows.len(), beside: [0, 1].map(|peer| Span::of(rows, peer)) }
-    }
-
-    /// The row of the table by workload.
-    fn line(&self) -> String {
-        let mut line = format!("| {} | {} |", self.name, self.rows);
-        for Span { mean, least, greatest, slower } in &self.beside {
-            let _ = write!(line, " {mean:.2} | {least:.2} | {greatest:.2} | {slower} |");
-        }
-        line
-    }
+/// What stands behind README's ratios: how many are how great, and some times.
+fn behind(all: &[Figures]) -> String {
+    let times = |name: &str| {
+        let row = all.iter().find(|row| row.name == name);
+        row.unwrap_or_else(|| panic!("no row is {name}")).columns
+    };
+    let [[rust_slower, std_slower], [rust_twice, std_twice]] = [LONGER, 2.0].map(|limit| above(all, limit));
+    let [one, other] = QUEUES.map(|(places, name)| {
+        let [ours, rust, std] = times(name);
+        format!("{ours:.1} ns at {places} places, the crate's {rust:.1}, `VecDeque`'s {std:.1}")
+    });
+    let [ours, _, std] = times(VECTOR);
+    format!(
+        "In {rust_slower} of {} measurements it is more than a tenth slower than the crate, and in {std_slower} than \
+         `VecDeque`; in {rust_twice} and {std_twice} more than twice as slow. A `push_back` with a `pop_front` takes \
+         {one}; {other}. A vector handed over, and back, costs `VecDeque` {std:.0} ns, as it keeps the memory, and \
+         this deque a move of each item: {:.1} µs for 1,024 items of 64 bytes.\n",
+        all.len(),
+        ours / 1000.0,
+    )
 }
 
-/// The workloads, those first that take the least part of the Rust crate's time.
-pub fn by_workload(all: &[Figures]) -> Vec<Summary> {
-    let mut list: Vec<Summary> = Vec::new();
-    for name in all.iter().map(workload) {
-        if list.iter().all(|summary| summary.name != name) {
-            let rows: Vec<&Figures> = all.iter().filter(|row| workload(row) == name).collect();
-            list.push(Summary::of(name, &rows));
-        }
-    }
-    list.sort_by(|one, other| one.beside[0].mean.total_cmp(&other.beside[0].mean));
-    list
-}
-
-/// The table by workload, and what all rows come to.
-fn short_table(all: &[Figures], summaries: &[Summary]) -> String {
-    let rows: Vec<&Figures> = all.iter().collect();
-    let others: Vec<&Figures> = all.iter().filter(|row| !OF_VECTORS.contains(&workload(row))).collect();
-    let mut table = String::from(
-        "| Workload | rows | ours / crate | least | greatest | slower | ours / `VecDeque` | least | greatest | slower |\n\
-         |---|---|---|---|---|---|---|---|---|---|\n",
+/// README's part: a picture of all tasks, and a table of those that are common.
+pub fn of_tasks(all: &[Figures], picture: &str) -> String {
+    let mut text = format!(
+        "![our time divided by the Rust crate's and by VecDeque's, by task]({picture})\n\n\
+         | Task (measurements) | crate, 16 places | 64 | 1000 and more | `VecDeque` | worst of each |\n\
+         |---|---|---|---|---|---|\n"
     );
-    for summary in summaries {
-        table += &(summary.line() + "\n");
+    for task in TASKS.iter().filter(|task| task.is_in_table) {
+        let rows = task.rows(all);
+        let [rust, std] = [0, 1].map(|peer| Span::of(&rows, peer).greatest);
+        text += &task_line(task.name, &rows, &format!(" {rust:.1}, {std:.1}"));
     }
-    table += &(Summary::of("all", &rows).line() + "\n");
-    table += &(Summary::of("all but those of vectors", &others).line() + "\n");
-    table
+    text += &task_line("all", &all.iter().collect::<Vec<_>>(), "");
+    text + "\n" + &behind(all)
 }
-
-/// Tasks of README's table, with the workloads that do them.
-const TASKS: [(&str, &[&str]); 11] = [
-    ("in and out at the ends: `queue`, `ends`, `history`", &["queue", "ends", "history"]),
-    ("all items read: `iterate`, `rev`, `fold`", &["iterate", "rev", "fold"]),
-    ("an item by its index: `get`, `index`", &["get", "index"]),
-    ("`contains`", &["contains"]),
-    ("a slice added", &["extend_slice", "extend_lent"]),
-    ("`retain`", &["retain"]),
-    ("an item inserted and one removed", &["middle", "random"]),
-    ("rotations", &["rotate_full_one", "rotate_full_half", "rotate_half_one", "rotate_half_half"]),
-    ("a range drained", &["drain_middle", "drain_all", "drain_four", "drain_fold"]),
-    ("binary searches", &["search", "partition_point"]),
-    ("a vector in and out", &OF_VECTORS),
-];
 
 /// The row that takes the greatest part of a peer's time.
 fn worst_row(rows: &[&Figures], peer: usize) -> String {
@@ -109,49 +83,64 @@ fn worst_row(rows: &[&Figures], peer: usize) -> String {
     worst.map(|row| format!("{:.1} times (`{}`)", row.ratio(peer), row.name)).unwrap_or_default()
 }
 
-/// README's table: what a task takes, as a part of either peer's time, and where ours is slowest.
-pub fn by_task(all: &[Figures]) -> String {
-    let every: Vec<&Figures> = all.iter().collect();
-    let mut table = String::from("| Task (rows) | Rust crate | `VecDeque` |\n|---|---|---|\n");
-    for (task, works) in TASKS.iter().chain(&[("all", [].as_slice())]) {
-        let chosen = |row: &&Figures| works.is_empty() || works.contains(&workload(row));
-        let rows: Vec<&Figures> = all.iter().filter(chosen).collect();
-        let [rust, std] = Summary::of(task, &rows).beside;
-        let _ = writeln!(table, "| {task} ({}) | {:.2} | {:.2} |", rows.len(), rust.mean, std.mean);
-    }
-    let [rust, std] = Summary::of("all", &every).beside;
-    let [crate_worst, std_worst] = [0, 1].map(|peer| worst_row(&every, peer));
+/// A row of the table of the bench's page: what some rows come to, beside a peer.
+fn whole_line(whose: &str, rows: &[&Figures], peer: usize) -> String {
+    let count = |holds: fn(f64) -> bool| rows.iter().filter(|row| holds(row.ratio(peer))).count();
     format!(
-        "{table}\nIt is slower than the crate in {} rows, at worst {crate_worst}, and than `VecDeque` in {}, at worst \
-         {std_worst}.\n",
-        rust.slower, std.slower,
+        "| {whose} | {:.2} | {} | {} | {} | {} | {} |\n",
+        Span::of(rows, peer).mean,
+        count(|ratio| ratio < 0.9),
+        count(|ratio| (0.9..=LONGER).contains(&ratio)),
+        count(|ratio| ratio > LONGER),
+        count(|ratio| ratio > 2.0),
+        worst_row(rows, peer),
     )
 }
 
-/// The table of the bench's page: what all rows come to, beside either peer.
-pub fn of_all(all: &[Figures]) -> String {
+/// The table of the bench's page: when all was measured, and what it comes to, beside either peer.
+pub fn of_all(all: &[Figures], when: &str) -> String {
     let every: Vec<&Figures> = all.iter().collect();
-    let others: Vec<&Figures> = all.iter().filter(|row| !OF_VECTORS.contains(&workload(row))).collect();
-    let mut table = format!(
-        "{} rows of {} workloads:\n\n\
-         | Our time as a part of | geometric mean | rows in which ours is slower | worst row |\n|---|---|---|---|\n",
+    let others: Vec<&Figures> = all.iter().filter(|row| !OF_VECTORS.contains(&row.workload())).collect();
+    let workloads: usize = TASKS.iter().map(|task| task.workloads.len()).sum();
+    format!(
+        "{} rows of {workloads} workloads, measured {when}:\n\n\
+         | Our time as a part of | geometric mean | rows a tenth faster | within a tenth | a tenth slower \
+         | twice as slow | worst row |\n|---|---|---|---|---|---|---|\n{}{}{}",
         all.len(),
-        by_workload(all).len(),
-    );
-    for (whose, rows, peer) in [
-        ("the Rust crate's", &every, 0),
-        ("`VecDeque`'s", &every, 1),
-        ("`VecDeque`'s, but for vectors in and out", &others, 1),
-    ] {
-        let Span { mean, slower, .. } = Span::of(rows, peer);
-        let _ = writeln!(table, "| {whose} | {mean:.2} | {slower} | {} |", worst_row(rows, peer));
+        whole_line("the Rust crate's", &every, 0),
+        whole_line("`VecDeque`'s", &every, 1),
+        whole_line("`VecDeque`'s, but for vectors in and out", &others, 1),
+    )
+}
+
+/// A row of the table by workload.
+fn workload_line(summary: &Summary) -> String {
+    let mut line = format!("| {} | {} |", summary.name, summary.rows);
+    for Span { mean, least, greatest, slower } in &summary.beside {
+        let _ = write!(line, " {mean:.2} | {least:.2} | {greatest:.2} | {slower} |");
     }
+    line + "\n"
+}
+
+/// The table by workload, and what all rows come to.
+fn short_table(all: &[Figures], workloads: &[(&Task, Vec<Summary>)]) -> String {
+    let rows: Vec<&Figures> = all.iter().collect();
+    let others: Vec<&Figures> = all.iter().filter(|row| !OF_VECTORS.contains(&row.workload())).collect();
+    let mut table = String::from(
+        "| Workload | rows | ours / crate | least | greatest | slower | ours / `VecDeque` | least | greatest | slower |\n\
+         |---|---|---|---|---|---|---|---|---|---|\n",
+    );
+    for summary in workloads.iter().flat_map(|(_, list)| list) {
+        table += &workload_line(summary);
+    }
+    table += &workload_line(&Summary::of("all", &rows));
+    table += &workload_line(&Summary::of("all but those of vectors", &others));
     table
 }
 
 /// A workload with its greatest ratio and the count of its rows, if it has any of these.
 fn worst(name: &str, rows: &[&Figures]) -> Option<String> {
-    let ratios = || rows.iter().filter(|row| workload(row) == name).map(|row| row.worse_ratio());
+    let ratios = || rows.iter().filter(|row| row.workload() == name).map(|row| row.worse_ratio());
     let greatest = ratios().reduce(f64::max)?;
     Some(format!("`{name}` {greatest:.2} ({})", ratios().count()))
 }
@@ -177,7 +166,7 @@ fn causes(limit: f64) -> Result<Vec<Cause>> {
 fn without_cause(causes: &[Cause], rows: &[&Figures]) -> Vec<String> {
     let has_cause = |name: &str| causes.iter().any(|cause| cause.workloads.iter().any(|other| other == name));
     let mut others: Vec<String> =
-        rows.iter().map(|row| workload(row)).filter(|name| !has_cause(name)).map(str::to_string).collect();
+        rows.iter().map(|row| row.workload()).filter(|name| !has_cause(name)).map(str::to_string).collect();
     others.sort();
     others.dedup();
     others
@@ -205,7 +194,7 @@ pub fn unexplained(all: &[Figures]) -> Result<Vec<String>> {
 }
 
 /// The page of all tables.
-pub fn page(all: &[Figures], summaries: &[Summary]) -> Result<String> {
+pub fn page(all: &[Figures], workloads: &[(&Task, Vec<Summary>)]) -> Result<String> {
     let (long, shorter): (Vec<&Figures>, Vec<&Figures>) =
         all.iter().filter(|row| row.worse_ratio() > LONGER).partition(|row| row.is_long());
     Ok(format!(
@@ -223,6 +212,6 @@ pub fn page(all: &[Figures], summaries: &[Summary]) -> Result<String> {
         shorter.len(),
         causes_table(LONG, &long)?,
         causes_table(LONGER, &shorter)?,
-        short_table(all, summaries),
+        short_table(all, workloads),
     ))
 }

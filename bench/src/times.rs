@@ -1,5 +1,5 @@
 //! The times as they are printed, written, and kept between the programs that are linked at different places.
-use crate::figures::{Figures, geometric_mean, load};
+use crate::figures::{Figures, TIMES, WHEN, geometric_mean, load};
 use std::fmt::Write;
 use std::io::Result;
 
@@ -30,6 +30,12 @@ pub fn csv(all: &[Figures]) -> String {
         let _ = writeln!(csv, "{name};{ours:.6};{rust:.6};{std:.6}");
     }
     csv
+}
+
+/// Writes the times, and when, at which commit and by what they were measured, as `bench/run` says it.
+pub fn write(all: &[Figures]) -> Result<()> {
+    let when = std::env::var("ARRAYDEQUE_BENCH_WHEN").unwrap_or_default();
+    std::fs::write(TIMES, format!("{WHEN}{when}\n{}", csv(all)))
 }
 
 /// Keeps the times for the next program.
