@@ -192,7 +192,7 @@ fn into_vec<T>(ring: Ring<T>) -> Result<Vec<T>, Ring<T>> {
 }
 
 fn into_iter<T>(ring: Ring<T>) -> IntoIter<T> {
-    IntoIter::of(ring)
+    IntoIter::from_ring(ring)
 }
 
 fn drop<T: Drop>(_ring: Ring<T>) {}
@@ -239,12 +239,12 @@ fn displace_last<T: Drop, I: Iterator<Item = T>>(ring: &mut Ring<T>, elements: I
     ring.displace_last(elements);
 }
 
-fn of_vec<T: Drop>(alloc: Global, capacity: usize, items: Vec<T>) -> Result<Ring<T>, Vec<T>> {
-    Ring::of_vec(alloc, capacity, items)
+fn from_vec<T: Drop>(alloc: Global, capacity: usize, items: Vec<T>) -> Result<Ring<T>, Vec<T>> {
+    Ring::from_vec(alloc, capacity, items)
 }
 
-fn of_copies<T: Copy>(alloc: Global, items: &[T]) -> Result<Ring<T>, AllocError> {
-    Ring::of_copies(alloc, items.len(), items)
+fn from_slice<T: Copy>(alloc: Global, items: &[T]) -> Result<Ring<T>, AllocError> {
+    Ring::from_slice(alloc, items.len(), items)
 }
 
 fn resize<T: Copy>(ring: &mut Ring<T>, len: usize, value: T)

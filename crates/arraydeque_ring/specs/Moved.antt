@@ -46,8 +46,8 @@ module _ {X : Type 0} where
   abbrev pub run_moved : ℕ → ℕ → ℕ → List (Option X) → List (Option X)
   run_moved dst src len ps = map (held_after dst src len ps) (range_with_len 0 (length ps))
 
-  -- a run of len values from src on can be copied to the places from dst on: neither passes the end
-  pub record CanCopy (dst src len : ℕ) (ps : List (Option X)) : Type 0 where
+  -- a run of len values from src on can move to the places from dst on: neither passes the end
+  pub record CanMoveRun (dst src len : ℕ) (ps : List (Option X)) : Type 0 where
     pub target : dst + len ≤ length ps
     pub source : src + len ≤ length ps
     pub filled : IsFilledRound src len ps

@@ -33,7 +33,7 @@ use std::marker::Model;
 /// A ring of long-lived items goes where one of short-lived items is wanted:
 ///
 /// ```
-/// let ring: Ring<&'static str> = Ring::of_copies(alloc, 2, &["a"])?;
+/// let ring: Ring<&'static str> = Ring::from_slice(alloc, 2, &["a"])?;
 /// let word = format!(in alloc; "{}", 'b')?;
 /// let mut ring: Ring<&str> = ring;
 /// ring.push_back(word.as_str());
@@ -88,7 +88,7 @@ impl<T> Ring<T> {
     /// Returns how many items there are.
     ///
     /// ```
-    /// let ring = Ring::of_copies(alloc, 4, &[1, 2, 3])?;
+    /// let ring = Ring::from_slice(alloc, 4, &[1, 2, 3])?;
     /// assert!(rt; ring.len() == 3);
     /// ```
     #[inline]
@@ -103,7 +103,7 @@ impl<T> Ring<T> {
     /// Returns how many items there may be.
     ///
     /// ```
-    /// let ring = Ring::of_copies(alloc, 4, &[1, 2, 3])?;
+    /// let ring = Ring::from_slice(alloc, 4, &[1, 2, 3])?;
     /// assert!(rt; ring.capacity() == 4);
     /// ```
     #[inline]
@@ -177,7 +177,7 @@ impl<T> Ring<T> {
     /// item moves.
     ///
     /// ```
-    /// let mut ring = Ring::of_copies(alloc, 3, &[1, 2])?;
+    /// let mut ring = Ring::from_slice(alloc, 3, &[1, 2])?;
     /// assert!(rt; (ring.pop_front(), ring.pop_front()) == (Some(1), Some(2)));
     /// assert!(rt; ring.pop_front() == None);
     /// ```
@@ -205,7 +205,7 @@ impl<T> Ring<T> {
     /// Takes the last item off, if there is one. The start stays, and no kept item moves.
     ///
     /// ```
-    /// let mut ring = Ring::of_copies(alloc, 3, &[1, 2])?;
+    /// let mut ring = Ring::from_slice(alloc, 3, &[1, 2])?;
     /// assert!(rt; (ring.pop_back(), ring.pop_back()) == (Some(2), Some(1)));
     /// assert!(rt; ring.pop_back() == None);
     /// ```
@@ -231,7 +231,7 @@ impl<T> Ring<T> {
     /// Returns the item at an index, if there is one. Index 0 is the front.
     ///
     /// ```
-    /// let mut ring = Ring::of_copies(alloc, 3, &[1, 2])?;
+    /// let mut ring = Ring::from_slice(alloc, 3, &[1, 2])?;
     /// ring.push_front(0);
     /// assert!(rt; (ring.get(0), ring.get(2)) == (Some(&0), Some(&2)));
     /// assert!(rt; ring.get(3) == None);
@@ -250,7 +250,7 @@ impl<T> Ring<T> {
     /// Returns the item at an index. Requires an index below the length.
     ///
     /// ```
-    /// let ring = Ring::of_copies(alloc, 3, &[1, 2])?;
+    /// let ring = Ring::from_slice(alloc, 3, &[1, 2])?;
     /// assert!(rt; *ring.item(1) == 2);
     /// ```
     #[tactic(auto, using(crate::proofs::Opened::end_facts))]
@@ -267,7 +267,7 @@ impl<T> Ring<T> {
     /// that item and no other.
     ///
     /// ```
-    /// let mut ring = Ring::of_copies(alloc, 3, &[1, 2])?;
+    /// let mut ring = Ring::from_slice(alloc, 3, &[1, 2])?;
     /// if let Some(item) = ring.get_mut(1) {
     ///     *item = 5;
     /// }
@@ -291,7 +291,7 @@ impl<T> Ring<T> {
     /// Start: stays. Steps: 1 lend.
     ///
     /// ```
-    /// let mut ring = Ring::of_copies(alloc, 3, &[1, 2])?;
+    /// let mut ring = Ring::from_slice(alloc, 3, &[1, 2])?;
     /// *ring.item_mut(1) = 5;
     /// assert!(rt; (ring.get(0), ring.get(1)) == (Some(&1), Some(&5)));
     /// ```

@@ -108,14 +108,14 @@ fn copies_come<const WORDS: usize>(alloc: Global, count: usize) -> Result<bool, 
     requires { WORDS < 2 ^ 32 }
 {
     let items: Vec<[usize; WORDS]> = (0..count).map(|number| [number; WORDS]).collect(alloc)?;
-    let mut ring = Ring::of_copies(alloc, items.len(), &items)?;
+    let mut ring = Ring::from_slice(alloc, items.len(), &items)?;
     let (quarter, half) = (count / 4, count / 2);
     ring.truncate(half);
     ring.truncate_front(half - quarter);
     let room = count - ring.len();
     let copied = ring.copy_back(&items);
     let numbers = (quarter..half).chain(0..room);
-    Ok(copied == room && IntoIter::of(ring).eq(numbers.map(|number| [number; WORDS])))
+    Ok(copied == room && IntoIter::from_ring(ring).eq(numbers.map(|number| [number; WORDS])))
 }
 
 #[test]

@@ -63,7 +63,7 @@ impl<T, const CAP: usize> ArrayDeque<T, CAP, Saturating> {
         ensures source { IfErr result (λ refusal. refusal.source ≡ v) }
         ensures refused { OnErr result (0 < CAP * type_size T.row) }
     {
-        match Ring::of_vec(alloc, CAP, v) {
+        match Ring::from_vec(alloc, CAP, v) {
             Ok(ring) => Ok(Self::of(ring)),
             Err(source) => Err(MakeError { source }),
         }
@@ -87,7 +87,7 @@ impl<T, const CAP: usize> ArrayDeque<T, CAP, Saturating> {
         ensures refused { OnErr result (0 < CAP * type_size T.row) }
     {
         let items = &a[..];
-        match Ring::of_copies(alloc, CAP, &items[..N.min(CAP)]) {
+        match Ring::from_slice(alloc, CAP, &items[..N.min(CAP)]) {
             Ok(ring) => Ok(Self::of(ring)),
             Err(_) => Err(MakeError { source: a }),
         }
@@ -170,7 +170,7 @@ impl<T: Drop, const CAP: usize> ArrayDeque<T, CAP, Wrapping> {
         ensures refused { OnErr result (0 < CAP * type_size T.row) }
     {
         let items = &a[..];
-        match Ring::of_copies(alloc, CAP, &items[N.saturating_sub(CAP)..]) {
+        match Ring::from_slice(alloc, CAP, &items[N.saturating_sub(CAP)..]) {
             Ok(ring) => Ok(Self::of(ring)),
             Err(_) => Err(MakeError { source: a }),
         }

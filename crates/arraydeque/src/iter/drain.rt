@@ -48,7 +48,7 @@ impl<T> Drain<T> {
         ensures { result ≡ ring.items }
     {
         Drain {
-            items: into_iter::IntoIter::of(ring),
+            items: into_iter::IntoIter::from_ring(ring),
         }
     }
 }

@@ -111,7 +111,7 @@ impl<T: Drop, const CAP: usize, B: Behavior> IntoIterator for ArrayDeque<T, CAP,
     #[inline]
     fn into_iter(self) -> IntoIter<T, CAP, B> {
         IntoIter {
-            items: into_iter::IntoIter::of(self.into_ring()),
+            items: into_iter::IntoIter::from_ring(self.into_ring()),
             behavior: PhantomData,
         }
     }

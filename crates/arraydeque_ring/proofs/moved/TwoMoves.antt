@@ -15,7 +15,7 @@ use Rattle.arraydeque_ring.{
     },
   },
   specs.{
-    Moved.{distance, IsFilledRound, CanCopy, run_moved},
+    Moved.{distance, IsFilledRound, CanMoveRun, run_moved},
     Places.{held_at, IsFilled},
     Ring.place_of,
     Runs.IsFilledRun,
@@ -130,7 +130,7 @@ module _ {X : Type 0} (d s l i j k m n : ℕ) (ps : List (Option X)) (long : len
         }
 
 pub can_copy : {X : Type 0} {e t l n : ℕ} {ps : List (Option X)} → length ps ≡ n → (e + l ≤ n) × (t + l ≤ n)
-    → IsFilledRound t l ps → CanCopy e t l ps
+    → IsFilledRound t l ps → CanMoveRun e t l ps
 can_copy long fits filled = record { target = omega arith; source = omega arith; filled = filled }
 
 -- a run that doesn't pass the end
@@ -141,7 +141,7 @@ round_run ps from len le filled = filled_run_of ps from len le (λ x a b.
 
 -- a run of which neither source nor target passes the end, and which moves in two moves: the first k values first
 -- where it moves down, else the last m
-module _ {X : Type 0} (i j k m l : ℕ) (ps : List (Option X)) (parts : (0 < l) × (k + m ≡ l)) (can : CanCopy i j l ps)
+module _ {X : Type 0} (i j k m l : ℕ) (ps : List (Option X)) (parts : (0 < l) × (k + m ≡ l)) (can : CanMoveRun i j l ps)
   where
     pub first_block_goes : i ≤ j → TwoMoves i j k (i + k) (j + k) m ps (run_moved i j l ps)
     unfolding StartsAt InOrder
@@ -154,11 +154,11 @@ module _ {X : Type 0} (i j k m l : ℕ) (ps : List (Option X)) (parts : (0 < l) 
     last_block_goes up = two_moves i j l k 0 m k (length ps) ps refl (omega arith)
         (inr (omega arith, omega arith, grind arith)) (i + k) (j + k) i j (grind arith) (grind arith) can.filled
 
--- three copies can be made one after the other
+-- three moves can be made one after the other
 pub record Three {X : Type 0} (d₁ s₁ l₁ d₂ s₂ l₂ d₃ s₃ l₃ : ℕ) (ps whole : List (Option X)) : Type 0 where
-  pub one : CanCopy d₁ s₁ l₁ ps
-  pub two : CanCopy d₂ s₂ l₂ (run_moved d₁ s₁ l₁ ps)
-  pub three : CanCopy d₃ s₃ l₃ (run_moved d₂ s₂ l₂ (run_moved d₁ s₁ l₁ ps))
+  pub one : CanMoveRun d₁ s₁ l₁ ps
+  pub two : CanMoveRun d₂ s₂ l₂ (run_moved d₁ s₁ l₁ ps)
+  pub three : CanMoveRun d₃ s₃ l₃ (run_moved d₂ s₂ l₂ (run_moved d₁ s₁ l₁ ps))
   pub is : run_moved d₃ s₃ l₃ (run_moved d₂ s₂ l₂ (run_moved d₁ s₁ l₁ ps)) ≡ whole
 
 -- a run that moves in three parts, none of which passes the end: up to the index a, from there to b, and from there on

@@ -17,11 +17,11 @@ impl<T> Ring<T> {
     /// Start: 0. Steps: 1 put for each item.
     ///
     /// ```
-    /// let ring = Ring::of_copies(alloc, 3, &[1, 2])?;
+    /// let ring = Ring::from_slice(alloc, 3, &[1, 2])?;
     /// assert!(rt; (ring.len(), ring.capacity()) == (2, 3));
     /// assert!(rt; (ring.get(0), ring.get(1)) == (Some(&1), Some(&2)));
     /// ```
-    pub fn of_copies(alloc: Global, capacity: usize, items: &[T]) -> Result<Ring<T>, AllocError>
+    pub fn from_slice(alloc: Global, capacity: usize, items: &[T]) -> Result<Ring<T>, AllocError>
     where
         T: Copy,
         requires { length items.now ≤ capacity }
@@ -44,9 +44,9 @@ impl<T> Ring<T> {
     /// Start: stays. Steps: 1 put for each copy.
     ///
     /// ```
-    /// let mut ring = Ring::of_copies(alloc, 4, &[1])?;
+    /// let mut ring = Ring::from_slice(alloc, 4, &[1])?;
     /// assert!(rt; ring.copy_back(&[2, 3]) == 2 && ring.copy_back(&[4, 5]) == 1);
-    /// assert!(rt; IntoIter::of(ring).eq([1, 2, 3, 4]));
+    /// assert!(rt; IntoIter::from_ring(ring).eq([1, 2, 3, 4]));
     /// ```
     #[tactic(auto, using(crate::proofs::Opened::piece_facts))]
     #[inline(always)] // As a `write`: by calls, 16 bytes took 13.8 ns, not 8.2.
@@ -77,10 +77,10 @@ impl<T> Ring<T> {
     /// behind them. What goes is dropped, front to back. Requires a length up to the capacity.
     ///
     /// ```
-    /// let mut ring = Ring::of_copies(alloc, 4, &[1, 2])?;
+    /// let mut ring = Ring::from_slice(alloc, 4, &[1, 2])?;
     /// ring.resize(4, 7);
     /// ring.resize(3, 8);
-    /// assert!(rt; IntoIter::of(ring).eq([1, 2, 7]));
+    /// assert!(rt; IntoIter::from_ring(ring).eq([1, 2, 7]));
     /// ```
     #[tactic(auto, using(crate::proofs::Opened::copy_facts))]
     pub fn resize(&mut self, len: usize, value: T)
@@ -131,11 +131,11 @@ impl<T> Ring<T> {
     ///
     /// ```
     /// let items = vec![in alloc; 1, 2, 3]?;
-    /// let ring = Ring::of_vec(alloc, 2, items).map_err(|_| "refused")?;
+    /// let ring = Ring::from_vec(alloc, 2, items).map_err(|_| "refused")?;
     /// assert!(rt; (ring.len(), ring.capacity()) == (2, 2));
     /// assert!(rt; (ring.get(0), ring.get(1)) == (Some(&1), Some(&2)));
     /// ```
-    pub fn of_vec(alloc: Global, capacity: usize, v: Vec<T>) -> Result<Ring<T>, Vec<T>>
+    pub fn from_vec(alloc: Global, capacity: usize, v: Vec<T>) -> Result<Ring<T>, Vec<T>>
     where
         T: Drop,
         ensures ok { IfOk result (λ ring. ring ≡ record {
@@ -170,11 +170,11 @@ impl<T> Ring<T> {
     /// clone of an item is; the clones that were made are dropped then.
     ///
     /// ```
-    /// let ring = Ring::of_copies(alloc, 3, &[1, 2])?;
+    /// let ring = Ring::from_slice(alloc, 3, &[1, 2])?;
     /// let mut copy = ring.clone()?;
     /// copy.push_back(3);
     /// assert!(rt; (ring.len(), copy.len()) == (2, 3));
-    /// assert!(rt; IntoIter::of(copy).eq([1, 2, 3]));
+    /// assert!(rt; IntoIter::from_ring(copy).eq([1, 2, 3]));
     /// ```
     pub fn clone(&self) -> Result<Ring<T>, AllocError>
     where
@@ -226,7 +226,7 @@ impl<T> Ring<T> {
     /// refused, which never happens to an empty ring, the ring comes back as it was.
     ///
     /// ```
-    /// let mut ring = Ring::of_copies(alloc, 3, &[2, 3])?;
+    /// let mut ring = Ring::from_slice(alloc, 3, &[2, 3])?;
     /// ring.push_front(1);
     /// let items = ring.into_vec().map_err(|_| "refused")?;
     /// assert!(rt; items.as_slice() == [1, 2, 3].as_slice());

@@ -13,10 +13,10 @@ impl<T> Ring<T> {
     /// Start: stays. Steps: 1 lend.
     ///
     /// ```
-    /// let mut ring = Ring::of_copies(alloc, 4, &[2, 3])?;
+    /// let mut ring = Ring::from_slice(alloc, 4, &[2, 3])?;
     /// ring.push_front(1);
     /// ring.first_slice_mut().fill(0);
-    /// assert!(rt; IntoIter::of(ring).eq([0, 2, 3]));
+    /// assert!(rt; IntoIter::from_ring(ring).eq([0, 2, 3]));
     /// ```
     #[inline]
     pub fn first_slice_mut(&mut self) -> &mut [T]
@@ -36,10 +36,10 @@ impl<T> Ring<T> {
     /// Start: stays. Steps: 1 lend.
     ///
     /// ```
-    /// let mut ring = Ring::of_copies(alloc, 4, &[2, 3])?;
+    /// let mut ring = Ring::from_slice(alloc, 4, &[2, 3])?;
     /// ring.push_front(1);
     /// ring.second_slice_mut().fill(0);
-    /// assert!(rt; IntoIter::of(ring).eq([1, 0, 0]));
+    /// assert!(rt; IntoIter::from_ring(ring).eq([1, 0, 0]));
     /// ```
     #[inline]
     pub fn second_slice_mut(&mut self) -> &mut [T]
@@ -58,10 +58,10 @@ impl<T> Ring<T> {
     /// Start: stays. Steps: 2 lends.
     ///
     /// ```
-    /// let mut ring = Ring::of_copies(alloc, 4, &[2, 3])?;
+    /// let mut ring = Ring::from_slice(alloc, 4, &[2, 3])?;
     /// ring.push_front(1);
     /// ring.for_each_mut(|item| *item *= 2);
-    /// assert!(rt; IntoIter::of(ring).eq([2, 4, 6]));
+    /// assert!(rt; IntoIter::from_ring(ring).eq([2, 4, 6]));
     /// ```
     pub fn for_each_mut<F: FnMut(&mut T)>(&mut self, mut f: F)
     where

@@ -18,11 +18,11 @@ impl<T> Ring<T> {
     /// Start: stays. Steps: 1 put for each item that comes.
     ///
     /// ```
-    /// let mut ring = Ring::of_copies(alloc, 3, &[1])?;
+    /// let mut ring = Ring::from_slice(alloc, 3, &[1])?;
     /// let mut numbers = 2..9;
     /// assert!(rt; !ring.fill_back(&mut numbers));
     /// assert!(rt; numbers.next() == Some(4));
-    /// assert!(rt; IntoIter::of(ring).eq([1, 2, 3]));
+    /// assert!(rt; IntoIter::from_ring(ring).eq([1, 2, 3]));
     /// ```
     #[inline(always)] // Else a vector's items took three times as long.
     pub fn fill_back<I: Iterator<Item = T>>(&mut self, elements: &mut I) -> bool
@@ -58,9 +58,9 @@ impl<T> Ring<T> {
     /// Start: 1 down for each item that comes. Steps: 1 put for each.
     ///
     /// ```
-    /// let mut ring = Ring::of_copies(alloc, 4, &[1])?;
+    /// let mut ring = Ring::from_slice(alloc, 4, &[1])?;
     /// assert!(rt; ring.fill_front(&mut (2..4)));
-    /// assert!(rt; IntoIter::of(ring).eq([3, 2, 1]));
+    /// assert!(rt; IntoIter::from_ring(ring).eq([3, 2, 1]));
     /// ```
     #[inline(always)] // As `fill_back`.
     pub fn fill_front<I: Iterator<Item = T>>(&mut self, elements: &mut I) -> bool
@@ -102,9 +102,9 @@ impl<T> Ring<T> {
     /// Start: 1 up for each item that comes. Steps: 1 take, 1 put for each.
     ///
     /// ```
-    /// let mut ring = Ring::of_copies(alloc, 3, &[1, 2, 3])?;
+    /// let mut ring = Ring::from_slice(alloc, 3, &[1, 2, 3])?;
     /// ring.displace_first(4..6);
-    /// assert!(rt; IntoIter::of(ring).eq([3, 4, 5]));
+    /// assert!(rt; IntoIter::from_ring(ring).eq([3, 4, 5]));
     /// ```
     #[inline]
     pub fn displace_first<I: Iterator<Item = T>>(&mut self, mut elements: I)
@@ -140,9 +140,9 @@ impl<T> Ring<T> {
     /// Start: 1 down for each item that comes. Steps: 1 take, 1 put for each.
     ///
     /// ```
-    /// let mut ring = Ring::of_copies(alloc, 3, &[1, 2, 3])?;
+    /// let mut ring = Ring::from_slice(alloc, 3, &[1, 2, 3])?;
     /// ring.displace_last(4..6);
-    /// assert!(rt; IntoIter::of(ring).eq([5, 4, 1]));
+    /// assert!(rt; IntoIter::from_ring(ring).eq([5, 4, 1]));
     /// ```
     #[inline]
     pub fn displace_last<I: Iterator<Item = T>>(&mut self, mut elements: I)

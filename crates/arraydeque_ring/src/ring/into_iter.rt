@@ -13,8 +13,8 @@ use std::marker::Model;
 #[derive(Drop)]
 pub struct IntoIter<T> {
     ring: Ring<T>,
-    /// An upper bound on the items that [`Ring::take_before_end`] can't take.
-    most_from_last_place: usize,
+    /// At most so many items are behind the run that [`Ring::take_before_end`] takes.
+    most_behind_run: usize,
 }
 
 impl<T> Model for IntoIter<T> {
@@ -25,25 +25,25 @@ impl<T> Model for IntoIter<T> {
     ghost view = { λ it. it.ring.items };
 
     ghost invariant = { λ it.
-        length it.ring.items - (it.ring.capacity - 1 - it.ring.start) ≤ it.most_from_last_place };
+        length it.ring.items - (it.ring.capacity - 1 - it.ring.start) ≤ it.most_behind_run };
 }
 
 impl<T> IntoIter<T> {
     /// Returns the iterator over the items of a ring.
     ///
     /// ```
-    /// let mut items = IntoIter::of(Ring::of_copies(alloc, 4, &[1, 2, 3])?);
+    /// let mut items = IntoIter::from_ring(Ring::from_slice(alloc, 4, &[1, 2, 3])?);
     /// assert!(rt; (items.next(), items.next_back()) == (Some(1), Some(3)));
     /// assert!(rt; (items.len(), items.next()) == (1, Some(2)));
     /// ```
     #[inline]
-    pub fn of(ring: Ring<T>) -> IntoIter<T>
+    pub fn from_ring(ring: Ring<T>) -> IntoIter<T>
         ensures { result ≡ ring.items }
     {
-        let most_from_last_place = ring.len_from_last_place();
+        let most_behind_run = ring.len_behind_run();
         IntoIter {
             ring,
-            most_from_last_place,
+            most_behind_run,
         }
     }
 }
@@ -56,17 +56,17 @@ impl<T: Drop> Iterator for IntoIter<T> {
     ghost remaining = { item_count (λ remaining. remaining) };
 
     /// ```
-    /// let mut items = IntoIter::of(Ring::of_copies(alloc, 4, &[1, 2, 3])?);
+    /// let mut items = IntoIter::from_ring(Ring::from_slice(alloc, 4, &[1, 2, 3])?);
     /// assert!(rt; (items.next(), items.size_hint()) == (Some(1), (2, Some(2))));
     /// assert!(rt; (items.next(), items.next(), items.next()) == (Some(2), Some(3), None));
     /// ```
     #[inline]
     fn next(&mut self) -> Option<T> {
-        if self.ring.len() > self.most_from_last_place {
+        if self.ring.len() > self.most_behind_run {
             return Some(self.ring.take_before_end());
         }
         let item = self.ring.pop_front();
-        self.most_from_last_place = self.ring.len_from_last_place();
+        self.most_behind_run = self.ring.len_behind_run();
         item
     }
 
@@ -85,7 +85,7 @@ impl<T: Drop> DoubleEndedIterator for IntoIter<T> {
     ghost next_back_gives = { YieldsLast (λ remaining. remaining) };
 
     /// ```
-    /// let mut items = IntoIter::of(Ring::of_copies(alloc, 4, &[1, 2])?);
+    /// let mut items = IntoIter::from_ring(Ring::from_slice(alloc, 4, &[1, 2])?);
     /// assert!(rt; (items.next_back(), items.next_back()) == (Some(2), Some(1)));
     /// assert!(rt; items.next_back() == None);
     /// ```
@@ -97,7 +97,7 @@ impl<T: Drop> DoubleEndedIterator for IntoIter<T> {
 
 impl<T: Drop> ExactSizeIterator for IntoIter<T> {
     /// ```
-    /// let items = IntoIter::of(Ring::of_copies(alloc, 4, &[1, 2, 3])?);
+    /// let items = IntoIter::from_ring(Ring::from_slice(alloc, 4, &[1, 2, 3])?);
     /// assert!(rt; items.len() == 3);
     /// ```
     #[inline]
@@ -109,10 +109,10 @@ impl<T: Drop> ExactSizeIterator for IntoIter<T> {
 impl<T: Drop> FusedIterator for IntoIter<T> {}
 
 impl<T> Ring<T> {
-    /// Returns how many items [`Ring::take_before_end`] can't take: the one in the region's last
-    /// place, and those past its end.
+    /// Returns how many items are behind the run that [`Ring::take_before_end`] takes: the one in
+    /// the region's last place, and those past its end.
     #[inline]
-    fn len_from_last_place(&self) -> usize
+    fn len_behind_run(&self) -> usize
         ensures { result ≡ length self.now.items - (self.now.capacity - 1 - self.now.start) }
     {
         let to_end = self.slots.capacity() - self.start;

@@ -14,7 +14,7 @@ impl<T> Ring<T> {
     /// it.
     ///
     /// ```
-    /// let mut ring = Ring::of_copies(alloc, 4, &[2, 3])?;
+    /// let mut ring = Ring::from_slice(alloc, 4, &[2, 3])?;
     /// ring.push_front(1);
     /// assert!(rt; ring.as_slices() == ([1].as_slice(), [2, 3].as_slice()));
     /// ```
@@ -40,7 +40,7 @@ impl<T> Ring<T> {
     /// Returns the items in one slice. Requires a list in one piece, as `linearize` leaves it.
     ///
     /// ```
-    /// let mut ring = Ring::of_copies(alloc, 3, &[3, 1])?;
+    /// let mut ring = Ring::from_slice(alloc, 3, &[3, 1])?;
     /// ring.push_front(2);
     /// ring.linearize();
     /// assert!(rt; ring.as_slice() == [2, 3, 1].as_slice());
@@ -58,9 +58,9 @@ impl<T> Ring<T> {
     /// leaves it. The list ends as it was written, and starts where it did.
     ///
     /// ```
-    /// let mut ring = Ring::of_copies(alloc, 4, &[3, 1, 2])?;
+    /// let mut ring = Ring::from_slice(alloc, 4, &[3, 1, 2])?;
     /// ring.as_mut_slice().reverse();
-    /// assert!(rt; IntoIter::of(ring).eq([2, 1, 3]));
+    /// assert!(rt; IntoIter::from_ring(ring).eq([2, 1, 3]));
     /// ```
     #[tactic(auto, using(crate::proofs::Opened::slice_facts))]
     #[inline]
@@ -85,11 +85,11 @@ impl<T> Ring<T> {
     /// one name of that loan, and not a pair.
     ///
     /// ```
-    /// let mut ring = Ring::of_copies(alloc, 4, &[2, 3])?;
+    /// let mut ring = Ring::from_slice(alloc, 4, &[2, 3])?;
     /// ring.push_front(1);
     /// let (_front, rest) = ring.as_mut_slices();
     /// rest.fill(0);
-    /// assert!(rt; IntoIter::of(ring).eq([1, 0, 0]));
+    /// assert!(rt; IntoIter::from_ring(ring).eq([1, 0, 0]));
     /// ```
     #[inline]
     pub fn as_mut_slices(&mut self) -> (&mut [T], &mut [T])
@@ -109,11 +109,11 @@ impl<T> Ring<T> {
     /// Start: stays. Steps: 2 lends.
     ///
     /// ```
-    /// let mut ring = Ring::of_copies(alloc, 4, &[2, 3])?;
+    /// let mut ring = Ring::from_slice(alloc, 4, &[2, 3])?;
     /// ring.push_front(1);
     /// let (front, _rest) = ring.lend().into_slices();
     /// front.fill(0);
-    /// assert!(rt; IntoIter::of(ring).eq([0, 2, 3]));
+    /// assert!(rt; IntoIter::from_ring(ring).eq([0, 2, 3]));
     /// ```
     pub fn lend(&mut self) -> Loan<'_, T>
         ensures* writes_back { sem 𝓛 (lends_loan T.row self.entry result) }
@@ -162,12 +162,12 @@ impl<T> Ring<T> {
     /// Start: stays. Steps: 2 lends.
     ///
     /// ```
-    /// let mut ring = Ring::of_copies(alloc, 4, &[2, 3, 4])?;
+    /// let mut ring = Ring::from_slice(alloc, 4, &[2, 3, 4])?;
     /// ring.push_front(1);
     /// let (first, second) = ring.lend_part(1, 2).into_slices();
     /// first.fill(7);
     /// second.fill(7);
-    /// assert!(rt; IntoIter::of(ring).eq([1, 7, 7, 4]));
+    /// assert!(rt; IntoIter::from_ring(ring).eq([1, 7, 7, 4]));
     /// ```
     #[inline]
     pub fn lend_part(&mut self, from: usize, len: usize) -> Loan<'_, T>

@@ -13,7 +13,7 @@ impl<T> Ring<T> {
     /// than there are items. If it lies in one piece already, wherever that is, nothing happens.
     ///
     /// ```
-    /// let mut ring = Ring::of_copies(alloc, 4, &[2, 3])?;
+    /// let mut ring = Ring::from_slice(alloc, 4, &[2, 3])?;
     /// ring.push_front(1);
     /// ring.linearize();
     /// assert!(rt; ring.as_slices() == ([1, 2, 3].as_slice(), [].as_slice()));

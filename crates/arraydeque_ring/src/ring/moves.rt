@@ -19,10 +19,10 @@ impl<T> Ring<T> {
     /// fewer; else those behind it.
     ///
     /// ```
-    /// let mut ring = Ring::of_copies(alloc, 4, &[1, 3])?;
+    /// let mut ring = Ring::from_slice(alloc, 4, &[1, 3])?;
     /// ring.insert(1, 2);
     /// ring.insert(3, 4);
-    /// assert!(rt; IntoIter::of(ring).eq([1, 2, 3, 4]));
+    /// assert!(rt; IntoIter::from_ring(ring).eq([1, 2, 3, 4]));
     /// ```
     pub fn insert(&mut self, index: usize, element: T)
         requires in_bounds { index ≤ length self.old.items }
@@ -54,9 +54,9 @@ impl<T> Ring<T> {
     /// move, and the start with them, if they are fewer; else those behind it.
     ///
     /// ```
-    /// let mut ring = Ring::of_copies(alloc, 4, &[1, 2, 3])?;
+    /// let mut ring = Ring::from_slice(alloc, 4, &[1, 2, 3])?;
     /// assert!(rt; ring.remove(1) == 2);
-    /// assert!(rt; IntoIter::of(ring).eq([1, 3]));
+    /// assert!(rt; IntoIter::from_ring(ring).eq([1, 3]));
     /// ```
     #[tactic(auto, using(crate::proofs::Opened::end_facts))]
     pub fn remove(&mut self, index: usize) -> T
@@ -83,10 +83,10 @@ impl<T> Ring<T> {
     /// whichever are fewer, and on a tie the first.
     ///
     /// ```
-    /// let mut ring = Ring::of_copies(alloc, 4, &[1, 2, 3])?;
+    /// let mut ring = Ring::from_slice(alloc, 4, &[1, 2, 3])?;
     /// assert!(rt; ring.len() == 3);
     /// ring.rotate_left(1);
-    /// assert!(rt; IntoIter::of(ring).eq([2, 3, 1]));
+    /// assert!(rt; IntoIter::from_ring(ring).eq([2, 3, 1]));
     /// ```
     #[inline]
     #[tactic(auto, using(crate::proofs::Opened::end_facts))]

@@ -30,10 +30,10 @@ impl<T> Ring<T> {
     ///     without 2..4, from 5  . . . . . a b e
     ///
     /// ```
-    /// let mut ring = Ring::of_copies(alloc, 4, &[1, 2, 3, 4])?;
+    /// let mut ring = Ring::from_slice(alloc, 4, &[1, 2, 3, 4])?;
     /// let drained = ring.drain(1, 3)?;
-    /// assert!(rt; IntoIter::of(drained).eq([2, 3]));
-    /// assert!(rt; IntoIter::of(ring).eq([1, 4]));
+    /// assert!(rt; IntoIter::from_ring(drained).eq([2, 3]));
+    /// assert!(rt; IntoIter::from_ring(ring).eq([1, 4]));
     /// ```
     #[tactic(auto, using(crate::proofs::Opened::part_facts))]
     pub fn drain(&mut self, from: usize, to: usize) -> Result<Ring<T>, AllocError>
@@ -78,11 +78,11 @@ impl<T> Ring<T> {
     /// changed; it never is at capacity 0 or for items of size zero. No kept item moves.
     ///
     /// ```
-    /// let mut ring = Ring::of_copies(alloc, 4, &[1, 2, 3])?;
+    /// let mut ring = Ring::from_slice(alloc, 4, &[1, 2, 3])?;
     /// let tail = ring.split_off(1)?;
     /// assert!(rt; tail.capacity() == 4);
-    /// assert!(rt; IntoIter::of(tail).eq([2, 3]));
-    /// assert!(rt; IntoIter::of(ring).eq([1]));
+    /// assert!(rt; IntoIter::from_ring(tail).eq([2, 3]));
+    /// assert!(rt; IntoIter::from_ring(ring).eq([1]));
     /// ```
     #[tactic(auto, using(crate::proofs::Opened::part_facts))]
     pub fn split_off(&mut self, at: usize) -> Result<Ring<T>, AllocError>
@@ -120,11 +120,11 @@ impl<T> Ring<T> {
     /// these, with 1 take.
     ///
     /// ```
-    /// let mut ring = Ring::of_copies(alloc, 4, &[1, 2])?;
-    /// let mut other = Ring::of_copies(alloc, 3, &[3, 4, 5])?;
+    /// let mut ring = Ring::from_slice(alloc, 4, &[1, 2])?;
+    /// let mut other = Ring::from_slice(alloc, 3, &[3, 4, 5])?;
     /// ring.append(&mut other, 2);
-    /// assert!(rt; IntoIter::of(ring).eq([1, 2, 3, 4]));
-    /// assert!(rt; IntoIter::of(other).eq([5]));
+    /// assert!(rt; IntoIter::from_ring(ring).eq([1, 2, 3, 4]));
+    /// assert!(rt; IntoIter::from_ring(other).eq([5]));
     /// ```
     pub fn append(&mut self, other: &mut Ring<T>, len: usize)
         requires room { length self.old.items + len ≤ self.old.capacity }

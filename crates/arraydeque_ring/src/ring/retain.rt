@@ -16,7 +16,7 @@ impl<T> Ring<T> {
     /// Drops every item, front to back. The list starts at the first place again.
     ///
     /// ```
-    /// let mut ring = Ring::of_copies(alloc, 4, &[1, 2, 3])?;
+    /// let mut ring = Ring::from_slice(alloc, 4, &[1, 2, 3])?;
     /// ring.clear();
     /// assert!(rt; (ring.len(), ring.capacity()) == (0, 4));
     /// ```
@@ -39,9 +39,9 @@ impl<T> Ring<T> {
     /// back.
     ///
     /// ```
-    /// let mut ring = Ring::of_copies(alloc, 4, &[1, 2, 3])?;
+    /// let mut ring = Ring::from_slice(alloc, 4, &[1, 2, 3])?;
     /// ring.truncate(2);
-    /// assert!(rt; IntoIter::of(ring).eq([1, 2]));
+    /// assert!(rt; IntoIter::from_ring(ring).eq([1, 2]));
     /// ```
     #[tactic(auto, using(crate::proofs::Opened::drop_facts))]
     pub fn truncate(&mut self, len: usize)
@@ -63,9 +63,9 @@ impl<T> Ring<T> {
     /// back, and the start goes up by as many places.
     ///
     /// ```
-    /// let mut ring = Ring::of_copies(alloc, 4, &[1, 2, 3])?;
+    /// let mut ring = Ring::from_slice(alloc, 4, &[1, 2, 3])?;
     /// ring.truncate_front(2);
-    /// assert!(rt; IntoIter::of(ring).eq([2, 3]));
+    /// assert!(rt; IntoIter::from_ring(ring).eq([2, 3]));
     /// ```
     #[tactic(auto, using(crate::proofs::Opened::drop_facts))]
     pub fn truncate_front(&mut self, len: usize)
@@ -92,9 +92,9 @@ impl<T> Ring<T> {
     /// goes moves once.
     ///
     /// ```
-    /// let mut ring = Ring::of_copies(alloc, 4, &[1, 2, 3])?;
+    /// let mut ring = Ring::from_slice(alloc, 4, &[1, 2, 3])?;
     /// ring.retain(|item| *item % 2 == 1);
-    /// assert!(rt; IntoIter::of(ring).eq([1, 3]));
+    /// assert!(rt; IntoIter::from_ring(ring).eq([1, 3]));
     /// ```
     #[tactic(auto, using(crate::proofs::Opened::end_facts))]
     pub fn retain<F: FnMut(&T) -> bool>(&mut self, mut f: F)
@@ -131,12 +131,12 @@ impl<T> Ring<T> {
     /// behind the first that goes moves once.
     ///
     /// ```
-    /// let mut ring = Ring::of_copies(alloc, 3, &[1, 2, 3])?;
+    /// let mut ring = Ring::from_slice(alloc, 3, &[1, 2, 3])?;
     /// ring.retain_mut(|item| {
     ///     *item *= 2;
     ///     *item != 4
     /// });
-    /// assert!(rt; IntoIter::of(ring).eq([2, 6]));
+    /// assert!(rt; IntoIter::from_ring(ring).eq([2, 6]));
     /// ```
     #[tactic(auto, using(crate::proofs::Opened::end_facts))]
     pub fn retain_mut<F: FnMut(&mut T) -> bool>(&mut self, mut f: F)

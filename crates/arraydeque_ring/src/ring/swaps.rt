@@ -9,9 +9,9 @@ impl<T> Ring<T> {
     /// Exchanges two items. Requires indexes below the length. If they are equal nothing happens.
     ///
     /// ```
-    /// let mut ring = Ring::of_copies(alloc, 4, &[1, 2, 3])?;
+    /// let mut ring = Ring::from_slice(alloc, 4, &[1, 2, 3])?;
     /// ring.swap(0, 2);
-    /// assert!(rt; IntoIter::of(ring).eq([3, 2, 1]));
+    /// assert!(rt; IntoIter::from_ring(ring).eq([3, 2, 1]));
     /// ```
     #[tactic(auto, using(crate::proofs::Opened::end_facts))]
     #[inline]
@@ -31,10 +31,10 @@ impl<T> Ring<T> {
     /// exchange at most.
     ///
     /// ```
-    /// let mut ring = Ring::of_copies(alloc, 4, &[1, 2, 3])?;
+    /// let mut ring = Ring::from_slice(alloc, 4, &[1, 2, 3])?;
     /// assert!(rt; ring.swap_remove_back(0) == Some(1));
     /// assert!(rt; ring.swap_remove_back(2) == None);
-    /// assert!(rt; IntoIter::of(ring).eq([3, 2]));
+    /// assert!(rt; IntoIter::from_ring(ring).eq([3, 2]));
     /// ```
     #[inline]
     pub fn swap_remove_back(&mut self, index: usize) -> Option<T>
@@ -58,10 +58,10 @@ impl<T> Ring<T> {
     /// one exchange at most. The start goes up to the next place.
     ///
     /// ```
-    /// let mut ring = Ring::of_copies(alloc, 4, &[1, 2, 3])?;
+    /// let mut ring = Ring::from_slice(alloc, 4, &[1, 2, 3])?;
     /// assert!(rt; ring.swap_remove_front(2) == Some(3));
     /// assert!(rt; ring.swap_remove_front(2) == None);
-    /// assert!(rt; IntoIter::of(ring).eq([2, 1]));
+    /// assert!(rt; IntoIter::from_ring(ring).eq([2, 1]));
     /// ```
     #[inline]
     pub fn swap_remove_front(&mut self, index: usize) -> Option<T>

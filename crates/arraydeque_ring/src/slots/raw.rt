@@ -77,9 +77,9 @@ impl<T> Slots<T> {
         }
     }
 
-    /// Copies the values in the `len` places from `from` on to the empty places of another region
-    /// from `to` on, and leaves their own places empty.
-    pub(super) fn copy_over(&mut self, from: usize, other: &mut Slots<T>, to: usize, len: usize)
+    /// Moves the values in the `len` places from `from` on to the empty places of another region
+    /// from `to` on, by one copy of their bytes.
+    pub(super) fn move_over(&mut self, from: usize, other: &mut Slots<T>, to: usize, len: usize)
         requires filled { IsFilledRun self.old.places from len }
         requires empty { IsEmptyRun other.old.places to len }
         ensures here { self.new ≡ record {
@@ -94,9 +94,9 @@ impl<T> Slots<T> {
         unsafe { ptr::copy_nonoverlapping(self.ptr.add(from), (other.ptr as *mut T).add(to), len) }
     }
 
-    /// Copies the values in the `len` places from `src` on to those from `dst` on, and leaves their
-    /// own places empty. The two runs have no place in common.
-    pub(super) fn copy_apart(&mut self, dst: usize, src: usize, len: usize)
+    /// Moves the values in the `len` places from `src` on to those from `dst` on, by one copy of
+    /// their bytes. The two runs have no place in common.
+    pub(super) fn move_apart(&mut self, dst: usize, src: usize, len: usize)
         requires filled { IsFilledRun self.old.places src len }
         requires target { dst + len ≤ length self.old.places }
         requires apart { AreApart src len dst len }

@@ -1,14 +1,14 @@
 //! Runs of values that move to other places, or come as copies.
 //!
-//! Between two regions a run goes by one copy. Within a region it is cut into parts that don't pass
-//! the region's end. A part goes by one copy, too, or, if its new places meet its old ones, in
+//! Between two regions a run moves at once. Within a region it is cut into parts that don't pass
+//! the region's end. A part moves at once, too, or, if its new places meet its old ones, in
 //! blocks by `move_block`, in an order that overwrites no value that has still to move. Copies of a
 //! slice come in blocks. While values move or are exchanged one by one, the region is a local: its
 //! pointer is known to stay.
 ghost use Rattle.std.specs.Prelude.{◌≡◌, ◌+◌, ◌-◌, ◌*◌, ◌<◌, ◌≤◌, length, take, drop, replicate, true, if◌then◌else◌, ◌==◌};
 ghost use Rattle.std.specs.List.{splice};
 ghost use Rattle.std.specs.Mem.{type_size};
-ghost use Rattle.arraydeque_ring.specs.Moved.{MeetAtOneEndAtMost, IsFilledRound, IsFreeRound, CanCopy, CanMove, is_block, run_moved};
+ghost use Rattle.arraydeque_ring.specs.Moved.{MeetAtOneEndAtMost, IsFilledRound, IsFreeRound, CanMoveRun, CanMove, is_block, run_moved};
 ghost use Rattle.arraydeque_ring.specs.Ring.{place_of};
 ghost use Rattle.arraydeque_ring.specs.Runs.{runs_exchanged, with_run, IsEmptyRun, run_emptied, IsFilledRun};
 ghost use Rattle.arraydeque_ring.specs.Steps.{more_transfers, more_puts, more_takes, more_moves, more_exchanges};
@@ -26,7 +26,7 @@ const NARROW: usize = BLOCK_BYTES / 1024;
 
 impl<T> Slots<T> {
     /// Hands the values in the `len` places from `from` on to another region, into its empty places
-    /// from `to` on. It is one copy of the run, in time that grows with `len` alone.
+    /// from `to` on, all at once, in time that grows with `len` alone.
     pub(crate) fn hand_over(&mut self, from: usize, other: &mut Slots<T>, to: usize, len: usize)
         requires filled { IsFilledRun self.old.places from len }
         requires empty { IsEmptyRun other.old.places to len }
@@ -39,7 +39,7 @@ impl<T> Slots<T> {
           steps = more_puts len other.old.steps;
         } }
     {
-        self.copy_over(from, other, to, len);
+        self.move_over(from, other, to, len);
         self.count(StepKind::Take, len);
         other.count(StepKind::Put, len);
     }
@@ -231,9 +231,9 @@ impl<T> Slots<T> {
         }
         let capacity = self.capacity();
         if len <= (capacity - dst).min(capacity - src) {
-            self.copy(dst, src, len);
+            self.move_run(dst, src, len);
         } else {
-            self.copy_in_parts(dst, src, len);
+            self.move_in_parts(dst, src, len);
         }
         self.count(StepKind::Move, len);
     }
@@ -292,8 +292,8 @@ impl<T> Slots<T> {
         self.count(StepKind::Move, len);
     }
 
-    /// Copies a run in three parts, cut where either side passes the region's end, by a plain copy
-    /// each: from the first on if the run moves down, by no more places than are free, else from
+    /// Moves a run in three parts, cut where either side passes the region's end, one after the
+    /// other: from the first on if the run moves down, by no more places than are free, else from
     /// the last on. In a region of 8 places, six values from place 4 on to place 6:
     ///
     ///     place              0 1 2 3 4 5 6 7
@@ -302,7 +302,7 @@ impl<T> Slots<T> {
     ///     c d from 6 to 0    c d e f a b . .
     ///     a b from 4 to 6    c d e f . . a b
     #[inline(never)] // Inlined, it made a move that passes no end up to 15 instructions longer.
-    fn copy_in_parts(&mut self, dst: usize, src: usize, len: usize)
+    fn move_in_parts(&mut self, dst: usize, src: usize, len: usize)
         requires { CanMove dst src len self.old.places }
         ensures { self.new ≡ record {
           places = run_moved dst src len self.old.places;
@@ -316,38 +316,38 @@ impl<T> Slots<T> {
         let (dst_near, src_near) = (wrap_add(dst, near, capacity), wrap_add(src, near, capacity));
         let (dst_far, src_far) = (wrap_add(dst, far, capacity), wrap_add(src, far, capacity));
         if len <= wrap_add(dst, src_end, capacity) {
-            self.copy(dst, src, near);
-            self.copy(dst_near, src_near, far - near);
-            self.copy(dst_far, src_far, len - far);
+            self.move_run(dst, src, near);
+            self.move_run(dst_near, src_near, far - near);
+            self.move_run(dst_far, src_far, len - far);
         } else {
-            self.copy(dst_far, src_far, len - far);
-            self.copy(dst_near, src_near, far - near);
-            self.copy(dst, src, near);
+            self.move_run(dst_far, src_far, len - far);
+            self.move_run(dst_near, src_near, far - near);
+            self.move_run(dst, src, near);
         }
     }
 
-    /// Copies a run of which neither side passes the end: by one copy, unless its new places meet
-    /// its old ones.
-    #[inline(never)] // Inlined, it made `copy_in_parts` 1842 bytes of 346, and no rotation faster.
-    fn copy(&mut self, dst: usize, src: usize, len: usize)
-        requires { CanCopy dst src len self.old.places }
+    /// Moves a run of which neither side passes the end: at once, unless its new places meet its
+    /// old ones.
+    #[inline(never)] // Inlined, it made `move_in_parts` 1842 bytes of 346, and no rotation faster.
+    fn move_run(&mut self, dst: usize, src: usize, len: usize)
+        requires { CanMoveRun dst src len self.old.places }
         ensures { self.new ≡ record {
           places = run_moved dst src len self.old.places;
           steps = more_transfers (2 * len) self.old.steps;
         } }
     {
         if len <= dst.abs_diff(src) {
-            self.copy_apart(dst, src, len);
+            self.move_apart(dst, src, len);
         } else {
-            self.copy_blocks(dst, src, len);
+            self.move_in_blocks(dst, src, len);
         }
     }
 
-    /// Copies a run of which neither side passes the end, in blocks, the largest first: from the
+    /// Moves a run of which neither side passes the end, in blocks, the largest first: from the
     /// first value on if the run moves down, else from the last on.
     #[inline(never)] // Inlined, `rotate_half_half` of 16 places took 218 instructions, not 186.
-    fn copy_blocks(&mut self, dst: usize, src: usize, len: usize)
-        requires { CanCopy dst src len self.old.places }
+    fn move_in_blocks(&mut self, dst: usize, src: usize, len: usize)
+        requires { CanMoveRun dst src len self.old.places }
         ensures { self.new ≡ record {
           places = run_moved dst src len self.old.places;
           steps = more_transfers (2 * len) self.old.steps;
@@ -376,8 +376,8 @@ impl<T> Slots<T> {
     fn move_last<const N: usize>(&mut self, dst: usize, src: usize, len: usize) -> usize
         requires some { 0 < N }
         requires up { src ≤ dst }
-        requires can { CanCopy dst src len self.old.places }
-        ensures can { CanCopy dst src result self.new.places }
+        requires can { CanMoveRun dst src len self.old.places }
+        ensures can { CanMoveRun dst src result self.new.places }
         ensures all { N ≡ 1 → self.new ≡ record {
           places = run_moved dst src len self.old.places;
           steps = more_transfers (2 * len) self.old.steps;
@@ -410,9 +410,9 @@ impl<T> Slots<T> {
         requires some { 0 < N }
         requires down { dst ≤ src }
         requires within { from ≤ len }
-        requires can { CanCopy (dst + from) (src + from) (len - from) self.old.places }
+        requires can { CanMoveRun (dst + from) (src + from) (len - from) self.old.places }
         ensures within { result ≤ len }
-        ensures can { CanCopy (dst + result) (src + result) (len - result) self.new.places }
+        ensures can { CanMoveRun (dst + result) (src + result) (len - result) self.new.places }
         ensures all { N ≡ 1 → self.new ≡ record {
           places = run_moved (dst + from) (src + from) (len - from) self.old.places;
           steps = more_transfers (2 * (len - from)) self.old.steps;

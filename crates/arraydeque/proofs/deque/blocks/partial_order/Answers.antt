@@ -4,4 +4,4 @@ use Rattle.arraydeque.proofs.deque.blocks.partial_order.Goals as goal
 
 pub returns : goal.returns
 returns g c = c.partial_cmp.ensures
-    ∙ slice_partial_cmp_behind c.behind_equal.ensures g.T.PartialOrd.partial_cmp g.met.T.PartialOrd.laws
+    ∙ slice_partial_cmp_behind c.skip_equal_blocks.ensures g.T.PartialOrd.partial_cmp g.met.T.PartialOrd.laws

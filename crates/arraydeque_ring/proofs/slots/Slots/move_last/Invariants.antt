@@ -1,11 +1,11 @@
 use Rattle.std.proofs.Common.{◌≡◌, ◌-◌, ◌*◌, ◌≤◌}
-use Rattle.arraydeque_ring.specs.{Moved.{CanCopy, run_moved}, Steps.more_transfers}
+use Rattle.arraydeque_ring.specs.{Moved.{CanMoveRun, run_moved}, Steps.more_transfers}
 use Rattle.arraydeque_ring.proofs.slots.Slots.move_last.Given as goal
 
 abbrev pub invariant-loop-moved : goal.invariant-loop-moved
 invariant-loop-moved g l = record {
   within : l.moved ≤ l.len;
-  can : CanCopy l.dst l.src (l.len - l.moved) l.self.places;
+  can : CanMoveRun l.dst l.src (l.len - l.moved) l.self.places;
   moved : run_moved l.dst l.src (l.len - l.moved) l.self.places ≡ run_moved l.dst l.src l.len l.initial.self.places;
   steps : l.self.steps ≡ more_transfers (2 * l.moved) l.initial.self.steps;
 }

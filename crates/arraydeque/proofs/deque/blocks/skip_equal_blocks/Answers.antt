@@ -1,6 +1,6 @@
 use Rattle.std.proofs.Common.{arith}
 use Rattle.arraydeque.proofs.Sections.{behind-nothing, behind-pairs, split-whole}
-use Rattle.arraydeque.proofs.deque.blocks.behind_equal.Goals as goal
+use Rattle.arraydeque.proofs.deque.blocks.skip_equal_blocks.Goals as goal
 
 pub returns-then-pairs-lt-BLOCK_PAIRS : goal.returns-then-pairs-lt-BLOCK_PAIRS
 returns-then-pairs-lt-BLOCK_PAIRS g c = behind-nothing c.args.left.now c.args.right.now

@@ -1,4 +1,4 @@
--- `copy_over` hands `copy_nonoverlapping` a run of values,
+-- `move_over` hands `copy_nonoverlapping` a run of values,
 -- and room for it in another region, and puts both back. Assumes `Logic`.
 use Rattle.arraydeque_ring.{
   proofs.memory.{
@@ -19,12 +19,12 @@ use Rattle.arraydeque_ring.{
 use denote.Plain.{Nothing-Lawful}
 use Rattle.std.specs.contracts.ptr.copy_nonoverlapping as copy
 use Rattle.std.proofs.ptr.copy_nonoverlapping.Met as copy_thm
-use Rattle.arraydeque_ring.specs.contracts.slots.Slots.copy_over as f
-use Rattle.arraydeque_ring.proofs.slots.Slots.copy_over.Statement as stated
-use Rattle.arraydeque_ring.proofs.slots.Slots.copy_over.Code as code
+use Rattle.arraydeque_ring.specs.contracts.slots.Slots.move_over as f
+use Rattle.arraydeque_ring.proofs.slots.Slots.move_over.Statement as stated
+use Rattle.arraydeque_ring.proofs.slots.Slots.move_over.Code as code
 
-pub copy_over_spec : {M : Type 1} → stated.statement M
-copy_over_spec 𝓤 𝓛 𝓜 𝓡 wired X L =
+pub move_over_spec : {M : Type 1} → stated.statement M
+move_over_spec 𝓤 𝓛 𝓜 𝓡 wired X L =
     let E : El = record { row = X; laws = L } in let here = inst_fn (args E) code.function in
     let 𝓣 = tables 𝓤 𝓛.H 𝓜 𝓡 𝓡.env in
     let Copies = triple_of 𝓛 (copy.signature X) (copy.spec X 𝓛 𝓜.mem 𝓡.returns) in

@@ -3,7 +3,7 @@ use Rattle.std.proofs.{
   lemmas.{Grind.common_steps, List.append-nil},
 }
 use Rattle.arraydeque_ring.proofs.{fills.Filling.with_run-before, Opened.new_laid}
-use Rattle.arraydeque_ring.proofs.ring.Ring.of_vec.Goals as goal
+use Rattle.arraydeque_ring.proofs.ring.Ring.from_vec.Goals as goal
 
 pub loop-item-init : goal.loop-item-init
 loop-item-init g c = (

@@ -1,6 +1,6 @@
 use Rattle.std.proofs.Common.{◌≡◌, ◌+◌, ◌≤◌, List, ◌++◌, length, take, replicate, None, vec_len}
 use Rattle.arraydeque_ring.specs.{Runs.with_run, Steps.{no_steps, more_puts}}
-use Rattle.arraydeque_ring.proofs.ring.Ring.of_vec.Given as goal
+use Rattle.arraydeque_ring.proofs.ring.Ring.from_vec.Given as goal
 
 abbrev pub invariant-loop-item : goal.invariant-loop-item
 invariant-loop-item g l = (rest : List g.row.T.Denot) × record {

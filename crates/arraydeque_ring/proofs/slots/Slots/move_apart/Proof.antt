@@ -1,4 +1,4 @@
--- `copy_apart` hands `copy_nonoverlapping` a run of values and room for it in the same region, and puts both back.
+-- `move_apart` hands `copy_nonoverlapping` a run of values and room for it in the same region, and puts both back.
 -- Assumes `Logic`.
 use Rattle.arraydeque_ring.{
   proofs.{
@@ -21,12 +21,12 @@ use Rattle.arraydeque_ring.{
 use denote.Plain.{Nothing-Lawful}
 use Rattle.std.specs.contracts.ptr.copy_nonoverlapping as copy
 use Rattle.std.proofs.ptr.copy_nonoverlapping.Met as copy_thm
-use Rattle.arraydeque_ring.specs.contracts.slots.Slots.copy_apart as f
-use Rattle.arraydeque_ring.proofs.slots.Slots.copy_apart.Statement as stated
-use Rattle.arraydeque_ring.proofs.slots.Slots.copy_apart.Code as code
+use Rattle.arraydeque_ring.specs.contracts.slots.Slots.move_apart as f
+use Rattle.arraydeque_ring.proofs.slots.Slots.move_apart.Statement as stated
+use Rattle.arraydeque_ring.proofs.slots.Slots.move_apart.Code as code
 
-pub copy_apart_spec : {M : Type 1} → stated.statement M
-copy_apart_spec 𝓤 𝓛 𝓜 𝓡 wired X L =
+pub move_apart_spec : {M : Type 1} → stated.statement M
+move_apart_spec 𝓤 𝓛 𝓜 𝓡 wired X L =
     let E : El = record { row = X; laws = L } in let here = inst_fn (args E) code.function in
     let 𝓣 = tables 𝓤 𝓛.H 𝓜 𝓡 𝓡.env in
     let Copies = triple_of 𝓛 (copy.signature X) (copy.spec X 𝓛 𝓜.mem 𝓡.returns) in

@@ -1,6 +1,6 @@
 use Rattle.std.proofs.Common.{◌≤◌, length}
 use Rattle.arraydeque.specs.Compared.{AreBehindEqual}
-use Rattle.arraydeque.proofs.deque.blocks.behind_equal.Given as goal
+use Rattle.arraydeque.proofs.deque.blocks.skip_equal_blocks.Given as goal
 
 abbrev pub invariant-loop-pairs : goal.invariant-loop-pairs
 invariant-loop-pairs g l = record {
