@@ -90,12 +90,12 @@ impl<T, const CAP: usize, B: Behavior> ArrayDeque<T, CAP, B> {
         ensures refused { OnErr result (0 < CAP * type_size T.row) }
     {
         let ring = Ring::new(alloc, CAP)?;
-        Ok(Self::of(ring))
+        Ok(Self::from_ring(ring))
     }
 
     /// Returns the deque over a ring of `CAP` places.
     #[inline]
-    fn of(ring: Ring<T>) -> Self
+    fn from_ring(ring: Ring<T>) -> Self
         requires capacity { ring.capacity ≡ CAP }
         requires within { length ring.items ≤ CAP }
         ensures { as_ring CAP result ≡ ring }

@@ -44,6 +44,6 @@ impl<T: Clone, const CAP: usize, B: Behavior> ArrayDeque<T, CAP, B> {
             ((0 < CAP * type_size T.row) ⊎ Any (λ x. ¬ T.is_infallible x) self.now.items) }
     {
         let ring = self.ring.clone()?;
-        Ok(Self::of(ring))
+        Ok(Self::from_ring(ring))
     }
 }

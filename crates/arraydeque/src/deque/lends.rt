@@ -87,7 +87,7 @@ impl<T, const CAP: usize, B: Behavior> ArrayDeque<T, CAP, B> {
         ensures* writes_back { sem 𝓛 (lends_items T.row CAP.row B.row self.entry result.name) }
         ensures value { remaining result ≡ self.old.items }
     {
-        IterMut::of(self.lend())
+        IterMut::from_loan(self.lend())
     }
 
     /// Returns an iterator over mutable references to the items of a range, from both ends.
@@ -126,7 +126,7 @@ impl<T, const CAP: usize, B: Behavior> ArrayDeque<T, CAP, B> {
     {
         let from = range.start().unwrap_or(0);
         let to = range.end().unwrap_or(self.len());
-        IterMut::of(self.lend_part(from, to - from))
+        IterMut::from_loan(self.lend_part(from, to - from))
     }
 
     /// Returns the items in two slices: those from the front to the region's end, and the rest,

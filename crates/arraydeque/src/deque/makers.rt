@@ -64,7 +64,7 @@ impl<T, const CAP: usize> ArrayDeque<T, CAP, Saturating> {
         ensures refused { OnErr result (0 < CAP * type_size T.row) }
     {
         match Ring::from_vec(alloc, CAP, v) {
-            Ok(ring) => Ok(Self::of(ring)),
+            Ok(ring) => Ok(Self::from_ring(ring)),
             Err(source) => Err(MakeError { source }),
         }
     }
@@ -88,7 +88,7 @@ impl<T, const CAP: usize> ArrayDeque<T, CAP, Saturating> {
     {
         let items = &a[..];
         match Ring::from_slice(alloc, CAP, &items[..N.min(CAP)]) {
-            Ok(ring) => Ok(Self::of(ring)),
+            Ok(ring) => Ok(Self::from_ring(ring)),
             Err(_) => Err(MakeError { source: a }),
         }
     }
@@ -171,7 +171,7 @@ impl<T: Drop, const CAP: usize> ArrayDeque<T, CAP, Wrapping> {
     {
         let items = &a[..];
         match Ring::from_slice(alloc, CAP, &items[N.saturating_sub(CAP)..]) {
-            Ok(ring) => Ok(Self::of(ring)),
+            Ok(ring) => Ok(Self::from_ring(ring)),
             Err(_) => Err(MakeError { source: a }),
         }
     }
@@ -198,7 +198,7 @@ impl<T, const CAP: usize, B: Behavior> ArrayDeque<T, CAP, B> {
         match self.into_ring().into_vec() {
             Ok(v) => Ok(v),
             Err(ring) => Err(MakeError {
-                source: Self::of(ring),
+                source: Self::from_ring(ring),
             }),
         }
     }
@@ -219,7 +219,7 @@ impl<T, const CAP: usize> From<ArrayDeque<T, CAP, Wrapping>> for ArrayDeque<T, C
     /// assert!(rt; deque.into_vec()?.as_slice() == [2, 3].as_slice());
     /// ```
     fn from(deque: ArrayDeque<T, CAP, Wrapping>) -> Self {
-        Self::of(deque.into_ring())
+        Self::from_ring(deque.into_ring())
     }
 }
 
@@ -238,6 +238,6 @@ impl<T, const CAP: usize> From<ArrayDeque<T, CAP, Saturating>> for ArrayDeque<T,
     /// assert!(rt; deque.into_vec()?.as_slice() == [2, 4].as_slice());
     /// ```
     fn from(deque: ArrayDeque<T, CAP, Saturating>) -> Self {
-        Self::of(deque.into_ring())
+        Self::from_ring(deque.into_ring())
     }
 }

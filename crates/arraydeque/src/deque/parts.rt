@@ -69,7 +69,7 @@ impl<T, const CAP: usize, B: Behavior> ArrayDeque<T, CAP, B> {
         let from = range.start().unwrap_or(0);
         let to = range.end().unwrap_or(self.len());
         let ring = self.ring.drain(from, to)?;
-        Ok(Drain::of(ring))
+        Ok(Drain::from_ring(ring))
     }
 
     /// Removes the items from an index on, and returns them in a deque of the same capacity and
@@ -105,7 +105,7 @@ impl<T, const CAP: usize, B: Behavior> ArrayDeque<T, CAP, B> {
         ensures refused { OnErr result (0 < CAP * type_size T.row) }
     {
         let ring = self.ring.split_off(at)?;
-        Ok(Self::of(ring))
+        Ok(Self::from_ring(ring))
     }
 }
 

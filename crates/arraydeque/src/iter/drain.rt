@@ -44,7 +44,7 @@ impl<T> Model for Drain<T> {
 impl<T> Drain<T> {
     /// Returns the drain of the items of a ring.
     #[inline]
-    pub(crate) fn of(ring: Ring<T>) -> Drain<T>
+    pub(crate) fn from_ring(ring: Ring<T>) -> Drain<T>
         ensures { result ≡ ring.items }
     {
         Drain {

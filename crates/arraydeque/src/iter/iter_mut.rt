@@ -42,7 +42,7 @@ impl<'a, T> Model for IterMut<'a, T> {
 impl<'a, T> IterMut<'a, T> {
     /// Returns the iterator over what is lent.
     #[inline]
-    pub(crate) fn of(loan: Loan<'a, T>) -> IterMut<'a, T>
+    pub(crate) fn from_loan(loan: Loan<'a, T>) -> IterMut<'a, T>
         ensures { result ≡ loan.entry }
     {
         let (first, second, name) = loan.into_parts();

@@ -20,12 +20,12 @@ use Rattle.arraydeque.{
     Called.{Asked, OfTwo, Others, Two, set_apart, come_back},
     Lent.Dr,
     deque.ArrayDeque.lend.Met.met,
-    iter.iter_mut.IterMut.of.Met.met as of_met,
+    iter.iter_mut.IterMut.from_loan.Met.met as of_met,
   },
 }
 use Rattle.arraydeque.proofs.iter.iter_mut.IterMut.TheLaws as iter_laws
 use Rattle.arraydeque.specs.contracts.deque.ArrayDeque.lend as g
-use Rattle.arraydeque.specs.contracts.iter.iter_mut.IterMut.of as h
+use Rattle.arraydeque.specs.contracts.iter.iter_mut.IterMut.from_loan as h
 use Rattle.arraydeque.specs.contracts.deque.ArrayDeque.iter_mut as f
 use Rattle.arraydeque.proofs.deque.ArrayDeque.iter_mut.Statement as stated
 use Rattle.arraydeque.proofs.deque.ArrayDeque.iter_mut.Code as code
@@ -47,12 +47,12 @@ iter_mut_spec 𝓤 𝓛 𝓜 𝓡 wired X N B L fits LB members dict dict_met =
     -- [the loan; two tokens; the others; what `lend` says]
     nothing ! $ move ! (1 ∷ 0 ∷ []) $ fjoin ! $ move ! (1 ∷ 0 ∷ []) $ join ! $ nothing ! $
     knows ! lives $ join ! $ calls_met 𝓛 ! 𝓜 𝓣 (h.ended X) (h.clauses X 𝓛 𝓜.mem 𝓡.returns)
-    (of_met 𝓤 𝓛 𝓜 𝓡 (code.calls-arraydeque::iter::iter_mut::IterMut::of 𝓡.env wired) X L)
+    (of_met 𝓤 𝓛 𝓜 𝓡 (code.calls-arraydeque::iter::iter_mut::IterMut::from_loan 𝓡.env wired) X L)
     ((Two κs, (qs.0, (qs.1.0, tt)), (bounds.0, tt), (it, tt), (v ∷ [], tt)), tt) (id⊢ 𝓤 _)
     (and_then ! (get ! refl) (no_more !))
     ((iter_laws.the_row_laws (named_lft 2 0 tt (Two κs)) (R E) (param_laws 0 X L)).lawful 𝓛)
     (λ u items ws' typed'. lands_as ! refl refl typed'.0 $
-    -- [the iterator; two tokens; what `of` says; the others; what `lend` says]
+    -- [the iterator; two tokens; what `from_loan` says; the others; what `lend` says]
     move ! (1 ∷ 3 ∷ []) $ use2 𝓛 (raw (toks 𝓛 4 κs qs)) (come_back 𝓛 κs qs) $
     move ! (2 ∷ []) $ heard ! _ (λ e. move ! (2 ∷ []) $
     use1 𝓛 (‵ (lends_loan (R E) (f.CAP-row X C B) (f.B-row X C B) a.0 it) ⊛ raw _) (id⊢ 𝓤 _) $ split ! $
