@@ -11,12 +11,13 @@ ghost use Rattle.std.specs.Option.{option_copied_mut};
 ghost use Rattle.arraydeque_ring.specs.Ring.{empty_ring, place_of};
 ghost use Rattle.arraydeque_ring.specs.Steps.{more_puts, more_takes};
 
-mod copies;
+mod clone;
 mod each;
 mod fill;
 pub mod into_iter;
 mod lends;
 mod linearize;
+mod makers;
 mod moves;
 mod parts;
 mod retain;

@@ -8,17 +8,23 @@ ghost use Rattle.std.specs.Borrow.{sem};
 ghost use Rattle.std.specs.Mem.{type_size};
 ghost use Rattle.arraydeque_ring.specs.Places.{empty_region, held_at, IsFilled, IsEmpty, AreAllEmpty};
 ghost use Rattle.arraydeque_ring.specs.Counted.{counted};
+ghost use Rattle.arraydeque_ring.specs.Moved.{is_block};
 ghost use Rattle.arraydeque_ring.specs.Runs.{HoldsRun, IsFilledRun};
 ghost use Rattle.arraydeque_ring.specs.Steps.{Steps, more_puts, more_takes, more_moves, more_exchanges};
 
+mod copies;
 pub mod loan;
+mod moves;
 mod raw;
-mod runs;
 
 use raw::size_of_item;
 use std::alloc::{AllocError, Global};
 use std::marker::{Model, Send, Sync};
 use std::mem::replace;
+
+/// The most bytes that a block may have: above the 8 kB from which on the C library copies fastest
+/// (glibc 2.36, by `rep movsb`: to a lower address in about half the time).
+const BLOCK_BYTES: usize = 32_768;
 
 /// A kind of step that is counted.
 #[derive(Clone, Copy)]
@@ -182,6 +188,15 @@ fn can_be_named<T>(capacity: usize) -> bool
 {
     let size = size_of_item::<T>();
     size == 0 || capacity <= isize::MAX as usize / size
+}
+
+/// Whether a block may have `N` items: it is one item, or no larger than a block may be.
+#[inline(always)]
+fn is_block<T, const N: usize>() -> bool
+    requires { 0 < N }
+    ensures { result ≡ is_block N (type_size T.row) }
+{
+    N == 1 || size_of_item::<T>() <= BLOCK_BYTES / N
 }
 
 impl<T> Drop for Slots<T> {

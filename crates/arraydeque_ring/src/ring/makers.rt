@@ -1,0 +1,112 @@
+//! A ring of copies, or of a vector's items, and a vector of a ring's.
+ghost use Rattle.std.specs.Prelude.{◌≡◌, ◌*◌, ◌<◌, ◌≤◌, length, take, IfOk, IfErr, OnErr, vec_capacity};
+ghost use Rattle.std.specs.Mem.{type_size};
+ghost use Rattle.arraydeque_ring.specs.Steps.{no_steps, more_puts};
+
+use super::Ring;
+use crate::slots::Slots;
+use std::alloc::{AllocError, Global};
+
+impl<T> Ring<T> {
+    /// Returns a ring of copies of items, in order from the first place on. Requires no more items
+    /// than places. It is refused if its region is.
+    ///
+    /// Start: 0. Steps: 1 put for each item.
+    ///
+    /// ```
+    /// let ring = Ring::from_slice(alloc, 3, &[1, 2])?;
+    /// assert!(rt; (ring.len(), ring.capacity()) == (2, 3));
+    /// assert!(rt; (ring.get(0), ring.get(1)) == (Some(&1), Some(&2)));
+    /// ```
+    pub fn from_slice(alloc: Global, capacity: usize, items: &[T]) -> Result<Ring<T>, AllocError>
+    where
+        T: Copy,
+        requires { length items.now ≤ capacity }
+        ensures ok { IfOk result (λ ring. ring ≡ record {
+          items = items.now;
+          capacity = capacity;
+          start = 0;
+          steps = more_puts (length items.now) no_steps;
+        }) }
+        ensures refused { OnErr result (0 < capacity * type_size T.row) }
+    {
+        let mut ring = Ring::new(alloc, capacity)?;
+        ring.copy_back(items);
+        Ok(ring)
+    }
+
+    /// Returns a ring of the items of a vector, in order from the first place on, as many as there
+    /// are places for. The others are dropped, front to back. It is refused if its region is; then
+    /// the vector comes back as it was.
+    ///
+    /// Start: 0. Steps: 1 put for each item of the ring.
+    ///
+    /// ```
+    /// let items = vec![in alloc; 1, 2, 3]?;
+    /// let ring = Ring::from_vec(alloc, 2, items).map_err(|_| "refused")?;
+    /// assert!(rt; (ring.len(), ring.capacity()) == (2, 2));
+    /// assert!(rt; (ring.get(0), ring.get(1)) == (Some(&1), Some(&2)));
+    /// ```
+    pub fn from_vec(alloc: Global, capacity: usize, v: Vec<T>) -> Result<Ring<T>, Vec<T>>
+    where
+        T: Drop,
+        ensures ok { IfOk result (λ ring. ring ≡ record {
+          items = take capacity v.items;
+          capacity = capacity;
+          start = 0;
+          steps = more_puts (length (take capacity v.items)) no_steps;
+        }) }
+        ensures source { IfErr result (λ w. w ≡ v) }
+        ensures refused { OnErr result (0 < capacity * type_size T.row) }
+    {
+        let mut slots = match Slots::new(alloc, capacity) {
+            Ok(slots) => slots,
+            Err(_) => return Err(v),
+        };
+        let mut items = v;
+        items.truncate(capacity);
+        let len = items.len();
+        while let Some(item) = items.pop() {
+            slots.put(items.len(), item);
+        }
+        Ok(Ring {
+            slots,
+            start: 0,
+            len,
+        })
+    }
+
+    /// Returns a vector of the items, front to back, with no room to spare. If its memory is
+    /// refused, which never happens to an empty ring, the ring comes back as it was.
+    ///
+    /// ```
+    /// let mut ring = Ring::from_slice(alloc, 3, &[2, 3])?;
+    /// ring.push_front(1);
+    /// let items = ring.into_vec().map_err(|_| "refused")?;
+    /// assert!(rt; items.as_slice() == [1, 2, 3].as_slice());
+    /// ```
+    pub fn into_vec(self) -> Result<Vec<T>, Ring<T>>
+        ensures items { IfOk result (λ v. v.items ≡ self.items) }
+        ensures exact { IfOk result (λ v. vec_capacity v ≡ length self.items) }
+        ensures source { IfErr result (λ ring. ring ≡ self) }
+        ensures refused { OnErr result (0 < length self.items) }
+    {
+        let mut v = match Vec::with_capacity(self.alloc(), self.len()) {
+            Ok(v) => v,
+            Err(_) => return Err(self),
+        };
+        let Ring {
+            mut slots,
+            start,
+            len,
+        } = self;
+        let first = len.min(slots.capacity() - start);
+        for k in 0..first {
+            v.push_reserved(slots.take(start + k));
+        }
+        for k in first..len {
+            v.push_reserved(slots.take(k - first));
+        }
+        Ok(v)
+    }
+}
