@@ -313,7 +313,7 @@ impl<T> Ring<T> {
     /// found by a mask if the capacity is a power of two, else by taking the capacity or 0 off the
     /// sum. If sums might pass `usize::MAX`, as only items of size zero allow, it is found by
     /// `wrap_add`.
-    #[inline(always)] // Measured with `move_gap`.
+    #[inline(always)] // So a caller's constant capacity chooses mask or sum.
     fn place(&self, index: usize) -> usize
         requires { index < length self.now.items }
         ensures { result ≡ place_of self.now.start index self.now.capacity }

@@ -89,6 +89,9 @@ impl<T> Slots<T> {
     }
 
     /// Returns how many places there are.
+    ///
+    /// Reading it tells the prover that no sum of places within the region passes `usize::MAX`. So
+    /// a body that counts places upwards begins with `let _fits = slots.capacity();`.
     #[inline]
     pub fn capacity(&self) -> usize
         ensures { result ≡ length self.now.places }
@@ -191,7 +194,7 @@ fn can_be_named<T>(capacity: usize) -> bool
 }
 
 /// Whether a block may have `N` items: it is one item, or no larger than a block may be.
-#[inline(always)]
+#[inline(always)] // It is a constant, by which loops over blocks that are too large go.
 fn is_block<T, const N: usize>() -> bool
     requires { 0 < N }
     ensures { result ≡ is_block N (type_size T.row) }

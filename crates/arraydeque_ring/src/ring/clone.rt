@@ -56,8 +56,7 @@ impl<T> Ring<T> {
         }) }
         ensures refused { OnErr result (Any (λ x. ¬ T.is_infallible x) items.now) }
     {
-        // Reading the capacity tells the prover that no sum passes `usize::MAX`.
-        let _capacity = self.slots.capacity();
+        let _fits = self.slots.capacity();
         for item in items {
             let clone = item.clone()?;
             self.slots.put(self.len, clone);

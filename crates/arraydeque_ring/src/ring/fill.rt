@@ -62,7 +62,7 @@ impl<T> Ring<T> {
     /// assert!(rt; ring.fill_front(&mut (2..4)));
     /// assert!(rt; IntoIter::from_ring(ring).eq([3, 2, 1]));
     /// ```
-    #[inline(always)] // As `fill_back`.
+    #[inline(always)] // Else a vector's items took three times as long, as in `fill_back`.
     pub fn fill_front<I: Iterator<Item = T>>(&mut self, elements: &mut I) -> bool
         requires { I.can_next elements.old }
         ensures came { Fills I.next_gives elements.old elements.new
@@ -106,7 +106,7 @@ impl<T> Ring<T> {
     /// assert!(rt; IntoIter::from_ring(ring).eq([1, 2, 3, 4]));
     /// ```
     #[tactic(auto, using(crate::proofs::Opened::piece_facts))]
-    #[inline(always)] // As a `write`: by calls, 16 bytes took 13.8 ns, not 8.2.
+    #[inline(always)] // By calls, 16 bytes written to a deque and read took 13.8 ns, not 8.2.
     pub fn copy_back(&mut self, items: &[T]) -> usize
     where
         T: Copy,
@@ -227,8 +227,7 @@ fn fill_up<T, I: Iterator<Item = T>>(
     ensures steps { result.0.steps ≡ more_puts result.1 slots.steps }
     ensures goes { GoesOn I.can_next I.remaining elements.old elements.new (nat_lt result.1 len) }
 {
-    // Reading the capacity tells the prover that no sum passes `usize::MAX`.
-    let _capacity = slots.capacity();
+    let _fits = slots.capacity();
     for filled in 0..len {
         let Some(element) = ask(elements) else {
             return (slots, filled);
@@ -284,8 +283,7 @@ fn displace_up<T: Drop, I: Iterator<Item = T>>(
     ensures goes { nat_lt result.1 len ≡ false →
         IsNearerEnd I.can_next I.remaining elements.old elements.new }
 {
-    // Reading the capacity tells the prover that no sum passes `usize::MAX`.
-    let _capacity = slots.capacity();
+    let _fits = slots.capacity();
     for displaced in 0..len {
         let Some(element) = ask(elements) else {
             return (slots, displaced);

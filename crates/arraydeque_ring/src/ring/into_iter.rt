@@ -133,8 +133,7 @@ impl<T> Ring<T> {
           steps = more_takes 1 self.old.steps;
         } }
     {
-        // Reading the capacity tells the prover that no sum passes `usize::MAX`.
-        let _capacity = self.slots.capacity();
+        let _fits = self.slots.capacity();
         let place = self.start;
         self.start = place + 1;
         self.len -= 1;

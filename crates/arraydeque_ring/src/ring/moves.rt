@@ -120,7 +120,7 @@ impl<T> Ring<T> {
 /// Closes the `gap` empty places between the `before` values from the place `start` on and the
 /// `behind` values that follow the gap. The values on one side move: those before it if they are
 /// fewer, else those behind it. Returns the place where the list starts then.
-#[inline(always)] // Measured with `move_gap`.
+#[inline(always)] // So a removal's gap of one place is known to `move_gap`.
 pub(super) fn close_gap<T>(
     slots: &mut Slots<T>,
     start: usize,

@@ -276,8 +276,7 @@ fn drop_run<T: Drop>(slots: &mut Slots<T>, from: usize, len: usize)
     ensures places { slots.new.places ≡ run_emptied from len slots.old.places }
     ensures steps { slots.new.steps ≡ more_takes len slots.old.steps }
 {
-    // Reading the capacity tells the prover that no sum passes `usize::MAX`.
-    let _capacity = slots.capacity();
+    let _fits = slots.capacity();
     for place in from..from + len {
         drop(slots.take(place));
     }

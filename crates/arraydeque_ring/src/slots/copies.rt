@@ -92,7 +92,7 @@ impl<T> Slots<T> {
     /// Puts copies of the items from the index `at` on in blocks of `N`, as long as there are so
     /// many. Returns the index of the first that is left. Blocks that are too large are not tried,
     /// unless `N` is 1.
-    #[inline(always)]
+    #[inline(always)] // So `put_short` makes no call, and `put_long` one loop of each size.
     fn put_blocks<const N: usize>(&mut self, from: usize, items: &[T], at: usize) -> usize
     where
         T: Copy,
@@ -118,7 +118,7 @@ impl<T> Slots<T> {
 
     /// Puts a copy of the `N` items from the index `at` on, if there are so many. Returns the index
     /// of the first that is left.
-    #[inline(always)]
+    #[inline(always)] // So a known number of items chooses blocks when the caller is compiled.
     fn put_block<const N: usize>(&mut self, from: usize, items: &[T], at: usize) -> usize
     where
         T: Copy,
@@ -136,8 +136,7 @@ impl<T> Slots<T> {
         if items.len() - at < N {
             return at;
         }
-        // Reading the capacity tells the prover that no sum passes `usize::MAX`.
-        let _capacity = self.capacity();
+        let _fits = self.capacity();
         let Some(block) = items[at..].first_chunk::<N>() else {
             unreachable!()
         };
@@ -155,8 +154,7 @@ impl<T> Slots<T> {
         ensures places { result.places ≡ with_run from (replicate len value) self.places }
         ensures steps { result.steps ≡ more_puts len self.steps }
     {
-        // Reading the capacity tells the prover that no sum passes `usize::MAX`.
-        let _capacity = self.capacity();
+        let _fits = self.capacity();
         for k in 0..len {
             self.put(from + k, value);
         }

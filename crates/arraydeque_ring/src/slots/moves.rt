@@ -229,7 +229,7 @@ impl<T> Slots<T> {
 
     /// Moves the last values of a run in blocks of `N`, as long as there are so many. Returns how
     /// many are left. Blocks that are too large are not tried, unless `N` is 1.
-    #[inline(always)]
+    #[inline(always)] // So a slide's move of the value in the last place is no loop.
     fn move_last<const N: usize>(&mut self, dst: usize, src: usize, len: usize) -> usize
         requires some { 0 < N }
         requires up { src ≤ dst }
@@ -256,7 +256,7 @@ impl<T> Slots<T> {
 
     /// Moves the values of a run from the index `from` on in blocks of `N`, as long as there are so
     /// many. Returns the index of the first that is left.
-    #[inline(always)]
+    #[inline(always)] // So a slide's move of the value in the last place is no loop.
     fn move_first<const N: usize>(
         &mut self,
         dst: usize,

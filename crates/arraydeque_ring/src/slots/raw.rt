@@ -46,7 +46,7 @@ impl<T> Slots<T> {
     }
 
     /// Writes `N` values into the empty places from `place` on, all at once.
-    #[inline(always)] // As a `write`, which comes down to it.
+    #[inline(always)] // So a block goes from a slice to its places without a copy between.
     pub(super) fn write_block<const N: usize>(&mut self, place: usize, values: [T; N])
         requires block { is_block N (type_size T.row) ≡ true }
         requires empty { IsEmptyRun self.old.places place N }
@@ -60,7 +60,7 @@ impl<T> Slots<T> {
 
     /// Moves `N` values from the place `src + at` on to the places from `dst + at` on. All are read
     /// before one is written, so the two runs may overlap.
-    #[inline(always)] // Measured with `move_gap`.
+    #[inline(always)] // So a block of one value is a load and a store in the caller's loop.
     pub(super) fn move_block<const N: usize>(&mut self, dst: usize, src: usize, at: usize)
         requires block { is_block N (type_size T.row) ≡ true }
         requires filled { IsFilledRun self.old.places (src + at) N }
