@@ -1,5 +1,9 @@
 -- `ArrayDeque` as a type that may hold the type that holds it. Its value lists the items.
 -- There is no `the_empty`: of a const parameter's value the check makes a type there.
+--
+-- In four parts: former, weight, places, codes. They break if a field of `ArrayDeque` or of
+-- `DequeState` comes or goes (`the_former`, `fields`), or if its view or invariant changes
+-- (`holds`, `the_places`).
 use Rattle.std.specs.Prelude.{◌≡◌, ◌≤◌, ℕ, List, map}
 use mathlib.Core.{Former.{Former, this, const, pair, list, via, children}, Path.{refl, sym, subst}}
 use native.Mathlib.{Bridge.{le_prop}, Nat.{ℕ_set}}
@@ -23,12 +27,14 @@ use Rattle.arraydeque.specs.contracts.deque.ArrayDeque as C
 use Rattle.arraydeque.specs.contracts.deque.ArrayDeque.TheInside as I
 use Rattle.arraydeque_ring.specs.formers.ring.Ring as ring
 
+-- Former: a deque over the values of another type, item by item
 abbrev pub the_former : Former {0} → ℕ → Type 0 → Former {0}
 the_former g N B =
     via (pair (list g) (const (ℕ × Steps))) (λ X. DequeState (g.Of X))
     (λ X d. (d.items, (d.start, d.steps)))
     (λ X v. record { items = v.0; start = v.1.0; steps = v.1.1 }) (λ X d. refl) (λ X v. refl)
 
+-- Weight: the largest measure among the items, and these as a list
 abbrev pub the_weighed : {g : Former {0}} → Weighed g → (N : ℕ) (B : Type 0)
     → Weighed (the_former g N B)
 the_weighed w N B = record {
@@ -43,6 +49,7 @@ pub the_items_listed : (N : ℕ) (B X : Type 0) (d : DequeState X)
     → listed _ (children (the_former this N B) X d) ≡ the_items N B X d
 the_items_listed N B X d = list-listed X d.items
 
+-- Places: a deque owns and lends what its ring does
 abbrev fields : ℕ → Type 0 → Former {0}
 fields N B =
     via (pair (ring.the_former this) (const (PhantomData B))) (λ X. Inside X N B)
@@ -81,6 +88,7 @@ module _ (N B : RattleType) (R R' : RattleType) (h : R.Denot → R'.Denot) where
       ((ring.the_former this).map R.Denot R'.Denot h, (λ n. n, tt)) _ (λ d. refl) refl
       (laid _ _ _ (ring.the_places R R' h a), ((refl, (λ n. refl, λ n. refl)), tt)))
 
+  -- Codes: a deque is coded by what its items are coded by
   items_recoded : Recodes R R' h → (xs : List R.Denot) (k : Gv)
       → gcons (code_l R'.coded.code (map h xs)) k ≡ gcons (code_l R.coded.code xs) k
   items_recoded e xs k =

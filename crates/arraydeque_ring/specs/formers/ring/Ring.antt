@@ -1,5 +1,9 @@
 -- `Ring` as a type that may hold the type that holds it. Its value lists the items from front to
 -- back, so the places are taken in that order too.
+--
+-- In four parts: former, weight, places, codes. They break if a field of `Ring` or of `RingState`
+-- comes or goes (`the_former`, `fields`, `the_empty`), if its view changes (`natural`), or if its
+-- invariant reads more than how many places there are and which are filled (`Seen`).
 use Rattle.std.specs.{
   declared.option.Option.{Option, TheVariants.{None, Some}},
   List.{drop-map, take-map},
@@ -34,6 +38,7 @@ use Rattle.arraydeque_ring.specs.contracts.ring.Ring as C
 use Rattle.arraydeque_ring.specs.contracts.ring.Ring.TheInside as I
 use Rattle.arraydeque_ring.specs.formers.slots.Slots as slots
 
+-- Former: a ring over the values of another type, item by item
 abbrev pub the_former : Former {0} → Former {0}
 the_former g =
     via (pair (list g) (const (ℕ × (ℕ × Steps)))) (λ X. RingState (g.Of X))
@@ -41,6 +46,7 @@ the_former g =
     (λ X v. record { items = v.0; capacity = v.1.0; start = v.1.1.0; steps = v.1.1.1 })
     (λ X r. refl) (λ X v. refl)
 
+-- Weight: the largest measure among the items, and these as a list
 abbrev pub the_weighed : {g : Former {0}} → Weighed g → Weighed (the_former g)
 the_weighed w = record {
   weight = λ X μ r. most (w.weight X μ) r.items;
@@ -57,7 +63,8 @@ pub the_items_listed : (X : Type 0) (r : RingState X)
     → listed _ (children (the_former this) X r) ≡ the_items X r
 the_items_listed X r = list-listed X r.items
 
--- a list read from an index on, and read back
+-- Places: a ring owns and lends what its items own and lend, one by one. First, a list read from an
+-- index on, and read back
 module _ {X : Type 0} where
   abbrev unrotated : ℕ → List X → List X
   unrotated n xs = rotated (length xs - n) xs
@@ -210,6 +217,7 @@ module _ (R R' : RattleType) (h : R.Denot → R'.Denot) where
         ((refl, (λ n. refl, λ n. refl)), ((refl, (λ n. refl, λ n. refl)), tt)),
       ))
 
+  -- Codes: a ring is coded by what its items are coded by
   items_recoded : Recodes R R' h → (xs : List R.Denot) (k : Gv)
       → gcons (code_l R'.coded.code (map h xs)) k ≡ gcons (code_l R.coded.code xs) k
   items_recoded e xs k =

@@ -1,4 +1,9 @@
 -- `Slots` as a type that may hold the type that holds it. Its value is a region.
+--
+-- In four parts: former, weight, places, codes. They break if a field of `Slots` or of `Region`
+-- comes or goes (`the_former`, `fields`, `the_empty`), if its view or invariant changes
+-- (`the_places`), or if Ownership says otherwise what a place or a region owns or lends
+-- (`place_placed` to `slots_seen`).
 use Rattle.std.specs.{
   declared.{alloc.Global.Global, option.Option.{Option, TheVariants.{None, Some}}},
   Mem.type_size,
@@ -42,7 +47,7 @@ use Rattle.std.specs.contracts.impls.GlobalAllocator.TheImpl as heap
 use Rattle.arraydeque_ring.specs.contracts.slots.Slots as C
 use Rattle.arraydeque_ring.specs.contracts.slots.Slots.TheInside as I
 
--- one place
+-- Former: a region over the values of another type, place by place
 module _ {X : Type 0} where
   abbrev pub maybe : Option X → Maybe X
   maybe None = none
@@ -71,7 +76,7 @@ the_former g =
     (λ X r. (r.places, r.steps)) (λ X v. record { places = v.0; steps = v.1 }) (λ X r. refl)
     (λ X v. refl)
 
--- the largest measure among the values in the places
+-- Weight: the largest measure among the values in the places, and these values as a list
 module _ {g : Former {0}} (w : Weighed g) (X : Type 0) (μ : X → ℕ) where
   pub places_puts : (ps : List (Option (g.Of X))) (n : Count) (t : Row X n)
       → deepest μ ((list (place_former g)).count (map ((place_former g).shape X) ps) n)
@@ -106,6 +111,7 @@ pub the_items_listed : (X : Type 0) (r : Region X)
     → listed _ (children (the_former this) X r) ≡ the_items X r
 the_items_listed X r = places_listed X r.places
 
+-- Places: a region owns and lends what the values in its places own and lend, one by one
 abbrev fields : Former {0}
 fields =
     via (pair (list (place_former this)) (const (Ptr × (ℕ × (Global × Steps))))) Inside
@@ -185,6 +191,7 @@ module _ (R R' : RattleType) (h : R.Denot → R'.Denot) where
       (λ u e. e ∙ length-map u.places moved) (over (I.the_row R)) (over (I.the_row R'))
       (inside_places a)
 
+  -- Codes: a region is coded by what its values are coded by
   module _ (c : Option R.Denot → Gv) (d : Option R'.Denot → Gv) (none_same : c None ≡ d None)
       (some_same : (x : R.Denot) → c (Some x) ≡ d (Some (h x))) where
     place_recoded : (p : Option R.Denot) → c p ≡ d (moved p)
