@@ -33,8 +33,8 @@ impl<'a, T> Model for Iter<'a, T> {
 
 impl<'a, T> Iter<'a, T> {
     /// Calls `f` on a total, which begins as `init`, and each item in turn, and returns the last
-    /// total: one call an item. Std's own `fold` asks for one item after the other; this one goes
-    /// over each of the two slices as a whole.
+    /// total: one call an item. Std's own `fold` asks for one item after the other; this one walks
+    /// each of the two slices as a whole.
     ///
     /// ```
     /// let mut deque = ArrayDeque::<i64, 3, Saturating>::new(alloc)?;

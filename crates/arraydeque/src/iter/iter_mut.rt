@@ -20,7 +20,7 @@ use std::mem;
 /// once. It walks the two slices one after the other.
 ///
 /// A contract sees its two slices and the name of the loan, which the deque follows: a caller who
-/// only writes through the iterator knows the deque afterwards.
+/// only writes through the iterator knows the deque's length and start afterwards.
 #[derive(Drop)]
 pub struct IterMut<'a, T> {
     first: &'a mut [T],
@@ -80,7 +80,7 @@ impl<'a, T> IterMut<'a, T> {
     }
 
     /// Calls `f` on each item in turn. Std's own `for_each` asks for one item after the other; this
-    /// one goes over each of the two slices as a whole.
+    /// one walks each of the two slices as a whole.
     ///
     /// ```
     /// let mut deque = ArrayDeque::<i64, 3, Saturating>::new(alloc)?;
