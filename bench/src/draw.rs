@@ -37,7 +37,7 @@ fn main() -> Result<()> {
     let all = figures::load(figures::TIMES)?;
     fail_of("summaries.rs has no task of", &summaries::without_task(&all))?;
     let workloads = summaries::by_workload(&all);
-    std::fs::write("figures.md", tables::page(&all, &workloads)?)?;
+    std::fs::write("figures.md", tables::page(&all)?)?;
     std::fs::write("chart.svg", chart::of_workloads(&workloads))?;
     std::fs::write(format!("../{PICTURE}"), chart::of_tasks(&summaries::by_task(&all)))?;
     write_between_marks("../README.md", &tables::of_tasks(&all, PICTURE))?;

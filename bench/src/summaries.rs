@@ -69,7 +69,6 @@ pub struct Span {
     pub mean: f64,
     pub least: f64,
     pub greatest: f64,
-    pub slower: usize,
 }
 
 impl Span {
@@ -79,7 +78,6 @@ impl Span {
             mean: geometric_mean(ratios()),
             least: ratios().fold(f64::INFINITY, f64::min),
             greatest: ratios().fold(0.0, f64::max),
-            slower: ratios().filter(|&ratio| ratio > 1.0).count(),
         }
     }
 }

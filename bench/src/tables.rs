@@ -1,14 +1,14 @@
-//! The figures as tables: by task, by workload, and what costs the rows that take long.
+//! The figures as tables: by task, and what costs the rows that take long.
 use crate::figures::{Figures, LONG};
-use crate::summaries::{Span, Summary, TASKS, Task};
+use crate::summaries::{Span, TASKS};
 use std::fmt::Write;
 use std::io::Result;
 use std::ops::RangeInclusive;
 
-/// From how much of the better peer's time on a cause is looked for, and a row counts as slower.
+/// From how much of a peer's time on a row counts as slower.
 const LONGER: f64 = 1.1;
 
-/// Where the causes are written, by hand: the workloads of rows above `LONG` or above `LONGER`, and what costs them.
+/// Where the causes are written, by hand: the workloads of rows above `LONG`, and what costs them.
 const CAUSES: &str = "causes.csv";
 
 /// The workloads in which a vector goes in or out, which `VecDeque` hands over whole.
@@ -24,7 +24,7 @@ const VECTOR: &str = "vec_and_back, 64 bytes, capacity 1024";
 
 /// A row of README's table: the means beside the crate by capacity, the mean beside `VecDeque`, and what is worst.
 fn task_line(name: &str, rows: &[&Figures], worst: &str) -> String {
-    let mut line = format!("| {name} ({}) |", rows.len());
+    let mut line = format!("| {name} |");
     for capacities in &CAPACITIES {
         let some: Vec<&Figures> = rows.iter().copied().filter(|row| capacities.contains(&row.capacity())).collect();
         let mean = if some.is_empty() { String::new() } else { format!("{:.2} ", Span::of(&some, 0).mean) };
@@ -48,14 +48,14 @@ fn behind(all: &[Figures]) -> String {
     let [[rust_slower, std_slower], [rust_twice, std_twice]] = [LONGER, 2.0].map(|limit| above(all, limit));
     let [one, other] = QUEUES.map(|(places, name)| {
         let [ours, rust, std] = times(name);
-        format!("{ours:.1} ns at {places} places, the crate's {rust:.1}, `VecDeque`'s {std:.1}")
+        format!("{ours:.1} ns at {places} places (the crate {rust:.1}, `VecDeque` {std:.1})")
     });
     let [ours, _, std] = times(VECTOR);
     format!(
-        "In {rust_slower} of {} measurements it is more than a tenth slower than the crate, and in {std_slower} than \
-         `VecDeque`; in {rust_twice} and {std_twice} more than twice as slow. A `push_back` with a `pop_front` takes \
-         {one}; {other}. A vector handed over, and back, costs `VecDeque` {std:.0} ns, as it keeps the memory, and \
-         this deque a move of each item: {:.1} µs for 1,024 items of 64 bytes.\n",
+        "In {rust_slower} of {} measurements it is over a tenth slower than the crate, in {std_slower} than \
+         `VecDeque`; in {rust_twice} and {std_twice} over twice as slow. A `push_back` with a `pop_front` takes \
+         {one}, {other}. A vector handed over and back costs `VecDeque` {std:.0} ns, and this deque a move of each \
+         item ({:.1} µs for 1,024 of 64 bytes).\n",
         all.len(),
         ours / 1000.0,
     )
@@ -65,7 +65,7 @@ fn behind(all: &[Figures]) -> String {
 pub fn of_tasks(all: &[Figures], picture: &str) -> String {
     let mut text = format!(
         "![our time divided by the Rust crate's and by VecDeque's, by task]({picture})\n\n\
-         | Task (measurements) | crate, 16 places | 64 | 1000 and more | `VecDeque` | worst of each |\n\
+         | Task | crate, 16 places | 64 | 1000 and more | `VecDeque` | worst of each |\n\
          |---|---|---|---|---|---|\n"
     );
     for task in TASKS.iter().filter(|task| task.is_in_table) {
@@ -113,31 +113,6 @@ pub fn of_all(all: &[Figures], when: &str) -> String {
     )
 }
 
-/// A row of the table by workload.
-fn workload_line(summary: &Summary) -> String {
-    let mut line = format!("| {} | {} |", summary.name, summary.rows);
-    for Span { mean, least, greatest, slower } in &summary.beside {
-        let _ = write!(line, " {mean:.2} | {least:.2} | {greatest:.2} | {slower} |");
-    }
-    line + "\n"
-}
-
-/// The table by workload, and what all rows come to.
-fn short_table(all: &[Figures], workloads: &[(&Task, Vec<Summary>)]) -> String {
-    let rows: Vec<&Figures> = all.iter().collect();
-    let others: Vec<&Figures> = all.iter().filter(|row| !OF_VECTORS.contains(&row.workload())).collect();
-    let mut table = String::from(
-        "| Workload | rows | ours / crate | least | greatest | slower | ours / `VecDeque` | least | greatest | slower |\n\
-         |---|---|---|---|---|---|---|---|---|---|\n",
-    );
-    for summary in workloads.iter().flat_map(|(_, list)| list) {
-        table += &workload_line(summary);
-    }
-    table += &workload_line(&Summary::of("all", &rows));
-    table += &workload_line(&Summary::of("all but those of vectors", &others));
-    table
-}
-
 /// A workload with its greatest ratio and the count of its rows, if it has any of these.
 fn worst(name: &str, rows: &[&Figures]) -> Option<String> {
     let ratios = || rows.iter().filter(|row| row.workload() == name).map(|row| row.worse_ratio());
@@ -151,35 +126,28 @@ struct Cause {
     text: String,
 }
 
-/// The causes that are written for the rows above this limit.
-fn causes(limit: f64) -> Result<Vec<Cause>> {
+/// The causes that are written for the rows above `LONG`.
+fn causes() -> Result<Vec<Cause>> {
     let text = std::fs::read_to_string(CAUSES)?;
-    let of_limit = text.lines().filter_map(|line| line.strip_prefix(&format!("{limit};"))?.split_once(';'));
     let cause = |(workloads, text): (&str, &str)| Cause {
         workloads: workloads.split(' ').map(str::to_string).collect(),
         text: text.to_string(),
     };
-    Ok(of_limit.map(cause).collect())
+    Ok(text.lines().skip(1).filter_map(|line| line.split_once(';')).map(cause).collect())
 }
 
-/// The workloads of these rows that none of the causes names.
-fn without_cause(causes: &[Cause], rows: &[&Figures]) -> Vec<String> {
-    let has_cause = |name: &str| causes.iter().any(|cause| cause.workloads.iter().any(|other| other == name));
-    let mut others: Vec<String> =
-        rows.iter().map(|row| row.workload()).filter(|name| !has_cause(name)).map(str::to_string).collect();
-    others.sort();
-    others.dedup();
-    others
+/// The rows that take long.
+fn long(all: &[Figures]) -> Vec<&Figures> {
+    all.iter().filter(|row| row.is_long()).collect()
 }
 
-/// The workloads of these rows, which are above the limit, by what costs them.
-fn causes_table(limit: f64, rows: &[&Figures]) -> Result<String> {
-    let mut causes = causes(limit)?;
-    let others = without_cause(&causes, rows);
-    causes.push(Cause { workloads: others, text: "No cause was looked for.".to_string() });
-    let mut table = format!("| Above {limit} | What costs it |\n|---|---|\n");
+/// The workloads that take long, by what costs them.
+fn causes_table(all: &[Figures]) -> Result<String> {
+    let mut causes = causes()?;
+    causes.push(Cause { workloads: unexplained(all)?, text: "No cause is written yet.".to_string() });
+    let mut table = format!("| Above {LONG} | What costs it |\n|---|---|\n");
     for Cause { workloads, text } in &causes {
-        let worst: Vec<String> = workloads.iter().filter_map(|name| worst(name, rows)).collect();
+        let worst: Vec<String> = workloads.iter().filter_map(|name| worst(name, &long(all))).collect();
         if !worst.is_empty() {
             let _ = writeln!(table, "| {} | {text} |", worst.join(", "));
         }
@@ -189,29 +157,27 @@ fn causes_table(limit: f64, rows: &[&Figures]) -> Result<String> {
 
 /// The workloads that take long and have no cause.
 pub fn unexplained(all: &[Figures]) -> Result<Vec<String>> {
-    let long: Vec<&Figures> = all.iter().filter(|row| row.is_long()).collect();
-    Ok(without_cause(&causes(LONG)?, &long))
+    let causes = causes()?;
+    let has_cause = |name: &str| causes.iter().any(|cause| cause.workloads.iter().any(|other| other == name));
+    let mut others: Vec<String> =
+        long(all).iter().map(|row| row.workload()).filter(|name| !has_cause(name)).map(str::to_string).collect();
+    others.sort();
+    others.dedup();
+    Ok(others)
 }
 
-/// The page of all tables.
-pub fn page(all: &[Figures], workloads: &[(&Task, Vec<Summary>)]) -> Result<String> {
-    let (long, shorter): (Vec<&Figures>, Vec<&Figures>) =
-        all.iter().filter(|row| row.worse_ratio() > LONGER).partition(|row| row.is_long());
+/// The page of what costs the rows that take long.
+pub fn page(all: &[Figures]) -> Result<String> {
+    let long = long(all).len();
+    let shorter = all.iter().filter(|row| row.worse_ratio() > LONGER).count() - long;
     Ok(format!(
         "# The figures\n\n\
-         Written by `bench/run`. [README.md](README.md) says what they mean, `figures.csv` has the nanoseconds of each \
-         row, and `counts.csv` the instructions of those that take long.\n\n\
+         Written by `bench/run`. [README.md](README.md) says what they mean, `chart.svg` shows each workload, \
+         `figures.csv` has the nanoseconds of each row, and `counts.csv` the instructions of those that take long.\n\n\
          ## Where it is slower, and why\n\n\
-         {} rows take more than {LONG} times the better peer's time, and {} others more than {LONGER}. \
+         {long} rows take more than {LONG} times the better peer's time, and {shorter} others more than {LONGER}. \
          `NAME` 1.66 (1) means: 1 row of `NAME` is above the limit, and the slowest takes 1.66 times.\n\n\
-         {}\n{}\n## By workload\n\n\
-         The geometric mean of a workload's rows, the least and the greatest of them, and in how many ours is \
-         slower.\n\n\
          {}",
-        long.len(),
-        shorter.len(),
-        causes_table(LONG, &long)?,
-        causes_table(LONGER, &shorter)?,
-        short_table(all, workloads),
+        causes_table(all)?,
     ))
 }
