@@ -24,7 +24,7 @@ pub const TASKS: [Task; 23] = [
     common("an item by its index", &["get", "index", "get_mut", "index_mut"]),
     common("all items read", &["iterate", "rev", "zip", "fold"]),
     common("all items written", &["iterate_mut", "add_each", "for_each_mut", "range_mut"]),
-    common("contains", &["contains"]),
+    other("contains", &["contains"]),
     common("equality, order, hash", &["equal", "compare", "hash"]),
     common("binary searches", &["search", "partition_point"]),
     common("insert and remove", &["middle", "random"]),
