@@ -43,7 +43,7 @@ mod swaps;
 /// assert!(rt; (deque.len(), deque.capacity()) == (1, 4));
 /// ```
 ///
-/// A deque of long-lived items goes where one of short-lived items is wanted:
+/// A deque of long-lived items may be used where one of short-lived items is wanted:
 ///
 /// ```
 /// let deque = ArrayDeque::<&'static str, 2, Saturating>::from_array(alloc, ["a", "b"])?;

@@ -1,5 +1,5 @@
-//! A double-ended queue of at most `CAP` items, in one ring of memory that is taken when it is made
-//! and never grows.
+//! A double-ended queue of at most `CAP` items, in one region of memory, which is taken when the
+//! deque is made and never grows.
 //!
 //! A deque is an [`ArrayDeque<T, CAP, B>`](ArrayDeque), whose type says the items, the capacity and
 //! the policy. In all examples `rt` is the program's runtime and `alloc` is `rt.alloc()`.
@@ -23,8 +23,8 @@
 //!   [`CapacityError`]. `extend_back`, `extend_front`, `append` and `from_iter` take no more items
 //!   than there is room for, and so does `write` of a deque of bytes.
 //! - [`Wrapping`]: a push into a full deque removes the item at the other end, and returns it. An
-//!   extend pushes each of its items so, and drops what goes. `append` keeps the last items of both
-//!   deques. There is no `insert`, and no `write`.
+//!   extend pushes its items one by one in this way, and drops those that are removed. `append`
+//!   keeps the last items of both deques. There is no `insert`, and no `write`.
 //!
 //! A deque of capacity 0 is always empty and always full, and takes no memory. A push returns its
 //! element: in the error under `Saturating`, in place of an item under `Wrapping`.
@@ -47,7 +47,7 @@
 //!
 //! # What a call requires
 //!
-//! The caller shows it, as by a test of `len`; `run` makes such tests itself.
+//! The caller has to show it, for instance by a test of `len`; `run` makes such tests itself.
 //!
 //! - `deque[index]` and `swap`: indexes below the length. `insert`, `split_off`, `rotate_left` and
 //!   `rotate_right`: an index or a count up to the length.
@@ -56,7 +56,7 @@
 //! - `as_slice` and `as_mut_slice`: a list in one piece, as `linearize` leaves it.
 //! - `extend_back`, `extend_front` and `from_iter` under [`Wrapping`], and `extend` under either
 //!   policy: an iterator that ends.
-//! - `clone`: that the clone of an item is that item once more, as for numbers.
+//! - `clone`: that the clone of an item is the same value as the item, as with numbers.
 //! - A call with an iterator or a closure: that it may be called. A search and `next_if` may always
 //!   call their closure, `retain`, `retain_mut` and `for_each_mut` once on each item in turn,
 //!   `pop_front_if` and `pop_back_if` on the item at that end.

@@ -15,7 +15,7 @@ use crate::iter::Iter;
 use std::alloc::Global;
 use std::marker::Model;
 
-/// An iterator in which one can look up to `CAP` items ahead, and that takes items back.
+/// An iterator that can look up to `CAP` items ahead and take items back.
 ///
 /// It asks its iterator for no more than a call needs, and never again after the first `None`.
 ///
@@ -90,8 +90,8 @@ impl<I: Iterator, const CAP: usize> Scanner<I, CAP> {
     /// If the buffer has more than `k` items nothing changes. Else what is read is kept there,
     /// behind the others, until it has `k + 1`.
     ///
-    /// A function over any iterator names `CAP` by a const parameter, and requires that `k` is
-    /// below it: with a number there the prover doesn't see that.
+    /// In a function over any iterator, make `CAP` a const parameter and require that `k` is below
+    /// it: with a number in its place the prover doesn't see that.
     ///
     /// ```
     /// let mut scanner = Scanner::<_, 3>::new(alloc, [1, 2].into_iter())?;

@@ -16,8 +16,8 @@ use std::io::{BufRead, Read, Result, Write};
 impl<const CAP: usize, B: Behavior> Read for ArrayDeque<u8, CAP, B> {
     ghost remaining = { λ deque. Some deque.items };
 
-    /// Takes the first bytes out, as many as `buf` has room for, and returns their number. `buf`
-    /// begins with them then, and the rest of it stays. No byte that stays in the deque moves. It
+    /// Takes the first bytes out, as many as `buf` has room for, writes them to the start of `buf`,
+    /// and returns their number. The rest of `buf` stays. No byte that stays in the deque moves. It
     /// always returns `Ok`.
     ///
     /// Start: 1 up for each byte taken. Steps: 1 take for each.
@@ -146,7 +146,7 @@ impl<const CAP: usize> Write for ArrayDeque<u8, CAP, Saturating> {
         Ok(self.ring.copy_back(buf))
     }
 
-    /// Does nothing: what was written is there. It always returns `Ok`.
+    /// Does nothing: what was written is in the deque already. It always returns `Ok`.
     fn flush(&mut self) -> Result<()>
         ensures bytes { Keeps (Some self.old.items) (Some self.new.items) }
         ensures ok { IsOk result }

@@ -10,7 +10,7 @@ use std::alloc::AllocError;
 
 impl<T: Clone, const CAP: usize, B: Behavior> ArrayDeque<T, CAP, B> {
     /// Returns a deque of a clone of each item, over a new region from the same allocator. Requires
-    /// that each clone of an item is that item once more, as it is for numbers.
+    /// that a clone of an item is the same value as the item, as with numbers.
     ///
     /// The region is taken first, and then the items are cloned front to back. Fails only if memory
     /// is refused or the clone of an item fails; then the clones that were made are dropped.

@@ -53,8 +53,8 @@ impl<T: PartialEq, const CAP: usize, B: Behavior> PartialEq for ArrayDeque<T, CA
 
     ghost laws = { on_per (λ v. v.items) (lists_per T.laws) };
 
-    /// Returns whether both deques have one length, and equal items at each index. The items'
-    /// places don't count.
+    /// Returns whether both deques have the same length, and equal items at each index. Where the
+    /// items lie in memory makes no difference.
     ///
     /// ```
     /// let deque = ArrayDeque::<i64, 3, Saturating>::from_array(alloc, [1, 2])?;
@@ -87,8 +87,8 @@ impl<T: PartialOrd, const CAP: usize, B: Behavior> PartialOrd for ArrayDeque<T, 
 
     ghost laws = { on_po (λ v. v.items) (lists_po T.PartialOrd.laws) };
 
-    /// Compares the first two items at one index that don't compare as equal, and returns `None`
-    /// if these are in no order. If there are none, the shorter deque is less.
+    /// Compares the two items at the first index at which they don't compare as equal, and returns
+    /// `None` if these are in no order. If there is no such index, the shorter deque is less.
     ///
     /// ```
     /// let deque = ArrayDeque::<i64, 3, Saturating>::from_array(alloc, [1, 5, 9])?;

@@ -98,9 +98,9 @@ fn drop_all<T: Drop, I: Iterator<Item = T>>(elements: I)
 }
 
 impl<T: Drop, const CAP: usize> ArrayDeque<T, CAP, Wrapping> {
-    /// Adds the items of an iterator at the back, in order. For each one that finds the deque full,
-    /// the first item is dropped, and at capacity 0 the one itself. Requires an iterator that ends.
-    /// No kept item moves.
+    /// Adds the items of an iterator at the back, in order. For each item that finds the deque
+    /// full, the first item is dropped; at capacity 0, the new item itself. Requires an iterator
+    /// that ends. No kept item moves.
     ///
     /// Start: 1 up for each item dropped.
     /// Steps: 1 put for each item of the iterator, 1 take for each item dropped.
@@ -130,8 +130,8 @@ impl<T: Drop, const CAP: usize> ArrayDeque<T, CAP, Wrapping> {
     }
 
     /// Adds the items of an iterator at the front, one by one: the last one is the first
-    /// afterwards. For each one that finds the deque full, the last item is dropped, and at
-    /// capacity 0 the one itself. Requires an iterator that ends. No kept item moves.
+    /// afterwards. For each item that finds the deque full, the last item is dropped; at capacity
+    /// 0, the new item itself. Requires an iterator that ends. No kept item moves.
     ///
     /// Start: 1 down for each item of the iterator.
     /// Steps: 1 put for each of these, 1 take for each item dropped.

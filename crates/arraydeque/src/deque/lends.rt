@@ -135,7 +135,7 @@ impl<T, const CAP: usize, B: Behavior> ArrayDeque<T, CAP, B> {
     /// ```
     /// let mut deque = ArrayDeque::<i64, 3, Saturating>::new(alloc)?;
     /// deque.extend_back([1, 2, 3]);
-    /// // 4 goes to the place that 1 has left, which is the region's first.
+    /// // 4 is put into the place that 1 has left, which is the region's first.
     /// assert!(rt; (deque.pop_front(), deque.push_back(4)) == (Some(1), Ok(())));
     /// let (front, rest) = deque.as_slices();
     /// assert!(rt; (front, rest) == ([2, 3].as_slice(), [4].as_slice()));
@@ -172,8 +172,8 @@ impl<T, const CAP: usize, B: Behavior> ArrayDeque<T, CAP, B> {
     /// rest, from the region's first place on. If all lie in one piece, the second is empty.
     ///
     /// Whatever is written, the deque holds as many items as before, and they start where they did.
-    /// A caller whose proof needs that writes `iter_mut().into_slices()`: the prover follows the
-    /// one name of that loan, and not a pair.
+    /// If your proof needs that, call `iter_mut().into_slices()`: the prover follows one loan by
+    /// its name, but not a pair of slices.
     ///
     /// Start: stays. Steps: 2 lends.
     ///
@@ -197,7 +197,7 @@ impl<T, const CAP: usize, B: Behavior> ArrayDeque<T, CAP, B> {
     /// Returns the items for writing in one slice. Requires a list in one piece, as
     /// [`ArrayDeque::linearize`] leaves it.
     ///
-    /// The list ends as it was written.
+    /// The list afterwards is what was written.
     ///
     /// Start: stays. Steps: 1 lend.
     ///

@@ -15,8 +15,8 @@ impl<T, const CAP: usize> ArrayDeque<T, CAP, Saturating> {
     /// Requires an index up to the length. If the deque is full, returns the element in the error,
     /// and nothing has changed.
     ///
-    /// The items before the index or those from it on move by one place, whichever are fewer, and
-    /// on a tie the latter: at most half of the items.
+    /// Either the items before the index or those from it on move by one place: whichever are
+    /// fewer, and on a tie the latter. That is at most half of the items.
     ///
     /// Start: 1 down if fewer items are before the index than from it on, else stays.
     /// Steps: 1 put, 1 move for each item that moves.

@@ -79,7 +79,7 @@ impl<T, const CAP: usize, B: Behavior> ArrayDeque<T, CAP, B> {
     /// or for items of size zero it never fails.
     ///
     /// Start: stays.
-    /// Steps: 1 take for each item that goes. The new deque starts at 0, with 1 put for each item.
+    /// Steps: 1 take for each removed item. The new deque starts at 0, with 1 put for each item.
     ///
     /// ```
     /// let mut deque = ArrayDeque::<i64, 3, Saturating>::new(alloc)?;
@@ -114,8 +114,8 @@ impl<T, const CAP: usize> ArrayDeque<T, CAP, Saturating> {
     /// for. The others stay there. No memory is taken, and no item that stays moves.
     ///
     /// Start: stays.
-    /// Steps: 1 put for each item that comes. The start of the other deque goes 1 up for each of
-    /// these, with 1 take.
+    /// Steps: 1 put for each item taken. The start of the other deque moves 1 up for each of these,
+    /// with 1 take.
     ///
     /// ```
     /// let mut deque = ArrayDeque::<i64, 3, Saturating>::new(alloc)?;
@@ -153,9 +153,9 @@ impl<T: Drop, const CAP: usize> ArrayDeque<T, CAP, Wrapping> {
     ///
     /// If the other deque has more than `CAP` items, there are fewer steps than pushes would make.
     ///
-    /// Start: 1 up for each item of this deque that goes.
+    /// Start: 1 up for each item of this deque that is dropped.
     /// Steps: 1 take for each of these, 1 put for each item of the other deque that is kept. The
-    /// start of the other deque goes 1 up for each of its items, with 1 take.
+    /// start of the other deque moves 1 up for each of its items, with 1 take.
     ///
     /// ```
     /// let mut deque = ArrayDeque::<i64, 3, Wrapping>::new(alloc)?;

@@ -14,8 +14,8 @@ impl<T, const CAP: usize, B: Behavior> ArrayDeque<T, CAP, B> {
     /// `None`, and the item stays, as `predicate` left it. No other item moves. An empty deque
     /// doesn't call `predicate`.
     ///
-    /// Start: 1 up if the item goes, else stays.
-    /// Steps: 1 lend if there is an item, 1 take if it goes.
+    /// Start: 1 up if the item is removed, else stays.
+    /// Steps: 1 lend if there is an item, 1 take if it is removed.
     ///
     /// ```
     /// let mut deque = ArrayDeque::<i64, 3, Saturating>::new(alloc)?;
@@ -50,7 +50,7 @@ impl<T, const CAP: usize, B: Behavior> ArrayDeque<T, CAP, B> {
     /// `None`, and the item stays, as `predicate` left it. No other item moves. An empty deque
     /// doesn't call `predicate`.
     ///
-    /// Start: stays. Steps: 1 lend if there is an item, 1 take if it goes.
+    /// Start: stays. Steps: 1 lend if there is an item, 1 take if it is removed.
     ///
     /// ```
     /// let mut deque = ArrayDeque::<i64, 3, Saturating>::new(alloc)?;

@@ -68,8 +68,8 @@ impl<T, const CAP: usize> ArrayDeque<T, CAP, Saturating> {
 }
 
 impl<T, const CAP: usize> ArrayDeque<T, CAP, Wrapping> {
-    /// Adds an element at the front. If the deque is full, removes the last item for it and returns
-    /// that, and at capacity 0 returns the element itself. No kept item moves.
+    /// Adds an element at the front. If the deque is full, removes the last item to make room and
+    /// returns that one; at capacity 0 returns the element itself. No kept item moves.
     ///
     /// Start: 1 down. Steps: 1 put, 1 take if the deque is full.
     ///
@@ -77,7 +77,7 @@ impl<T, const CAP: usize> ArrayDeque<T, CAP, Wrapping> {
     /// let mut deque = ArrayDeque::<i64, 2, Wrapping>::new(alloc)?;
     /// assert!(rt; deque.push_front(2) == None);
     /// assert!(rt; deque.push_front(1) == None);
-    /// // 2 goes for it, at the back.
+    /// // 2 is removed for it, at the back.
     /// assert!(rt; deque.push_front(0) == Some(2));
     /// assert!(rt; (deque.front(), deque.back()) == (Some(&0), Some(&1)));
     /// ```
@@ -104,15 +104,15 @@ impl<T, const CAP: usize> ArrayDeque<T, CAP, Wrapping> {
         displaced
     }
 
-    /// Adds an element at the back. If the deque is full, removes the first item for it and returns
-    /// that, and at capacity 0 returns the element itself. No kept item moves.
+    /// Adds an element at the back. If the deque is full, removes the first item to make room and
+    /// returns that one; at capacity 0 returns the element itself. No kept item moves.
     ///
     /// Start: 1 up if the deque is full, else stays. Steps: 1 put, 1 take if it is full.
     ///
     /// ```
     /// let mut deque = ArrayDeque::<i64, 2, Wrapping>::new(alloc)?;
     /// deque.extend_back([1, 2]);
-    /// // 1 goes for it, at the front.
+    /// // 1 is removed for it, at the front.
     /// assert!(rt; deque.push_back(3) == Some(1));
     /// let mut none = ArrayDeque::<i64, 0, Wrapping>::new(alloc)?;
     /// assert!(rt; none.push_back(3) == Some(3));

@@ -112,7 +112,8 @@ impl<T, const CAP: usize, B: Behavior> ArrayDeque<T, CAP, B> {
     /// Keeps the items for which `f` returns true, in order, and drops the others. `f` is called
     /// once on each item, front to back.
     ///
-    /// It works in place and takes no memory: each kept item behind the first that goes moves once.
+    /// It works in place and takes no memory: each kept item behind the first removed one moves
+    /// once.
     ///
     /// Start: stays. Steps: 1 take for each item dropped, 1 move for each whose index changes.
     ///
@@ -143,7 +144,8 @@ impl<T, const CAP: usize, B: Behavior> ArrayDeque<T, CAP, B> {
     /// Keeps the items for which `f` returns true, in order and as `f` left them, and drops the
     /// others. `f` is called once on each item, front to back.
     ///
-    /// It works in place and takes no memory: each kept item behind the first that goes moves once.
+    /// It works in place and takes no memory: each kept item behind the first removed one moves
+    /// once.
     ///
     /// Start: stays.
     /// Steps: 1 lend for each item, 1 take for each item dropped, 1 move for each whose index
@@ -152,7 +154,7 @@ impl<T, const CAP: usize, B: Behavior> ArrayDeque<T, CAP, B> {
     /// ```
     /// let mut deque = ArrayDeque::<i64, 4, Saturating>::new(alloc)?;
     /// deque.extend_back([3, 1, 4, 2]);
-    /// // Each item comes down by one, and what is then 0 goes.
+    /// // Each item is lowered by one, and removed if it is 0 then.
     /// deque.retain_mut(|item| {
     ///     *item = item.saturating_sub(1);
     ///     *item != 0

@@ -11,8 +11,8 @@ use crate::behavior::Behavior;
 use std::cmp::Ordering;
 
 impl<T, const CAP: usize, B: Behavior> ArrayDeque<T, CAP, B> {
-    /// Returns how many items `pred` accepts, if it accepts none behind one that it does not: the
-    /// index at which the others begin.
+    /// Returns how many items `pred` accepts, if those come first and the others behind them: the
+    /// index of the first of the others. What `pred` answers has to be a function of the item.
     ///
     /// ```
     /// let mut deque = ArrayDeque::<i64, 3, Wrapping>::new(alloc)?;
@@ -35,8 +35,9 @@ impl<T, const CAP: usize, B: Behavior> ArrayDeque<T, CAP, B> {
         self.less_count(&mut order)
     }
 
-    /// Returns the index of the first item that compares as equal to `x`, if the items rise. If
-    /// none does, returns in the error the index behind all that are less, at which `x` would go.
+    /// Returns the index of the first item that compares as equal to `x`, if the items are in
+    /// ascending order. If there is none, returns in the error the index behind all that are less,
+    /// at which `x` would keep that order.
     ///
     /// ```
     /// let mut deque = ArrayDeque::<i64, 3, Wrapping>::new(alloc)?;
@@ -56,9 +57,9 @@ impl<T, const CAP: usize, B: Behavior> ArrayDeque<T, CAP, B> {
         self.binary_search_by(|item| item.cmp(x))
     }
 
-    /// Returns the index of the first item for which `f` returns `Equal`, if what it returns rises
-    /// from `Less` to `Greater`. If there is none, returns in the error the index behind all items
-    /// with `Less`, at which such an item would go.
+    /// Returns the index of the first item for which `f` returns `Equal`, if what it returns is a
+    /// function of the item, and rises from `Less` to `Greater`. If there is none, returns in the
+    /// error the index behind all items with `Less`, at which such an item would keep that order.
     ///
     /// ```
     /// let mut deque = ArrayDeque::<i64, 3, Wrapping>::new(alloc)?;
@@ -81,9 +82,9 @@ impl<T, const CAP: usize, B: Behavior> ArrayDeque<T, CAP, B> {
         }
     }
 
-    /// Returns the index of the first item whose key, which `f` tells, compares as equal to `key`,
-    /// if the keys rise. If none does, returns in the error the index behind all items with a
-    /// lesser key, at which such an item would go.
+    /// Returns the index of the first item whose key, which `f` computes, compares as equal to
+    /// `key`, if the keys are in ascending order. If there is none, returns in the error the index
+    /// behind all items with a lesser key, at which such an item would keep that order.
     ///
     /// ```
     /// let mut deque = ArrayDeque::<(i64, bool), 3, Saturating>::new(alloc)?;
