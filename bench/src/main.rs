@@ -143,8 +143,8 @@ macro_rules! of_pieces {
     };
 }
 
-/// The same at other capacities, and what else users do.
-fn further_workloads() -> Vec<Workload> {
+/// The same at other capacities.
+fn common_workloads_of_few() -> Vec<Workload> {
     let mut list = Vec::new();
     workloads!(list, queue, arraydeque_bench_queue, true, (8, u64, 16));
     workloads!(list, get, arraydeque_bench_get, true, (8, u64, 16));
@@ -164,6 +164,12 @@ fn further_workloads() -> Vec<Workload> {
     of_few_items!(list, clone, arraydeque_bench_clone);
     of_few_items!(list, equal, arraydeque_bench_equal);
     workloads!(list, hash, arraydeque_bench_hash, false, (8, u64, 64), (8, u64, 16));
+    list
+}
+
+/// All items read or written, or one of them at random.
+fn workloads_in_place() -> Vec<Workload> {
+    let mut list = Vec::new();
     of_all_lists!(list, fold, arraydeque_bench_fold, (8, u64, 1000000));
     of_all_lists!(list, rev, arraydeque_bench_rev);
     of_all_lists!(list, zip, arraydeque_bench_zip);
@@ -181,6 +187,12 @@ fn further_workloads() -> Vec<Workload> {
     of_all_lists!(list, swap_remove_front, arraydeque_bench_swap_remove_front, (8, u64, 1000000));
     of_all_lists!(list, index_mut, arraydeque_bench_index_mut, (8, u64, 1000000));
     of_all_lists!(list, get_mut, arraydeque_bench_get_mut, (8, u64, 1000000));
+    list
+}
+
+/// Deques made and taken apart, and many items moved.
+fn workloads_of_many() -> Vec<Workload> {
+    let mut list = Vec::new();
     of_all_lists!(list, from_vec, arraydeque_bench_from_vec);
     of_all_lists!(list, into_vec, arraydeque_bench_into_vec);
     of_all_lists!(list, vec_and_back, arraydeque_bench_vec_and_back);
@@ -202,6 +214,12 @@ fn further_workloads() -> Vec<Workload> {
     of_all_lists!(list, rotate_full_half, arraydeque_bench_rotate_full_half);
     of_all_lists!(list, rotate_half_one, arraydeque_bench_rotate_half_one);
     of_all_lists!(list, rotate_half_half, arraydeque_bench_rotate_half_half);
+    list
+}
+
+/// Searches, items that own memory, bytes, and small programs.
+fn further_workloads() -> Vec<Workload> {
+    let mut list = Vec::new();
     of_rising_items!(list, search, arraydeque_bench_search);
     of_rising_items!(list, partition_point, arraydeque_bench_partition_point);
     of_owned_items!(list, owned_queue, arraydeque_bench_owned_queue);
@@ -318,7 +336,8 @@ fn print_sums(rounds: usize, wanted: &str) {
 }
 
 fn all_workloads() -> Vec<Workload> {
-    common_workloads().into_iter().chain(further_workloads()).collect()
+    let parts = [common_workloads, common_workloads_of_few, workloads_in_place, workloads_of_many, further_workloads];
+    parts.into_iter().flat_map(|part| part()).collect()
 }
 
 fn main() {
