@@ -1,6 +1,8 @@
-"""What `.ci/examples` and `.ci/steps` share: the blocks of a page, README's sections, and a copy of the libraries."""
+"""What `.ci/examples` and `.ci/steps` share: the blocks of a page, README's sections, a copy of the libraries, and
+proofs over it."""
 import re
 import shutil
+import subprocess
 from pathlib import Path
 from textwrap import dedent
 
@@ -27,10 +29,18 @@ def sections_of_readme():
     return dict(zip(parts[1::2], parts[2::2]))
 
 
-def copy_libraries(to, is_proved):
-    """Copies ring and deque as a repository of their own, with what was proved of them if that is to be used."""
+def copy_libraries(to, *without):
+    """Copies ring and deque as a repository of their own, without what has one of these names."""
     for name in LIBRARIES:
-        without = shutil.ignore_patterns(*([] if is_proved else ['out']))
-        shutil.copytree(ROOT / 'crates' / name, to / 'crates' / name, ignore=without)
+        shutil.copytree(ROOT / 'crates' / name, to / 'crates' / name, ignore=shutil.ignore_patterns(*without))
     for name in ('LICENSE', 'HANDLES'):
         shutil.copy(ROOT / name, to)
+
+
+def prove(folder):
+    """Has `rt ci` prove and run a repository, over libraries that it kept if a run on this machine proved the same.
+    Returns whether each crate passes, and the run."""
+    done = subprocess.run(['rt', 'ci'], cwd=folder, text=True, capture_output=True)
+    passed = re.search(r'^(\d+) passed, 0 failed', done.stdout, re.M)
+    crates = len((folder / 'crates.txt').read_text().splitlines())
+    return done.returncode == 0 and passed is not None and int(passed[1]) >= crates, done
