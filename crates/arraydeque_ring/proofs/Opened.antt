@@ -18,7 +18,7 @@ use Rattle.std.{
 use Rattle.arraydeque_ring.{
   proofs.{
     gaps.{
-      GapMoves.{MayClose, may_close, Gapped-behind, Gapped-before, gap_moves},
+      GapMoves.{may_close, Gapped-behind, Gapped-before, gap_moves},
       Gapped.{Gapped, Gapped-taken, Gapped-taken_one, LaidOut-gap_first, LaidOut-gap_last},
       Gapped.LaidOut-put,
     },
@@ -36,7 +36,7 @@ use Rattle.arraydeque_ring.{
   },
   specs.{
     declared.ring.Ring.TheInside.Inside,
-    Gaps.gap_moved,
+    Gaps.{MayClose, gap_moved},
     Places.{held_at, IsFilled, AreAllEmpty},
     Ring.{RingState, place_of, rotated, values, filled, FilledFrom},
     Runs.{HoldsRun, IsFilledRun, IsEmptyRun, run_emptied, with_run},

@@ -19,10 +19,9 @@ use Rattle.arraydeque_ring.{
     },
   },
   specs.{
-    Gaps.gap_moved,
+    Gaps.{MayClose, gap_moved},
     Places.{held_at, IsFilled},
     Ring.{place_of, rotated},
-    Runs.{IsEmptyRun, IsFilledRun},
   },
 }
 
@@ -40,18 +39,6 @@ may_move t from to gap ps {ts = ts} is some t_in within none before behind =
       filled_before = filled_run_of ts to (from - to) (omega arith) (λ x a b. before x a (omega arith));
       filled_behind = filled_run_of ts (from + gap) (to - from) (omega arith) (λ x a b. behind x a (omega arith));
     })
-
--- what `close_gap` asks: a gap between two runs, and nothing behind these
-abbrev pub MayClose : {X : Type 0} → ℕ → ℕ → ℕ → ℕ → List (Option X) → Type 0
-MayClose t i gap m ps = record {
-  some : 0 < gap;
-  in_region : t < length ps;
-  within : i + gap + m ≤ length ps;
-  filled_before : IsFilledRun (rotated t ps) 0 i;
-  empty : IsEmptyRun (rotated t ps) i gap;
-  filled_behind : IsFilledRun (rotated t ps) (i + gap) m;
-  others_empty : IsEmptyRun (rotated t ps) (i + gap + m) (length ps - (i + gap + m));
-}
 
 -- where there is room, there is a gap behind all items, or before them, from a start one place down
 module _ {X : Type 0} {n t : ℕ} {xs : List X} {ps : List (Option X)} (l : LaidOut n t xs ps)

@@ -12,7 +12,7 @@ use Rattle.arraydeque_ring.{
   proofs.{
     gaps.{
       Fewest.{count_sides, one_start},
-      GapMoves.{MayClose, may_close, gap_moves},
+      GapMoves.{may_close, gap_moves},
       Gapped.{Gapped, LaidOut-gap_last},
     },
     Opened.{Opened, Shows, shows},
@@ -26,7 +26,7 @@ use Rattle.arraydeque_ring.{
   specs.{
     Changed.{changed_rotate, IsFewest},
     declared.ring.Ring.TheInside.Inside,
-    Gaps.gap_moved,
+    Gaps.{MayClose, gap_moved},
     Ring.{RingState, place_of, rotated},
     Sides.{moves_to_rotate, start_closed, start_rotated},
   },

@@ -2,7 +2,7 @@
 //! one too: the empty places, seen from its new first item on.
 ghost use Rattle.std.specs.Prelude.{◌≡◌, ◌-◌, ◌+◌, ◌<◌, ◌≤◌, ◌++◌, length, take, drop, slice_get, min, max};
 ghost use Rattle.std.specs.List.{insert, remove};
-ghost use Rattle.arraydeque_ring.specs.Gaps.{gap_moved};
+ghost use Rattle.arraydeque_ring.specs.Gaps.{Closes, MayClose, gap_moved};
 ghost use Rattle.arraydeque_ring.specs.Ring.{rotated};
 ghost use Rattle.arraydeque_ring.specs.Runs.{IsEmptyRun, IsFilledRun};
 ghost use Rattle.arraydeque_ring.specs.Sides.{moves_to_insert, moves_to_remove, moves_to_rotate, start_opened, start_closed, start_rotated};
@@ -128,18 +128,8 @@ pub(super) fn close_gap<T>(
     gap: usize,
     behind: usize,
 ) -> usize
-    requires some { 0 < gap }
-    requires in_region { start < length slots.old.places }
-    requires within { before + gap + behind ≤ length slots.old.places }
-    requires filled_before { IsFilledRun (rotated start slots.old.places) 0 before }
-    requires empty { IsEmptyRun (rotated start slots.old.places) before gap }
-    requires filled_behind { IsFilledRun (rotated start slots.old.places) (before + gap) behind }
-    requires others_empty { let len = before + gap + behind in
-        IsEmptyRun (rotated start slots.old.places) len (length slots.old.places - len) }
-    ensures start { result ≡ start_closed before gap behind (length slots.old.places) start }
-    ensures places { rotated result slots.new.places ≡
-        gap_moved before (before + behind) gap (rotated start slots.old.places) }
-    ensures steps { slots.new.steps ≡ more_moves (min before behind) slots.old.steps }
+    requires { MayClose start before gap behind slots.old.places }
+    ensures { Closes start before gap behind slots.old result slots.new }
 {
     let capacity = slots.capacity();
     if before < behind {
@@ -161,18 +151,8 @@ fn close_room<T>(
     gap: usize,
     behind: usize,
 ) -> (Slots<T>, usize)
-    requires some { 0 < gap }
-    requires in_region { start < length slots.places }
-    requires within { before + gap + behind ≤ length slots.places }
-    requires filled_before { IsFilledRun (rotated start slots.places) 0 before }
-    requires empty { IsEmptyRun (rotated start slots.places) before gap }
-    requires filled_behind { IsFilledRun (rotated start slots.places) (before + gap) behind }
-    requires others_empty { let len = before + gap + behind in
-        IsEmptyRun (rotated start slots.places) len (length slots.places - len) }
-    ensures start { result.1 ≡ start_closed before gap behind (length slots.places) start }
-    ensures places { rotated result.1 result.0.places ≡
-        gap_moved before (before + behind) gap (rotated start slots.places) }
-    ensures steps { result.0.steps ≡ more_moves (min before behind) slots.steps }
+    requires { MayClose start before gap behind slots.places }
+    ensures { Closes start before gap behind slots result.1 result.0 }
 {
     let closed = close_gap(&mut slots, start, before, gap, behind);
     (slots, closed)

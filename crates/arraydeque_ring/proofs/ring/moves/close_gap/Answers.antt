@@ -1,7 +1,11 @@
+use Rattle.std.proofs.Common.{arith}
 use Rattle.arraydeque_ring.proofs.gaps.GapMoves.{closed_up}
 use Rattle.arraydeque_ring.proofs.ring.moves.close_gap.Goals as goal
 
-pub returns-then-before-behind-clause-places : goal.returns-then-before-behind-clause-places
-returns-then-before-behind-clause-places g c =
-    rw (c.wrap_add.ensures, c.capacity-capacity.ensures)
-    (closed_up _ _ _ _ _ _ c.requires c.move_gap.ensures.places)
+pub returns-then-before-behind : goal.returns-then-before-behind
+returns-then-before-behind g c = record {
+  start = grind arith;
+  places = rw (c.wrap_add.ensures, c.capacity-capacity.ensures)
+      (closed_up _ _ _ _ _ _ c.requires c.move_gap.ensures.places);
+  steps = grind arith;
+}
