@@ -1,7 +1,8 @@
-//! What each call of region, ring and deque asks of its types. A function here makes the call that
-//! it is named for, and its type parameters have just the bounds that this call may ask for: a call
-//! that asked for more would be an error at it. Where no item may be dropped, whatever the call
-//! hands out is handed on. `Ring::lend` alone is left out, since its callers are proved by hand.
+//! What each call of the deque asks of its types. A function here makes the call that it is named
+//! for, and its type parameters have just the bounds that this call may ask for: a call that asked
+//! for more would be an error at it. Where no item may be dropped, whatever the call hands out is
+//! handed on. Of ring and region the same is shown by the code above them, which is generic with
+//! just their calls' bounds. `ring` has the few calls that it doesn't make.
 #![tactic(auto)]
 
 mod compare;
@@ -12,4 +13,3 @@ mod lookahead;
 mod policies;
 mod range;
 mod ring;
-mod slots;
