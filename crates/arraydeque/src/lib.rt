@@ -65,30 +65,10 @@
 //!
 //! # What a call moves
 //!
-//! | Call | Moves |
-//! |---|---|
-//! | pushes, pops, extends, `append`, `split_off` | no item that stays |
-//! | `clear`, truncates, `resize` | no item that stays |
-//! | `pop_front_if`, `pop_back_if` | the same |
-//! | `read`, `consume` and `write` of a deque of bytes | no byte that stays |
-//! | `insert` | the items before the index or those from it on, whichever are fewer |
-//! | `remove`, `drain` | the items before what goes or those behind it, whichever are fewer |
-//! | `rotate_left`, `rotate_right` | those that go round or the rest, whichever are fewer |
-//! | `swap`, `swap_remove_back`, `swap_remove_front` | two items, by one exchange at most |
-//! | `retain`, `retain_mut` | each kept item behind the first that goes, once |
-//! | `linearize` | in place, by no more moves and exchanges, taken together, than items |
-//! | `front_mut`, `back_mut`, `get_mut` | no item |
-//! | `iter_mut`, `range_mut`, `as_mut_slices`, `as_mut_slice` | no item |
-//! | `for_each_mut`, `first_slice_mut`, `second_slice_mut` | no item |
-//! | a conversion to the other policy | no item |
-//!
-//! On a tie a rotation moves the first half of the list, and `insert`, `remove` and `drain` move
-//! the items behind the gap. In a full deque a rotation moves none. Each item that moves moves
-//! once, except in `linearize`.
-//!
-//! For proofs, the lines `Start:` and `Steps:` of a call say by how many places the first item's
-//! place goes up or down in the region, and how many values are put into a place, taken out, moved,
-//! exchanged or lent for writing. A call without these lines leaves both as they were.
+//! The lines `Start:` and `Steps:` of a call say by how many places the first item's place goes up
+//! or down in the region, and how many values are put into a place, taken out, moved, exchanged or
+//! lent for writing. A call without these lines leaves both as they were. Each item that moves
+//! moves once, except in `linearize`.
 #![tactic(auto)]
 
 pub mod behavior;
