@@ -89,7 +89,7 @@ pub enum Reply<T, const CAP: usize, B: Behavior> {
     NotOffered(T),
 }
 
-impl<T: Drop, const CAP: usize, B: MachinePolicy<T, CAP>> ArrayDeque<T, CAP, B> {
+impl<T: Drop, const CAP: usize, B: RunPolicy<T, CAP>> ArrayDeque<T, CAP, B> {
     /// Makes the calls in order, and returns a reply to each. A call that is refused doesn't stop
     /// the run: its reply says so, and the list is as it was.
     ///
@@ -134,8 +134,30 @@ impl<T: Drop, const CAP: usize, B: MachinePolicy<T, CAP>> ArrayDeque<T, CAP, B> 
     }
 }
 
-/// A policy of the list machine: the answers to the calls that differ by the policy. A refused call
-/// leaves the list as it was.
+/// A policy of [`ArrayDeque::run`], for a function that calls it under either: [`Saturating`] or
+/// [`Wrapping`], and no other type can be one.
+///
+/// ```
+/// use arraydeque::run::RunPolicy;
+///
+/// fn replies_to<const CAP: usize, B: RunPolicy<i64, CAP>>(
+///     deque: &mut ArrayDeque<i64, CAP, B>,
+///     calls: Vec<Call<i64>>,
+/// ) -> usize {
+///     deque.run(calls).map_or(0, |replies| replies.len())
+/// }
+///
+/// let mut deque = ArrayDeque::<i64, 1, Wrapping>::new(alloc)?;
+/// assert!(rt; replies_to(&mut deque, vec![in alloc; Call::PushBack(1), Call::Len]?) == 2);
+/// ```
+pub trait RunPolicy<T, const CAP: usize>: MachinePolicy<T, CAP> {}
+
+impl<T: Drop, const CAP: usize> RunPolicy<T, CAP> for Saturating {}
+
+impl<T: Drop, const CAP: usize> RunPolicy<T, CAP> for Wrapping {}
+
+/// A policy of the list machine: the answers to the calls that differ by the policy, which `run`
+/// alone asks for. A refused call leaves the list as it was.
 pub(crate) trait MachinePolicy<T, const CAP: usize>: Behavior {
     // What the list machine calls it.
     ghost policy: { Policy };
@@ -308,7 +330,7 @@ impl<T: Drop, const CAP: usize> MachinePolicy<T, CAP> for Wrapping {
     }
 }
 
-impl<T: Drop, const CAP: usize, B: MachinePolicy<T, CAP>> ArrayDeque<T, CAP, B> {
+impl<T: Drop, const CAP: usize, B: RunPolicy<T, CAP>> ArrayDeque<T, CAP, B> {
     /// Makes one call, and returns its reply. A refused call leaves the list as it was.
     fn answer(&mut self, call: Call<T>) -> Reply<T, CAP, B>
         ensures makes { Makes B.policy CAP (type_size T.row) call result self.old self.new }

@@ -4,7 +4,7 @@ ghost use Rattle.std.specs.Iterator.{IsFiniteIterable};
 ghost use Rattle.arraydeque.specs.Sources.{IsIterable};
 
 use arraydeque::behavior::Behavior;
-use arraydeque::run::{Call, Reply};
+use arraydeque::run::{Call, Reply, RunPolicy};
 use arraydeque::{ArrayDeque, CapacityError, MakeError, Saturating, Wrapping};
 use std::alloc::{AllocError, Global};
 use std::io;
@@ -192,17 +192,10 @@ fn wrapping_from_saturating<T, const CAP: usize>(
     deque.into()
 }
 
-fn saturating_run<T: Drop, const CAP: usize>(
-    deque: &mut ArrayDeque<T, CAP, Saturating>,
+fn run<T: Drop, const CAP: usize, B: RunPolicy<T, CAP>>(
+    deque: &mut ArrayDeque<T, CAP, B>,
     calls: Vec<Call<T>>,
-) -> Result<Vec<Reply<T, CAP, Saturating>>, MakeError<Vec<Call<T>>>> {
-    deque.run(calls)
-}
-
-fn wrapping_run<T: Drop, const CAP: usize>(
-    deque: &mut ArrayDeque<T, CAP, Wrapping>,
-    calls: Vec<Call<T>>,
-) -> Result<Vec<Reply<T, CAP, Wrapping>>, MakeError<Vec<Call<T>>>> {
+) -> Result<Vec<Reply<T, CAP, B>>, MakeError<Vec<Call<T>>>> {
     deque.run(calls)
 }
 

@@ -1,7 +1,7 @@
 //! Calls beside the replies that they must have.
+use arraydeque::ArrayDeque;
 use arraydeque::behavior::Behavior;
-use arraydeque::run::{Call, Reply};
-use arraydeque::{ArrayDeque, Saturating, Wrapping};
+use arraydeque::run::{Call, Reply, RunPolicy};
 use arraydeque_samples::build::made;
 use std::alloc::Global;
 use std::fmt::Write;
@@ -11,22 +11,11 @@ use std::test::Fail;
 /// Calls, and beside each its reply as text.
 pub(crate) type Rows<'a> = Vec<(Call<i64>, &'a str)>;
 
-/// Makes the calls on a deque that refuses, and compares the replies.
-pub(crate) fn saturating<const CAP: usize>(
+/// Makes the calls, and compares the replies.
+pub(crate) fn run<const CAP: usize, B: RunPolicy<i64, CAP>>(
     rt: &impl Abort,
     alloc: Global,
-    deque: &mut ArrayDeque<i64, CAP, Saturating>,
-    rows: Rows<'_>,
-) -> Result<(), Fail> {
-    let (calls, told) = part_rows(alloc, rows)?;
-    compare(rt, alloc, made(deque.run(calls))?, told.as_slice())
-}
-
-/// The same on a deque that displaces.
-pub(crate) fn wrapping<const CAP: usize>(
-    rt: &impl Abort,
-    alloc: Global,
-    deque: &mut ArrayDeque<i64, CAP, Wrapping>,
+    deque: &mut ArrayDeque<i64, CAP, B>,
     rows: Rows<'_>,
 ) -> Result<(), Fail> {
     let (calls, told) = part_rows(alloc, rows)?;

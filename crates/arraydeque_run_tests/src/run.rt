@@ -1,7 +1,6 @@
 //! Lists of calls and their replies.
-use crate::replies::{saturating, wrapping};
-use arraydeque::behavior::Behavior;
-use arraydeque::run::{Call, Reply};
+use crate::replies::run;
+use arraydeque::run::{Call, Reply, RunPolicy};
 use arraydeque::{ArrayDeque, CapacityError, Saturating};
 use arraydeque_samples::build::{deque_at, holds, made, numbers, wrapping_at};
 use std::alloc::Global;
@@ -18,7 +17,7 @@ fn each_call_has_its_reply(rt: HostRuntime) -> Result<(), Fail> {
         (Call::Len, "number 2"),
     ]?;
     let mut deque = deque_at::<3>(rt.alloc(), 0, &[])?;
-    saturating(&rt, rt.alloc(), &mut deque, rows)?;
+    run(&rt, rt.alloc(), &mut deque, rows)?;
     assert!(rt; holds(&deque, &[3, 2]));
     Ok(())
 }
@@ -39,7 +38,7 @@ fn the_other_calls_have_theirs(rt: HostRuntime) -> Result<(), Fail> {
         (Call::PopFront, "5"),
     ]?;
     let mut deque = deque_at::<2>(rt.alloc(), 0, &[])?;
-    saturating(&rt, rt.alloc(), &mut deque, rows)?;
+    run(&rt, rt.alloc(), &mut deque, rows)?;
     assert!(rt; holds(&deque, &[6]));
     Ok(())
 }
@@ -63,7 +62,7 @@ fn edits_have_their_replies(rt: HostRuntime) -> Result<(), Fail> {
         (Call::Clear, "done"),
     ]?;
     let mut deque = deque_at::<3>(rt.alloc(), 0, &[])?;
-    saturating(&rt, rt.alloc(), &mut deque, rows)?;
+    run(&rt, rt.alloc(), &mut deque, rows)?;
     assert!(rt; deque.is_empty());
     Ok(())
 }
@@ -80,7 +79,7 @@ fn parts_have_their_replies(rt: HostRuntime) -> Result<(), Fail> {
         (Call::SplitOff(1), "split []"),
     ]?;
     let mut deque = deque_at::<3>(rt.alloc(), 1, &[0, 1, 2])?;
-    saturating(&rt, rt.alloc(), &mut deque, rows)?;
+    run(&rt, rt.alloc(), &mut deque, rows)?;
     assert!(rt; holds(&deque, &[1]));
 
     let rows = vec![in rt.alloc();
@@ -89,7 +88,7 @@ fn parts_have_their_replies(rt: HostRuntime) -> Result<(), Fail> {
         (Call::PopFront, "0"),
     ]?;
     let mut deque = deque_at::<5>(rt.alloc(), 0, &[0, 1, 2, 3])?;
-    saturating(&rt, rt.alloc(), &mut deque, rows)?;
+    run(&rt, rt.alloc(), &mut deque, rows)?;
     assert!(rt; holds(&deque, &[3, 4]));
 
     for (at, told, left) in [
@@ -99,7 +98,7 @@ fn parts_have_their_replies(rt: HostRuntime) -> Result<(), Fail> {
     ] {
         let mut deque = deque_at::<3>(rt.alloc(), 0, &[0, 1, 2])?;
         let rows = vec![in rt.alloc(); (Call::SplitOff(at), told)]?;
-        saturating(&rt, rt.alloc(), &mut deque, rows)?;
+        run(&rt, rt.alloc(), &mut deque, rows)?;
         assert!(rt; holds(&deque, left), "at {at}");
     }
     Ok(())
@@ -122,7 +121,7 @@ fn a_wrapping_deque_has_its_replies(rt: HostRuntime) -> Result<(), Fail> {
         (Call::IsFull, "true"),
     ]?;
     let mut deque = wrapping_at::<3>(rt.alloc(), 0, &[])?;
-    wrapping(&rt, rt.alloc(), &mut deque, rows)?;
+    run(&rt, rt.alloc(), &mut deque, rows)?;
     assert!(rt; holds(&deque, &[0, 1, 6]));
     Ok(())
 }
@@ -142,10 +141,10 @@ fn no_calls_have_no_replies(rt: HostRuntime) -> Result<(), Fail> {
         deque_at::<0>(rt.alloc(), 0, &[])?,
         deque_at::<3>(rt.alloc(), 0, &[1, 2])?,
     );
-    saturating(&rt, rt.alloc(), &mut none, Vec::new(rt.alloc()))?;
-    saturating(&rt, rt.alloc(), &mut two, Vec::new(rt.alloc()))?;
+    run(&rt, rt.alloc(), &mut none, Vec::new(rt.alloc()))?;
+    run(&rt, rt.alloc(), &mut two, Vec::new(rt.alloc()))?;
     let mut full = wrapping_at::<3>(rt.alloc(), 2, &[1, 2, 3])?;
-    wrapping(&rt, rt.alloc(), &mut full, Vec::new(rt.alloc()))?;
+    run(&rt, rt.alloc(), &mut full, Vec::new(rt.alloc()))?;
     assert!(rt; none.is_empty() && holds(&two, &[1, 2]) && holds(&full, &[1, 2, 3]));
     Ok(())
 }
@@ -160,22 +159,22 @@ fn a_long_list_of_calls_has_its_replies(rt: HostRuntime) -> Result<(), Fail> {
         rows.push((Call::PopFront, "none"))?;
     }
     let mut deque = deque_at::<3>(rt.alloc(), 0, &[])?;
-    saturating(&rt, rt.alloc(), &mut deque, rows)?;
+    run(&rt, rt.alloc(), &mut deque, rows)?;
     assert!(rt; deque.is_empty());
     Ok(())
 }
 
-/// Whether the replies hand out the items of a list from one index up to another, and then those
-/// behind, and a deque is left with those before.
-fn is_parted<const CAP: usize, B: Behavior>(
+/// Whether a deque of this list hands out the items from one index up to another, and then those
+/// behind, and is left with those before.
+fn is_parted<const CAP: usize, B: RunPolicy<i64, CAP>>(
     alloc: Global,
-    deque: &ArrayDeque<i64, CAP, B>,
-    replies: Vec<Reply<i64, CAP, B>>,
+    mut deque: ArrayDeque<i64, CAP, B>,
     list: &[i64],
     from: usize,
     to: usize,
 ) -> Result<bool, Fail> {
-    let mut replies = replies.into_iter();
+    let calls = vec![in alloc; Call::Drain(from, to), Call::SplitOff(from)]?;
+    let mut replies = made(deque.run(calls))?.into_iter();
     let Some(Reply::Drained(drained)) = replies.next() else {
         return Ok(false);
     };
@@ -186,19 +185,17 @@ fn is_parted<const CAP: usize, B: Behavior>(
     Ok(
         list.get(from..to) == Some(drained.as_slice())
             && holds(&behind, list.get(to..).unwrap_or(&[]))
-            && holds(deque, list.get(..from).unwrap_or(&[])),
+            && holds(&deque, list.get(..from).unwrap_or(&[])),
     )
 }
 
 /// Whether a full deque of either policy is parted.
 fn parts<const CAP: usize>(alloc: Global, from: usize, to: usize) -> Result<bool, Fail> {
     let list = numbers(alloc, CAP)?;
-    let mut deque = deque_at::<CAP>(alloc, 1, list.as_slice())?;
-    let replies = deque.run(vec![in alloc; Call::Drain(from, to), Call::SplitOff(from)]?);
-    let is_first = is_parted(alloc, &deque, made(replies)?, list.as_slice(), from, to)?;
-    let mut deque = wrapping_at::<CAP>(alloc, 1, list.as_slice())?;
-    let replies = deque.run(vec![in alloc; Call::Drain(from, to), Call::SplitOff(from)]?);
-    Ok(is_parted(alloc, &deque, made(replies)?, list.as_slice(), from, to)? && is_first)
+    let list = list.as_slice();
+    let refusing = deque_at::<CAP>(alloc, 1, list)?;
+    let displacing = wrapping_at::<CAP>(alloc, 1, list)?;
+    Ok(is_parted(alloc, refusing, list, from, to)? && is_parted(alloc, displacing, list, from, to)?)
 }
 
 #[test]
@@ -253,7 +250,7 @@ fn a_run_goes_on_where_calls_left_off(rt: HostRuntime) -> Result<(), Fail> {
     let mut deque = deque_at::<3>(rt.alloc(), 0, &[])?;
     assert!(rt; inserts(&mut deque));
     let rows = vec![in rt.alloc(); (Call::Insert(4, 9), "range 9")]?;
-    saturating(&rt, rt.alloc(), &mut deque, rows)?;
+    run(&rt, rt.alloc(), &mut deque, rows)?;
     assert!(rt; holds(&deque, &[1, 2, 3]));
 
     let mut deque = deque_at::<3>(rt.alloc(), 0, &[])?;
@@ -262,13 +259,13 @@ fn a_run_goes_on_where_calls_left_off(rt: HostRuntime) -> Result<(), Fail> {
         (Call::Replace(2, 4), "3"),
         (Call::Replace(3, 4), "range 4"),
     ]?;
-    saturating(&rt, rt.alloc(), &mut deque, rows)?;
+    run(&rt, rt.alloc(), &mut deque, rows)?;
     assert!(rt; holds(&deque, &[7, 9, 4]));
 
     let mut deque = deque_at::<3>(rt.alloc(), 0, &[0, 1, 2])?;
     assert!(rt; swaps(&mut deque));
     let rows = vec![in rt.alloc(); (Call::Swap(0, 3), "range")]?;
-    saturating(&rt, rt.alloc(), &mut deque, rows)?;
+    run(&rt, rt.alloc(), &mut deque, rows)?;
     assert!(rt; holds(&deque, &[2, 1, 0]));
     Ok(())
 }

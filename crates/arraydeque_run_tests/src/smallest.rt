@@ -1,8 +1,7 @@
 //! Each call of a run at the capacities 0 and 1, under either policy.
 use crate::replies::text_of;
 use arraydeque::ArrayDeque;
-use arraydeque::behavior::Behavior;
-use arraydeque::run::{Call, Reply};
+use arraydeque::run::{Call, RunPolicy};
 use arraydeque_samples::build::{deque_at, made, wrapping_at};
 use std::alloc::Global;
 use std::fmt::Write;
@@ -109,67 +108,47 @@ fn rows(alloc: Global) -> Result<Vec<Row>, Fail> {
     ]?)
 }
 
-/// Compares the one reply to a call and the list that it left with the text.
-fn compare<const CAP: usize, B: Behavior>(
+/// Makes a call, and compares its one reply and the list that it leaves with the text.
+fn compare<const CAP: usize, B: RunPolicy<i64, CAP>>(
     rt: &impl Abort,
     alloc: Global,
-    replies: Vec<Reply<i64, CAP, B>>,
-    deque: &ArrayDeque<i64, CAP, B>,
+    mut deque: ArrayDeque<i64, CAP, B>,
+    call: Call<i64>,
     told: &str,
 ) -> Result<(), Fail> {
     let mut text = String::new(alloc);
-    for reply in replies {
+    for reply in made(deque.run(vec![in alloc; call]?))? {
         write!(text, "{} {deque:?}", text_of(alloc, reply)?)?;
     }
     assert!(rt; text.as_str() == told, "{text} for {told}");
     Ok(())
 }
 
-/// Makes a call on a deque that refuses.
-fn refusing<const CAP: usize>(
-    rt: &impl Abort,
-    alloc: Global,
-    list: &[i64],
-    call: Call<i64>,
-    told: &str,
-) -> Result<(), Fail> {
-    let mut deque = deque_at::<CAP>(alloc, 0, list)?;
-    let replies = made(deque.run(vec![in alloc; call]?))?;
-    compare(rt, alloc, replies, &deque, told)
-}
-
-/// Makes a call on a deque that displaces.
-fn displacing<const CAP: usize>(
-    rt: &impl Abort,
-    alloc: Global,
-    list: &[i64],
-    call: Call<i64>,
-    told: &str,
-) -> Result<(), Fail> {
-    let mut deque = wrapping_at::<CAP>(alloc, 0, list)?;
-    let replies = made(deque.run(vec![in alloc; call]?))?;
-    compare(rt, alloc, replies, &deque, told)
-}
-
 #[test]
 fn each_call_at_the_smallest_capacities(rt: HostRuntime) -> Result<(), Fail> {
     for (call, [told, _, _], _) in rows(rt.alloc())? {
-        refusing::<0>(&rt, rt.alloc(), &[], call, told)?;
+        let deque = deque_at::<0>(rt.alloc(), 0, &[])?;
+        compare(&rt, rt.alloc(), deque, call, told)?;
     }
     for (call, [_, told, _], _) in rows(rt.alloc())? {
-        refusing::<1>(&rt, rt.alloc(), &[], call, told)?;
+        let deque = deque_at::<1>(rt.alloc(), 0, &[])?;
+        compare(&rt, rt.alloc(), deque, call, told)?;
     }
     for (call, [_, _, told], _) in rows(rt.alloc())? {
-        refusing::<1>(&rt, rt.alloc(), &[7], call, told)?;
+        let deque = deque_at::<1>(rt.alloc(), 0, &[7])?;
+        compare(&rt, rt.alloc(), deque, call, told)?;
     }
     for (call, _, [told, _, _]) in rows(rt.alloc())? {
-        displacing::<0>(&rt, rt.alloc(), &[], call, told)?;
+        let deque = wrapping_at::<0>(rt.alloc(), 0, &[])?;
+        compare(&rt, rt.alloc(), deque, call, told)?;
     }
     for (call, _, [_, told, _]) in rows(rt.alloc())? {
-        displacing::<1>(&rt, rt.alloc(), &[], call, told)?;
+        let deque = wrapping_at::<1>(rt.alloc(), 0, &[])?;
+        compare(&rt, rt.alloc(), deque, call, told)?;
     }
     for (call, _, [_, _, told]) in rows(rt.alloc())? {
-        displacing::<1>(&rt, rt.alloc(), &[7], call, told)?;
+        let deque = wrapping_at::<1>(rt.alloc(), 0, &[7])?;
+        compare(&rt, rt.alloc(), deque, call, told)?;
     }
     Ok(())
 }
