@@ -1,4 +1,3 @@
-pub mod Driven
 pub mod Ended
 pub mod FirstWord
 pub mod LinesRead

@@ -5,7 +5,7 @@ use Rattle.std.specs.{
   Map.lookup,
   Option.option_zip,
   Prelude.{◌≡◌, ℕ, ℤ, List, [], ◌∷◌, ◌++◌, Option, Some, None, Result, Ok, Err, String},
-  Prelude.{string_bytes, codes, bytes_eq, ◌+◌, ⊤, IfSome, Bool, true},
+  Prelude.{string_bytes, codes, bytes_eq, ◌+◌, ⊤, IfSome},
 }
 use Rattle.arraydeque.specs.{declared.run.Call.Call, Machine.{Answer, Answers}, Policy.Policy}
 use Rattle.adq.specs.{
@@ -80,9 +80,8 @@ status_of Fault.Arguments = 2
 status_of (Fault.Line n) = 2
 status_of Fault.Memory = 3
 
--- the status of a run; a fault is reported, if the stream took the report, and nothing else is
-abbrev pub Reports : {X : Type 0} → Result X Fault → ℕ → Bool → Option (List ℕ) → Option (List ℕ)
-    → Type 0
-Reports (Ok done) status is_told old new = (status ≡ 0) × Keeps old new
-Reports (Err fault) status is_told old new = (status ≡ status_of fault)
-    × (is_told ≡ true → Appends old new (report_of fault))
+-- the status of a run; of a fault the report was written, or some beginning of it, and else nothing
+abbrev pub Reports : {X : Type 0} → Result X Fault → ℕ → Option (List ℕ) → Option (List ℕ) → Type 0
+Reports (Ok done) status old new = (status ≡ 0) × Keeps old new
+Reports (Err fault) status old new = (status ≡ status_of fault)
+    × ((told : Result ⊤ Fault) × Writes old new (report_of fault) told)

@@ -2,9 +2,7 @@
 ghost use Rattle.std.specs.Option.{option_zip};
 ghost use Rattle.std.specs.Prelude.{◌≡◌, ◌≤◌, ◌⊎◌, ◌∷◌, [], ◌++◌, Result, IfOk, IfErr, IfSome, OnOk, Some, None, ⊤, codes, flat_map, map, string_bytes};
 ghost use Rattle.std.specs.Io.KnownBytes.{IsAtEnd};
-ghost use Rattle.arraydeque.specs.Policy.{Policy, saturating, wrapping};
 ghost use Rattle.arraydeque.specs.Machine.{answer_of};
-ghost use Rattle.arraydeque.specs.Run.{MachineRun};
 ghost use Rattle.adq.specs.Run.{policy_of, settings_of, Drives, IsOutcome, ReadsWhole, Reports, Writes};
 ghost use Rattle.adq.specs.Text.{text_of, list_text};
 ghost use Rattle.adq.specs.declared.fault.Fault.{Fault};
@@ -14,8 +12,8 @@ use crate::fault::Fault;
 use crate::line::calls;
 use crate::print::{print_deque, print_reply};
 use arraydeque::behavior::Behavior;
-use arraydeque::run::{Call, Reply};
-use arraydeque::{ArrayDeque, MakeError, Saturating, Wrapping};
+use arraydeque::run::{Reply, RunPolicy};
+use arraydeque::{ArrayDeque, Saturating, Wrapping};
 use std::alloc::Global;
 use std::io::{ErrorKind, Read, Write};
 
@@ -28,40 +26,26 @@ const PIECE: usize = 8192;
 /// Runs the program on the words after its name, and returns its status.
 ///
 /// With bad arguments nothing is read, and with a bad line no call is made.
-pub fn drive<R: Read + Drop, W: Write + Drop, F: Write + Drop>(
-    alloc: Global,
-    args: &[String],
-    mut input: R,
-    mut output: W,
-    mut faults: F,
-) -> u8
-    ensures bound { result ≤ 3 }
-    ensures arguments { settings_of (map (λ word. string_bytes word) args.now) ≡ None
-        → result ≡ 2 }
-{
-    drive_over(alloc, args, &mut input, &mut output, &mut faults).0
-}
-
-/// The same over streams that are lent. Returns the status, and whether `faults` took the report of
-/// a fault, if there is one.
-fn drive_over<R: Read, W: Write, F: Write>(
+pub fn drive<R: Read, W: Write, F: Write>(
     alloc: Global,
     args: &[String],
     input: &mut R,
     output: &mut W,
     faults: &mut F,
-) -> (u8, bool)
-    ensures { (end : Result ⊤ Fault)
+) -> u8
+    ensures run { (end : Result ⊤ Fault)
         × Drives (settings_of (map (λ word. string_bytes word) args.now)) (R.remaining input.old)
         (W.contents output.old) (W.contents output.new) end
-        × Reports end result.0 result.1 (F.contents faults.old) (F.contents faults.new) }
+        × Reports end result (F.contents faults.old) (F.contents faults.new) }
+    ensures bound { result ≤ 3 }
+    ensures arguments { settings_of (map (λ word. string_bytes word) args.now) ≡ None
+        → result ≡ 2 }
+    ensures unread { settings_of (map (λ word. string_bytes word) args.now) ≡ None
+        → input.new ≡ input.old }
 {
     match write_run(alloc, args, input, output) {
-        Ok(()) => (0, true),
-        Err(fault) => {
-            let is_told = fault.tell(faults).is_ok();
-            (fault.status(), is_told)
-        }
+        Ok(()) => 0,
+        Err(fault) => fault.report(faults),
     }
 }
 
@@ -72,8 +56,10 @@ fn write_run<R: Read, W: Write>(
     input: &mut R,
     output: &mut W,
 ) -> Result<(), Fault>
-    ensures { Drives (settings_of (map (λ word. string_bytes word) args.now))
+    ensures run { Drives (settings_of (map (λ word. string_bytes word) args.now))
         (R.remaining input.old) (W.contents output.old) (W.contents output.new) result }
+    ensures unread { settings_of (map (λ word. string_bytes word) args.now) ≡ None
+        → input.new ≡ input.old }
 {
     let mut text = Vec::new(alloc);
     let printed = dispatch(alloc, args, input, &mut text)?;
@@ -90,6 +76,8 @@ fn dispatch<R: Read>(
     ensures outcome { IsOutcome
         (settings_of (map (λ word. string_bytes word) args.now)) text.new.items result }
     ensures whole { ReadsWhole (R.remaining input.old) text.old.items text.new.items result }
+    ensures unread { settings_of (map (λ word. string_bytes word) args.now) ≡ None
+        → input.new ≡ input.old }
 {
     let [policy, capacity] = args else {
         return Err(Fault::Arguments);
@@ -108,6 +96,7 @@ fn run_with<R: Read>(
     ensures outcome { IsOutcome
         (settings_of (policy.now ∷ capacity.now ∷ [])) text.new.items result }
     ensures whole { ReadsWhole (R.remaining input.old) text.old.items text.new.items result }
+    ensures unread { settings_of (policy.now ∷ capacity.now ∷ []) ≡ None → input.new ≡ input.old }
 {
     match capacity {
         "0" => run_at::<R, 0>(alloc, policy, input, text),
@@ -131,6 +120,8 @@ fn run_at<R: Read, const CAP: usize>(
     ensures outcome { IsOutcome
         (option_zip (Some CAP) (policy_of policy.now)) text.new.items result }
     ensures whole { ReadsWhole (R.remaining input.old) text.old.items text.new.items result }
+    ensures unread { option_zip (Some CAP) (policy_of policy.now) ≡ None
+        → input.new ≡ input.old }
 {
     match policy {
         "sat" => run_on::<R, CAP, Saturating>(alloc, input, text),
@@ -141,7 +132,7 @@ fn run_at<R: Read, const CAP: usize>(
 
 /// The same under one policy. The deque is made first, then all input is read, and then every line
 /// of it.
-fn run_on<R: Read, const CAP: usize, B: Runs<CAP>>(
+fn run_on<R: Read, const CAP: usize, B: RunPolicy<i64, CAP>>(
     alloc: Global,
     input: &mut R,
     text: &mut Vec<u8>,
@@ -152,44 +143,8 @@ fn run_on<R: Read, const CAP: usize, B: Runs<CAP>>(
     let mut deque = ArrayDeque::<i64, CAP, B>::new(alloc)?;
     read(input, text)?;
     let calls = calls(alloc, text.as_slice())?;
-    let replies = B::run(&mut deque, calls)?;
+    let replies = deque.run(calls)?;
     print(alloc, replies, &deque)
-}
-
-/// A policy, by which one function runs deques of either: a bound of `ArrayDeque::run` is private.
-trait Runs<const CAP: usize>: Behavior {
-    // What the list machine calls it.
-    ghost policy: { Policy };
-
-    /// `ArrayDeque::run`.
-    fn run(
-        deque: &mut ArrayDeque<i64, CAP, Self>,
-        calls: Vec<Call<i64>>,
-    ) -> Result<Vec<Reply<i64, CAP, Self>>, MakeError<Vec<Call<i64>>>>
-        ensures ok { IfOk result (λ replies. MachineRun policy
-            deque.old.items calls.items replies.items deque.new.items) };
-}
-
-impl<const CAP: usize> Runs<CAP> for Saturating {
-    ghost policy = { saturating };
-
-    fn run(
-        deque: &mut ArrayDeque<i64, CAP, Saturating>,
-        calls: Vec<Call<i64>>,
-    ) -> Result<Vec<Reply<i64, CAP, Saturating>>, MakeError<Vec<Call<i64>>>> {
-        deque.run(calls)
-    }
-}
-
-impl<const CAP: usize> Runs<CAP> for Wrapping {
-    ghost policy = { wrapping };
-
-    fn run(
-        deque: &mut ArrayDeque<i64, CAP, Wrapping>,
-        calls: Vec<Call<i64>>,
-    ) -> Result<Vec<Reply<i64, CAP, Wrapping>>, MakeError<Vec<Call<i64>>>> {
-        deque.run(calls)
-    }
 }
 
 /// Appends the input, up to its end. A read takes no memory from the program, so a failed one is a
@@ -234,7 +189,7 @@ fn print<const CAP: usize, B: Behavior>(
 }
 
 /// Writes all of the output and flushes it, or writes some beginning of it.
-fn write<W: Write>(output: &mut W, printed: &[u8]) -> Result<(), Fault>
+pub(crate) fn write<W: Write>(output: &mut W, printed: &[u8]) -> Result<(), Fault>
     ensures { Writes (W.contents output.old) (W.contents output.new) printed.now result }
 {
     let mut rest = printed;

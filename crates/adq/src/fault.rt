@@ -1,13 +1,14 @@
 //! Why a run ends early, and how it says so.
-ghost use Rattle.std.specs.Io.KnownBytes.{Appends};
-ghost use Rattle.std.specs.Prelude.{◌≡◌, ◌≤◌, ℕ, OnOk, Some};
-ghost use Rattle.adq.specs.Run.{status_of};
+ghost use Rattle.std.specs.Prelude.{◌≡◌, Result, Some, ⊤};
+ghost use Rattle.adq.specs.Run.{status_of, Writes};
 ghost use Rattle.adq.specs.Text.{fault_text, report_of};
+ghost use Rattle.adq.specs.declared.fault.Fault.{Fault};
 ghost use Rattle.adq.specs.declared.fault.Fault.TheVariants.{Io, Memory};
 
+use crate::drive::write;
 use arraydeque::MakeError;
 use std::alloc::{AllocError, AllocFailed};
-use std::io::Write;
+use std::fmt::{InlineText, Write};
 use std::{fmt, io};
 
 /// Why a run ends early.
@@ -25,24 +26,26 @@ pub enum Fault {
 
 impl Fault {
     /// Writes to `faults` why the run ends, and returns its status, also if the write fails.
-    pub fn report<F: Write + Drop>(self, mut faults: F) -> u8
-        ensures arguments { self ≡ Fault.Arguments → result ≡ 2 }
-        ensures line { (number : ℕ) → self ≡ Fault.Line number → result ≡ 2 }
-        ensures memory { self ≡ Fault.Memory → result ≡ 3 }
-        ensures io { self ≡ Fault.Io → result ≡ 1 }
-        ensures bound { result ≤ 3 }
+    pub fn report<F: io::Write>(&self, faults: &mut F) -> u8
+        ensures status { result ≡ status_of self.now }
+        ensures told { (told : Result ⊤ Fault) × Writes (F.contents faults.old)
+            (F.contents faults.new) (report_of self.now) told }
     {
-        let _ = self.tell(&mut faults);
+        let _ = self.tell(faults);
         self.status()
     }
 
-    /// Writes to `faults` why the run ends, as a line.
-    pub fn tell<F: Write>(&self, faults: &mut F) -> io::Result<()>
-        ensures { OnOk result (Appends
-            (F.contents faults.old) (F.contents faults.new) (report_of self.now)) }
+    /// Writes to `faults` why the run ends, as a line, which is made without memory.
+    pub fn tell<F: io::Write>(&self, faults: &mut F) -> Result<(), Fault>
+        ensures { Writes (F.contents faults.old) (F.contents faults.new) (report_of self.now)
+            result }
     {
-        writeln!(faults, "adq: {self}")?;
-        faults.flush()
+        // The longest has 35 bytes.
+        let mut line = InlineText::<64>::new();
+        match writeln!(line, "adq: {self}") {
+            Ok(()) => write(faults, line.as_str().as_bytes()),
+            Err(_) => Err(Fault::Io),
+        }
     }
 
     /// The status of a run that ends so.

@@ -23,10 +23,10 @@ fn main(rt: HostRuntime) -> ExitCode {
         Ok(args) => drive(
             rt.alloc(),
             args.as_slice(),
-            rt.reader(),
-            rt.stdout(),
-            rt.stderr(),
+            &mut rt.reader(),
+            &mut rt.stdout(),
+            &mut rt.stderr(),
         ),
-        Err(_) => Fault::Memory.report(rt.stderr()),
+        Err(_) => Fault::Memory.report(&mut rt.stderr()),
     })
 }

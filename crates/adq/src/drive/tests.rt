@@ -107,9 +107,9 @@ fn names(alloc: Global, word: &str, count: usize) -> Result<bool, AllocError> {
     let ended = drive(
         alloc,
         args.as_slice(),
-        line.as_bytes(),
-        io::sink(),
-        io::sink(),
+        &mut line.as_bytes(),
+        &mut io::sink(),
+        &mut io::sink(),
     );
     Ok(ended == 0)
 }
@@ -372,8 +372,8 @@ fn a_deque_is_made_before_the_input_is_read_54_requests_1823_bytes(
             rt.alloc(),
             args.as_slice(),
             &mut input,
-            io::sink(),
-            io::sink(),
+            &mut io::sink(),
+            &mut io::sink(),
         );
         assert!(rt; status == 1 && input.reads() == 1, "{words}");
     }

@@ -3,8 +3,8 @@ use Rattle.adq.proofs.Ended.{ended, read_whole}
 use Rattle.adq.proofs.drive.run_on.Goals as goal
 
 pub returns-clause-outcome : goal.returns-clause-outcome
-returns-clause-outcome g c = ended g.B.Runs.policy _ c.as_slice.result.now c.read.new.text.items
-    c.in_ok-calls.calls.items c.in_ok-replies.replies.items c.in_ok-deque.deque.items c.run.new.deque.items
+returns-clause-outcome g c = ended _ _ c.as_slice.result.now c.read.new.text.items
+    c.in_ok-calls.calls.items c.in_ok-replies.replies.items c.in_ok-deque.deque.items c.run.new.self.items
     c.print.result c.as_slice.ensures.value c.in_ok-calls.ensures.ok (ap (λ d. d.items) c.in_ok-deque.ensures.ok)
     c.in_ok-replies.ensures.ok c.print.ensures.ok c.print.ensures.refused
 
