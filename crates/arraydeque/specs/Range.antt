@@ -1,23 +1,26 @@
 -- The part of a list that a range names, and what a drain of it makes of a deque.
 use Rattle.std.specs.{
   List.remove_range,
-  Prelude.{◌≡◌, ◌-◌, ℕ, List, length, Option, slice_range, unwrap_or},
+  Prelude.{◌≡◌, ◌-◌, ℕ, List, length, slice_range, unwrap_or},
 }
 use Rattle.arraydeque_ring.specs.{
   Changed.DrainMovesFewest,
   Sides.{moves_to_drain, start_closed},
   Steps.{more_moves, more_takes},
 }
-use Rattle.arraydeque.specs.Deque.{DequeState}
+use Rattle.arraydeque.specs.{declared.range.RangeArgument.{Ghosts}, Deque.{DequeState}}
 
 -- the items from the index `from` up to the index `to`, which is not among them
 pub record Span : Type 0 where
   pub from : ℕ
   pub to : ℕ
 
--- the part of the list l between two bounds: one that is left open is the front of l, or its end
-abbrev pub span_of : {X : Type 0} → Option ℕ → Option ℕ → List X → Span
-span_of start end l = record { from = unwrap_or start 0; to = unwrap_or end (length l) }
+-- the part of the list xs that a range names: a bound left open is the front of xs, or its end
+abbrev pub span_of : {R X : Type 0} → Ghosts R ℕ → R → List X → Span
+span_of argument range xs = record {
+  from = unwrap_or (argument.names_start range) 0;
+  to = unwrap_or (argument.names_end range) (length xs);
+}
 
 -- at the capacity n the items from one index up to another are drained, and the gap is closed
 pub record IsDrained {X : Type 0} (n from to : ℕ) (old : DequeState X) (xs : List X)

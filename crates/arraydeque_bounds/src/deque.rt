@@ -139,11 +139,9 @@ fn range<T, const CAP: usize, B: Behavior, R: RangeArgument<usize> + Drop>(
     deque: &ArrayDeque<T, CAP, B>,
     range: R,
 ) -> Iter<'_, T>
-    requires in_order { let span =
-        span_of (R.names_start range) (R.names_end range) deque.now.items in
+    requires in_order { let span = span_of R.RangeArgument range deque.now.items in
         span.from ≤ span.to }
-    requires in_bounds { let span =
-        span_of (R.names_start range) (R.names_end range) deque.now.items in
+    requires in_bounds { let span = span_of R.RangeArgument range deque.now.items in
         span.to ≤ length deque.now.items }
 {
     deque.range(range)
@@ -153,11 +151,9 @@ fn range_mut<T, const CAP: usize, B: Behavior, R: RangeArgument<usize> + Drop>(
     deque: &mut ArrayDeque<T, CAP, B>,
     range: R,
 ) -> IterMut<'_, T>
-    requires in_order { let span =
-        span_of (R.names_start range) (R.names_end range) deque.old.items in
+    requires in_order { let span = span_of R.RangeArgument range deque.old.items in
         span.from ≤ span.to }
-    requires in_bounds { let span =
-        span_of (R.names_start range) (R.names_end range) deque.old.items in
+    requires in_bounds { let span = span_of R.RangeArgument range deque.old.items in
         span.to ≤ length deque.old.items }
 {
     deque.range_mut(range)
@@ -254,11 +250,9 @@ fn drain<T, const CAP: usize, B: Behavior, R: RangeArgument<usize> + Drop>(
     deque: &mut ArrayDeque<T, CAP, B>,
     range: R,
 ) -> Result<Drain<T>, AllocError>
-    requires in_order { let span =
-        span_of (R.names_start range) (R.names_end range) deque.old.items in
+    requires in_order { let span = span_of R.RangeArgument range deque.old.items in
         span.from ≤ span.to }
-    requires in_bounds { let span =
-        span_of (R.names_start range) (R.names_end range) deque.old.items in
+    requires in_bounds { let span = span_of R.RangeArgument range deque.old.items in
         span.to ≤ length deque.old.items }
 {
     deque.drain(range)

@@ -47,14 +47,11 @@ impl<T, const CAP: usize, B: Behavior> ArrayDeque<T, CAP, B> {
     pub fn range<R: RangeArgument<usize>>(&self, range: R) -> Iter<'_, T>
     where
         R: Drop,
-        requires in_order { let span =
-            span_of (R.names_start range) (R.names_end range) self.now.items in
+        requires in_order { let span = span_of R.RangeArgument range self.now.items in
             span.from ≤ span.to }
-        requires in_bounds { let span =
-            span_of (R.names_start range) (R.names_end range) self.now.items in
+        requires in_bounds { let span = span_of R.RangeArgument range self.now.items in
             span.to ≤ length self.now.items }
-        ensures value { let span =
-            span_of (R.names_start range) (R.names_end range) self.now.items in
+        ensures value { let span = span_of R.RangeArgument range self.now.items in
             result ≡ slice_range self.now.items span.from span.to }
         ensures within { length result ≤ CAP }
     {
@@ -110,18 +107,14 @@ impl<T, const CAP: usize, B: Behavior> ArrayDeque<T, CAP, B> {
     pub fn range_mut<R: RangeArgument<usize>>(&mut self, range: R) -> IterMut<'_, T>
     where
         R: Drop,
-        requires in_order { let span =
-            span_of (R.names_start range) (R.names_end range) self.old.items in
+        requires in_order { let span = span_of R.RangeArgument range self.old.items in
             span.from ≤ span.to }
-        requires in_bounds { let span =
-            span_of (R.names_start range) (R.names_end range) self.old.items in
+        requires in_bounds { let span = span_of R.RangeArgument range self.old.items in
             span.to ≤ length self.old.items }
-        ensures* writes_back { let span =
-            span_of (R.names_start range) (R.names_end range) self.old.items in
+        ensures* writes_back { let span = span_of R.RangeArgument range self.old.items in
             sem 𝓛 (lends_part T.row CAP.row B.row self.entry
             span.from (span.to - span.from) result.name) }
-        ensures value { let span =
-            span_of (R.names_start range) (R.names_end range) self.old.items in
+        ensures value { let span = span_of R.RangeArgument range self.old.items in
             remaining result ≡ slice_range self.old.items span.from span.to }
     {
         let from = range.start().unwrap_or(0);

@@ -49,21 +49,17 @@ impl<T, const CAP: usize, B: Behavior> ArrayDeque<T, CAP, B> {
     pub fn drain<R: RangeArgument<usize>>(&mut self, range: R) -> Result<Drain<T>, AllocError>
     where
         R: Drop,
-        requires in_order { let span =
-            span_of (R.names_start range) (R.names_end range) self.old.items in
+        requires in_order { let span = span_of R.RangeArgument range self.old.items in
             span.from ≤ span.to }
-        requires in_bounds { let span =
-            span_of (R.names_start range) (R.names_end range) self.old.items in
+        requires in_bounds { let span = span_of R.RangeArgument range self.old.items in
             span.to ≤ length self.old.items }
-        ensures drains { let span =
-            span_of (R.names_start range) (R.names_end range) self.old.items in
+        ensures drains { let span = span_of R.RangeArgument range self.old.items in
             IfOk result (λ drained. IsDrained CAP span.from span.to self.old drained self.new) }
         ensures runs { YieldsInOrder (YieldsFirst {A = T} (λ remaining. remaining))
             (λ remaining. remaining) }
         ensures within { length self.new.items ≤ CAP }
         ensures unchanged { OnErr result (self.new ≡ self.old) }
-        ensures refused { let span =
-            span_of (R.names_start range) (R.names_end range) self.old.items in
+        ensures refused { let span = span_of R.RangeArgument range self.old.items in
             OnErr result (0 < (span.to - span.from) * type_size T.row) }
     {
         let from = range.start().unwrap_or(0);
