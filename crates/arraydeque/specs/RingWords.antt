@@ -3,6 +3,7 @@ pub use Rattle.arraydeque_ring.specs.Changed.{InsertMovesFewest, RemoveMovesFewe
 pub use Rattle.arraydeque_ring.specs.Changed.{DrainMovesFewest, RotateMovesFewest, IsFewest}
 pub use Rattle.arraydeque_ring.specs.Changed.{changed_insert, changed_remove, changed_drain}
 pub use Rattle.arraydeque_ring.specs.Changed.{changed_rotate}
+pub use Rattle.arraydeque_ring.specs.Computed.{ComputesAt, ComputesAtMut}
 pub use Rattle.arraydeque_ring.specs.Loans.{LoanState, remaining}
 pub use Rattle.arraydeque_ring.specs.Retained.{Retains, MayBeAsked, count_moved}
 pub use Rattle.arraydeque_ring.specs.Retained.{RetainsMut, MayWrite, written, as_were, as_left}

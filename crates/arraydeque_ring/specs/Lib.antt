@@ -1,4 +1,5 @@
 pub mod Changed
+pub mod Computed
 pub mod Counted
 pub mod Fills
 pub mod formers

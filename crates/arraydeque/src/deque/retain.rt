@@ -4,6 +4,7 @@ ghost use Rattle.std.specs.Prelude.{◌≡◌, ◌-◌, ◌≤◌, ◌++◌, Boo
 ghost use Rattle.std.specs.List.{filter};
 ghost use Rattle.std.specs.Fn.{CalledAt, CalledAtMut};
 ghost use Rattle.std.specs.List.Retain.{IsFiltered, RetainsInTurn};
+ghost use Rattle.arraydeque_ring.specs.Computed.{ComputesAt, ComputesAtMut};
 ghost use Rattle.arraydeque_ring.specs.Ring.{up_by};
 ghost use Rattle.arraydeque_ring.specs.Retained.{Retains, RetainsMut, MayBeAsked, MayWrite};
 ghost use Rattle.arraydeque_ring.specs.Steps.{more_puts, more_takes};
@@ -132,8 +133,7 @@ impl<T, const CAP: usize, B: Behavior> ArrayDeque<T, CAP, B> {
         ensures retains { Retains (CalledAt F.FnMut) f
             (as_ring CAP self.old) (as_ring CAP self.new) }
         ensures filtered { IsFiltered (CalledAt F.FnMut) f self.old.items self.new.items }
-        ensures tested { (test : T → Bool) → ((item : T) (answer : Bool) (after : F) →
-            CalledAt F.FnMut f item answer after → (answer ≡ test item) × (after ≡ f))
+        ensures tested { (test : T → Bool) → ComputesAt F.FnMut test f
             → filter test self.old.items ≡ self.new.items }
         ensures no_longer { length self.new.items ≤ length self.old.items }
         ensures within { length self.new.items ≤ CAP }
@@ -169,10 +169,7 @@ impl<T, const CAP: usize, B: Behavior> ArrayDeque<T, CAP, B> {
         ensures retains { RetainsMut (CalledAtMut F.FnMut) f
             (as_ring CAP self.old) (as_ring CAP self.new) }
         ensures filtered { RetainsInTurn (CalledAtMut F.FnMut) f self.old.items self.new.items }
-        ensures tested { (test : T → Bool) (change : T → T) →
-            ((item : T) (answer : Bool) (after : F) (left : T) →
-            CalledAtMut F.FnMut f item answer after left →
-            (answer ≡ test item) × (left ≡ change item) × (after ≡ f))
+        ensures tested { (test : T → Bool) (change : T → T) → ComputesAtMut F.FnMut test change f
             → map change (filter test self.old.items) ≡ self.new.items }
         ensures no_longer { length self.new.items ≤ length self.old.items }
         ensures within { length self.new.items ≤ CAP }

@@ -1,6 +1,6 @@
-use Rattle.std.{proofs.Common.sym, specs.Fn.CalledAtMut}
+use Rattle.std.specs.Fn.{CalledAtMut}
 use Rattle.arraydeque_ring.proofs.retained.Writing.{retains_in_turn}
-use Rattle.arraydeque.proofs.RetainedLeft.{told_left}
+use Rattle.arraydeque.proofs.RetainedLeft.{left_where}
 use Rattle.arraydeque.proofs.deque.ArrayDeque.retain_mut.Goals as goal
 
 pub returns-clause-filtered : goal.returns-clause-filtered
@@ -9,4 +9,4 @@ returns-clause-filtered g c =
 
 pub returns-clause-tested : goal.returns-clause-tested
 returns-clause-tested g c =
-    λ test change says. sym (told_left (CalledAtMut g.F.FnMut) _ test change says _ _ (returns-clause-filtered g c))
+    λ test change says. left_where g.F.FnMut test change _ says _ _ (returns-clause-filtered g c)
