@@ -27,8 +27,12 @@ impl<T> Ring<T> {
     pub fn insert(&mut self, index: usize, element: T)
         requires in_bounds { index ≤ length self.old.items }
         requires room { length self.old.items < self.old.capacity }
+
+        // What is returned, and what is left.
         ensures items { self.new.items ≡ insert self.old.items index element }
         ensures capacity { self.new.capacity ≡ self.old.capacity }
+
+        // Where the list lies, and what it cost.
         ensures start { self.new.start ≡
             start_opened index (length self.old.items - index) self.old.capacity self.old.start }
         ensures steps { self.new.steps ≡ more_puts 1
@@ -61,9 +65,13 @@ impl<T> Ring<T> {
     #[tactic(auto, using(crate::proofs::Opened::end_facts))]
     pub fn remove(&mut self, index: usize) -> T
         requires { index < length self.old.items }
+
+        // What is returned, and what is left.
         ensures value { slice_get self.old.items index ≡ Some result }
         ensures items { self.new.items ≡ remove self.old.items index }
         ensures capacity { self.new.capacity ≡ self.old.capacity }
+
+        // Where the list lies, and what it cost.
         ensures start { self.new.start ≡ start_closed
             index 1 (length self.old.items - 1 - index) self.old.capacity self.old.start }
         ensures steps { self.new.steps ≡ more_moves

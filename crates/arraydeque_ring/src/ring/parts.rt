@@ -39,6 +39,8 @@ impl<T> Ring<T> {
     pub fn drain(&mut self, from: usize, to: usize) -> Result<Ring<T>, AllocError>
         requires in_order { from ≤ to }
         requires in_bounds { to ≤ length self.old.items }
+
+        // What is returned, and what is left.
         ensures drained { IfOk result (λ ring. ring ≡ record {
           items = slice_range self.old.items from to;
           capacity = to - from;
@@ -47,6 +49,10 @@ impl<T> Ring<T> {
         }) }
         ensures items { OnOk result (self.new.items ≡ remove_range self.old.items from to) }
         ensures capacity { OnOk result (self.new.capacity ≡ self.old.capacity) }
+        ensures unchanged { OnErr result (self.new ≡ self.old) }
+        ensures refused { OnErr result (0 < (to - from) * type_size T.row) }
+
+        // Where the list lies, and what it cost.
         ensures start { let behind = length self.old.items - to in OnOk result (self.new.start ≡
             start_closed from (to - from) behind self.old.capacity self.old.start) }
         ensures steps { OnOk result (self.new.steps ≡
@@ -54,8 +60,6 @@ impl<T> Ring<T> {
             (more_takes (to - from) self.old.steps)) }
         ensures fewest { OnOk result (DrainMovesFewest
             from to (length self.old.items) self.old.capacity self.old.start self.new.start) }
-        ensures unchanged { OnErr result (self.new ≡ self.old) }
-        ensures refused { OnErr result (0 < (to - from) * type_size T.row) }
     {
         let count = to - from;
         if count == 0 {
