@@ -175,7 +175,9 @@ fn workloads_in_place() -> Vec<Workload> {
     of_all_lists!(list, zip, arraydeque_bench_zip);
     of_all_lists!(list, add_each, arraydeque_bench_add_each, (8, u64, 1000000));
     // Not at capacity 16, whose rounds the compiler sums without making them.
+    of_all_items!(list, iter_mut_for_each, arraydeque_bench_iter_mut_for_each, (8, u64, 64), (8, u64, 1000000));
     of_all_items!(list, for_each_mut, arraydeque_bench_for_each_mut, (8, u64, 64), (8, u64, 1000000));
+    of_all_items!(list, for_each_mut_in, arraydeque_bench_for_each_mut_in, (8, u64, 64), (8, u64, 1000000));
     of_all_lists!(list, range_mut, arraydeque_bench_range_mut, (8, u64, 1000000));
     of_all_lists!(list, contains, arraydeque_bench_contains, (8, u64, 1000000));
     workloads!(

@@ -23,7 +23,10 @@ pub const TASKS: [Task; 23] = [
     common("the same through a reference", &["lent_queue", "lent_history"]),
     common("an item by its index", &["get", "index", "get_mut", "index_mut"]),
     common("all items read", &["iterate", "rev", "zip", "fold"]),
-    common("all items written", &["iterate_mut", "add_each", "for_each_mut", "range_mut"]),
+    common(
+        "all items written",
+        &["iterate_mut", "add_each", "iter_mut_for_each", "for_each_mut", "range_mut", "for_each_mut_in"],
+    ),
     other("contains", &["contains"]),
     common("equality, order, hash", &["equal", "compare", "hash"]),
     common("binary searches", &["search", "partition_point"]),

@@ -86,12 +86,31 @@ pub fn add_each<T: Item, D: Peer<T>, const CAP: usize>(rounds: usize) -> u64 {
     sum
 }
 
-pub fn for_each_mut<T: Item, D: Peer<T>, const CAP: usize>(rounds: usize) -> u64 {
+pub fn iter_mut_for_each<T: Item, D: Peer<T>, const CAP: usize>(rounds: usize) -> u64 {
     let mut deque: D = peer_at(CAP / 2, CAP);
     let mut sum = 0u64;
     for _ in 0..rounds {
         deque.iter_mut().for_each(|item| *item = T::of(item.number().wrapping_add(1)));
         sum = sum.wrapping_add(last_number(&deque));
+    }
+    sum
+}
+
+/// By an iterator, as the peers have no other way.
+pub fn for_each_mut<T: Item, D: Peer<T>, const CAP: usize>(rounds: usize) -> u64 {
+    iter_mut_for_each::<T, D, CAP>(rounds)
+}
+
+pub fn for_each_mut_in<T: Item, D: Peer<T>, const CAP: usize>(rounds: usize) -> u64 {
+    let mut deque: D = peer_at(CAP / 2, CAP);
+    let mut sum = 0u64;
+    for _ in 0..rounds {
+        let from = deque.len() / 4;
+        let to = deque.len() - from;
+        deque.range_mut(from..to).for_each(|item| *item = T::of(item.number().wrapping_add(1)));
+        if let Some(item) = deque.get(CAP / 2) {
+            sum = sum.wrapping_add(item.number());
+        }
     }
     sum
 }

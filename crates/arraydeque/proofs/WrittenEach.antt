@@ -1,23 +1,48 @@
 -- What a closure leaves that was called at each item in turn.
 use Rattle.std.{
   proofs.{
-    Common.{◌≡◌, List, [], ◌∷◌, length, map, All, refl, sym, subst, arith},
+    Common.{◌≡◌, ℕ, List, [], ◌∷◌, inl, inr, length, map, All, refl, sym, ap, ◌∙◌, subst, arith},
     lemmas.{List.Elements.All-cons, Option.{slice_get_within, get_or_from_slice_get}},
   },
-  specs.{Borrow.MutBor, Fn.{CalledAtMut, Mut}},
+  specs.{Borrow.MutBor, Fn.{AlwaysReturns, CalledAtMut, Mut}, List.splice, Prelude.slice_range},
 }
-use Rattle.arraydeque_ring.specs.Written.{WritesInTurn, WritesAt, WrittenInTurn, MayWriteEach}
+use Rattle.arraydeque_ring.specs.{
+  Computed.ComputesAtMut,
+  Written.{WritesInTurn, WritesAt, WrittenInTurn, WrittenPart, MayWriteEach},
+}
+use Rattle.arraydeque.proofs.Searched.{answers_first}
 
-module _ {F X : Type 0} (R : F → X → F → X → Type 0) (f : F) (change : X → X)
-    (says : (x : X) (g : F) (y : X) → R f x g y → (y ≡ change x) × (g ≡ f)) where
-  pub changed_each : (xs ys : List X) (g : F) → WritesInTurn R f xs ys g → map change xs ≡ ys
-  changed_each [] [] g told = refl
-  changed_each [] (y ∷ ys) g told = absurd told
-  changed_each (x ∷ xs) [] g told = absurd told
-  changed_each (x ∷ xs) (y ∷ ys) g told =
-      let said = says x told.0 y told.1 in
-      let rest = changed_each xs ys g (subst (λ h. WritesInTurn R h xs ys g) said.1 told.2) in
+-- R leaves each item as `change` does in each state of which I holds, and is then in one of which it does
+module _ {F X : Type 0} (R : F → X → F → X → Type 0) (I : F → Type 0) (change : X → X)
+    (says : (f : F) (x : X) (g : F) (y : X) → I f → R f x g y → (y ≡ change x) × I g) where
+  changed_each : (xs ys : List X) (f g : F) → I f → WritesInTurn R f xs ys g → map change xs ≡ ys
+  changed_each [] [] f g now told = refl
+  changed_each [] (y ∷ ys) f g now told = absurd told
+  changed_each (x ∷ xs) [] f g now told = absurd told
+  changed_each (x ∷ xs) (y ∷ ys) f g now told =
+      let said = says f x told.0 y now told.1 in
+      let rest = changed_each xs ys told.0 g said.1 told.2 in
       λ i. sym said.0 i ∷ rest i
+
+-- the closure leaves each item as `change` does
+module _ {F X : Type 0} (t : Mut F (MutBor X × Unit {0}) (Unit {0} × (MutBor X × Unit {0}))) (change : X → X) (f : F)
+    (says : ComputesAtMut t (λ _. tt) change f) where
+  pub changed_all : (xs ys : List X) → WrittenInTurn (WritesAt t) f xs ys → map change xs ≡ ys
+  changed_all xs ys told = elim says [
+    | inl same ↦ changed_each (WritesAt t) (λ q. q ≡ f) change
+        (λ q x h y is called. let said = same x tt h y (subst (λ p. WritesAt t p x h y) is called) in (said.1, said.2))
+        xs ys f told.0 refl told.1
+    | inr always ↦ changed_each (WritesAt t)
+        (AlwaysReturns t (λ a r. (r.0 ≡ tt) × (r.1.0.now ≡ change a.0.now))) change
+        (λ q x h y computes called. let next = answers_first t computes called.called in
+        (sym called.leaves ∙ next.0.1 ∙ ap change called.shows, next.1))
+        xs ys f told.0 always told.1
+  ]
+
+  pub changed_part : (from to : ℕ) (xs ys : List X) → WrittenPart (WritesAt t) f from to xs ys
+      → splice xs from to (map change (slice_range xs from to)) ≡ ys
+  changed_part from to xs ys part =
+      ap (splice xs from to) (changed_all (slice_range xs from to) part.0 part.1) ∙ sym part.2
 
 -- a closure that changes nothing that it captures
 module _ {F X : Type 0} (t : Mut F (MutBor X × Unit {0}) (Unit {0} × (MutBor X × Unit {0}))) (f : F)

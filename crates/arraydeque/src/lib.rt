@@ -51,7 +51,8 @@
 //!
 //! - `deque[index]` and `swap`: indexes below the length. `insert`, `split_off`, `rotate_left` and
 //!   `rotate_right`: an index or a count up to the length.
-//! - `drain`, `range` and `range_mut`: a range that is in order and ends within the list.
+//! - `drain`, `range`, `range_mut` and `for_each_mut_in`: a range that is in order and ends within
+//!   the list.
 //! - `resize`: a length up to `CAP`. (`truncate` and `truncate_front` take any.)
 //! - `as_slice` and `as_mut_slice`: a list in one piece, as `linearize` leaves it.
 //! - `extend_back`, `extend_front` and `from_iter` under [`Wrapping`], and `extend` under either
@@ -59,7 +60,8 @@
 //! - `clone`: that the clone of an item is the same value as the item, as with numbers.
 //! - A call with an iterator or a closure: that it may be called. A search and `next_if` may always
 //!   call their closure, `retain`, `retain_mut` and `for_each_mut` once on each item in turn,
-//!   `pop_front_if` and `pop_back_if` on the item at that end.
+//!   `for_each_mut_in` on those of its range, `pop_front_if` and `pop_back_if` on the item at that
+//!   end.
 //! - [`lookahead::Scanner`]: `peek(k)` a k below its capacity, `read_ahead(k)` a k up to it,
 //!   `ahead(k)` a k up to what it has read ahead, `next_if` a capacity above 0.
 //!

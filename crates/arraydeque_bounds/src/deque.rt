@@ -1,5 +1,5 @@
 //! The deque's calls that are the same under either policy.
-ghost use Rattle.std.specs.Prelude.{◌≡◌, ◌<◌, ◌≤◌, Some, length, slice_get};
+ghost use Rattle.std.specs.Prelude.{◌≡◌, ◌<◌, ◌≤◌, Some, length, slice_get, slice_range};
 ghost use Rattle.std.specs.Fn.{FnOnceTakesAtMut};
 ghost use Rattle.arraydeque.specs.Deque.{as_ring, last_item};
 ghost use Rattle.arraydeque.specs.Range.{span_of};
@@ -200,6 +200,24 @@ fn for_each_mut<T, const CAP: usize, B: Behavior, F: FnMut(&mut T) + Drop>(
     requires { MayWriteEach F.FnMut f deque.old.items }
 {
     deque.for_each_mut(f);
+}
+
+fn for_each_mut_in<T, const CAP: usize, B: Behavior, R, F>(
+    deque: &mut ArrayDeque<T, CAP, B>,
+    range: R,
+    f: F,
+)
+where
+    R: RangeArgument<usize> + Drop,
+    F: FnMut(&mut T) + Drop,
+    requires in_order { let span = span_of R.RangeArgument range deque.old.items in
+        span.from ≤ span.to }
+    requires in_bounds { let span = span_of R.RangeArgument range deque.old.items in
+        span.to ≤ length deque.old.items }
+    requires may_write { let span = span_of R.RangeArgument range deque.old.items in
+        MayWriteEach F.FnMut f (slice_range deque.old.items span.from span.to) }
+{
+    deque.for_each_mut_in(range, f);
 }
 
 fn linearize<T, const CAP: usize, B: Behavior>(deque: &mut ArrayDeque<T, CAP, B>) {

@@ -150,8 +150,8 @@ fn lends_slices(alloc: Global) -> Result<bool, Fail> {
     Ok(is_lent && is_pushed && is_cut && holds(&deque, &[2, 9, 1]))
 }
 
-/// Whether each item is called on once and in order, at each start, and one slice and the other
-/// keep what is written.
+/// Whether each item, or each of a part, is called on once and in order, at each start, and one
+/// slice and the other keep what is written.
 fn is_written_in_place(alloc: Global) -> Result<bool, Fail> {
     for start in 0..5 {
         let mut deque = deque_at::<5>(alloc, start, &[1, 2, 3, 4])?;
@@ -161,6 +161,12 @@ fn is_written_in_place(alloc: Global) -> Result<bool, Fail> {
             *item = item.wrapping_mul(10).wrapping_add(count);
         });
         let is_called = holds(&deque, &[11, 22, 33, 44]);
+        let mut sum = 0i64;
+        deque.for_each_mut_in(1..3, |item| {
+            sum = sum.wrapping_add(*item);
+            *item = sum;
+        });
+        let is_called = is_called && holds(&deque, &[11, 22, 55, 44]);
         let (front, rest) = deque.as_slices();
         let (front, rest) = (front.len(), rest.len());
         let is_cut = deque.first_slice_mut().len() == front;

@@ -1,6 +1,7 @@
 mod Examples
 pub mod fills
 pub mod gaps
+pub mod InTwo
 pub mod LastPopped
 pub mod linearize
 pub mod Masks

@@ -1,21 +1,23 @@
 -- Items that a closure was called at, one after the other: at one more, and at those of two slices.
 use Rattle.std.{
   proofs.{
-    Common.{◌≡◌, ℕ, ◌+◌, ◌-◌, ◌<◌, ◌≤◌, List, [], ◌∷◌, ◌++◌, length, take, drop, set, get_or},
-    Common.{slice_get, Some, refl, ap, ◌∙◌, arith},
+    Common.{◌≡◌, ℕ, ◌+◌, ◌-◌, ◌<◌, ◌≤◌, ◌⊎◌, inl, inr, List, [], ◌∷◌, ◌++◌, length, take, drop, set},
+    Common.{get_or, slice_get, Some, refl, ap, ◌∙◌, sym, arith},
     lemmas.{
       Bool.Decides.nat_tests,
-      List.{take_more, take_more_set, take_all, length-set, length-take-le, length-append, length-drop},
-      List.{take-append-drop, places},
-      Option.slice_get-get_or,
+      Grind.common_steps,
+      List.{take_more, take_more_set, take_all, length-set, length-take-le, length-append, length-take},
+      List.{length-drop, drop_min, nil_from_length},
+      List.{take-append-le, take-append-drop, append-nil, places, same_lists},
+      Option.{slice_get-get_or, slice_get_within},
     },
-    Math.Seq.{drop-append_seam, take-append_seam, take-append-add},
+    Math.Seq.{take-append-add, take-append_seam, drop-length},
   },
-  specs.{Borrow.MutBor, Fn.Mut, Prelude.min},
+  specs.{Borrow.MutBor, Fn.Mut, List.splice, Prelude.{min, slice_range}},
 }
 use Rattle.arraydeque_ring.{
-  proofs.{loans.Placed.as_many-same, places.Items.slice_get-append},
-  specs.{Runs.as_many, Written.{WritesInTurn, WritesAt, MayWriteEach}},
+  proofs.{InTwo.range_in_two, loans.{Parts.splice-both, Placed.as_many-same}, places.Items.slice_get-append},
+  specs.{Runs.as_many, Written.{WritesInTurn, WrittenInTurn, WrittenPart, WritesAt, MayWriteEach}},
 }
 
 module _ {F X : Type 0} (R : F → X → F → X → Type 0) where
@@ -69,60 +71,138 @@ module _ {F X : Type 0} {R : F → X → F → X → Type 0} {f g : F} {old new 
   pub written_all : length new ≤ index → WritesInTurn R f old new g
   written_all past = rw (take_all index old (omega (arith, s.many)), take_all index new past) at s.told
 
--- the items are written in two slices: those up to the region's end, c places behind the start, and then the others
-module _ {F X : Type 0} (R : F → X → F → X → Type 0) (xs : List X) (c : ℕ) (fs us bs : List X) (f g : F)
-    (first : fs ≡ take (min (length xs) c) xs) (told : WritesInTurn R f fs us g)
-    (second : let ws = as_many fs us ++ drop (length fs) xs in bs ≡ drop (min (length ws) c) ws) where
-  fs_long : length fs ≡ min (length xs) c
-  fs_long = rw first (length-take-le (min (length xs) c) xs (omega arith))
+module _ {X : Type 0} where
+  -- the list with ys in the stead of the items from the index a up to the index b
+  abbrev with_part : ℕ → ℕ → List X → List X → List X
+  with_part a b ys xs = take a xs ++ (ys ++ drop (b - a) (drop a xs))
 
-  us_long : length us ≡ length fs
-  us_long = written_many R f g fs us told
+  -- the list xs, once us stand in a part of a slice fs of its first items
+  abbrev pub first_written : List X → List X → ℕ → ℕ → List X → List X
+  first_written xs fs a b us = as_many fs (with_part a b us fs) ++ drop (length fs) xs
 
-  whole : as_many fs us ≡ us
-  whole = as_many-same fs us us_long
+  -- the list xs, once vs stand in a part of a slice bs of its last items
+  abbrev pub rest_written : List X → List X → ℕ → ℕ → List X → List X
+  rest_written xs bs p q vs = take (length xs - length bs) xs ++ as_many bs (with_part p q vs bs)
 
-  abbrev between : List X
-  between = as_many fs us ++ drop (length fs) xs
+  part_long : (a b : ℕ) (xs : List X) → b ≤ length xs → length (take (b - a) (drop a xs)) ≡ b - a
+  part_long a b xs le = length-take-le (b - a) (drop a xs) (omega (arith, length-drop a xs))
 
-  between_is : between ≡ us ++ drop (length fs) xs
-  between_is = ap (λ l. l ++ drop (length fs) xs) whole
+  -- a part of the front, or of the rest, is a part of the whole
+  part_before : (a b : ℕ) (us fs bs : List X) → a ≤ b → b ≤ length fs → length us ≡ b - a
+      → with_part a b us fs ++ bs ≡ splice (fs ++ bs) a b us
+  part_before a b us fs bs order within many = same_lists _ _ (grind (arith, places)) (λ i d lt. grind (arith, places))
 
-  between_long : length between ≡ length xs
-  between_long = ap length between_is ∙ omega (
-    arith,
-    length-append us (drop (length fs) xs),
-    length-drop (length fs) xs,
-    us_long,
-    fs_long,
-  )
+  part_behind : (p q : ℕ) (vs fs bs : List X) → p ≤ q → q ≤ length bs → length vs ≡ q - p
+      → fs ++ with_part p q vs bs ≡ splice (fs ++ bs) (length fs + p) (length fs + q) vs
+  part_behind p q vs fs bs order within many =
+      same_lists _ _ (grind (arith, places)) (λ i d lt. grind (arith, places))
 
-  behind : bs ≡ drop (length fs) xs
-  behind =
-      let at : min (length between) c ≡ length us = omega (arith, between_long, us_long, fs_long) in
-      second ∙ ap (λ j. drop j between) at ∙ ap (λ l. drop (length us) l) between_is
-      ∙ drop-append_seam us (drop (length fs) xs)
+  -- what is written before and behind the index n is written in one
+  both_spliced : (xs us vs : List X) (from to n a b i j : ℕ) → from ≤ to → to ≤ length xs → n ≤ length xs
+      → a ≡ min from n → b ≡ min to n → i ≡ n + (from - n) → j ≡ n + (to - n)
+      → length us ≡ b - a → length vs ≡ j - i → splice (splice xs a b us) i j vs ≡ splice xs from to (us ++ vs)
+  both_spliced xs us vs from to n a b i j order within inside a_is b_is i_is j_is us_long vs_long =
+      let ends : (to ≤ n) ⊎ (n ≤ to) = grind arith in
+      let starts : (from ≤ n) ⊎ (n ≤ from) = grind arith in
+      elim ends [
+        | inl le ↦
+            let at : a ≡ from = omega arith in let up_to : b ≡ to = omega arith in let same : j ≡ i = omega arith in
+            rw (nil_from_length vs (omega arith), append-nil us, at, up_to, same)
+            (take-append-drop i (splice xs from to us))
+        | inr ge ↦ elim starts [
+          | inl le ↦
+              let at : a ≡ from = omega arith in let up_to : b ≡ from + length us = omega arith in
+              let next : i ≡ from + length us = omega arith in
+              let last : j ≡ from + length us + length vs = omega arith in
+              let end : to ≡ from + (length us + length vs) = omega arith in
+              rw (at, up_to, next, last, end)
+              (splice-both xs us vs from (length us + length vs) refl (omega arith))
+          | inr ge ↦
+              let at : a ≡ n = omega arith in let up_to : b ≡ n = omega arith in
+              let next : i ≡ from = omega arith in let last : j ≡ to = omega arith in
+              let none : splice xs n n [] ≡ xs = take-append-drop n xs in
+              rw (nil_from_length us (omega arith), at, up_to, next, last, none) refl
+        ]
+      ]
 
-  pub two_parts : fs ++ bs ≡ xs
-  two_parts = rw (behind, fs_long, first) (take-append-drop (min (length xs) c) xs)
+-- the items from one index up to another lie in two slices: in one of the first k items, from its index a up to b, and
+-- in one of the others, from its index p up to q
+module _ {X : Type 0} (xs : List X) (k from to : ℕ) (order : from ≤ to) (within : to ≤ length xs)
+    (a b p q : ℕ) (a_is : a ≡ min from (length (take k xs))) (b_is : b ≡ min to (length (take k xs)))
+    (p_is : p ≡ from - length (take k xs)) (q_is : q ≡ to - length (take k xs)) where
+  long : length (take k xs) ≡ min k (length xs)
+  long = length-take k xs
 
-  pub two_written : (vs : List X) (h : F) → WritesInTurn R g bs vs h → WritesInTurn R f xs (us ++ vs) h
-  two_written vs h after = rw two_parts at (written_behind R f g h fs us bs vs told after)
+  rest_long : length (drop k xs) ≡ length xs - k
+  rest_long = length-drop k xs
 
-  -- as many are left as were left, once the others are written
-  pub end_written : (vs : List X) (h : F) → WritesInTurn R g bs vs h
-      → take (length between - length bs) between ++ as_many bs vs ≡ us ++ vs
-  end_written vs h after =
-      let long = written_many R g h bs vs after in
-      let at : length between - length bs ≡ length us =
-      omega (arith, between_long, us_long, fs_long, ap length behind, length-drop (length fs) xs) in
-      rw (at, between_is, take-append_seam us (drop (length fs) xs), as_many-same bs vs long) refl
+  parts : slice_range xs from to ≡ take (b - a) (drop a (take k xs)) ++ take (q - p) (drop p (drop k xs))
+  parts = sym (range_in_two (take k xs) (drop k xs) xs from to a b p q (take-append-drop k xs) order within
+      a_is b_is p_is q_is)
 
-module _ {F X : Type 0} (t : Mut F (MutBor X × Unit {0}) (Unit {0} × (MutBor X × Unit {0}))) (f g : F)
-    (fs us bs : List X) (told : WritesInTurn (WritesAt t) f fs us g) where
-  -- the closure may be called at the items of a second list, after those of the first
-  pub asks_behind : MayWriteEach t f (fs ++ bs) → MayWriteEach t g bs
-  asks_behind may = record {
+  others : drop (length (take k xs)) xs ≡ drop k xs
+  others = rw long (drop_min k xs)
+
+  module _ (us : List X) (us_long : length us ≡ b - a) where
+    abbrev in_first : List X
+    in_first = with_part a b us (take k xs)
+
+    first_many : length in_first ≡ length (take k xs)
+    first_many = grind (arith, common_steps, places, long)
+
+    first_is : first_written xs (take k xs) a b us ≡ in_first ++ drop k xs
+    first_is = rw (as_many-same (take k xs) in_first first_many, others) refl
+
+    joined : in_first ++ drop k xs ≡ splice xs a b us
+    joined =
+        part_before a b us (take k xs) (drop k xs) (omega (arith, a_is, b_is, order)) (omega (arith, b_is)) us_long
+        ∙ ap (λ l. splice l a b us) (take-append-drop k xs)
+
+    rest_stays : drop k (first_written xs (take k xs) a b us) ≡ drop k xs
+    rest_stays = rw (first_is, joined)
+        (same_lists _ _ (grind (arith, common_steps, places, long)) (λ i d lt. grind (arith, nat_tests, places, long)))
+
+    module _ (vs : List X) (vs_long : length vs ≡ q - p) where
+      abbrev in_rest : List X
+      in_rest = with_part p q vs (drop k xs)
+
+      rest_many : length in_rest ≡ length (drop k xs)
+      rest_many = grind (arith, common_steps, places, long)
+
+      cut : take (length (in_first ++ drop k xs) - length (drop k xs)) (in_first ++ drop k xs) ≡ in_first
+      cut =
+          let many : length (in_first ++ drop k xs) - length (drop k xs) ≡ length in_first =
+          omega (arith, length-append in_first (drop k xs)) in
+          rw many (take-append_seam in_first (drop k xs))
+
+      both_are : rest_written (in_first ++ drop k xs) (drop k xs) p q vs ≡ splice xs from to (us ++ vs)
+      both_are =
+          let n = length in_first in
+          let last : in_first ++ in_rest ≡ splice (splice xs a b us) (n + p) (n + q) vs =
+          part_behind p q vs in_first (drop k xs) (omega (arith, p_is, q_is, order))
+          (omega (arith, q_is, long, rest_long, within)) vs_long ∙ ap (λ l. splice l (n + p) (n + q) vs) joined in
+          rw (cut, as_many-same (drop k xs) in_rest rest_many) (last
+          ∙ both_spliced xs us vs from to (length (take k xs)) a b (n + p) (n + q) order within (omega (arith, long))
+          a_is b_is (omega (arith, first_many, p_is)) (omega (arith, first_many, q_is)) us_long
+          (omega (arith, vs_long)))
+
+      both_long : length (splice xs from to (us ++ vs)) ≡ length xs
+      both_long = grind (arith, common_steps, places, long)
+
+module _ {F X : Type 0} (t : Mut F (MutBor X × Unit {0}) (Unit {0} × (MutBor X × Unit {0}))) where
+  -- the closure may be called at the items of a first list
+  asks_before : (f : F) (fs bs : List X) → MayWriteEach t f (fs ++ bs) → MayWriteEach t f fs
+  asks_before f fs bs may = record {
+    asks = λ ys h x here so_far.
+        let lt = slice_get_within fs (length ys) x.now here in
+        may.asks ys h x (grind (arith, nat_tests, slice_get-append fs bs (length ys)))
+        (rw (take-append-le (length ys) fs bs (omega arith)) so_far);
+  }
+
+  -- and at the items of a second list, after those of the first
+  asks_behind : (f g : F) (fs us bs : List X) → WritesInTurn (WritesAt t) f fs us g → MayWriteEach t f (fs ++ bs)
+      → MayWriteEach t g bs
+  asks_behind f g fs us bs told may = record {
     asks = λ vs h x here so_far.
         let us_long = written_many (WritesAt t) f g fs us told in
         let both : length (us ++ vs) ≡ length fs + length vs = omega (arith, length-append us vs) in
@@ -130,3 +210,73 @@ module _ {F X : Type 0} (t : Mut F (MutBor X × Unit {0}) (Unit {0} × (MutBor X
         (rw (both, take-append-add fs bs (length vs))
         (written_behind (WritesAt t) f g h fs us (take (length vs) bs) vs told so_far));
   }
+
+-- the closure is called at the items of the one part, and then at those of the other
+module _ {F X : Type 0} (t : Mut F (MutBor X × Unit {0}) (Unit {0} × (MutBor X × Unit {0}))) (f : F)
+    (xs : List X) (k from to : ℕ) (order : from ≤ to) (within : to ≤ length xs)
+    (fs : List X) (first : fs ≡ take k xs) (a b p q : ℕ) (a_is : a ≡ min from (length fs))
+    (b_is : b ≡ min to (length fs)) (p_is : p ≡ from - length fs) (q_is : q ≡ to - length fs) where
+  as_long : length fs ≡ length (take k xs)
+  as_long = ap length first
+
+  abbrev front : List X
+  front = take (b - a) (drop a (take k xs))
+
+  abbrev rest : List X
+  rest = take (q - p) (drop p (drop k xs))
+
+  two_parts : slice_range xs from to ≡ front ++ rest
+  two_parts = parts xs k from to order within a b p q (omega (arith, as_long)) (omega (arith, as_long))
+      (omega (arith, as_long)) (omega (arith, as_long))
+
+  pub asks_first : MayWriteEach t f (slice_range xs from to) → MayWriteEach t f (take (b - a) (drop a fs))
+  asks_first may = rw first (asks_before t f front rest (rw two_parts at may))
+
+  module _ (us : List X) (g : F) (told : WritesInTurn (WritesAt t) f (take (b - a) (drop a fs)) us g)
+      (bs : List X) (second : bs ≡ drop k (first_written xs fs a b us)) where
+    told_first : WritesInTurn (WritesAt t) f front us g
+    told_first = rw first at told
+
+    us_long : length us ≡ b - a
+    us_long = written_many (WritesAt t) f g front us told_first ∙ part_long a b (take k xs) (omega (arith, as_long))
+
+    second_is : bs ≡ drop k xs
+    second_is = second ∙ rw first (rest_stays xs k from to order within a b p q (omega (arith, as_long))
+        (omega (arith, as_long)) (omega (arith, as_long)) (omega (arith, as_long)) us us_long)
+
+    pub asks_second : MayWriteEach t f (slice_range xs from to) → MayWriteEach t g (take (q - p) (drop p bs))
+    asks_second may = rw second_is (asks_behind t f g front us rest told_first (rw two_parts at may))
+
+    module _ (vs : List X) (h : F) (after : WritesInTurn (WritesAt t) g (take (q - p) (drop p bs)) vs h) where
+      told_rest : WritesInTurn (WritesAt t) g rest vs h
+      told_rest = rw second_is at after
+
+      vs_long : length vs ≡ q - p
+      vs_long = written_many (WritesAt t) g h rest vs told_rest
+          ∙ part_long p q (drop k xs) (omega (arith, as_long, length-take k xs, length-drop k xs))
+
+      ends : rest_written (first_written xs fs a b us) bs p q vs ≡ splice xs from to (us ++ vs)
+      ends = rw (
+        second_is,
+        first,
+        first_is xs k from to order within a b p q (omega (arith, as_long))
+            (omega (arith, as_long)) (omega (arith, as_long)) (omega (arith, as_long)) us us_long,
+      )
+          (both_are xs k from to order within a b p q (omega (arith, as_long)) (omega (arith, as_long))
+          (omega (arith, as_long)) (omega (arith, as_long)) us us_long vs vs_long)
+
+      pub part_written : WrittenPart (WritesAt t) f from to xs (rest_written (first_written xs fs a b us) bs p q vs)
+      part_written =
+          (us ++ vs, (h, rw two_parts (written_behind (WritesAt t) f g h front us rest vs told_first told_rest)), ends)
+
+      pub part_many : length (rest_written (first_written xs fs a b us) bs p q vs) ≡ length xs
+      part_many = ap length ends ∙ both_long xs k from to order within a b p q (omega (arith, as_long))
+          (omega (arith, as_long)) (omega (arith, as_long)) (omega (arith, as_long)) us us_long vs vs_long
+
+-- the part is all
+pub whole_part : {F X : Type 0} (R : F → X → F → X → Type 0) (f : F) (xs ys : List X)
+    → WrittenPart R f 0 (length xs) xs ys → WrittenInTurn R f xs ys
+whole_part R f xs ys part =
+    let whole : slice_range xs 0 (length xs) ≡ xs = take_all (length xs - 0) xs (omega arith) in
+    let left : ys ≡ part.0 = part.2 ∙ ap (λ l. part.0 ++ l) (drop-length xs) ∙ append-nil part.0 in
+    (part.1.0, rw left (rw whole at part.1.1))

@@ -2,9 +2,9 @@
 use Rattle.std.specs.{
   Borrow.MutBor,
   Fn.{CalledAtMut, Mut},
-  Prelude.{◌≡◌, List, [], ◌∷◌, length, take, slice_get, Some},
+  List.splice,
+  Prelude.{◌≡◌, ℕ, List, [], ◌∷◌, length, take, slice_get, slice_range, Some},
 }
-use Rattle.arraydeque_ring.specs.{Ring.RingState, Steps.more_lends}
 
 -- R went over the items xs in turn, from f on: it left ys in their stead, and is then g
 abbrev pub WritesInTurn : {F X : Type 0} → (F → X → F → X → Type 0) → F → List X → List X → F
@@ -18,6 +18,13 @@ WritesInTurn {F} R f (x ∷ xs) (y ∷ ys) g = (h : F) × R f x h y × WritesInT
 abbrev pub WrittenInTurn : {F X : Type 0} → (F → X → F → X → Type 0) → F → List X → List X → Type 0
 WrittenInTurn {F} R f xs ys = (last : F) × WritesInTurn R f xs ys last
 
+-- R went over the items of the list old from one index up to another, from f on: new has what it
+-- left in their stead, and the others as they were
+abbrev pub WrittenPart : {F X : Type 0} → (F → X → F → X → Type 0) → F → ℕ → ℕ → List X → List X
+    → Type 0
+WrittenPart {F} {X} R f from to old new = (left : List X)
+    × WrittenInTurn R f (slice_range old from to) left × (new ≡ splice old from to left)
+
 -- a call of f at a `&mut` to x may leave it at y, and f at h
 abbrev pub WritesAt : {F X : Type 0}
     → Mut F (MutBor X × Unit {0}) (Unit {0} × (MutBor X × Unit {0})) → F → X → F → X → Type 0
@@ -30,12 +37,3 @@ pub record MayWriteEach {F X : Type 0}
     : Type 0 where
   pub asks : (ys : List X) (state : F) (x : MutBor X) → slice_get xs (length ys) ≡ Some x.now
       → WritesInTurn (WritesAt g) f (take (length ys) xs) ys state → g.pre state (x, tt)
-
--- R was called at each item in turn, from f on: as many items are there as it left them, two lends
--- are counted, and nothing else changes
-pub record WritesEach {F X : Type 0} (R : F → X → F → X → Type 0) (f : F)
-    (old new : RingState X) : Type 0 where
-  pub last : F
-  pub in_turn : WritesInTurn R f old.items new.items last
-  pub many : length new.items ≡ length old.items
-  pub kept : new ≡ record old { items = new.items; steps = more_lends 2 old.steps }

@@ -2,11 +2,12 @@
 //! length afterwards, and most the start, whatever it wrote.
 //!
 //! Which values are there then, say the contracts of those that write by a closure, slice by slice,
-//! or by the index: [`add_to_each`], [`fill_each`], [`fill_slices`] and [`fill_from`]. The others
-//! hold a loan of several items. It has a name, which the lender follows, and no clause tells what
-//! this name has of what is written. So of the others a body that writes nothing would be proved
-//! too: tests show that they write.
-ghost use Rattle.std.specs.Prelude.{◌≡◌, ◌≢◌, ◌+◌, ◌-◌, ◌^◌, ◌<◌, ◌≤◌, ◌↔◌, length, map, take, drop, slice_get, All, IsTrue, IsOk, IsSome, Some, pos};
+//! or by the index: [`add_to_each`], [`fill_each`], [`fill_part`], [`fill_slices`] and
+//! [`fill_from`]. The others hold a loan of several items. It has a name, which the lender follows,
+//! and no clause tells what this name has of what is written. So of the others a body that writes
+//! nothing would be proved too: tests show that they write.
+ghost use Rattle.std.specs.Prelude.{◌≡◌, ◌≢◌, ◌+◌, ◌-◌, ◌^◌, ◌<◌, ◌≤◌, ◌↔◌, length, map, take, drop, slice_get, slice_range, All, IsTrue, IsOk, IsSome, Some, pos};
+ghost use Rattle.std.specs.List.{splice};
 ghost use Rattle.arraydeque.specs.Deque.{last_item};
 
 use arraydeque::behavior::Behavior;
@@ -38,6 +39,22 @@ pub fn fill_each<T: Copy + Drop, const CAP: usize, B: Behavior>(
     deque.for_each_mut(|item| *item = x);
 }
 
+/// Writes over the items from the index `from` up to the index `to`, by a closure. The others stay.
+pub fn fill_part<T: Copy + Drop, const CAP: usize, B: Behavior>(
+    deque: &mut ArrayDeque<T, CAP, B>,
+    from: usize,
+    to: usize,
+    x: T,
+)
+    requires in_order { from ≤ to }
+    requires in_bounds { to ≤ length deque.old.items }
+    ensures filled { deque.new.items
+        ≡ splice deque.old.items from to (map (λ _. x) (slice_range deque.old.items from to)) }
+    ensures start { deque.new.start ≡ deque.old.start }
+{
+    deque.for_each_mut_in(from..to, |item| *item = x);
+}
+
 /// Writes over each item, by one slice and then the other.
 pub fn fill_slices<const CAP: usize, B: Behavior>(deque: &mut ArrayDeque<i64, CAP, B>, x: i64)
     ensures filled { All (λ item. item ≡ x) deque.new.items }
@@ -46,16 +63,6 @@ pub fn fill_slices<const CAP: usize, B: Behavior>(deque: &mut ArrayDeque<i64, CA
 {
     deque.first_slice_mut().fill(x);
     deque.second_slice_mut().fill(x);
-}
-
-/// Writes over each item.
-pub fn fill<T: Copy + Drop, const CAP: usize, B: Behavior>(deque: &mut ArrayDeque<T, CAP, B>, x: T)
-    ensures len { length deque.new.items ≡ length deque.old.items }
-    ensures start { deque.new.start ≡ deque.old.start }
-{
-    for item in deque.iter_mut() {
-        *item = x;
-    }
 }
 
 /// Writes over each item from the back, and returns how many there are.

@@ -4,17 +4,14 @@ use arraydeque_ring::ring::Ring;
 use arraydeque_samples::build::{deque_at, holds};
 use std::test::Fail;
 use uses::writing::{
-    count_in_slices, fill, fill_behind_first, fill_by_hand, fill_from, fill_from_the_back,
-    fill_until, fill_walked, wipe_and_pop, write_ends_and_push, write_ring_slices,
-    write_slices_and_push,
+    count_in_slices, fill_behind_first, fill_by_hand, fill_from, fill_from_the_back, fill_until,
+    fill_walked, wipe_and_pop, write_ends_and_push, write_ring_slices, write_slices_and_push,
 };
 
 #[test]
 fn each_item_is_written(rt: HostRuntime) -> Result<(), Fail> {
     for start in 0..4 {
         let mut deque = deque_at::<4>(rt.alloc(), start, &[1, 2, 3])?;
-        fill(&mut deque, 7);
-        assert!(rt; holds(&deque, &[7, 7, 7]), "start {start}");
         let filled = fill_from_the_back(&mut deque, 8);
         assert!(rt; filled == 3 && holds(&deque, &[8, 8, 8]), "start {start}");
         if deque.len() != 0 {

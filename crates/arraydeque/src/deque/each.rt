@@ -1,13 +1,16 @@
-//! The items written in place: each by a closure, or those of one of the two slices.
-ghost use Rattle.std.specs.Prelude.{◌≡◌, ◌-◌, ◌≤◌, length, min, map, take, drop};
+//! The items written in place: all or a part by a closure, or those of one of the two slices.
+ghost use Rattle.std.specs.Prelude.{◌≡◌, ◌-◌, ◌≤◌, length, map, take, drop, slice_range};
 ghost use Rattle.std.specs.Borrow.{sem};
-ghost use Rattle.std.specs.Fn.{CalledAtMut};
+ghost use Rattle.std.specs.List.{splice};
+ghost use Rattle.arraydeque_ring.specs.Computed.{ComputesAtMut};
 ghost use Rattle.arraydeque_ring.specs.Steps.{more_lends};
-ghost use Rattle.arraydeque_ring.specs.Written.{MayWriteEach, WritesAt, WrittenInTurn};
+ghost use Rattle.arraydeque_ring.specs.Written.{MayWriteEach, WritesAt, WrittenInTurn, WrittenPart};
 ghost use Rattle.arraydeque.specs.DequeLends.{lends_first, lends_rest};
+ghost use Rattle.arraydeque.specs.Range.{span_of};
 
 use super::ArrayDeque;
 use crate::behavior::Behavior;
+use crate::range::RangeArgument;
 
 impl<T, const CAP: usize, B: Behavior> ArrayDeque<T, CAP, B> {
     /// Calls `f` on each item in turn, front to back, for writing. The list ends as `f` left its
@@ -21,13 +24,13 @@ impl<T, const CAP: usize, B: Behavior> ArrayDeque<T, CAP, B> {
     /// deque.for_each_mut(|item| *item = item.saturating_mul(2));
     /// assert!(rt; deque.into_vec()?.as_slice() == [2, 4, 6].as_slice());
     /// ```
+    #[inline]
     pub fn for_each_mut<F: FnMut(&mut T)>(&mut self, f: F)
     where
         F: Drop,
         requires { MayWriteEach F.FnMut f self.old.items }
         ensures in_turn { WrittenInTurn (WritesAt F.FnMut) f self.old.items self.new.items }
-        ensures changed { (change : T → T) → ((item : T) (after : F) (left : T) →
-            CalledAtMut F.FnMut f item tt after left → (left ≡ change item) × (after ≡ f))
+        ensures changed { (change : T → T) → ComputesAtMut F.FnMut (λ _. tt) change f
             → map change self.old.items ≡ self.new.items }
         ensures len { length self.new.items ≡ length self.old.items }
         ensures within { length self.new.items ≤ CAP }
@@ -35,6 +38,45 @@ impl<T, const CAP: usize, B: Behavior> ArrayDeque<T, CAP, B> {
         ensures steps { self.new.steps ≡ more_lends 2 self.old.steps }
     {
         self.ring.for_each_mut(f);
+    }
+
+    /// Calls `f` on each item of a range in turn, front to back, for writing. The other items stay
+    /// as they were. Requires a range that is in order and ends within the list.
+    ///
+    /// Start: stays. Steps: 2 lends.
+    ///
+    /// ```
+    /// let mut deque = ArrayDeque::<i64, 4, Saturating>::new(alloc)?;
+    /// deque.extend_back([1, 2, 3, 4]);
+    /// assert!(rt; deque.len() == 4);
+    /// deque.for_each_mut_in(1..3, |item| *item = item.saturating_mul(2));
+    /// assert!(rt; deque.into_vec()?.as_slice() == [1, 4, 6, 4].as_slice());
+    /// ```
+    #[inline]
+    pub fn for_each_mut_in<R: RangeArgument<usize>, F: FnMut(&mut T)>(&mut self, range: R, f: F)
+    where
+        R: Drop,
+        F: Drop,
+        requires in_order { let span = span_of R.RangeArgument range self.old.items in
+            span.from ≤ span.to }
+        requires in_bounds { let span = span_of R.RangeArgument range self.old.items in
+            span.to ≤ length self.old.items }
+        requires may_write { let span = span_of R.RangeArgument range self.old.items in
+            MayWriteEach F.FnMut f (slice_range self.old.items span.from span.to) }
+        ensures in_turn { let span = span_of R.RangeArgument range self.old.items in
+            WrittenPart (WritesAt F.FnMut) f span.from span.to self.old.items self.new.items }
+        ensures changed { let span = span_of R.RangeArgument range self.old.items in
+            (change : T → T) → ComputesAtMut F.FnMut (λ _. tt) change f
+            → splice self.old.items span.from span.to
+            (map change (slice_range self.old.items span.from span.to)) ≡ self.new.items }
+        ensures len { length self.new.items ≡ length self.old.items }
+        ensures within { length self.new.items ≤ CAP }
+        ensures start { self.new.start ≡ self.old.start }
+        ensures steps { self.new.steps ≡ more_lends 2 self.old.steps }
+    {
+        let from = range.start().unwrap_or(0);
+        let to = range.end().unwrap_or(self.len());
+        self.ring.for_each_mut_in(from, to, f);
     }
 
     /// Returns the first of the two slices of [`ArrayDeque::as_slices`], for writing: the items
@@ -52,8 +94,7 @@ impl<T, const CAP: usize, B: Behavior> ArrayDeque<T, CAP, B> {
     #[inline]
     pub fn first_slice_mut(&mut self) -> &mut [T]
         ensures* writes_back { sem 𝓛 (lends_first T.row CAP.row B.row self.entry result) }
-        ensures value { result.now ≡
-            take (min (length self.old.items) (CAP - self.old.start)) self.old.items }
+        ensures value { result.now ≡ take (CAP - self.old.start) self.old.items }
     {
         let ring = &mut self.ring;
         ring.first_slice_mut()
@@ -74,8 +115,7 @@ impl<T, const CAP: usize, B: Behavior> ArrayDeque<T, CAP, B> {
     #[inline]
     pub fn second_slice_mut(&mut self) -> &mut [T]
         ensures* writes_back { sem 𝓛 (lends_rest T.row CAP.row B.row self.entry result) }
-        ensures value { result.now ≡
-            drop (min (length self.old.items) (CAP - self.old.start)) self.old.items }
+        ensures value { result.now ≡ drop (CAP - self.old.start) self.old.items }
     {
         let ring = &mut self.ring;
         ring.second_slice_mut()

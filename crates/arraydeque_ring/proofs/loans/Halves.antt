@@ -5,6 +5,7 @@ use Rattle.std.{
     Common.{◌≡◌, ℕ, ◌+◌, ◌-◌, ◌≤◌, ◌⊎◌, inl, inr, List, [], ◌++◌, length, take, drop, Option, ap},
     Common.{◌∙◌, arith, sym, subst},
     lemmas.List.{nil_from_length, length-append, take_all, append-nil, length-drop, length-take-le},
+    lemmas.List.{take_min, drop_min},
   },
   specs.Prelude.min,
 }
@@ -63,15 +64,15 @@ module _ {X : Type 0} {r : Inside X} {v : RingState X} (o : Opened r v) (k : ℕ
   front_filled = IsFilledRun-LaidOut o.laid 0 r.start k (inl (omega arith)) (omega (arith, within)) fits
 
   abbrev cut : ℕ
-  cut = min (length v.items) (v.capacity - v.start)
+  cut = min (v.capacity - v.start) (length v.items)
 
   cut_is : k ≡ cut
   cut_is = omega (arith, o.len, o.start, o.laid.length_is)
 
-  pub front_held : (xs : List X) → HoldsRun ps r.start k xs → xs ≡ take cut v.items
+  pub front_held : (xs : List X) → HoldsRun ps r.start k xs → xs ≡ take (v.capacity - v.start) v.items
   front_held xs held =
       same_run o.laid 0 r.start k xs (inl (omega arith)) (omega (arith, within)) fits held
-      ∙ ap (λ j. take j v.items) cut_is
+      ∙ ap (λ j. take j v.items) cut_is ∙ take_min (v.capacity - v.start) v.items
 
   pub back_filled : IsFilledRun ps 0 (r.len - k)
   back_filled = elim to_end [
@@ -86,7 +87,7 @@ module _ {X : Type 0} {r : Inside X} {v : RingState X} (o : Opened r v) (k : ℕ
   back_long : (ys : List X) → HoldsRun ps 0 (r.len - k) ys → length ys ≡ r.len - k
   back_long ys held = length_filled ps 0 (r.len - k) (back_filled.0, (ys, held))
 
-  pub back_held : (ys : List X) → HoldsRun ps 0 (r.len - k) ys → ys ≡ drop cut v.items
+  pub back_held : (ys : List X) → HoldsRun ps 0 (r.len - k) ys → ys ≡ drop (v.capacity - v.start) v.items
   back_held ys held =
       let many = back_long ys held in
       let long = length-drop k v.items in
@@ -95,7 +96,7 @@ module _ {X : Type 0} {r : Inside X} {v : RingState X} (o : Opened r v) (k : ℕ
         | inr end ↦ same_run o.laid k 0 (r.len - k) ys (inr (omega arith)) (omega (arith, o.len))
             (omega (arith, o.len, o.laid.within)) held ∙ take_all (r.len - k) (drop k v.items) (omega (arith, o.len))
       ] in
-      here ∙ ap (λ j. drop j v.items) cut_is
+      here ∙ ap (λ j. drop j v.items) cut_is ∙ drop_min (v.capacity - v.start) v.items
 
   pub front_written : (us : List X) → length us ≡ k → Opened (with_slots r (record {
     places = with_run r.start us ps;

@@ -42,7 +42,7 @@ module _ {X : Type 0} {n t : ℕ} {xs : List X} {ps : List (Option X)} where
       (λ k lt. grind (arith, items, length-take-le i xs (omega arith))))
 
 -- and then others behind them
-splice-both : {X : Type 0} (xs us vs : List X) (i m : ℕ) → length us + length vs ≡ m → i + m ≤ length xs
+pub splice-both : {X : Type 0} (xs us vs : List X) (i m : ℕ) → length us + length vs ≡ m → i + m ≤ length xs
     → splice (splice xs i (i + length us) us) (i + length us) (i + length us + length vs) vs
     ≡ splice xs i (i + m) (us ++ vs)
 splice-both xs us vs i m all within = same_lists _ _ (grind (arith, places)) (λ k d lt. grind (arith, places))

@@ -1,8 +1,10 @@
-//! The two slices of a ring lent for writing, one at a time; a closure that writes to each item.
-ghost use Rattle.std.specs.Prelude.{◌≡◌, ◌-◌, length, min, take, drop};
+//! The two slices of a ring lent for writing, one at a time; a closure that writes to all items or
+//! a part.
+ghost use Rattle.std.specs.Prelude.{◌≡◌, ◌-◌, ◌≤◌, length, take, drop, slice_range};
 ghost use Rattle.std.specs.Borrow.{sem};
 ghost use Rattle.arraydeque_ring.specs.RingLends.{lends_first, lends_rest};
-ghost use Rattle.arraydeque_ring.specs.Written.{WritesAt, WritesInTurn, WritesEach, MayWriteEach};
+ghost use Rattle.arraydeque_ring.specs.Steps.{more_lends};
+ghost use Rattle.arraydeque_ring.specs.Written.{WritesAt, WritesInTurn, WrittenInTurn, WrittenPart, MayWriteEach};
 
 use super::Ring;
 
@@ -21,8 +23,7 @@ impl<T> Ring<T> {
     #[inline]
     pub fn first_slice_mut(&mut self) -> &mut [T]
         ensures* writes_back { sem 𝓛 (lends_first T.row self.entry result) }
-        ensures value { result.now ≡
-            take (min (length self.old.items) (self.old.capacity - self.old.start)) self.old.items }
+        ensures value { result.now ≡ take (self.old.capacity - self.old.start) self.old.items }
     {
         let start = self.start;
         let len = self.len.min(self.slots.capacity() - start);
@@ -44,8 +45,7 @@ impl<T> Ring<T> {
     #[inline]
     pub fn second_slice_mut(&mut self) -> &mut [T]
         ensures* writes_back { sem 𝓛 (lends_rest T.row self.entry result) }
-        ensures value { result.now ≡
-            drop (min (length self.old.items) (self.old.capacity - self.old.start)) self.old.items }
+        ensures value { result.now ≡ drop (self.old.capacity - self.old.start) self.old.items }
     {
         let len = self.len - self.len.min(self.slots.capacity() - self.start);
         let slots = &mut self.slots;
@@ -63,18 +63,57 @@ impl<T> Ring<T> {
     /// ring.for_each_mut(|item| *item *= 2);
     /// assert!(rt; IntoIter::from_ring(ring).eq([2, 4, 6]));
     /// ```
-    pub fn for_each_mut<F: FnMut(&mut T)>(&mut self, mut f: F)
+    #[inline]
+    pub fn for_each_mut<F: FnMut(&mut T)>(&mut self, f: F)
     where
         F: Drop,
         requires { MayWriteEach F.FnMut f self.old.items }
-        ensures { WritesEach (WritesAt F.FnMut) f self.old self.new }
+        ensures in_turn { WrittenInTurn (WritesAt F.FnMut) f self.old.items self.new.items }
+        ensures len { length self.new.items ≡ length self.old.items }
+        ensures kept { self.new ≡ record self.old {
+          items = self.new.items;
+          steps = more_lends 2 self.old.steps;
+        } }
     {
-        write_each(self.first_slice_mut(), &mut f);
-        write_each(self.second_slice_mut(), &mut f);
+        self.for_each_mut_in(0, self.len(), f);
+    }
+
+    /// Calls `f` on each item from the index `from` up to the index `to` in turn, for writing, and
+    /// on no other. Requires a range that is in order and ends within the list.
+    ///
+    /// Start: stays. Steps: 2 lends.
+    ///
+    /// ```
+    /// let mut ring = Ring::from_slice(alloc, 4, &[2, 3, 4])?;
+    /// ring.push_front(1);
+    /// ring.for_each_mut_in(1, 3, |item| *item *= 2);
+    /// assert!(rt; IntoIter::from_ring(ring).eq([1, 4, 6, 4]));
+    /// ```
+    #[inline]
+    pub fn for_each_mut_in<F: FnMut(&mut T)>(&mut self, from: usize, to: usize, mut f: F)
+    where
+        F: Drop,
+        requires in_order { from ≤ to }
+        requires in_bounds { to ≤ length self.old.items }
+        requires may_write { MayWriteEach F.FnMut f (slice_range self.old.items from to) }
+        ensures in_turn { WrittenPart (WritesAt F.FnMut) f from to self.old.items self.new.items }
+        ensures len { length self.new.items ≡ length self.old.items }
+        ensures kept { self.new ≡ record self.old {
+          items = self.new.items;
+          steps = more_lends 2 self.old.steps;
+        } }
+    {
+        let first = self.first_slice_mut();
+        let cut = first.len();
+        write_each(&mut first[from.min(cut)..to.min(cut)], &mut f);
+        let second = self.second_slice_mut();
+        let (from, to) = (from.saturating_sub(cut), to.saturating_sub(cut));
+        write_each(&mut second[from..to], &mut f);
     }
 }
 
 /// Calls `f` on each item of a slice in turn.
+#[inline]
 fn write_each<T, F: FnMut(&mut T)>(items: &mut [T], f: &mut F)
     requires { MayWriteEach F.FnMut f.old items.old }
     ensures { WritesInTurn (WritesAt F.FnMut) f.old items.old items.new f.new }

@@ -1,7 +1,6 @@
-use Rattle.arraydeque_ring.specs.Written.{WritesAt}
-use Rattle.arraydeque.proofs.WrittenEach.{changed_each}
+use Rattle.arraydeque.proofs.WrittenEach.{changed_all}
 use Rattle.arraydeque.proofs.deque.ArrayDeque.for_each_mut.Goals as goal
 
 pub returns-clause-changed : goal.returns-clause-changed
 returns-clause-changed g c = rw (← c.self.view_is)
-    (λ change says. changed_each (WritesAt g.F.FnMut) _ change says _ _ _ c.for_each_mut.ensures.in_turn)
+    (λ change says. changed_all g.F.FnMut change _ says _ _ c.for_each_mut.ensures.in_turn)

@@ -2,7 +2,7 @@ use Rattle.std.{
   proofs.{Common.{length, ap, arith}, lemmas.List.length-append},
   specs.Option.unwrap_or,
 }
-use Rattle.arraydeque.proofs.InTwo.{range_in_two}
+use Rattle.arraydeque_ring.proofs.InTwo.{range_in_two}
 use Rattle.arraydeque.proofs.deque.ArrayDeque.range.Goals as goal
 
 pub returns-clause-value : goal.returns-clause-value
