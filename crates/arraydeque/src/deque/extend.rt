@@ -59,7 +59,7 @@ impl<T, const CAP: usize> ArrayDeque<T, CAP, Saturating> {
 impl<T, const CAP: usize, B: Behavior> ArrayDeque<T, CAP, B> {
     /// Puts what the iterator gives behind the last item while there is room. Returns whether the
     /// iterator ended before the deque was full.
-    #[inline(always)] // As a ring's `fill_back`.
+    #[inline(always)] // By a call, a vector's items took three times as long.
     fn fill_back<I: Iterator<Item = T>>(&mut self, elements: &mut I) -> bool
         requires { I.can_next elements.old }
         ensures came { Fills I.next_gives elements.old elements.new
@@ -73,7 +73,7 @@ impl<T, const CAP: usize, B: Behavior> ArrayDeque<T, CAP, B> {
 
     /// Puts what the iterator gives before the first item, one by one, while there is room. Returns
     /// whether the iterator ended before the deque was full.
-    #[inline(always)] // As a ring's `fill_back`.
+    #[inline(always)] // By a call, a vector's items took three times as long.
     fn fill_front<I: Iterator<Item = T>>(&mut self, elements: &mut I) -> bool
         requires { I.can_next elements.old }
         ensures came { Fills I.next_gives elements.old elements.new
