@@ -145,6 +145,7 @@ impl<T, const CAP: usize, B: Behavior> ArrayDeque<T, CAP, B> {
     pub fn len(&self) -> usize
         ensures len { result ≡ length self.now.items }
         ensures within { result ≤ CAP }
+        // True of every deque: so the slice that `fill_buf` lends is empty only if the deque is.
         ensures start { self.now.start ≤ CAP - 1 }
     {
         self.ring.len()
@@ -197,13 +198,18 @@ impl<T, const CAP: usize, B: Behavior> ArrayDeque<T, CAP, B> {
     /// ```
     #[inline]
     pub fn pop_front(&mut self) -> Option<T>
+        // What is returned, and what is left.
         ensures value { result ≡ slice_get self.old.items 0 }
         ensures items { self.new.items ≡ drop 1 self.old.items }
+
+        // Where the list lies, and what it cost.
+        ensures start { OnSome result (self.new.start ≡ place_of self.old.start 1 CAP) }
+        ensures steps { OnSome result (self.new.steps ≡ more_takes 1 self.old.steps) }
+
+        // What callers' proofs want.
         ensures conserved { option_to_list result ++ self.new.items ≡ self.old.items }
         ensures room { OnSome result (length self.new.items < CAP) }
         ensures within { length self.new.items ≤ CAP }
-        ensures start { OnSome result (self.new.start ≡ place_of self.old.start 1 CAP) }
-        ensures steps { OnSome result (self.new.steps ≡ more_takes 1 self.old.steps) }
         ensures none { IfNone result (self.new ≡ self.old) }
         ensures empty { IfNone result (self.old.items ≡ []) }
     {
@@ -224,13 +230,18 @@ impl<T, const CAP: usize, B: Behavior> ArrayDeque<T, CAP, B> {
     /// ```
     #[inline]
     pub fn pop_back(&mut self) -> Option<T>
+        // What is returned, and what is left.
         ensures value { result ≡ last_item self.old.items }
         ensures items { self.new.items ≡ take (length self.old.items - 1) self.old.items }
+
+        // Where the list lies, and what it cost.
+        ensures start { self.new.start ≡ self.old.start }
+        ensures steps { OnSome result (self.new.steps ≡ more_takes 1 self.old.steps) }
+
+        // What callers' proofs want.
         ensures conserved { self.new.items ++ option_to_list result ≡ self.old.items }
         ensures room { OnSome result (length self.new.items < CAP) }
         ensures within { length self.new.items ≤ CAP }
-        ensures start { self.new.start ≡ self.old.start }
-        ensures steps { OnSome result (self.new.steps ≡ more_takes 1 self.old.steps) }
         ensures none { IfNone result (self.new ≡ self.old) }
         ensures empty { IfNone result (self.old.items ≡ []) }
     {

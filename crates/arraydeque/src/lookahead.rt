@@ -167,19 +167,24 @@ impl<I: Iterator, const CAP: usize> Scanner<I, CAP> {
     /// ```
     #[tactic(auto, unfolding(crate::specs::Lookahead::HasRest, crate::specs::Lookahead::left_of))]
     pub fn next(&mut self) -> Option<I::Item>
+        // What is returned, and what is left.
         ensures hands_out { HandsOut I.next_gives self.old (option_to_list result) self.new }
         ensures rest { TakesOff I.next_gives self.old (option_to_list result) self.new }
         ensures buffer { self.new.buffer ≡ drop 1 self.old.buffer }
         ensures buffered { 0 < length self.old.buffer
             → (result ≡ slice_get self.old.buffer 0) × (self.new.iter ≡ self.old.iter) }
-        ensures room { 0 < CAP → length self.new.buffer < CAP }
         ensures none { IfNone result (self.new.ended ≡ true) }
         ensures over { IfNone result (HasRest I.next_gives self.old []) }
         ensures some { OnSome result (self.new.ended ≡ self.old.ended) }
+
+        // How many items are left at most.
         ensures goes { MakesProgress (λ _. ⊤) (λ s. s.left) self.old result self.new }
         ensures left { IsFinite self.old.left → UpTo self.new.left (size self.old.left) }
         ensures lowers { Lowers I.remaining self.old result self.new }
         ensures counts { CountsLeft I.remaining self.new }
+
+        // What callers' proofs want.
+        ensures room { 0 < CAP → length self.new.buffer < CAP }
     {
         match self.buffer.pop_front() {
             Some(item) => Some(item),
@@ -236,6 +241,8 @@ impl<I: Iterator, const CAP: usize> Scanner<I, CAP> {
     pub fn next_if<P: FnOnce(&I::Item) -> bool>(&mut self, accepts: P) -> Option<I::Item>
         requires ahead { 0 < CAP }
         requires callable { P.IsAlwaysCallable accepts }
+
+        // What is returned, and what is left.
         ensures hands_out { HandsOut I.next_gives self.old (option_to_list result) self.new }
         ensures rest { TakesOff I.next_gives self.old (option_to_list result) self.new }
         ensures accepted { IfSome result (λ item.
@@ -244,6 +251,8 @@ impl<I: Iterator, const CAP: usize> Scanner<I, CAP> {
             (λ item. FnOnceReturnsAt P.FnOnce accepts item false) self.new) }
         ensures none { IfNone result
             (self.new.buffer ≡ [] → self.new.ended ≡ true) }
+
+        // How many items are left at most.
         ensures goes { MakesProgress (λ _. ⊤) (λ s. s.left) self.old result self.new }
         ensures left { IsFinite self.old.left → UpTo self.new.left (size self.old.left) }
         ensures lowers { Lowers I.remaining self.old result self.new }
@@ -270,14 +279,17 @@ impl<I: Iterator, const CAP: usize> Scanner<I, CAP> {
     /// ```
     #[tactic(auto, unfolding(crate::specs::Lookahead::HasRest, crate::specs::Lookahead::left_of))]
     pub fn unread(&mut self, item: I::Item) -> Result<(), CapacityError<I::Item>>
+        // What is returned, and what is left.
         ensures room { IsOk result ↔ (length self.old.buffer < CAP) }
         ensures buffer { OnOk result (self.new ≡
             record self.old { buffer = item ∷ self.old.buffer; left = self.new.left }) }
         ensures rest { OnOk result (PutsOn I.next_gives self.old item self.new) }
-        ensures left { OnOk result (self.new.left ≡ count_map (λ n. n + 1) self.old.left) }
-        ensures counts { CountsLeft I.remaining self.new }
         ensures full { IfErr result (λ refusal. refusal.element ≡ item) }
         ensures unchanged { OnErr result (self.new ≡ self.old) }
+
+        // How many items are left at most.
+        ensures left { OnOk result (self.new.left ≡ count_map (λ n. n + 1) self.old.left) }
+        ensures counts { CountsLeft I.remaining self.new }
     {
         self.buffer.push_front(item)
     }
@@ -285,11 +297,14 @@ impl<I: Iterator, const CAP: usize> Scanner<I, CAP> {
     /// Asks the iterator once, unless it has given its first `None`. The buffer stays as it is.
     #[tactic(auto, unfolding(crate::specs::Lookahead::left_of))]
     fn read(&mut self) -> Option<I::Item>
+        // What is returned, and what is left.
         ensures reads { Reads I.next_gives self.old.ended self.old.iter (option_to_list result)
             self.new.ended self.new.iter }
         ensures buffer { self.new.buffer ≡ self.old.buffer }
         ensures none { IfNone result (self.new.ended ≡ true) }
         ensures some { OnSome result (self.new.ended ≡ self.old.ended) }
+
+        // How many items are left at most.
         ensures goes { MakesProgress (λ _. ⊤) (λ s. s.left) self.old result self.new }
         ensures left { IsFinite self.old.left → UpTo self.new.left (size self.old.left) }
         ensures lowers { Lowers I.remaining self.old result self.new }

@@ -31,17 +31,22 @@ impl<const CAP: usize, B: Behavior> Read for ArrayDeque<u8, CAP, B> {
     /// ```
     #[inline(always)] // By calls, 16 bytes in and out took 13.8 ns, not 8.2.
     fn read(&mut self, buf: &mut [u8]) -> Result<usize>
-        ensures bound { ReadsAtMost result buf.new }
-        ensures bytes { ReadConsumes (Some self.old.items) (Some self.new.items) result buf.new }
+        // What is returned, and what is left.
         ensures count { result ≡ Ok (min (length self.old.items) (length buf.old)) }
         ensures read { buf.new ≡ take (length buf.old) self.old.items
             ++ drop (length self.old.items) buf.old }
         ensures items { self.new.items ≡ drop (length buf.old) self.old.items }
-        ensures within { length self.new.items ≤ CAP }
+
+        // Where the list lies, and what it cost.
         ensures start { let count = min (length self.old.items) (length buf.old) in
             self.new.start ≡ up_by count self.old.start CAP }
         ensures steps { let count = min (length self.old.items) (length buf.old) in
             self.new.steps ≡ more_takes count self.old.steps }
+
+        // What callers' proofs want.
+        ensures bound { ReadsAtMost result buf.new }
+        ensures bytes { ReadConsumes (Some self.old.items) (Some self.new.items) result buf.new }
+        ensures within { length self.new.items ≤ CAP }
     {
         let len = self.len();
         let count = len.min(buf.len());

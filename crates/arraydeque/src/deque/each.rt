@@ -29,13 +29,19 @@ impl<T, const CAP: usize, B: Behavior> ArrayDeque<T, CAP, B> {
     where
         F: Drop,
         requires { MayWriteEach F.FnMut f self.old.items }
+
+        // What is returned, and what is left.
         ensures in_turn { WrittenInTurn (WritesAt F.FnMut) f self.old.items self.new.items }
         ensures changed { (change : T → T) → ComputesAtMut F.FnMut (λ _. tt) change f
             → map change self.old.items ≡ self.new.items }
-        ensures len { length self.new.items ≡ length self.old.items }
-        ensures within { length self.new.items ≤ CAP }
+
+        // Where the list lies, and what it cost.
         ensures start { self.new.start ≡ self.old.start }
         ensures steps { self.new.steps ≡ more_lends 2 self.old.steps }
+
+        // What callers' proofs want.
+        ensures len { length self.new.items ≡ length self.old.items }
+        ensures within { length self.new.items ≤ CAP }
     {
         self.ring.for_each_mut(f);
     }
@@ -63,16 +69,22 @@ impl<T, const CAP: usize, B: Behavior> ArrayDeque<T, CAP, B> {
             span.to ≤ length self.old.items }
         requires may_write { let span = span_of R.RangeArgument range self.old.items in
             MayWriteEach F.FnMut f (slice_range self.old.items span.from span.to) }
+
+        // What is returned, and what is left.
         ensures in_turn { let span = span_of R.RangeArgument range self.old.items in
             WrittenPart (WritesAt F.FnMut) f span.from span.to self.old.items self.new.items }
         ensures changed { let span = span_of R.RangeArgument range self.old.items in
             (change : T → T) → ComputesAtMut F.FnMut (λ _. tt) change f
             → splice self.old.items span.from span.to
             (map change (slice_range self.old.items span.from span.to)) ≡ self.new.items }
-        ensures len { length self.new.items ≡ length self.old.items }
-        ensures within { length self.new.items ≤ CAP }
+
+        // Where the list lies, and what it cost.
         ensures start { self.new.start ≡ self.old.start }
         ensures steps { self.new.steps ≡ more_lends 2 self.old.steps }
+
+        // What callers' proofs want.
+        ensures len { length self.new.items ≡ length self.old.items }
+        ensures within { length self.new.items ≤ CAP }
     {
         let from = range.start().unwrap_or(0);
         let to = range.end().unwrap_or(self.len());

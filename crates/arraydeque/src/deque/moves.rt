@@ -31,17 +31,23 @@ impl<T, const CAP: usize> ArrayDeque<T, CAP, Saturating> {
     /// ```
     pub fn insert(&mut self, index: usize, element: T) -> Result<(), CapacityError<T>>
         requires { index ≤ length self.old.items }
+
+        // What is returned, and what is left.
         ensures room { IsOk result ↔ (length self.old.items < CAP) }
         ensures items { OnOk result (self.new.items ≡ insert self.old.items index element) }
-        ensures within { length self.new.items ≤ CAP }
+        ensures full { IfErr result (λ refusal. refusal.element ≡ element) }
+        ensures unchanged { OnErr result (self.new ≡ self.old) }
+
+        // Where the list lies, and what it cost.
         ensures start { OnOk result (self.new.start ≡
             start_opened index (length self.old.items - index) CAP self.old.start) }
         ensures steps { OnOk result (self.new.steps ≡ more_puts 1
             (more_moves (moves_to_insert index (length self.old.items)) self.old.steps)) }
         ensures fewest { OnOk result (InsertMovesFewest
             index (length self.old.items) CAP self.old.start self.new.start) }
-        ensures full { IfErr result (λ refusal. refusal.element ≡ element) }
-        ensures unchanged { OnErr result (self.new ≡ self.old) }
+
+        // What callers' proofs want.
+        ensures within { length self.new.items ≤ CAP }
     {
         if self.is_full() {
             return Err(CapacityError { element });
@@ -69,10 +75,11 @@ impl<T, const CAP: usize, B: Behavior> ArrayDeque<T, CAP, B> {
     /// assert!(rt; deque.into_vec()?.as_slice() == [1, 3, 4].as_slice());
     /// ```
     pub fn remove(&mut self, index: usize) -> Option<T>
+        // What is returned, and what is left.
         ensures value { result ≡ slice_get self.old.items index }
         ensures items { self.new.items ≡ remove self.old.items index }
-        ensures within { length self.new.items ≤ CAP }
-        ensures room { OnSome result (length self.new.items < CAP) }
+
+        // Where the list lies, and what it cost.
         ensures start { OnSome result (self.new.start ≡
             start_closed index 1 (length self.old.items - 1 - index) CAP self.old.start) }
         ensures steps { OnSome result (self.new.steps ≡
@@ -80,6 +87,10 @@ impl<T, const CAP: usize, B: Behavior> ArrayDeque<T, CAP, B> {
             (more_takes 1 self.old.steps)) }
         ensures fewest { OnSome result (RemoveMovesFewest
             index (length self.old.items) CAP self.old.start self.new.start) }
+
+        // What callers' proofs want.
+        ensures room { OnSome result (length self.new.items < CAP) }
+        ensures within { length self.new.items ≤ CAP }
         ensures none { IfNone result (self.new ≡ self.old) }
     {
         if index >= self.len() {

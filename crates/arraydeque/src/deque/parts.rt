@@ -53,14 +53,18 @@ impl<T, const CAP: usize, B: Behavior> ArrayDeque<T, CAP, B> {
             span.from ≤ span.to }
         requires in_bounds { let span = span_of R.RangeArgument range self.old.items in
             span.to ≤ length self.old.items }
+
+        // What is returned, and what is left.
         ensures drains { let span = span_of R.RangeArgument range self.old.items in
             IfOk result (λ drained. IsDrained CAP span.from span.to self.old drained self.new) }
-        ensures runs { YieldsInOrder (YieldsFirst {A = T} (λ remaining. remaining))
-            (λ remaining. remaining) }
-        ensures within { length self.new.items ≤ CAP }
         ensures unchanged { OnErr result (self.new ≡ self.old) }
         ensures refused { let span = span_of R.RangeArgument range self.old.items in
             OnErr result (0 < (span.to - span.from) * type_size T.row) }
+
+        // What callers' proofs want.
+        ensures runs { YieldsInOrder (YieldsFirst {A = T} (λ remaining. remaining))
+            (λ remaining. remaining) }
+        ensures within { length self.new.items ≤ CAP }
     {
         let from = range.start().unwrap_or(0);
         let to = range.end().unwrap_or(self.len());
@@ -87,18 +91,24 @@ impl<T, const CAP: usize, B: Behavior> ArrayDeque<T, CAP, B> {
     /// ```
     pub fn split_off(&mut self, at: usize) -> Result<Self, AllocError>
         requires { at ≤ length self.old.items }
+
+        // What is returned, and what is left.
         ensures tail { IfOk result (λ tail. tail ≡ record {
           items = drop at self.old.items;
           start = 0;
           steps = more_puts (length self.old.items - at) no_steps;
         }) }
         ensures items { OnOk result (self.new.items ≡ take at self.old.items) }
+        ensures unchanged { OnErr result (self.new ≡ self.old) }
+        ensures refused { OnErr result (0 < CAP * type_size T.row) }
+
+        // Where the list lies, and what it cost.
         ensures start { self.new.start ≡ self.old.start }
         ensures steps { OnOk result (self.new.steps ≡
             more_takes (length self.old.items - at) self.old.steps) }
+
+        // What callers' proofs want.
         ensures within { length self.new.items ≤ CAP }
-        ensures unchanged { OnErr result (self.new ≡ self.old) }
-        ensures refused { OnErr result (0 < CAP * type_size T.row) }
     {
         let ring = self.ring.split_off(at)?;
         Ok(Self::from_ring(ring))
@@ -123,17 +133,22 @@ impl<T, const CAP: usize> ArrayDeque<T, CAP, Saturating> {
     /// assert!(rt; other.into_vec()?.as_slice() == [4].as_slice());
     /// ```
     pub fn append<const N: usize, P: Behavior>(&mut self, other: &mut ArrayDeque<T, N, P>)
+        // What is returned, and what is left.
         ensures items { let room = CAP - length self.old.items in
             self.new.items ≡ self.old.items ++ take room other.old.items }
+        ensures other_items { let room = CAP - length self.old.items in
+            other.new.items ≡ drop room other.old.items }
+
+        // Where the list lies, and what it cost.
         ensures start { self.new.start ≡ self.old.start }
         ensures steps { let room = CAP - length self.old.items in
             self.new.steps ≡ more_puts (min (length other.old.items) room) self.old.steps }
-        ensures other_items { let room = CAP - length self.old.items in
-            other.new.items ≡ drop room other.old.items }
         ensures other_start { let room = CAP - length self.old.items in
             other.new.start ≡ up_by (min (length other.old.items) room) other.old.start N }
         ensures other_steps { let room = CAP - length self.old.items in
             other.new.steps ≡ more_takes (min (length other.old.items) room) other.old.steps }
+
+        // What callers' proofs want.
         ensures conserved { self.new.items ++ other.new.items ≡ self.old.items ++ other.old.items }
         ensures within { length self.new.items ≤ CAP }
     {
@@ -163,16 +178,21 @@ impl<T: Drop, const CAP: usize> ArrayDeque<T, CAP, Wrapping> {
     /// assert!(rt; other.is_empty());
     /// ```
     pub fn append<const N: usize, P: Behavior>(&mut self, other: &mut ArrayDeque<T, N, P>)
+        // What is returned, and what is left.
         ensures items { self.new.items ≡ keep_last CAP (self.old.items ++ other.old.items) }
+        ensures other_items { other.new.items ≡ [] }
+
+        // Where the list lies, and what it cost.
         ensures start { let gone = length self.old.items - (CAP - length other.old.items) in
             self.new.start ≡ up_by gone self.old.start CAP }
         ensures steps { let gone = length self.old.items - (CAP - length other.old.items) in
             self.new.steps ≡
             more_puts (min (length other.old.items) CAP) (more_takes gone self.old.steps) }
-        ensures other_items { other.new.items ≡ [] }
         ensures other_start { other.new.start ≡ up_by (length other.old.items) other.old.start N }
         ensures other_steps { other.new.steps ≡
             more_takes (length other.old.items) other.old.steps }
+
+        // What callers' proofs want.
         ensures within { length self.new.items ≤ CAP }
     {
         let len = other.len().min(CAP);

@@ -27,9 +27,11 @@ impl<T, const CAP: usize, B: Behavior> ArrayDeque<T, CAP, B> {
     pub fn pop_front_if<P: FnOnce(&mut T) -> bool>(&mut self, predicate: P) -> Option<T>
         requires { (item : T) → slice_get self.old.items 0 ≡ Some item →
             FnOnceTakesAtMut P.FnOnce predicate item }
+
+        // What is returned, and what is left.
         ensures cases { PopsFrontIf P.FnOnce self.old.items self.new.items predicate result }
-        ensures shorter { OnSome result (length self.new.items < length self.old.items) }
-        ensures within { length self.new.items ≤ CAP }
+
+        // Where the list lies, and what it cost.
         ensures start { OnSome result (self.new.start ≡ place_of self.old.start 1 CAP) }
         ensures steps { OnSome result (self.new.steps ≡
             more_takes 1 (more_lends 1 self.old.steps)) }
@@ -37,6 +39,10 @@ impl<T, const CAP: usize, B: Behavior> ArrayDeque<T, CAP, B> {
           items = self.new.items;
           steps = more_lends (min 1 (length self.old.items)) self.old.steps;
         }) }
+
+        // What callers' proofs want.
+        ensures shorter { OnSome result (length self.new.items < length self.old.items) }
+        ensures within { length self.new.items ≤ CAP }
     {
         let item = self.front_mut()?;
         if predicate(item) {
@@ -61,9 +67,11 @@ impl<T, const CAP: usize, B: Behavior> ArrayDeque<T, CAP, B> {
     pub fn pop_back_if<P: FnOnce(&mut T) -> bool>(&mut self, predicate: P) -> Option<T>
         requires { (item : T) → last_item self.old.items ≡ Some item →
             FnOnceTakesAtMut P.FnOnce predicate item }
+
+        // What is returned, and what is left.
         ensures cases { PopsIf P.FnOnce self.old.items self.new.items predicate result }
-        ensures shorter { OnSome result (length self.new.items < length self.old.items) }
-        ensures within { length self.new.items ≤ CAP }
+
+        // Where the list lies, and what it cost.
         ensures start { self.new.start ≡ self.old.start }
         ensures steps { OnSome result (self.new.steps ≡
             more_takes 1 (more_lends 1 self.old.steps)) }
@@ -71,6 +79,10 @@ impl<T, const CAP: usize, B: Behavior> ArrayDeque<T, CAP, B> {
           items = self.new.items;
           steps = more_lends (min 1 (length self.old.items)) self.old.steps;
         }) }
+
+        // What callers' proofs want.
+        ensures shorter { OnSome result (length self.new.items < length self.old.items) }
+        ensures within { length self.new.items ≤ CAP }
     {
         let item = self.back_mut()?;
         if predicate(item) {

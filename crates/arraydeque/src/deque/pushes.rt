@@ -23,13 +23,18 @@ impl<T, const CAP: usize> ArrayDeque<T, CAP, Saturating> {
     /// ```
     #[inline]
     pub fn push_front(&mut self, element: T) -> Result<(), CapacityError<T>>
+        // What is returned, and what is left.
         ensures room { IsOk result ↔ (length self.old.items < CAP) }
         ensures items { OnOk result (self.new.items ≡ element ∷ self.old.items) }
-        ensures within { length self.new.items ≤ CAP }
-        ensures start { OnOk result (self.new.start ≡ place_of self.old.start (CAP - 1) CAP) }
-        ensures steps { OnOk result (self.new.steps ≡ more_puts 1 self.old.steps) }
         ensures full { IfErr result (λ refusal. refusal.element ≡ element) }
         ensures unchanged { OnErr result (self.new ≡ self.old) }
+
+        // Where the list lies, and what it cost.
+        ensures start { OnOk result (self.new.start ≡ place_of self.old.start (CAP - 1) CAP) }
+        ensures steps { OnOk result (self.new.steps ≡ more_puts 1 self.old.steps) }
+
+        // What callers' proofs want.
+        ensures within { length self.new.items ≤ CAP }
     {
         if self.is_full() {
             return Err(CapacityError { element });
@@ -51,13 +56,18 @@ impl<T, const CAP: usize> ArrayDeque<T, CAP, Saturating> {
     /// ```
     #[inline]
     pub fn push_back(&mut self, element: T) -> Result<(), CapacityError<T>>
+        // What is returned, and what is left.
         ensures room { IsOk result ↔ (length self.old.items < CAP) }
         ensures items { OnOk result (self.new.items ≡ self.old.items ++ element ∷ []) }
-        ensures within { length self.new.items ≤ CAP }
-        ensures start { self.new.start ≡ self.old.start }
-        ensures steps { OnOk result (self.new.steps ≡ more_puts 1 self.old.steps) }
         ensures full { IfErr result (λ refusal. refusal.element ≡ element) }
         ensures unchanged { OnErr result (self.new ≡ self.old) }
+
+        // Where the list lies, and what it cost.
+        ensures start { self.new.start ≡ self.old.start }
+        ensures steps { OnOk result (self.new.steps ≡ more_puts 1 self.old.steps) }
+
+        // What callers' proofs want.
+        ensures within { length self.new.items ≤ CAP }
     {
         if self.is_full() {
             return Err(CapacityError { element });
@@ -83,14 +93,19 @@ impl<T, const CAP: usize> ArrayDeque<T, CAP, Wrapping> {
     /// ```
     #[inline]
     pub fn push_front(&mut self, element: T) -> Option<T>
-        ensures items { self.new.items ≡ take CAP (element ∷ self.old.items) }
+        // What is returned, and what is left.
         ensures value { result ≡ slice_get (element ∷ self.old.items) CAP }
-        ensures conserved { self.new.items ++ option_to_list result ≡ element ∷ self.old.items }
-        ensures within { length self.new.items ≤ CAP }
+        ensures items { self.new.items ≡ take CAP (element ∷ self.old.items) }
+
+        // Where the list lies, and what it cost.
         ensures start { 0 < CAP → self.new.start ≡ place_of self.old.start (CAP - 1) CAP }
         ensures steps { 0 < CAP → self.new.steps ≡ more_puts 1
             (more_takes (if nat_lt (length self.old.items) CAP then 0 else 1) self.old.steps) }
         ensures no_places { CAP ≡ 0 → self.new ≡ self.old }
+
+        // What callers' proofs want.
+        ensures conserved { self.new.items ++ option_to_list result ≡ element ∷ self.old.items }
+        ensures within { length self.new.items ≤ CAP }
     {
         if !self.is_full() {
             self.ring.push_front(element);
@@ -119,14 +134,14 @@ impl<T, const CAP: usize> ArrayDeque<T, CAP, Wrapping> {
     /// ```
     #[inline]
     pub fn push_back(&mut self, element: T) -> Option<T>
-        ensures items { self.new.items ≡ keep_last CAP (self.old.items ++ element ∷ []) }
+        // What is returned, and what is left.
         ensures value { result ≡
             (if nat_lt (length self.old.items) CAP
             then None
             else slice_get (self.old.items ++ element ∷ []) 0) }
-        ensures conserved { option_to_list result ++ self.new.items ≡
-            self.old.items ++ element ∷ [] }
-        ensures within { length self.new.items ≤ CAP }
+        ensures items { self.new.items ≡ keep_last CAP (self.old.items ++ element ∷ []) }
+
+        // Where the list lies, and what it cost.
         ensures start { 0 < CAP → self.new.start ≡
             (if nat_lt (length self.old.items) CAP
             then self.old.start
@@ -134,6 +149,11 @@ impl<T, const CAP: usize> ArrayDeque<T, CAP, Wrapping> {
         ensures steps { 0 < CAP → self.new.steps ≡ more_puts 1
             (more_takes (if nat_lt (length self.old.items) CAP then 0 else 1) self.old.steps) }
         ensures no_places { CAP ≡ 0 → self.new ≡ self.old }
+
+        // What callers' proofs want.
+        ensures conserved { option_to_list result ++ self.new.items ≡
+            self.old.items ++ element ∷ [] }
+        ensures within { length self.new.items ≤ CAP }
     {
         if !self.is_full() {
             self.ring.push_back(element);

@@ -21,17 +21,22 @@ impl<T, const CAP: usize, B: Behavior> ArrayDeque<T, CAP, B> {
     /// assert!(rt; deque.into_vec()?.as_slice() == [4, 2, 3].as_slice());
     /// ```
     pub fn swap_remove_back(&mut self, index: usize) -> Option<T>
+        // What is returned, and what is left.
         ensures value { result ≡ slice_get self.old.items index }
         ensures items { self.new.items ≡
             (if nat_lt index (length self.old.items)
             then take (length self.old.items - 1)
             (swap self.old.items index (length self.old.items - 1))
             else self.old.items) }
-        ensures within { length self.new.items ≤ CAP }
-        ensures room { OnSome result (length self.new.items < CAP) }
+
+        // Where the list lies, and what it cost.
         ensures start { self.new.start ≡ self.old.start }
         ensures steps { OnSome result (self.new.steps ≡ more_takes 1
             (more_exchanges (if index == length self.old.items - 1 then 0 else 1) self.old.steps)) }
+
+        // What callers' proofs want.
+        ensures room { OnSome result (length self.new.items < CAP) }
+        ensures within { length self.new.items ≤ CAP }
         ensures none { IfNone result (self.new ≡ self.old) }
     {
         self.ring.swap_remove_back(index)
@@ -50,16 +55,21 @@ impl<T, const CAP: usize, B: Behavior> ArrayDeque<T, CAP, B> {
     /// assert!(rt; deque.into_vec()?.as_slice() == [2, 3, 1].as_slice());
     /// ```
     pub fn swap_remove_front(&mut self, index: usize) -> Option<T>
+        // What is returned, and what is left.
         ensures value { result ≡ slice_get self.old.items index }
         ensures items { self.new.items ≡
             (if nat_lt index (length self.old.items)
             then drop 1 (swap self.old.items index 0)
             else self.old.items) }
-        ensures within { length self.new.items ≤ CAP }
-        ensures room { OnSome result (length self.new.items < CAP) }
+
+        // Where the list lies, and what it cost.
         ensures start { OnSome result (self.new.start ≡ place_of self.old.start 1 CAP) }
         ensures steps { OnSome result (self.new.steps ≡ more_takes 1
             (more_exchanges (if index == 0 then 0 else 1) self.old.steps)) }
+
+        // What callers' proofs want.
+        ensures room { OnSome result (length self.new.items < CAP) }
+        ensures within { length self.new.items ≤ CAP }
         ensures none { IfNone result (self.new ≡ self.old) }
     {
         self.ring.swap_remove_front(index)
