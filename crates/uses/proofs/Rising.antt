@@ -2,10 +2,17 @@
 use Rattle.std.{
   proofs.{
     Common.{◌≡◌, ◌≤◌, ◌<◌, ℕ, List, [], ◌∷◌, ◌++◌, max, nat_lt, if◌then◌else◌, slice_get, Option},
-    Common.{Some, None, unwrap_or, Bool, inl, inr, refl, sym, ap, ◌∙◌, arith},
+    Common.{◌⊎◌, length, Some, None, unwrap_or, Bool, true≢false, inl, inr, refl, sym},
+    Common.{ap, ◌∙◌, arith},
     lemmas.Bool.{cases_lt, Decides.nat_tests},
   },
-  specs.{Borrow.MutBor, Fn.{Once, FnOnceReturnsAtMut}, List.Retain.PopsIf},
+  specs.{
+    Borrow.MutBor,
+    declared.result.Result.{Result, TheVariants.{Ok, Err}},
+    Fn.{Once, FnOnceReturnsAtMut},
+    List.Retain.PopsIf,
+    Prelude.{IsOk, OnErr},
+  },
 }
 use Rattle.uses.specs.Peaks.{before, peaks_of, largest}
 
@@ -86,3 +93,30 @@ module _ {F : Type 0} (g : Once F (MutBor ℕ × Unit {0}) (Bool × (MutBor ℕ 
         | inl low ↦ absurd (grind (arith, nat_tests, said.0, is, empty))
         | inr high ↦ grind (arith, nat_tests, said.0, said.1, left, fallen-all xs x s high)
       ]
+
+  -- or changes none
+  pub pop-stays : PopsIf g old new f r → r ≡ None → new ≡ old
+  pop-stays (inl none) empty = none.1 ∙ sym none.0
+  pop-stays (inr (xs, x, b, y, was, met, is, left)) empty =
+      let said = says x b y met in
+      elim (cases_lt x s) [
+        | inl low ↦ absurd (grind (arith, nat_tests, said.0, is, empty))
+        | inr high ↦ grind (arith, nat_tests, said.0, said.1, was, left)
+      ]
+
+-- peaks that are as they were, or fewer
+abbrev pub UnchangedOrFewer : List ℕ → List ℕ → Type 0
+UnchangedOrFewer new old = (new ≡ old) ⊎ (length new < length old)
+
+pub fewer-still : (new mid old : List ℕ) → length new < length mid → UnchangedOrFewer mid old
+    → UnchangedOrFewer new old
+fewer-still new mid old less (inl same) = inr (omega (arith, less, ap length same))
+fewer-still new mid old less (inr fewer) = inr (omega (arith, less, fewer))
+
+-- if there is no room among them for one more, they are as they were
+pub unchanged-full : {A E : Type 0} (r : Result A E) (n : ℕ) (old mid new : List ℕ) → (length mid < n → IsOk r)
+    → OnErr r (new ≡ mid) → UnchangedOrFewer mid old → length old ≤ n → OnErr r (new ≡ old)
+unchanged-full (Ok a) n old mid new room same was within = tt
+unchanged-full (Err e) n old mid new room same (inl is) within = same ∙ is
+unchanged-full (Err e) n old mid new room same (inr fewer) within =
+    absurd (true≢false (sym (room (omega (arith, fewer, within)))))

@@ -3,7 +3,7 @@
 //! It uses `arraydeque::lookahead::Scanner`, and is proved over the scanner's public contract
 //! alone: the runs, written out, are the edits, so none is lost, and no two side by side could be
 //! one.
-ghost use Rattle.std.specs.Prelude.{◌≡◌, ◌≢◌, ◌<◌, ◌≤◌, [], length, take, drop, slice_get, replicate, All, IfOk, IfSome, IfNone, ⊤};
+ghost use Rattle.std.specs.Prelude.{◌≡◌, ◌≢◌, ◌<◌, ◌≤◌, [], length, take, drop, slice_get, replicate, List, All, IfOk, OnErr, IfSome, IfNone, ⊤};
 ghost use Rattle.std.specs.Iterator.{IsFinite, MakesProgress};
 ghost use Rattle.std.specs.Option.{option_to_list};
 ghost use Rattle.arraydeque.specs.Lookahead.{HasRest, TakesOff, NextIs};
@@ -33,7 +33,8 @@ pub struct Run {
     pub count: usize,
 }
 
-/// Merges all edits that a scanner has left into runs, none longer than it can look ahead.
+/// Merges all edits that a scanner has left into runs, none longer than it can look ahead. If
+/// memory is refused, the edits taken so far are gone, and the scanner has the others.
 ///
 /// It requires a scanner that can look at least one edit ahead.
 pub fn merge<I: Iterator<Item = Edit>, const AHEAD: usize>(
@@ -46,6 +47,8 @@ pub fn merge<I: Iterator<Item = Edit>, const AHEAD: usize>(
         HasRest I.next_gives edits.old (written_out runs.items)) }
     ensures within { IfOk result (λ runs. All (λ run. run.count ≤ AHEAD) runs.items) }
     ensures merged { IfOk result (λ runs. AreMerged AHEAD runs.items) }
+    ensures refused { OnErr result ((gone : List Edit)
+        × TakesOff I.next_gives edits.old gone edits.new) }
 {
     let mut runs = Vec::new(alloc);
     while let Some(run) = next_run(edits) {

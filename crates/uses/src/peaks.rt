@@ -41,13 +41,16 @@ impl<const CAP: usize> Peaks<CAP> {
     }
 
     /// A sample comes into the window, behind the others. It is refused only if there are `CAP`
-    /// peaks, which it takes a window of as many samples for.
+    /// peaks, which it takes a window of as many samples for; then nothing has changed.
     pub fn enter(&mut self, sample: u32) -> Result<(), CapacityError<u32>>
         ensures room { length self.old < CAP → IsOk result }
         ensures peaks { OnOk result ((samples : List ℕ) → self.old ≡ peaks_of samples →
             self.new ≡ peaks_of (samples ++ sample ∷ [])) }
         ensures handed_back { IfErr result (λ refusal. refusal.element ≡ sample) }
+        ensures unchanged { OnErr result (self.new ≡ self.old) }
     {
+        // This call makes it known that the peaks fit the capacity.
+        let _len = self.peaks.len();
         while self.peaks.pop_back_if(|peak| *peak < sample).is_some() {}
         self.peaks.push_back(sample)
     }

@@ -2,11 +2,11 @@
 //!
 //! It uses `arraydeque::lookahead::Scanner`, and is proved over the scanner's public contract
 //! alone: the tokens of an input, joined, are the input, and no two side by side could be one.
-ghost use Rattle.std.specs.Prelude.{◌≡◌, ◌<◌, ℕ, List, [], IfOk, IfSome, IfNone, All, ⊤};
+ghost use Rattle.std.specs.Prelude.{◌≡◌, ◌<◌, ℕ, List, [], IfOk, OnErr, IfSome, IfNone, All, ⊤};
 ghost use Rattle.std.specs.Iterator.{IsFinite, MakesProgress};
 ghost use Rattle.std.specs.Option.{option_to_list};
 ghost use Rattle.arraydeque.specs.Lookahead.{HasRest, TakesOff};
-ghost use Rattle.uses.specs.Tokens.{kind_of, joined, IsOfOneKind, IsOneByteIfSign, IsOver, AreLongest};
+ghost use Rattle.uses.specs.Tokens.{kind_of, joined, IsOfOneKind, IsOneByteIfSign, IsOver, AreLongest, LosesPart};
 
 use arraydeque::lookahead::Scanner;
 use std::alloc::{AllocError, Global};
@@ -32,6 +32,7 @@ pub struct Token {
 }
 
 /// Cuts all that a scanner has left into tokens: runs of letters, runs of digits, and single signs.
+/// If memory is refused, the bytes read so far are gone, and the scanner has the others.
 ///
 /// It requires a scanner that can look at least one byte ahead.
 pub fn tokenize<I: Iterator<Item = u8>, const AHEAD: usize>(
@@ -45,6 +46,8 @@ pub fn tokenize<I: Iterator<Item = u8>, const AHEAD: usize>(
     ensures one_kind { IfOk result (λ tokens. All IsOfOneKind tokens.items) }
     ensures signs { IfOk result (λ tokens. All IsOneByteIfSign tokens.items) }
     ensures longest { IfOk result (λ tokens. AreLongest tokens.items) }
+    ensures refused { OnErr result ((gone : List ℕ)
+        × TakesOff I.next_gives scanner.old gone scanner.new) }
 {
     let mut tokens = Vec::new(alloc);
     while let Some(token) = next_token(alloc, scanner)? {
@@ -64,7 +67,8 @@ pub fn tokenize_text(alloc: Global, text: &[u8]) -> Result<Vec<Token>, AllocErro
     tokenize(alloc, &mut scanner)
 }
 
-/// Takes the next token, or returns `None` at the end.
+/// Takes the next token, or returns `None` at the end. If memory is refused, bytes of one kind are
+/// gone.
 fn next_token<I: Iterator<Item = u8>, const AHEAD: usize>(
     alloc: Global,
     scanner: &mut Scanner<I, AHEAD>,
@@ -80,6 +84,7 @@ fn next_token<I: Iterator<Item = u8>, const AHEAD: usize>(
         → HasRest I.next_gives scanner.new rest → IsOver token.kind rest)) }
     ensures goes { IfOk result (λ token.
         MakesProgress (λ _. ⊤) (λ s. s.left) scanner.old token scanner.new) }
+    ensures refused { OnErr result (LosesPart I.next_gives scanner.old scanner.new) }
 {
     let Some(first) = scanner.next() else {
         return Ok(None);

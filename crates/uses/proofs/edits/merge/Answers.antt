@@ -3,7 +3,10 @@ use Rattle.std.proofs.{
   lemmas.{Grind.flat_map-append, List.Elements.All-push},
 }
 use Rattle.arraydeque.proofs.Scanned.{TakesOff-append}
-use Rattle.uses.{proofs.Merged.{AreMergedBefore-push, full-by}, specs.Edits.written_out}
+use Rattle.uses.{
+  proofs.{Cut.on_err, Merged.{AreMergedBefore-push, full-by}},
+  specs.Edits.written_out,
+}
 use Rattle.uses.proofs.edits.merge.Goals as goal
 
 pub loop-run-preserved : goal.loop-run-preserved
@@ -29,3 +32,13 @@ returns-clause-none_lost g c = rw append-nil at (c.loop-run.invariant.taken [] c
 
 pub returns-clause-merged : goal.returns-clause-merged
 returns-clause-merged g c = (c.loop-run.invariant.merged [] c.in_default.ensures.over).0
+
+pub returns-in_err-push-clause-refused : goal.returns-in_err-push-clause-refused
+returns-in_err-push-clause-refused g c =
+    let run = c.in-Some.run' in
+    on_err c.from_residual.result (
+      written_out c.loop-run.runs.items ++ written_out (run ∷ []),
+      TakesOff-append g.I.Iterator.next_gives c.args.edits.now c.loop-run.edits c.next_run.new.edits
+          (written_out c.loop-run.runs.items) (written_out (run ∷ [])) c.loop-run.invariant.taken
+          c.in-Some.ensures.taken,
+    )

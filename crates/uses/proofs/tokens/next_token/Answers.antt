@@ -1,10 +1,10 @@
 use Rattle.std.proofs.{
-  Common.{◌≡◌, ◌≢◌, [], ◌∷◌, slice_get, rules, arith},
+  Common.{◌≡◌, ◌≢◌, [], ◌∷◌, ◌++◌, slice_get, rules, arith},
   lemmas.{Grind.common_steps, List.Elements.All-push},
 }
 use Rattle.arraydeque.proofs.Scanned.{TakesOff-append}
 use Rattle.uses.{
-  proofs.Cut.some_weaker,
+  proofs.Cut.{some_weaker, on_err},
   specs.{declared.tokens.Kind.TheVariants.Sign, Tokens.kind_of},
 }
 use Rattle.uses.proofs.tokens.next_token.Goals as goal
@@ -38,3 +38,25 @@ returns-clause-goes g c =
 pub returns-clause-longest : goal.returns-clause-longest
 returns-clause-longest g c rest has =
     some_weaker (slice_get rest 0) (c.in_default-next_if.ensures.rejected rest has) (λ byte refused. search rules)
+
+pub returns-in_err-push-clause-refused : goal.returns-in_err-push-clause-refused
+returns-in_err-push-clause-refused g c = on_err c.from_residual.result (record {
+  kind = c.kind_of-kind.result;
+  bytes = c.in-Some.first ∷ [];
+  one_kind = search rules;
+  gone = c.in-Some.ensures.rest;
+})
+
+pub returns-in_err-push-2-clause-refused : goal.returns-in_err-push-2-clause-refused
+returns-in_err-push-2-clause-refused g c =
+    let was = c.loop-byte.invariant in
+    let byte = c.in-Some-next_if.byte in
+    let accepted = c.in-Some-next_if.ensures.accepted in
+    let same : kind_of byte ≡ c.kind_of-kind.result = search rules in
+    on_err c.from_residual-in_err-push-2.result (record {
+      kind = c.kind_of-kind.result;
+      bytes = c.loop-byte.text.items ++ byte ∷ [];
+      one_kind = All-push (λ byte. kind_of byte ≡ c.kind_of-kind.result) c.loop-byte.text.items byte was.one_kind same;
+      gone = TakesOff-append g.I.Iterator.next_gives c.args.scanner.now c.loop-byte.scanner c.next_if.new.self
+          c.loop-byte.text.items (byte ∷ []) was.taken c.in-Some-next_if.ensures.rest;
+    })
