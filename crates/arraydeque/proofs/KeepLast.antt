@@ -1,10 +1,11 @@
 -- The last items of a list.
 use Rattle.std.proofs.{
-  Common.{◌≡◌, ℕ, ◌+◌, ◌-◌, ◌≤◌, List, [], ◌∷◌, ◌<◌, ◌++◌, length, take, drop, min, inl, inr},
-  Common.arith,
+  Common.{◌≡◌, ℕ, ◌+◌, ◌-◌, ◌≤◌, List, [], ◌∷◌, ◌<◌, ◌++◌, length, take, drop, map, min, inl},
+  Common.{inr, arith},
   lemmas.{
     Bool.cases_lt,
-    List.{length-append, length-drop, drop-append-le, drop-drop, drop_all, drop_min, take_all},
+    List.{length-append, length-drop, length-map, drop-append-le, drop-drop, drop-map, drop_all},
+    List.{drop_min, take_all},
   },
   Math.Seq.drop-append-add,
 }
@@ -31,8 +32,13 @@ keep_last-full n xs y some full = grind (
   drop-append-le (length xs - n + 1) xs (y ∷ []),
 )
 
+-- of each of the last n items a function's value, as the last n of those of all
+pub keep_last-map : {X Y : Type 0} (n : ℕ) (f : X → Y) (xs : List X)
+    → keep_last n (map f xs) ≡ map f (keep_last n xs)
+keep_last-map n f xs = rw (length-map xs f) (drop-map f (length xs - n) xs)
+
 -- what becomes of the last items, one extend or push after another
-pub ruleset keep_last_rules = (keep_last-all, keep_last-append, keep_last-full)
+pub ruleset keep_last_rules = (keep_last-all, keep_last-append, keep_last-full, keep_last-map)
 
 -- what is dropped of two lists is dropped of the first, and the rest of the second
 drop-append : {X : Type 0} (k : ℕ) (xs ys : List X) → drop k (xs ++ ys) ≡ drop k xs ++ drop (k - length xs) ys

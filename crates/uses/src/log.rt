@@ -1,11 +1,12 @@
-//! A log of the last states, where none stands twice in a row.
+//! Logs: of the last states, where none stands twice in a row, and of the last lines.
 //!
-//! It uses `arraydeque` under `Wrapping`, and is proved over the deque's public contract alone: the
-//! state that was logged last is the last item.
-ghost use Rattle.std.specs.Prelude.{◌≡◌, ◌≢◌, ◌<◌, ◌++◌, ◌∷◌, [], Some};
+//! They use `arraydeque` under `Wrapping`, and are proved over the deque's public contract alone:
+//! what was logged last is the last item.
+ghost use Rattle.std.specs.Prelude.{◌≡◌, ◌≢◌, ◌<◌, ◌++◌, ◌∷◌, [], Some, map, OnOk, OnErr};
 ghost use Rattle.arraydeque.specs.Deque.{keep_last, last_item};
 
 use arraydeque::{ArrayDeque, Wrapping};
+use std::alloc::{AllocError, Global};
 
 /// Logs a state, unless it is the last one logged. Either way it is the last one then.
 #[tactic(auto, using(arraydeque::proofs::LastItem::last_item_rules))]
@@ -19,4 +20,21 @@ pub fn log<const CAP: usize>(states: &mut ArrayDeque<i64, CAP, Wrapping>, state:
     if states.back() != Some(&state) {
         states.push_back(state);
     }
+}
+
+/// Logs a copy of a line's bytes. If memory is refused nothing changes.
+#[tactic(auto, using(arraydeque::proofs::KeepLast::keep_last_rules))]
+pub fn log_line<const CAP: usize>(
+    alloc: Global,
+    lines: &mut ArrayDeque<Vec<u8>, CAP, Wrapping>,
+    line: &[u8],
+) -> Result<(), AllocError>
+    ensures logged { OnOk result (map (λ l. l.items) lines.new.items ≡
+        keep_last CAP (map (λ l. l.items) lines.old.items ++ line.now ∷ [])) }
+    ensures unchanged { OnErr result (lines.new ≡ lines.old) }
+{
+    let mut copy = Vec::new(alloc);
+    copy.extend_from_slice(line)?;
+    lines.push_back(copy);
+    Ok(())
 }

@@ -1,8 +1,8 @@
-//! What a log keeps of states that repeat, and of more than it has places.
+//! What a log keeps of states that repeat, and of more states or lines than it has places.
 use arraydeque::{ArrayDeque, Wrapping};
 use arraydeque_samples::build::holds;
 use std::test::Fail;
-use uses::log::log;
+use uses::log::{log, log_line};
 
 #[test]
 fn a_state_that_repeats_is_logged_once(rt: HostRuntime) -> Result<(), Fail> {
@@ -18,5 +18,20 @@ fn a_state_that_repeats_is_logged_once(rt: HostRuntime) -> Result<(), Fail> {
         log(&mut states, state);
         assert!(rt; holds(&states, logged), "after {state}");
     }
+    Ok(())
+}
+
+#[test]
+fn the_last_lines_are_kept(rt: HostRuntime) -> Result<(), Fail> {
+    let mut lines = ArrayDeque::<Vec<u8>, 2, Wrapping>::new(rt.alloc())?;
+    for line in [b"up".as_slice(), b"", b"down"] {
+        log_line(rt.alloc(), &mut lines, line)?;
+    }
+    assert!(rt;
+        lines
+            .iter()
+            .map(|line| line.as_slice())
+            .eq([b"".as_slice(), b"down"])
+    );
     Ok(())
 }
