@@ -2,6 +2,7 @@ pub mod Ageing
 pub mod Edits
 pub mod Encoder
 pub mod History
+pub mod Input
 pub mod Limiter
 pub mod Peaks
 pub mod Tokens

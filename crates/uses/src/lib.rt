@@ -30,6 +30,7 @@ pub mod edits;
 pub mod encoder;
 pub mod history;
 pub mod in_place;
+pub mod input;
 pub mod jobs;
 pub mod journal;
 pub mod limiter;

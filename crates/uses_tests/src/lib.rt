@@ -14,6 +14,8 @@ mod history;
 #[cfg(test)]
 mod in_place;
 #[cfg(test)]
+mod input;
+#[cfg(test)]
 mod jobs;
 #[cfg(test)]
 mod journal;
