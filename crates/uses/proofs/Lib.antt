@@ -1,4 +1,6 @@
+pub mod Counted
 pub mod Cut
+pub mod Displaced
 pub mod Grouped
 pub mod Merged
 pub mod Padded

@@ -4,6 +4,7 @@ pub mod Encoder
 pub mod History
 pub mod Input
 pub mod Limiter
+pub mod Median
 pub mod Peaks
 pub mod Tokens
 pub mod Tree

@@ -35,6 +35,7 @@ pub mod jobs;
 pub mod journal;
 pub mod limiter;
 pub mod log;
+pub mod median;
 pub mod moving;
 pub mod peaks;
 pub mod pipe;

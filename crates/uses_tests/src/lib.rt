@@ -24,6 +24,8 @@ mod limiter;
 #[cfg(test)]
 mod log;
 #[cfg(test)]
+mod median;
+#[cfg(test)]
 mod moving;
 #[cfg(test)]
 mod peaks;
