@@ -27,7 +27,7 @@ pub const TASKS: [Task; 23] = [
         "all items written",
         &["iterate_mut", "add_each", "iter_mut_for_each", "for_each_mut", "range_mut", "for_each_mut_in"],
     ),
-    other("contains", &["contains"]),
+    common("contains", &["contains"]),
     common("equality, order, hash", &["equal", "compare", "hash"]),
     common("binary searches", &["search", "partition_point"]),
     common("insert and remove", &["middle", "random"]),

@@ -65,7 +65,7 @@ fn behind(all: &[Figures]) -> String {
 pub fn of_tasks(all: &[Figures], picture: &str) -> String {
     let mut text = format!(
         "![our time divided by the Rust crate's and by VecDeque's, by task]({picture})\n\n\
-         | Task | crate, 16 places | 64 | 1000 and more | `VecDeque` | worst of each |\n\
+         | Task | crate, 16 places | 64 | 1000 and more | `VecDeque` | worst of either |\n\
          |---|---|---|---|---|---|\n"
     );
     for task in TASKS.iter().filter(|task| task.is_in_table) {
