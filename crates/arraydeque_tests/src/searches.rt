@@ -45,7 +45,7 @@ fn searches_alike<const CAP: usize>(
     point == less
         && deque.binary_search(&number) == found
         && (by_order, by_key) == (found, found)
-        && (tests <= limit && orders <= limit + 1 && keys <= limit + 1)
+        && (tests <= limit && orders.saturating_sub(1) <= limit && keys.saturating_sub(1) <= limit)
 }
 
 /// One step more than halving takes: the first item of the second slice is asked about too.
