@@ -274,9 +274,11 @@ module _ {F X : Type 0} (t : Mut F (MutBor X × Unit {0}) (Unit {0} × (MutBor X
           (omega (arith, as_long)) (omega (arith, as_long)) (omega (arith, as_long)) us us_long vs vs_long
 
 -- the part is all
-pub whole_part : {F X : Type 0} (R : F → X → F → X → Type 0) (f : F) (xs ys : List X)
-    → WrittenPart R f 0 (length xs) xs ys → WrittenInTurn R f xs ys
-whole_part R f xs ys part =
-    let whole : slice_range xs 0 (length xs) ≡ xs = take_all (length xs - 0) xs (omega arith) in
-    let left : ys ≡ part.0 = part.2 ∙ ap (λ l. part.0 ++ l) (drop-length xs) ∙ append-nil part.0 in
+pub whole_part : {F X : Type 0} (R : F → X → F → X → Type 0) (f : F) (xs ys : List X) (from to : ℕ) → from ≡ 0
+    → to ≡ length xs → WrittenPart R f from to xs ys → WrittenInTurn R f xs ys
+whole_part R f xs ys from to at up_to part =
+    let n = length xs in
+    let whole : slice_range xs from to ≡ xs = rw (at, up_to) (take_all (n - 0) xs (omega arith)) in
+    let left : ys ≡ part.0 = part.2
+        ∙ (rw (at, up_to) (ap (λ l. part.0 ++ l) (drop-length xs) ∙ append-nil part.0)) in
     (part.1.0, rw left (rw whole at part.1.1))

@@ -12,7 +12,7 @@
 //! - [`ageing`]: entries that age, and are removed when their time is over
 //! - [`peaks`]: the greatest of the last samples
 //! - [`median`]: a running median, in a second, sorted deque
-//! - [`log`]: a log that has no state twice in a row
+//! - [`log`]: a log that has no state twice in a row, and one of lines
 //! - [`tokens`]: a tokenizer with one byte of look-ahead
 //! - [`input`]: the look-ahead buffer of a YAML scanner
 //! - [`edits`]: edits of one kind in a row made one, by looking ahead

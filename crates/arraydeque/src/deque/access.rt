@@ -1,5 +1,5 @@
 //! Reading and writing items in place.
-ghost use Rattle.std.specs.Prelude.{◌≡◌, ◌<◌, ◌≤◌, ◌-◌, [], length, slice_get, slice_index_or, option_copied, IfNone};
+ghost use Rattle.std.specs.Prelude.{◌≡◌, ◌<◌, ◌≤◌, ◌-◌, [], length, slice_get, option_copied, IfNone, Some};
 ghost use Rattle.std.specs.Borrow.{sem};
 ghost use Rattle.std.specs.List.{list_any};
 ghost use Rattle.std.specs.Option.{option_copied_mut};
@@ -150,7 +150,7 @@ impl<T, const CAP: usize, B: Behavior> Index<usize> for ArrayDeque<T, CAP, B> {
 
     ghost can_index = { λ d i. i < length d.items };
 
-    ghost index_gives = { λ d i x. x ≡ slice_index_or d.items i x };
+    ghost index_gives = { λ d i x. slice_get d.items i ≡ Some x };
 
     /// Returns a reference to the item at an index. The front has index 0. Requires an index below
     /// the length.
@@ -184,7 +184,7 @@ impl<T, const CAP: usize, B: Behavior> IndexMut<usize> for ArrayDeque<T, CAP, B>
     fn index_mut(&mut self, index: usize) -> &mut T
         requires { index < length self.old.items }
         ensures* writes_back { sem 𝓛 (lends_index T.row CAP.row B.row self.entry index result) }
-        ensures value { result.now ≡ slice_index_or self.old.items index result.now }
+        ensures value { slice_get self.old.items index ≡ Some result.now }
     {
         self.ring.item_mut(index)
     }
