@@ -1,4 +1,4 @@
-//! A ring of items in one raw region: what a fixed-capacity deque stands on.
+//! A list of items in one region of memory, on which a deque of fixed capacity is built.
 //!
 //! A [`Ring`] is a list of items that wraps round the region's end. Its capacity is given at run
 //! time, and it has no policy: a push requires room. In all examples `alloc` is `rt.alloc()`.
@@ -11,7 +11,7 @@
 //! assert!(rt; (ring.pop_front(), ring.pop_front()) == (Some(0), Some(1)));
 //! ```
 //!
-//! [`slots`] is the region, places that each hold a value or nothing, and the only module with raw
+//! [`slots`] is the region: places that each hold a value or nothing. No other module has raw
 //! pointers.
 #![tactic(auto)]
 

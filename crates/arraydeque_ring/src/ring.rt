@@ -1,7 +1,7 @@
 //! A list of items in the places of a region, from the start on and round the region's end.
 //!
 //! A contract sees a [`Ring`] as its items from front to back, its capacity, the place of its first
-//! item and the steps of its region. A ring knows no policy: a push requires room.
+//! item and the steps of its region. A ring has no policy: a push requires room.
 #![tactic(auto, using(crate::proofs::Opened::ring_facts))]
 
 ghost use Rattle.std.specs.Prelude.{◌≡◌, ◌-◌, ◌*◌, ◌+◌, ◌<◌, ◌≤◌, ◌==◌, [], ◌∷◌, ◌++◌, length, take, drop, slice_get, Some, if◌then◌else◌, option_copied, IfOk, OnErr, OnSome, IfNone};
@@ -29,9 +29,9 @@ use crate::wrap::wrap_add;
 use std::alloc::{AllocError, Global};
 use std::marker::Model;
 
-/// A list of at most `capacity` items in one region, whose front may stand at any place.
+/// A list of at most `capacity` items in one region, whose first item may lie at any place.
 ///
-/// A ring of long-lived items goes where one of short-lived items is wanted:
+/// A ring of long-lived items may be used where one of short-lived items is wanted:
 ///
 /// ```
 /// let ring: Ring<&'static str> = Ring::from_slice(alloc, 2, &["a"])?;
@@ -66,8 +66,11 @@ impl<T> Model for Ring<T> {
 impl<T> Ring<T> {
     ghost use Rattle.arraydeque_ring.specs.RingLends.{lends_item, lends_index};
 
-    /// Returns an empty ring that starts at the first place. It is refused if its region is, which
-    /// is never at capacity 0 or for items of size zero.
+    /// Returns an empty ring, over a new region of `capacity` places from `alloc`. It starts at the
+    /// first place.
+    ///
+    /// Fails only if memory is refused, as it is for a region larger than the machine can name. At
+    /// capacity 0 or for items of size zero it never fails.
     ///
     /// ```
     /// let mut ring = Ring::<i64>::new(alloc, 2)?;
@@ -86,7 +89,7 @@ impl<T> Ring<T> {
         })
     }
 
-    /// Returns how many items there are.
+    /// Returns how many items the ring holds.
     ///
     /// ```
     /// let ring = Ring::from_slice(alloc, 4, &[1, 2, 3])?;
@@ -101,7 +104,7 @@ impl<T> Ring<T> {
         self.len
     }
 
-    /// Returns how many items there may be.
+    /// Returns how many items the ring can hold.
     ///
     /// ```
     /// let ring = Ring::from_slice(alloc, 4, &[1, 2, 3])?;
@@ -126,7 +129,7 @@ impl<T> Ring<T> {
         self.slots.alloc()
     }
 
-    /// Adds an element behind the last item. Requires room. No kept item moves.
+    /// Adds an element at the back. Requires room. No item moves.
     ///
     /// ```
     /// let mut ring = Ring::new(alloc, 2)?;
@@ -148,8 +151,8 @@ impl<T> Ring<T> {
         self.slots.put(behind, element);
     }
 
-    /// Adds an element before the first item. Requires room. The start goes down to its place, and
-    /// no kept item moves.
+    /// Adds an element at the front. Requires room. The start goes down by one place, and no item
+    /// moves.
     ///
     /// ```
     /// let mut ring = Ring::new(alloc, 2)?;
@@ -174,8 +177,8 @@ impl<T> Ring<T> {
         self.slots.put(before, element);
     }
 
-    /// Takes the first item off, if there is one. The start goes up to the next place, and no kept
-    /// item moves.
+    /// Removes the first item and returns it, or returns `None` if the ring is empty. The start
+    /// goes up by one place, and no other item moves.
     ///
     /// ```
     /// let mut ring = Ring::from_slice(alloc, 3, &[1, 2])?;
@@ -203,7 +206,8 @@ impl<T> Ring<T> {
         Some(self.slots.take(first))
     }
 
-    /// Takes the last item off, if there is one. The start stays, and no kept item moves.
+    /// Removes the last item and returns it, or returns `None` if the ring is empty. The start
+    /// stays, and no other item moves.
     ///
     /// ```
     /// let mut ring = Ring::from_slice(alloc, 3, &[1, 2])?;
@@ -229,7 +233,8 @@ impl<T> Ring<T> {
         Some(self.slots.take(last))
     }
 
-    /// Returns the item at an index, if there is one. Index 0 is the front.
+    /// Returns a reference to the item at an index, or `None` if there is none. The front has index
+    /// 0.
     ///
     /// ```
     /// let mut ring = Ring::from_slice(alloc, 3, &[1, 2])?;
@@ -248,7 +253,8 @@ impl<T> Ring<T> {
         Some(self.item(index))
     }
 
-    /// Returns the item at an index. Requires an index below the length.
+    /// Returns a reference to the item at an index. The front has index 0. Requires an index below
+    /// the length.
     ///
     /// ```
     /// let ring = Ring::from_slice(alloc, 3, &[1, 2])?;
@@ -264,8 +270,8 @@ impl<T> Ring<T> {
         self.slots.get(place)
     }
 
-    /// Lends the item at an index for writing, if there is one. What is written through it changes
-    /// that item and no other.
+    /// Returns a mutable reference to the item at an index, or `None` if there is none. The front
+    /// has index 0.
     ///
     /// ```
     /// let mut ring = Ring::from_slice(alloc, 3, &[1, 2])?;
@@ -286,8 +292,8 @@ impl<T> Ring<T> {
         Some(self.item_mut(index))
     }
 
-    /// Lends the item at an index for writing. Requires an index below the length. What is written
-    /// through it changes that item and no other.
+    /// Returns a mutable reference to the item at an index. The front has index 0. Requires an
+    /// index below the length.
     ///
     /// Start: stays. Steps: 1 lend.
     ///
@@ -308,11 +314,11 @@ impl<T> Ring<T> {
         slots.get_mut(place)
     }
 
-    /// Returns the place of an item. No branch depends on the index, since indexes may come at
-    /// random (with one a random `swap` at capacity 1000 took 13 ns, without it 4.4): the place is
-    /// found by a mask if the capacity is a power of two, else by taking the capacity or 0 off the
-    /// sum. If sums might pass `usize::MAX`, as only items of size zero allow, it is found by
-    /// `wrap_add`.
+    /// Returns the place of the item at an index. No branch depends on the index, since indexes may
+    /// come at random (with one a random `swap` at capacity 1000 took 13 ns, not 4.4). If the
+    /// capacity is a power of two the place is found by a mask, else by subtracting the capacity or
+    /// 0 from the sum. If the sum might pass `usize::MAX`, as it can only for items of size zero,
+    /// `wrap_add` finds the place.
     #[inline(always)] // So a caller's constant capacity chooses mask or sum.
     fn place(&self, index: usize) -> usize
         requires { index < length self.now.items }

@@ -1,7 +1,7 @@
-//! The region: places that each hold a value or nothing. What touches its memory stands in `raw`,
-//! the one file with pointers.
+//! The region: places that each hold a value or nothing. Only `raw`, the one file with pointers,
+//! touches its memory.
 //!
-//! A contract sees a [`Slots`] as what each place holds and as the steps made so far. The steps are
+//! A contract sees a [`Slots`] as what each place holds and the steps made so far. Steps are
 //! counted for contracts alone: they take no bytes.
 ghost use Rattle.std.specs.Prelude.{◌≡◌, ◌*◌, ◌+◌, ◌^◌, ◌<◌, ◌≤◌, nat_lt, List, Option, Some, None, length, slice_set, swap, if◌then◌else◌, ◌==◌, IfOk, OnErr};
 ghost use Rattle.std.specs.Borrow.{sem};
@@ -22,8 +22,8 @@ use std::alloc::{AllocError, Global};
 use std::marker::{Model, Send, Sync};
 use std::mem::replace;
 
-/// The most bytes that a block may have: above the 8 kB from which on the C library copies fastest
-/// (glibc 2.36, by `rep movsb`: to a lower address in about half the time).
+/// The most bytes of a block. The C library copies fastest from 8 kB on (by `rep movsb` in glibc
+/// 2.36: to a lower address in about half the time).
 const BLOCK_BYTES: usize = 32_768;
 
 /// A kind of step that is counted.
@@ -35,10 +35,11 @@ enum StepKind {
     Exchange,
 }
 
-/// A region of places for values of type `T`, taken from the allocator at once and never grown.
+/// A region of places for values of type `T`, which is taken from the allocator when it is made and
+/// never grows.
 ///
-/// A place is named by its number, below the capacity. A region can be dropped only once every
-/// place is empty, so that no value is ever lost with it.
+/// A place is a number below the capacity. A region can be dropped only once every place is empty,
+/// so that no value is lost with it.
 pub struct Slots<T> {
     ptr: *const T,
     capacity: usize,
@@ -70,11 +71,10 @@ unsafe impl<T: Send> Send for Slots<T> {}
 unsafe impl<T: Sync> Sync for Slots<T> {}
 
 impl<T> Slots<T> {
-    /// Returns a region of `capacity` empty places.
+    /// Returns a region of `capacity` empty places from `alloc`.
     ///
-    /// It is refused if the allocator refuses the memory, or if the region would be larger than the
-    /// machine can name. A region of no bytes, of no places or of items of size zero, takes no
-    /// memory and is never refused.
+    /// Fails only if memory is refused, as it is for a region larger than the machine can name. At
+    /// capacity 0 or for items of size zero it takes no memory and never fails.
     pub fn new(alloc: Global, capacity: usize) -> Result<Slots<T>, AllocError>
         ensures ok { IfOk result (λ slots. slots ≡ empty_region capacity) }
         ensures refused { OnErr result (0 < capacity * type_size T.row) }
@@ -115,7 +115,7 @@ impl<T> Slots<T> {
         self.count(StepKind::Put, 1);
     }
 
-    /// Takes the value out of a place, which is empty from then on. Requires a filled place.
+    /// Takes the value out of a place, which is empty afterwards. Requires a filled place.
     #[inline]
     pub fn take(&mut self, place: usize) -> T
         requires { IsFilled self.old.places place }
@@ -142,8 +142,8 @@ impl<T> Slots<T> {
         self.count(StepKind::Move, 1);
     }
 
-    /// Exchanges the values in two places. Requires filled places. If the two are one nothing
-    /// happens.
+    /// Exchanges the values in two places. If the two are the same nothing happens. Requires filled
+    /// places.
     #[inline]
     pub fn exchange(&mut self, a: usize, b: usize)
         requires a_filled { IsFilled self.old.places a }
@@ -161,7 +161,7 @@ impl<T> Slots<T> {
         self.count(StepKind::Exchange, 1);
     }
 
-    /// Takes the region out, and leaves one of no places in its stead.
+    /// Takes the region out, and leaves one without places.
     pub(crate) fn move_out(&mut self) -> Slots<T>
         ensures region { result ≡ self.old }
         ensures left { self.new ≡ empty_region 0 }
@@ -170,7 +170,7 @@ impl<T> Slots<T> {
         replace(self, Slots::without_memory(alloc, 0))
     }
 
-    /// Returns the value in a place. Requires a filled place.
+    /// Returns a reference to the value in a place. Requires a filled place.
     #[inline]
     pub fn get(&self, place: usize) -> &T
         requires { IsFilled self.now.places place }
@@ -179,13 +179,13 @@ impl<T> Slots<T> {
         &self.slice(place, 1)[0]
     }
 
-    /// Counts steps of a kind, but not what they read and write. It does nothing at run time.
+    /// Counts steps of a kind, but not their reads and writes. It does nothing at run time.
     fn count(&mut self, kind: StepKind, times: usize)
         ensures { self.new ≡ record self.old { steps = counted kind times self.old.steps } }
     {}
 }
 
-/// Whether the machine can name a region of so many places: its bytes are below 2^63.
+/// Returns whether the machine can name a region of so many places: its bytes are below 2^63.
 fn can_be_named<T>(capacity: usize) -> bool
     ensures { result ≡ nat_lt (capacity * type_size T.row) (2 ^ 63) }
 {
@@ -193,8 +193,8 @@ fn can_be_named<T>(capacity: usize) -> bool
     size == 0 || capacity <= isize::MAX as usize / size
 }
 
-/// Whether a block may have `N` items: it is one item, or no larger than a block may be.
-#[inline(always)] // It is a constant, by which loops over blocks that are too large go.
+/// Returns whether a block may have `N` items: it is one item, or has at most `BLOCK_BYTES`.
+#[inline(always)] // A constant, by which loops over blocks that are too large are removed.
 fn is_block<T, const N: usize>() -> bool
     requires { 0 < N }
     ensures { result ≡ is_block N (type_size T.row) }

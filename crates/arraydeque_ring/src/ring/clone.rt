@@ -1,4 +1,4 @@
-//! A second ring, of clones of the items.
+//! A second ring of clones of the items.
 ghost use Rattle.std.specs.Prelude.{◌≡◌, ◌⊎◌, ◌*◌, ◌+◌, ◌<◌, ◌≤◌, ◌++◌, length, Any, IfOk, OnOk, OnErr};
 ghost use Rattle.std.specs.Mem.{type_size};
 ghost use Rattle.arraydeque_ring.specs.Ring.{ClonesAreSame};
@@ -9,9 +9,10 @@ use std::alloc::AllocError;
 
 impl<T> Ring<T> {
     /// Returns a ring of a clone of each item, of the same capacity, from the first place on.
-    /// Requires that the clone of an item, if it succeeds, is that item once more. The region is
-    /// taken first, and then the items are cloned front to back. It is refused if its region or the
-    /// clone of an item is; the clones that were made are dropped then.
+    /// Requires that a clone of an item is the same value as the item, as with numbers.
+    ///
+    /// The region is taken first, and then the items are cloned front to back. Fails only if memory
+    /// is refused or the clone of an item fails; then the clones that were made are dropped.
     ///
     /// ```
     /// let ring = Ring::from_slice(alloc, 3, &[1, 2])?;
@@ -40,8 +41,8 @@ impl<T> Ring<T> {
         Ok(clones)
     }
 
-    /// Puts a clone of each item behind the last one of a list that starts at the first place and
-    /// has room.
+    /// Adds a clone of each item of a slice at the back. Requires a list that starts at the first
+    /// place, and room for all.
     #[tactic(auto, using(crate::proofs::Opened::copy_facts))]
     #[inline]
     fn clone_back(&mut self, items: &[T]) -> Result<(), AllocError>

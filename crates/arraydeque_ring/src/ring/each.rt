@@ -1,5 +1,4 @@
-//! The two slices of a ring lent for writing, one at a time; a closure that writes to all items or
-//! a part.
+//! The items written in place: all or a part by a closure, or those of one of the two slices.
 ghost use Rattle.std.specs.Prelude.{◌≡◌, ◌-◌, ◌≤◌, length, take, drop, slice_range};
 ghost use Rattle.std.specs.Borrow.{sem};
 ghost use Rattle.arraydeque_ring.specs.RingLends.{lends_first, lends_rest};
@@ -9,8 +8,8 @@ ghost use Rattle.arraydeque_ring.specs.Written.{WritesAt, WritesInTurn, WrittenI
 use super::Ring;
 
 impl<T> Ring<T> {
-    /// Lends the items from the start to the region's end for writing: the first slice of
-    /// [`Ring::as_slices`]. They end as they were written.
+    /// Returns the first of the two slices of [`Ring::as_slices`], for writing: the items from the
+    /// front to the region's end. They end as they were written.
     ///
     /// Start: stays. Steps: 1 lend.
     ///
@@ -31,8 +30,8 @@ impl<T> Ring<T> {
         slots.slice_mut(start, len)
     }
 
-    /// Lends the other items for writing: the second slice of [`Ring::as_slices`], from the
-    /// region's first place on. They end as they were written.
+    /// Returns the second of the two slices of [`Ring::as_slices`], for writing: the other items,
+    /// from the region's first place on. They end as they were written.
     ///
     /// Start: stays. Steps: 1 lend.
     ///
@@ -78,8 +77,8 @@ impl<T> Ring<T> {
         self.for_each_mut_in(0, self.len(), f);
     }
 
-    /// Calls `f` on each item from the index `from` up to the index `to` in turn, for writing, and
-    /// on no other. Requires a range that is in order and ends within the list.
+    /// Calls `f` on each item of the range `from..to` in turn, front to back, for writing. The
+    /// other items stay as they were. Requires a range that is in order and ends within the list.
     ///
     /// Start: stays. Steps: 2 lends.
     ///

@@ -1,5 +1,5 @@
-//! The items of an iterator, put behind the last item or before the first, while there is room or
-//! in the places of others; and copies of a slice's, while there is room.
+//! Adding the items of an iterator at one end, while there is room or in the places of those at the
+//! other; and copies of a slice's items, while there is room.
 ghost use Rattle.std.specs.Prelude.{◌≡◌, ◌-◌, ◌<◌, ◌≤◌, ◌∷◌, ◌++◌, length, min, take, drop, reverse, nat_lt, false};
 ghost use Rattle.std.specs.Iterator.{IsFinite, IsNearerEnd, MakesProgress};
 ghost use Rattle.arraydeque_ring.specs.Fills.{Fills, Ends, GoesOn};
@@ -12,8 +12,9 @@ use crate::slots::Slots;
 use crate::wrap::wrap_add;
 
 impl<T> Ring<T> {
-    /// Puts what the iterator gives behind the last item, one by one, while there is room. Returns
-    /// whether the iterator ended before the ring was full; else it wasn't asked for more.
+    /// Adds the items of an iterator at the back, in order, while there is room. Returns whether
+    /// the iterator ended before the ring was full. The iterator is asked for no more items than
+    /// there is room for, and never after its first `None`.
     ///
     /// Start: stays. Steps: 1 put for each item that comes.
     ///
@@ -24,7 +25,7 @@ impl<T> Ring<T> {
     /// assert!(rt; numbers.next() == Some(4));
     /// assert!(rt; IntoIter::from_ring(ring).eq([1, 2, 3]));
     /// ```
-    #[inline(always)] // Else a vector's items took three times as long.
+    #[inline(always)] // By a call, a vector's items took three times as long.
     pub fn fill_back<I: Iterator<Item = T>>(&mut self, elements: &mut I) -> bool
         requires { I.can_next elements.old }
         ensures came { Fills I.next_gives elements.old elements.new
@@ -51,9 +52,10 @@ impl<T> Ring<T> {
         ended
     }
 
-    /// Puts what the iterator gives before the first item, one by one, while there is room: the
-    /// last one stands first then. Returns whether the iterator ended before the ring was full;
-    /// else it wasn't asked for more.
+    /// Adds the items of an iterator at the front, one by one, while there is room: the last one
+    /// taken is the first afterwards. Returns whether the iterator ended before the ring was full.
+    /// The iterator is asked for no more items than there is room for, and never after its first
+    /// `None`.
     ///
     /// Start: 1 down for each item that comes. Steps: 1 put for each.
     ///
@@ -62,7 +64,7 @@ impl<T> Ring<T> {
     /// assert!(rt; ring.fill_front(&mut (2..4)));
     /// assert!(rt; IntoIter::from_ring(ring).eq([3, 2, 1]));
     /// ```
-    #[inline(always)] // Else a vector's items took three times as long, as in `fill_back`.
+    #[inline(always)] // By a call, a vector's items took three times as long.
     pub fn fill_front<I: Iterator<Item = T>>(&mut self, elements: &mut I) -> bool
         requires { I.can_next elements.old }
         ensures came { Fills I.next_gives elements.old elements.new
@@ -95,8 +97,8 @@ impl<T> Ring<T> {
         ended
     }
 
-    /// Puts copies of the first of some items behind the last one, as many as there is room for.
-    /// Returns their number.
+    /// Adds copies of the first items of a slice at the back, as many as there is room for, and
+    /// returns their number.
     ///
     /// Start: stays. Steps: 1 put for each copy.
     ///
@@ -130,9 +132,8 @@ impl<T> Ring<T> {
         count
     }
 
-    /// Puts what the iterator gives behind the last item, one by one. Requires a full ring of one
-    /// place or more, and an iterator that ends. Each takes the place of the first item, which is
-    /// dropped.
+    /// Adds the items of an iterator at the back, in order. Each takes the place of the first item,
+    /// which is dropped. Requires a full ring of one place or more, and an iterator that ends.
     ///
     /// Start: 1 up for each item that comes. Steps: 1 take, 1 put for each.
     ///
@@ -168,9 +169,9 @@ impl<T> Ring<T> {
         self.slots = slots;
     }
 
-    /// Puts what the iterator gives before the first item, one by one. Requires a full ring of one
-    /// place or more, and an iterator that ends. Each takes the place of the last item, which is
-    /// dropped.
+    /// Adds the items of an iterator at the front, one by one: the last one is the first
+    /// afterwards. Each takes the place of the last item, which is dropped. Requires a full ring of
+    /// one place or more, and an iterator that ends.
     ///
     /// Start: 1 down for each item that comes. Steps: 1 take, 1 put for each.
     ///
@@ -211,8 +212,8 @@ impl<T> Ring<T> {
     }
 }
 
-/// Puts what the iterator gives into the `len` empty places from `from` on, upwards. Returns how
-/// many came: fewer than `len` only if the iterator ended.
+/// Puts items of an iterator into the `len` empty places from `from` on, upwards. Returns how many:
+/// fewer than `len` only if the iterator ended.
 #[inline]
 fn fill_up<T, I: Iterator<Item = T>>(
     mut slots: Slots<T>,
@@ -237,8 +238,8 @@ fn fill_up<T, I: Iterator<Item = T>>(
     (slots, len)
 }
 
-/// Puts what the iterator gives into the `len` empty places below `from`, downwards. Returns how
-/// many came: fewer than `len` only if the iterator ended.
+/// Puts items of an iterator into the `len` empty places below `from`, downwards. Returns how many:
+/// fewer than `len` only if the iterator ended.
 #[inline]
 fn fill_down<T, I: Iterator<Item = T>>(
     mut slots: Slots<T>,
@@ -264,8 +265,8 @@ fn fill_down<T, I: Iterator<Item = T>>(
     (slots, len)
 }
 
-/// Puts what the iterator gives into the `len` filled places from `from` on, upwards, and drops
-/// what was there. Returns how many came: fewer than `len` only if the iterator ended.
+/// Puts items of an iterator into the `len` filled places from `from` on, upwards, and drops what
+/// was there. Returns how many: fewer than `len` only if the iterator ended.
 #[inline]
 fn displace_up<T: Drop, I: Iterator<Item = T>>(
     mut slots: Slots<T>,
@@ -296,8 +297,8 @@ fn displace_up<T: Drop, I: Iterator<Item = T>>(
     (slots, len)
 }
 
-/// Puts what the iterator gives into the `len` filled places below `from`, downwards, and drops
-/// what was there. Returns how many came: fewer than `len` only if the iterator ended.
+/// Puts items of an iterator into the `len` filled places below `from`, downwards, and drops what
+/// was there. Returns how many: fewer than `len` only if the iterator ended.
 #[inline]
 fn displace_down<T: Drop, I: Iterator<Item = T>>(
     mut slots: Slots<T>,
@@ -329,7 +330,7 @@ fn displace_down<T: Drop, I: Iterator<Item = T>>(
     (slots, len)
 }
 
-/// Asks an iterator once. A loop that called `next` itself would have to know that the iterator
+/// Asks an iterator once. A loop that called `next` itself would have to show that the iterator
 /// ends.
 #[inline]
 fn ask<T, I: Iterator<Item = T>>(elements: &mut I) -> Option<T>

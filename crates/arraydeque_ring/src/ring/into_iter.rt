@@ -13,7 +13,7 @@ use std::marker::Model;
 #[derive(Drop)]
 pub struct IntoIter<T> {
     ring: Ring<T>,
-    /// At most so many items are behind the run that [`Ring::take_before_end`] takes.
+    /// No more items than this are behind the run that [`Ring::take_before_end`] takes.
     most_behind_run: usize,
 }
 
@@ -119,8 +119,8 @@ impl<T> Ring<T> {
         self.len.saturating_sub(to_end.saturating_sub(1))
     }
 
-    /// Takes the first item off, as [`Ring::pop_front`] does, if the next place is before the
-    /// region's end. Many such calls together empty a run of places.
+    /// Removes the first item and returns it, as [`Ring::pop_front`] does. Requires that the next
+    /// place is before the region's end. Many such calls together empty a run of places.
     #[tactic(auto, using(crate::proofs::Opened::end_facts))]
     #[inline]
     fn take_before_end(&mut self) -> T

@@ -10,8 +10,8 @@ use super::Ring;
 use crate::slots::loan::Loan;
 
 impl<T> Ring<T> {
-    /// Returns the items in two slices: those from the start to the region's end, then those past
-    /// it.
+    /// Returns the items in two slices: those from the front to the region's end, and the rest,
+    /// from the region's first place on. If all lie in one piece, the second is empty.
     ///
     /// ```
     /// let mut ring = Ring::from_slice(alloc, 4, &[2, 3])?;
@@ -54,8 +54,10 @@ impl<T> Ring<T> {
         items
     }
 
-    /// Lends the items for writing in one slice. Requires a list in one piece, as `linearize`
-    /// leaves it. The list ends as it was written, and starts where it did.
+    /// Returns the items for writing in one slice. Requires a list in one piece, as `linearize`
+    /// leaves it.
+    ///
+    /// The list afterwards is what was written, and starts where it did.
     ///
     /// ```
     /// let mut ring = Ring::from_slice(alloc, 4, &[3, 1, 2])?;
@@ -77,12 +79,12 @@ impl<T> Ring<T> {
         slots.slice_mut(start, len)
     }
 
-    /// Lends the items for writing in two slices: those from the start to the region's end, then
-    /// those past it.
+    /// Returns the items in two mutable slices: those from the front to the region's end, and the
+    /// rest, from the region's first place on. If all lie in one piece, the second is empty.
     ///
-    /// Whatever is written, there are as many items as before, and they start where they did. A
-    /// caller whose proof needs that writes `lend_items().into_slices()`: the prover follows the
-    /// one name of that loan, and not a pair.
+    /// Whatever is written, the ring holds as many items as before, and they start where they did.
+    /// If your proof needs that, call `lend_items().into_slices()`: the prover follows one loan by
+    /// its name, but not a pair of slices.
     ///
     /// ```
     /// let mut ring = Ring::from_slice(alloc, 4, &[2, 3])?;
@@ -104,7 +106,7 @@ impl<T> Ring<T> {
 
     /// Lends the items for writing, as one loan of two slices: its clause says what
     /// [`Ring::as_mut_slices`] says, and that the ring follows the loan's name. A caller of this
-    /// one is proved by hand; [`Ring::lend_items`] is for all others.
+    /// one is proved by hand; all others call [`Ring::lend_items`].
     ///
     /// Start: stays. Steps: 2 lends.
     ///
@@ -130,7 +132,7 @@ impl<T> Ring<T> {
 
     /// Lends the items for writing, as one loan of two slices.
     ///
-    /// Whatever is written, there are as many items as before.
+    /// Whatever is written, the ring holds as many items as before.
     ///
     /// Start: stays. Steps: 2 lends.
     ///
@@ -154,10 +156,10 @@ impl<T> Ring<T> {
     }
 
     /// Lends the `len` items from the index `from` on for writing, as one loan of two slices.
-    /// Requires that the list has them.
+    /// Requires a part that ends within the list.
     ///
-    /// Whatever is written, there are as many items as before, and those outside the part are as
-    /// they were.
+    /// Whatever is written, the ring holds as many items as before, and those outside the part are
+    /// as they were.
     ///
     /// Start: stays. Steps: 2 lends.
     ///
@@ -184,8 +186,8 @@ impl<T> Ring<T> {
         self.lend_at(place, from, len)
     }
 
-    /// The same, of a part that starts at a known place: where the item at the index `from` stands,
-    /// or the next one would.
+    /// As [`Ring::lend_part`], of a part that starts at a known place: that of the item at the
+    /// index `from`, or of the next one to come.
     fn lend_at(&mut self, place: usize, from: usize, len: usize) -> Loan<'_, T>
         requires in_bounds { from + len ≤ length self.old.items }
         requires in_region { place ≤ self.old.capacity }

@@ -9,8 +9,11 @@ use super::moves::move_gap;
 use crate::slots::Slots;
 
 impl<T> Ring<T> {
-    /// Lays the list in one piece that starts at the first place, by no more moves and exchanges
-    /// than there are items. If it lies in one piece already, wherever that is, nothing happens.
+    /// Lays the list in one piece that starts at the first place, so that the first slice of
+    /// `as_slices` has all items. If it lies in one piece already, wherever that is, nothing
+    /// happens.
+    ///
+    /// It works in place, by no more moves and exchanges than there are items.
     ///
     /// ```
     /// let mut ring = Ring::from_slice(alloc, 4, &[2, 3])?;
@@ -49,8 +52,8 @@ fn rotate<T>(mut slots: Slots<T>, start: usize, len: usize) -> Slots<T>
     ensures steps { Rearranges len slots.steps result.steps }
 {
     let capacity = slots.capacity();
-    // The values before `dst` are in their places. The ones that come next are in the places from
-    // `next` to the end, and those after them in the places from `dst` on.
+    // The values before `dst` are in their places. Next come those from the place `next` to the
+    // end, and then those from the place `dst` on.
     let mut dst = 0;
     let mut next = start;
     while next < len && capacity - next < len - dst {
@@ -68,8 +71,8 @@ fn rotate<T>(mut slots: Slots<T>, start: usize, len: usize) -> Slots<T>
 }
 
 /// Moves the values that aren't in their places yet to these, without an exchange: they are in one
-/// piece from `next` on, or there is room before `next` for those that come after the end.
-#[inline(never)] // Inlined, nothing to do took 33 instructions, not 19.
+/// piece from `next` on, or there is room before `next` for those past the end.
+#[inline(never)] // Inlined, a call with nothing to do took 33 instructions, not 19.
 fn place_rest<T>(slots: Slots<T>, dst: usize, next: usize, len: usize) -> Slots<T>
     requires in_order { dst ≤ next }
     requires in_region { next < length slots.places }
@@ -85,7 +88,7 @@ fn place_rest<T>(slots: Slots<T>, dst: usize, next: usize, len: usize) -> Slots<
     if dst == next {
         return slots;
     }
-    // With `mut` in the head, the region would be stored anew before the return above, too.
+    // If the parameter were `mut`, the region would be stored before the return above, too.
     let mut slots = slots;
     let first = slots.capacity() - next;
     let left = len - dst;

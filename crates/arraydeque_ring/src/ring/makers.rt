@@ -1,4 +1,4 @@
-//! A ring of copies, or of a vector's items, and a vector of a ring's.
+//! Rings made of other collections, and a vector of a ring.
 ghost use Rattle.std.specs.Prelude.{◌≡◌, ◌*◌, ◌<◌, ◌≤◌, length, take, IfOk, IfErr, OnErr, vec_capacity};
 ghost use Rattle.std.specs.Mem.{type_size};
 ghost use Rattle.arraydeque_ring.specs.Steps.{no_steps, more_puts};
@@ -8,8 +8,10 @@ use crate::slots::Slots;
 use std::alloc::{AllocError, Global};
 
 impl<T> Ring<T> {
-    /// Returns a ring of copies of items, in order from the first place on. Requires no more items
-    /// than places. It is refused if its region is.
+    /// Returns a ring of copies of a slice's items, from the first place on. Requires no more items
+    /// than places.
+    ///
+    /// Fails only if memory is refused.
     ///
     /// Start: 0. Steps: 1 put for each item.
     ///
@@ -35,9 +37,10 @@ impl<T> Ring<T> {
         Ok(ring)
     }
 
-    /// Returns a ring of the items of a vector, in order from the first place on, as many as there
-    /// are places for. The others are dropped, front to back. It is refused if its region is; then
-    /// the vector comes back as it was.
+    /// Returns a ring of the first `capacity` items of a vector, from the first place on. The
+    /// others are dropped, front to back.
+    ///
+    /// Fails only if memory is refused; then the vector comes back as it was.
     ///
     /// Start: 0. Steps: 1 put for each item of the ring.
     ///
@@ -76,8 +79,10 @@ impl<T> Ring<T> {
         })
     }
 
-    /// Returns a vector of the items, front to back, with no room to spare. If its memory is
-    /// refused, which never happens to an empty ring, the ring comes back as it was.
+    /// Returns a vector of the items, front to back, with no room to spare.
+    ///
+    /// Fails only if memory is refused; then the ring comes back as it was. For an empty ring it
+    /// never fails.
     ///
     /// ```
     /// let mut ring = Ring::from_slice(alloc, 3, &[2, 3])?;

@@ -1,5 +1,4 @@
-//! Parts of a ring that go into another: the items of a range and those from an index on into rings
-//! of their own, the first items behind those of a second ring.
+//! Taking a range out of a ring, cutting one in two, and joining two.
 ghost use Rattle.std.specs.Prelude.{◌≡◌, ◌-◌, ◌+◌, ◌*◌, ◌<◌, ◌≤◌, ◌++◌, length, take, drop, slice_range, min, nat_lt, if◌then◌else◌, IfOk, OnOk, OnErr};
 ghost use Rattle.std.specs.List.{remove_range};
 ghost use Rattle.std.specs.Mem.{type_size};
@@ -16,13 +15,13 @@ use crate::wrap::wrap_add;
 use std::alloc::AllocError;
 
 impl<T> Ring<T> {
-    /// Takes out the items from the index `from` up to `to`, which is not among them. Requires a
-    /// range that is in order and ends within the list. The items before these move, and the start
-    /// with them, if they are fewer; else those behind them. Nothing moves for an empty range.
+    /// Removes the items of the range `from..to`, and returns them in a ring of their own with no
+    /// place to spare. Requires a range that is in order and ends within the list.
     ///
-    /// The items go into a ring of their own, whose region is taken first and has no place to
-    /// spare. If that is refused nothing has changed. A range of no items, or of items of size
-    /// zero, takes no memory and is never refused. In a ring of 8 places:
+    /// The ring has no gap when the call returns: the items before the range, and the start with
+    /// them, or those behind it have moved, whichever are fewer, on a tie the latter, and none for
+    /// an empty range. Fails only if memory is refused; then nothing has changed. An empty range,
+    /// or items of size zero, take no memory. In a ring of 8 places:
     ///
     ///     place                 0 1 2 3 4 5 6 7
     ///     before, from 5 on     d e . . . a b c
@@ -77,9 +76,11 @@ impl<T> Ring<T> {
         })
     }
 
-    /// Takes out the items from the index `at` on, into a ring of the same capacity, whose region
-    /// is taken first. Requires an index up to the length. If the region is refused nothing has
-    /// changed; it never is at capacity 0 or for items of size zero. No kept item moves.
+    /// Removes the items from the index `at` on, and returns them in a ring of the same capacity.
+    /// Requires an index up to the length.
+    ///
+    /// No kept item moves. Fails only if memory is refused; then nothing has changed. At capacity 0
+    /// or for items of size zero it never fails.
     ///
     /// ```
     /// let mut ring = Ring::from_slice(alloc, 4, &[1, 2, 3])?;
@@ -115,9 +116,9 @@ impl<T> Ring<T> {
         })
     }
 
-    /// Takes the first `len` items of another ring behind the last one. Requires room for so many,
-    /// and that the other ring has them. They go over in at most three copies, since either ring
-    /// may wrap once.
+    /// Takes the first `len` items of another ring behind the last of this one. Requires room for
+    /// them, and that the other ring has as many. They are taken in at most three runs, since
+    /// either ring may wrap once.
     ///
     /// Start: stays.
     /// Steps: 1 put for each item that comes. The start of the other ring goes 1 up for each of
@@ -149,8 +150,8 @@ impl<T> Ring<T> {
         }
     }
 
-    /// Takes the first items of another ring behind the last one, by one copy: `len`, or as many as
-    /// go round the end in neither ring. Returns how many.
+    /// Takes the first items of another ring behind the last of this one, in one run: `len`, or as
+    /// many as pass the end of neither region. Returns how many.
     #[tactic(auto, using(crate::proofs::Opened::join_facts))]
     fn append_run(&mut self, other: &mut Ring<T>, len: usize) -> usize
         requires some { 0 < len }
@@ -183,9 +184,9 @@ impl<T> Ring<T> {
     }
 }
 
-/// Hands the `len` values from the index `at` on over to another region, into its first places.
-/// Indexes count from the place `start`, round the end. The values up to the region's end go in one
-/// run, and the others in a second.
+/// Hands the `len` values from the index `at` on over to the first places of another region: those
+/// up to the end in one run, the others in a second. Indexes are counted from the place `start` on,
+/// round the end.
 fn take_round<T>(slots: &mut Slots<T>, start: usize, at: usize, len: usize, taken: &mut Slots<T>)
     requires in_region { start ≤ length slots.old.places - 1 }
     requires filled { IsFilledRun (rotated start slots.old.places) at len }

@@ -6,7 +6,8 @@ ghost use Rattle.arraydeque_ring.specs.Steps.{more_takes, more_exchanges};
 use super::Ring;
 
 impl<T> Ring<T> {
-    /// Exchanges two items. Requires indexes below the length. If they are equal nothing happens.
+    /// Exchanges the items at two indexes. If the two are the same nothing happens. Requires both
+    /// to be below the length.
     ///
     /// ```
     /// let mut ring = Ring::from_slice(alloc, 4, &[1, 2, 3])?;
@@ -27,8 +28,8 @@ impl<T> Ring<T> {
         self.slots.exchange(a, b);
     }
 
-    /// Takes the item at an index off, if there is one, and puts the last item in its place, by one
-    /// exchange at most.
+    /// Removes the item at an index and returns it, or returns `None` if there is none. The last
+    /// item takes its place, by one exchange at most.
     ///
     /// ```
     /// let mut ring = Ring::from_slice(alloc, 4, &[1, 2, 3])?;
@@ -54,8 +55,8 @@ impl<T> Ring<T> {
         self.pop_back()
     }
 
-    /// Takes the item at an index off, if there is one, and puts the first item in its place, by
-    /// one exchange at most. The start goes up to the next place.
+    /// Removes the item at an index and returns it, or returns `None` if there is none. The first
+    /// item takes its place, by one exchange at most. The start goes up by one place.
     ///
     /// ```
     /// let mut ring = Ring::from_slice(alloc, 4, &[1, 2, 3])?;

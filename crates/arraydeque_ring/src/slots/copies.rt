@@ -8,14 +8,15 @@ ghost use Rattle.arraydeque_ring.specs.Steps.{more_transfers, more_puts};
 use super::raw::size_of_item;
 use super::{BLOCK_BYTES, Slots, StepKind, is_block};
 
-/// The most bytes of a narrow item, of which 1024 are a block.
+/// The most bytes of a narrow item: a block has room for 1024 of these.
 const NARROW: usize = BLOCK_BYTES / 1024;
 
 impl<T> Slots<T> {
-    /// Puts copies of the first items into the empty places from `from` on, and of the others into
-    /// the first places. If the run ends before the region does, all are first.
+    /// Puts copies of the first `first` items into the empty places from `from` on, and of the
+    /// others into the first places. If the run doesn't wrap, there are no others.
     ///
-    /// All that it calls but `put_long` is inlined with it: a caller's sizes choose the blocks.
+    /// All that it calls but `put_long` is inlined with it, so that a caller's sizes choose the
+    /// blocks.
     #[inline(always)] // `stream` of 16, 256, 4096 bytes: 8.2, 18.8, 126 ns, not 13.8, 21.0, 131.
     pub(crate) fn put_copies(&mut self, from: usize, items: &[T], first: usize)
     where
@@ -59,8 +60,8 @@ impl<T> Slots<T> {
         self.put_blocks::<1>(from, items, put);
     }
 
-    /// Puts copies of narrow items: if fewer than 1024 come, in one block at most of each power of
-    /// two. No put is counted.
+    /// Puts copies of narrow items: if there are fewer than 1024, in at most one block of each
+    /// power of two. No put is counted.
     #[tactic(auto, using(crate::proofs::fills::Copied::all_written))]
     #[inline(always)] // No loops: `stream` of 16 and 256 bytes 7.5 and 16.3 ns, not 8.2 and 18.4.
     fn put_short(&mut self, from: usize, items: &[T])
@@ -90,8 +91,8 @@ impl<T> Slots<T> {
     }
 
     /// Puts copies of the items from the index `at` on in blocks of `N`, as long as there are so
-    /// many. Returns the index of the first that is left. Blocks that are too large are not tried,
-    /// unless `N` is 1.
+    /// many. Returns the index of the first item that is left. Blocks that are too large are not
+    /// tried, unless `N` is 1.
     #[inline(always)] // So `put_short` makes no call, and `put_long` one loop of each size.
     fn put_blocks<const N: usize>(&mut self, from: usize, items: &[T], at: usize) -> usize
     where
@@ -116,8 +117,8 @@ impl<T> Slots<T> {
         put
     }
 
-    /// Puts a copy of the `N` items from the index `at` on, if there are so many. Returns the index
-    /// of the first that is left.
+    /// Puts copies of the `N` items from the index `at` on, if there are so many. Returns the index
+    /// of the first item that is left.
     #[inline(always)] // So a known number of items chooses blocks when the caller is compiled.
     fn put_block<const N: usize>(&mut self, from: usize, items: &[T], at: usize) -> usize
     where
@@ -146,7 +147,7 @@ impl<T> Slots<T> {
 
     /// Puts copies of one value into the `len` empty places from `from` on.
     ///
-    /// It takes the region by value, so that its memory need not be looked up anew for each place.
+    /// It takes the region by value, so that its memory need not be looked up again for each place.
     pub(crate) fn put_same(mut self, from: usize, len: usize, value: T) -> Slots<T>
     where
         T: Copy,

@@ -1,4 +1,4 @@
-//! Values that are lent for writing: a run of them in a slice, or two runs in two slices.
+//! Values lent for writing: one run in a slice, or two runs in two slices.
 //!
 //! A contract sees a [`Loan`] as its two slices and its name. By that name a clause says what the
 //! lender is once the loan has ended, so that a caller who only writes through the loan knows it.
@@ -30,7 +30,7 @@ unsafe impl<'a, T: Send> Send for LoanName<'a, T> {}
 
 unsafe impl<'a, T: Sync> Sync for LoanName<'a, T> {}
 
-/// Values for writing in two slices, one behind the other, under one name.
+/// Values lent for writing in two slices, one behind the other, under one name.
 #[derive(Drop)]
 pub struct Loan<'a, T> {
     pub(super) first: &'a mut [T],
@@ -78,8 +78,8 @@ impl<'a, T> Loan<'a, T> {
 }
 
 impl<T> Slots<T> {
-    /// Lends the values of two runs, in order, for writing. Requires filled places, and runs with
-    /// none in common.
+    /// Returns the values of two runs in two mutable slices. Requires filled places, and runs with
+    /// no place in common.
     ///
     /// Whatever is written, no place is filled or emptied, and no place outside the runs changes.
     #[inline]
@@ -100,8 +100,8 @@ impl<T> Slots<T> {
         self.lend_two(a, a_len, b, b_len).into_slices()
     }
 
-    /// Lends the values of a run of `len` places, for writing: it starts at the place `start`, and
-    /// may wrap.
+    /// Lends the values of a run of `len` places for writing. The run starts at the place `start`,
+    /// and may wrap.
     ///
     /// Whatever is written, no place is filled or emptied, and no place outside the run changes.
     pub(crate) fn lend_round(&mut self, start: usize, len: usize) -> Loan<'_, T>

@@ -1,9 +1,9 @@
-//! Runs of values that move to other places, or change places.
+//! Runs of values that move to other places, or are exchanged.
 //!
 //! Between two regions a run moves at once. Within a region it is cut into parts that don't pass
-//! the region's end. A part moves at once, too, or, if its new places meet its old ones, in blocks
-//! by `move_block`, in an order that overwrites no value that has still to move. While values move
-//! or are exchanged one by one, the region is a local: its pointer is known to stay.
+//! the region's end. A part moves at once too or, if its new places meet its old ones, in blocks by
+//! `move_block`, in an order that overwrites no value that has yet to move. While values are moved
+//! or exchanged one by one, the region is a local variable: its pointer is known to stay.
 ghost use Rattle.std.specs.Prelude.{◌≡◌, ◌+◌, ◌-◌, ◌*◌, ◌<◌, ◌≤◌, length, take, drop, if◌then◌else◌, ◌==◌};
 ghost use Rattle.std.specs.List.{splice};
 ghost use Rattle.arraydeque_ring.specs.Moved.{MeetAtOneEndAtMost, IsFilledRound, IsFreeRound, CanMoveRun, CanMove, is_block, run_moved};
@@ -15,8 +15,8 @@ use super::{Slots, StepKind, is_block};
 use crate::wrap::wrap_add;
 
 impl<T> Slots<T> {
-    /// Hands the values in the `len` places from `from` on to another region, into its empty places
-    /// from `to` on, all at once, in time that grows with `len` alone.
+    /// Hands the values in the `len` places from `from` on over to the empty places of another
+    /// region from `to` on, all at once. The time depends on `len` alone.
     pub(crate) fn hand_over(&mut self, from: usize, other: &mut Slots<T>, to: usize, len: usize)
         requires filled { IsFilledRun self.old.places from len }
         requires empty { IsEmptyRun other.old.places to len }
@@ -37,7 +37,7 @@ impl<T> Slots<T> {
     /// Exchanges the values in the `len` places from `a` on with those in the `len` places from `b`
     /// on, which come later: the first with the first, and so on.
     ///
-    /// It takes the region by value, so that its memory need not be looked up anew for each pair.
+    /// It takes the region by value, so that its memory need not be looked up again for each pair.
     pub(crate) fn exchange_runs(mut self, a: usize, b: usize, len: usize) -> Slots<T>
         requires apart { a + len ≤ b }
         requires a_filled { IsFilledRun self.places a len }
@@ -67,9 +67,8 @@ impl<T> Slots<T> {
     }
 
     /// Moves the values in the `len` places from `src` on to those from `dst` on, all at once.
-    /// Requires filled places from `src` on, and empty ones from `dst` on that aren't among them.
-    /// Either run may wrap. The two may share places, as long as one doesn't meet the other at both
-    /// its ends.
+    /// Requires filled places from `src` on, and that each from `dst` on is empty or among them.
+    /// Either run may wrap. The two may share places at one end, but not at both.
     pub fn wrap_move(&mut self, dst: usize, src: usize, len: usize)
         requires dst_in_region { dst < length self.old.places }
         requires src_in_region { src < length self.old.places }
@@ -95,10 +94,10 @@ impl<T> Slots<T> {
         self.count(StepKind::Move, len);
     }
 
-    /// Moves the values in the `len` places from `src` on up by one place, round the region's end:
+    /// Moves the values in the `len` places from `src` on by one place up, round the region's end:
     /// first those past the end, then the one in the last place, then those before it.
     ///
-    /// Each part moves value by value, of which the compiler makes one `memmove`.
+    /// Each part moves value by value, which the compiler makes one `memmove`.
     pub(crate) fn slide_up(&mut self, src: usize, len: usize)
         requires in_region { src < length self.old.places }
         requires room { len < length self.old.places }
@@ -123,7 +122,7 @@ impl<T> Slots<T> {
         self.count(StepKind::Move, len);
     }
 
-    /// Moves the values in the `len` places behind `dst` down by one place, round the region's end.
+    /// Moves the values in the `len` places behind `dst` by one place down, round the region's end.
     pub(crate) fn slide_down(&mut self, dst: usize, len: usize)
         requires in_region { dst < length self.old.places }
         requires room { len < length self.old.places }
@@ -228,7 +227,7 @@ impl<T> Slots<T> {
     }
 
     /// Moves the last values of a run in blocks of `N`, as long as there are so many. Returns how
-    /// many are left. Blocks that are too large are not tried, unless `N` is 1.
+    /// many values are left. Blocks that are too large are not tried, unless `N` is 1.
     #[inline(always)] // So a slide's move of the value in the last place is no loop.
     fn move_last<const N: usize>(&mut self, dst: usize, src: usize, len: usize) -> usize
         requires some { 0 < N }
@@ -255,7 +254,7 @@ impl<T> Slots<T> {
     }
 
     /// Moves the values of a run from the index `from` on in blocks of `N`, as long as there are so
-    /// many. Returns the index of the first that is left.
+    /// many. Returns the index of the first value that is left.
     #[inline(always)] // So a slide's move of the value in the last place is no loop.
     fn move_first<const N: usize>(
         &mut self,

@@ -1,7 +1,7 @@
 //! The raw memory of a region: the one file with pointers.
 //!
-//! A leaf is a function of this file: it touches the memory, and its callers know its contract
-//! alone. A leaf counts each read and write of a place, and each lend. No other function does.
+//! A leaf is a function of this file: it touches the memory, and its callers know only its
+//! contract. A leaf counts each read and write of a place, and each lend. No other function does.
 ghost use Rattle.std.specs.Prelude.{◌≡◌, ◌+◌, ◌*◌, ◌^◌, ◌<◌, ◌≤◌, length, take, drop, slice_set, Some, None, IfOk, true};
 ghost use Rattle.std.specs.Borrow.{sem};
 ghost use Rattle.std.specs.List.{splice};
@@ -22,7 +22,7 @@ use std::mem::{align_of, size_of};
 use std::{ptr, slice};
 
 impl<T> Slots<T> {
-    /// Writes into an empty place.
+    /// Writes a value into an empty place.
     pub(super) fn write(&mut self, place: usize, value: T)
         requires { IsEmpty self.old.places place }
         ensures { self.new ≡ record {
@@ -33,7 +33,7 @@ impl<T> Slots<T> {
         unsafe { (self.ptr as *mut T).add(place).write(value) }
     }
 
-    /// Reads a place, which is empty from then on.
+    /// Reads the value of a place, which is empty afterwards.
     pub(super) fn read(&mut self, place: usize) -> T
         requires { IsFilled self.old.places place }
         ensures value { held_at self.old.places place ≡ Some result }
@@ -108,8 +108,7 @@ impl<T> Slots<T> {
         unsafe { ptr::copy_nonoverlapping(self.ptr.add(src), (self.ptr as *mut T).add(dst), len) }
     }
 
-    /// Lends the value in a place for writing. Requires a filled place. What is written through it
-    /// changes that place and no other.
+    /// Returns a mutable reference to the value in a place. Requires a filled place.
     #[inline]
     pub fn get_mut(&mut self, place: usize) -> &mut T
         requires { IsFilled self.old.places place }
@@ -129,7 +128,7 @@ impl<T> Slots<T> {
         unsafe { slice::from_raw_parts(self.ptr.add(from), len) }
     }
 
-    /// Lends the values in the `len` places from the place `from` on, in order, for writing.
+    /// Returns the values in the `len` places from the place `from` on, in order, for writing.
     /// Requires filled places. An empty run may start at the capacity.
     ///
     /// Whatever is written, no place is filled or emptied, and no place outside the run changes.
@@ -142,7 +141,7 @@ impl<T> Slots<T> {
         unsafe { slice::from_raw_parts_mut((self.ptr as *mut T).add(from), len) }
     }
 
-    /// Lends two runs of places for writing, which have no place in common.
+    /// Lends the values of two runs, which have no place in common, for writing.
     pub(super) fn lend_two(&mut self, a: usize, a_len: usize, b: usize, b_len: usize) -> Loan<'_, T>
         requires a_filled { IsFilledRun self.old.places a a_len }
         requires b_filled { IsFilledRun self.old.places b b_len }
@@ -160,7 +159,7 @@ impl<T> Slots<T> {
         }
     }
 
-    /// A region of no bytes, over no memory.
+    /// Returns a region of no bytes, over no memory.
     pub(super) fn without_memory(alloc: Global, capacity: usize) -> Slots<T>
         requires { capacity * type_size T.row ≡ 0 }
         ensures { result ≡ empty_region capacity }
@@ -173,7 +172,8 @@ impl<T> Slots<T> {
         }
     }
 
-    /// A region over memory of `alloc`, all places empty. `heap` is the same, lent to be called.
+    /// Returns a region of empty places over memory of `alloc`. `heap` is the same allocator, lent
+    /// to be called.
     pub(super) fn with_memory(
         heap: &Global,
         alloc: Global,
@@ -210,7 +210,7 @@ impl<T> Slots<T> {
     }
 }
 
-/// The bytes that an item takes.
+/// Returns how many bytes an item takes.
 pub(super) fn size_of_item<T>() -> usize
     ensures { result ≡ capped (type_size T.row) }
 {
