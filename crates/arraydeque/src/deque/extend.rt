@@ -57,8 +57,8 @@ impl<T, const CAP: usize> ArrayDeque<T, CAP, Saturating> {
 }
 
 impl<T, const CAP: usize, B: Behavior> ArrayDeque<T, CAP, B> {
-    /// Puts what the iterator gives behind the last item while there is room. Returns whether the
-    /// iterator ended before the deque was full.
+    /// Adds the items of an iterator at the back, in order, while there is room. Returns whether
+    /// the iterator ended before the deque was full.
     #[inline(always)] // By a call, a vector's items took three times as long.
     fn fill_back<I: Iterator<Item = T>>(&mut self, elements: &mut I) -> bool
         requires { I.can_next elements.old }
@@ -71,8 +71,8 @@ impl<T, const CAP: usize, B: Behavior> ArrayDeque<T, CAP, B> {
         self.ring.fill_back(elements)
     }
 
-    /// Puts what the iterator gives before the first item, one by one, while there is room. Returns
-    /// whether the iterator ended before the deque was full.
+    /// Adds the items of an iterator at the front, one by one, while there is room. Returns whether
+    /// the iterator ended before the deque was full.
     #[inline(always)] // By a call, a vector's items took three times as long.
     fn fill_front<I: Iterator<Item = T>>(&mut self, elements: &mut I) -> bool
         requires { I.can_next elements.old }

@@ -18,7 +18,7 @@ use std::marker::Model;
 /// assert!(rt; (drained.len(), deque.len()) == (1, 0));
 /// ```
 ///
-/// A drain of long-lived items goes where one of short-lived items is wanted:
+/// A drain of long-lived items may be used where one of short-lived items is wanted:
 ///
 /// ```
 /// fn ends_with<'a>(mut drained: arraydeque::Drain<&'a str>, word: &'a str) -> bool {

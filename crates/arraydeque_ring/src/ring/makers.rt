@@ -105,8 +105,8 @@ impl<T> Ring<T> {
             start,
             len,
         } = self;
-        // By `take_before_end` and `pop_front`, which say no places, 79 lines of proof would go, and
-        // 1,024 words in one piece would take a tenth longer.
+        // By `take_before_end` and `pop_front` 79 lines of proof would go, and 1,024 words in one
+        // piece would take a tenth longer.
         let first = len.min(slots.capacity() - start);
         for k in 0..first {
             v.push_reserved(slots.take(start + k));
