@@ -119,8 +119,8 @@ impl<T: Ord, const CAP: usize, B: Behavior> Ord for ArrayDeque<T, CAP, B> {
 
     ghost matches_eq = { λ v w. lists_ties T.cmp T.matches_eq v.items w.items };
 
-    /// Compares the first two items at one index that don't compare as equal. If there are none,
-    /// the shorter deque is less.
+    /// Compares the two items at the first index at which they don't compare as equal. If there is
+    /// no such index, the shorter deque is less.
     ///
     /// ```
     /// let deque = ArrayDeque::<i64, 3, Saturating>::from_array(alloc, [1, 2])?;
