@@ -84,7 +84,8 @@ impl<T, const CAP: usize, B: Behavior> ArrayDeque<T, CAP, B> {
         ensures* writes_back { sem 𝓛 (lends_items T.row CAP.row B.row self.entry result.name) }
         ensures value { remaining result ≡ self.old.items }
     {
-        IterMut::from_loan(self.lend())
+        let len = self.len();
+        IterMut::from_loan(self.lend_part(0, len))
     }
 
     /// Returns an iterator over mutable references to the items of a range, from both ends.
@@ -214,8 +215,8 @@ impl<T, const CAP: usize, B: Behavior> ArrayDeque<T, CAP, B> {
         ring.as_mut_slice()
     }
 
-    /// The items for writing, as one loan of two slices: its clause says what
-    /// [`ArrayDeque::iter_mut`] says and what [`ArrayDeque::as_mut_slices`] says.
+    /// The items for writing, as one loan of two slices: its clause says what the loan's name
+    /// follows too, which [`ArrayDeque::as_mut_slices`] needs.
     #[inline]
     fn lend(&mut self) -> Loan<'_, T>
         ensures* writes_back { sem 𝓛 (lends_loan T.row CAP.row B.row self.entry result) }
