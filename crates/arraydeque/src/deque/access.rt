@@ -38,6 +38,7 @@ impl<T, const CAP: usize, B: Behavior> ArrayDeque<T, CAP, B> {
     /// deque.extend_back([1, 2]);
     /// assert!(rt; deque.front() == Some(&1));
     /// ```
+    #[tactic(auto, using(crate::proofs::NoEnd::no_first))]
     #[inline]
     pub fn front(&self) -> Option<&T>
         ensures value { option_copied result ≡ slice_get self.now.items 0 }
@@ -55,6 +56,7 @@ impl<T, const CAP: usize, B: Behavior> ArrayDeque<T, CAP, B> {
     /// deque.extend_back([1, 2]);
     /// assert!(rt; deque.back() == Some(&2));
     /// ```
+    #[tactic(auto, using(crate::proofs::NoEnd::no_last))]
     #[inline]
     pub fn back(&self) -> Option<&T>
         ensures value { option_copied result ≡ last_item self.now.items }
@@ -91,6 +93,7 @@ impl<T, const CAP: usize, B: Behavior> ArrayDeque<T, CAP, B> {
     /// *deque.front_mut().ok_or("no item")? = 7;
     /// assert!(rt; deque.into_vec()?.as_slice() == [7, 2, 3].as_slice());
     /// ```
+    #[tactic(auto, using(crate::proofs::NoEnd::no_first))]
     #[inline]
     pub fn front_mut(&mut self) -> Option<&mut T>
         ensures* writes_back { sem 𝓛 (lends_item T.row CAP.row B.row self.entry 0 result) }
@@ -111,6 +114,7 @@ impl<T, const CAP: usize, B: Behavior> ArrayDeque<T, CAP, B> {
     /// *deque.back_mut().ok_or("no item")? = 7;
     /// assert!(rt; deque.into_vec()?.as_slice() == [1, 2, 7].as_slice());
     /// ```
+    #[tactic(auto, using(crate::proofs::NoEnd::no_last))]
     #[inline]
     pub fn back_mut(&mut self) -> Option<&mut T>
         ensures* writes_back { let last = length self.old.items - 1 in
