@@ -228,6 +228,7 @@ impl<T, const CAP: usize, B: Behavior> ArrayDeque<T, CAP, B> {
     /// assert!(rt; deque.pop_back() == Some(1));
     /// assert!(rt; deque.pop_back() == None);
     /// ```
+    #[tactic(auto, using(arraydeque_ring::proofs::LastPopped::last_and_rest))]
     #[inline]
     pub fn pop_back(&mut self) -> Option<T>
         // What is returned, and what is left.
