@@ -13,10 +13,7 @@ use Rattle.std.{
     Ordering.{is_eq, ordering_then, partial_ordering_then},
   },
 }
-use Rattle.arraydeque.specs.{
-  Compared.{AreCutAlike, AreSectionsOf, AreBehindEqual},
-  declared.deque.compare.Sections.Sections,
-}
+use Rattle.arraydeque.specs.Compared.{AreCutAlike, AreBehindEqual}
 
 then_assoc : (p q r : Ordering) → ordering_then (ordering_then p q) r ≡ ordering_then p (ordering_then q r)
 then_assoc Less q r = refl
@@ -58,11 +55,11 @@ module _ {X : Type 0} where
         p.more x y (xs ++ xs') (ys ++ ys') ∙ ap (join (pair x y)) (both xs xs' ys ys' next)
         ∙ sym (p.assoc (pair x y) (lists xs ys) _) ∙ ap (λ o. join o (lists xs' ys')) (sym (p.more x y xs ys))
 
-    -- by the pairs of sections
-    pub sections : {xs ys : List X} {cut : Sections X} → AreSectionsOf xs ys cut
-        → lists xs ys ≡ join (lists cut.front.0.now cut.front.1.now)
-        (join (lists cut.middle.0.now cut.middle.1.now) (lists cut.back.0.now cut.back.1.now))
-    sections are = rw (are.first, are.second, both _ _ _ _ (even _ _ _ _ are.front), both _ _ _ _ are.middle)
+    -- by pairs of three parts
+    in_three : (a b c d e f : List X) → length a ≡ length b → AreCutAlike c e d f
+        → lists (a ++ (c ++ e)) (b ++ (d ++ f)) ≡ join (lists a b) (join (lists c d) (lists e f))
+    in_three a b c d e f long cut =
+        rw (both a (c ++ e) b (d ++ f) (even a (c ++ e) b (d ++ f) long), both c e d f cut)
 
     -- behind lists that are as long, and that have no say
     behind : {xs ys us vs xs' ys' : List X} → xs ≡ us ++ xs' → ys ≡ vs ++ ys' → length us ≡ length vs
@@ -97,15 +94,30 @@ module _ {X : Type 0} where
     longer = λ x xs zs o. refl;
   }
 
+  -- of lists in three parts each
+  module _ (a b c d e f : List X) (long : length a ≡ length b) (cut : AreCutAlike c e d f) where
+    pub pointwise_in_three : (E : X → X → Bool) → pointwise E (a ++ (c ++ e)) (b ++ (d ++ f))
+        ≡ (pointwise E a b && (pointwise E c d && pointwise E e f))
+    pointwise_in_three E = in_three (pointwise_pairs E) a b c d e f long cut
+
+    pub order_in_three : (R : X → X → Ordering) → slice_cmp R (a ++ (c ++ e)) (b ++ (d ++ f))
+        ≡ ordering_then (slice_cmp R a b) (ordering_then (slice_cmp R c d) (slice_cmp R e f))
+    order_in_three R = in_three (order_pairs R) a b c d e f long cut
+
+    pub partial_in_three : (C : X → X → Option Ordering) → slice_partial_cmp C (a ++ (c ++ e)) (b ++ (d ++ f))
+        ≡ partial_ordering_then (slice_partial_cmp C a b)
+        (partial_ordering_then (slice_partial_cmp C c d) (slice_partial_cmp C e f))
+    partial_in_three C = in_three (partial_pairs C) a b c d e f long cut
+
   -- two parts each, of which the first are as long
   pub pointwise-both : (E : X → X → Bool) (xs xs' ys ys' : List X) → length xs ≡ length ys
       → pointwise E (xs ++ xs') (ys ++ ys') ≡ (pointwise E xs ys && pointwise E xs' ys')
   pointwise-both E xs xs' ys ys' long = both (pointwise_pairs E) xs xs' ys ys' (even xs xs' ys ys' long)
 
   -- one pair more
-  pub pointwise-push : (E : X → X → Bool) (xs ys : List X) (x y : X) → length xs ≡ length ys
+  pub pointwise_push : (E : X → X → Bool) (xs ys : List X) (x y : X) → length xs ≡ length ys
       → pointwise E (xs ++ x ∷ []) (ys ++ y ∷ []) ≡ (pointwise E xs ys && E x y)
-  pointwise-push E xs ys x y long =
+  pointwise_push E xs ys x y long =
       pointwise-both E xs (x ∷ []) ys (y ∷ []) long ∙ ap (λ b. pointwise E xs ys && b) (and-true (E x y))
 
   -- the parts that a split at n makes
@@ -140,7 +152,7 @@ module _ {X : Type 0} where
       slice_cmp_behind R ties = behind (order_pairs R) b.first b.second long
           ((Equal-is _).0 (sym (lists_ties R ties b.xs-front b.ys-front) ∙ b.equal))
 
-      pub slice_partial_cmp_behind : (C : X → X → Option Ordering) → IsPartialOrder E C
-          → slice_partial_cmp C xs' ys' ≡ slice_partial_cmp C xs ys
-      slice_partial_cmp_behind C laws = behind (partial_pairs C) b.first b.second long
-          (((lists_po laws).matches_eq b.xs-front b.ys-front).0 b.equal)
+    pub slice_partial_cmp_behind : (C : X → X → Option Ordering) → IsPartialOrder E C → {xs ys xs' ys' : List X}
+        → AreBehindEqual E xs ys xs' ys' → slice_partial_cmp C xs' ys' ≡ slice_partial_cmp C xs ys
+    slice_partial_cmp_behind C laws b = behind (partial_pairs C) b.first b.second (long b)
+        (((lists_po laws).matches_eq b.xs-front b.ys-front).0 b.equal)

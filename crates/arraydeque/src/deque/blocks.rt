@@ -54,6 +54,7 @@ fn is_any_equal<T: PartialEq>(items: &[T], x: &T) -> bool
 }
 
 /// Returns whether two slices are equal.
+#[tactic(auto, using(crate::proofs::Sections::pointwise_behind))]
 #[inline(always)] // By a hint, `equal` took 2529 instructions, not 2460.
 pub(super) fn are_equal<T: PartialEq>(left: &[T], right: &[T]) -> bool
     ensures { result ≡ pointwise T.eq left.now right.now }
@@ -66,6 +67,7 @@ pub(super) fn are_equal<T: PartialEq>(left: &[T], right: &[T]) -> bool
 }
 
 /// Returns how two slices compare, if they are in some order.
+#[tactic(auto, using(crate::proofs::Sections::slice_partial_cmp_behind))]
 pub(super) fn partial_order<T: PartialOrd>(left: &[T], right: &[T]) -> Option<Ordering>
     ensures { result ≡ slice_partial_cmp T.partial_cmp left.now right.now }
 {
@@ -119,6 +121,7 @@ fn skip_equal_blocks<'a, T: PartialEq>(
 
 /// Returns whether all pairs of two slices of one length are equal. It looks at every pair, so that
 /// the compiler can compare several together.
+#[tactic(auto, using(std::proofs::lemmas::Grind::common_steps, crate::proofs::Sections::pointwise_push))]
 #[inline(always)] // So a block's length is known, by which its loop compares several pairs.
 fn are_all_equal<T: PartialEq>(left: &[T], right: &[T]) -> bool
     requires { length left.now ≡ length right.now }

@@ -63,6 +63,7 @@ impl<T: PartialEq, const CAP: usize, B: Behavior> PartialEq for ArrayDeque<T, CA
     /// // Both are the list 1, 2, though not in the same places.
     /// assert!(rt; deque == other);
     /// ```
+    #[tactic(auto, using(crate::proofs::Sections::pointwise_in_three))]
     fn eq(&self, other: &Self) -> bool {
         if self.len() != other.len() {
             return false;
@@ -96,6 +97,7 @@ impl<T: PartialOrd, const CAP: usize, B: Behavior> PartialOrd for ArrayDeque<T, 
     /// assert!(rt; deque < other);
     /// assert!(rt; deque.partial_cmp(&deque) == Some(Ordering::Equal));
     /// ```
+    #[tactic(auto, using(crate::proofs::Sections::partial_in_three))]
     fn partial_cmp(&self, other: &Self) -> Option<Ordering> {
         let cut = self.sections(other);
         let found = partial_order(cut.front.0, cut.front.1);
@@ -127,6 +129,7 @@ impl<T: Ord, const CAP: usize, B: Behavior> Ord for ArrayDeque<T, CAP, B> {
     /// let other = ArrayDeque::<i64, 3, Saturating>::from_array(alloc, [1, 2, 0])?;
     /// assert!(rt; deque.cmp(&other) == Ordering::Less);
     /// ```
+    #[tactic(auto, using(crate::proofs::Sections::order_in_three))]
     fn cmp(&self, other: &Self) -> Ordering {
         let cut = self.sections(other);
         let found = order(cut.front.0, cut.front.1);
