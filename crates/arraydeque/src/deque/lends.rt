@@ -44,6 +44,7 @@ impl<T, const CAP: usize, B: Behavior> ArrayDeque<T, CAP, B> {
     /// let last: Vec<i64> = deque.range(1..).copied().collect(alloc)?;
     /// assert!(rt; last.as_slice() == [3, 4].as_slice());
     /// ```
+    #[tactic(auto, using(arraydeque_ring::proofs::InTwo::range_in_two))]
     pub fn range<R: RangeArgument<usize>>(&self, range: R) -> Iter<'_, T>
     where
         R: Drop,
