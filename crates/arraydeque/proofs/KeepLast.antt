@@ -1,7 +1,7 @@
 -- The last items of a list.
 use Rattle.std.proofs.{
   Common.{◌≡◌, ℕ, ◌+◌, ◌-◌, ◌≤◌, List, [], ◌∷◌, ◌<◌, ◌++◌, length, take, drop, map, min, inl},
-  Common.{inr, arith},
+  Common.{inr, ap, ◌∙◌, arith},
   lemmas.{
     Bool.cases_lt,
     List.{length-append, length-drop, length-map, drop-append-le, drop-drop, drop-map, drop_all},
@@ -9,6 +9,7 @@ use Rattle.std.proofs.{
   },
   Math.Seq.drop-append-add,
 }
+use Rattle.arraydeque_ring.{proofs.places.Appended.up_by-both, specs.Ring.up_by}
 use Rattle.arraydeque.specs.Deque.{keep_last}
 
 -- all of a list that is short enough
@@ -49,9 +50,9 @@ drop-append k xs ys = elim (cases_lt (length xs) k) [
 
 -- the last n of two lists: as many of the second as may be, and of the first as many as there is
 -- room for beside them
-pub keep_last-joined : {X : Type 0} (n : ℕ) (xs ys : List X) (len : ℕ) → len ≡ min (length ys) n →
+pub keep_last_joined : {X : Type 0} (n : ℕ) (xs ys : List X) (len : ℕ) → len ≡ min (length ys) n →
     keep_last (n - len) xs ++ take len (keep_last len ys) ≡ keep_last n (xs ++ ys)
-keep_last-joined n xs ys len many =
+keep_last_joined n xs ys len many =
     let total = length (xs ++ ys) - n in
     grind (
       arith,
@@ -61,3 +62,8 @@ keep_last-joined n xs ys len many =
       drop-append total xs ys,
       take_all len (keep_last len ys),
     )
+
+-- to go up past all but k of some items and then past these is to go up past all
+pub up_by_all : (all k t n : ℕ) → k ≤ all → up_by k (up_by (all - k) t n) n ≡ up_by all t n
+up_by_all all k t n within =
+    let same : (all - k) + k ≡ all = omega arith in up_by-both (all - k) k t n ∙ ap (λ m. up_by m t n) same
