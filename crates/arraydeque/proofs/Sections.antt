@@ -28,7 +28,7 @@ partial_then_assoc (Some Equal) q r = refl
 partial_then_assoc (Some Greater) q r = refl
 
 -- a comparison of lists by their pairs, whose answers are joined; where one list ends first, nothing behind has a say
-pub record Pairwise {X O : Type 0} (join : O → O → O) (pair : X → X → O) (lists : List X → List X → O) : Type 0 where
+record Pairwise {X O : Type 0} (join : O → O → O) (pair : X → X → O) (lists : List X → List X → O) : Type 0 where
   assoc : (p q r : O) → join (join p q) r ≡ join p (join q r)
   none : (o : O) → join (lists [] []) o ≡ o
   more : (x y : X) (xs ys : List X) → lists (x ∷ xs) (y ∷ ys) ≡ join (pair x y) (lists xs ys)
@@ -67,7 +67,7 @@ module _ {X : Type 0} where
     behind {us = us} {vs} {xs'} {ys'} first second long equal =
         rw (first, second, both us xs' vs ys' (even us xs' vs ys' long), equal) (sym (p.none _))
 
-  pub pointwise_pairs : (E : X → X → Bool) → Pairwise (λ a b. a && b) E (pointwise E)
+  pointwise_pairs : (E : X → X → Bool) → Pairwise (λ a b. a && b) E (pointwise E)
   pointwise_pairs E = record {
     assoc = and_assoc;
     none = λ o. refl;
@@ -76,7 +76,7 @@ module _ {X : Type 0} where
     longer = λ x xs zs o. refl;
   }
 
-  pub order_pairs : (R : X → X → Ordering) → Pairwise ordering_then R (slice_cmp R)
+  order_pairs : (R : X → X → Ordering) → Pairwise ordering_then R (slice_cmp R)
   order_pairs R = record {
     assoc = then_assoc;
     none = λ o. refl;
@@ -85,7 +85,7 @@ module _ {X : Type 0} where
     longer = λ x xs zs o. refl;
   }
 
-  pub partial_pairs : (C : X → X → Option Ordering) → Pairwise partial_ordering_then C (slice_partial_cmp C)
+  partial_pairs : (C : X → X → Option Ordering) → Pairwise partial_ordering_then C (slice_partial_cmp C)
   partial_pairs C = record {
     assoc = partial_then_assoc;
     none = λ o. refl;
@@ -152,6 +152,7 @@ module _ {X : Type 0} where
       slice_cmp_behind R ties = behind (order_pairs R) b.first b.second long
           ((Equal-is _).0 (sym (lists_ties R ties b.xs-front b.ys-front) ∙ b.equal))
 
+    -- and in a partial order; its laws stand first, so that the check finds this by its name
     pub slice_partial_cmp_behind : (C : X → X → Option Ordering) → IsPartialOrder E C → {xs ys xs' ys' : List X}
         → AreBehindEqual E xs ys xs' ys' → slice_partial_cmp C xs' ys' ≡ slice_partial_cmp C xs ys
     slice_partial_cmp_behind C laws b = behind (partial_pairs C) b.first b.second (long b)
