@@ -67,3 +67,6 @@ keep_last_joined n xs ys len many =
 pub up_by_all : (all k t n : ℕ) → k ≤ all → up_by k (up_by (all - k) t n) n ≡ up_by all t n
 up_by_all all k t n within =
     let same : (all - k) + k ≡ all = omega arith in up_by-both (all - k) k t n ∙ ap (λ m. up_by m t n) same
+
+-- what the last items of two lists are, and where the ring starts that they are left in
+pub ruleset append_rules = (keep_last_joined, up_by_all)

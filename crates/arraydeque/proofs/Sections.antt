@@ -3,7 +3,7 @@ use Rattle.std.{
   proofs.{
     Common.{◌≡◌, ℕ, ◌&&◌, Bool, List, [], ◌∷◌, ◌++◌, length, take, drop, Option, Some, None, refl},
     Common.{sym, ap, ap₂, ◌∙◌, arith, true},
-    lemmas.List.{append_assoc, take-append-drop},
+    lemmas.{Grind.common_steps, List.{append_assoc, take-append-drop}},
     Math.Bool.{and_assoc, and-true},
   },
   specs.{
@@ -157,3 +157,6 @@ module _ {X : Type 0} where
         → AreBehindEqual E xs ys xs' ys' → slice_partial_cmp C xs' ys' ≡ slice_partial_cmp C xs ys
     slice_partial_cmp_behind C laws b = behind (partial_pairs C) b.first b.second (long b)
         (((lists_po laws).matches_eq b.xs-front b.ys-front).0 b.equal)
+
+-- for a loop over pairs
+pub ruleset pair_rules = (common_steps, pointwise_push)

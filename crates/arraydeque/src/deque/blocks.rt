@@ -121,7 +121,7 @@ fn skip_equal_blocks<'a, T: PartialEq>(
 
 /// Returns whether all pairs of two slices of one length are equal. It looks at every pair, so that
 /// the compiler can compare several together.
-#[tactic(auto, using(std::proofs::lemmas::Grind::common_steps, crate::proofs::Sections::pointwise_push))]
+#[tactic(auto, using(crate::proofs::Sections::pair_rules))]
 #[inline(always)] // So a block's length is known, by which its loop compares several pairs.
 fn are_all_equal<T: PartialEq>(left: &[T], right: &[T]) -> bool
     requires { length left.now ≡ length right.now }

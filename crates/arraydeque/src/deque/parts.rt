@@ -177,7 +177,7 @@ impl<T: Drop, const CAP: usize> ArrayDeque<T, CAP, Wrapping> {
     /// assert!(rt; deque.into_vec()?.as_slice() == [2, 3, 4].as_slice());
     /// assert!(rt; other.is_empty());
     /// ```
-    #[tactic(auto, using(crate::proofs::KeepLast::keep_last_joined, crate::proofs::KeepLast::up_by_all))]
+    #[tactic(auto, using(crate::proofs::KeepLast::append_rules))]
     pub fn append<const N: usize, P: Behavior>(&mut self, other: &mut ArrayDeque<T, N, P>)
         // What is returned, and what is left.
         ensures items { self.new.items ≡ keep_last CAP (self.old.items ++ other.old.items) }
