@@ -188,6 +188,7 @@ impl<T> Ring<T> {
 
     /// As [`Ring::lend_part`], of a part that starts at a known place: that of the item at the
     /// index `from`, or of the next one to come.
+    #[inline]
     fn lend_at(&mut self, place: usize, from: usize, len: usize) -> Loan<'_, T>
         requires in_bounds { from + len ≤ length self.old.items }
         requires in_region { place ≤ self.old.capacity }
