@@ -280,5 +280,5 @@ whole_part R f xs ys from to at up_to part =
     let n = length xs in
     let whole : slice_range xs from to ≡ xs = rw (at, up_to) (take_all (n - 0) xs (omega arith)) in
     let left : ys ≡ part.0 = part.2
-        ∙ (rw (at, up_to) (ap (λ l. part.0 ++ l) (drop-length xs) ∙ append-nil part.0)) in
+    ∙ (rw (at, up_to) (ap (λ l. part.0 ++ l) (drop-length xs) ∙ append-nil part.0)) in
     (part.1.0, rw left (rw whole at part.1.1))
