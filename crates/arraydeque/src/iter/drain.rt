@@ -42,9 +42,10 @@ impl<T> Model for Drain<T> {
 }
 
 impl<T> Drain<T> {
-    /// Returns the drain of the items of a ring.
+    /// Returns the drain of the items of a ring, which has no spare place.
     #[inline]
     pub(crate) fn from_ring(ring: Ring<T>) -> Drain<T>
+        requires exact { ring.capacity ≡ length ring.items }
         ensures { result ≡ ring.items }
     {
         Drain {
