@@ -79,9 +79,9 @@ impl<'a> Line<'a> {
     }
 
     /// The call of this name, whose operands are the words that are left.
-    fn call(&mut self, name: &str, alloc: Global) -> Result<Call<i64>, Fault>
-        ensures { Tells self.old.number (λ call.
-            AllZip Spells (name.now ∷ words_of self.old.rest.now) (tokens_of call)) result }
+    fn call(self, name: &str, alloc: Global) -> Result<Call<i64>, Fault>
+        ensures { Tells self.entry.number (λ call.
+            AllZip Spells (name.now ∷ words_of self.entry.rest.now) (tokens_of call)) result }
     {
         match name {
             "push_front" => Ok(Call::PushFront(self.value()?)),
@@ -122,9 +122,9 @@ impl<'a> Line<'a> {
     }
 
     /// The call, if no word is left.
-    fn end(&mut self, call: Call<i64>) -> Result<Call<i64>, Fault>
-        ensures { Tells self.old.number
-            (λ made. (made ≡ call) × (words_of self.old.rest.now ≡ [])) result }
+    fn end(mut self, call: Call<i64>) -> Result<Call<i64>, Fault>
+        ensures { Tells self.entry.number
+            (λ made. (made ≡ call) × (words_of self.entry.rest.now ≡ [])) result }
     {
         match self.word() {
             None => Ok(call),
@@ -133,9 +133,9 @@ impl<'a> Line<'a> {
     }
 
     /// The value that is the one word left.
-    fn value(&mut self) -> Result<i64, Fault>
-        ensures { Tells self.old.number
-            (λ x. AllZip Spells (words_of self.old.rest.now) (value x ∷ [])) result }
+    fn value(mut self) -> Result<i64, Fault>
+        ensures { Tells self.entry.number
+            (λ x. AllZip Spells (words_of self.entry.rest.now) (value x ∷ [])) result }
     {
         if let Some(word) = self.word()
             && let Some(value) = value_of(word)
@@ -147,9 +147,9 @@ impl<'a> Line<'a> {
     }
 
     /// The index that is the one word left.
-    fn index(&mut self) -> Result<usize, Fault>
-        ensures { Tells self.old.number
-            (λ i. AllZip Spells (words_of self.old.rest.now) (index i ∷ [])) result }
+    fn index(mut self) -> Result<usize, Fault>
+        ensures { Tells self.entry.number
+            (λ i. AllZip Spells (words_of self.entry.rest.now) (index i ∷ [])) result }
     {
         if let Some(word) = self.word()
             && let Some(index) = index_of(word)
@@ -161,9 +161,9 @@ impl<'a> Line<'a> {
     }
 
     /// The two indexes that are the words left.
-    fn indexes(&mut self) -> Result<(usize, usize), Fault>
-        ensures { Tells self.old.number (λ both.
-            AllZip Spells (words_of self.old.rest.now) (index both.0 ∷ index both.1 ∷ [])) result }
+    fn indexes(mut self) -> Result<(usize, usize), Fault>
+        ensures { Tells self.entry.number (λ both. AllZip Spells
+            (words_of self.entry.rest.now) (index both.0 ∷ index both.1 ∷ [])) result }
     {
         if let Some(first) = self.word()
             && let Some(second) = self.word()
@@ -177,9 +177,9 @@ impl<'a> Line<'a> {
     }
 
     /// The index and the value that are the words left.
-    fn index_and_value(&mut self) -> Result<(usize, i64), Fault>
-        ensures { Tells self.old.number (λ both.
-            AllZip Spells (words_of self.old.rest.now) (index both.0 ∷ value both.1 ∷ [])) result }
+    fn index_and_value(mut self) -> Result<(usize, i64), Fault>
+        ensures { Tells self.entry.number (λ both. AllZip Spells
+            (words_of self.entry.rest.now) (index both.0 ∷ value both.1 ∷ [])) result }
     {
         if let Some(first) = self.word()
             && let Some(second) = self.word()
@@ -193,9 +193,9 @@ impl<'a> Line<'a> {
     }
 
     /// The values that are the words left.
-    fn values(&mut self, alloc: Global) -> Result<Vec<i64>, Fault>
-        ensures { Tells self.old.number (λ values.
-            AllZip Spells (words_of self.old.rest.now) (map value values.items)) result }
+    fn values(mut self, alloc: Global) -> Result<Vec<i64>, Fault>
+        ensures { Tells self.entry.number (λ values.
+            AllZip Spells (words_of self.entry.rest.now) (map value values.items)) result }
     {
         let mut values = Vec::new(alloc);
         while let Some(word) = self.word() {

@@ -8,19 +8,19 @@ use Rattle.adq.proofs.line.Line.values.Goals as goal
 
 pub loop-word-preserved : goal.loop-word-preserved
 loop-word-preserved c =
-    let parted = subst (Parted (words_of c.args.self.now.rest.now) c.loop-word.values.items) c.in-Some.ensures.words
+    let parted = subst (Parted (words_of c.args.self.rest.now) c.loop-word.values.items) c.in-Some.ensures.words
     c.loop-word.invariant.parted in
     let spelled = c.in-Some-value_of.ensures in
     let pushed = ap (λ x. c.loop-word.values.items ++ x ∷ [])
     (to_z-of_z w64 _ (fits c.in-Some-value_of.value spelled.2 spelled.3)) in record {
       number = c.word.ensures.number ∙ c.loop-word.invariant.number;
-      parted = subst (λ xs. Parted (words_of c.args.self.now.rest.now) xs (words_of c.word.new.self.rest.now))
+      parted = subst (λ xs. Parted (words_of c.args.self.rest.now) xs (words_of c.word.new.self.rest.now))
           (sym (c.in_ok-push-in-Some-value_of.ensures.items ∙ pushed)) (parted_more _ _ _ _ _ parted spelled);
     }
 
 pub returns-in-None : goal.returns-in-None
 returns-in-None c =
-    let parted = subst (Parted (words_of c.args.self.now.rest.now) c.loop-word.values.items) c.in-Some.ensures.words
+    let parted = subst (Parted (words_of c.args.self.rest.now) c.loop-word.values.items) c.in-Some.ensures.words
     c.loop-word.invariant.parted in
     inr (
       c.bad.ensures ∙ ap Line (c.word.ensures.number ∙ c.loop-word.invariant.number),
