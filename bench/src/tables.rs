@@ -52,10 +52,10 @@ fn behind(all: &[Figures]) -> String {
     });
     let [ours, _, std] = times(VECTOR);
     format!(
-        "In {rust_slower} of {} measurements it is over a tenth slower than the crate, in {std_slower} than \
-         `VecDeque`; in {rust_twice} and {std_twice} over twice as slow. A `push_back` with a `pop_front` takes \
-         {one}, {other}. A vector handed over and back costs `VecDeque` {std:.0} ns, and this deque a move of each \
-         item ({:.1} µs for 1,024 of 64 bytes).\n",
+        "Of {} measured times, {rust_slower} are over a tenth longer than the crate's ({rust_twice} over twice as \
+         long), and {std_slower} than `VecDeque`'s ({std_twice}). A `push_back` with a `pop_front` takes {one}, \
+         {other}. A vector handed over and back costs `VecDeque` {std:.0} ns, and this deque a move of each item \
+         ({:.1} µs for 1,024 of 64 bytes).\n",
         all.len(),
         ours / 1000.0,
     )
