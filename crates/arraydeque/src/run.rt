@@ -111,16 +111,19 @@ impl<T: Drop, const CAP: usize, B: RunPolicy<T, CAP>> ArrayDeque<T, CAP, B> {
         &mut self,
         calls: Vec<Call<T>>,
     ) -> Result<Vec<Reply<T, CAP, B>>, MakeError<Vec<Call<T>>>>
+        // What is returned, and what is left.
         ensures whole { IfOk result (λ replies.
             DequeRun B.policy (type_size T.row) self.old calls.items replies.items self.new) }
         ensures ok { IfOk result (λ replies.
             MachineRun B.policy self.old.items calls.items replies.items self.new.items) }
-        ensures costs { IfOk result (λ replies.
-            RunCosts B.policy self.old calls.items replies.items self.new) }
         ensures exact { IfOk result (λ replies. vec_capacity replies ≡ length calls.items) }
         ensures source { IfErr result (λ refusal. refusal.source ≡ calls) }
         ensures unchanged { OnErr result (self.new ≡ self.old) }
         ensures refused { OnErr result (0 < length calls.items) }
+
+        // Where the list lies, and what it cost.
+        ensures costs { IfOk result (λ replies.
+            RunCosts B.policy self.old calls.items replies.items self.new) }
     {
         let mut replies = match Vec::with_capacity(self.alloc(), calls.len()) {
             Ok(replies) => replies,

@@ -62,6 +62,8 @@ pub fn next_run<I: Iterator<Item = Edit>, const AHEAD: usize>(
     edits: &mut Scanner<I, AHEAD>,
 ) -> Option<Run>
     requires ahead { 0 < AHEAD }
+
+    // What is returned, and what is left.
     ensures taken { let runs = option_to_list result in
         TakesOff I.next_gives edits.old (written_out runs) edits.new }
     ensures over { IfNone result (HasRest I.next_gives edits.old []) }
@@ -69,6 +71,8 @@ pub fn next_run<I: Iterator<Item = Edit>, const AHEAD: usize>(
     ensures within { IfSome result (λ run. run.count ≤ AHEAD) }
     ensures longest { IfSome result (λ run. run.count < AHEAD →
         NextIs I.next_gives (λ edit. edit ≢ run.edit) edits.new) }
+
+    // What callers' proofs want.
     ensures goes { MakesProgress (λ _. ⊤) (λ s. s.left) edits.old result edits.new }
 {
     let there = edits.read_ahead(AHEAD);

@@ -74,8 +74,8 @@ fn four_of(a: u8, b: u8, c: u8) -> [u8; 4]
 impl<const CAP: usize> Write for Encoder<CAP> {
     /// Takes the first bytes of `buf`, while there is room for the text, and returns their number.
     fn write(&mut self, buf: &[u8]) -> io::Result<usize>
-        ensures bound { WritesAtMost result buf.now }
-        ensures bytes { WriteAppends None None result buf.now }
+        // What is returned, and what is left.
+        ensures ok { IsOk result }
         ensures text { IfOk result (λ count.
             self.new.text ≡ self.old.text ++ text_of (self.old.group ++ take count buf.now)) }
         ensures group { IfOk result (λ count.
@@ -84,7 +84,10 @@ impl<const CAP: usize> Write for Encoder<CAP> {
             count < length buf.now → length self.new.group ≡ 2) }
         ensures full { IfOk result (λ count.
             count < length buf.now → CAP < length self.new.text + 4) }
-        ensures ok { IsOk result }
+
+        // What callers' proofs want.
+        ensures bound { WritesAtMost result buf.now }
+        ensures bytes { WriteAppends None None result buf.now }
     {
         // This call makes it known that fewer than three bytes wait.
         let _waiting = self.group.len();

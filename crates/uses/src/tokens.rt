@@ -41,6 +41,8 @@ pub fn tokenize<I: Iterator<Item = u8>, const AHEAD: usize>(
 ) -> Result<Vec<Token>, AllocError>
     requires ahead { 0 < AHEAD }
     requires ends { IsFinite scanner.old.left }
+
+    // What is returned, and what is left.
     ensures joined { IfOk result (λ tokens.
         HasRest I.next_gives scanner.old (joined tokens.items)) }
     ensures one_kind { IfOk result (λ tokens. All IsOfOneKind tokens.items) }
@@ -75,6 +77,8 @@ fn next_token<I: Iterator<Item = u8>, const AHEAD: usize>(
 ) -> Result<Option<Token>, AllocError>
     requires ahead { 0 < AHEAD }
     requires ends { IsFinite scanner.old.left }
+
+    // What is returned, and what is left.
     ensures taken { IfOk result (λ token.
         TakesOff I.next_gives scanner.old (joined (option_to_list token)) scanner.new) }
     ensures over { IfOk result (λ token. IfNone token (HasRest I.next_gives scanner.old [])) }
@@ -82,9 +86,11 @@ fn next_token<I: Iterator<Item = u8>, const AHEAD: usize>(
     ensures signs { IfOk result (λ token. IfSome token IsOneByteIfSign) }
     ensures longest { IfOk result (λ token. IfSome token (λ token. (rest : List ℕ)
         → HasRest I.next_gives scanner.new rest → IsOver token.kind rest)) }
+    ensures refused { OnErr result (LosesPart I.next_gives scanner.old scanner.new) }
+
+    // What callers' proofs want.
     ensures goes { IfOk result (λ token.
         MakesProgress (λ _. ⊤) (λ s. s.left) scanner.old token scanner.new) }
-    ensures refused { OnErr result (LosesPart I.next_gives scanner.old scanner.new) }
 {
     let Some(first) = scanner.next() else {
         return Ok(None);

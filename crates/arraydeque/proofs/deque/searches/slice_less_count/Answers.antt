@@ -1,6 +1,11 @@
 use Rattle.std.proofs.Common.{◌<◌, length, sym, ◌∙◌, inl, inr, refl, of_calls, arith}
 use Rattle.arraydeque.proofs.Searched.{halves_less, halves_not_less, halves_next, count_of}
-use Rattle.arraydeque.proofs.deque.searches.slice_less_count.Goals.{then-is_lt, else-is_lt, then-is_lt-2, else-is_lt-2}
+use Rattle.arraydeque.proofs.deque.searches.slice_less_count.Goals.{
+  then-is_lt,
+  else-is_lt,
+  then-is_lt-2,
+  else-is_lt-2,
+}
 use Rattle.arraydeque.proofs.deque.searches.slice_less_count.Goals as goal
 
 pub loop-size-2-preserved : goal.loop-size-2-preserved

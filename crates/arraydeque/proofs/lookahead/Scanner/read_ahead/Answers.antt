@@ -2,7 +2,10 @@ use Rattle.std.proofs.{
   Common.{◌≤◌, ◌∙◌, [], ◌∷◌, ap, arith, length},
   lemmas.{Grind.common_steps, List.{length-take, take-append-le}},
 }
-use Rattle.arraydeque.{proofs.Scanned.{HandsOut-append, HasRest-ended, TakesOff-from_out}, specs.Lookahead.left_of}
+use Rattle.arraydeque.{
+  proofs.Scanned.{HandsOut-append, HasRest-ended, TakesOff-from_out},
+  specs.Lookahead.left_of,
+}
 use Rattle.arraydeque.proofs.lookahead.Scanner.read_ahead.Goals as goal
 
 pub loop-self-preserved : goal.loop-self-preserved

@@ -1,5 +1,8 @@
 use Rattle.std.proofs.Common.{◌-◌, arith}
-use Rattle.arraydeque_ring.proofs.{Opened.{bounds, piece_filled, rest_filled}, places.Filled.length_filled}
+use Rattle.arraydeque_ring.proofs.{
+  Opened.{bounds, piece_filled, rest_filled},
+  places.Filled.length_filled,
+}
 use Rattle.arraydeque_ring.proofs.ring.Ring.as_slices.Goals as goal
 
 pub slice-requires-else-self-to_end : goal.slice-requires-else-self-to_end

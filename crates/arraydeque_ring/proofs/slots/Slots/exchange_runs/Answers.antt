@@ -1,5 +1,10 @@
 use Rattle.std.proofs.Common.{sym, arith}
-use Rattle.arraydeque_ring.proofs.moved.Reads.{next_first, next_second, runs_exchanged_more, runs_exchanged_none}
+use Rattle.arraydeque_ring.proofs.moved.Reads.{
+  next_first,
+  next_second,
+  runs_exchanged_more,
+  runs_exchanged_none,
+}
 use Rattle.arraydeque_ring.proofs.slots.Slots.exchange_runs.Goals as goal
 
 pub loop-k-init : goal.loop-k-init

@@ -1,5 +1,10 @@
 use Rattle.std.proofs.Common.{sym, arith}
-use Rattle.arraydeque_ring.proofs.moved.Reads.{next_empty, next_second, runs_exchanged_none, runs_moved_more}
+use Rattle.arraydeque_ring.proofs.moved.Reads.{
+  next_empty,
+  next_second,
+  runs_exchanged_none,
+  runs_moved_more,
+}
 use Rattle.arraydeque_ring.proofs.slots.Slots.move_down.Goals as goal
 
 pub loop-k-init : goal.loop-k-init
