@@ -86,6 +86,15 @@ impl<const CAP: usize, B: Behavior> BufRead for ArrayDeque<u8, CAP, B> {
     /// Drops the first `amount` bytes, or all if there are no more. No other byte moves.
     ///
     /// Start: 1 up for each byte dropped. Steps: 1 take for each.
+    ///
+    /// ```
+    /// let mut deque = ArrayDeque::<u8, 3, Wrapping>::new(alloc)?;
+    /// deque.extend_back([1, 2, 3]);
+    /// deque.consume(2);
+    /// assert!(rt; deque.front() == Some(&3));
+    /// deque.consume(2);
+    /// assert!(rt; deque.is_empty());
+    /// ```
     #[inline]
     fn consume(&mut self, amount: usize)
         ensures bytes { DropsConsumable (Some self.old.items) (Some self.new.items) None amount }
@@ -153,6 +162,13 @@ impl<const CAP: usize> Write for ArrayDeque<u8, CAP, Saturating> {
     }
 
     /// Does nothing: what was written is in the deque already. It always returns `Ok`.
+    ///
+    /// ```
+    /// let mut deque = ArrayDeque::<u8, 3, Saturating>::new(alloc)?;
+    /// deque.write_all(&[1, 2])?;
+    /// deque.flush()?;
+    /// assert!(rt; deque.into_vec()?.as_slice() == [1, 2].as_slice());
+    /// ```
     fn flush(&mut self) -> Result<()>
         ensures bytes { Keeps (Some self.old.items) (Some self.new.items) }
         ensures ok { IsOk result }

@@ -16,7 +16,7 @@ use std::alloc::AllocError;
 
 impl<T, const CAP: usize, B: Behavior> ArrayDeque<T, CAP, B> {
     /// Removes the items of a range, and returns them in a [`Drain`], which owns them in a region
-    /// of its own, of a place for each. Requires a range that is in order and ends within the list.
+    /// of its own, with a place for each. Requires a range in order that ends within the list.
     ///
     /// The deque has no gap when the call returns: the items before the range or those behind it
     /// have moved, whichever are fewer, on a tie the latter, and none for an empty range. Fails
