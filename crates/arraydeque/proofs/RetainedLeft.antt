@@ -46,8 +46,8 @@ module _ {F X : Type 0} (R : F → X → Bool → F → Type 0) (I : F → Type 
       let said = says f x b told.0 now told.1 in
       first_told x xs bs b said.0 (told_where bs xs told.0 g said.1 (omega arith) told.2)
 
-  told_kept : (f : F) (xs ys : List X) → I f → IsFiltered R f xs ys → filter test xs ≡ ys
-  told_kept f xs ys now kept = sym (kept.4 ∙ told_where kept.0 xs f kept.1 now kept.2 kept.3)
+  told_kept : (f : F) (xs ys : List X) → I f → IsFiltered R f xs ys → ys ≡ filter test xs
+  told_kept f xs ys now kept = kept.4 ∙ told_where kept.0 xs f kept.1 now kept.2 kept.3
 
 -- the same of R that writes, as `change` says
 module _ {F X : Type 0} (R : F → X → Bool → F → X → Type 0) (I : F → Type 0) (test : X → Bool) (change : X → X)
@@ -65,7 +65,7 @@ module _ {F X : Type 0} (R : F → X → Bool → F → X → Type 0) (I : F →
       told.6 ∙ (λ i. cond (said.0 i) (said.1 i ∷ rest i) (rest i)) ∙ sym (map-cond (test x) x (filter test xs))
 
 pub kept_where : {F X : Type 0} (g : Mut F (Bor X × Unit {0}) Bool) (test : X → Bool) (f : F) → ComputesAt g test f
-    → (xs ys : List X) → IsFiltered (CalledAt g) f xs ys → filter test xs ≡ ys
+    → (xs ys : List X) → IsFiltered (CalledAt g) f xs ys → ys ≡ filter test xs
 kept_where g test f says xs ys kept = elim says [
   | inl same ↦ told_kept (CalledAt g) (λ q. q ≡ f) test
       (λ q x b h is called. same x b h (subst (λ p. CalledAt g p x b h) is called)) f xs ys refl kept
@@ -77,8 +77,8 @@ kept_where g test f says xs ys kept = elim says [
 
 pub left_where : {F X : Type 0} (g : Mut F (MutBor X × Unit {0}) (Bool × (MutBor X × Unit {0}))) (test : X → Bool)
     (change : X → X) (f : F) → ComputesAtMut g test change f
-    → (xs ys : List X) → RetainsInTurn (CalledAtMut g) f xs ys → map change (filter test xs) ≡ ys
-left_where g test change f says xs ys kept = sym (elim says [
+    → (xs ys : List X) → RetainsInTurn (CalledAtMut g) f xs ys → ys ≡ map change (filter test xs)
+left_where g test change f says xs ys kept = elim says [
   | inl same ↦ told_left (CalledAtMut g) (λ q. q ≡ f) test change
       (λ q x b h y is called. same x b h y (subst (λ p. CalledAtMut g p x b h y) is called)) f xs ys refl kept
   | inr always ↦ told_left (CalledAtMut g)
@@ -86,4 +86,4 @@ left_where g test change f says xs ys kept = sym (elim says [
       (λ q x b h y computes called. let next = answers_first g computes called.called in
       (next.0.0 ∙ ap test called.shows, sym called.leaves ∙ next.0.1 ∙ ap change called.shows, next.1))
       f xs ys always kept
-])
+]

@@ -109,7 +109,7 @@ module _ {Source S A : Type 0} {becomes : Source → S → Type 0} {gives : S �
             first = λ xs within all reads.
                 first_items ran xs within n filled.at_most or_all all (reads-at ran xs within reads);
             as_many = λ m xs is le reads. let within : ran.len ≤ length xs = omega arith in
-                ap (λ k. take k xs) is ∙ items_are ran xs within (reads-at ran xs within reads);
+                sym (ap (λ k. take k xs) is ∙ items_are ran xs within (reads-at ran xs within reads));
           }
 
       pub TakesAll-fills : ended ≡ true → P filled.items → TakesAll becomes gives source P

@@ -7,7 +7,7 @@ use Rattle.std.{
   specs.{Borrow.MutBor, Fn.{AlwaysReturns, CalledAtMut, Mut}, List.splice, Prelude.slice_range},
 }
 use Rattle.arraydeque_ring.specs.{
-  Computed.ComputesAtMut,
+  Computed.Changes,
   Written.{WritesInTurn, WritesAt, WrittenInTurn, WrittenPart, MayWriteEach},
 }
 use Rattle.arraydeque.proofs.Searched.{answers_first}
@@ -15,19 +15,19 @@ use Rattle.arraydeque.proofs.Searched.{answers_first}
 -- R leaves each item as `change` does in each state of which I holds, and is then in one of which it does
 module _ {F X : Type 0} (R : F → X → F → X → Type 0) (I : F → Type 0) (change : X → X)
     (says : (f : F) (x : X) (g : F) (y : X) → I f → R f x g y → (y ≡ change x) × I g) where
-  changed_each : (xs ys : List X) (f g : F) → I f → WritesInTurn R f xs ys g → map change xs ≡ ys
+  changed_each : (xs ys : List X) (f g : F) → I f → WritesInTurn R f xs ys g → ys ≡ map change xs
   changed_each [] [] f g now told = refl
   changed_each [] (y ∷ ys) f g now told = absurd told
   changed_each (x ∷ xs) [] f g now told = absurd told
   changed_each (x ∷ xs) (y ∷ ys) f g now told =
       let said = says f x told.0 y now told.1 in
       let rest = changed_each xs ys told.0 g said.1 told.2 in
-      λ i. sym said.0 i ∷ rest i
+      λ i. said.0 i ∷ rest i
 
 -- the closure leaves each item as `change` does
 module _ {F X : Type 0} (t : Mut F (MutBor X × Unit {0}) (Unit {0} × (MutBor X × Unit {0}))) (change : X → X) (f : F)
-    (says : ComputesAtMut t (λ _. tt) change f) where
-  pub changed_all : (xs ys : List X) → WrittenInTurn (WritesAt t) f xs ys → map change xs ≡ ys
+    (says : Changes t change f) where
+  pub changed_all : (xs ys : List X) → WrittenInTurn (WritesAt t) f xs ys → ys ≡ map change xs
   changed_all xs ys told = elim says [
     | inl same ↦ changed_each (WritesAt t) (λ q. q ≡ f) change
         (λ q x h y is called. let said = same x tt h y (subst (λ p. WritesAt t p x h y) is called) in (said.1, said.2))
@@ -40,9 +40,9 @@ module _ {F X : Type 0} (t : Mut F (MutBor X × Unit {0}) (Unit {0} × (MutBor X
   ]
 
   pub changed_part : (from to : ℕ) (xs ys : List X) → WrittenPart (WritesAt t) f from to xs ys
-      → splice xs from to (map change (slice_range xs from to)) ≡ ys
+      → ys ≡ splice xs from to (map change (slice_range xs from to))
   changed_part from to xs ys part =
-      ap (splice xs from to) (changed_all (slice_range xs from to) part.0 part.1) ∙ sym part.2
+      part.2 ∙ ap (splice xs from to) (changed_all (slice_range xs from to) part.0 part.1)
 
 -- a closure that changes nothing that it captures
 module _ {F X : Type 0} (t : Mut F (MutBor X × Unit {0}) (Unit {0} × (MutBor X × Unit {0}))) (f : F)

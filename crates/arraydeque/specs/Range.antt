@@ -1,7 +1,7 @@
 -- The part of a list that a range names, and what a drain of it makes of a deque.
 use Rattle.std.specs.{
   List.remove_range,
-  Prelude.{◌≡◌, ◌-◌, ℕ, List, length, slice_range, unwrap_or},
+  Prelude.{◌≡◌, ◌-◌, ◌≤◌, ℕ, List, length, slice_range, unwrap_or},
 }
 use Rattle.arraydeque_ring.specs.{
   Changed.DrainMovesFewest,
@@ -21,6 +21,11 @@ span_of argument range xs = record {
   from = unwrap_or (argument.names_start range) 0;
   to = unwrap_or (argument.names_end range) (length xs);
 }
+
+-- the range is one of the list xs: its bounds are in order, and it ends within the list
+abbrev pub IsRangeOf : {R X : Type 0} → Ghosts R ℕ → R → List X → Type 0
+IsRangeOf argument range xs =
+    let span = span_of argument range xs in (span.from ≤ span.to) × (span.to ≤ length xs)
 
 -- at the capacity n the items from one index up to another are drained, and the gap is closed
 pub record IsDrained {X : Type 0} (n from to : ℕ) (old : DequeState X) (xs : List X)

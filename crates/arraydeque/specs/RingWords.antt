@@ -3,12 +3,12 @@ pub use Rattle.arraydeque_ring.specs.Changed.{InsertMovesFewest, RemoveMovesFewe
 pub use Rattle.arraydeque_ring.specs.Changed.{DrainMovesFewest, RotateMovesFewest, IsFewest}
 pub use Rattle.arraydeque_ring.specs.Changed.{changed_insert, changed_remove, changed_drain}
 pub use Rattle.arraydeque_ring.specs.Changed.{changed_rotate}
-pub use Rattle.arraydeque_ring.specs.Computed.{ComputesAt, ComputesAtMut}
+pub use Rattle.arraydeque_ring.specs.Computed.{ComputesAt, ComputesAtMut, Changes}
 pub use Rattle.arraydeque_ring.specs.Loans.{LoanState, remaining}
 pub use Rattle.arraydeque_ring.specs.Retained.{Retains, MayBeAsked, count_moved}
 pub use Rattle.arraydeque_ring.specs.Retained.{RetainsMut, MayWrite, written, as_were, as_left}
 pub use Rattle.arraydeque_ring.specs.Ring.{RingState, place_of, up_by, down_by, IsInOnePiece}
-pub use Rattle.arraydeque_ring.specs.Ring.{ClonesAreSame}
+pub use Rattle.arraydeque_ring.specs.Ring.{ClonesAreSame, CloneMayFail}
 pub use Rattle.arraydeque_ring.specs.Runs.{as_many}
 pub use Rattle.arraydeque_ring.specs.Sides.{moves_to_insert, moves_to_remove, moves_to_drain}
 pub use Rattle.arraydeque_ring.specs.Sides.{moves_to_rotate, start_rotated}

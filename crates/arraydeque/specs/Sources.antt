@@ -24,7 +24,7 @@ module _ {Source S A : Type 0} (becomes : Source → S → Type 0)
     pub first : (xs : List A) → run.len ≤ length xs → (run.whole ≡ true → run.len ≡ length xs)
         → ((k : ℕ) → k < run.len → run.at k ≡ slice_get xs k) → run.items ≡ take n xs
     pub as_many : (m : ℕ) (xs : List A) → m ≡ run.len → m ≤ length xs
-        → ((k : ℕ) → k < run.len → run.at k ≡ slice_get xs k) → take m xs ≡ run.items
+        → ((k : ℕ) → k < run.len → run.at k ≡ slice_get xs k) → run.items ≡ take m xs
 
   -- the source became an iterator whose calls gave items and then the first None, and P holds of
   -- these items

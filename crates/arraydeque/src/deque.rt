@@ -198,20 +198,20 @@ impl<T, const CAP: usize, B: Behavior> ArrayDeque<T, CAP, B> {
     /// ```
     #[inline]
     pub fn pop_front(&mut self) -> Option<T>
-        // What is returned, and what is left.
+        // If there is an item, the first is removed and returned.
         ensures value { result ≡ slice_get self.old.items 0 }
         ensures items { self.new.items ≡ drop 1 self.old.items }
-
-        // Where the list lies, and what it cost.
         ensures start { OnSome result (self.new.start ≡ place_of self.old.start 1 CAP) }
         ensures steps { OnSome result (self.new.steps ≡ more_takes 1 self.old.steps) }
+
+        // If there is none, nothing changes.
+        ensures none { IfNone result (self.new ≡ self.old) }
+        ensures empty { IfNone result (self.old.items ≡ []) }
 
         // What callers' proofs want.
         ensures conserved { option_to_list result ++ self.new.items ≡ self.old.items }
         ensures room { OnSome result (length self.new.items < CAP) }
         ensures within { length self.new.items ≤ CAP }
-        ensures none { IfNone result (self.new ≡ self.old) }
-        ensures empty { IfNone result (self.old.items ≡ []) }
     {
         self.ring.pop_front()
     }
@@ -231,20 +231,20 @@ impl<T, const CAP: usize, B: Behavior> ArrayDeque<T, CAP, B> {
     #[tactic(auto, using(arraydeque_ring::proofs::LastPopped::last_and_rest))]
     #[inline]
     pub fn pop_back(&mut self) -> Option<T>
-        // What is returned, and what is left.
+        // If there is an item, the last is removed and returned.
         ensures value { result ≡ last_item self.old.items }
         ensures items { self.new.items ≡ take (length self.old.items - 1) self.old.items }
-
-        // Where the list lies, and what it cost.
         ensures start { self.new.start ≡ self.old.start }
         ensures steps { OnSome result (self.new.steps ≡ more_takes 1 self.old.steps) }
+
+        // If there is none, nothing changes.
+        ensures none { IfNone result (self.new ≡ self.old) }
+        ensures empty { IfNone result (self.old.items ≡ []) }
 
         // What callers' proofs want.
         ensures conserved { self.new.items ++ option_to_list result ≡ self.old.items }
         ensures room { OnSome result (length self.new.items < CAP) }
         ensures within { length self.new.items ≤ CAP }
-        ensures none { IfNone result (self.new ≡ self.old) }
-        ensures empty { IfNone result (self.old.items ≡ []) }
     {
         self.ring.pop_back()
     }

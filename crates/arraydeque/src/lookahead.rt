@@ -50,8 +50,7 @@ impl<I: Iterator, const CAP: usize> Model for Scanner<I, CAP> {
 
 impl<I: Iterator, const CAP: usize> Scanner<I, CAP> {
     ghost use Rattle.arraydeque.specs.contracts.lookahead.Scanner.{the_row};
-    ghost use mathlib.Core.Option.{none};
-    ghost use denote.Follow.{follows_so};
+    ghost use Rattle.std.specs.Io.BufRead.{Rests};
 
     /// Returns a scanner over an iterator, which is asked for nothing yet.
     ///
@@ -101,8 +100,7 @@ impl<I: Iterator, const CAP: usize> Scanner<I, CAP> {
     /// ```
     pub fn peek(&mut self, k: usize) -> Option<&I::Item>
         requires { k < CAP }
-        ensures* peeks { sem 𝓛 (follows_so (the_row I.row CAP.row I.Item.row I.Iterator)
-            (the_row I.row CAP.row I.Item.row I.Iterator) self.entry.ghost_name none (λ _ _. ⊤)
+        ensures* peeks { sem 𝓛 (Rests (the_row I.row CAP.row I.Item.row I.Iterator) self.entry
             (λ new. Peeks I.next_gives I.remaining self.old k (option_copied result) new)) }
     {
         self.read_ahead(k + 1);

@@ -2,7 +2,7 @@
 ghost use Rattle.std.specs.Prelude.{◌≡◌, ◌<◌, ◌≤◌, Some, length, slice_get, slice_range};
 ghost use Rattle.std.specs.Fn.{FnOnceTakesAtMut};
 ghost use Rattle.arraydeque.specs.Deque.{as_ring, last_item};
-ghost use Rattle.arraydeque.specs.Range.{span_of};
+ghost use Rattle.arraydeque.specs.Range.{IsRangeOf, span_of};
 ghost use Rattle.arraydeque_ring.specs.Retained.{MayBeAsked, MayWrite};
 ghost use Rattle.arraydeque_ring.specs.Ring.{IsInOnePiece};
 ghost use Rattle.arraydeque_ring.specs.Written.{MayWriteEach};
@@ -139,10 +139,7 @@ fn range<T, const CAP: usize, B: Behavior, R: RangeArgument<usize> + Drop>(
     deque: &ArrayDeque<T, CAP, B>,
     range: R,
 ) -> Iter<'_, T>
-    requires in_order { let span = span_of R.RangeArgument range deque.now.items in
-        span.from ≤ span.to }
-    requires in_bounds { let span = span_of R.RangeArgument range deque.now.items in
-        span.to ≤ length deque.now.items }
+    requires { IsRangeOf R.RangeArgument range deque.now.items }
 {
     deque.range(range)
 }
@@ -151,10 +148,7 @@ fn range_mut<T, const CAP: usize, B: Behavior, R: RangeArgument<usize> + Drop>(
     deque: &mut ArrayDeque<T, CAP, B>,
     range: R,
 ) -> IterMut<'_, T>
-    requires in_order { let span = span_of R.RangeArgument range deque.old.items in
-        span.from ≤ span.to }
-    requires in_bounds { let span = span_of R.RangeArgument range deque.old.items in
-        span.to ≤ length deque.old.items }
+    requires { IsRangeOf R.RangeArgument range deque.old.items }
 {
     deque.range_mut(range)
 }
@@ -210,10 +204,7 @@ fn for_each_mut_in<T, const CAP: usize, B: Behavior, R, F>(
 where
     R: RangeArgument<usize> + Drop,
     F: FnMut(&mut T) + Drop,
-    requires in_order { let span = span_of R.RangeArgument range deque.old.items in
-        span.from ≤ span.to }
-    requires in_bounds { let span = span_of R.RangeArgument range deque.old.items in
-        span.to ≤ length deque.old.items }
+    requires in_range { IsRangeOf R.RangeArgument range deque.old.items }
     requires may_write { let span = span_of R.RangeArgument range deque.old.items in
         MayWriteEach F.FnMut f (slice_range deque.old.items span.from span.to) }
 {
@@ -268,10 +259,7 @@ fn drain<T, const CAP: usize, B: Behavior, R: RangeArgument<usize> + Drop>(
     deque: &mut ArrayDeque<T, CAP, B>,
     range: R,
 ) -> Result<Drain<T>, AllocError>
-    requires in_order { let span = span_of R.RangeArgument range deque.old.items in
-        span.from ≤ span.to }
-    requires in_bounds { let span = span_of R.RangeArgument range deque.old.items in
-        span.to ≤ length deque.old.items }
+    requires { IsRangeOf R.RangeArgument range deque.old.items }
 {
     deque.drain(range)
 }

@@ -19,3 +19,8 @@ ComputesAtMut {F} {X} {R} g test change f =
     ((x : X) (r : R) (h : F) (y : X) → CalledAtMut g f x r h y
     → (r ≡ test x) × (y ≡ change x) × (h ≡ f))
     ⊎ AlwaysReturns g (λ a r. (r.0 ≡ test a.0.now) × (r.1.0.now ≡ change a.0.now)) f
+
+-- the same of f that answers nothing: at a `&mut` to an item it leaves what `change` gives
+abbrev pub Changes : {F X : Type 0}
+    → Mut F (MutBor X × Unit {0}) (Unit {0} × (MutBor X × Unit {0})) → (X → X) → F → Type 0
+Changes g change f = ComputesAtMut g (λ _. tt) change f

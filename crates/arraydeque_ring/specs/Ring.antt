@@ -2,7 +2,7 @@
 use Rattle.std.specs.{
   List.Contains,
   Prelude.{◌≡◌, ℕ, ◌+◌, ◌-◌, ◌*◌, ◌%◌, ◌≤◌, nat_lt, if◌then◌else◌, List, [], ◌∷◌, ◌++◌, length},
-  Prelude.{map, take, drop, replicate, Option, Some, None, Bool, true, false, is_some},
+  Prelude.{Any, map, take, drop, replicate, Option, Some, None, Bool, true, false, is_some},
 }
 use Rattle.arraydeque_ring.specs.Steps.{Steps, no_steps}
 
@@ -56,3 +56,7 @@ FilledFrom start len fs = rotated start fs ≡ replicate len true ++ replicate (
 -- each clone that may be made of an item of the list is that item once more
 abbrev pub ClonesAreSame : {X : Type 0} → (X → X → Type 0) → List X → Type 0
 ClonesAreSame {X} IsClone xs = (x y : X) → Contains xs x → IsClone x y → y ≡ x
+
+-- the clone of some item of the list may fail
+abbrev pub CloneMayFail : {X : Type 0} → (X → Type 0) → List X → Type 0
+CloneMayFail IsInfallible xs = Any (λ x. ¬ IsInfallible x) xs

@@ -1,35 +1,32 @@
 -- A window's samples in order, once a sample came and one that it displaced went.
 use Rattle.std.{
   proofs.{
-    Common.{◌≡◌, ℕ, ◌<◌, List, [], ◌∷◌, ◌++◌, length, slice_get, nat_lt, if◌then◌else◌},
-    Common.{Option, None, option_to_list, IfSome, Contains, inl, inr, refl, ap, cond, arith},
-    lemmas.{
-      Bool.{cases_lt, Decides.nat_tests},
-      List.{
-        length-append,
-        Sorted.{length_permutation, Contains-permutation},
-        Sums.{sum_by-cons, sum_by-append},
-      },
+    Common.{◌≡◌, ℕ, suc, ◌+◌, ◌-◌, ◌<◌, ◌≤◌, List, [], ◌∷◌, ◌++◌, length, take, get_or},
+    Common.{Option, None, Some, option_to_list, IfSome, Contains, refl, zero, ap, ◌∙◌, cond, arith},
+    lemmas.List.{
+      length-append,
+      Sorted.{length_permutation, Contains-permutation},
+      Sums.{sum_by-cons, sum_by-append},
     },
   },
   specs.List.{sum_by, Sorted.IsPermutation},
 }
 use Rattle.uses.proofs.Counted.{SameCounts-permutation, permutation_from_counts}
 
-there_by : (xs ys : List ℕ) (x : ℕ) (o : Option ℕ) → IsPermutation xs ys → 0 < length xs
-    → o ≡ slice_get (xs ++ x ∷ []) 0 → IfSome o (Contains ys)
-there_by [] ys x o was some is = absurd (omega arith)
-there_by (z ∷ zs) ys x o was some is = rw is (Contains-permutation (z ∷ zs) ys z was (0, omega arith, refl))
+there_by : (xs ys : List ℕ) (x k : ℕ) (o : Option ℕ) → IsPermutation xs ys → k ≤ length xs
+    → option_to_list o ≡ take k (xs ++ x ∷ []) → IfSome o (Contains ys)
+there_by xs ys x k None was within is = tt
+there_by [] ys x k (Some y) was within is =
+    let none : k ≡ 0 = omega (arith, within) in
+    absurd (omega (arith, ap length (is ∙ ap (λ m. take m (x ∷ [])) none)))
+there_by (z ∷ zs) ys x zero (Some y) was within is = absurd (omega (arith, ap length is))
+there_by (z ∷ zs) ys x (suc k) (Some y) was within is =
+    rw (ap (λ l. get_or l 0 0) is) (Contains-permutation (z ∷ zs) ys z was (0, omega arith, refl))
 
 -- what a push displaces is there
 pub displaced_there : (n : ℕ) (recent ordered : List ℕ) (x : ℕ) (o : Option ℕ) → 0 < n → IsPermutation recent ordered
-    → o ≡ (if nat_lt (length recent) n then None else slice_get (recent ++ x ∷ []) 0) → IfSome o (Contains ordered)
-displaced_there n recent ordered x o some was is = elim (cases_lt (length recent) n) [
-  | inl room ↦ let none : o ≡ None = grind (arith, nat_tests, is) in rw none tt
-  | inr full ↦
-      let first : o ≡ slice_get (recent ++ x ∷ []) 0 = grind (arith, nat_tests, is) in
-      there_by recent ordered x o was (omega (arith, full, some)) first
-]
+    → option_to_list o ≡ take (length recent + 1 - n) (recent ++ x ∷ []) → IfSome o (Contains ordered)
+displaced_there n recent ordered x o some was = there_by recent ordered x (length recent + 1 - n) o was (omega arith)
 
 module _ (recent left ordered : List ℕ) (x : ℕ) (o : Option ℕ)
     (window : option_to_list o ++ left ≡ recent ++ x ∷ []) (was : IsPermutation recent ordered) where

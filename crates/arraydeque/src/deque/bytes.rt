@@ -2,7 +2,7 @@
 ghost use Rattle.std.specs.Prelude.{◌≡◌, ◌+◌, ◌-◌, ◌≤◌, [], ◌++◌, length, take, drop, min, None, Some, Ok, IsOk, IfOk};
 ghost use Rattle.std.specs.Borrow.{sem, u8 as byte};
 ghost use Rattle.std.specs.Io.{ReadsAtMost, WritesAtMost, StartsWith};
-ghost use Rattle.std.specs.Io.BufRead.{Rests, FillKeeps, DropsConsumable};
+ghost use Rattle.std.specs.Io.BufRead.{Rests, DropsConsumable};
 ghost use Rattle.std.specs.Io.KnownBytes.{Keeps, ReadConsumes, WriteAppends};
 ghost use Rattle.arraydeque_ring.specs.Ring.{up_by};
 ghost use Rattle.arraydeque_ring.specs.Steps.{more_takes};
@@ -74,8 +74,8 @@ impl<const CAP: usize, B: Behavior> BufRead for ArrayDeque<u8, CAP, B> {
     fn fill_buf(&mut self) -> Result<&[u8]>
         ensures front { IfOk result (λ bytes. StartsWith self.old.items bytes.now) }
         ensures end { IfOk result (λ bytes. length bytes.now ≡ 0 → self.old.items ≡ []) }
-        ensures* after_borrow { sem 𝓛 (Rests (the_row byte CAP.row B.row) self.entry (λ new.
-            FillKeeps (Some self.old.items) (Some new.items) None result × (new ≡ self.old))) }
+        ensures* after_borrow { sem 𝓛 (Rests (the_row byte CAP.row B.row) self.entry
+            (λ new. new ≡ self.old)) }
         ensures cut { IfOk result (λ bytes.
             length bytes.now ≡ min (length self.old.items) (CAP - self.old.start)) }
         ensures ok { IsOk result }

@@ -1,7 +1,7 @@
 //! A second deque of clones of the items.
-ghost use Rattle.std.specs.Prelude.{◌≡◌, ◌⊎◌, ◌<◌, ◌*◌, Any, IfOk, OnErr};
+ghost use Rattle.std.specs.Prelude.{◌≡◌, ◌⊎◌, ◌<◌, ◌*◌, IfOk, OnErr};
 ghost use Rattle.std.specs.Mem.{type_size};
-ghost use Rattle.arraydeque_ring.specs.Ring.{ClonesAreSame};
+ghost use Rattle.arraydeque_ring.specs.Ring.{ClonesAreSame, CloneMayFail};
 ghost use Rattle.arraydeque.specs.Deque.{empty_deque, with_back};
 
 use super::ArrayDeque;
@@ -41,7 +41,7 @@ impl<T: Clone, const CAP: usize, B: Behavior> ArrayDeque<T, CAP, B> {
         requires { ClonesAreSame T.is_clone self.now.items }
         ensures items { IfOk result (λ deque. deque ≡ with_back self.now.items empty_deque) }
         ensures refused { OnErr result
-            ((0 < CAP * type_size T.row) ⊎ Any (λ x. ¬ T.is_infallible x) self.now.items) }
+            ((0 < CAP * type_size T.row) ⊎ CloneMayFail T.is_infallible self.now.items) }
     {
         let ring = self.ring.clone()?;
         Ok(Self::from_ring(ring))

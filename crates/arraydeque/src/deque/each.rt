@@ -2,11 +2,11 @@
 ghost use Rattle.std.specs.Prelude.{◌≡◌, ◌-◌, ◌≤◌, length, map, take, drop, slice_range};
 ghost use Rattle.std.specs.Borrow.{sem};
 ghost use Rattle.std.specs.List.{splice};
-ghost use Rattle.arraydeque_ring.specs.Computed.{ComputesAtMut};
+ghost use Rattle.arraydeque_ring.specs.Computed.{Changes};
 ghost use Rattle.arraydeque_ring.specs.Steps.{more_lends};
 ghost use Rattle.arraydeque_ring.specs.Written.{MayWriteEach, WritesAt, WrittenInTurn, WrittenPart};
 ghost use Rattle.arraydeque.specs.DequeLends.{lends_first, lends_rest};
-ghost use Rattle.arraydeque.specs.Range.{span_of};
+ghost use Rattle.arraydeque.specs.Range.{IsRangeOf, span_of};
 
 use super::ArrayDeque;
 use crate::behavior::Behavior;
@@ -30,10 +30,10 @@ impl<T, const CAP: usize, B: Behavior> ArrayDeque<T, CAP, B> {
         F: Drop,
         requires { MayWriteEach F.FnMut f self.old.items }
 
-        // What is returned, and what is left.
+        // If `f` computes a change, each item is changed so. Whatever `f` writes, it stays written.
+        ensures changed { (change : T → T) → Changes F.FnMut change f
+            → self.new.items ≡ map change self.old.items }
         ensures in_turn { WrittenInTurn (WritesAt F.FnMut) f self.old.items self.new.items }
-        ensures changed { (change : T → T) → ComputesAtMut F.FnMut (λ _. tt) change f
-            → map change self.old.items ≡ self.new.items }
 
         // Where the list lies, and what it cost.
         ensures start { self.new.start ≡ self.old.start }
@@ -63,20 +63,18 @@ impl<T, const CAP: usize, B: Behavior> ArrayDeque<T, CAP, B> {
     where
         R: Drop,
         F: Drop,
-        requires in_order { let span = span_of R.RangeArgument range self.old.items in
-            span.from ≤ span.to }
-        requires in_bounds { let span = span_of R.RangeArgument range self.old.items in
-            span.to ≤ length self.old.items }
+        requires in_range { IsRangeOf R.RangeArgument range self.old.items }
         requires may_write { let span = span_of R.RangeArgument range self.old.items in
             MayWriteEach F.FnMut f (slice_range self.old.items span.from span.to) }
 
-        // What is returned, and what is left.
+        // If `f` computes a change, each item of the range is changed so. Whatever `f` writes, it
+        // stays written.
+        ensures changed { let span = span_of R.RangeArgument range self.old.items in
+            (change : T → T) → Changes F.FnMut change f
+            → self.new.items ≡ splice self.old.items span.from span.to
+            (map change (slice_range self.old.items span.from span.to)) }
         ensures in_turn { let span = span_of R.RangeArgument range self.old.items in
             WrittenPart (WritesAt F.FnMut) f span.from span.to self.old.items self.new.items }
-        ensures changed { let span = span_of R.RangeArgument range self.old.items in
-            (change : T → T) → ComputesAtMut F.FnMut (λ _. tt) change f
-            → splice self.old.items span.from span.to
-            (map change (slice_range self.old.items span.from span.to)) ≡ self.new.items }
 
         // Where the list lies, and what it cost.
         ensures start { self.new.start ≡ self.old.start }

@@ -5,7 +5,7 @@ ghost use Rattle.std.specs.Borrow.{sem};
 ghost use Rattle.arraydeque_ring.specs.Loans.{remaining};
 ghost use Rattle.arraydeque_ring.specs.Ring.{IsInOnePiece};
 ghost use Rattle.arraydeque.specs.Deque.{as_ring};
-ghost use Rattle.arraydeque.specs.Range.{span_of};
+ghost use Rattle.arraydeque.specs.Range.{IsRangeOf, span_of};
 ghost use Rattle.arraydeque.specs.DequeLends.{lends_items, lends_part, lends_list, lends_slices, lends_loan};
 
 use super::ArrayDeque;
@@ -48,10 +48,7 @@ impl<T, const CAP: usize, B: Behavior> ArrayDeque<T, CAP, B> {
     pub fn range<R: RangeArgument<usize>>(&self, range: R) -> Iter<'_, T>
     where
         R: Drop,
-        requires in_order { let span = span_of R.RangeArgument range self.now.items in
-            span.from ≤ span.to }
-        requires in_bounds { let span = span_of R.RangeArgument range self.now.items in
-            span.to ≤ length self.now.items }
+        requires { IsRangeOf R.RangeArgument range self.now.items }
         ensures value { let span = span_of R.RangeArgument range self.now.items in
             result ≡ slice_range self.now.items span.from span.to }
         ensures within { length result ≤ CAP }
@@ -109,10 +106,7 @@ impl<T, const CAP: usize, B: Behavior> ArrayDeque<T, CAP, B> {
     pub fn range_mut<R: RangeArgument<usize>>(&mut self, range: R) -> IterMut<'_, T>
     where
         R: Drop,
-        requires in_order { let span = span_of R.RangeArgument range self.old.items in
-            span.from ≤ span.to }
-        requires in_bounds { let span = span_of R.RangeArgument range self.old.items in
-            span.to ≤ length self.old.items }
+        requires { IsRangeOf R.RangeArgument range self.old.items }
         ensures* writes_back { let span = span_of R.RangeArgument range self.old.items in
             sem 𝓛 (lends_part T.row CAP.row B.row self.entry
             span.from (span.to - span.from) result.name) }
@@ -182,6 +176,7 @@ impl<T, const CAP: usize, B: Behavior> ArrayDeque<T, CAP, B> {
     /// ```
     #[inline]
     pub fn as_mut_slices(&mut self) -> (&mut [T], &mut [T])
+        // For a proof by hand. Else call `for_each_mut`, or `first_slice_mut`.
         ensures* writes_back { sem 𝓛 (lends_slices T.row CAP.row B.row self.entry result) }
         ensures joined { result.0.now ++ result.1.now ≡ self.old.items }
         ensures one_piece { IsInOnePiece (as_ring CAP self.old) → result.1.now ≡ [] }

@@ -32,19 +32,19 @@ impl<T, const CAP: usize> ArrayDeque<T, CAP, Saturating> {
     pub fn insert(&mut self, index: usize, element: T) -> Result<(), CapacityError<T>>
         requires { index ≤ length self.old.items }
 
-        // What is returned, and what is left.
+        // If there is room, the element comes before the item at the index.
         ensures room { IsOk result ↔ (length self.old.items < CAP) }
         ensures items { OnOk result (self.new.items ≡ insert self.old.items index element) }
-        ensures full { IfErr result (λ refusal. refusal.element ≡ element) }
-        ensures unchanged { OnErr result (self.new ≡ self.old) }
-
-        // Where the list lies, and what it cost.
         ensures start { OnOk result (self.new.start ≡
             start_opened index (length self.old.items - index) CAP self.old.start) }
         ensures steps { OnOk result (self.new.steps ≡ more_puts 1
             (more_moves (moves_to_insert index (length self.old.items)) self.old.steps)) }
         ensures fewest { OnOk result (InsertMovesFewest
             index (length self.old.items) CAP self.old.start self.new.start) }
+
+        // If the deque is full, the element comes back, and nothing changes.
+        ensures full { IfErr result (λ refusal. refusal.element ≡ element) }
+        ensures unchanged { OnErr result (self.new ≡ self.old) }
 
         // What callers' proofs want.
         ensures within { length self.new.items ≤ CAP }
@@ -75,11 +75,9 @@ impl<T, const CAP: usize, B: Behavior> ArrayDeque<T, CAP, B> {
     /// assert!(rt; deque.into_vec()?.as_slice() == [1, 3, 4].as_slice());
     /// ```
     pub fn remove(&mut self, index: usize) -> Option<T>
-        // What is returned, and what is left.
+        // In range, the item at the index is removed and returned.
         ensures value { result ≡ slice_get self.old.items index }
         ensures items { self.new.items ≡ remove self.old.items index }
-
-        // Where the list lies, and what it cost.
         ensures start { OnSome result (self.new.start ≡
             start_closed index 1 (length self.old.items - 1 - index) CAP self.old.start) }
         ensures steps { OnSome result (self.new.steps ≡
@@ -88,10 +86,12 @@ impl<T, const CAP: usize, B: Behavior> ArrayDeque<T, CAP, B> {
         ensures fewest { OnSome result (RemoveMovesFewest
             index (length self.old.items) CAP self.old.start self.new.start) }
 
+        // Out of range nothing changes.
+        ensures none { IfNone result (self.new ≡ self.old) }
+
         // What callers' proofs want.
         ensures room { OnSome result (length self.new.items < CAP) }
         ensures within { length self.new.items ≤ CAP }
-        ensures none { IfNone result (self.new ≡ self.old) }
     {
         if index >= self.len() {
             return None;

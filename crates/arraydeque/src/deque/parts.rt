@@ -1,12 +1,11 @@
 //! Taking a range out of a deque, cutting one in two, and joining two.
 ghost use Rattle.std.specs.Prelude.{◌≡◌, ◌-◌, ◌*◌, ◌<◌, ◌≤◌, ◌++◌, [], length, take, drop, min, IfOk, OnOk, OnErr};
-ghost use Rattle.std.specs.Iterator.{YieldsFirst};
-ghost use Rattle.std.specs.Iterator.Runs.{YieldsInOrder};
+ghost use Rattle.std.specs.Map.Iter.{GivesInOrder, GivesInReverse};
 ghost use Rattle.std.specs.Mem.{type_size};
 ghost use Rattle.arraydeque_ring.specs.Ring.{up_by};
 ghost use Rattle.arraydeque_ring.specs.Steps.{no_steps, more_puts, more_takes};
 ghost use Rattle.arraydeque.specs.Deque.{keep_last};
-ghost use Rattle.arraydeque.specs.Range.{IsDrained, span_of};
+ghost use Rattle.arraydeque.specs.Range.{IsDrained, IsRangeOf, span_of};
 
 use super::ArrayDeque;
 use crate::behavior::{Behavior, Saturating, Wrapping};
@@ -49,21 +48,20 @@ impl<T, const CAP: usize, B: Behavior> ArrayDeque<T, CAP, B> {
     pub fn drain<R: RangeArgument<usize>>(&mut self, range: R) -> Result<Drain<T>, AllocError>
     where
         R: Drop,
-        requires in_order { let span = span_of R.RangeArgument range self.old.items in
-            span.from ≤ span.to }
-        requires in_bounds { let span = span_of R.RangeArgument range self.old.items in
-            span.to ≤ length self.old.items }
+        requires { IsRangeOf R.RangeArgument range self.old.items }
 
-        // What is returned, and what is left.
+        // If memory is granted, the items of the range are the drain's, and the gap is closed.
         ensures drains { let span = span_of R.RangeArgument range self.old.items in
             IfOk result (λ drained. IsDrained CAP span.from span.to self.old drained self.new) }
+
+        // If memory is refused, nothing changes.
         ensures unchanged { OnErr result (self.new ≡ self.old) }
         ensures refused { let span = span_of R.RangeArgument range self.old.items in
             OnErr result (0 < (span.to - span.from) * type_size T.row) }
 
         // What callers' proofs want.
-        ensures runs { YieldsInOrder (YieldsFirst {A = T} (λ remaining. remaining))
-            (λ remaining. remaining) }
+        ensures runs { GivesInOrder T }
+        ensures runs_back { GivesInReverse T }
         ensures within { length self.new.items ≤ CAP }
     {
         let from = range.start().unwrap_or(0);
@@ -92,20 +90,20 @@ impl<T, const CAP: usize, B: Behavior> ArrayDeque<T, CAP, B> {
     pub fn split_off(&mut self, at: usize) -> Result<Self, AllocError>
         requires { at ≤ length self.old.items }
 
-        // What is returned, and what is left.
+        // If memory is granted, the items from the index on are the new deque's.
         ensures tail { IfOk result (λ tail. tail ≡ record {
           items = drop at self.old.items;
           start = 0;
           steps = more_puts (length self.old.items - at) no_steps;
         }) }
         ensures items { OnOk result (self.new.items ≡ take at self.old.items) }
-        ensures unchanged { OnErr result (self.new ≡ self.old) }
-        ensures refused { OnErr result (0 < CAP * type_size T.row) }
-
-        // Where the list lies, and what it cost.
         ensures start { self.new.start ≡ self.old.start }
         ensures steps { OnOk result (self.new.steps ≡
             more_takes (length self.old.items - at) self.old.steps) }
+
+        // If memory is refused, nothing changes.
+        ensures unchanged { OnErr result (self.new ≡ self.old) }
+        ensures refused { OnErr result (0 < CAP * type_size T.row) }
 
         // What callers' proofs want.
         ensures within { length self.new.items ≤ CAP }

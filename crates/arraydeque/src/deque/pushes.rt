@@ -1,6 +1,6 @@
 //! Pushes, which differ by the policy.
-ghost use Rattle.std.specs.Prelude.{◌≡◌, ◌<◌, ◌≤◌, ◌-◌, ◌++◌, ◌∷◌, [], length, take, slice_get, None, nat_lt, option_to_list, if◌then◌else◌, IfErr, OnOk, OnErr, IsOk, ◌↔◌};
-ghost use Rattle.arraydeque_ring.specs.Ring.{place_of};
+ghost use Rattle.std.specs.Prelude.{◌≡◌, ◌<◌, ◌≤◌, ◌+◌, ◌-◌, ◌++◌, ◌∷◌, [], length, take, slice_get, option_to_list, IfErr, OnOk, OnErr, IsOk, ◌↔◌};
+ghost use Rattle.arraydeque_ring.specs.Ring.{place_of, up_by};
 ghost use Rattle.arraydeque_ring.specs.Steps.{more_puts, more_takes};
 ghost use Rattle.arraydeque.specs.Deque.{keep_last};
 
@@ -23,15 +23,15 @@ impl<T, const CAP: usize> ArrayDeque<T, CAP, Saturating> {
     /// ```
     #[inline]
     pub fn push_front(&mut self, element: T) -> Result<(), CapacityError<T>>
-        // What is returned, and what is left.
+        // If there is room, the element is the first item.
         ensures room { IsOk result ↔ (length self.old.items < CAP) }
         ensures items { OnOk result (self.new.items ≡ element ∷ self.old.items) }
-        ensures full { IfErr result (λ refusal. refusal.element ≡ element) }
-        ensures unchanged { OnErr result (self.new ≡ self.old) }
-
-        // Where the list lies, and what it cost.
         ensures start { OnOk result (self.new.start ≡ place_of self.old.start (CAP - 1) CAP) }
         ensures steps { OnOk result (self.new.steps ≡ more_puts 1 self.old.steps) }
+
+        // If the deque is full, the element comes back, and nothing changes.
+        ensures full { IfErr result (λ refusal. refusal.element ≡ element) }
+        ensures unchanged { OnErr result (self.new ≡ self.old) }
 
         // What callers' proofs want.
         ensures within { length self.new.items ≤ CAP }
@@ -56,15 +56,15 @@ impl<T, const CAP: usize> ArrayDeque<T, CAP, Saturating> {
     /// ```
     #[inline]
     pub fn push_back(&mut self, element: T) -> Result<(), CapacityError<T>>
-        // What is returned, and what is left.
+        // If there is room, the element is the last item.
         ensures room { IsOk result ↔ (length self.old.items < CAP) }
         ensures items { OnOk result (self.new.items ≡ self.old.items ++ element ∷ []) }
-        ensures full { IfErr result (λ refusal. refusal.element ≡ element) }
-        ensures unchanged { OnErr result (self.new ≡ self.old) }
-
-        // Where the list lies, and what it cost.
         ensures start { self.new.start ≡ self.old.start }
         ensures steps { OnOk result (self.new.steps ≡ more_puts 1 self.old.steps) }
+
+        // If the deque is full, the element comes back, and nothing changes.
+        ensures full { IfErr result (λ refusal. refusal.element ≡ element) }
+        ensures unchanged { OnErr result (self.new ≡ self.old) }
 
         // What callers' proofs want.
         ensures within { length self.new.items ≤ CAP }
@@ -93,14 +93,14 @@ impl<T, const CAP: usize> ArrayDeque<T, CAP, Wrapping> {
     /// ```
     #[inline]
     pub fn push_front(&mut self, element: T) -> Option<T>
-        // What is returned, and what is left.
+        // The element is the first item, and of a full deque the last one is displaced.
         ensures value { result ≡ slice_get (element ∷ self.old.items) CAP }
         ensures items { self.new.items ≡ take CAP (element ∷ self.old.items) }
-
-        // Where the list lies, and what it cost.
         ensures start { 0 < CAP → self.new.start ≡ place_of self.old.start (CAP - 1) CAP }
-        ensures steps { 0 < CAP → self.new.steps ≡ more_puts 1
-            (more_takes (if nat_lt (length self.old.items) CAP then 0 else 1) self.old.steps) }
+        ensures steps { let displaced = length self.old.items + 1 - CAP in
+            0 < CAP → self.new.steps ≡ more_puts 1 (more_takes displaced self.old.steps) }
+
+        // At capacity 0 nothing changes.
         ensures no_places { CAP ≡ 0 → self.new ≡ self.old }
 
         // What callers' proofs want.
@@ -134,20 +134,16 @@ impl<T, const CAP: usize> ArrayDeque<T, CAP, Wrapping> {
     /// ```
     #[inline]
     pub fn push_back(&mut self, element: T) -> Option<T>
-        // What is returned, and what is left.
-        ensures value { result ≡
-            (if nat_lt (length self.old.items) CAP
-            then None
-            else slice_get (self.old.items ++ element ∷ []) 0) }
+        // The element is the last item, and of a full deque the first one is displaced.
+        ensures value { let displaced = length self.old.items + 1 - CAP in
+            option_to_list result ≡ take displaced (self.old.items ++ element ∷ []) }
         ensures items { self.new.items ≡ keep_last CAP (self.old.items ++ element ∷ []) }
+        ensures start { let displaced = length self.old.items + 1 - CAP in
+            0 < CAP → self.new.start ≡ up_by displaced self.old.start CAP }
+        ensures steps { let displaced = length self.old.items + 1 - CAP in
+            0 < CAP → self.new.steps ≡ more_puts 1 (more_takes displaced self.old.steps) }
 
-        // Where the list lies, and what it cost.
-        ensures start { 0 < CAP → self.new.start ≡
-            (if nat_lt (length self.old.items) CAP
-            then self.old.start
-            else place_of self.old.start 1 CAP) }
-        ensures steps { 0 < CAP → self.new.steps ≡ more_puts 1
-            (more_takes (if nat_lt (length self.old.items) CAP then 0 else 1) self.old.steps) }
+        // At capacity 0 nothing changes.
         ensures no_places { CAP ≡ 0 → self.new ≡ self.old }
 
         // What callers' proofs want.

@@ -130,11 +130,17 @@ impl<T, const CAP: usize, B: Behavior> ArrayDeque<T, CAP, B> {
         T: Drop,
         F: Drop,
         requires { MayBeAsked F.FnMut f self.old.items }
+
+        // If `f` computes a test, the items that pass it stay.
+        ensures tested { (test : T → Bool) → ComputesAt F.FnMut test f
+            → self.new.items ≡ filter test self.old.items }
+
+        // Whatever `f` answers: which items stay, where the list lies, and what it cost.
         ensures retains { Retains (CalledAt F.FnMut) f
             (as_ring CAP self.old) (as_ring CAP self.new) }
+
+        // What callers' proofs want.
         ensures filtered { IsFiltered (CalledAt F.FnMut) f self.old.items self.new.items }
-        ensures tested { (test : T → Bool) → ComputesAt F.FnMut test f
-            → filter test self.old.items ≡ self.new.items }
         ensures no_longer { length self.new.items ≤ length self.old.items }
         ensures within { length self.new.items ≤ CAP }
     {
@@ -166,11 +172,17 @@ impl<T, const CAP: usize, B: Behavior> ArrayDeque<T, CAP, B> {
         T: Drop,
         F: Drop,
         requires { MayWrite F.FnMut f self.old.items }
+
+        // If `f` computes a test and a change, the items that pass the test stay, so changed.
+        ensures tested { (test : T → Bool) (change : T → T) → ComputesAtMut F.FnMut test change f
+            → self.new.items ≡ map change (filter test self.old.items) }
+
+        // Whatever `f` answers and writes: which items stay, where the list lies, and what it cost.
         ensures retains { RetainsMut (CalledAtMut F.FnMut) f
             (as_ring CAP self.old) (as_ring CAP self.new) }
+
+        // What callers' proofs want.
         ensures filtered { RetainsInTurn (CalledAtMut F.FnMut) f self.old.items self.new.items }
-        ensures tested { (test : T → Bool) (change : T → T) → ComputesAtMut F.FnMut test change f
-            → map change (filter test self.old.items) ≡ self.new.items }
         ensures no_longer { length self.new.items ≤ length self.old.items }
         ensures within { length self.new.items ≤ CAP }
     {

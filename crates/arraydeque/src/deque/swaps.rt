@@ -1,5 +1,5 @@
 //! Exchanges, and removals by an exchange.
-ghost use Rattle.std.specs.Prelude.{◌≡◌, ◌≤◌, ◌-◌, ◌<◌, ◌==◌, length, take, drop, slice_get, nat_lt, if◌then◌else◌, OnSome, IfNone};
+ghost use Rattle.std.specs.Prelude.{◌≡◌, ◌≤◌, ◌-◌, ◌<◌, ◌==◌, length, take, drop, slice_get, if◌then◌else◌, OnSome, IfNone};
 ghost use Rattle.std.specs.List.{swap};
 ghost use Rattle.arraydeque_ring.specs.Ring.{place_of};
 ghost use Rattle.arraydeque_ring.specs.Steps.{more_exchanges, more_takes};
@@ -21,23 +21,21 @@ impl<T, const CAP: usize, B: Behavior> ArrayDeque<T, CAP, B> {
     /// assert!(rt; deque.into_vec()?.as_slice() == [4, 2, 3].as_slice());
     /// ```
     pub fn swap_remove_back(&mut self, index: usize) -> Option<T>
-        // What is returned, and what is left.
+        // In range, the item at the index is returned, and the last takes its place.
         ensures value { result ≡ slice_get self.old.items index }
-        ensures items { self.new.items ≡
-            (if nat_lt index (length self.old.items)
-            then take (length self.old.items - 1)
-            (swap self.old.items index (length self.old.items - 1))
-            else self.old.items) }
-
-        // Where the list lies, and what it cost.
+        ensures items { let last = length self.old.items - 1 in
+            OnSome result (self.new.items ≡ take last (swap self.old.items index last)) }
         ensures start { self.new.start ≡ self.old.start }
-        ensures steps { OnSome result (self.new.steps ≡ more_takes 1
-            (more_exchanges (if index == length self.old.items - 1 then 0 else 1) self.old.steps)) }
+        ensures steps { let last = length self.old.items - 1 in
+            OnSome result (self.new.steps ≡ more_takes 1
+            (more_exchanges (if index == last then 0 else 1) self.old.steps)) }
+
+        // Out of range nothing changes.
+        ensures none { IfNone result (self.new ≡ self.old) }
 
         // What callers' proofs want.
         ensures room { OnSome result (length self.new.items < CAP) }
         ensures within { length self.new.items ≤ CAP }
-        ensures none { IfNone result (self.new ≡ self.old) }
     {
         self.ring.swap_remove_back(index)
     }
@@ -55,22 +53,19 @@ impl<T, const CAP: usize, B: Behavior> ArrayDeque<T, CAP, B> {
     /// assert!(rt; deque.into_vec()?.as_slice() == [2, 3, 1].as_slice());
     /// ```
     pub fn swap_remove_front(&mut self, index: usize) -> Option<T>
-        // What is returned, and what is left.
+        // In range, the item at the index is returned, and the first takes its place.
         ensures value { result ≡ slice_get self.old.items index }
-        ensures items { self.new.items ≡
-            (if nat_lt index (length self.old.items)
-            then drop 1 (swap self.old.items index 0)
-            else self.old.items) }
-
-        // Where the list lies, and what it cost.
+        ensures items { OnSome result (self.new.items ≡ drop 1 (swap self.old.items index 0)) }
         ensures start { OnSome result (self.new.start ≡ place_of self.old.start 1 CAP) }
         ensures steps { OnSome result (self.new.steps ≡ more_takes 1
             (more_exchanges (if index == 0 then 0 else 1) self.old.steps)) }
 
+        // Out of range nothing changes.
+        ensures none { IfNone result (self.new ≡ self.old) }
+
         // What callers' proofs want.
         ensures room { OnSome result (length self.new.items < CAP) }
         ensures within { length self.new.items ≤ CAP }
-        ensures none { IfNone result (self.new ≡ self.old) }
     {
         self.ring.swap_remove_front(index)
     }

@@ -1,7 +1,7 @@
 //! A second ring of clones of the items.
-ghost use Rattle.std.specs.Prelude.{◌≡◌, ◌⊎◌, ◌*◌, ◌+◌, ◌<◌, ◌≤◌, ◌++◌, length, Any, IfOk, OnOk, OnErr};
+ghost use Rattle.std.specs.Prelude.{◌≡◌, ◌⊎◌, ◌*◌, ◌+◌, ◌<◌, ◌≤◌, ◌++◌, length, IfOk, OnOk, OnErr};
 ghost use Rattle.std.specs.Mem.{type_size};
-ghost use Rattle.arraydeque_ring.specs.Ring.{ClonesAreSame};
+ghost use Rattle.arraydeque_ring.specs.Ring.{ClonesAreSame, CloneMayFail};
 ghost use Rattle.arraydeque_ring.specs.Steps.{no_steps, more_puts};
 
 use super::Ring;
@@ -32,7 +32,7 @@ impl<T> Ring<T> {
           steps = more_puts (length self.now.items) no_steps;
         }) }
         ensures refused { OnErr result ((0 < self.now.capacity * type_size T.row)
-            ⊎ Any (λ x. ¬ T.is_infallible x) self.now.items) }
+            ⊎ CloneMayFail T.is_infallible self.now.items) }
     {
         let mut clones = Ring::new(self.alloc(), self.capacity())?;
         let (front, back) = self.as_slices();
@@ -55,7 +55,7 @@ impl<T> Ring<T> {
           items = self.old.items ++ items.now;
           steps = more_puts (length items.now) self.old.steps;
         }) }
-        ensures refused { OnErr result (Any (λ x. ¬ T.is_infallible x) items.now) }
+        ensures refused { OnErr result (CloneMayFail T.is_infallible items.now) }
     {
         let _fits = self.slots.capacity();
         for item in items {
