@@ -1,5 +1,6 @@
 //! Pops of an item that a closure wants.
-ghost use Rattle.std.specs.Prelude.{◌≡◌, ◌<◌, ◌≤◌, Some, length, min, slice_get, OnSome, IfNone};
+ghost use Rattle.std.specs.Prelude.{◌≡◌, ◌<◌, ◌≤◌, length, min, slice_get, OnSome, IfNone};
+ghost use Rattle.std.specs.Option.{ForSome};
 ghost use Rattle.std.specs.Fn.{FnOnceTakesAtMut};
 ghost use Rattle.std.specs.List.Retain.{PopsIf, PopsFrontIf};
 ghost use Rattle.arraydeque_ring.specs.Ring.{place_of};
@@ -25,8 +26,7 @@ impl<T, const CAP: usize, B: Behavior> ArrayDeque<T, CAP, B> {
     /// assert!(rt; deque.into_vec()?.as_slice() == [2, 3].as_slice());
     /// ```
     pub fn pop_front_if<P: FnOnce(&mut T) -> bool>(&mut self, predicate: P) -> Option<T>
-        requires { (item : T) → slice_get self.old.items 0 ≡ Some item →
-            FnOnceTakesAtMut P.FnOnce predicate item }
+        requires { ForSome (slice_get self.old.items 0) (FnOnceTakesAtMut P.FnOnce predicate) }
 
         // What is returned, and what is left.
         ensures cases { PopsFrontIf P.FnOnce self.old.items self.new.items predicate result }
@@ -65,8 +65,7 @@ impl<T, const CAP: usize, B: Behavior> ArrayDeque<T, CAP, B> {
     /// assert!(rt; deque.into_vec()?.as_slice() == [5].as_slice());
     /// ```
     pub fn pop_back_if<P: FnOnce(&mut T) -> bool>(&mut self, predicate: P) -> Option<T>
-        requires { (item : T) → last_item self.old.items ≡ Some item →
-            FnOnceTakesAtMut P.FnOnce predicate item }
+        requires { ForSome (last_item self.old.items) (FnOnceTakesAtMut P.FnOnce predicate) }
 
         // What is returned, and what is left.
         ensures cases { PopsIf P.FnOnce self.old.items self.new.items predicate result }
