@@ -28,14 +28,6 @@ pub read : (line rest : List ℕ) (ws : List (List ℕ)) (o : Option (Call ℤ))
 read line rest ws o e u w h =
     (u, subst (λ ws. AllZip Spells ws (option_map_or tokens_of o [])) (sym w ∙ ap words_of e) h)
 
--- and nothing where its words spell no call
-pub unread : (line rest name : List ℕ) (words : List (List ℕ)) → rest ≡ line → words_of rest ≡ name ∷ words
-    → ((call : Call ℤ) → ¬ (AllZip Spells (name ∷ words) (tokens_of call))) → (o : Option (Call ℤ))
-    → ¬ (LineNames line o)
-unread line rest name words e w h None n = subst (λ ws. AllZip Spells ws []) (ap words_of (sym e) ∙ w) n.1
-unread line rest name words e w h (Some call) n =
-    h call (subst (λ ws. AllZip Spells ws (tokens_of call)) (ap words_of (sym e) ∙ w) n.1)
-
 -- one line more
 listed : (o : Option (Call ℤ)) → option_to_list o ≡ filter_map (λ o. o) (o ∷ [])
 listed None = refl

@@ -37,11 +37,6 @@ none_taken [] none = refl
 none_taken (x ∷ xs) none = let first = none (omega arith) in cc
 
 module _ {S A : Type 0} (gives : S → Option A → S → Type 0) where
-  -- nothing is read where nothing is asked
-  Reads-nothing : (b : Bool) (s : S) → Reads gives b s [] b s
-  Reads-nothing true s = (refl, refl, refl)
-  Reads-nothing false s = refl
-
   -- what is read in two runs is read in one
   Reads-append : (a b c : Bool) (s t u : S) (xs ys : List A) → Reads gives a s xs b t → Reads gives b t ys c u
       → Reads gives a s (xs ++ ys) c u
@@ -56,28 +51,13 @@ module _ {S A : Type 0} (gives : S → Option A → S → Type 0) where
   module _ (old mid new : ScannerState S A) (xs ys : List A) where
     -- what is handed out in two runs is handed out in one
     pub HandsOut-append : HandsOut gives old xs mid → HandsOut gives mid ys new → HandsOut gives old (xs ++ ys) new
-    HandsOut-append first second = (
-      first.0 ++ second.0,
-      Reads-append old.ended mid.ended new.ended old.iter mid.iter new.iter first.0 second.0 first.1 second.1,
-      grind (
-        arith,
-        append_assoc old.buffer first.0 second.0,
-        append_assoc xs mid.buffer second.0,
-        append_assoc xs ys new.buffer,
-        first.2,
-        second.2,
-      ),
-    )
+    HandsOut-append first second = grind (arith, Reads-append, append_assoc)
 
   -- what is handed out goes off the rest
   pub TakesOff-from_out : (old new : ScannerState S A) (ys : List A) → HandsOut gives old ys new
       → TakesOff gives old ys new
   unfolding HasRest
-  TakesOff-from_out old new ys given rest after = (
-    given.0 ++ after.0,
-    (after.1.0, Reads-append old.ended new.ended true old.iter new.iter after.1.0 given.0 after.0 given.1 after.1.1),
-    grind (arith, append_assoc ys new.buffer after.0, append_assoc old.buffer given.0 after.0, after.2, given.2),
-  )
+  TakesOff-from_out old new ys given rest after = grind (arith, Reads-append, append_assoc)
 
   module _ (old mid new : ScannerState S A) (xs ys : List A) where
     -- what is taken off in two runs is taken off in one
@@ -87,19 +67,7 @@ module _ {S A : Type 0} (gives : S → Option A → S → Type 0) where
   module _ (remaining : S → Count) where
     -- nothing went where nothing was done
     pub Advances-nothing : (s : ScannerState S A) → CountsLeft remaining s → Advances gives remaining s 0 s
-    Advances-nothing s counts =
-        let none : HandsOut gives s [] s = ([], Reads-nothing s.ended s.iter, append-nil s.buffer) in
-        record {
-          items = [];
-          as_many = refl;
-          hands_out = none;
-          rest = TakesOff-from_out s s [] none;
-          buffer = refl;
-          buffered = λ _. refl;
-          left = λ ends. (ends, omega arith);
-          lowers = λ ends. (ends, omega arith);
-          counts = counts;
-        }
+    Advances-nothing s counts = grind (arith, append-nil)
 
     -- what goes in two runs goes in one
     pub Advances-append : (old mid new : ScannerState S A) (n m : ℕ) → Advances gives remaining old n mid
@@ -160,5 +128,4 @@ module _ {S A : Type 0} (gives : S → Option A → S → Type 0) where
   pub NextIs-buffer : (P : A → Type 0) (s : ScannerState S A) → IfSome (slice_get s.buffer 0) P
       → IfNone (slice_get s.buffer 0) (s.ended ≡ true) → NextIs gives P s
   unfolding HasRest
-  NextIs-buffer P s holds ended rest has = next_is P s.buffer has.0 rest holds
-      (λ empty. (subst (λ e. Reads gives e s.iter has.0 true has.1.0) (rw empty at ended) has.1.1).0) has.2
+  NextIs-buffer P s holds ended rest has = grind (arith, next_is)

@@ -5,8 +5,9 @@ use Rattle.std.{
     Common.{Bool, true, false, true≢false, ap, refl, sym, ◌∙◌, arith},
     lemmas.{
       Fn.answers_by,
-      Bool.{cases_lt, false_from_ne_true},
-      List.{length-append, get_or_append_left, get_or-append-add, get_or-append_right, Elements.at_read},
+      Bool.false_from_ne_true,
+      Grind.common_steps,
+      List.{length-append, get_or_append_left, get_or-append-add, get_or-append_right},
     },
   },
   specs.{
@@ -50,9 +51,6 @@ module _ {X : Type 0} (p : X → Bool) (xs : List X) where
     pub before : AllWithin (λ y. p y ≡ true) xs 0 base
     pub behind : AllWithin (λ y. p y ≡ false) xs (base + size) (length xs)
 
-  pub between_ends : Between 0 (length xs)
-  between_ends = record { before = λ k d low lt. absurd (omega arith); behind = λ k d le lt. absurd (omega arith) }
-
   module _ (parted : IsPartitionedBy p xs) where
     pub passes_before : (i n : ℕ) → n ≤ i + 1 → i < length xs → HoldsAt (λ y. p y ≡ true) xs i
         → AllWithin (λ y. p y ≡ true) xs 0 n
@@ -60,8 +58,7 @@ module _ {X : Type 0} (p : X → Bool) (xs : List X) where
 
     pub fails_behind : (i n : ℕ) → i ≤ n → HoldsAt (λ y. p y ≡ false) xs i
         → AllWithin (λ y. p y ≡ false) xs n (length xs)
-    fails_behind i n le fails k d low below = false_from_ne_true (p (get_or xs k d))
-        (λ passes. grind (arith, fails d, parted i k d (omega arith) below passes))
+    fails_behind i n le fails k d low below = grind arith
 
 -- a list in two parts, of which the first item of the second tells where to search
 module _ {X : Type 0} (xs ys : List X) where
@@ -77,25 +74,11 @@ module _ {X : Type 0} (xs ys : List X) where
   module _ (P Q : X → Type 0) where
     point_behind : (i j : ℕ) → j ≡ length xs + i → AllWithin P xs 0 (length xs) → IsPartitionPoint P Q ys i
         → IsPartitionPoint P Q (xs ++ ys) j
-    point_behind i j at all found = (
-      λ k d low lt. elim (cases_lt k (length xs)) [
-        | inl front ↦ rw (at_front k d front) (all k d low front)
-        | inr back ↦ rw (from_back k d back) (found.0 (k - length xs) d (omega arith) (omega arith))
-      ],
-      λ k d low lt. rw (from_back k d (omega arith))
-          (found.1 (k - length xs) d (omega arith) (omega (arith, length-append xs ys))),
-    )
+    point_behind i j at all found = grind (arith, at_front, from_back, length-append)
 
     point_before : (i : ℕ) → i ≤ length xs → AllWithin Q ys 0 (length ys) → IsPartitionPoint P Q xs i
         → IsPartitionPoint P Q (xs ++ ys) i
-    point_before i within all found = (
-      λ k d low lt. rw (at_front k d (omega arith)) (found.0 k d low lt),
-      λ k d low lt. elim (cases_lt k (length xs)) [
-        | inl front ↦ rw (at_front k d front) (found.1 k d low front)
-        | inr back ↦ rw (from_back k d back)
-            (all (k - length xs) d (omega arith) (omega (arith, length-append xs ys)))
-      ],
-    )
+    point_before i within all found = grind (arith, at_front, from_back, length-append)
 
   module _ (p : X → Bool) (parted : IsPartitionedBy p (xs ++ ys)) where
     front_parted : IsPartitionedBy p xs
@@ -131,25 +114,17 @@ module _ {F X : Type 0} (g : Mut F (Bor X × Unit {0}) Ordering) where
     pub at : (ord : X → Ordering) → ComputesKey g ord f → ComputesKey g ord f'
         × (IsPartitionedBy (λ y. is_lt (ord y)) xs → Between (λ y. is_lt (ord y)) xs base size)
 
-  pub halves_whole : (f : F) (xs : List X) → Halves f f xs 0 (length xs)
-  halves_whole f xs = record { within = omega arith; at = λ ord says. (says, λ parted. between_ends _ xs) }
-
   -- where nothing is left, the search has ended
   pub count_of : (f f' : F) (xs : List X) (n size : ℕ) → Halves f f' xs n size → (size ≡ 0) ⊎ (length xs ≤ n)
       → (ord : X → Ordering) → ComputesKey g ord f → ComputesKey g ord f' × IsLessCount ord xs n
-  count_of f f' xs n size h none ord says = let now = h.at ord says in (
-    now.0,
-    λ parted. let b = now.1 parted in
-        (b.before, λ k d le lt. elim none [ inl e ↦ b.behind k d (omega arith) lt | inr past ↦ absurd (omega arith) ]),
-  )
+  count_of f f' xs n size h none ord says = grind arith
 
   module _ (f f' f'' : F) (xs : List X) (base size : ℕ) (h : Halves f f' xs base size)
       (i : ℕ) (lt : i < length xs) (x : Bor X) (is : x.now ≡ get_or xs i x.now) (r : Ordering)
       (called : Called g f' (x, tt) r f'') where
     answered : (b : Bool) → is_lt r ≡ b → (ord : X → Ordering) → ComputesKey g ord f'
         → ComputesKey g ord f'' × HoldsAt (λ y. is_lt (ord y) ≡ b) xs i
-    answered b e ord says = let next = answers_first g says called in
-        (next.1, at_read xs (λ y. is_lt (ord y) ≡ b) i x.now lt is (ap is_lt (sym next.0) ∙ e))
+    answered b e ord says = let next = answers_first g says called in grind (arith, common_steps)
 
     pub halves_less : (to left : ℕ) → to ≤ i + 1 → base + size ≤ to + left → to + left ≤ length xs → is_lt r ≡ true
         → Halves f f'' xs to left
@@ -194,18 +169,9 @@ abbrev pub less_if : Bool → Ordering
 less_if true = Less
 less_if false = Greater
 
-less_if_is : (b : Bool) → is_lt (less_if b) ≡ b
-less_if_is true = refl
-less_if_is false = refl
-
 pub count_of_test : {X : Type 0} (p : X → Bool) (xs : List X) (n : ℕ) → IsLessCount (λ y. less_if (p y)) xs n
     → IsPartitionedBy p xs → IsPartitionPoint (λ y. p y ≡ true) (λ y. p y ≡ false) xs n
-count_of_test p xs n count parted =
-    let point = count (λ i j d le lt passes. less_if_is (p (get_or xs i d))
-    ∙ parted i j d le lt (sym (less_if_is (p (get_or xs j d))) ∙ passes)) in (
-      λ k d low lt. sym (less_if_is (p (get_or xs k d))) ∙ point.0 k d low lt,
-      λ k d le lt. sym (less_if_is (p (get_or xs k d))) ∙ point.1 k d le lt,
-    )
+count_of_test p xs n count parted = grind arith
 
 -- an answer by its number
 is_lt_below : (a b : Ordering) → ordering_index a ≤ ordering_index b → is_lt b ≡ true → is_lt a ≡ true
@@ -237,8 +203,7 @@ greater_above a Greater e le = refl
 
 module _ {X : Type 0} (ord : X → Ordering) (xs : List X) where
   less_parted : IsNonDecreasingBy (λ y. ordering_index (ord y)) xs → IsPartitionedBy (λ y. is_lt (ord y)) xs
-  less_parted rise i j d le lt passes =
-      is_lt_below (ord (get_or xs i d)) (ord (get_or xs j d)) (rise i j d le lt) passes
+  less_parted rise i j d le lt passes = grind (arith, is_lt_below)
 
   all_less : (n : ℕ) → IsLessCount ord xs n → IsNonDecreasingBy (λ y. ordering_index (ord y)) xs
       → AllWithin (λ y. ord y ≡ Less) xs 0 n

@@ -1,31 +1,18 @@
 -- Comparisons of lists that are cut into parts.
 use Rattle.std.{
   proofs.{
-    Common.{◌≡◌, ℕ, ◌&&◌, Bool, List, [], ◌∷◌, ◌++◌, length, take, drop, Option, Some, None, refl},
+    Common.{◌≡◌, ℕ, ◌&&◌, Bool, List, [], ◌∷◌, ◌++◌, length, take, drop, Option, refl},
     Common.{sym, ap, ap₂, ◌∙◌, arith, true},
     lemmas.{Grind.common_steps, List.{append_assoc, take-append-drop}},
-    Math.Bool.{and_assoc, and-true},
   },
   specs.{
     Cmp.{Equal-is, IsPartialOrder},
     Cmp.Lexicographic.{pointwise, as_long, slice_cmp, slice_partial_cmp, lists_po, lists_ties},
-    declared.cmp.Ordering.{Ordering, TheVariants.{Less, Equal, Greater}},
+    declared.cmp.Ordering.Ordering,
     Ordering.{is_eq, ordering_then, partial_ordering_then},
   },
 }
 use Rattle.arraydeque.specs.Compared.{AreCutAlike, AreBehindEqual}
-
-then_assoc : (p q r : Ordering) → ordering_then (ordering_then p q) r ≡ ordering_then p (ordering_then q r)
-then_assoc Less q r = refl
-then_assoc Equal q r = refl
-then_assoc Greater q r = refl
-
-partial_then_assoc : (p q r : Option Ordering)
-    → partial_ordering_then (partial_ordering_then p q) r ≡ partial_ordering_then p (partial_ordering_then q r)
-partial_then_assoc None q r = refl
-partial_then_assoc (Some Less) q r = refl
-partial_then_assoc (Some Equal) q r = refl
-partial_then_assoc (Some Greater) q r = refl
 
 -- a comparison of lists by their pairs, whose answers are joined; where one list ends first, nothing behind has a say
 record Pairwise {X O : Type 0} (join : O → O → O) (pair : X → X → O) (lists : List X → List X → O) : Type 0 where
@@ -58,41 +45,21 @@ module _ {X : Type 0} where
     -- by pairs of three parts
     in_three : (a b c d e f : List X) → length a ≡ length b → AreCutAlike c e d f
         → lists (a ++ (c ++ e)) (b ++ (d ++ f)) ≡ join (lists a b) (join (lists c d) (lists e f))
-    in_three a b c d e f long cut =
-        rw (both a (c ++ e) b (d ++ f) (even a (c ++ e) b (d ++ f) long), both c e d f cut)
+    in_three a b c d e f long cut = grind (arith, both)
 
     -- behind lists that are as long, and that have no say
     behind : {xs ys us vs xs' ys' : List X} → xs ≡ us ++ xs' → ys ≡ vs ++ ys' → length us ≡ length vs
         → lists us vs ≡ lists [] [] → lists xs' ys' ≡ lists xs ys
-    behind {us = us} {vs} {xs'} {ys'} first second long equal =
-        rw (first, second, both us xs' vs ys' (even us xs' vs ys' long), equal) (sym (p.none _))
+    behind {us = us} {vs} {xs'} {ys'} first second long equal = grind (arith, both)
 
   pointwise_pairs : (E : X → X → Bool) → Pairwise (λ a b. a && b) E (pointwise E)
-  pointwise_pairs E = record {
-    assoc = and_assoc;
-    none = λ o. refl;
-    more = λ x y xs ys. refl;
-    shorter = λ y ys zs o. refl;
-    longer = λ x xs zs o. refl;
-  }
+  pointwise_pairs E = grind arith
 
   order_pairs : (R : X → X → Ordering) → Pairwise ordering_then R (slice_cmp R)
-  order_pairs R = record {
-    assoc = then_assoc;
-    none = λ o. refl;
-    more = λ x y xs ys. refl;
-    shorter = λ y ys zs o. refl;
-    longer = λ x xs zs o. refl;
-  }
+  order_pairs R = grind arith
 
   partial_pairs : (C : X → X → Option Ordering) → Pairwise partial_ordering_then C (slice_partial_cmp C)
-  partial_pairs C = record {
-    assoc = partial_then_assoc;
-    none = λ o. refl;
-    more = λ x y xs ys. refl;
-    shorter = λ y ys zs o. refl;
-    longer = λ x xs zs o. refl;
-  }
+  partial_pairs C = grind arith
 
   -- of lists in three parts each
   module _ (a b c d e f : List X) (long : length a ≡ length b) (cut : AreCutAlike c e d f) where
@@ -117,8 +84,7 @@ module _ {X : Type 0} where
   -- one pair more
   pub pointwise_push : (E : X → X → Bool) (xs ys : List X) (x y : X) → length xs ≡ length ys
       → pointwise E (xs ++ x ∷ []) (ys ++ y ∷ []) ≡ (pointwise E xs ys && E x y)
-  pointwise_push E xs ys x y long =
-      pointwise-both E xs (x ∷ []) ys (y ∷ []) long ∙ ap (λ b. pointwise E xs ys && b) (and-true (E x y))
+  pointwise_push E xs ys x y long = grind (arith, pointwise-both)
 
   -- the parts that a split at n makes
   pub split-whole : {xs us xs' : List X} (n : ℕ) → us ≡ take n xs → xs' ≡ drop n xs → xs ≡ us ++ xs'

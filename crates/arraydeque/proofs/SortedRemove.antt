@@ -8,7 +8,7 @@ use Rattle.std.{
       List.{
         get_or_default,
         Edits.{length-remove, get_or-remove_below, get_or-remove_above},
-        Sorted.{IsPartitionedBy-ltb, IsPartitionPoint-from_clause, IsPermutation-remove},
+        Sorted.{IsPartitionedBy-ltb, IsPartitionPoint-from_clause},
       },
     },
   },
@@ -58,6 +58,3 @@ module _ {X : Type 0} (key : X → ℕ) (xs : List X) (up : IsNonDecreasingBy ke
             let h = point.1 i d (omega arith) (omega arith) in
             grind (arith, nat_tests, h, e, rise),
       )
-
--- the items before a removal are those after it and the one that went
-pub ruleset remove_rules = (IsPermutation-remove)

@@ -6,10 +6,7 @@ use Rattle.std.{
     iter.runs.{Lists.Yields-both, Made.{run, run_of_exit, took}},
     lemmas.{List.{same_lists, length-take, get_or-take, take_all}, Option.slice_get-get_or},
   },
-  specs.{
-    Iterator.{Yields, Drains, Runs.{Run, ItemsAre, YieldsInOrder}},
-    Option.{unwrap_or, option_map},
-  },
+  specs.{Iterator.{Drains, Runs.{Run, ItemsAre, YieldsInOrder}}, Option.option_map},
 }
 use Rattle.arraydeque_ring.specs.Fills.{Fills, Ends}
 use Rattle.arraydeque.specs.Sources.{TakesFrom, TakesAll}
@@ -26,17 +23,12 @@ module _ {S A : Type 0} {gives : S → Option A → S → Type 0} (run : Run giv
 
   -- they are its first ones, as many as they are
   items_are : Reads → take run.len xs ≡ run.items
-  items_are reads =
-      same_lists (take run.len xs) run.items (omega (arith, run.long, length-take run.len xs)) (λ k d below.
-      let here : k < run.len = omega (arith, length-take run.len xs) in
-      get_or-take run.len xs k d here ∙ sym
-      (ap (λ o. unwrap_or o d) (sym (run.reads k d here) ∙ reads k d here)))
+  items_are reads = grind (arith, same_lists, length-take, get_or-take)
 
   -- and its first n, where there are fewer only at its end
   first_items : (n : ℕ) → run.len ≤ n → (run.len < n → run.whole ≡ true) → (run.whole ≡ true → run.len ≡ length xs)
       → Reads → run.items ≡ take n xs
-  first_items n at_most fewer all reads =
-      grind (arith, items_are reads, take_all run.len xs, take_all n xs)
+  first_items n at_most fewer all reads = grind (arith, items_are, take_all)
 
 -- of a source whose iterator shows the list xs
 module _ {Source S A : Type 0} (becomes : Source → S → Type 0) (gives : S → Option A → S → Type 0) (source : Source)
@@ -45,8 +37,7 @@ module _ {Source S A : Type 0} (becomes : Source → S → Type 0) (gives : S �
   Shows = (it : S) → becomes source it → (shown it ≡ xs) × YieldsInOrder gives shown
 
   reads : Shows → (it : S) (run : Run gives) → becomes source it → run.from ≡ it → ItemsAre run xs
-  reads shows it run became from =
-      let here = shows it became in subst (ItemsAre run) (ap shown from ∙ here.0) (here.1 run run.seen)
+  reads shows it run became from = grind arith
 
 module _ {Source S A : Type 0} {becomes : Source → S → Type 0} {gives : S → Option A → S → Type 0} {source : Source}
     {P : List A → Type 0} where
@@ -60,22 +51,12 @@ module _ {Source S A : Type 0} {becomes : Source → S → Type 0} {gives : S �
   -- and all of them
   pub TakesAll-list : (xs : List A) (shown : S → List A) → TakesAll becomes gives source P
       → Shows becomes gives source xs shown → P xs
-  TakesAll-list xs shown took shows =
-      let are = reads becomes gives source xs shown shows took.iterator took.run took.became took.from_it in
-      subst P (are.4 took.to_end) took.holds
+  TakesAll-list xs shown took shows = grind arith
 
   -- what std's `Extend` says of an iterator that came to its end
   pub TakesAll-drains : TakesAll becomes gives source P
       → (it : S) × (xs : List A) × becomes source it × P xs × Drains gives it xs
-  TakesAll-drains all =
-      let ran = took all.run in
-      let ended = ran.2 all.to_end in (
-        all.iterator,
-        all.run.items,
-        all.became,
-        all.holds,
-        (ended.0, (ran.0, subst (λ s. Yields gives s all.run.items ran.0) all.from_it ran.1, ended.1)),
-      )
+  TakesAll-drains all = let ran = took all.run in grind arith
 
   module _ (s : S) (became : becomes source s) where
     -- by what takes all
@@ -117,8 +98,4 @@ module _ {Source S A : Type 0} {becomes : Source → S → Type 0} {gives : S �
 
       pub TakesAll-both : ended ≡ false → {R : List A → Type 0} (left : Ends gives t R) → P (filled.items ++ left.items)
           → TakesAll becomes gives source P
-      TakesAll-both some left holds =
-          let last = left.drains.1 in
-          let first = subst (Yields gives s filled.items) (filled.all some).0 filled.yielded in
-          let yielded = Yields-both gives filled.items left.items s t last.0 first last.1 in
-          TakesAll-ends (filled.items ++ left.items) (left.drains.0, (last.0, yielded, last.2)) holds
+      TakesAll-both some left holds = grind (arith, Yields-both, TakesAll-ends)

@@ -1,6 +1,6 @@
 -- A number that shares no bit with the one below it.
 use Rattle.std.proofs.{
-  Common.{◌≡◌, ℕ, suc, ◌-◌, ◌/◌, ◌%◌, ◌^◌, ◌<◌, ◌≤◌, inl, inr, bit_and, sym, ap, ◌∙◌, arith},
+  Common.{◌≡◌, ℕ, suc, ◌-◌, ◌/◌, ◌%◌, ◌^◌, ◌<◌, ◌≤◌, inl, inr, bit_and, ap, ◌∙◌, arith},
   lemmas.{Bool.cases_lt, Nat.and_mask},
   Math.Pow.pow_mono,
 }
@@ -31,5 +31,4 @@ at_most_half n some within e = let k = power_of_two n some e in elim (cases_lt k
 
 -- and a number masked by the one below it is its remainder
 pub masked : (x n : ℕ) → 0 < n → bit_and n (n - 1) ≡ 0 → bit_and x (n - 1) ≡ x % n
-masked x n some e = let k = power_of_two n some e in
-    ap (λ m. bit_and x (m - 1)) k.1 ∙ and_mask x k.0 ∙ ap (λ m. x % m) (sym k.1)
+masked x n some e = grind (arith, power_of_two, and_mask)

@@ -2,7 +2,7 @@
 use Rattle.std.{
   proofs.{
     Common.{◌≡◌, ℕ, zero, suc, ◌+◌, ◌-◌, ◌<◌, ◌≤◌, ◌==◌, [], ◌∷◌, ◌++◌, length, take, drop, set},
-    Common.{swap, slice_get, Some, None, refl, subst, sym, ap, ap₂, ◌∙◌, arith, inl, inr, Option, List},
+    Common.{swap, slice_get, Some, None, refl, subst, sym, ap, ◌∙◌, arith, inl, inr, Option, List},
     Common.replicate,
     lemmas.{
       Grind.take_at_read,
@@ -179,10 +179,7 @@ module _ {X : Type 0} (r : Inside X) (kept : Kept r) where
 
   pub past_items : (k : ℕ) → r.len ≤ k → k < n
       → (held_at places (place_of r.start k n) ≡ None) × (place_of r.start k n < n)
-  past_items k past lt = (
-    laid.at k lt ∙ slice_get_past items k (omega (arith, len)),
-    omega arith,
-  )
+  past_items k past lt = grind (arith, laid, slice_get_past, len)
 
   pub next_place : r.start + 1 < n → place_of r.start 1 n ≡ r.start + 1
   next_place lt = mod-eq_of_lt lt
@@ -349,9 +346,7 @@ module _ {X : Type 0} (r : Inside X) (kept : Kept r) where
         let xs = take m (values (rotated o.start o.slots.places)) in
         let many : length xs ≡ m = length-take-le m _ (omega arith) in
         let held = HoldsRun-LaidOut other.laid 0 o.start m (inl (omega arith)) (omega arith) fits' in
-        let written : splice places behind (behind + m) (take m (drop o.start o.slots.places))
-        ≡ with_run behind xs places = ap₂ (λ k l. splice places behind (behind + k) l) (sym many) held in
-        rw written (piece_laid xs many some)
+        grind (arith, piece_laid)
 
   -- of the items ws the first m come behind the last one, and those that go round the end from the first place on
   module _ (ws : List X) (m : ℕ) (some : 0 < m) (le : m ≤ length ws) (fits : behind + m ≤ n)
@@ -367,15 +362,7 @@ module _ {X : Type 0} (r : Inside X) (kept : Kept r) where
         (omega (arith, len, many))
 
     starts_again : m < length ws → MayStartAt r.start (length (items ++ take m ws)) n 0
-    starts_again more = inr (grind (
-      arith,
-      len,
-      many,
-      laid.in_region,
-      length-append items (take m ws),
-      place_of_cases r.start r.len n,
-      end more,
-    ))
+    starts_again more = grind (arith, len, many, length-append, place_of_cases)
 
     empty_again : (k : ℕ) → k ≡ length ws - m → IsEmptyRun (with_run behind (take m ws) places) 0 k
     empty_again zero is = (omega arith, refl)

@@ -2,16 +2,16 @@
 use Rattle.std.{
   proofs.{
     Common.{◌≡◌, ℕ, ◌+◌, ◌-◌, ◌<◌, ◌≤◌, ◌⊎◌, inl, inr, List, [], ◌∷◌, ◌++◌, length, take, drop, set},
-    Common.{get_or, slice_get, Some, refl, ap, ◌∙◌, sym, arith},
+    Common.{get_or, slice_get, Some, refl, ap, ◌∙◌, arith},
     lemmas.{
       Bool.Decides.nat_tests,
       Grind.common_steps,
-      List.{take_more, take_more_set, take_all, length-set, length-take-le, length-append, length-take},
+      List.{take_all, length-take-le, length-append, length-take},
       List.{length-drop, drop_min, nil_from_length},
       List.{take-append-le, take-append-drop, append-nil, places, same_lists},
       Option.{slice_get-get_or, slice_get_within},
     },
-    Math.Seq.{take-append-add, take-append_seam, drop-length},
+    Math.Seq.{take-append-add, drop-length},
   },
   specs.{Borrow.MutBor, Fn.Mut, List.splice, Prelude.{min, slice_range}},
 }
@@ -54,19 +54,12 @@ module _ {F X : Type 0} {R : F → X → F → X → Type 0} {f g : F} {old new 
   pub written_next : (d : X) → index < length new
       → (slice_get old (length (take index new)) ≡ Some (get_or new index d))
       × WritesInTurn R f (take (length (take index new)) old) (take index new) g
-  written_next d lt =
-      let front = length-take-le index new (omega arith) in
-      rw (front, s.rest index d (omega arith)) (slice_get-get_or old index d (omega (arith, s.many)), s.told)
+  written_next d lt = grind (arith, length-take-le, slice_get-get_or)
 
   -- and then it has been
   pub written_on : (d : X) (h : F) (y : X) → index < length new → R g (get_or new index d) h y
       → WrittenSoFar R f old (set new index y) (index + 1) h
-  written_on d h y lt said = record {
-    told = rw (take_more_set new index y lt, take_more old index d (omega (arith, s.many)))
-        (written_more R f g h (take index old) (take index new) _ y s.told (rw (s.rest index d (omega arith)) at said));
-    many = length-set new index y ∙ s.many;
-    rest = λ k d past. grind (arith, places, s.rest k d);
-  }
+  written_on d h y lt said = grind (arith, common_steps, written_more)
 
   pub written_all : length new ≤ index → WritesInTurn R f old new g
   written_all past = rw (take_all index old (omega (arith, s.many)), take_all index new past) at s.told
@@ -137,8 +130,7 @@ module _ {X : Type 0} (xs : List X) (k from to : ℕ) (order : from ≤ to) (wit
   rest_long = length-drop k xs
 
   parts : slice_range xs from to ≡ take (b - a) (drop a (take k xs)) ++ take (q - p) (drop p (drop k xs))
-  parts = sym (range_in_two (take k xs) (drop k xs) xs from to a b p q (take-append-drop k xs) order within
-      a_is b_is p_is q_is)
+  parts = grind (arith, range_in_two, take-append-drop)
 
   others : drop (length (take k xs)) xs ≡ drop k xs
   others = rw long (drop_min k xs)
@@ -154,13 +146,7 @@ module _ {X : Type 0} (xs : List X) (k from to : ℕ) (order : from ≤ to) (wit
     first_is = rw (as_many-same (take k xs) in_first first_many, others) refl
 
     joined : in_first ++ drop k xs ≡ splice xs a b us
-    joined =
-        part_before a b us (take k xs) (drop k xs) (omega (arith, a_is, b_is, order)) (omega (arith, b_is)) us_long
-        ∙ ap (λ l. splice l a b us) (take-append-drop k xs)
-
-    rest_stays : drop k (first_written xs (take k xs) a b us) ≡ drop k xs
-    rest_stays = rw (first_is, joined)
-        (same_lists _ _ (grind (arith, common_steps, places, long)) (λ i d lt. grind (arith, nat_tests, places, long)))
+    joined = grind (arith, part_before, take-append-drop)
 
     module _ (vs : List X) (vs_long : length vs ≡ q - p) where
       abbrev in_rest : List X
@@ -170,10 +156,7 @@ module _ {X : Type 0} (xs : List X) (k from to : ℕ) (order : from ≤ to) (wit
       rest_many = grind (arith, common_steps, places, long)
 
       cut : take (length (in_first ++ drop k xs) - length (drop k xs)) (in_first ++ drop k xs) ≡ in_first
-      cut =
-          let many : length (in_first ++ drop k xs) - length (drop k xs) ≡ length in_first =
-          omega (arith, length-append in_first (drop k xs)) in
-          rw many (take-append_seam in_first (drop k xs))
+      cut = grind (arith, common_steps)
 
       both_are : rest_written (in_first ++ drop k xs) (drop k xs) p q vs ≡ splice xs from to (us ++ vs)
       both_are =
@@ -226,8 +209,7 @@ module _ {F X : Type 0} (t : Mut F (MutBor X × Unit {0}) (Unit {0} × (MutBor X
   rest = take (q - p) (drop p (drop k xs))
 
   two_parts : slice_range xs from to ≡ front ++ rest
-  two_parts = parts xs k from to order within a b p q (omega (arith, as_long)) (omega (arith, as_long))
-      (omega (arith, as_long)) (omega (arith, as_long))
+  two_parts = grind (arith, parts)
 
   pub asks_first : MayWriteEach t f (slice_range xs from to) → MayWriteEach t f (take (b - a) (drop a fs))
   asks_first may = rw first (asks_before t f front rest (rw two_parts at may))
@@ -241,8 +223,7 @@ module _ {F X : Type 0} (t : Mut F (MutBor X × Unit {0}) (Unit {0} × (MutBor X
     us_long = written_many (WritesAt t) f g front us told_first ∙ part_long a b (take k xs) (omega (arith, as_long))
 
     second_is : bs ≡ drop k xs
-    second_is = second ∙ rw first (rest_stays xs k from to order within a b p q (omega (arith, as_long))
-        (omega (arith, as_long)) (omega (arith, as_long)) (omega (arith, as_long)) us us_long)
+    second_is = grind (arith, common_steps)
 
     pub asks_second : MayWriteEach t f (slice_range xs from to) → MayWriteEach t g (take (q - p) (drop p bs))
     asks_second may = rw second_is (asks_behind t f g front us rest told_first (rw two_parts at may))
@@ -252,8 +233,7 @@ module _ {F X : Type 0} (t : Mut F (MutBor X × Unit {0}) (Unit {0} × (MutBor X
       told_rest = rw second_is at after
 
       vs_long : length vs ≡ q - p
-      vs_long = written_many (WritesAt t) g h rest vs told_rest
-          ∙ part_long p q (drop k xs) (omega (arith, as_long, length-take k xs, length-drop k xs))
+      vs_long = grind (arith, written_many, told_rest, length-take, length-drop)
 
       ends : rest_written (first_written xs fs a b us) bs p q vs ≡ splice xs from to (us ++ vs)
       ends = rw (
@@ -270,15 +250,9 @@ module _ {F X : Type 0} (t : Mut F (MutBor X × Unit {0}) (Unit {0} × (MutBor X
           (us ++ vs, (h, rw two_parts (written_behind (WritesAt t) f g h front us rest vs told_first told_rest)), ends)
 
       pub part_many : length (rest_written (first_written xs fs a b us) bs p q vs) ≡ length xs
-      part_many = ap length ends ∙ both_long xs k from to order within a b p q (omega (arith, as_long))
-          (omega (arith, as_long)) (omega (arith, as_long)) (omega (arith, as_long)) us us_long vs vs_long
+      part_many = grind (arith, ends, both_long, us_long, vs_long)
 
 -- the part is all
 pub whole_part : {F X : Type 0} (R : F → X → F → X → Type 0) (f : F) (xs ys : List X) (from to : ℕ) → from ≡ 0
     → to ≡ length xs → WrittenPart R f from to xs ys → WrittenInTurn R f xs ys
-whole_part R f xs ys from to at up_to part =
-    let n = length xs in
-    let whole : slice_range xs from to ≡ xs = rw (at, up_to) (take_all (n - 0) xs (omega arith)) in
-    let left : ys ≡ part.0 = part.2
-    ∙ (rw (at, up_to) (ap (λ l. part.0 ++ l) (drop-length xs) ∙ append-nil part.0)) in
-    (part.1.0, rw left (rw whole at part.1.1))
+whole_part R f xs ys from to at up_to part = grind (arith, take_all, drop-length, append-nil)

@@ -31,7 +31,7 @@ module _ {X : Type 0} where
     displaced_first-both =
         let items : drop (length ys) (drop (length xs) (r.items ++ xs) ++ ys) ≡ drop (length (xs ++ ys))
         (r.items ++ (xs ++ ys)) = same_lists _ _ (search (rules, places)) (λ j d lt. grind (arith, places)) in
-        grind (arith, up_by-both (length xs) (length ys) r.start, length-append)
+        grind (arith, up_by-both, length-append)
 
     pub displaced_last-both : displaced_last ys (displaced_last xs r) ≡ displaced_last (xs ++ ys) r
     displaced_last-both =

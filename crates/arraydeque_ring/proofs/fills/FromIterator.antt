@@ -2,56 +2,29 @@
 use Rattle.std.{
   proofs.{
     Common.{◌≡◌, ℕ, ◌+◌, ◌≤◌, List, [], ◌∷◌, ◌++◌, length, Option, Some, Bool, true, false, refl},
-    Common.{subst, arith},
+    Common.arith,
     iter.runs.Lists.Yields-both,
     lemmas.List.length-append,
   },
-  specs.Iterator.Yields,
 }
 use Rattle.arraydeque_ring.specs.Fills.{Fills, Ends}
 
 module _ {S A : Type 0} (gives : S → Option A → S → Type 0) where
   -- before the first call
   pub Fills-none : {from : S} {n : ℕ} {P : List A → Type 0} → n ≡ 0 → P [] → Fills gives from from n false P
-  Fills-none none holds = record {
-    items = [];
-    last = _;
-    yielded = refl;
-    at_most = omega arith;
-    none = λ e. absurd (grind arith);
-    all = λ _. (refl, omega arith);
-    holds = holds;
-  }
+  Fills-none none holds = grind arith
 
   -- the same said of another bound, and of Q where it follows from P
   pub Fills-as : {from to : S} {n : ℕ} {ended : Bool} {P : List A → Type 0} (f : Fills gives from to n ended P) (m : ℕ)
       (Q : List A → Type 0) → length f.items ≤ m → (ended ≡ false → length f.items ≡ m) → ((xs : List A) → P xs → Q xs)
       → Fills gives from to m ended Q
-  Fills-as f m Q le same holds = record {
-    items = f.items;
-    last = f.last;
-    yielded = f.yielded;
-    at_most = le;
-    none = f.none;
-    all = λ some. ((f.all some).0, same some);
-    holds = holds f.items f.holds;
-  }
+  Fills-as f m Q le same holds = grind arith
 
   -- of two loops, where the iterator didn't end in the first
   pub Fills-both : {from mid to : S} {n m : ℕ} {ended over : Bool} {P Q : List A → Type 0}
       (first : Fills gives from mid n ended P) (then : Fills gives mid to m over Q) (R : List A → Type 0)
       → ended ≡ false → R (first.items ++ then.items) → Fills gives from to (n + m) over R
-  Fills-both {from} {mid} {to} first then R some holds =
-      let all = first.all some in record {
-        items = first.items ++ then.items;
-        last = then.last;
-        yielded = Yields-both gives first.items then.items from mid then.last
-            (subst (Yields gives from first.items) all.0 first.yielded) then.yielded;
-        at_most = omega (arith, length-append first.items then.items);
-        none = then.none;
-        all = λ more. let rest = then.all more in (rest.0, grind (arith, length-append));
-        holds = holds;
-      }
+  Fills-both {from} {mid} {to} first then R some holds = grind (arith, Yields-both, length-append)
 
   -- and of a loop and one call more
   pub Fills-one : {from mid to : S} {n : ℕ} {P : List A → Type 0} (was : Fills gives from mid n false P) (x : A)
@@ -69,8 +42,4 @@ module _ {S A : Type 0} (gives : S → Option A → S → Type 0) where
   -- and where it ended, all that came before the first None
   pub Ends-fills : {from to : S} {n : ℕ} {ended : Bool} {P Q : List A → Type 0} → Fills gives from to n ended P
       → ended ≡ true → ((xs : List A) → P xs → Q xs) → Ends gives from Q
-  Ends-fills {to = to} f over holds = record {
-    items = f.items;
-    drains = (to, (f.last, f.yielded, f.none over));
-    holds = holds f.items f.holds;
-  }
+  Ends-fills {to = to} f over holds = grind arith

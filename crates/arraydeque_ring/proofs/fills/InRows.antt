@@ -36,5 +36,4 @@ module _ {X : Type 0} where
 
   pub filled_front-both : (v : RingState X) (xs ys : List X)
       → filled_front ys (filled_front xs v) ≡ filled_front (xs ++ ys) v
-  filled_front-both v xs ys =
-      grind (arith, all_before xs ys, down_by-all xs ys v.start, length-append)
+  filled_front-both v xs ys = grind (arith, all_before, down_by-all, length-append)

@@ -3,7 +3,7 @@
 use Rattle.std.{
   proofs.{
     Common.{◌≡◌, ℕ, zero, suc, ◌+◌, ◌-◌, ◌*◌, ◌%◌, ◌<◌, ◌≤◌, inl, List, ◌++◌, length, take, drop},
-    Common.{reverse, [], Bool, false, refl, subst, ap, ◌∙◌, arith},
+    Common.{reverse, [], Bool, false, subst, ap, ◌∙◌, arith},
     lemmas.{
       Bool.Decides.nat_tests,
       List.{length-append, length-drop, length-reverse, length-take, take_all},
@@ -16,7 +16,7 @@ use Rattle.arraydeque_ring.{
   proofs.{
     fills.{
       Displaced.{displaced_first, displaced_last},
-      FromIterator.{Fills-as, Fills-both, Fills-none},
+      FromIterator.{Fills-as, Fills-both},
       InRows.{filled_back, filled_front},
     },
     Opened.{Opened, Kept, closed, items_within, kept, view},
@@ -69,14 +69,7 @@ module _ {S X : Type 0} {it : Ghosts S X} {word : List X → RingState X → Rin
   pub begun : {s : S} {left : Region X} → Opened r v → n ≡ length r.slots.places
       → record { region : slots ≡ r.slots; left : left ≡ empty_region 0 } → it.can_next s → v ≡ word [] v
       → Laying it word v s s false n record r { slots = left } slots
-  begun o long moved may none = record {
-    all = omega arith;
-    out = moved.left;
-    count = 0;
-    so_far = Fills-none _ refl (rw moved.region (subst (Opened _) none o));
-    goes = λ _. (may, λ f. f);
-    kept = rw moved.region (kept o);
-  }
+  begun o long moved may none = grind (arith, kept)
 
   -- a turn more, in which the items of `now` came
   pub more : {from mid to : S} {ended over : Bool} {m : ℕ} {P : List X → Type 0}
@@ -185,19 +178,8 @@ module _ {X : Type 0} {r : Inside X} {v : RingState X} (o : Opened r v) {n : ℕ
 
       pub laid_front : count ≤ n - r.len → new.steps ≡ more_puts count r.slots.steps
           → Opened record r { slots = new; start = start; len = r.len + count } (filled_front xs v)
-      laid_front room steps = record {
-        laid = rw (take_all v.capacity (reverse xs ++ v.items) (omega (arith, long))) at laid;
-        len = long;
-        start = down;
-        steps = grind arith;
-      }
+      laid_front room steps = grind (arith, laid, take_all, long, down)
 
       pub laid_last : r.len ≡ n → new.steps ≡ more_puts count (more_takes count r.slots.steps)
           → Opened record r { slots = new; start = start } (displaced_last xs v)
-      laid_last full steps =
-          let same : length v.items ≡ v.capacity = omega arith in record {
-            laid = rw same laid;
-            len = omega (arith, long, length-take (length v.items) (reverse xs ++ v.items));
-            start = down;
-            steps = grind arith;
-          }
+      laid_last full steps = grind (arith, laid, long, length-take, down)

@@ -12,17 +12,13 @@ use Rattle.arraydeque_ring.{
     },
     places.{
       Filled.{filled_run_of, empty_run_of},
-      Holds.{Holds, Holds-of_rotated, Holds-rotated, rotated-Holds, Holds-same, Holds-from},
+      Holds.{Holds, Holds-of_rotated, Holds-rotated, rotated-Holds, Holds-from},
       Items.{items, slice_get_some},
       LaidOut.{LaidOut, holds},
       Rotated.{place_of_cases, length-rotated},
     },
   },
-  specs.{
-    Gaps.{MayClose, gap_moved},
-    Places.{held_at, IsFilled},
-    Ring.{place_of, rotated},
-  },
+  specs.{Gaps.{MayClose, gap_moved}, Places.{held_at, IsFilled}, Ring.{place_of, rotated}},
 }
 
 pub may_move : {X : Type 0} (t from to gap : ℕ) (ps : List (Option X)) {ts : List (Option X)} → rotated t ps ≡ ts
@@ -44,10 +40,7 @@ may_move t from to gap ps {ts = ts} is some t_in within none before behind =
 module _ {X : Type 0} {n t : ℕ} {xs : List X} {ps : List (Option X)} (l : LaidOut n t xs ps)
     (room : length xs < n) where
   pub Gapped-behind : Gapped n t xs 1 [] ps
-  Gapped-behind = record {
-    within = omega arith;
-    reads = Holds-same (holds l) (λ k lt. grind (arith, items));
-  }
+  Gapped-behind = grind (arith, items)
 
   pub Gapped-before : Gapped n (place_of t (n - 1) n) [] 1 xs ps
   Gapped-before = record {

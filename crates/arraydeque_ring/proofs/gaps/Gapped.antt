@@ -67,10 +67,7 @@ module _ {X : Type 0} {n t : ℕ} {xs : List X} {ps : List (Option X)} where
 module _ {X : Type 0} {n t : ℕ} {xs ys : List X} {ps : List (Option X)} where
   -- the first place of a gap is empty
   pub IsEmpty-gap : (gap i : ℕ) → Gapped n t xs gap ys ps → length xs ≡ i → 0 < gap → IsEmpty ps (place_of t i n)
-  IsEmpty-gap gap i p front some = (
-    omega arith,
-    p.reads.at i (omega arith) ∙ grind arith,
-  )
+  IsEmpty-gap gap i p front some = grind arith
 
   -- an item put there
   pub Gapped-put : {gap : ℕ} (i : ℕ) (x : X) → Gapped n t xs (suc gap) ys ps → length xs ≡ i

@@ -5,6 +5,7 @@ use Rattle.std.proofs.{
   Common.{if◌then◌else◌, List, Option, arith},
   lemmas.{
     Bool.{cases_lt, Decides.nat_tests},
+    Grind.common_steps,
     List.{length-append, length-take-le, length-drop, append-nil},
   },
 }
@@ -49,13 +50,7 @@ module _ {X : Type 0} {r : Inside X} {v : RingState X} (o : Opened r v) (m : ℕ
       }
 
   many : length (drop m v.items ++ take m v.items) ≡ r.len
-  many = omega (
-    arith,
-    length-append (drop m v.items) (take m v.items),
-    length-drop m v.items,
-    length-take-le m v.items le,
-    o.len,
-  )
+  many = grind (arith, length-append, length-drop, length-take-le)
 
   pub may_turn : r.len < v.capacity → MayClose t (r.len - m) (v.capacity - r.len) m r.slots.places
   may_turn room = may_close turned_gap _ _ (omega arith) (omega (arith, length-drop m v.items, o.len))
@@ -77,10 +72,7 @@ module _ {X : Type 0} {r : Inside X} {v : RingState X} (o : Opened r v) (m : ℕ
 
   pub start_turned : start_closed (r.len - m) (v.capacity - r.len) m v.capacity t
       ≡ start_rotated m (length v.items) v.capacity v.start
-  start_turned =
-      let within = o.laid.within in
-      let on : m + (v.capacity - r.len) ≡ v.capacity - (length v.items - m) = omega (arith, o.len) in
-      grind (arith, nat_tests, on, o.len, o.start, place_of-sum r.start m (v.capacity - r.len) v.capacity)
+  start_turned = grind (arith, common_steps, place_of-sum)
 
 module _ (m n c t : ℕ) (t_in : t ≤ c - 1) (m_in : m ≤ n) (within : n ≤ c) where
   -- the others stay where the start goes up by the first m, and these where it goes down by the others

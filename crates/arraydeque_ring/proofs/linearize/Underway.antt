@@ -28,8 +28,7 @@ use Rattle.arraydeque_ring.{
 -- places that each hold what `rotated_from` says are the rotated ones
 pub are_rotated : {X : Type 0} (at m k : ℕ) (ps qs : List (Option X)) → at + m + k ≤ length ps → length qs ≡ length ps
     → ((x : ℕ) → x < length ps → held_at qs x ≡ held_at ps (rotated_from at m k x)) → qs ≡ run_rotated at m k ps
-are_rotated at m k ps qs within long each = let wide = length-run_rotated at m k ps within in
-    same_places _ _ (long ∙ sym wide) (λ x lt. each x (omega arith) ∙ sym (get_or-run_rotated at m k ps within x))
+are_rotated at m k ps qs within long each = grind (arith, length-run_rotated, same_places, get_or-run_rotated)
 
 -- once the run of `gap` from the index dst on and the run of `behind` that follows it to the end change places, the
 -- first len places are filled, and no others

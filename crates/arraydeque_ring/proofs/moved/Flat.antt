@@ -60,12 +60,11 @@ module _ {X : Type 0} where
       take dst es ++ (take len (drop src ps) ++ drop (dst + len) es)) ≡ run_moved dst src len ps
   moved_parts ps dst src len a b =
       let es = run_emptied src len ps in
-      let long : length es ≡ length ps = grind (arith, places) in
       same_places _ _ (grind (arith, places, length-moved dst src len ps)) (λ x lt.
       let in_it : x < length ps = omega (arith, length-moved dst src len ps) in
       let held : (y : ℕ) → get_or es y None ≡ other (λ z. get_or ps z None) src len y =
       λ y. grind (arith, places) in
-      grind (arith, nat_tests, places, held x) ∙ sym (flat_at dst src len ps x b a in_it))
+      grind (arith, nat_tests, places) ∙ sym (flat_at dst src len ps x b a in_it))
 
   -- where no value moves, or all of a run have, nothing is left to move
   moved_none : (dst src : ℕ) (ps : List (Option X)) → run_moved dst src 0 ps ≡ ps

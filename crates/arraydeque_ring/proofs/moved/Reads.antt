@@ -80,12 +80,10 @@ module _ {X : Type 0} (a b k len : ℕ) (ps : List (Option X)) (lt : k < len) (b
 
   module _ (second : IsFilledRun ps b len) where
     pub next_second : IsFilled (runs_exchanged a b k ps) (b + k)
-    next_second = let was = filled_in_run ps b len k second lt in
-        (was.0, still second.0 (b + k) (grind arith) ∙ was.1)
+    next_second = let was = filled_in_run ps b len k second lt in grind (arith, still)
 
     pub next_first : IsFilledRun ps a len → IsFilled (runs_exchanged a b k ps) (a + k)
-    next_first first = let was = filled_in_run ps a len k first lt in
-        (was.0, still second.0 (a + k) (grind arith) ∙ was.1)
+    next_first first = let was = filled_in_run ps a len k first lt in grind (arith, still)
 
     module _ (first : IsEmptyRun ps a len) where
       still_empty : held_at (runs_exchanged a b k ps) (a + k) ≡ None
@@ -97,10 +95,4 @@ module _ {X : Type 0} (a b k len : ℕ) (ps : List (Option X)) (lt : k < len) (b
       -- and to move a value to an empty place is to exchange it with nothing
       pub runs_moved_more : let now = runs_exchanged a b k ps in
           set (set now (b + k) None) (a + k) (held_at now (b + k)) ≡ runs_exchanged a b (k + 1) ps
-      runs_moved_more =
-          let now = runs_exchanged a b k ps in
-          let within = second.0 in
-          let long = length-runs_exchanged a b k ps (omega arith) (omega arith) in
-          set_comm now (b + k) (a + k) None (held_at now (b + k)) (λ same. omega arith)
-          ∙ ap (λ q. set (set now (a + k) (held_at now (b + k))) (b + k) q) (sym still_empty)
-          ∙ swap_is now (a + k) (b + k) None (omega arith) (omega arith) ∙ runs_exchanged_more within
+      runs_moved_more = grind (arith, length-runs_exchanged, set_comm, still_empty, swap_is, runs_exchanged_more)

@@ -14,16 +14,7 @@ use Rattle.arraydeque_ring.{
 -- a distance is the same, wherever places are counted from
 pub distance-rotated : (t i x n : ℕ) → t < n → i ≤ n → x < n
     → distance (place_of t i n) (place_of t x n) n ≡ distance i x n
-distance-rotated t i x n a b c =
-    let p = place_of-lt t i n (omega arith) in
-    let q = place_of-lt t x n (omega arith) in
-    grind (
-      arith,
-      distance_is i x n b c,
-      distance_is (place_of t i n) (place_of t x n) n (omega arith) q,
-      place_of_cases t i n (omega arith),
-      place_of_cases t x n (omega arith),
-    )
+distance-rotated t i x n a b c = grind (arith, place_of_cases)
 
 -- what is read once a run has moved from the index j on to the index i on
 pub Holds-moved : {X : Type 0} {n t : ℕ} {f : ℕ → Option X} {ps : List (Option X)} → Holds n t f ps → (i j len : ℕ)

@@ -40,10 +40,7 @@ StartsAt a n i l p = (l ≡ 0) ⊎ ((p < n) × MayStartAt a i n p)
 on : (a n i l p x : ℕ) → StartsAt a n i l p → a < n → i + l ≤ n → x < l
     → (p < n) × (place_of p x n ≡ place_of a (i + x) n)
 unfolding StartsAt
-on a n i l p x at a_in fits lt = (
-  omega arith,
-  grind (arith, place_of_cases p x n (omega arith), place_of_cases a (i + x) n (omega arith)),
-)
+on a n i l p x at a_in fits lt = grind (arith, place_of_cases)
 
 -- a place is among them where it is at such an index, and at the same distance
 in_part : (a n i l p x : ℕ) → StartsAt a n i l p → a < n → x < n → i + l ≤ n
@@ -73,11 +70,7 @@ module _ {X : Type 0} (d s l i j k m n : ℕ) (ps : List (Option X)) (long : len
         ⊎ (((distance a x n ≡ j + second) × (k ≤ first) × (second < m))
         ⊎ ((l ≤ distance a x n) × (k ≤ first) × (m ≤ second)))
     unfolding InOrder
-    either a p q x a_in lt at_p at_q = grind (
-      arith,
-      in_part a n i k p x at_p a_in lt (omega arith),
-      in_part a n j m q x at_q a_in lt (omega arith),
-    )
+    either a p q x a_in lt at_p at_q = grind (arith, in_part)
 
     abbrev after_first : List (Option X)
     after_first = run_moved e t k ps

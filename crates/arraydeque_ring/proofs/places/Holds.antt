@@ -23,13 +23,7 @@ pub record Holds {X : Type 0} (n t : ℕ) (f : ℕ → Option X) (ps : List (Opt
 -- the same is read in the list ts that begins there
 pub Holds-of_rotated : {X : Type 0} {n t : ℕ} {f : ℕ → Option X} {ps ts : List (Option X)} → rotated t ps ≡ ts
     → length ts ≡ n → t ≤ n - 1 → ((k : ℕ) → k < n → held_at ts k ≡ f k) → Holds n t f ps
-Holds-of_rotated {n = n} {t = t} {ps = ps} is long within each =
-    let whole = sym (length-rotated t ps) ∙ ap length is ∙ long in
-    record {
-      length_is = whole;
-      in_region = within;
-      at = λ k lt. sym (get_or-rotated t k n ps None whole (omega arith) lt) ∙ ap (λ l. held_at l k) is ∙ each k lt;
-    }
+Holds-of_rotated {n = n} {t = t} {ps = ps} is long within each = grind (arith, length-rotated, get_or-rotated)
 
 module _ {X : Type 0} {n t : ℕ} {f : ℕ → Option X} {ps : List (Option X)} (h : Holds n t f ps) where
   pub Holds-rotated : (k : ℕ) → k < n → get_or (rotated t ps) k None ≡ f k
@@ -37,8 +31,7 @@ module _ {X : Type 0} {n t : ℕ} {f : ℕ → Option X} {ps : List (Option X)} 
 
   pub rotated-Holds : {ts : List (Option X)} → length ts ≡ n → ((k : ℕ) → k < n → f k ≡ held_at ts k)
       → rotated t ps ≡ ts
-  rotated-Holds long same = same_places _ _ (length-rotated t ps ∙ h.length_is ∙ sym long)
-      (λ k lt. Holds-rotated k (omega arith) ∙ same k (omega arith))
+  rotated-Holds long same = grind (arith, same_places, length-rotated, Holds-rotated)
 
   pub Holds-same : {g : ℕ → Option X} → ((k : ℕ) → k < n → f k ≡ g k) → Holds n t g ps
   Holds-same same = record { length_is = h.length_is; in_region = h.in_region; at = λ k lt. h.at k lt ∙ same k lt }
@@ -56,19 +49,11 @@ module _ {X : Type 0} {n t : ℕ} {f : ℕ → Option X} {ps : List (Option X)} 
   -- with c written at the place of the index k
   pub Holds-set : {g : ℕ → Option X} (k : ℕ) (c : Option X) → k < n → c ≡ g k → ((i : ℕ) → i < n → i ≢ k → f i ≡ g i)
       → Holds n t g (set ps (place_of t k n) c)
-  Holds-set {g} k c k_in here others = record {
-    length_is = length-set ps (place_of t k n) c ∙ h.length_is;
-    in_region = h.in_region;
-    at = λ i lt. get_or-written ps (place_of t k n) (place_of t i n) c
-        (omega arith)
-        ∙ rw (one_place t i k n (omega arith) lt k_in)
-        (grind arith);
-  }
+  Holds-set {g} k c k_in here others = grind (arith, length-set, get_or-written, one_place)
 
   -- each place has an index
   pub Holds-each : (x : ℕ) → x < n → held_at ps x ≡ f (distance t x n)
-  Holds-each x lt =
-      rw (up_from x t n lt (omega arith)) at (h.at (distance t x n) (omega arith))
+  Holds-each x lt = grind (arith, up_from)
 
 -- from the first place on an index is its own place
 pub Holds-first : {X : Type 0} {n : ℕ} {f : ℕ → Option X} {ps : List (Option X)} → Holds n 0 f ps → (k : ℕ) → k < n

@@ -14,11 +14,6 @@ module _ {X : Type 0} where
   pub slice_get_some : (xs : List X) (k : ℕ) → k < length xs → (x : X) × (slice_get xs k ≡ Some x)
   slice_get_some xs k lt = elim (slice_get_cases xs k).1 [ inl at ↦ (at.0, at.2) | inr past ↦ absurd (omega arith) ]
 
-  slice_get-cons : (x : X) (xs : List X) (k : ℕ)
-      → slice_get (x ∷ xs) k ≡ (if nat_lt 0 k then slice_get xs (k - 1) else Some x)
-  slice_get-cons x xs zero = grind arith
-  slice_get-cons x xs (suc k) = grind arith
-
   pub get_or-map_Some : (xs : List X) (k : ℕ) → get_or (map Some xs) k None ≡ slice_get xs k
   get_or-map_Some [] k = refl
   get_or-map_Some (x ∷ xs) zero = refl

@@ -1,6 +1,6 @@
 -- What the places of a ring hold, read from its start on: first its items, then nothing.
 use Rattle.std.proofs.{
-  Common.{◌≡◌, ℕ, ◌+◌, ◌-◌, ◌<◌, ◌≤◌, List, [], map, length, take, drop, set, get_or, replicate},
+  Common.{◌≡◌, ℕ, ◌+◌, ◌-◌, ◌<◌, ◌≤◌, List, [], length, take, drop, set, get_or, replicate},
   Common.{nat_lt, if◌then◌else◌, slice_get, Option, Some, None, is_some, refl, sym, ap, ◌∙◌, swap},
   Common.arith,
   lemmas.{
@@ -74,9 +74,7 @@ module _ {X : Type 0} {n t : ℕ} {xs : List X} {ps : List (Option X)} (l : Laid
   -- and as many places from the start on are filled
   pub FilledFrom-LaidOut : (m : ℕ) → length xs ≡ m → FilledFrom t m (filled ps)
   unfolding filled
-  FilledFrom-LaidOut m e =
-      let left : length (map is_some ps) - m ≡ n - length xs = omega (arith, length-map ps is_some) in
-      rw (rotated-map is_some t ps, rotated-LaidOut, left, ← e) (filled-and_empty xs (n - length xs))
+  FilledFrom-LaidOut m e = grind (arith, length-map, rotated-map, rotated-LaidOut, filled-and_empty)
 
   -- the place of an item is filled
   pub IsFilled-place_of : (k : ℕ) → k < length xs → IsFilled ps (place_of t k n)

@@ -1,8 +1,8 @@
 -- A list read from an index on, round its end.
 use Rattle.std.proofs.{
-  Common.{◌≡◌, ℕ, zero, suc, ◌+◌, ◌-◌, ◌%◌, ◌<◌, ◌≤◌, ◌⊎◌, ◌==◌, inl, inr, List, map, length},
+  Common.{◌≡◌, ℕ, zero, suc, ◌+◌, ◌-◌, ◌%◌, ◌<◌, ◌≤◌, ◌⊎◌, ◌==◌, List, map, length},
   Common.{get_or, sym, ap, ◌∙◌, arith},
-  lemmas.{Bool.cases_lt, List.{places, map-append, drop-map, take-map}},
+  lemmas.List.{places, map-append, drop-map, take-map},
   Math.Nat.{mod-eq_of_lt, mod-eq-sub-mod, mod-add-mod, add_assoc},
 }
 use Rattle.arraydeque_ring.specs.{Moved.distance, Ring.{place_of, rotated}}
@@ -10,11 +10,7 @@ use Rattle.arraydeque_ring.specs.{Moved.distance, Ring.{place_of, rotated}}
 -- a place is the sum itself below the end, and the sum less the capacity past it
 pub place_of_cases : (t k n : ℕ) → t + k < n + n
     → ((t + k < n) × (place_of t k n ≡ t + k)) ⊎ ((n ≤ t + k) × (place_of t k n + n ≡ t + k))
-place_of_cases t k n within = elim (cases_lt (t + k) n) [
-  | inl below ↦ inl (below, mod-eq_of_lt below)
-  | inr past ↦ let is = mod-eq-sub-mod past ∙ mod-eq_of_lt (omega arith) in
-      inr (past, omega arith)
-]
+place_of_cases t k n within = grind (arith, mod-eq_of_lt, mod-eq-sub-mod)
 
 -- a place lies in the region
 pub place_of-lt : (t k n : ℕ) → t + k < n + n → place_of t k n < n
@@ -22,9 +18,7 @@ place_of-lt t k n within = grind arith
 
 -- to go up from src by the distance to dst is to come there
 pub up_from : (dst src n : ℕ) → dst < n → src < n → place_of src (distance src dst n) n ≡ dst
-up_from dst src n a b =
-    let d = place_of-lt dst (n - src) n (omega arith) in
-    grind arith
+up_from dst src n a b = grind arith
 
 -- the index 0 has the start itself
 pub place_of-zero : (t n : ℕ) → t ≤ n - 1 → place_of t 0 n ≡ t

@@ -42,8 +42,7 @@ module _ {X F : Type 0} (R : F → X → Bool → F → Type 0) where
   -- k items stay, and the next one is answered
   pub answer_next : (f g h : F) (k : ℕ) (xs : List X) (x : X) (b : Bool) → k < length xs → x ≡ get_or xs k x
       → ReturnsInTurn R f (replicate k true) xs g → R g x b h → ReturnsInTurn R f (replicate k true ++ b ∷ []) xs h
-  answer_next f g h k xs x b lt is told said =
-      answers_push R f g h (replicate k true) xs x b (rw length-replicate lt) (rw length-replicate is) told said
+  answer_next f g h k xs x b lt is told said = grind (arith, answers_push, length-replicate)
 
   -- what is answered at a list is so at a longer one
   pub told_longer : (f g : F) (bs : List Bool) (xs ys : List X) → ReturnsInTurn R f bs xs g
@@ -65,22 +64,18 @@ module _ {X F : Type 0} (R : F → X → Bool → F → Type 0) where
   pub until_in_front : (f g : F) (k : ℕ) (xs ys : List X)
       → k < length xs → ReturnsInTurn R f (answers_until k (length xs)) xs g
       → ReturnsInTurn R f (answers_until k (length (xs ++ ys))) (xs ++ ys) g
-  until_in_front f g k xs ys lt told = rw (until_goes k (length (xs ++ ys)) (omega (arith, length-append xs ys)))
-      (told_longer f g (replicate k true ++ false ∷ []) xs ys (rw (until_goes k (length xs) lt) at told))
+  until_in_front f g k xs ys lt told = grind (arith, length-append, told_longer)
 
   -- or all of that one stay
   pub all_stay : (f g : F) (k : ℕ) (xs : List X) → k ≡ length xs → ReturnsInTurn R f (answers_until k (length xs)) xs g
       → ReturnsInTurn R f (replicate k true) xs g
-  all_stay f g k xs all told =
-      let same : answers_until k k ≡ replicate k true = grind (arith, append-nil (replicate k true)) in
-      rw (← all, same) at told
+  all_stay f g k xs all told = grind (arith, append-nil)
 
   pub until_in_back : (f g h : F) (k m : ℕ) (xs ys : List X) → k ≡ length xs
       → ReturnsInTurn R f (answers_until k (length xs)) xs g → ReturnsInTurn R g (answers_until m (length ys)) ys h
       → ReturnsInTurn R f (answers_until (k + m) (length (xs ++ ys))) (xs ++ ys) h
-  until_in_back f g h k m xs ys all told after = rw (length-append, ← all, until_behind)
-      (told_behind f g h (replicate k true) (answers_until m (length ys)) xs ys (length-replicate k true ∙ all)
-      (all_stay f g k xs all told) after)
+  until_in_back f g h k m xs ys all told after =
+      grind (arith, length-append, until_behind, told_behind, length-replicate, all_stay)
 
 -- what may be asked about two lists, one behind the other, may be so about the first, and then about the second
 module _ {X F : Type 0} (t : Mut F (Bor X × Unit {0}) Bool) (f : F) (xs ys : List X)

@@ -72,14 +72,7 @@ pub all_kept : {F X : Type 0} (R : F → X → Bool → F → Type 0) (f g : F) 
     → k ≡ length ring.items → ReturnsInTurn R f (answers_until k (length ring.items)) ring.items g
     → Retains R f ring ring
 all_kept R f g ring k all told =
-    let bs = replicate k true in
-    record {
-      answers = bs;
-      last = g;
-      one_each = length-replicate k true ∙ all;
-      in_turn = all_stay R f g k ring.items all told;
-      kept = grind (arith, none_goes k, none_moved k, picked_front k ring.items, take_all k ring.items);
-    }
+    grind (arith, length-replicate, all_stay, none_goes, none_moved, picked_front, take_all)
 
 -- behind k items that stay, the first goes
 pub first_goes : {F X : Type 0} (R : F → X → Bool → F → Type 0) (f g : F) (before : Steps)

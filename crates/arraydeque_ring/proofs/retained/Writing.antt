@@ -2,12 +2,12 @@
 -- what the places hold by them, and what it has cost.
 use Rattle.std.{
   proofs.{
-    Common.{◌≡◌, ◌≢◌, ℕ, suc, ◌+◌, ◌<◌, ◌≤◌, List, [], ◌∷◌, ◌++◌, length, take, drop, set, get_or},
+    Common.{◌≡◌, ℕ, suc, ◌+◌, ◌<◌, ◌≤◌, List, [], ◌∷◌, ◌++◌, length, take, drop, set, get_or},
     Common.{slice_get, Option, Some, None, Bool, true, false, not, count_by, sym, ap, ◌∙◌, arith},
     Common.{cond, refl},
     lemmas.{
       List.{length_push, length-map, length-set, drop_all, take_more, map-append, set-set},
-      List.{get_or-set_same, get_or-set_other, length-drop, append-nil, Sums.sum_by-cons},
+      List.{get_or-set_same, get_or-set_other, append-nil, Sums.sum_by-cons},
       Option.get_or_from_slice_get,
     },
     Math.Seq.get_or-append_seam,
@@ -128,8 +128,7 @@ module _ {F X : Type 0} {R : F → X → Bool → F → X → Type 0} {f : F} {i
       qs = set ps src (Some y)
 
       is_there : held_at qs src ≡ Some y
-      is_there = get_or-set_same ps src (Some y) None
-          (omega (arith, here, s.places.reads.length_is, s.places.within, length-drop index items))
+      is_there = grind (arith, get_or-set_same, here)
 
       pub written_filled : IsFilled qs src
       written_filled = (y, is_there)
@@ -138,9 +137,7 @@ module _ {F X : Type 0} {R : F → X → Bool → F → X → Type 0} {f : F} {i
       gap_empty some =
           let p = IsEmpty-gap (count_by not bs) kept s.places s.stay (omega (arith, counted)) in
           let x = next_filled in
-          let other : dst ≢ src =
-          λ same. let clash : Some x.0 ≡ None = sym x.1 ∙ ap (held_at ps) (sym same) ∙ p.1 in cc in
-          (omega (arith, p.0, length-set ps src (Some y)), get_or-set_other ps src dst (Some y) None other ∙ p.1)
+          grind (arith, length-set, get_or-set_other)
 
       -- and x was there before
       module _ (x : X) (h : F) (held : held_at ps src ≡ Some x) where
@@ -156,8 +153,7 @@ module _ {F X : Type 0} {R : F → X → Bool → F → X → Type 0} {f : F} {i
         )
 
         picked : (b : Bool) → items_where_true (bs ++ b ∷ []) (as_left more) ≡ ks ++ cond b (y ∷ []) []
-        picked b = rw (map-append (λ pair. pair.1) s.pairs ((x, y) ∷ []))
-            (picked-push bs ws b y (omega (arith, many)))
+        picked b = grind (arith, map-append, picked-push, many)
 
         in_turn_more : (b : Bool) → R g x b h y → ReturnsInTurn (written R) f (bs ++ b ∷ []) more h
         in_turn_more b called =
@@ -207,22 +203,18 @@ module _ {F X : Type 0} {R : F → X → Bool → F → X → Type 0} {f : F} {i
         -- it goes
         pub goes : R g x false h y
             → Writes R f items before n t len (index + 1) kept (set qs src None) (more_takes 1 (more_lends 1 steps)) h
-        goes called =
-            let gone : suc (count_by not bs) ≡ count_by not (bs ++ false ∷ []) =
-            omega (arith, count_by-push not bs false) in
-            let none : items_where_true (bs ++ false ∷ []) (as_left more) ≡ ks = picked false ∙ append-nil ks in
-            record {
-              all = s.all;
-              answers = bs ++ false ∷ [];
-              pairs = more;
-              asked = omega (arith, length_push bs false);
-              paired = omega (arith, length_push s.pairs (x, y));
-              was = was_more;
-              in_turn = in_turn_more false called;
-              stay = rw none s.stay;
-              places = rw (none, ← gone, set-set) taken;
-              cost = grind (arith, moved-push_false bs);
-            }
+        goes called = grind (
+          arith,
+          count_by-push,
+          picked,
+          append-nil,
+          length_push,
+          was_more,
+          in_turn_more,
+          set-set,
+          taken,
+          moved-push_false,
+        )
 
 -- what std's word says of it
 left_in_turn : {F X : Type 0} (R : F → X → Bool → F → X → Type 0) (f g : F) (bs : List Bool) (pairs : List (X × X))
@@ -238,5 +230,4 @@ left_in_turn R f g (false ∷ bs) (p ∷ pairs) long told =
 
 pub retains_in_turn : {F X : Type 0} (R : F → X → Bool → F → X → Type 0) (f : F) {old new : RingState X}
     → RetainsMut R f old new → RetainsInTurn R f old.items new.items
-retains_in_turn R f r = rw (r.kept, ← r.before)
-    (left_in_turn R f r.last r.answers r.pairs (r.one_each ∙ sym (ap length r.before)) r.in_turn)
+retains_in_turn R f r = grind (arith, left_in_turn)

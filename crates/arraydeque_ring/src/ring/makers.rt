@@ -90,6 +90,7 @@ impl<T> Ring<T> {
     /// let items = ring.into_vec().map_err(|_| "refused")?;
     /// assert!(rt; items.as_slice() == [1, 2, 3].as_slice());
     /// ```
+    #[tactic(auto, using(crate::proofs::Opened::opened, std::proofs::lemmas::List::take_all))]
     pub fn into_vec(self) -> Result<Vec<T>, Ring<T>>
         ensures items { IfOk result (λ v. v.items ≡ self.items) }
         ensures exact { IfOk result (λ v. vec_capacity v ≡ length self.items) }

@@ -69,6 +69,7 @@ impl<T> Slots<T> {
     /// Moves the values in the `len` places from `src` on to those from `dst` on, all at once.
     /// Requires filled places from `src` on, and that each from `dst` on is empty or among them.
     /// Either run may wrap. The two may share places at one end, but not at both.
+    #[tactic(auto, using(crate::proofs::moved::Flat::moved_nowhere))]
     pub fn wrap_move(&mut self, dst: usize, src: usize, len: usize)
         requires dst_in_region { dst < length self.old.places }
         requires src_in_region { src < length self.old.places }

@@ -1,5 +1,5 @@
 use Rattle.std.proofs.{
-  Common.{◌≡◌, ◌+◌, [], ◌∷◌, length, add-zero, ap, subst, refl, ◌∙◌, arith},
+  Common.{◌≡◌, [], ◌∷◌, length, add-zero, ap, subst, refl, ◌∙◌, arith},
   lemmas.{Grind.common_steps, List.length-drop},
 }
 use Rattle.arraydeque.{

@@ -1,5 +1,5 @@
 use Rattle.std.proofs.{
-  Common.{◌≤◌, ◌∙◌, [], ◌∷◌, ap, arith, length},
+  Common.{◌≤◌, [], ◌∷◌, ap, arith, length},
   lemmas.{Grind.common_steps, List.{length-take, take-append-le}},
 }
 use Rattle.arraydeque.{

@@ -3,7 +3,6 @@ use Rattle.arraydeque_ring.{
   proofs.{
     fills.Laying.up_by-is,
     Opened.{Shows, bounds, piece_filled, piece_taken},
-    places.Rotated.place_of-lt,
     ring.Ring.append_run.{Given.Over, Goals.After-hand_over},
   },
   specs.Ring.{place_of, rotated, values},
@@ -17,12 +16,7 @@ hand_over-requires-clause-filled g c =
 
 -- the place behind the last item is in the region, so some go over
 some : (g : Over) (c : After-hand_over g) → 0 < c.min-count.result
-some g c =
-    let ring = bounds c.self.inside _ c.self.invariant c.self.view_is in
-    let other = bounds c.other.inside _ c.other.invariant c.other.view_is in
-    let n = length c.self.inside.slots.places in
-    let place = place_of-lt c.self.inside.start c.self.inside.len n (omega arith) in
-    omega (arith, c.wrap_add-place.ensures)
+some g c = grind (arith, bounds)
 
 -- the other ring, without them
 there : (g : Over) (c : After-hand_over g) → let other = c.other.inside in let n = length other.slots.places in

@@ -15,8 +15,7 @@ use Rattle.arraydeque_ring.proofs.{
 use Rattle.arraydeque_ring.proofs.ring.Ring.displace_first.Goals as goal
 
 pub loop-ended-init : goal.loop-ended-init
-loop-ended-init g c = begun (opened _ c.self.invariant c.self.view_is) c.capacity-capacity.ensures
-    c.move_out-slots.ensures c.requires.may (grind (arith, append-nil))
+loop-ended-init g c = grind (arith, begun, opened, append-nil)
 
 pub displace_up-written-requires-clause-filled : goal.displace_up-written-requires-clause-filled
 displace_up-written-requires-clause-filled g c = let was = c.loop-ended.invariant in

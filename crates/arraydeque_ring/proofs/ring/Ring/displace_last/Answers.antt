@@ -1,7 +1,4 @@
-use Rattle.std.proofs.{
-  Common.{ℕ, ◌-◌, ◌≤◌, inl, inr, arith},
-  lemmas.{Grind.common_steps, List.take_all},
-}
+use Rattle.std.proofs.{Common.{ℕ, ◌-◌, ◌≤◌, arith}, lemmas.{Grind.common_steps, List.take_all}}
 use Rattle.arraydeque_ring.proofs.{
   fills.{
     Displaced.displaced_last-both,
@@ -10,22 +7,18 @@ use Rattle.arraydeque_ring.proofs.{
   },
   Opened.{opened, closed},
   places.Rotated.MayStartAt,
-  ring.Ring.displace_last.{Given.Over, Goals.{Joined-self-eq0, then-self-eq0, else-self-eq0}},
+  ring.Ring.displace_last.{Given.Over, Goals.Joined-self-eq0},
 }
 use Rattle.arraydeque_ring.proofs.ring.Ring.displace_last.Goals as goal
 
 pub loop-ended-init : goal.loop-ended-init
-loop-ended-init g c = begun (opened _ c.self.invariant c.self.view_is) c.capacity-capacity.ensures
-    c.move_out-slots.ensures c.requires.may (grind (arith, take_all))
+loop-ended-init g c = grind (arith, begun, opened, take_all)
 
 -- below the start, or below the region's end in its stead, are the places of the last indexes
 below : (g : Over) (c : Joined-self-eq0 g) (count : ℕ) → count ≤ c.if-self-eq0.from →
     let n = c.capacity-capacity.result in
     MayStartAt c.loop-ended.self-inside.start (n - count) n (c.if-self-eq0.from - count)
-below g c count le = elim c.if-self-eq0.branch [
-  | then-self-eq0 w ↦ inl (omega arith)
-  | else-self-eq0 w ↦ inr (omega arith)
-]
+below g c count le = grind arith
 
 pub displace_down-written-requires-clause-filled : goal.displace_down-written-requires-clause-filled
 displace_down-written-requires-clause-filled g c =

@@ -1,5 +1,5 @@
 use Rattle.std.{
-  proofs.{Common.{◌≡◌, ◌-◌, length, arith}, lemmas.Grind.common_steps},
+  proofs.{Common.{◌-◌, length, arith}, lemmas.Grind.common_steps},
   specs.List.remove_range,
 }
 use Rattle.arraydeque_ring.proofs.{
@@ -11,10 +11,7 @@ use Rattle.arraydeque_ring.proofs.{
 use Rattle.arraydeque_ring.proofs.ring.Ring.drain.Goals as goal
 
 pub returns-then-count-eq0-clause-start : goal.returns-then-count-eq0-clause-start
-returns-then-count-eq0-clause-start g c =
-    let ring = opened c.self.inside c.self.invariant c.self.view_is in
-    let none : c.args.to - c.args.from ≡ 0 = omega arith in
-    grind (arith, place_of-zero)
+returns-then-count-eq0-clause-start g c = grind (arith, place_of-zero)
 
 pub take_round-requires-clause-filled : goal.take_round-requires-clause-filled
 take_round-requires-clause-filled g c =
@@ -32,8 +29,7 @@ close_gap-self-inside-requires g c = (out g c.before.before).may
 after : (g : Over) (c : After-close_gap-self-inside g) → let old = c.args.self.now in
     Shows old.capacity c.close_gap-self-inside.result (c.self.inside.len - (c.args.to - c.args.from))
     (remove_range old.items c.args.from c.args.to) c.close_gap-self-inside.new.slots.places
-after g c = let moved = c.close_gap-self-inside.ensures in
-    (out g c.before.before.before).closed _ _ moved.start moved.places
+after g c = grind (arith, out)
 
 pub invariant_of-self : goal.invariant_of-self
 invariant_of-self g c = let now = after g c.before in (now.1, now.2)

@@ -1,5 +1,5 @@
 use Rattle.std.proofs.{
-  Common.{ℕ, ◌-◌, ◌≤◌, reverse, refl, inl, inr, arith},
+  Common.{ℕ, ◌-◌, ◌≤◌, reverse, refl, arith},
   lemmas.List.{length-append, length-reverse},
 }
 use Rattle.arraydeque_ring.proofs.{
@@ -8,24 +8,20 @@ use Rattle.arraydeque_ring.proofs.{
   places.Rotated.MayStartAt,
   ring.Ring.fill_front.{
     Given.Over,
-    Goals.{Joined-self-eq0, then-self-eq0, else-self-eq0},
+    Goals.Joined-self-eq0,
     Goals.{then-loop-ended-test+else-self-capacity, else-loop-ended-test},
   },
 }
 use Rattle.arraydeque_ring.proofs.ring.Ring.fill_front.Goals as goal
 
 pub loop-ended-init : goal.loop-ended-init
-loop-ended-init g c = begun (opened _ c.self.invariant c.self.view_is) c.capacity-capacity.ensures
-    c.move_out-slots.ensures c.requires (grind arith)
+loop-ended-init g c = grind (arith, begun, opened)
 
 -- below the start, or below the region's end in its stead, are the places of the last indexes
 below : (g : Over) (c : Joined-self-eq0 g) (count : ℕ) → count ≤ c.if-self-eq0.from →
     let n = c.capacity-capacity.result in
     MayStartAt c.loop-ended.self-inside.start (n - count) n (c.if-self-eq0.from - count)
-below g c count le = elim c.if-self-eq0.branch [
-  | then-self-eq0 w ↦ inl (omega arith)
-  | else-self-eq0 w ↦ inr (omega arith)
-]
+below g c count le = grind arith
 
 pub fill_down-written-requires-clause-empty : goal.fill_down-written-requires-clause-empty
 fill_down-written-requires-clause-empty g c =

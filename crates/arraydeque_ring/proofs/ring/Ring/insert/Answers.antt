@@ -53,9 +53,7 @@ gap g c =
 
 place : (g : Over) (c : goal.After-put-arg-1 g) → c.wrap_add-place.result
     ≡ place_of c.if-index-behind.self-inside.start c.args.index c.args.self.now.capacity
-place g c =
-    let ring = opened c.self.inside c.self.invariant c.self.view_is in
-    rw (c.wrap_add-place.ensures, c.capacity-capacity.ensures, ring.laid.length_is)
+place g c = grind arith
 
 pub put-requires : goal.put-requires
 put-requires g c = rw (place g c) (IsEmpty-gap 1 c.args.index (gap g c) (front g c) (omega arith))

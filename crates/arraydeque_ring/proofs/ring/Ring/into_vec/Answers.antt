@@ -2,21 +2,17 @@ use Rattle.std.{
   proofs.{
     Common.{◌≡◌, ℕ, ◌+◌, ◌<◌, ◌≤◌, List, ◌∷◌, [], ◌++◌, length, slice_get, set, Option, Some, None},
     Common.{Vec, Global, vec_len, inl, inr, sym, ◌∙◌, arith, refl},
-    lemmas.{
-      Grind.common_steps,
-      List.{take_all, take_more},
-      Option.{get_or_from_slice_get, slice_get_past},
-    },
+    lemmas.{List.take_more, Option.{get_or_from_slice_get, slice_get_past}},
   },
   specs.Vec.vec_capacity,
 }
 use Rattle.arraydeque_ring.{
   proofs.{
-    Opened.{opened, bounds},
+    Opened.bounds,
     places.{
       Holds.{Holds-same, Holds-set},
       Items.slice_get_some,
-      LaidOut.{AreAllEmpty-LaidOut, LaidOut-by, holds},
+      LaidOut.{AreAllEmpty-LaidOut, LaidOut-by},
       Rotated.{MayStartAt, place_of_cases},
     },
     ring.Ring.into_vec.Invariants.AreOut,
@@ -48,16 +44,6 @@ module _ {X : Type 0} {old : RingState X} {k : ℕ} {v : Vec X Global} {ps : Lis
     reads = rw (taken, ← here) (Holds-set was.reads k None (omega arith) (grind arith) (λ i i_in other. grind arith));
   }
 
-pub loop-k-init : goal.loop-k-init
-loop-k-init g c =
-    let ring = opened _ c.self.invariant c.self.view_is in
-    record {
-      len = grind (arith, common_steps);
-      exact = grind (arith, common_steps);
-      items = grind (arith, common_steps);
-      reads = rw (← ring.start) (Holds-same (holds ring.laid) (λ i lt. grind arith));
-    }
-
 pub take-requires : goal.take-requires
 take-requires g c = let ring = bounds _ _ c.self.invariant c.self.view_is in
     next_filled c.loop-k.invariant (omega arith) (omega arith) (inl (omega arith)) (omega arith)
@@ -84,6 +70,3 @@ drop-slots-requires g c =
     let ring = bounds _ _ c.self.invariant c.self.view_is in
     AreAllEmpty-LaidOut (LaidOut-by {xs = []} (omega arith)
     (Holds-same c.loop-k-2.invariant.reads (λ i lt. grind (arith, slice_get_past)))) refl
-
-pub returns-clause-items : goal.returns-clause-items
-returns-clause-items g c = grind (arith, bounds, take_all)

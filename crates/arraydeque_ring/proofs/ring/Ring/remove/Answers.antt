@@ -22,8 +22,7 @@ close_gap-self-inside-requires g c = (out g c.before.before).may
 after : (g : Over) (c : After-close_gap-self-inside g) → let old = c.args.self.now in
     Shows old.capacity c.close_gap-self-inside.result (c.self.inside.len - 1) (remove old.items c.args.index)
     c.close_gap-self-inside.new.slots.places
-after g c = let moved = c.close_gap-self-inside.ensures in
-    (out g c.before.before.before).closed _ _ moved.start moved.places
+after g c = grind (arith, out)
 
 pub invariant_of-self : goal.invariant_of-self
 invariant_of-self g c = let now = after g c.before in (now.1, now.2)

@@ -1,4 +1,4 @@
-use Rattle.std.{proofs.{Common.arith, lemmas.Fn.called_at}, specs.Fn.CalledAt}
+use Rattle.std.{proofs.{Common.arith, lemmas.Fn.called_at}}
 use Rattle.arraydeque_ring.proofs.{
   Opened.opened,
   retained.Retaining.{all_kept, first_goes, next_filled, next_asked, counted, one_stays, one_goes},
@@ -8,21 +8,10 @@ use Rattle.arraydeque_ring.proofs.{
 use Rattle.arraydeque_ring.proofs.ring.Ring.retain.Goals as goal
 
 pub returns-then-kept-len-clause-retains : goal.returns-then-kept-len-clause-retains
-returns-then-kept-len-clause-retains g c =
-    let ring = opened _ c.self.invariant c.self.view_is in
-    all_kept (CalledAt g.F.FnMut) _ _ _ _ (omega arith) c.kept_count-kept.ensures.in_turn
+returns-then-kept-len-clause-retains g c = grind (arith, opened, all_kept)
 
 pub loop-index-init : goal.loop-index-init
-loop-index-init g c =
-    let ring = opened c.self.inside c.self.invariant c.self.view_is in
-    rw (
-      c.take.ensures.places,
-      c.take.ensures.steps,
-      ← ring.steps,
-      c.wrap_add.ensures,
-      c.capacity-capacity.ensures,
-      ring.laid.length_is,
-    ) (first_goes (CalledAt g.F.FnMut) _ _ _ _ ring.laid (omega arith) (omega arith) c.kept_count-kept.ensures.in_turn)
+loop-index-init g c = grind (arith, opened, first_goes)
 
 pub get-requires : goal.get-requires
 get-requires g c =

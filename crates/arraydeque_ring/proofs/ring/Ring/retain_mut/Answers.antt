@@ -1,7 +1,4 @@
-use Rattle.std.{
-  proofs.{Common.{arith, sym, ◌∙◌}, lemmas.List.take_all, RetainMut.Called-Mut},
-  specs.Fn.CalledAtMut,
-}
+use Rattle.std.{proofs.{Common.{arith, sym, ◌∙◌}, lemmas.List.take_all, RetainMut.Called-Mut}}
 use Rattle.arraydeque_ring.proofs.{
   Opened.opened,
   retained.Writing.{none_asked, next_held, next_filled, written_filled, gap_empty, moves_up},
@@ -11,10 +8,7 @@ use Rattle.arraydeque_ring.proofs.{
 use Rattle.arraydeque_ring.proofs.ring.Ring.retain_mut.Goals as goal
 
 pub loop-index-init : goal.loop-index-init
-loop-index-init g c =
-    let ring = opened c.self.inside c.self.invariant c.self.view_is in
-    rw (ring.steps, c.capacity-capacity.ensures, ring.laid.length_is)
-    (none_asked (CalledAtMut g.F.FnMut) _ _ ring.laid (omega arith))
+loop-index-init g c = grind (arith, opened, none_asked)
 
 pub get_mut-requires : goal.get_mut-requires
 get_mut-requires g c = rw c.wrap_add-place.ensures (next_filled c.loop-index.invariant (omega arith))

@@ -1,4 +1,4 @@
-use Rattle.std.proofs.Common.{◌++◌, length, take, drop, ◌∙◌, arith}
+use Rattle.std.proofs.Common.{◌++◌, length, take, drop, arith}
 use Rattle.arraydeque_ring.proofs.{
   gaps.Turned.{fewest_rotate, may_turn, start_turned, turned, turned_full},
   Opened.{opened, bounds, Shows},
@@ -20,8 +20,7 @@ returns-then-count-eq0-clause-fewest g c =
 pub close_room-slots-requires : goal.close_room-slots-requires
 close_room-slots-requires g c =
     let ring = opened c.self.inside c.self.invariant c.self.view_is in
-    rw (c.move_out.ensures.region, c.wrap_add-first.ensures, c.capacity-capacity.ensures ∙ ring.laid.length_is)
-    (may_turn ring c.args.count c.requires (omega arith) (omega arith))
+    grind (arith, may_turn)
 
 after : (g : Over) (c : After-close_room-slots g) → let old = c.args.self.now in
     Shows old.capacity c.close_room-slots.result.1 c.self.inside.len
@@ -46,10 +45,7 @@ after g c =
 full : (g : Over) (c : Else-has_room g) → let old = c.args.self.now in
     Shows old.capacity c.wrap_add-first.result c.self.inside.len
     (drop c.args.count old.items ++ take c.args.count old.items) c.self.inside.slots.places
-full g c =
-    let ring = opened c.self.inside c.self.invariant c.self.view_is in
-    rw (c.wrap_add-first.ensures, c.capacity-capacity.ensures ∙ ring.laid.length_is)
-    (turned_full ring c.args.count c.requires (omega arith) (omega arith))
+full g c = let ring = opened c.self.inside c.self.invariant c.self.view_is in grind (arith, turned_full)
 
 pub invariant_of-self : goal.invariant_of-self
 invariant_of-self g c = let now = after g (goal.at.invariant_of-self g c).After-close_room-slots in (now.1, now.2)
@@ -66,15 +62,7 @@ returns-then-has_room-clause-capacity g c =
     (after g (goal.at.returns-then-has_room-clause-capacity g c).After-close_room-slots).0
 
 pub returns-then-has_room-clause-start : goal.returns-then-has_room-clause-start
-returns-then-has_room-clause-start g c =
-    let ring = opened c.self.inside c.self.invariant c.self.view_is in
-    rw (
-      c.close_room-slots.ensures.start,
-      c.move_out.ensures.region,
-      c.wrap_add-first.ensures,
-      c.capacity-capacity.ensures,
-      ring.laid.length_is,
-    ) (start_turned ring c.args.count c.requires (omega arith))
+returns-then-has_room-clause-start g c = grind (arith, opened, start_turned)
 
 pub returns-then-has_room-clause-fewest : goal.returns-then-has_room-clause-fewest
 returns-then-has_room-clause-fewest g c =

@@ -18,13 +18,13 @@ pub exchange_runs-slots-requires : goal.exchange_runs-slots-requires
 exchange_runs-slots-requires g c =
     let may = Rotating-pass c.loop-next.invariant.walk c.if-capacity-next.true c.min-count.ensures
     c.min-past_end.ensures in
-    record { apart = omega arith; a_filled = may.a_filled; b_filled = may.b_filled }
+    grind arith
 
 pub move_down-slots-requires : goal.move_down-slots-requires
 move_down-slots-requires g c =
     let may = Rotating-pass c.loop-next.invariant.walk c.if-capacity-next.true c.min-count.ensures
     c.min-past_end.ensures in
-    rw c.exchange_runs-slots.ensures.places (record { apart = omega arith; empty = may.empty; filled = may.filled })
+    grind arith
 
 pub loop-next-smaller-then-count-first : goal.loop-next-smaller-then-count-first
 loop-next-smaller-then-count-first g c = omega (arith, Rotating-fits c.loop-next.invariant.walk)
@@ -57,8 +57,7 @@ loop-next-preserved g c = record {
 }
 
 pub place_rest-requires-clause-filled : goal.place_rest-requires-clause-filled
-place_rest-requires-clause-filled g c =
-    rw c.loop-next.invariant.walk.length_is (still_fills c.loop-next.invariant.walk)
+place_rest-requires-clause-filled g c = grind (arith, still_fills)
 
 pub returns-clause-steps : goal.returns-clause-steps
 returns-clause-steps g c =

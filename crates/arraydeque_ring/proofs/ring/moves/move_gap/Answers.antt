@@ -28,12 +28,7 @@ pub slide_up-requires : goal.slide_up-requires
 slide_up-requires g c =
     let go = up g c.before.before
     (one_on _ _ c.wrap_add-src.ensures c.capacity-capacity.ensures c.if-gap-eq1.true) in
-    record {
-      in_region = go.may.src_in_region;
-      room = omega arith;
-      filled = go.may.filled;
-      free = go.may.free;
-    }
+    grind arith
 
 pub wrap_move-requires : goal.wrap_move-requires
 wrap_move-requires g c = (up g c.before.before.before c.wrap_add.ensures).may
@@ -42,12 +37,7 @@ pub slide_down-requires : goal.slide_down-requires
 slide_down-requires g c =
     let go = down g c.before.before
     (one_on _ _ c.wrap_add-dst.ensures c.capacity-capacity.ensures c.if-gap-eq1-2.true) in
-    record {
-      in_region = go.may.dst_in_region;
-      room = omega arith;
-      filled = go.may.filled;
-      free = go.may.free;
-    }
+    grind arith
 
 pub wrap_move-requires-else-gap-eq1-2 : goal.wrap_move-requires-else-gap-eq1-2
 wrap_move-requires-else-gap-eq1-2 g c = (down g c.before.before.before

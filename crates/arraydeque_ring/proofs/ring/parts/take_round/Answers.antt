@@ -1,4 +1,5 @@
-use Rattle.std.proofs.Common.{[], ◌++◌, drop, ap, ◌∙◌, arith}
+use Rattle.std.proofs.lemmas.Grind.{common_steps}
+use Rattle.std.proofs.Common.{◌++◌, drop, ap, ◌∙◌, arith}
 use Rattle.arraydeque_ring.proofs.{
   places.Handed.{Handed, handed, first_empty, second_empty, both_put},
   ring.parts.take_round.{Given.Over, Goals.After-min-first},
@@ -22,10 +23,7 @@ hand_over-requires-2-clause-filled g c =
     rw c.hand_over.ensures.here (parts g (goal.at.hand_over-requires-2-clause-filled g c).After-min-first).rest
 
 pub hand_over-requires-2-clause-empty : goal.hand_over-requires-2-clause-empty
-hand_over-requires-2-clause-empty g c =
-    let p = parts g (goal.at.hand_over-requires-2-clause-empty g c).After-min-first in
-    rw c.hand_over.ensures.there
-    (second_empty c.args.taken.now.places (omega arith) c.requires.empty _ [] p.first_length)
+hand_over-requires-2-clause-empty g c = grind (arith, common_steps, second_empty)
 
 pub returns-clause-places : goal.returns-clause-places
 returns-clause-places g c =
@@ -37,4 +35,4 @@ returns-clause-taken g c =
     let p = parts g (goal.at.returns-clause-taken g c).After-min-first in
     let both = both_put c.args.taken.now.places (omega arith) c.requires.empty _ _
     p.first_length ∙ ap (λ ps. ps ++ drop c.args.len c.args.taken.now.places) p.all in
-    rw (c.hand_over-2.ensures.there, c.hand_over.ensures.there, c.hand_over.ensures.here) (grind arith)
+    grind arith

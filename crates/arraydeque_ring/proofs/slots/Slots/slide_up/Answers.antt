@@ -1,7 +1,7 @@
 use Rattle.std.proofs.Common.{◌+◌, ◌-◌, ◌≤◌, length, ap, refl, arith}
 use Rattle.arraydeque_ring.{
   proofs.{
-    moved.{Flat.{distance_is, same_move}, TwoMoves.{StartsAt, Three, three}},
+    moved.{Flat.same_move, TwoMoves.{StartsAt, Three, three}},
     places.Rotated.place_of_cases,
     slots.Slots.slide_up.{
       Given.Over,
@@ -23,10 +23,9 @@ round g c wraps =
     let t = c.args.src in
     let next = place_of t 1 n in
     let same = ap (λ r. length r.places) c.move_out-slots.ensures.region in
-    let next_is = place_of_cases t 1 n (omega arith) in
     (three next t c.args.len n (n - t - 1) (n - t) c.capacity-capacity.ensures
     (rw c.move_out-slots.ensures.region c.requires.filled) (omega arith) (grind arith) (grind arith) (grind arith)
-    ).1 (grind (arith, distance_is t next n (omega arith) (omega arith)))
+    ).1 (grind arith)
 
 pub move_last-requires-clause-can : goal.move_last-requires-clause-can
 move_last-requires-clause-can g c = record {

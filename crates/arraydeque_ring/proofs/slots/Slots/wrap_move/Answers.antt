@@ -1,12 +1,9 @@
 use Rattle.std.proofs.Common.{inl, inr, length, arith}
 use Rattle.arraydeque_ring.proofs.{
-  moved.Flat.{distance_is, moved_nowhere, moved_one},
+  moved.Flat.{distance_is, moved_one},
   places.Rotated.place_of-zero,
 }
 use Rattle.arraydeque_ring.proofs.slots.Slots.wrap_move.Goals as goal
-
-pub returns-then-dst-src-clause-places : goal.returns-then-dst-src-clause-places
-returns-then-dst-src-clause-places g c = grind (arith, moved_nowhere)
 
 pub shift-requires-clause-filled : goal.shift-requires-clause-filled
 shift-requires-clause-filled g c = rw (place_of-zero c.args.src (length c.args.self.now.places) (omega arith)) at

@@ -1,5 +1,5 @@
 use Rattle.std.proofs.{
-  Common.{◌≡◌, ◌≢◌, ◌-◌, false, [], ◌∷◌, ◌++◌, append-nil, drop, arith},
+  Common.{◌≡◌, ◌≢◌, false, [], ◌∷◌, ◌++◌, append-nil, drop, arith},
   lemmas.{Bool.Decides.nat_tests, Grind.common_steps, List.Elements.All-push},
 }
 use Rattle.uses.{proofs.Padded.{HandsOut-append, HandsOut-skip}, specs.Input.is_breakz}
