@@ -3,13 +3,11 @@
 //!
 //! A contract sees a [`Slots`] as what each place holds and the steps made so far. Steps are
 //! counted for contracts alone: they take no bytes.
-ghost use Rattle.std.specs.Prelude.{◌≡◌, ◌*◌, ◌+◌, ◌^◌, ◌<◌, ◌≤◌, nat_lt, List, Option, Some, None, length, slice_set, swap, if◌then◌else◌, ◌==◌, IfOk, OnErr};
-ghost use Rattle.std.specs.Borrow.{sem};
+ghost use Rattle.std.specs.Prelude.{◌≡◌, ◌*◌, ◌^◌, ◌<◌, nat_lt, List, Option, Some, None, length, slice_set, swap, if◌then◌else◌, ◌==◌, IfOk, OnErr};
 ghost use Rattle.std.specs.Mem.{type_size};
 ghost use Rattle.arraydeque_ring.specs.Places.{empty_region, held_at, IsFilled, IsEmpty, AreAllEmpty};
 ghost use Rattle.arraydeque_ring.specs.Counted.{counted};
 ghost use Rattle.arraydeque_ring.specs.Moved.{is_block};
-ghost use Rattle.arraydeque_ring.specs.Runs.{HoldsRun, IsFilledRun};
 ghost use Rattle.arraydeque_ring.specs.Steps.{Steps, more_puts, more_takes, more_moves, more_exchanges};
 
 mod copies;

@@ -1,5 +1,5 @@
 //! The iterator over the items of a deque, lent for writing.
-ghost use Rattle.std.specs.Prelude.{◌≡◌, ◌+◌, ◌^◌, ◌<◌, ◌++◌, length, Some, IfSome};
+ghost use Rattle.std.specs.Prelude.{◌≡◌, ◌+◌, ◌^◌, ◌<◌, length, Some, IfSome};
 ghost use Rattle.std.specs.Borrow.{sem};
 ghost use Rattle.std.specs.Iterator.{YieldsFirstMut, YieldsLastMut, UpTo, item_count};
 ghost use Rattle.std.specs.Iterator.{CallableInForEach, CallsOnEach};

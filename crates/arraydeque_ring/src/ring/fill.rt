@@ -1,6 +1,6 @@
 //! Adding the items of an iterator at one end, while there is room or in the places of those at the
 //! other; and copies of a slice's items, while there is room.
-ghost use Rattle.std.specs.Prelude.{◌≡◌, ◌-◌, ◌<◌, ◌≤◌, ◌∷◌, ◌++◌, length, min, take, drop, reverse, nat_lt, false};
+ghost use Rattle.std.specs.Prelude.{◌≡◌, ◌-◌, ◌<◌, ◌≤◌, ◌++◌, length, min, take, drop, reverse, nat_lt, false};
 ghost use Rattle.std.specs.Iterator.{IsFinite, IsNearerEnd, MakesProgress};
 ghost use Rattle.arraydeque_ring.specs.Fills.{Fills, Ends, GoesOn};
 ghost use Rattle.arraydeque_ring.specs.Ring.{up_by, down_by};
