@@ -3,7 +3,7 @@ ghost use Rattle.std.specs.Prelude.{◌≡◌, ◌<◌, ◌≤◌, Some, length,
 ghost use Rattle.std.specs.Fn.{FnOnceTakesAtMut};
 ghost use Rattle.arraydeque.specs.Deque.{as_ring, last_item};
 ghost use Rattle.arraydeque.specs.Range.{IsRangeOf, span_of};
-ghost use Rattle.arraydeque_ring.specs.Retained.{MayBeAsked, MayWrite};
+ghost use Rattle.arraydeque_ring.specs.Retained.{MayBeAsked, MayBeAskedMut};
 ghost use Rattle.arraydeque_ring.specs.Ring.{IsInOnePiece};
 ghost use Rattle.arraydeque_ring.specs.Written.{MayWriteEach};
 
@@ -347,7 +347,7 @@ fn retain_mut<T: Drop, const CAP: usize, B: Behavior, F: FnMut(&mut T) -> bool +
     deque: &mut ArrayDeque<T, CAP, B>,
     f: F,
 )
-    requires { MayWrite F.FnMut f deque.old.items }
+    requires { MayBeAskedMut F.FnMut f deque.old.items }
 {
     deque.retain_mut(f);
 }

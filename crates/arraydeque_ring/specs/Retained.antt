@@ -46,9 +46,9 @@ abbrev pub as_left : {X : Type 0} → List (X × X) → List X
 as_left pairs = map (λ pair. pair.1) pairs
 
 -- R answered at the item as it was, and left it as the pair says
-abbrev pub written : {F X : Type 0} → (F → X → Bool → F → X → Type 0) → F → X × X → Bool → F
+abbrev pub WrittenAs : {F X : Type 0} → (F → X → Bool → F → X → Type 0) → F → X × X → Bool → F
     → Type 0
-written R f pair answer g = R f pair.0 answer g pair.1
+WrittenAs R f pair answer g = R f pair.0 answer g pair.1
 
 -- R answered once at each item in turn, from f on, and the items answered true stay, in order and
 -- as it left them; each item is lent once, each that goes is taken out, and each whose index
@@ -60,7 +60,7 @@ pub record RetainsMut {F X : Type 0} (R : F → X → Bool → F → X → Type 
   pub last : F
   pub one_each : length answers ≡ length old.items
   pub before : as_were pairs ≡ old.items
-  pub in_turn : ReturnsInTurn (written R) f answers pairs last
+  pub in_turn : ReturnsInTurn (WrittenAs R) f answers pairs last
   pub kept : new ≡ record old {
     items = items_where_true answers (as_left pairs);
     steps = more_takes (count_by not answers)
@@ -69,9 +69,9 @@ pub record RetainsMut {F X : Type 0} (R : F → X → Bool → F → X → Type 
 
 -- f may be called on each of xs, once and in turn, whatever it wrote; nothing is said of a call
 -- after the last
-abbrev pub MayWrite : {F X : Type 0} → Mut F (MutBor X × Unit {0}) (Bool × (MutBor X × Unit {0}))
-    → F → List X → Type 0
-MayWrite {F} {X} g f xs =
+abbrev pub MayBeAskedMut : {F X : Type 0}
+    → Mut F (MutBor X × Unit {0}) (Bool × (MutBor X × Unit {0})) → F → List X → Type 0
+MayBeAskedMut {F} {X} g f xs =
     (answers : List Bool) (pairs : List (X × X)) (state : F) (x : MutBor X)
     → as_were pairs ≡ take (length answers) xs → slice_get xs (length answers) ≡ Some x.now
-    → ReturnsInTurn (written (CalledAtMut g)) f answers pairs state → g.pre state (x, tt)
+    → ReturnsInTurn (WrittenAs (CalledAtMut g)) f answers pairs state → g.pre state (x, tt)

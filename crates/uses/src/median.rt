@@ -47,7 +47,7 @@ impl<const CAP: usize> Median<CAP> {
         ensures { self.new ≡ keep_last CAP (self.old ++ sample ∷ []) }
     {
         let oldest = self.recent.push_back(sample);
-        displace(&mut self.ordered, oldest);
+        take_out_given(&mut self.ordered, oldest);
         put_in(&mut self.ordered, sample);
     }
 
@@ -60,7 +60,10 @@ impl<const CAP: usize> Median<CAP> {
 }
 
 /// Takes a sample out, if one is given. It requires that it is there.
-fn displace<const CAP: usize>(ordered: &mut ArrayDeque<u32, CAP, Saturating>, sample: Option<u32>)
+fn take_out_given<const CAP: usize>(
+    ordered: &mut ArrayDeque<u32, CAP, Saturating>,
+    sample: Option<u32>,
+)
     requires rises { IsNonDecreasing ordered.old.items }
     requires there { IfSome sample (Contains ordered.old.items) }
     ensures none_lost { IsPermutation ordered.old.items

@@ -6,7 +6,7 @@ ghost use Rattle.std.specs.Fn.{CalledAt, CalledAtMut};
 ghost use Rattle.std.specs.List.Retain.{IsFiltered, RetainsInTurn};
 ghost use Rattle.arraydeque_ring.specs.Computed.{ComputesAt, ComputesAtMut};
 ghost use Rattle.arraydeque_ring.specs.Ring.{up_by};
-ghost use Rattle.arraydeque_ring.specs.Retained.{Retains, RetainsMut, MayBeAsked, MayWrite};
+ghost use Rattle.arraydeque_ring.specs.Retained.{Retains, RetainsMut, MayBeAsked, MayBeAskedMut};
 ghost use Rattle.arraydeque_ring.specs.Steps.{more_puts, more_takes};
 ghost use Rattle.arraydeque.specs.Deque.{as_ring, keep_last};
 
@@ -171,7 +171,7 @@ impl<T, const CAP: usize, B: Behavior> ArrayDeque<T, CAP, B> {
     where
         T: Drop,
         F: Drop,
-        requires { MayWrite F.FnMut f self.old.items }
+        requires { MayBeAskedMut F.FnMut f self.old.items }
 
         // If `f` computes a test and a change, the items that pass the test stay, so changed.
         ensures tested { (test : T → Bool) (change : T → T) → ComputesAtMut F.FnMut test change f

@@ -122,9 +122,9 @@ module _ {X : Type 0} (d s l i j k m n : ℕ) (ps : List (Option X)) (long : len
               (λ x lt. each x (omega (arith, length-moved d s l ps)));
         }
 
-pub can_copy : {X : Type 0} {e t l n : ℕ} {ps : List (Option X)} → length ps ≡ n → (e + l ≤ n) × (t + l ≤ n)
+pub can_move : {X : Type 0} {e t l n : ℕ} {ps : List (Option X)} → length ps ≡ n → (e + l ≤ n) × (t + l ≤ n)
     → IsFilledRound t l ps → CanMoveRun e t l ps
-can_copy long fits filled = record { target = omega arith; source = omega arith; filled = filled }
+can_move long fits filled = record { target = omega arith; source = omega arith; filled = filled }
 
 -- a run that doesn't pass the end
 pub round_run : {X : Type 0} (ps : List (Option X)) (from len : ℕ) → from + len ≤ length ps
@@ -171,9 +171,9 @@ module _ {X : Type 0} (d s l n a b : ℕ) {k m d₁ s₁ d₂ s₂ d₃ s₃ : �
         d s d₃ s₃ (grind arith) behind.0 filled in
         let same = length-moved d₁ s₁ a ps ∙ long in
         record {
-          one = can_copy long before.1 firsts.first;
-          two = can_copy same between.1 firsts.second;
-          three = can_copy (length-moved d₂ s₂ k _ ∙ same) behind.1 (rw firsts.is last.second);
+          one = can_move long before.1 firsts.first;
+          two = can_move same between.1 firsts.second;
+          three = can_move (length-moved d₂ s₂ k _ ∙ same) behind.1 (rw firsts.is last.second);
           is = ap (run_moved d₃ s₃ m) firsts.is ∙ last.is;
         },
     λ near.
@@ -183,9 +183,9 @@ module _ {X : Type 0} (d s l n a b : ℕ) {k m d₁ s₁ d₂ s₂ d₃ s₃ : �
         let firsts = two_moves d s b a 0 k a n _ same (omega arith) (inr (omega arith, omega arith, omega arith))
         d₂ s₂ d₁ s₁ between.0 before.0 last.second in
         record {
-          one = can_copy long behind.1 last.first;
-          two = can_copy same between.1 firsts.first;
-          three = can_copy (length-moved d₂ s₂ k _ ∙ same) before.1 firsts.second;
+          one = can_move long behind.1 last.first;
+          two = can_move same between.1 firsts.first;
+          three = can_move (length-moved d₂ s₂ k _ ∙ same) before.1 firsts.second;
           is = firsts.is ∙ last.is;
         },
   )

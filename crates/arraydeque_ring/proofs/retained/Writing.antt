@@ -27,7 +27,7 @@ use Rattle.arraydeque_ring.{
   },
   specs.{
     Places.{held_at, IsFilled, IsEmpty},
-    Retained.{as_were, as_left, written, count_moved, RetainsMut},
+    Retained.{as_were, as_left, WrittenAs, count_moved, RetainsMut},
     Ring.{RingState, place_of},
     Steps.{Steps, more_takes, more_moves, more_lends},
   },
@@ -59,7 +59,7 @@ pub record Writes {F X : Type 0} (R : F → X → Bool → F → X → Type 0) (
   pub asked : length answers ≡ index
   pub paired : length pairs ≡ index
   pub was : as_were pairs ≡ take index items
-  pub in_turn : ReturnsInTurn (written R) f answers pairs g
+  pub in_turn : ReturnsInTurn (WrittenAs R) f answers pairs g
   pub stay : length (items_where_true answers (as_left pairs)) ≡ kept
   pub places : Gapped n t (items_where_true answers (as_left pairs)) (count_by not answers) (drop index items) ps
   pub cost : steps ≡ more_takes (count_by not answers) (more_moves (count_moved answers) (more_lends index before))
@@ -155,13 +155,13 @@ module _ {F X : Type 0} {R : F → X → Bool → F → X → Type 0} {f : F} {i
         picked : (b : Bool) → items_where_true (bs ++ b ∷ []) (as_left more) ≡ ks ++ cond b (y ∷ []) []
         picked b = grind (arith, map-append, picked-push, many)
 
-        in_turn_more : (b : Bool) → R g x b h y → ReturnsInTurn (written R) f (bs ++ b ∷ []) more h
+        in_turn_more : (b : Bool) → R g x b h y → ReturnsInTurn (WrittenAs R) f (bs ++ b ∷ []) more h
         in_turn_more b called =
             let as_many : length bs ≡ length s.pairs = omega arith in
             let is : (x, y) ≡ get_or more (length bs) (x, y) =
             rw as_many (sym (get_or-append_seam s.pairs (x, y) [] (x, y))) in
-            answers_push (written R) f g h bs more (x, y) b (omega (arith, length_push s.pairs (x, y))) is
-            (told_longer (written R) f g bs s.pairs ((x, y) ∷ []) s.in_turn) called
+            answers_push (WrittenAs R) f g h bs more (x, y) b (omega (arith, length_push s.pairs (x, y))) is
+            (told_longer (WrittenAs R) f g bs s.pairs ((x, y) ∷ []) s.in_turn) called
 
         taken : Gapped n t ks (suc (count_by not bs)) (drop (index + 1) items) (set ps src None)
         taken = Gapped-take items index index s.places here inside
@@ -218,7 +218,7 @@ module _ {F X : Type 0} {R : F → X → Bool → F → X → Type 0} {f : F} {i
 
 -- what std's word says of it
 left_in_turn : {F X : Type 0} (R : F → X → Bool → F → X → Type 0) (f g : F) (bs : List Bool) (pairs : List (X × X))
-    → length bs ≡ length (as_were pairs) → ReturnsInTurn (written R) f bs pairs g
+    → length bs ≡ length (as_were pairs) → ReturnsInTurn (WrittenAs R) f bs pairs g
     → RetainsInTurn R f (as_were pairs) (items_where_true bs (as_left pairs))
 left_in_turn R f g [] [] long told = refl
 left_in_turn R f g [] (p ∷ pairs) long told = absurd (omega arith)

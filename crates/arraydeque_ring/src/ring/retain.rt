@@ -5,7 +5,7 @@ ghost use Rattle.std.specs.Fn.{CalledAt, CalledAtMut};
 ghost use Rattle.std.specs.List.Retain.{ReturnsInTurn};
 ghost use Rattle.arraydeque_ring.specs.Ring.{rotated, up_by};
 ghost use Rattle.arraydeque_ring.specs.Retained.{Retains, MayBeAsked, answers_until};
-ghost use Rattle.arraydeque_ring.specs.Retained.{RetainsMut, MayWrite};
+ghost use Rattle.arraydeque_ring.specs.Retained.{RetainsMut, MayBeAskedMut};
 ghost use Rattle.arraydeque_ring.specs.Runs.{run_emptied, IsFilledRun};
 ghost use Rattle.arraydeque_ring.specs.Steps.{more_puts, more_takes};
 
@@ -175,7 +175,7 @@ impl<T> Ring<T> {
     where
         T: Drop,
         F: Drop,
-        requires { MayWrite F.FnMut f self.old.items }
+        requires { MayBeAskedMut F.FnMut f self.old.items }
         ensures retains { RetainsMut (CalledAtMut F.FnMut) f self.old self.new }
         ensures no_longer { length self.new.items ≤ length self.old.items }
     {

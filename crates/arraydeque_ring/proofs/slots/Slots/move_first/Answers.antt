@@ -1,7 +1,7 @@
 use Rattle.std.proofs.{Common.{◌+◌, ◌-◌, ◌∙◌, arith}, Math.Nat.add_assoc}
 use Rattle.arraydeque_ring.proofs.moved.{
   Flat.{all_moved, length-moved},
-  TwoMoves.{can_copy, first_block_goes, round_run},
+  TwoMoves.{can_move, first_block_goes, round_run},
 }
 use Rattle.arraydeque_ring.proofs.slots.Slots.move_first.Goals as goal
 
@@ -19,7 +19,7 @@ loop-moved-preserved g c =
       ← add_assoc c.args.src c.loop-moved.moved g.row.N,
     ) (record {
       within = omega arith;
-      can = can_copy (length-moved _ _ _ _) (omega arith) goes.second;
+      can = can_move (length-moved _ _ _ _) (omega arith) goes.second;
       moved = goes.is ∙ c.loop-moved.invariant.moved;
       forth = omega (arith, c.loop-moved.invariant.forth);
       steps = grind (arith, c.loop-moved.invariant.steps);

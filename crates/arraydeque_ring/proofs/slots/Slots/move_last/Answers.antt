@@ -1,6 +1,6 @@
 use Rattle.std.proofs.Common.{◌+◌, ◌-◌, ◌∙◌, arith}
 use Rattle.arraydeque_ring.proofs.{
-  moved.{Flat.{all_moved, length-moved}, TwoMoves.{can_copy, last_block_goes, round_run}},
+  moved.{Flat.{all_moved, length-moved}, TwoMoves.{can_move, last_block_goes, round_run}},
   slots.Slots.move_last.Goals.{then-is_block+else-loop-moved-test, else-is_block},
 }
 use Rattle.arraydeque_ring.proofs.slots.Slots.move_last.Goals as goal
@@ -17,7 +17,7 @@ loop-moved-preserved g c =
     (omega arith) c.loop-moved.invariant.can c.requires.up in
     rw c.move_block.ensures (record {
       within = omega arith;
-      can = can_copy (length-moved _ _ _ _) (omega arith) goes.second;
+      can = can_move (length-moved _ _ _ _) (omega arith) goes.second;
       moved = goes.is ∙ c.loop-moved.invariant.moved;
       steps = grind (arith, c.loop-moved.invariant.steps);
     })

@@ -10,14 +10,14 @@ invariant_of-self g c =
       some = was.some;
       order = record {
         same = in_window c.self.inside.recent.items pushed.new.self.items c.self.inside.ordered.items c.args.sample
-            pushed.result pushed.ensures.conserved was.order.same c.displace.new.ordered.items
-            c.displace.ensures.none_lost c.put_in.new.ordered.items c.put_in.ensures.none_lost;
+            pushed.result pushed.ensures.conserved was.order.same c.take_out_given.new.ordered.items
+            c.take_out_given.ensures.none_lost c.put_in.new.ordered.items c.put_in.ensures.none_lost;
         rises = c.put_in.ensures.rises;
       };
     }
 
-pub displace-requires : goal.displace-requires
-displace-requires g c =
+pub take_out_given-requires : goal.take_out_given-requires
+take_out_given-requires g c =
     let was = c.self.invariant in
     let there = displaced_there g.row.CAP c.self.inside.recent.items c.self.inside.ordered.items c.args.sample
     c.push_back-oldest.result was.some was.order.same c.push_back-oldest.ensures.value in
@@ -27,6 +27,6 @@ pub put_in-requires : goal.put_in-requires
 put_in-requires g c =
     let pushed = c.push_back-oldest in
     let less = room_between c.self.inside.recent.items pushed.new.self.items c.self.inside.ordered.items c.args.sample
-    pushed.result pushed.ensures.conserved c.self.invariant.order.same c.displace.new.ordered.items
-    c.displace.ensures.none_lost in
-    (omega arith, (c.displace.ensures.rises, omega (arith, less, pushed.ensures.within)))
+    pushed.result pushed.ensures.conserved c.self.invariant.order.same c.take_out_given.new.ordered.items
+    c.take_out_given.ensures.none_lost in
+    (omega arith, (c.take_out_given.ensures.rises, omega (arith, less, pushed.ensures.within)))
