@@ -20,7 +20,7 @@ use Rattle.arraydeque.specs.{
     },
     Reply.{Reply, TheVariants.{Split, NoMemory}},
   },
-  Deque.{DequeState, with_back, with_front, wrapped_back, wrapped_front},
+  Deque.{DequeState, as_ring, with_back, with_front, wrapped_back, wrapped_front},
   Machine.{Answer, Answers, answer_of, done, item, displaced, drained, split},
   Policy.{Policy, saturating, wrapping},
 }
@@ -50,16 +50,14 @@ module _ {X : Type 0} (p : Policy) (n : ℕ) where
       if n == 0 then old.start else place_of old.start (n - 1) n
   start_after (PushBack x) (displaced (Some y)) old =
       if n == 0 then old.start else place_of old.start 1 n
-  start_after (Insert i x) done old = start_opened i (length old.items - i) n old.start
+  start_after (Insert i x) done old = start_opened i (as_ring n old)
   start_after PopFront (item (Some x)) old = place_of old.start 1 n
-  start_after (Remove i) (item (Some x)) old =
-      start_closed i 1 (length old.items - 1 - i) n old.start
+  start_after (Remove i) (item (Some x)) old = start_closed i 1 (as_ring n old)
   start_after (SwapRemoveFront i) (item (Some x)) old = place_of old.start 1 n
   start_after Clear done old = 0
   start_after Linearize done old =
       if nat_le (old.start + length old.items) n then old.start else 0
-  start_after (Drain from to) (drained xs) old =
-      start_closed from (to - from) (length old.items - to) n old.start
+  start_after (Drain from to) (drained xs) old = start_closed from (to - from) (as_ring n old)
   start_after (ExtendBack v) done old = (pushed_back p n v.items old).start
   start_after (ExtendFront v) done old = (pushed_front p n v.items old).start
   start_after (Extend v) done old = (pushed_back p n v.items old).start
@@ -102,12 +100,9 @@ module _ {X : Type 0} (p : Policy) (n : ℕ) where
   -- a call that inserted, removed or drained moved the fewest items that any placement of the new
   -- list allows, and just so many where it starts at `start`
   abbrev pub MovesFewest : Call X → Answer X → DequeState X → ℕ → Type 0
-  MovesFewest (Insert i x) done old start =
-      InsertMovesFewest i (length old.items) n old.start start
-  MovesFewest (Remove i) (item (Some x)) old start =
-      RemoveMovesFewest i (length old.items) n old.start start
-  MovesFewest (Drain from to) (drained xs) old start =
-      DrainMovesFewest from to (length old.items) n old.start start
+  MovesFewest (Insert i x) done old start = InsertMovesFewest i (as_ring n old) start
+  MovesFewest (Remove i) (item (Some x)) old start = RemoveMovesFewest i (as_ring n old) start
+  MovesFewest (Drain from to) (drained xs) old start = DrainMovesFewest from to (as_ring n old) start
   MovesFewest _ _ old start = Unit {0}
 
 module _ {X B : Type 0} (p : Policy) (n size : ℕ) where

@@ -8,7 +8,7 @@ use Rattle.arraydeque_ring.specs.{
   Sides.{moves_to_drain, start_closed},
   Steps.{more_moves, more_takes},
 }
-use Rattle.arraydeque.specs.{declared.range.RangeArgument.{Ghosts}, Deque.{DequeState}}
+use Rattle.arraydeque.specs.{declared.range.RangeArgument.{Ghosts}, Deque.{DequeState, as_ring}}
 
 -- the items from the index `from` up to the index `to`, which is not among them
 pub record Span : Type 0 where
@@ -32,7 +32,7 @@ pub record IsDrained {X : Type 0} (n from to : ℕ) (old : DequeState X) (xs : L
     (new : DequeState X) : Type 0 where
   pub drained : xs ≡ slice_range old.items from to
   pub items : new.items ≡ remove_range old.items from to
-  pub start : new.start ≡ start_closed from (to - from) (length old.items - to) n old.start
+  pub start : new.start ≡ start_closed from (to - from) (as_ring n old)
   pub steps : new.steps
       ≡ more_moves (moves_to_drain from to (length old.items)) (more_takes (to - from) old.steps)
-  pub fewest : DrainMovesFewest from to (length old.items) n old.start new.start
+  pub fewest : DrainMovesFewest from to (as_ring n old) new.start

@@ -36,11 +36,10 @@ use Rattle.arraydeque_ring.{
   },
   specs.{
     declared.ring.Ring.TheInside.Inside,
-    Gaps.{MayClose, gap_moved},
+    Gaps.{MayClose, first_closed, gap_moved},
     Places.{held_at, IsFilled, AreAllEmpty},
     Ring.{RingState, place_of, rotated, values, filled, FilledFrom},
     Runs.{HoldsRun, IsFilledRun, IsEmptyRun, run_emptied, with_run},
-    Sides.start_closed,
   },
 }
 
@@ -114,7 +113,7 @@ new_laid xs n within = shows (LaidOut-new xs n within) _ refl
 pub record Closing {X : Type 0} (t n a m b len : ℕ) (items : List X) (qs : List (Option X)) : Type 0 where
   pub length_is : length qs ≡ n
   pub may : MayClose t a m (len - m - a) qs
-  pub closed : (s : ℕ) (ps : List (Option X)) → s ≡ start_closed a m (len - m - a) (length qs) t
+  pub closed : (s : ℕ) (ps : List (Option X)) → s ≡ first_closed a m (len - m - a) (length qs) t
       → rotated s ps ≡ gap_moved a (a + (len - m - a)) m (rotated t qs)
       → Shows n s (len - m) (take a items ++ drop b items) ps
 

@@ -2,9 +2,10 @@
 -- the new list starts, and that each moves the fewest. Items are told apart by their indexes.
 use Rattle.std.specs.{
   Prelude.{◌≡◌, ℕ, zero, suc, ◌+◌, ◌-◌, ◌<◌, ◌≤◌, Bool, false, not, nat_lt, ◌==◌, if◌then◌else◌},
+  Prelude.length,
 }
 use Rattle.arraydeque_ring.specs.{
-  Ring.place_of,
+  Ring.{RingState, place_of},
   Sides.{moves_to_insert, moves_to_remove, moves_to_drain, moves_to_rotate},
 }
 
@@ -50,27 +51,32 @@ pub record IsFewest (count capacity : ℕ) (changed : ℕ → ℕ) (start : ℕ)
   pub least : (u : ℕ) → u < capacity → count ≤ changed u
   pub met : changed start ≡ count
 
--- an insert at the index into len items that start at `start` moves the fewest that any placement
--- of the new list allows, and just so many where it starts at `new_start`
-abbrev pub InsertMovesFewest : ℕ → ℕ → ℕ → ℕ → ℕ → Type 0
-InsertMovesFewest index len capacity start new_start =
-    IsFewest (moves_to_insert index len) capacity (changed_insert index len capacity start)
-    new_start
+module _ {X : Type 0} where
+  -- an insert at the index into the ring moves the fewest items that any placement of the new list
+  -- allows, and just so many where it starts at `new_start`
+  abbrev pub InsertMovesFewest : ℕ → RingState X → ℕ → Type 0
+  InsertMovesFewest index ring new_start =
+      let len = length ring.items in
+      IsFewest (moves_to_insert index len) ring.capacity
+      (changed_insert index len ring.capacity ring.start) new_start
 
--- so does a removal at the index
-abbrev pub RemoveMovesFewest : ℕ → ℕ → ℕ → ℕ → ℕ → Type 0
-RemoveMovesFewest index len capacity start new_start =
-    IsFewest (moves_to_remove index len) capacity (changed_remove index len capacity start)
-    new_start
+  -- so does a removal at the index
+  abbrev pub RemoveMovesFewest : ℕ → RingState X → ℕ → Type 0
+  RemoveMovesFewest index ring new_start =
+      let len = length ring.items in
+      IsFewest (moves_to_remove index len) ring.capacity
+      (changed_remove index len ring.capacity ring.start) new_start
 
--- so does a drain of the items from `from` up to `to`
-abbrev pub DrainMovesFewest : ℕ → ℕ → ℕ → ℕ → ℕ → ℕ → Type 0
-DrainMovesFewest from to len capacity start new_start =
-    IsFewest (moves_to_drain from to len) capacity (changed_drain from to len capacity start)
-    new_start
+  -- so does a drain of the items from `from` up to `to`
+  abbrev pub DrainMovesFewest : ℕ → ℕ → RingState X → ℕ → Type 0
+  DrainMovesFewest from to ring new_start =
+      let len = length ring.items in
+      IsFewest (moves_to_drain from to len) ring.capacity
+      (changed_drain from to len ring.capacity ring.start) new_start
 
--- so does a rotation that puts the first `count` items behind the others
-abbrev pub RotateMovesFewest : ℕ → ℕ → ℕ → ℕ → ℕ → Type 0
-RotateMovesFewest count len capacity start new_start =
-    IsFewest (moves_to_rotate count len capacity) capacity (changed_rotate count len capacity start)
-    new_start
+  -- so does a rotation that puts the first `count` items behind the others
+  abbrev pub RotateMovesFewest : ℕ → RingState X → ℕ → Type 0
+  RotateMovesFewest count ring new_start =
+      let len = length ring.items in
+      IsFewest (moves_to_rotate count len ring.capacity) ring.capacity
+      (changed_rotate count len ring.capacity ring.start) new_start

@@ -5,6 +5,7 @@ ghost use Rattle.std.specs.List.{insert, remove};
 ghost use Rattle.arraydeque_ring.specs.Changed.{InsertMovesFewest, RemoveMovesFewest, RotateMovesFewest};
 ghost use Rattle.arraydeque_ring.specs.Sides.{moves_to_insert, moves_to_remove, moves_to_rotate, start_opened, start_closed, start_rotated};
 ghost use Rattle.arraydeque_ring.specs.Steps.{more_moves, more_puts, more_takes};
+ghost use Rattle.arraydeque.specs.Deque.{as_ring};
 
 use super::ArrayDeque;
 use crate::behavior::{Behavior, Saturating};
@@ -36,11 +37,11 @@ impl<T, const CAP: usize> ArrayDeque<T, CAP, Saturating> {
         ensures room { IsOk result ↔ (length self.old.items < CAP) }
         ensures items { OnOk result (self.new.items ≡ insert self.old.items index element) }
         ensures start { OnOk result (self.new.start ≡
-            start_opened index (length self.old.items - index) CAP self.old.start) }
+            start_opened index (as_ring CAP self.old)) }
         ensures steps { OnOk result (self.new.steps ≡ more_puts 1
             (more_moves (moves_to_insert index (length self.old.items)) self.old.steps)) }
         ensures fewest { OnOk result (InsertMovesFewest
-            index (length self.old.items) CAP self.old.start self.new.start) }
+            index (as_ring CAP self.old) self.new.start) }
 
         // If the deque is full, the element comes back, and nothing changes.
         ensures full { IfErr result (λ refusal. refusal.element ≡ element) }
@@ -79,12 +80,12 @@ impl<T, const CAP: usize, B: Behavior> ArrayDeque<T, CAP, B> {
         ensures value { result ≡ slice_get self.old.items index }
         ensures items { self.new.items ≡ remove self.old.items index }
         ensures start { OnSome result (self.new.start ≡
-            start_closed index 1 (length self.old.items - 1 - index) CAP self.old.start) }
+            start_closed index 1 (as_ring CAP self.old)) }
         ensures steps { OnSome result (self.new.steps ≡
             more_moves (moves_to_remove index (length self.old.items))
             (more_takes 1 self.old.steps)) }
         ensures fewest { OnSome result (RemoveMovesFewest
-            index (length self.old.items) CAP self.old.start self.new.start) }
+            index (as_ring CAP self.old) self.new.start) }
 
         // Out of range nothing changes.
         ensures none { IfNone result (self.new ≡ self.old) }
@@ -120,12 +121,10 @@ impl<T, const CAP: usize, B: Behavior> ArrayDeque<T, CAP, B> {
         requires { count ≤ length self.old.items }
         ensures items { self.new.items ≡ drop count self.old.items ++ take count self.old.items }
         ensures within { length self.new.items ≤ CAP }
-        ensures start { self.new.start ≡
-            start_rotated count (length self.old.items) CAP self.old.start }
+        ensures start { self.new.start ≡ start_rotated count (as_ring CAP self.old) }
         ensures steps { self.new.steps ≡ more_moves
             (moves_to_rotate count (length self.old.items) CAP) self.old.steps }
-        ensures fewest { RotateMovesFewest
-            count (length self.old.items) CAP self.old.start self.new.start }
+        ensures fewest { RotateMovesFewest count (as_ring CAP self.old) self.new.start }
     {
         self.ring.rotate_left(count);
     }
@@ -152,12 +151,12 @@ impl<T, const CAP: usize, B: Behavior> ArrayDeque<T, CAP, B> {
         ensures items { let others = length self.old.items - count in
             self.new.items ≡ drop others self.old.items ++ take others self.old.items }
         ensures within { length self.new.items ≤ CAP }
-        ensures start { let len = length self.old.items in
-            self.new.start ≡ start_rotated (len - count) len CAP self.old.start }
+        ensures start { let others = length self.old.items - count in
+            self.new.start ≡ start_rotated others (as_ring CAP self.old) }
         ensures steps { let len = length self.old.items in self.new.steps ≡
             more_moves (moves_to_rotate (len - count) len CAP) self.old.steps }
-        ensures fewest { let len = length self.old.items in
-            RotateMovesFewest (len - count) len CAP self.old.start self.new.start }
+        ensures fewest { let others = length self.old.items - count in
+            RotateMovesFewest others (as_ring CAP self.old) self.new.start }
     {
         let others = self.len() - count;
         self.ring.rotate_left(others);

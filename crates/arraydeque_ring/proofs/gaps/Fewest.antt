@@ -10,8 +10,9 @@ use Rattle.arraydeque_ring.{
   proofs.places.Rotated.{one_place, place_of_cases, place_of-sum},
   specs.{
     Changed.{count_below, changed_insert, changed_remove, changed_drain, IsFewest},
+    Gaps.first_closed,
     Ring.place_of,
-    Sides.{moves_to_insert, moves_to_remove, moves_to_drain, start_opened, start_closed},
+    Sides.{moves_to_insert, moves_to_remove, moves_to_drain},
   },
 }
 
@@ -41,7 +42,8 @@ module _ (i n c t : ℕ) (t_in : t < c) (i_in : i ≤ n) (room : n < c) where
         place_of-sum u 1 k c,
       ))
 
-  pub fewest_insert : IsFewest (moves_to_insert i n) c (changed_insert i n c t) (start_opened i (n - i) c t)
+  pub fewest_insert : IsFewest (moves_to_insert i n) c (changed_insert i n c t)
+      (if nat_lt i (n - i) then place_of t (c - 1) c else t)
   fewest_insert = record {
     least = λ u lt. grind (arith, inserted u lt, place_of_cases u 1 c (omega arith));
     met = grind (
@@ -71,7 +73,7 @@ module _ (s e n c t : ℕ) (t_in : t ≤ c - 1) (in_order : s ≤ e) (e_in : e �
       ))
 
   pub fewest_drain : IsFewest (moves_to_drain s e n) c (changed_drain s e n c t)
-      (start_closed s (e - s) (n - e) c t)
+      (first_closed s (e - s) (n - (s + (e - s))) c t)
   fewest_drain = record {
     least = λ u lt. grind (arith, drained u lt, place_of_cases t (e - s) c (omega arith));
     met = elim (cases_lt 0 c) [
@@ -87,10 +89,9 @@ module _ (s e n c t : ℕ) (t_in : t ≤ c - 1) (in_order : s ≤ e) (e_in : e �
   }
 
 pub fewest_remove : (i n c t : ℕ) → t < c → i < n → n ≤ c
-    → IsFewest (moves_to_remove i n) c (changed_remove i n c t) (start_closed i 1 (n - 1 - i) c t)
+    → IsFewest (moves_to_remove i n) c (changed_remove i n c t) (first_closed i 1 (n - (i + 1)) c t)
 fewest_remove i n c t t_in i_in within =
     let all = fewest_drain i (i + 1) n c t (omega arith) (omega arith) (omega arith) within in
     let count : moves_to_drain i (i + 1) n ≡ moves_to_remove i n = grind arith in
     let one : i + 1 - i ≡ 1 = omega arith in
-    let behind : n - (i + 1) ≡ n - 1 - i = omega arith in
-    rw (count, one, behind) at all
+    rw (count, one) at all

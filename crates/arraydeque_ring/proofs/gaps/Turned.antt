@@ -2,7 +2,7 @@
 -- before the items that go behind. And no placement of the list gives fewer items another place.
 use Rattle.std.proofs.{
   Common.{◌≡◌, ℕ, ◌+◌, ◌-◌, ◌<◌, ◌≤◌, ◌==◌, ◌++◌, length, take, drop, inl, inr, min, not},
-  Common.{if◌then◌else◌, List, Option, arith},
+  Common.{if◌then◌else◌, nat_lt, List, Option, arith},
   lemmas.{
     Bool.{cases_lt, Decides.nat_tests},
     Grind.common_steps,
@@ -27,9 +27,9 @@ use Rattle.arraydeque_ring.{
   specs.{
     Changed.{changed_rotate, IsFewest},
     declared.ring.Ring.TheInside.Inside,
-    Gaps.{MayClose, gap_moved},
+    Gaps.{MayClose, first_closed, gap_moved},
     Ring.{RingState, place_of, rotated},
-    Sides.{moves_to_rotate, start_closed, start_rotated},
+    Sides.{moves_to_rotate, start_rotated},
   },
 }
 
@@ -57,7 +57,7 @@ module _ {X : Type 0} {r : Inside X} {v : RingState X} (o : Opened r v) (m : ℕ
       (length-take-le m v.items le)
 
   pub turned : (s : ℕ) (ps : List (Option X))
-      → s ≡ start_closed (r.len - m) (v.capacity - r.len) m v.capacity t
+      → s ≡ first_closed (r.len - m) (v.capacity - r.len) m v.capacity t
       → rotated s ps ≡ gap_moved (r.len - m) (r.len - m + m) (v.capacity - r.len) (rotated t r.slots.places)
       → Shows v.capacity s r.len (drop m v.items ++ take m v.items) ps
   turned s ps here is = shows (LaidOut-gap_last (gap_moves turned_gap (r.len - m) (r.len - m + m)
@@ -70,8 +70,8 @@ module _ {X : Type 0} {r : Inside X} {v : RingState X} (o : Opened r v) (m : ℕ
   turned_full full = shows (LaidOut-by (omega (arith, many))
       (Holds-same turned_gap.reads (λ k lt. grind (arith, items)))) _ many
 
-  pub start_turned : start_closed (r.len - m) (v.capacity - r.len) m v.capacity t
-      ≡ start_rotated m (length v.items) v.capacity v.start
+  pub start_turned : first_closed (r.len - m) (v.capacity - r.len) m v.capacity t
+      ≡ start_rotated m v
   start_turned = grind (arith, common_steps, place_of-sum)
 
 module _ (m n c t : ℕ) (t_in : t ≤ c - 1) (m_in : m ≤ n) (within : n ≤ c) where
@@ -90,7 +90,8 @@ module _ (m n c t : ℕ) (t_in : t ≤ c - 1) (m_in : m ≤ n) (within : n ≤ c
         place_of-sum u (n - m) k c,
       ))
 
-  pub fewest_rotate : IsFewest (moves_to_rotate m n c) c (changed_rotate m n c t) (start_rotated m n c t)
+  pub fewest_rotate : IsFewest (moves_to_rotate m n c) c (changed_rotate m n c t)
+      (let others = n - m in place_of t (if nat_lt others m then c - others else m) c)
   fewest_rotate = record {
     least = λ u lt. grind (
       arith,

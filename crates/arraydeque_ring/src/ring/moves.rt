@@ -35,12 +35,10 @@ impl<T> Ring<T> {
         ensures capacity { self.new.capacity ≡ self.old.capacity }
 
         // Where the list lies, and what it cost.
-        ensures start { self.new.start ≡
-            start_opened index (length self.old.items - index) self.old.capacity self.old.start }
+        ensures start { self.new.start ≡ start_opened index self.old }
         ensures steps { self.new.steps ≡ more_puts 1
             (more_moves (moves_to_insert index (length self.old.items)) self.old.steps) }
-        ensures fewest { InsertMovesFewest
-            index (length self.old.items) self.old.capacity self.old.start self.new.start }
+        ensures fewest { InsertMovesFewest index self.old self.new.start }
     {
         let capacity = self.slots.capacity();
         let behind = self.len - index;
@@ -76,12 +74,10 @@ impl<T> Ring<T> {
         ensures capacity { self.new.capacity ≡ self.old.capacity }
 
         // Where the list lies, and what it cost.
-        ensures start { self.new.start ≡ start_closed
-            index 1 (length self.old.items - 1 - index) self.old.capacity self.old.start }
+        ensures start { self.new.start ≡ start_closed index 1 self.old }
         ensures steps { self.new.steps ≡ more_moves
             (moves_to_remove index (length self.old.items)) (more_takes 1 self.old.steps) }
-        ensures fewest { RemoveMovesFewest
-            index (length self.old.items) self.old.capacity self.old.start self.new.start }
+        ensures fewest { RemoveMovesFewest index self.old self.new.start }
     {
         let place = self.place(index);
         let item = self.slots.take(place);
@@ -107,12 +103,10 @@ impl<T> Ring<T> {
         requires { count ≤ length self.old.items }
         ensures items { self.new.items ≡ drop count self.old.items ++ take count self.old.items }
         ensures capacity { self.new.capacity ≡ self.old.capacity }
-        ensures start { self.new.start ≡
-            start_rotated count (length self.old.items) self.old.capacity self.old.start }
+        ensures start { self.new.start ≡ start_rotated count self.old }
         ensures steps { self.new.steps ≡ more_moves
             (moves_to_rotate count (length self.old.items) self.old.capacity) self.old.steps }
-        ensures fewest { RotateMovesFewest
-            count (length self.old.items) self.old.capacity self.old.start self.new.start }
+        ensures fewest { RotateMovesFewest count self.old self.new.start }
     {
         let capacity = self.slots.capacity();
         if count == 0 {

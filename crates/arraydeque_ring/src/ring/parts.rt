@@ -52,13 +52,11 @@ impl<T> Ring<T> {
         ensures refused { OnErr result (0 < (to - from) * type_size T.row) }
 
         // Where the list lies, and what it cost.
-        ensures start { let behind = length self.old.items - to in OnOk result (self.new.start ≡
-            start_closed from (to - from) behind self.old.capacity self.old.start) }
+        ensures start { OnOk result (self.new.start ≡ start_closed from (to - from) self.old) }
         ensures steps { OnOk result (self.new.steps ≡
             more_moves (moves_to_drain from to (length self.old.items))
             (more_takes (to - from) self.old.steps)) }
-        ensures fewest { OnOk result (DrainMovesFewest
-            from to (length self.old.items) self.old.capacity self.old.start self.new.start) }
+        ensures fewest { OnOk result (DrainMovesFewest from to self.old self.new.start) }
     {
         let count = to - from;
         if count == 0 {
