@@ -102,7 +102,8 @@ module _ {X : Type 0} (p : Policy) (n : ℕ) where
   abbrev pub MovesFewest : Call X → Answer X → DequeState X → ℕ → Type 0
   MovesFewest (Insert i x) done old start = InsertMovesFewest i (as_ring n old) start
   MovesFewest (Remove i) (item (Some x)) old start = RemoveMovesFewest i (as_ring n old) start
-  MovesFewest (Drain from to) (drained xs) old start = DrainMovesFewest from to (as_ring n old) start
+  MovesFewest (Drain from to) (drained xs) old start =
+      DrainMovesFewest from to (as_ring n old) start
   MovesFewest _ _ old start = Unit {0}
 
 module _ {X B : Type 0} (p : Policy) (n size : ℕ) where

@@ -65,11 +65,16 @@ impl<I: Iterator, const CAP: usize> Scanner<I, CAP> {
     #[tactic(auto, unfolding(crate::specs::Lookahead::HasRest, crate::specs::Lookahead::left_of))]
     pub fn new(alloc: Global, iter: I) -> Result<Self, MakeError<I>>
         requires { I.can_next iter }
+
+        // If memory is granted, any list `rest` that is left is what a whole run of the iterator
+        // gives.
         ensures ok { IfOk result (λ scanner. scanner ≡ fresh_scanner I.remaining iter) }
         ensures rest { IfOk result (λ scanner. (rest : List I.Item)
             → HasRest I.next_gives scanner rest
             → WholeRun I.next_gives iter (λ run. run.items ≡ rest)) }
         ensures counts { IfOk result (CountsLeft I.remaining) }
+
+        // If memory is refused, the iterator comes back.
         ensures source { IfErr result (λ refusal. refusal.source ≡ iter) }
         ensures refused { OnErr result (0 < CAP * type_size I.Item.row) }
     {
@@ -100,6 +105,9 @@ impl<I: Iterator, const CAP: usize> Scanner<I, CAP> {
     /// ```
     pub fn peek(&mut self, k: usize) -> Option<&I::Item>
         requires { k < CAP }
+
+        // Once the loan has ended, the scanner is `new`: it has read on until item `k` is in its
+        // buffer, if there is one, and that is the result.
         ensures* peeks { sem 𝓛 (Rests (the_row I.row CAP.row I.Item.row I.Iterator) self.entry
             (λ new. Peeks I.next_gives I.remaining self.old k (option_copied result) new)) }
     {
@@ -123,6 +131,8 @@ impl<I: Iterator, const CAP: usize> Scanner<I, CAP> {
         ensures count { result ≡ min count (length self.new.buffer) }
         ensures reads_on { ReadsOn I.next_gives I.remaining self.old count self.new }
         ensures all { result ≡ count → self.new.ended ≡ self.old.ended }
+
+        // Fewer are there only if the input has ended; then the buffer has all that is left.
         ensures fewer { result < count → self.new.ended ≡ true }
         ensures over { result < count → HasRest I.next_gives self.new self.new.buffer }
     {
@@ -165,15 +175,17 @@ impl<I: Iterator, const CAP: usize> Scanner<I, CAP> {
     /// ```
     #[tactic(auto, unfolding(crate::specs::Lookahead::HasRest, crate::specs::Lookahead::left_of))]
     pub fn next(&mut self) -> Option<I::Item>
-        // What is returned, and what is left.
+        // If there is an item, the first of the buffer, or else the next of the iterator, goes out.
         ensures hands_out { HandsOut I.next_gives self.old (option_to_list result) self.new }
         ensures rest { TakesOff I.next_gives self.old (option_to_list result) self.new }
         ensures buffer { self.new.buffer ≡ drop 1 self.old.buffer }
         ensures buffered { 0 < length self.old.buffer
             → (result ≡ slice_get self.old.buffer 0) × (self.new.iter ≡ self.old.iter) }
+        ensures some { OnSome result (self.new.ended ≡ self.old.ended) }
+
+        // At the end there is none, and nothing was left.
         ensures none { IfNone result (self.new.ended ≡ true) }
         ensures over { IfNone result (HasRest I.next_gives self.old []) }
-        ensures some { OnSome result (self.new.ended ≡ self.old.ended) }
 
         // How many items are left at most.
         ensures goes { MakesProgress (λ _. ⊤) (λ s. s.left) self.old result self.new }
@@ -208,6 +220,8 @@ impl<I: Iterator, const CAP: usize> Scanner<I, CAP> {
         ensures buffered { count ≤ length self.old.buffer
             → (result ≡ count) × (self.new.iter ≡ self.old.iter) }
         ensures all { result ≡ count → self.new.ended ≡ self.old.ended }
+
+        // Fewer go only if the input has ended; then nothing is left.
         ensures fewer { result < count → self.new.ended ≡ true }
         ensures over { result < count → HasRest I.next_gives self.new [] }
     {
@@ -240,11 +254,13 @@ impl<I: Iterator, const CAP: usize> Scanner<I, CAP> {
         requires ahead { 0 < CAP }
         requires callable { P.IsAlwaysCallable accepts }
 
-        // What is returned, and what is left.
+        // If the next item is accepted, it goes out.
         ensures hands_out { HandsOut I.next_gives self.old (option_to_list result) self.new }
         ensures rest { TakesOff I.next_gives self.old (option_to_list result) self.new }
         ensures accepted { IfSome result (λ item.
             FnOnceReturnsAt P.FnOnce accepts item true) }
+
+        // If it is rejected, it stays the next one, in the buffer. At the end there is none.
         ensures rejected { IfNone result (NextIs I.next_gives
             (λ item. FnOnceReturnsAt P.FnOnce accepts item false) self.new) }
         ensures none { IfNone result
@@ -277,11 +293,13 @@ impl<I: Iterator, const CAP: usize> Scanner<I, CAP> {
     /// ```
     #[tactic(auto, unfolding(crate::specs::Lookahead::HasRest, crate::specs::Lookahead::left_of))]
     pub fn unread(&mut self, item: I::Item) -> Result<(), CapacityError<I::Item>>
-        // What is returned, and what is left.
+        // If the buffer has room, the item is the next one.
         ensures room { IsOk result ↔ (length self.old.buffer < CAP) }
         ensures buffer { OnOk result (self.new ≡
             record self.old { buffer = item ∷ self.old.buffer; left = self.new.left }) }
         ensures rest { OnOk result (PutsOn I.next_gives self.old item self.new) }
+
+        // If the buffer is full, the item comes back, and nothing changes.
         ensures full { IfErr result (λ refusal. refusal.element ≡ item) }
         ensures unchanged { OnErr result (self.new ≡ self.old) }
 
@@ -295,12 +313,14 @@ impl<I: Iterator, const CAP: usize> Scanner<I, CAP> {
     /// Asks the iterator once, unless it has given its first `None`. The buffer stays as it is.
     #[tactic(auto, unfolding(crate::specs::Lookahead::left_of))]
     fn read(&mut self) -> Option<I::Item>
-        // What is returned, and what is left.
+        // The iterator is asked, unless it has ended.
         ensures reads { Reads I.next_gives self.old.ended self.old.iter (option_to_list result)
             self.new.ended self.new.iter }
         ensures buffer { self.new.buffer ≡ self.old.buffer }
-        ensures none { IfNone result (self.new.ended ≡ true) }
         ensures some { OnSome result (self.new.ended ≡ self.old.ended) }
+
+        // If it gives none, it has ended.
+        ensures none { IfNone result (self.new.ended ≡ true) }
 
         // How many items are left at most.
         ensures goes { MakesProgress (λ _. ⊤) (λ s. s.left) self.old result self.new }

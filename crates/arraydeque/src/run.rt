@@ -111,19 +111,21 @@ impl<T: Drop, const CAP: usize, B: RunPolicy<T, CAP>> ArrayDeque<T, CAP, B> {
         &mut self,
         calls: Vec<Call<T>>,
     ) -> Result<Vec<Reply<T, CAP, B>>, MakeError<Vec<Call<T>>>>
-        // What is returned, and what is left.
-        ensures whole { IfOk result (λ replies.
-            DequeRun B.policy (type_size T.row) self.old calls.items replies.items self.new) }
+        // If memory is granted, each call is answered in turn, as the list machine answers it.
         ensures ok { IfOk result (λ replies.
             MachineRun B.policy self.old.items calls.items replies.items self.new.items) }
+        // And each makes of the deque what the call itself promises: list, start and steps.
+        ensures whole { IfOk result (λ replies.
+            DequeRun B.policy (type_size T.row) self.old calls.items replies.items self.new) }
+        // No more moves and exchanges are made than these calls cost in all.
+        ensures costs { IfOk result (λ replies.
+            RunCosts B.policy self.old calls.items replies.items self.new) }
         ensures exact { IfOk result (λ replies. vec_capacity replies ≡ length calls.items) }
+
+        // If memory is refused, the calls come back, and nothing changes.
         ensures source { IfErr result (λ refusal. refusal.source ≡ calls) }
         ensures unchanged { OnErr result (self.new ≡ self.old) }
         ensures refused { OnErr result (0 < length calls.items) }
-
-        // Where the list lies, and what it cost.
-        ensures costs { IfOk result (λ replies.
-            RunCosts B.policy self.old calls.items replies.items self.new) }
     {
         let mut replies = match Vec::with_capacity(self.alloc(), calls.len()) {
             Ok(replies) => replies,

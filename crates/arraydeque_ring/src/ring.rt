@@ -188,12 +188,15 @@ impl<T> Ring<T> {
     #[tactic(auto, using(crate::proofs::Opened::end_facts))]
     #[inline]
     pub fn pop_front(&mut self) -> Option<T>
+        // If there is an item, the first is removed and returned.
         ensures value { result ≡ slice_get self.old.items 0 }
         ensures taken { OnSome result (self.new ≡ record self.old {
           items = drop 1 self.old.items;
           start = place_of self.old.start 1 self.old.capacity;
           steps = more_takes 1 self.old.steps;
         }) }
+
+        // If there is none, nothing changes.
         ensures none { IfNone result (self.new ≡ self.old) }
         ensures empty { IfNone result (self.old.items ≡ []) }
     {
@@ -217,11 +220,14 @@ impl<T> Ring<T> {
     #[tactic(auto, using(crate::proofs::Opened::end_facts))]
     #[inline]
     pub fn pop_back(&mut self) -> Option<T>
+        // If there is an item, the last is removed and returned.
         ensures value { result ≡ slice_get self.old.items (length self.old.items - 1) }
         ensures taken { OnSome result (self.new ≡ record self.old {
           items = take (length self.old.items - 1) self.old.items;
           steps = more_takes 1 self.old.steps;
         }) }
+
+        // If there is none, nothing changes.
         ensures none { IfNone result (self.new ≡ self.old) }
         ensures empty { IfNone result (self.old.items ≡ []) }
     {
@@ -283,8 +289,10 @@ impl<T> Ring<T> {
     #[tactic(auto, using(crate::proofs::Opened::end_facts))]
     #[inline]
     pub fn get_mut(&mut self, index: usize) -> Option<&mut T>
-        ensures* writes_back { sem 𝓛 (lends_item T.row self.entry index result) }
         ensures value { option_copied_mut result ≡ slice_get self.old.items index }
+
+        // The item, if there is one, ends as it was last written, with 1 lend counted.
+        ensures* writes_back { sem 𝓛 (lends_item T.row self.entry index result) }
     {
         if index >= self.len {
             return None;
@@ -306,8 +314,10 @@ impl<T> Ring<T> {
     #[inline]
     pub fn item_mut(&mut self, index: usize) -> &mut T
         requires { index < length self.old.items }
-        ensures* writes_back { sem 𝓛 (lends_index T.row self.entry index result) }
         ensures value { slice_get self.old.items index ≡ Some result.now }
+
+        // The item ends as it was last written, with 1 lend counted.
+        ensures* writes_back { sem 𝓛 (lends_index T.row self.entry index result) }
     {
         let place = self.place(index);
         let slots = &mut self.slots;

@@ -96,10 +96,12 @@ impl<T, const CAP: usize, B: Behavior> ArrayDeque<T, CAP, B> {
     #[tactic(auto, using(crate::proofs::NoEnd::no_first))]
     #[inline]
     pub fn front_mut(&mut self) -> Option<&mut T>
-        ensures* writes_back { sem 𝓛 (lends_item T.row CAP.row B.row self.entry 0 result) }
         ensures value { option_copied_mut result ≡ slice_get self.old.items 0 }
         ensures empty { IfNone result (self.old.items ≡ []) }
         ensures within { length self.old.items ≤ CAP }
+
+        // The item, if there is one, ends as it was last written, with 1 lend counted.
+        ensures* writes_back { sem 𝓛 (lends_item T.row CAP.row B.row self.entry 0 result) }
     {
         self.get_mut(0)
     }
@@ -117,11 +119,13 @@ impl<T, const CAP: usize, B: Behavior> ArrayDeque<T, CAP, B> {
     #[tactic(auto, using(crate::proofs::NoEnd::no_last))]
     #[inline]
     pub fn back_mut(&mut self) -> Option<&mut T>
-        ensures* writes_back { let last = length self.old.items - 1 in
-            sem 𝓛 (lends_item T.row CAP.row B.row self.entry last result) }
         ensures value { option_copied_mut result ≡ last_item self.old.items }
         ensures empty { IfNone result (self.old.items ≡ []) }
         ensures within { length self.old.items ≤ CAP }
+
+        // The item, if there is one, ends as it was last written, with 1 lend counted.
+        ensures* writes_back { let last = length self.old.items - 1 in
+            sem 𝓛 (lends_item T.row CAP.row B.row self.entry last result) }
     {
         let last = self.len().saturating_sub(1);
         self.get_mut(last)
@@ -141,9 +145,11 @@ impl<T, const CAP: usize, B: Behavior> ArrayDeque<T, CAP, B> {
     /// ```
     #[inline]
     pub fn get_mut(&mut self, index: usize) -> Option<&mut T>
-        ensures* writes_back { sem 𝓛 (lends_item T.row CAP.row B.row self.entry index result) }
         ensures value { option_copied_mut result ≡ slice_get self.old.items index }
         ensures within { length self.old.items ≤ CAP }
+
+        // The item, if there is one, ends as it was last written, with 1 lend counted.
+        ensures* writes_back { sem 𝓛 (lends_item T.row CAP.row B.row self.entry index result) }
     {
         self.ring.get_mut(index)
     }
@@ -187,8 +193,10 @@ impl<T, const CAP: usize, B: Behavior> IndexMut<usize> for ArrayDeque<T, CAP, B>
     #[inline]
     fn index_mut(&mut self, index: usize) -> &mut T
         requires { index < length self.old.items }
-        ensures* writes_back { sem 𝓛 (lends_index T.row CAP.row B.row self.entry index result) }
         ensures value { slice_get self.old.items index ≡ Some result.now }
+
+        // The item ends as it was last written, with 1 lend counted.
+        ensures* writes_back { sem 𝓛 (lends_index T.row CAP.row B.row self.entry index result) }
     {
         self.ring.item_mut(index)
     }

@@ -103,8 +103,10 @@ impl<T, const CAP: usize, B: Behavior> ArrayDeque<T, CAP, B> {
     /// ```
     #[inline]
     pub fn first_slice_mut(&mut self) -> &mut [T]
-        ensures* writes_back { sem 𝓛 (lends_first T.row CAP.row B.row self.entry result) }
         ensures value { result.now ≡ take (CAP - self.old.start) self.old.items }
+
+        // Its items end as they were last written, with 1 lend counted, and the others stay.
+        ensures* writes_back { sem 𝓛 (lends_first T.row CAP.row B.row self.entry result) }
     {
         let ring = &mut self.ring;
         ring.first_slice_mut()
@@ -124,8 +126,10 @@ impl<T, const CAP: usize, B: Behavior> ArrayDeque<T, CAP, B> {
     /// ```
     #[inline]
     pub fn second_slice_mut(&mut self) -> &mut [T]
-        ensures* writes_back { sem 𝓛 (lends_rest T.row CAP.row B.row self.entry result) }
         ensures value { result.now ≡ drop (CAP - self.old.start) self.old.items }
+
+        // Its items end as they were last written, with 1 lend counted, and the others stay.
+        ensures* writes_back { sem 𝓛 (lends_rest T.row CAP.row B.row self.entry result) }
     {
         let ring = &mut self.ring;
         ring.second_slice_mut()

@@ -79,8 +79,10 @@ impl<T, const CAP: usize, B: Behavior> ArrayDeque<T, CAP, B> {
     /// ```
     #[inline]
     pub fn iter_mut(&mut self) -> IterMut<'_, T>
-        ensures* writes_back { sem 𝓛 (lends_items T.row CAP.row B.row self.entry result.name) }
         ensures value { remaining result ≡ self.old.items }
+
+        // Whatever is written, there are as many items as before, and 2 lends are counted.
+        ensures* writes_back { sem 𝓛 (lends_items T.row CAP.row B.row self.entry result.name) }
     {
         let len = self.len();
         IterMut::from_loan(self.lend_part(0, len))
@@ -107,11 +109,13 @@ impl<T, const CAP: usize, B: Behavior> ArrayDeque<T, CAP, B> {
     where
         R: Drop,
         requires { IsRangeOf R.RangeArgument range self.old.items }
+        ensures value { let span = span_of R.RangeArgument range self.old.items in
+            remaining result ≡ slice_range self.old.items span.from span.to }
+
+        // Whatever is written, the range keeps its length and the others stay. 2 lends are counted.
         ensures* writes_back { let span = span_of R.RangeArgument range self.old.items in
             sem 𝓛 (lends_part T.row CAP.row B.row self.entry
             span.from (span.to - span.from) result.name) }
-        ensures value { let span = span_of R.RangeArgument range self.old.items in
-            remaining result ≡ slice_range self.old.items span.from span.to }
     {
         let from = range.start().unwrap_or(0);
         let to = range.end().unwrap_or(self.len());
@@ -202,8 +206,11 @@ impl<T, const CAP: usize, B: Behavior> ArrayDeque<T, CAP, B> {
     #[inline]
     pub fn as_mut_slice(&mut self) -> &mut [T]
         requires { IsInOnePiece (as_ring CAP self.old) }
-        ensures* writes_back { sem 𝓛 (lends_list T.row CAP.row B.row self.entry result) }
         ensures value { result.now ≡ self.old.items }
+
+        // The list ends as it was last written, with 1 lend counted.
+        ensures* writes_back { sem 𝓛 (lends_list T.row CAP.row B.row self.entry result) }
+        // Whatever list `ws` of as many items was written, that is the list then.
         ensures same_len { (ws : List T) → length ws ≡ length self.old.items
             → refill (length self.old.items) self.old.items ws ≡ ws }
     {

@@ -25,11 +25,16 @@ impl<T, const CAP: usize, B: Behavior> ArrayDeque<T, CAP, B> {
     /// assert!(rt; deque.as_slices().0 == [1, 2, 3].as_slice());
     /// ```
     pub fn linearize(&mut self)
+        // The items lie in one piece.
         ensures items { self.new.items ≡ self.old.items }
-        ensures within { length self.new.items ≤ CAP }
         ensures one_piece { IsInOnePiece (as_ring CAP self.new) }
+        ensures within { length self.new.items ≤ CAP }
+
+        // If they wrapped, they start at 0, with no more moves and exchanges than items.
         ensures start { ¬ IsInOnePiece (as_ring CAP self.old) → self.new.start ≡ 0 }
         ensures steps { Rearranges (length self.old.items) self.old.steps self.new.steps }
+
+        // If they lay in one piece before, nothing changes.
         ensures unchanged { IsInOnePiece (as_ring CAP self.old) → self.new ≡ self.old }
     {
         self.ring.linearize();

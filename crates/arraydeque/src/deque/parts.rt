@@ -131,13 +131,13 @@ impl<T, const CAP: usize> ArrayDeque<T, CAP, Saturating> {
     /// assert!(rt; other.into_vec()?.as_slice() == [4].as_slice());
     /// ```
     pub fn append<const N: usize, P: Behavior>(&mut self, other: &mut ArrayDeque<T, N, P>)
-        // What is returned, and what is left.
+        // As many of the other deque as there is room for come over, and the others stay.
         ensures items { let room = CAP - length self.old.items in
             self.new.items ≡ self.old.items ++ take room other.old.items }
         ensures other_items { let room = CAP - length self.old.items in
             other.new.items ≡ drop room other.old.items }
 
-        // Where the list lies, and what it cost.
+        // Where the two lists lie, and what it cost.
         ensures start { self.new.start ≡ self.old.start }
         ensures steps { let room = CAP - length self.old.items in
             self.new.steps ≡ more_puts (min (length other.old.items) room) self.old.steps }
@@ -177,11 +177,11 @@ impl<T: Drop, const CAP: usize> ArrayDeque<T, CAP, Wrapping> {
     /// ```
     #[tactic(auto, using(crate::proofs::KeepLast::append_rules))]
     pub fn append<const N: usize, P: Behavior>(&mut self, other: &mut ArrayDeque<T, N, P>)
-        // What is returned, and what is left.
+        // All items of the other deque come over, and the last `CAP` of both stay.
         ensures items { self.new.items ≡ keep_last CAP (self.old.items ++ other.old.items) }
         ensures other_items { other.new.items ≡ [] }
 
-        // Where the list lies, and what it cost.
+        // Where the two lists lie, and what it cost.
         ensures start { let gone = length self.old.items - (CAP - length other.old.items) in
             self.new.start ≡ up_by gone self.old.start CAP }
         ensures steps { let gone = length self.old.items - (CAP - length other.old.items) in

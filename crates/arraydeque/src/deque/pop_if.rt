@@ -26,15 +26,18 @@ impl<T, const CAP: usize, B: Behavior> ArrayDeque<T, CAP, B> {
     /// assert!(rt; deque.into_vec()?.as_slice() == [2, 3].as_slice());
     /// ```
     pub fn pop_front_if<P: FnOnce(&mut T) -> bool>(&mut self, predicate: P) -> Option<T>
+        // If there is an item, `predicate` may be called at the first.
         requires { ForSome (slice_get self.old.items 0) (FnOnceTakesAtMut P.FnOnce predicate) }
 
-        // What is returned, and what is left.
+        // The first item goes if `predicate` returns true, and else stays as `predicate` left it.
         ensures cases { PopsFrontIf P.FnOnce self.old.items self.new.items predicate result }
 
-        // Where the list lies, and what it cost.
+        // If it goes: where the list lies, and what it cost.
         ensures start { OnSome result (self.new.start ≡ place_of self.old.start 1 CAP) }
         ensures steps { OnSome result (self.new.steps ≡
             more_takes 1 (more_lends 1 self.old.steps)) }
+
+        // If it stays, it is lent, and no more. If there is none, nothing changes.
         ensures none { IfNone result (self.new ≡ record self.old {
           items = self.new.items;
           steps = more_lends (min 1 (length self.old.items)) self.old.steps;
@@ -65,15 +68,18 @@ impl<T, const CAP: usize, B: Behavior> ArrayDeque<T, CAP, B> {
     /// assert!(rt; deque.into_vec()?.as_slice() == [5].as_slice());
     /// ```
     pub fn pop_back_if<P: FnOnce(&mut T) -> bool>(&mut self, predicate: P) -> Option<T>
+        // If there is an item, `predicate` may be called at the last.
         requires { ForSome (last_item self.old.items) (FnOnceTakesAtMut P.FnOnce predicate) }
 
-        // What is returned, and what is left.
+        // The last item goes if `predicate` returns true, and else stays as `predicate` left it.
         ensures cases { PopsIf P.FnOnce self.old.items self.new.items predicate result }
 
-        // Where the list lies, and what it cost.
+        // If it goes: where the list lies, and what it cost.
         ensures start { self.new.start ≡ self.old.start }
         ensures steps { OnSome result (self.new.steps ≡
             more_takes 1 (more_lends 1 self.old.steps)) }
+
+        // If it stays, it is lent, and no more. If there is none, nothing changes.
         ensures none { IfNone result (self.new ≡ record self.old {
           items = self.new.items;
           steps = more_lends (min 1 (length self.old.items)) self.old.steps;

@@ -23,6 +23,9 @@ impl<T, const CAP: usize, B: Behavior> ArrayDeque<T, CAP, B> {
         requires { P.IsAlwaysCallable pred }
         ensures bound { result ≤ length self.now.items }
         ensures within { length self.now.items ≤ CAP }
+
+        // If `pred` computes a test `p` of the items, and those that pass come first, they are
+        // those below the result.
         ensures partitioned { (p : T → Bool) → ComputesKey P.FnMut p pred
             → IsPartitionedBy p self.now.items
             → IsPartitionPoint (λ y. p y ≡ true) (λ y. p y ≡ false) self.now.items result }
@@ -50,6 +53,9 @@ impl<T, const CAP: usize, B: Behavior> ArrayDeque<T, CAP, B> {
         T: Ord,
         ensures bound { IsSearchInRange result (length self.now.items) }
         ensures within { length self.now.items ≤ CAP }
+
+        // An item that is found equals `x`, and if the items rise, it is the first that does. If
+        // they rise and none is found, `x` would keep their order at the index in the error.
         ensures ok { IfOk result (HoldsAt (λ y. T.cmp y x.now ≡ Ordering.Equal) self.now.items) }
         ensures position { IsBinarySearchResult (λ y. T.cmp y x.now) self.now.items result }
         ensures first { IsFirstFound (λ y. T.cmp y x.now) self.now.items result }
@@ -70,6 +76,9 @@ impl<T, const CAP: usize, B: Behavior> ArrayDeque<T, CAP, B> {
         requires { F.IsAlwaysCallable f }
         ensures bound { IsSearchInRange result (length self.now.items) }
         ensures within { length self.now.items ≤ CAP }
+
+        // If `f` computes a function `ord` of the items, the result is as `binary_search`'s, by
+        // `ord`.
         ensures position { (ord : T → Ordering) → ComputesKey F.FnMut ord f
             → IsBinarySearchResult ord self.now.items result }
         ensures first { (ord : T → Ordering) → ComputesKey F.FnMut ord f
@@ -101,6 +110,8 @@ impl<T, const CAP: usize, B: Behavior> ArrayDeque<T, CAP, B> {
         requires { F.IsAlwaysCallable f }
         ensures bound { IsSearchInRange result (length self.now.items) }
         ensures within { length self.now.items ≤ CAP }
+
+        // If `f` computes the key `key_of` of an item, the result is as `binary_search`'s, by keys.
         ensures position { (key_of : T → K) → ComputesKey F.FnMut key_of f
             → IsBinarySearchResult (λ y. K.cmp (key_of y) key.now) self.now.items result }
         ensures first { (key_of : T → K) → ComputesKey F.FnMut key_of f
@@ -115,6 +126,9 @@ impl<T, const CAP: usize, B: Behavior> ArrayDeque<T, CAP, B> {
         ensures bound { result ≤ length self.now.items }
         ensures within { length self.now.items ≤ CAP }
         ensures callable { F.IsAlwaysCallable f.new }
+
+        // If `f` computes a function `ord` of the items, it still does, and the result counts those
+        // for which that is `Less`.
         ensures parted { (ord : T → Ordering) → ComputesKey F.FnMut ord f.old
             → ComputesKey F.FnMut ord f.new × IsLessCount ord self.now.items result }
     {

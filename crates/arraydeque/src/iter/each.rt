@@ -10,6 +10,8 @@ pub(super) fn call_on_each<I: Iterator, F: FnMut(I::Item)>(mut items: I, mut f: 
     requires may { I.can_next items }
     requires ends { IsFinite (I.remaining items) }
     requires callable { CallableInForEach I.next_gives F.FnMut items f }
+
+    // `f` was called on each of the items `xs` that came, in turn, and is what the last call left.
     ensures { (xs : List I.Item) × Drains I.next_gives items xs
         × FoldsTo (λ p x q. Called F.FnMut p (x, tt) tt q) f xs result }
 {

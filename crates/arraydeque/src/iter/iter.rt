@@ -45,11 +45,15 @@ impl<'a, T> Iter<'a, T> {
     #[inline]
     pub fn fold<A, F: FnMut(A, &'a T) -> A>(self, init: A, mut f: F) -> A
         requires callable { CallableInFold (YieldsFirstRef (λ xs. xs)) F.FnMut self f init }
+
+        // If `f` computes a function `h` of a total and an item, the result is the total by `h`.
+        ensures value { (h : A → T → A) → ActsAsOnTwo F.FnMut f (λ total item. h total item.now)
+            → result ≡ fold h init self.entry }
+
+        // In std's words: which calls were made, and the same of an `h` that takes references.
         ensures ran { FoldsItems (YieldsFirstRef (λ xs. xs)) F.FnMut self.entry f init result }
         ensures runs { WholeRun (YieldsFirstRef (λ xs. xs)) self.entry (λ run. (h : A → _ → A)
             → ActsAsOnTwo F.FnMut f h → result ≡ fold h init run.items) }
-        ensures value { (h : A → T → A) → ActsAsOnTwo F.FnMut f (λ total item. h total item.now)
-            → result ≡ fold h init self.entry }
     {
         let mut total = init;
         for item in self.first {

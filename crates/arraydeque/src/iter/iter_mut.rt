@@ -197,8 +197,10 @@ impl<'a, T, const CAP: usize, B: Behavior> IntoIterator for &'a mut ArrayDeque<T
     /// ```
     #[inline]
     fn into_iter(self) -> IterMut<'a, T>
-        ensures* writes_back { sem 𝓛 (lends_items T.row CAP.row B.row self.entry result.name) }
         ensures into_iter_gives { remaining result ≡ self.old.items }
+
+        // Whatever is written, there are as many items as before, and 2 lends are counted.
+        ensures* writes_back { sem 𝓛 (lends_items T.row CAP.row B.row self.entry result.name) }
     {
         self.iter_mut()
     }

@@ -21,8 +21,10 @@ impl<T> Ring<T> {
     /// ```
     #[inline]
     pub fn first_slice_mut(&mut self) -> &mut [T]
-        ensures* writes_back { sem 𝓛 (lends_first T.row self.entry result) }
         ensures value { result.now ≡ take (self.old.capacity - self.old.start) self.old.items }
+
+        // Its items end as they were last written, with 1 lend counted, and the others stay.
+        ensures* writes_back { sem 𝓛 (lends_first T.row self.entry result) }
     {
         let start = self.start;
         let len = self.len.min(self.slots.capacity() - start);
@@ -43,8 +45,10 @@ impl<T> Ring<T> {
     /// ```
     #[inline]
     pub fn second_slice_mut(&mut self) -> &mut [T]
-        ensures* writes_back { sem 𝓛 (lends_rest T.row self.entry result) }
         ensures value { result.now ≡ drop (self.old.capacity - self.old.start) self.old.items }
+
+        // Its items end as they were last written, with 1 lend counted, and the others stay.
+        ensures* writes_back { sem 𝓛 (lends_rest T.row self.entry result) }
     {
         let len = self.len - self.len.min(self.slots.capacity() - self.start);
         let slots = &mut self.slots;

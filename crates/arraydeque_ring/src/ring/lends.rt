@@ -68,8 +68,11 @@ impl<T> Ring<T> {
     #[inline]
     pub fn as_mut_slice(&mut self) -> &mut [T]
         requires { IsInOnePiece self.old }
-        ensures* writes_back { sem 𝓛 (lends_list T.row self.entry result) }
         ensures value { result.now ≡ self.old.items }
+
+        // The list ends as it was last written, with 1 lend counted.
+        ensures* writes_back { sem 𝓛 (lends_list T.row self.entry result) }
+        // Whatever list `ws` of as many items was written, that is the list then.
         ensures same_len { (ws : List T) → length ws ≡ length self.old.items
             → refill (length self.old.items) self.old.items ws ≡ ws }
     {
@@ -174,6 +177,7 @@ impl<T> Ring<T> {
     #[inline]
     pub fn lend_part(&mut self, from: usize, len: usize) -> Loan<'_, T>
         requires { from + len ≤ length self.old.items }
+        // Whatever is written, the part keeps its length and the others stay. 2 lends are counted.
         ensures* writes_back { sem 𝓛 (lends_part T.row self.entry from len result.name) }
         ensures value { remaining result ≡ take len (drop from self.old.items) }
     {

@@ -22,11 +22,16 @@ impl<T> Ring<T> {
     /// assert!(rt; ring.as_slices() == ([1, 2, 3].as_slice(), [].as_slice()));
     /// ```
     pub fn linearize(&mut self)
+        // The items lie in one piece.
         ensures items { self.new.items ≡ self.old.items }
-        ensures capacity { self.new.capacity ≡ self.old.capacity }
         ensures one_piece { IsInOnePiece self.new }
+        ensures capacity { self.new.capacity ≡ self.old.capacity }
+
+        // If they wrapped, they start at 0, with no more moves and exchanges than items.
         ensures start { ¬ IsInOnePiece self.old → self.new.start ≡ 0 }
         ensures steps { Rearranges (length self.old.items) self.old.steps self.new.steps }
+
+        // If they lay in one piece before, nothing changes.
         ensures unchanged { IsInOnePiece self.old → self.new ≡ self.old }
     {
         if self.len <= self.slots.capacity() - self.start {

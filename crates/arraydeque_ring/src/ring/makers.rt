@@ -53,12 +53,15 @@ impl<T> Ring<T> {
     pub fn from_vec(alloc: Global, capacity: usize, v: Vec<T>) -> Result<Ring<T>, Vec<T>>
     where
         T: Drop,
+        // If memory is granted, the first items, as many as fit, are the ring's.
         ensures ok { IfOk result (λ ring. ring ≡ record {
           items = take capacity v.items;
           capacity = capacity;
           start = 0;
           steps = more_puts (length (take capacity v.items)) no_steps;
         }) }
+
+        // If memory is refused, the vector comes back.
         ensures source { IfErr result (λ w. w ≡ v) }
         ensures refused { OnErr result (0 < capacity * type_size T.row) }
     {
@@ -92,8 +95,11 @@ impl<T> Ring<T> {
     /// ```
     #[tactic(auto, using(crate::proofs::Opened::opened, std::proofs::lemmas::List::take_all))]
     pub fn into_vec(self) -> Result<Vec<T>, Ring<T>>
+        // If memory is granted, the items are the vector's, which has no room to spare.
         ensures items { IfOk result (λ v. v.items ≡ self.items) }
         ensures exact { IfOk result (λ v. vec_capacity v ≡ length self.items) }
+
+        // If memory is refused, the ring comes back.
         ensures source { IfErr result (λ ring. ring ≡ self) }
         ensures refused { OnErr result (0 < length self.items) }
     {

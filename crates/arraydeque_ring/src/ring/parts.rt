@@ -39,7 +39,7 @@ impl<T> Ring<T> {
         requires in_order { from ≤ to }
         requires in_bounds { to ≤ length self.old.items }
 
-        // What is returned, and what is left.
+        // If memory is granted, the items of the range are the new ring's, and the gap is closed.
         ensures drained { IfOk result (λ ring. ring ≡ record {
           items = slice_range self.old.items from to;
           capacity = to - from;
@@ -48,15 +48,15 @@ impl<T> Ring<T> {
         }) }
         ensures items { OnOk result (self.new.items ≡ remove_range self.old.items from to) }
         ensures capacity { OnOk result (self.new.capacity ≡ self.old.capacity) }
-        ensures unchanged { OnErr result (self.new ≡ self.old) }
-        ensures refused { OnErr result (0 < (to - from) * type_size T.row) }
-
-        // Where the list lies, and what it cost.
         ensures start { OnOk result (self.new.start ≡ start_closed from (to - from) self.old) }
         ensures steps { OnOk result (self.new.steps ≡
             more_moves (moves_to_drain from to (length self.old.items))
             (more_takes (to - from) self.old.steps)) }
         ensures fewest { OnOk result (DrainMovesFewest from to self.old self.new.start) }
+
+        // If memory is refused, nothing changes.
+        ensures unchanged { OnErr result (self.new ≡ self.old) }
+        ensures refused { OnErr result (0 < (to - from) * type_size T.row) }
     {
         let count = to - from;
         if count == 0 {
@@ -90,6 +90,8 @@ impl<T> Ring<T> {
     #[tactic(auto, using(crate::proofs::Opened::part_facts))]
     pub fn split_off(&mut self, at: usize) -> Result<Ring<T>, AllocError>
         requires { at ≤ length self.old.items }
+
+        // If memory is granted, the items from the index on are the new ring's.
         ensures tail { IfOk result (λ ring. ring ≡ record {
           items = drop at self.old.items;
           capacity = self.old.capacity;
@@ -100,6 +102,8 @@ impl<T> Ring<T> {
           items = take at self.old.items;
           steps = more_takes (length self.old.items - at) self.old.steps;
         }) }
+
+        // If memory is refused, nothing changes.
         ensures unchanged { OnErr result (self.new ≡ self.old) }
         ensures refused { OnErr result (0 < self.old.capacity * type_size T.row) }
     {

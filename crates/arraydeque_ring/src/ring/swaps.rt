@@ -39,12 +39,15 @@ impl<T> Ring<T> {
     /// ```
     #[inline]
     pub fn swap_remove_back(&mut self, index: usize) -> Option<T>
+        // In range, the item at the index is returned, and the last takes its place.
         ensures value { result ≡ slice_get self.old.items index }
         ensures taken { let last = length self.old.items - 1 in
             OnSome result (self.new ≡ record self.old {
               items = take last (swap self.old.items index last);
               steps = more_takes 1 (more_exchanges (if index == last then 0 else 1) self.old.steps);
             }) }
+
+        // Out of range nothing changes.
         ensures none { IfNone result (self.new ≡ self.old) }
     {
         let len = self.len();
@@ -66,12 +69,15 @@ impl<T> Ring<T> {
     /// ```
     #[inline]
     pub fn swap_remove_front(&mut self, index: usize) -> Option<T>
+        // In range, the item at the index is returned, and the first takes its place.
         ensures value { result ≡ slice_get self.old.items index }
         ensures taken { OnSome result (self.new ≡ record self.old {
           items = drop 1 (swap self.old.items index 0);
           start = place_of self.old.start 1 self.old.capacity;
           steps = more_takes 1 (more_exchanges (if index == 0 then 0 else 1) self.old.steps);
         }) }
+
+        // Out of range nothing changes.
         ensures none { IfNone result (self.new ≡ self.old) }
     {
         if index >= self.len() {
