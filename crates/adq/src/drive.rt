@@ -33,6 +33,7 @@ pub fn drive<R: Read, W: Write, F: Write>(
     output: &mut W,
     faults: &mut F,
 ) -> u8
+    // The run ends in some `end`: `Drives` says what it wrote, `Reports` what it told of that end.
     ensures run { (end : Result ⊤ Fault)
         × Drives (settings_of (map (λ word. string_bytes word) args.now)) (R.remaining input.old)
         (W.contents output.old) (W.contents output.new) end

@@ -28,6 +28,7 @@ impl Fault {
     /// Writes to `faults` why the run ends, and returns its status, also if the write fails.
     pub fn report<F: io::Write>(&self, faults: &mut F) -> u8
         ensures status { result ≡ status_of self.now }
+        // The report is written whole or, if `told` is a fault, in part.
         ensures told { (told : Result ⊤ Fault) × Writes (F.contents faults.old)
             (F.contents faults.new) (report_of self.now) told }
     {

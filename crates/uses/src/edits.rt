@@ -63,14 +63,16 @@ pub fn next_run<I: Iterator<Item = Edit>, const AHEAD: usize>(
 ) -> Option<Run>
     requires ahead { 0 < AHEAD }
 
-    // What is returned, and what is left.
+    // If edits are left, the next ones of one kind are taken, up to `AHEAD` of them.
     ensures taken { let runs = option_to_list result in
         TakesOff I.next_gives edits.old (written_out runs) edits.new }
-    ensures over { IfNone result (HasRest I.next_gives edits.old []) }
     ensures some { IfSome result (λ run. 0 < run.count) }
     ensures within { IfSome result (λ run. run.count ≤ AHEAD) }
     ensures longest { IfSome result (λ run. run.count < AHEAD →
         NextIs I.next_gives (λ edit. edit ≢ run.edit) edits.new) }
+
+    // At the end there is none.
+    ensures over { IfNone result (HasRest I.next_gives edits.old []) }
 
     // What callers' proofs want.
     ensures goes { MakesProgress (λ _. ⊤) (λ s. s.left) edits.old result edits.new }

@@ -39,12 +39,15 @@ impl<const CAP: usize> Encoder<CAP> {
 
     /// Takes a byte, or returns `false` where it is the third and there is no room for the text.
     fn put(&mut self, byte: u8) -> bool
+        // If the byte is taken, it waits, or as the third it makes four characters.
         ensures text { IsTrue result →
             self.new.text ≡ self.old.text ++ text_of (self.old.group ++ byte ∷ []) }
         ensures group { IsTrue result → self.new.group ≡ left_of (self.old.group ++ byte ∷ []) }
-        ensures unchanged { ¬ IsTrue result → self.new ≡ self.old }
         ensures room { length self.old.text + 4 ≤ CAP → IsTrue result }
+
+        // If it is not, it is the third, and nothing changes.
         ensures third { ¬ IsTrue result → length self.old.group ≡ 2 }
+        ensures unchanged { ¬ IsTrue result → self.new ≡ self.old }
     {
         if self.group.push_back(byte).is_ok() {
             return true;
@@ -74,12 +77,14 @@ fn four_of(a: u8, b: u8, c: u8) -> [u8; 4]
 impl<const CAP: usize> Write for Encoder<CAP> {
     /// Takes the first bytes of `buf`, while there is room for the text, and returns their number.
     fn write(&mut self, buf: &[u8]) -> io::Result<usize>
-        // What is returned, and what is left.
+        // The first bytes are taken, and their text is there.
         ensures ok { IsOk result }
         ensures text { IfOk result (λ count.
             self.new.text ≡ self.old.text ++ text_of (self.old.group ++ take count buf.now)) }
         ensures group { IfOk result (λ count.
             self.new.group ≡ left_of (self.old.group ++ take count buf.now)) }
+
+        // If not all are taken, the next one is a third, and there is no room for the text.
         ensures third { IfOk result (λ count.
             count < length buf.now → length self.new.group ≡ 2) }
         ensures full { IfOk result (λ count.
@@ -113,13 +118,13 @@ impl<const CAP: usize> Read for Encoder<CAP> {
     /// Takes the first characters out, as many as `buf` has room for, and returns their number. It
     /// always returns `Ok`.
     fn read(&mut self, buf: &mut [u8]) -> io::Result<usize>
-        ensures bound { ReadsAtMost result buf.new }
-        ensures bytes { ReadConsumes (Some self.old.text) (Some self.new.text) result buf.new }
         ensures count { result ≡ Ok (min (length self.old.text) (length buf.old)) }
         ensures read { buf.new ≡ take (length buf.old) self.old.text
             ++ drop (length self.old.text) buf.old }
         ensures text { self.new.text ≡ drop (length buf.old) self.old.text }
         ensures group { self.new.group ≡ self.old.group }
+        ensures bound { ReadsAtMost result buf.new }
+        ensures bytes { ReadConsumes (Some self.old.text) (Some self.new.text) result buf.new }
     {
         self.text.read(buf)
     }

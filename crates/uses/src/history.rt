@@ -73,9 +73,12 @@ impl<T: Drop, const CAP: usize> History<T, CAP> {
 impl<T, const CAP: usize> History<T, CAP> {
     /// Goes one state back, and returns whether there was one.
     pub fn undo(&mut self) -> bool
+        // If there is a past state, the last one is the present one then, and this one is undone.
         ensures possible { IsTrue result ↔ (0 < length self.old.past) }
         ensures back { IsTrue result → self.old.past ≡ self.new.past ++ self.new.present ∷ [] }
         ensures kept { IsTrue result → self.new.undone ≡ self.old.present ∷ self.old.undone }
+
+        // If there is none, nothing changes.
         ensures unchanged { ¬ IsTrue result → self.new ≡ self.old }
     {
         let Some(state) = self.past.pop_back() else {
@@ -90,9 +93,12 @@ impl<T, const CAP: usize> History<T, CAP> {
 
     /// Goes one state on again, and returns whether one was undone.
     pub fn redo(&mut self) -> bool
+        // If a state was undone, it is the present one then, and this one is the last past one.
         ensures possible { IsTrue result ↔ (0 < length self.old.undone) }
         ensures on { IsTrue result → self.old.undone ≡ self.new.present ∷ self.new.undone }
         ensures kept { IsTrue result → self.new.past ≡ self.old.past ++ self.old.present ∷ [] }
+
+        // If none was, nothing changes.
         ensures unchanged { ¬ IsTrue result → self.new ≡ self.old }
     {
         let Some(state) = self.undone.pop_front() else {

@@ -39,10 +39,15 @@ pub fn replace_found<const CAP: usize, B: Behavior>(
     wanted: i64,
     value: i64,
 ) -> Result<usize, usize>
+    // If one is found, it is written over, at the index that comes back.
     ensures found { IfOk result (λ index. slice_get deque.old.items index ≡ Some wanted) }
     ensures replaced { IfOk result (λ index.
         deque.new.items ≡ slice_set deque.old.items index value) }
+
+    // If none is found, nothing changes.
     ensures unchanged { OnErr result (deque.new.items ≡ deque.old.items) }
+
+    // Where the search ends.
     ensures bound { IsSearchInRange result (length deque.old.items) }
     ensures position { IsBinarySearchResult (λ item. int_cmp item wanted) deque.old.items result }
 {

@@ -53,8 +53,11 @@ impl<T, const CAP: usize, B: Behavior> Jobs<T, CAP, B> {
 impl<T, const CAP: usize> Jobs<T, CAP, Saturating> {
     /// Puts a job behind the others. A full queue hands it back.
     pub fn submit(&mut self, job: T) -> Result<(), T>
+        // If there is room, the job waits behind the others.
         ensures room { IsOk result ↔ (length self.old < CAP) }
         ensures none_lost { OnOk result (self.new ≡ self.old ++ job ∷ []) }
+
+        // If the queue is full, the job comes back, and nothing changes.
         ensures handed_back { IfErr result (λ back. back ≡ job) }
         ensures unchanged { OnErr result (self.new ≡ self.old) }
     {

@@ -38,10 +38,13 @@ impl<const CAP: usize> Limiter<CAP> {
     /// Admits a request at a time, or returns `false` where `CAP` requests were admitted within the
     /// span before it.
     pub fn admit(&mut self, now: u64) -> bool
+        // If fewer than `CAP` requests are recent, this one is admitted.
         ensures possible { IsTrue result
             ↔ (length (recent self.old.span now self.old.times) < CAP) }
         ensures admitted { IsTrue result →
             self.new.times ≡ recent self.old.span now self.old.times ++ now ∷ [] }
+
+        // If not, it is refused. Either way only recent ones are remembered.
         ensures refused { ¬ IsTrue result →
             self.new.times ≡ recent self.old.span now self.old.times }
         ensures span { self.new.span ≡ self.old.span }
@@ -56,10 +59,14 @@ impl<const CAP: usize> Limiter<CAP> {
     /// recent are asked about, and the first that is.
     pub fn admit_in_turn(&mut self, now: u64) -> bool
         requires in_turn { IsNonDecreasing (self.old.times ++ now ∷ []) }
+
+        // If fewer than `CAP` requests are recent, this one is admitted.
         ensures possible { IsTrue result
             ↔ (length (recent self.old.span now self.old.times) < CAP) }
         ensures admitted { IsTrue result →
             self.new.times ≡ recent self.old.span now self.old.times ++ now ∷ [] }
+
+        // If not, it is refused. Either way only recent ones are remembered.
         ensures refused { ¬ IsTrue result →
             self.new.times ≡ recent self.old.span now self.old.times }
         ensures span { self.new.span ≡ self.old.span }

@@ -35,6 +35,7 @@ impl<const CAP: usize> Peaks<CAP> {
 
     /// The largest sample in the window.
     pub fn largest(&self) -> Option<u32>
+        // Of whichever `samples` these are the peaks, it is the largest.
         ensures { (samples : List ℕ) → self.now ≡ peaks_of samples → result ≡ largest samples }
     {
         self.peaks.front().copied()
@@ -43,9 +44,12 @@ impl<const CAP: usize> Peaks<CAP> {
     /// A sample comes into the window, behind the others. It is refused only if there are `CAP`
     /// peaks, which it takes a window of as many samples for; then nothing has changed.
     pub fn enter(&mut self, sample: u32) -> Result<(), CapacityError<u32>>
+        // If there is room, it comes in: the peaks are those of the `samples` before, and of it.
         ensures room { length self.old < CAP → IsOk result }
         ensures peaks { OnOk result ((samples : List ℕ) → self.old ≡ peaks_of samples →
             self.new ≡ peaks_of (samples ++ sample ∷ [])) }
+
+        // If it is refused, it comes back, and nothing changes.
         ensures handed_back { IfErr result (λ refusal. refusal.element ≡ sample) }
         ensures unchanged { OnErr result (self.new ≡ self.old) }
     {
@@ -57,6 +61,7 @@ impl<const CAP: usize> Peaks<CAP> {
 
     /// The oldest sample leaves the window.
     pub fn leave(&mut self, sample: u32)
+        // Whichever `samples` are left, the new peaks are theirs.
         ensures { (samples : List ℕ) → self.old ≡ peaks_of (sample ∷ samples) →
             self.new ≡ peaks_of samples }
     {

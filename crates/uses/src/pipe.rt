@@ -45,7 +45,7 @@ impl<const CAP: usize> Pipe<CAP> {
 
     /// Appends all waiting bytes to `into`. Those for which memory is refused stay.
     pub fn read(&mut self, into: &mut Vec<u8>) -> Result<(), AllocError>
-        ensures unchanged { into.new.items ++ self.new ≡ into.old.items ++ self.old }
+        ensures none_lost { into.new.items ++ self.new ≡ into.old.items ++ self.old }
         ensures all { OnOk result (self.new ≡ []) }
         ensures refused { OnErr result (0 < length self.new) }
     {
@@ -61,10 +61,13 @@ impl<const CAP: usize> Pipe<CAP> {
     /// If it fails, all still wait. No word of std says that the writer was asked: a body that only
     /// fails, or hands it nothing and returns 0, would be proved too.
     pub fn write_to<W: Write>(&mut self, writer: &mut W) -> io::Result<usize>
+        // If the writer answers, the bytes that it took are gone.
         ensures left { IfOk result (λ count. self.new ≡ drop count self.old) }
         ensures within { WritesAtMost result self.old }
         ensures written { WriteAppends (W.contents writer.old) (W.contents writer.new)
             result self.old }
+
+        // If it fails, all still wait.
         ensures unchanged { OnErr result (self.new ≡ self.old) }
     {
         let count = writer.write(self.bytes.fill_buf()?)?;
@@ -77,8 +80,12 @@ impl<const CAP: usize> Pipe<CAP> {
     pub fn send(&mut self, text: &[u8], into: &mut Vec<u8>) -> Result<(), AllocError>
         requires room { 0 < CAP }
         requires empty { self.old ≡ [] }
+
+        // If memory is granted, all of the text has come out.
         ensures whole { OnOk result (into.new.items ≡ into.old.items ++ text.now) }
         ensures empty { OnOk result (self.new ≡ []) }
+
+        // If memory is refused, what came out and what waits are a beginning of it.
         ensures refused { OnErr result (0 < length self.new) }
         ensures none_lost { OnErr result (StartsWith (into.old.items ++ text.now)
             (into.new.items ++ self.new)) }

@@ -39,9 +39,12 @@ impl<T, const CAP: usize> Reorder<T, CAP> {
     /// Has a piece wait behind those of its number and of lesser ones. A full buffer hands it back.
     #[tactic(auto, using(arraydeque::proofs::SortedInsert::insert_rules))]
     pub fn put(&mut self, number: u64, piece: T) -> Result<(), T>
+        // If there is room, the piece waits with the others, in order.
         ensures room { IsOk result ↔ (length self.old < CAP) }
         ensures none_lost { OnOk result (IsPermutation ((number, piece) ∷ self.old) self.new) }
         ensures in_order { IsNonDecreasingBy (λ (waiting : ℕ × T). waiting.0) self.new }
+
+        // If the buffer is full, the piece comes back, and nothing changes.
         ensures handed_back { IfErr result (λ back. back ≡ piece) }
         ensures unchanged { OnErr result (self.new ≡ self.old) }
     {

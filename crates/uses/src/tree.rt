@@ -27,12 +27,15 @@ impl Tree {
 
     /// Puts a branch behind the others. A full fork hands it back, and so does a leaf.
     pub fn graft(&mut self, branch: Tree) -> Result<(), Tree>
-        ensures nodes { OnOk result
-            (node_count self.new ≡ node_count self.old + node_count branch) }
-        ensures branches { OnOk result (IfSome (branches_of self.old) (λ branches.
-            branches_of self.new ≡ Some (branches ++ branch ∷ []))) }
+        // If the fork has room, the branch is its last one.
         ensures room { IfSome (branches_of self.old) (λ branches.
             length branches < 4 → IsOk result) }
+        ensures branches { OnOk result (IfSome (branches_of self.old) (λ branches.
+            branches_of self.new ≡ Some (branches ++ branch ∷ []))) }
+        ensures nodes { OnOk result
+            (node_count self.new ≡ node_count self.old + node_count branch) }
+
+        // If it is full, or a leaf, the branch comes back, and nothing changes.
         ensures handed_back { IfErr result (λ back. back ≡ branch) }
         ensures unchanged { OnErr result (self.new ≡ self.old) }
     {
