@@ -66,8 +66,7 @@ impl<I: Iterator, const CAP: usize> Scanner<I, CAP> {
     pub fn new(alloc: Global, iter: I) -> Result<Self, MakeError<I>>
         requires { I.can_next iter }
 
-        // If memory is granted, any list `rest` that is left is what a whole run of the iterator
-        // gives.
+        // If memory is granted, the `rest` that is left is what a whole run of the iterator gives.
         ensures ok { IfOk result (λ scanner. scanner ≡ fresh_scanner I.remaining iter) }
         ensures rest { IfOk result (λ scanner. (rest : List I.Item)
             → HasRest I.next_gives scanner rest

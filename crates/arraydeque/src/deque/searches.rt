@@ -24,8 +24,7 @@ impl<T, const CAP: usize, B: Behavior> ArrayDeque<T, CAP, B> {
         ensures bound { result ≤ length self.now.items }
         ensures within { length self.now.items ≤ CAP }
 
-        // If `pred` computes a test `p` of the items, and those that pass come first, they are
-        // those below the result.
+        // If `pred` computes a test `p`, and items that pass it come first, they end at the result.
         ensures partitioned { (p : T → Bool) → ComputesKey P.FnMut p pred
             → IsPartitionedBy p self.now.items
             → IsPartitionPoint (λ y. p y ≡ true) (λ y. p y ≡ false) self.now.items result }
@@ -77,8 +76,7 @@ impl<T, const CAP: usize, B: Behavior> ArrayDeque<T, CAP, B> {
         ensures bound { IsSearchInRange result (length self.now.items) }
         ensures within { length self.now.items ≤ CAP }
 
-        // If `f` computes a function `ord` of the items, the result is as `binary_search`'s, by
-        // `ord`.
+        // If `f` computes `ord` of the items, the result is as of `binary_search`, by `ord`.
         ensures position { (ord : T → Ordering) → ComputesKey F.FnMut ord f
             → IsBinarySearchResult ord self.now.items result }
         ensures first { (ord : T → Ordering) → ComputesKey F.FnMut ord f
@@ -111,7 +109,7 @@ impl<T, const CAP: usize, B: Behavior> ArrayDeque<T, CAP, B> {
         ensures bound { IsSearchInRange result (length self.now.items) }
         ensures within { length self.now.items ≤ CAP }
 
-        // If `f` computes the key `key_of` of an item, the result is as `binary_search`'s, by keys.
+        // If `f` computes the key `key_of` of an item, the result is as of `binary_search`, by keys.
         ensures position { (key_of : T → K) → ComputesKey F.FnMut key_of f
             → IsBinarySearchResult (λ y. K.cmp (key_of y) key.now) self.now.items result }
         ensures first { (key_of : T → K) → ComputesKey F.FnMut key_of f
@@ -127,8 +125,7 @@ impl<T, const CAP: usize, B: Behavior> ArrayDeque<T, CAP, B> {
         ensures within { length self.now.items ≤ CAP }
         ensures callable { F.IsAlwaysCallable f.new }
 
-        // If `f` computes a function `ord` of the items, it still does, and the result counts those
-        // for which that is `Less`.
+        // If `f` computes `ord` of the items, it still does, and the result counts those of `Less`.
         ensures parted { (ord : T → Ordering) → ComputesKey F.FnMut ord f.old
             → ComputesKey F.FnMut ord f.new × IsLessCount ord self.now.items result }
     {
