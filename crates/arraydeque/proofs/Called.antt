@@ -1,16 +1,16 @@
 -- A call in a walk: what `lend` requires, and how the tokens of two lifetimes go on to the next call.
 -- Assumes `Logic`.
 use Rattle.arraydeque_ring.proofs.memory.{
-  Kit.{[], ◌∷◌, Ura, SProp, ent, sep, emp, fact, flft, Logic, sem, ‵, raw, ◌⊛◌, ◌$◌, ◌∵◌, !, qed},
+  Kit.{[], ◌∷◌, Ura, SProp, ent, sep, fact, flft, Logic, sem, ‵, raw, ◌⊛◌, ◌$◌, ◌∵◌, !, qed},
   Kit.{move, keep, split3, join, done, RattleType, ftrue, nothing, ◌⊑◌, ◌<◌, Lft},
 }
 use contract.Lifetimes.{Lfts, Shares, toks}
 
 module _ {M : Type 1} (𝓤 : Ura M) (κ₂ κ₃ : Lft) (B : RattleType) where
-  -- what `lend` and its callers require, except that the items outlive the loan
-  abbrev pub Asked : SProp 𝓤
-  Asked = sep 𝓤 (fact 𝓤 (κ₂ ⊑ []))
-      (sep 𝓤 (fact 𝓤 (κ₃ ⊑ B.lives)) (sep 𝓤 (fact 𝓤 (32 < 9223372036854775808)) (emp 𝓤)))
+  -- what `lend` and its callers require before P, except that the items outlive the loan
+  abbrev pub Asked : SProp 𝓤 → SProp 𝓤
+  Asked P = sep 𝓤 (fact 𝓤 (κ₂ ⊑ []))
+      (sep 𝓤 (fact 𝓤 (κ₃ ⊑ B.lives)) (sep 𝓤 (fact 𝓤 (32 < 9223372036854775808)) P))
 
 -- the lifetimes of the loan and of the items
 abbrev pub Two : Lfts 4 → Lfts 2

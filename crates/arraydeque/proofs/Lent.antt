@@ -1,14 +1,14 @@
 -- A deque in memory is taken apart into its ring, and made of it again.
--- All its items are lent as its ring lends them. Assumes `Logic`.
+-- Its items are lent as its ring lends them. Assumes `Logic`.
 use Rattle.std.proofs.Common.{take, drop, arith}
 use Rattle.arraydeque_ring.{
   proofs.{
-    loans.{Parts.{length_rewritten, part_twice}, Placed.{as_many-same, as_many-twice, length-as_many}, Rings.Rr},
-    memory.Kit.{◌≡◌, refl, sym, ap, subst, ◌∙◌, List, [], ◌∷◌, ℕ, ◌+◌, ◌≤◌, length, Ura, full_share},
+    loans.{Parts.{length_rewritten, part_twice, all_written}, Rings.Rr},
+    memory.Kit.{◌≡◌, refl, ap, List, [], ◌∷◌, ℕ, ◌+◌, ◌≤◌, length, Ura, full_share},
     memory.Kit.{SProp, ent, sep, ex, Logic, sem, RattleType, part_at, param_laws, Fml, El, R, el_x},
     memory.Kit.via,
   },
-  specs.{Ring.RingState, Runs.as_many},
+  specs.Ring.RingState,
 }
 use denote.{
   Laws.Lawfuls,
@@ -95,34 +95,6 @@ module _ (E : El) (N : ℕ) (B : RattleType) (LB : Laws B) {M : Type 1} {𝓤 : 
       (DequeState (el_x E)) (Dr E N B).coded (view E N B) (Kept E N B) 𝓛 d y (seen, kept)) b o)
 
 module _ (E : El) (N : ℕ) (B : RattleType) (x : Fields E N B) (d : DequeState (el_x E)) (seen : view E N B x ≡ d)
-    (kept : Kept E N B x) where
-  -- the ring and the deque after any writing
-  abbrev pub after : List (el_x E) → Fields E N B
-  after ws = with_ring E N B x (ring.rewritten x.ring ws)
-
-  same_items : x.ring.items ≡ d.items
-  same_items = ap (λ (v : DequeState (el_x E)). v.items) seen
-
-  pub kept_after : (ws : List (el_x E)) → Kept E N B (after ws)
-  kept_after ws = (kept.0, subst (λ n. n ≤ N) (sym (length-as_many x.ring.items ws)) kept.1)
-
-  pub seen_after : (ws : List (el_x E)) → view E N B (after ws) ≡ rewritten d (view E N B (after ws)).items
-  seen_after ws = rw (
-    as_many-same d.items (view E N B (after ws)).items (length-as_many x.ring.items ws ∙ ap length same_items),
-    ap (λ (v : DequeState (el_x E)). v.start) seen,
-    ap (λ (v : DequeState (el_x E)). v.steps) seen,
-  )
-
-  -- the same where what the ring ends as is said twice
-  pub written : (ws : List (el_x E)) → view E N B (after (as_many x.ring.items ws)) ≡ rewritten d ws
-  written ws = rw (
-    as_many-twice x.ring.items ws,
-    same_items,
-    ap (λ (v : DequeState (el_x E)). v.start) seen,
-    ap (λ (v : DequeState (el_x E)). v.steps) seen,
-  )
-
-module _ (E : El) (N : ℕ) (B : RattleType) (x : Fields E N B) (d : DequeState (el_x E)) (seen : view E N B x ≡ d)
     (kept : Kept E N B x) (from len : ℕ) (within : from + len ≤ length d.items) where
   -- the ring and the deque after any writing to a part
   abbrev pub after_part : List (el_x E) → Fields E N B
@@ -146,7 +118,18 @@ module _ (E : El) (N : ℕ) (B : RattleType) (x : Fields E N B) (d : DequeState 
     ap (λ (v : DequeState (el_x E)). v.steps) seen,
   ) refl
 
--- what was rewritten is rewritten by its own items: the same
-pub rewritten-twice : {X : Type 0} (d : DequeState X) (xs : List X)
-    → rewritten d (rewritten d xs).items ≡ rewritten d xs
-rewritten-twice d xs i = record (rewritten d xs) { items = as_many-twice d.items xs i }
+  -- the same where what the ring ends as is said by what was written
+  pub part_written : (ws : List (el_x E))
+      → view E N B (after_part (take len (drop from (ring.part_rewritten from len x.ring ws).items)))
+      ≡ part_rewritten from len d ws
+  part_written ws = rw (
+    all_items,
+    part_twice d.items ws from len within,
+    ap (λ (v : DequeState (el_x E)). v.start) seen,
+    ap (λ (v : DequeState (el_x E)). v.steps) seen,
+  ) refl
+
+-- the part of all items
+pub all_rewritten : {X : Type 0} (d : DequeState X) (m : ℕ) (xs : List X) → m ≡ length d.items
+    → part_rewritten 0 m d (take m (part_rewritten 0 m d xs).items) ≡ rewritten d xs
+all_rewritten d m xs all i = record (rewritten d xs) { items = all_written d.items m xs all i }

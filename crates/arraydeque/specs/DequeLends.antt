@@ -58,13 +58,13 @@ module _ (T CAP B : RattleType) (deque : MutBor (DequeState T.Denot)) where
   lends_slices r = LendsBoth (the_row T CAP B) (Array T 0) (Array T 0) deque r
       (λ ws vs. rewritten deque.now (as_many r.0.now ws ++ as_many r.1.now vs))
 
-  -- the deque follows the name of a loan of its items, and that name follows the two slices
-  abbrev pub lends_loan : LoanState T.Denot → Fml
-  lends_loan loan = fsep
-      (lends_items loan.name)
+  -- the deque follows the name of a loan of these items, and that name follows the two slices
+  abbrev pub lends_loan : ℕ → ℕ → LoanState T.Denot → Fml
+  lends_loan from len loan = fsep
+      (lends_part from len loan.name)
       (follows_both (the_row T CAP B) (Array T 0) (Array T 0)
-      loan.name loan.first.ghost_name loan.second.ghost_name
-      (λ ws vs. rewritten deque.now (as_many loan.first.now ws ++ as_many loan.second.now vs)))
+      loan.name loan.first.ghost_name loan.second.ghost_name (λ ws vs.
+      part_rewritten from len deque.now (as_many loan.first.now ws ++ as_many loan.second.now vs)))
 
   -- the items end as what was last written through r, and one lend is counted, and nothing else
   -- changes

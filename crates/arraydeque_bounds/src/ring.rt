@@ -13,8 +13,8 @@ fn as_mut_slices<T>(ring: &mut Ring<T>) -> (&mut [T], &mut [T]) {
     ring.as_mut_slices()
 }
 
-fn lend_items<T>(ring: &mut Ring<T>) -> Loan<'_, T> {
-    ring.lend_items()
+fn lend_part<T>(ring: &mut Ring<T>) -> Loan<'_, T> {
+    ring.lend_part(0, 0)
 }
 
 fn two_slices_mut<T>(slots: &mut Slots<T>, a: usize, b: usize) -> (&mut [T], &mut [T])

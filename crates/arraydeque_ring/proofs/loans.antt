@@ -1,5 +1,3 @@
-pub mod Halves
-pub mod Lending
 pub mod Made
 pub mod Names
 pub mod Parts

@@ -52,24 +52,19 @@ module _ (R : RattleType) (ring : MutBor (RingState R.Denot)) where
   lends_part from len name = follows (the_row R) (the_row R) ring.ghost_name name
       (λ w. part_rewritten from len ring.now (take len (drop from w.items)))
 
-  -- there are as many items as before and two lends are counted, and nothing else changes
-  abbrev pub lends_items : GName → Fml
-  lends_items name = follows (the_row R) (the_row R) ring.ghost_name name
-      (λ w. rewritten ring.now w.items)
-
   -- the items end as what was last written through r, and two lends are counted, and nothing else
   -- changes
   abbrev pub lends_slices : MutBor (List R.Denot) × MutBor (List R.Denot) → Fml
   lends_slices r = LendsBoth (the_row R) (Array R 0) (Array R 0) ring r
       (λ ws vs. rewritten ring.now (as_many r.0.now ws ++ as_many r.1.now vs))
 
-  -- the ring follows the name of a loan of its items, and that name follows the two slices
-  abbrev pub lends_loan : LoanState R.Denot → Fml
-  lends_loan loan = fsep
-      (lends_items loan.name)
+  -- the ring follows the name of a loan of these items, and that name follows the two slices
+  abbrev pub lends_loan : ℕ → ℕ → LoanState R.Denot → Fml
+  lends_loan from len loan = fsep
+      (lends_part from len loan.name)
       (follows_both (the_row R) (Array R 0) (Array R 0)
-      loan.name loan.first.ghost_name loan.second.ghost_name
-      (λ ws vs. rewritten ring.now (as_many loan.first.now ws ++ as_many loan.second.now vs)))
+      loan.name loan.first.ghost_name loan.second.ghost_name (λ ws vs.
+      part_rewritten from len ring.now (as_many loan.first.now ws ++ as_many loan.second.now vs)))
 
   -- the items end as what was last written through r, and one lend is counted, and nothing else
   -- changes

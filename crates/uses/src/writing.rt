@@ -231,7 +231,8 @@ pub fn write_ring_slices(ring: &mut Ring<i64>) -> usize
     ensures start { ring.new.start ≡ ring.old.start }
     ensures result { result ≡ length ring.old.items }
 {
-    let (front, back) = ring.lend_items().into_slices();
+    let len = ring.len();
+    let (front, back) = ring.lend_part(0, len).into_slices();
     if let Some(first) = front.first_mut() {
         *first = 1;
     }

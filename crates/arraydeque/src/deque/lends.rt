@@ -84,8 +84,7 @@ impl<T, const CAP: usize, B: Behavior> ArrayDeque<T, CAP, B> {
         // Whatever is written, there are as many items as before, and 2 lends are counted.
         ensures* writes_back { sem 𝓛 (lends_items T.row CAP.row B.row self.entry result.name) }
     {
-        let len = self.len();
-        IterMut::from_loan(self.lend_part(0, len))
+        IterMut::from_loan(self.lend_between(0, 0))
     }
 
     /// Returns an iterator over mutable references to the items of a range, from both ends.
@@ -119,7 +118,8 @@ impl<T, const CAP: usize, B: Behavior> ArrayDeque<T, CAP, B> {
     {
         let from = range.start().unwrap_or(0);
         let to = range.end().unwrap_or(self.len());
-        IterMut::from_loan(self.lend_part(from, to - from))
+        let behind = self.len() - to;
+        IterMut::from_loan(self.lend_between(from, behind))
     }
 
     /// Returns the items in two slices: those from the front to the region's end, and the rest,
@@ -185,7 +185,7 @@ impl<T, const CAP: usize, B: Behavior> ArrayDeque<T, CAP, B> {
         ensures joined { result.0.now ++ result.1.now ≡ self.old.items }
         ensures one_piece { IsInOnePiece (as_ring CAP self.old) → result.1.now ≡ [] }
     {
-        self.lend().into_slices()
+        self.lend(0, 0).into_slices()
     }
 
     /// Returns the items for writing in one slice. Requires a list in one piece, as
@@ -218,27 +218,31 @@ impl<T, const CAP: usize, B: Behavior> ArrayDeque<T, CAP, B> {
         ring.as_mut_slice()
     }
 
-    /// The items for writing, as one loan of two slices: its clause says what the loan's name
-    /// follows too, which [`ArrayDeque::as_mut_slices`] needs.
+    /// The items but for the first `before` and the last `behind`, for writing, as one loan of two
+    /// slices: its clause says what the loan's name follows too, which
+    /// [`ArrayDeque::as_mut_slices`] needs.
     #[inline]
-    fn lend(&mut self) -> Loan<'_, T>
-        ensures* writes_back { sem 𝓛 (lends_loan T.row CAP.row B.row self.entry result) }
-        ensures value { remaining result ≡ self.old.items }
+    fn lend(&mut self, before: usize, behind: usize) -> Loan<'_, T>
+        requires { before + behind ≤ length self.old.items }
+        ensures* writes_back { let len = length self.old.items - before - behind in
+            sem 𝓛 (lends_loan T.row CAP.row B.row self.entry before len result) }
+        ensures value { let len = length self.old.items - before - behind in
+            remaining result ≡ take len (drop before self.old.items) }
         ensures one_piece { IsInOnePiece (as_ring CAP self.old) → result.second.now ≡ [] }
     {
         let ring = &mut self.ring;
-        ring.lend()
+        ring.lend(before, behind)
     }
 
-    /// The `len` items from the index `from` on, for writing.
+    /// As [`ArrayDeque::lend`], of which it says what the loan's name tells alone.
     #[inline]
-    fn lend_part(&mut self, from: usize, len: usize) -> Loan<'_, T>
-        requires { from + len ≤ length self.old.items }
-        ensures* writes_back { sem 𝓛
-            (lends_part T.row CAP.row B.row self.entry from len result.name) }
-        ensures value { remaining result ≡ take len (drop from self.old.items) }
+    fn lend_between(&mut self, before: usize, behind: usize) -> Loan<'_, T>
+        requires { before + behind ≤ length self.old.items }
+        ensures* writes_back { let len = length self.old.items - before - behind in
+            sem 𝓛 (lends_part T.row CAP.row B.row self.entry before len result.name) }
+        ensures value { let len = length self.old.items - before - behind in
+            remaining result ≡ take len (drop before self.old.items) }
     {
-        let ring = &mut self.ring;
-        ring.lend_part(from, len)
+        self.lend(before, behind)
     }
 }

@@ -1,7 +1,7 @@
 -- A `Ring` in memory is taken apart into its slots and its other fields, and made of them again. Assumes `Logic`.
 use Rattle.arraydeque_ring.{
   proofs.{
-    loans.Lending.with_slots,
+    loans.Parts.with_slots,
     memory.{
       Kit.{via, ◌≡◌, List, [], ◌∷◌, ℕ, ◌+◌, Ura, full_share, ent, sep, SProp, w64, Logic, sem},
       Kit.{RattleType, part_at, Seq, Goal, Item, some, raw, ‵, ◌⊛◌, ◌$◌, pick, use1, split3, usize},

@@ -1,10 +1,10 @@
 //! Items of a ring, all or a part, lent for reading or for writing.
-ghost use Rattle.std.specs.Prelude.{◌≡◌, ◌⊎◌, ◌+◌, ◌-◌, ◌≤◌, [], ◌++◌, List, length, min, take, drop};
+ghost use Rattle.std.specs.Prelude.{◌≡◌, ◌+◌, ◌-◌, ◌≤◌, [], ◌++◌, List, length, min, take, drop};
 ghost use Rattle.std.specs.List.{refill};
 ghost use Rattle.std.specs.Borrow.{sem};
-ghost use Rattle.arraydeque_ring.specs.Loans.{remaining};
+ghost use Rattle.arraydeque_ring.specs.Loans.{remaining, place_from};
 ghost use Rattle.arraydeque_ring.specs.Ring.{IsInOnePiece};
-ghost use Rattle.arraydeque_ring.specs.RingLends.{lends_items, lends_part, lends_list, lends_slices, lends_loan};
+ghost use Rattle.arraydeque_ring.specs.RingLends.{lends_part, lends_list, lends_slices, lends_loan};
 
 use super::Ring;
 use crate::slots::loan::Loan;
@@ -86,8 +86,8 @@ impl<T> Ring<T> {
     /// rest, from the region's first place on. If all lie in one piece, the second is empty.
     ///
     /// Whatever is written, the ring holds as many items as before, and they start where they did.
-    /// If your proof needs that, call `lend_items().into_slices()`: the prover follows one loan by
-    /// its name, but not a pair of slices.
+    /// If your proof needs that, call `lend_part(0, len).into_slices()`: the prover follows one
+    /// loan by its name, but not a pair of slices.
     ///
     /// ```
     /// let mut ring = Ring::from_slice(alloc, 4, &[2, 3])?;
@@ -104,58 +104,38 @@ impl<T> Ring<T> {
             min (length self.old.items) (self.old.capacity - self.old.start) }
         ensures one_piece { IsInOnePiece self.old → result.1.now ≡ [] }
     {
-        self.lend().into_slices()
+        self.lend(0, 0).into_slices()
     }
 
-    /// Lends the items for writing, as one loan of two slices: its clause says what
-    /// [`Ring::as_mut_slices`] says, and that the ring follows the loan's name. A caller of this
-    /// one is proved by hand; all others call [`Ring::lend_items`].
+    /// Lends the items for writing, but for the first `before` and the last `behind`, as one loan
+    /// of two slices: its clause says that the ring follows the loan's name, and what that name
+    /// follows. A caller of this one is proved by hand; all others call [`Ring::lend_part`].
+    /// Requires that there are so many items.
     ///
     /// Start: stays. Steps: 2 lends.
     ///
     /// ```
     /// let mut ring = Ring::from_slice(alloc, 4, &[2, 3])?;
     /// ring.push_front(1);
-    /// let (front, _rest) = ring.lend().into_slices();
+    /// let (front, _rest) = ring.lend(0, 1).into_slices();
     /// front.fill(0);
     /// assert!(rt; IntoIter::from_ring(ring).eq([0, 2, 3]));
     /// ```
-    pub fn lend(&mut self) -> Loan<'_, T>
-        ensures* writes_back { sem 𝓛 (lends_loan T.row self.entry result) }
-        ensures value { remaining result ≡ self.old.items }
-        ensures cut { length result.first.now ≡
-            min (length self.old.items) (self.old.capacity - self.old.start) }
+    pub fn lend(&mut self, before: usize, behind: usize) -> Loan<'_, T>
+        requires { before + behind ≤ length self.old.items }
+        ensures* writes_back { let len = length self.old.items - before - behind in
+            sem 𝓛 (lends_loan T.row self.entry before len result) }
+        ensures value { let len = length self.old.items - before - behind in
+            remaining result ≡ take len (drop before self.old.items) }
+        ensures cut { let len = length self.old.items - before - behind in
+            length result.first.now ≡ min len
+            (self.old.capacity - place_from self.old.start before self.old.capacity) }
         ensures one_piece { IsInOnePiece self.old → result.second.now ≡ [] }
     {
         let start = self.start;
-        let len = self.len;
+        let len = self.len - before - behind;
         let slots = &mut self.slots;
-        slots.lend_round(start, len)
-    }
-
-    /// Lends the items for writing, as one loan of two slices.
-    ///
-    /// Whatever is written, the ring holds as many items as before.
-    ///
-    /// Start: stays. Steps: 2 lends.
-    ///
-    /// ```
-    /// let mut ring = Ring::<i64>::new(alloc, 3)?;
-    /// assert!(rt; ring.fill_back(&mut [1, 2].into_iter()));
-    /// let (first, second) = ring.lend_items().into_slices();
-    /// first.fill(7);
-    /// second.fill(7);
-    /// assert!(rt; ring.len() == 2 && ring.pop_front() == Some(7));
-    /// ```
-    #[inline]
-    pub fn lend_items(&mut self) -> Loan<'_, T>
-        ensures* writes_back { sem 𝓛 (lends_items T.row self.entry result.name) }
-        ensures value { remaining result ≡ self.old.items }
-        ensures cut { length result.first.now ≡
-            min (length self.old.items) (self.old.capacity - self.old.start) }
-        ensures one_piece { IsInOnePiece self.old → result.second.now ≡ [] }
-    {
-        self.lend()
+        slots.lend_round(start, before, len)
     }
 
     /// Lends the `len` items from the index `from` on for writing, as one loan of two slices.
@@ -180,28 +160,27 @@ impl<T> Ring<T> {
         // Whatever is written, the part keeps its length and the others stay. 2 lends are counted.
         ensures* writes_back { sem 𝓛 (lends_part T.row self.entry from len result.name) }
         ensures value { remaining result ≡ take len (drop from self.old.items) }
+        ensures cut { length result.first.now ≡
+            min len (self.old.capacity - place_from self.old.start from self.old.capacity) }
+        ensures one_piece { IsInOnePiece self.old → result.second.now ≡ [] }
     {
-        let to_end = self.slots.capacity() - self.start;
-        let place = if from <= to_end {
-            self.start + from
-        } else {
-            from - to_end
-        };
-        self.lend_at(place, from, len)
+        let behind = self.len - from - len;
+        self.lend_between(from, behind)
     }
 
-    /// As [`Ring::lend_part`], of a part that starts at a known place: that of the item at the
-    /// index `from`, or of the next one to come.
+    /// As [`Ring::lend`], of which it says what the loan's name tells alone.
     #[inline]
-    fn lend_at(&mut self, place: usize, from: usize, len: usize) -> Loan<'_, T>
-        requires in_bounds { from + len ≤ length self.old.items }
-        requires in_region { place ≤ self.old.capacity }
-        requires here { (place ≡ self.old.start + from)
-            ⊎ (place + self.old.capacity ≡ self.old.start + from) }
-        ensures* writes_back { sem 𝓛 (lends_part T.row self.entry from len result.name) }
-        ensures value { remaining result ≡ take len (drop from self.old.items) }
+    fn lend_between(&mut self, before: usize, behind: usize) -> Loan<'_, T>
+        requires { before + behind ≤ length self.old.items }
+        ensures* writes_back { let len = length self.old.items - before - behind in
+            sem 𝓛 (lends_part T.row self.entry before len result.name) }
+        ensures value { let len = length self.old.items - before - behind in
+            remaining result ≡ take len (drop before self.old.items) }
+        ensures cut { let len = length self.old.items - before - behind in
+            length result.first.now ≡ min len
+            (self.old.capacity - place_from self.old.start before self.old.capacity) }
+        ensures one_piece { IsInOnePiece self.old → result.second.now ≡ [] }
     {
-        let slots = &mut self.slots;
-        slots.lend_round(place, len)
+        self.lend(before, behind)
     }
 }

@@ -4,7 +4,7 @@
 //! lender is once the loan has ended, so that a caller who only writes through the loan knows it.
 ghost use Rattle.std.specs.Prelude.{◌≡◌, ◌-◌, ◌+◌, ◌^◌, ◌<◌, ◌≤◌, length, min};
 ghost use Rattle.std.specs.Borrow.{sem};
-ghost use Rattle.arraydeque_ring.specs.Loans.{AreApart};
+ghost use Rattle.arraydeque_ring.specs.Loans.{AreApart, place_from};
 ghost use Rattle.arraydeque_ring.specs.Runs.{HoldsRun, IsFilledRun};
 ghost use Rattle.arraydeque_ring.specs.SlotsLends.{lends_two_runs, lends_loan};
 ghost use base.Fml.{GName};
@@ -100,24 +100,45 @@ impl<T> Slots<T> {
         self.lend_two(a, a_len, b, b_len).into_slices()
     }
 
-    /// Lends the values of a run of `len` places for writing. The run starts at the place `start`,
-    /// and may wrap.
+    /// Lends the values of a run of `len` places for writing: those from the index `from` on, if
+    /// the places are read from `start` on. The run may wrap.
     ///
     /// Whatever is written, no place is filled or emptied, and no place outside the run changes.
-    pub(crate) fn lend_round(&mut self, start: usize, len: usize) -> Loan<'_, T>
+    pub(crate) fn lend_round(&mut self, start: usize, from: usize, len: usize) -> Loan<'_, T>
         requires in_region { start ≤ length self.old.places }
-        requires within { len ≤ length self.old.places }
-        requires first_filled { IsFilledRun self.old.places start
-            (min len (length self.old.places - start)) }
-        requires second_filled { IsFilledRun self.old.places 0
-            (len - min len (length self.old.places - start)) }
-        ensures* writes_back { sem 𝓛 (lends_loan T.row self.entry start 0 result) }
-        ensures first { HoldsRun self.old.places start
-            (min len (length self.old.places - start)) result.first.now }
-        ensures second { HoldsRun self.old.places 0
-            (len - min len (length self.old.places - start)) result.second.now }
+        requires within { from + len ≤ length self.old.places }
+        requires first_filled { let place = place_from start from (length self.old.places) in
+            IsFilledRun self.old.places place (min len (length self.old.places - place)) }
+        requires second_filled { let place = place_from start from (length self.old.places) in
+            IsFilledRun self.old.places 0 (len - min len (length self.old.places - place)) }
+        ensures* writes_back { let place = place_from start from (length self.old.places) in
+            sem 𝓛 (lends_loan T.row self.entry place 0 result) }
+        ensures first { let place = place_from start from (length self.old.places) in
+            HoldsRun self.old.places place (min len (length self.old.places - place))
+            result.first.now }
+        ensures second { let place = place_from start from (length self.old.places) in
+            HoldsRun self.old.places 0 (len - min len (length self.old.places - place))
+            result.second.now }
     {
-        let first = len.min(self.capacity - start);
-        self.lend_two(start, first, 0, len - first)
+        let capacity = self.capacity;
+        let place = place_from(start, from, capacity);
+        let first = len.min(capacity - place);
+        self.lend_two(place, first, 0, len - first)
+    }
+}
+
+/// Returns where the places from the index `from` on begin, if they are read from `start` on: its
+/// place, or the region's end in the stead of the first place.
+#[inline]
+fn place_from(start: usize, from: usize, capacity: usize) -> usize
+    requires in_region { start ≤ capacity }
+    requires in_reach { from ≤ capacity }
+    ensures { result ≡ place_from start from capacity }
+{
+    let to_end = capacity - start;
+    if from <= to_end {
+        start + from
+    } else {
+        from - to_end
     }
 }

@@ -1,4 +1,6 @@
--- `lend` lends all items: the ring lends its own, and the deque follows what the ring follows. Assumes `Logic`.
+-- `lend` lends a part of the items: the ring lends its own, and the deque follows what the ring follows.
+-- Assumes `Logic`.
+use Rattle.std.proofs.Common.{◌-◌, take, drop as dropped}
 use Rattle.arraydeque_ring.{
   proofs.{
     loans.{Made.{loan_lawful, loan_renamed}, Names.{hands_on, followed_both, part_lent}, Rings.Rr},
@@ -9,7 +11,7 @@ use Rattle.arraydeque_ring.{
       Kit.{join, pick, frame, fsplit, fjoin, suffices, done, addr, stop, fld, no_more, and_then},
       Kit.{returns, alloc_all, pass_all, free_all, look_at, get, through, sets, lands_as, mem},
       Kit.{part_at, says_two, heard, nothing, RattleType, El, R, el_x, after₂, Array, both_by},
-      Kit.{number, MutBor, NamedLft, named_lft, drop},
+      Kit.{number, MutBor, NamedLft, named_lft, owns, usize, pure_i, rewrite},
       Methods.{method, spent, machine_values},
     },
     ring.Ring.lend.Met.met,
@@ -17,14 +19,15 @@ use Rattle.arraydeque_ring.{
   specs.{Loans.LoanState, Ring.RingState, Runs.as_many},
 }
 use types.{Late.ages, Mut.open_ref}
+use denote.Param.{param}
 use contract.Lifetimes.{toks}
 use Rattle.arraydeque.{
   proofs.{
-    Called.{Asked, Others, Two, come_back},
-    Lent.{Dr, FieldsRow, Fields, view, Kept, Other, Way, fields_out, ring_out, deque_whole, after},
-    Lent.{kept_after, seen_after, written},
+    Called.{Others, Two, come_back},
+    Lent.{Dr, FieldsRow, Fields, view, Kept, Other, Way, fields_out, ring_out, deque_whole},
+    Lent.{after_part, kept_part, seen_part, part_written},
   },
-  specs.{Deque.DequeState, DequeLends.rewritten},
+  specs.{Deque.DequeState, DequeLends.{part_rewritten, lends_loan}},
 }
 use base.Share
 use Rattle.arraydeque_ring.specs.RingLends as ring
@@ -39,14 +42,14 @@ unfolding both_by
 lend_spec 𝓤 𝓛 𝓜 𝓡 wired X N B L fits LB members dict dict_met =
     let E : El = record { row = X; laws = L } in let C : RattleType = number N in
     let 𝓣 = tables 𝓤 𝓛.H 𝓜 𝓡 𝓡.env in
-    method 3 0 (Dr E N B) 𝓛 (spent 3 𝓛 _) 𝓜 𝓡 _ _ (f.clauses X C B members dict 𝓛 𝓜.mem 𝓡.returns)
-    _ _ (code.unfolded 𝓤 𝓛.H 𝓜 𝓡 wired (X, (C, (B, tt))) dict) (λ κs qs bounds a _ fit post ends.
+    method 3 2 (Dr E N B) 𝓛 (spent 3 𝓛 _) 𝓜 𝓡 _ _ (f.clauses X C B members dict 𝓛 𝓜.mem 𝓡.returns)
+    _ _ (code.unfolded 𝓤 𝓛.H 𝓜 𝓡 wired (X, (C, (B, tt))) dict) (λ κs qs bounds a _ typed post ends.
     let κ = κs.0 in let κ₁ = κs.1.0 in let q = qs.0 in let q₁ = qs.1.0 in
     let l : Share = Share.left q in let r : Share = Share.right q in
     let rb : ℕ = a.0.ref_ptr.0 in let ro : ℕ = a.0.ref_ptr.1 in let γ = a.0.ghost_name in
-    let d : DequeState (el_x E) = a.0.now in
-    first_fact ! {P = Asked 𝓤 κs.1.1.0 κs.1.1.1.0 B} (λ lives. drop ! $
-    alloc_all ! (λ locals. pass_all ! refl ((tt, tt), fit) $
+    let d : DequeState (el_x E) = a.0.now in let before = a.1.0 in let behind = a.1.1.0 in
+    first_fact ! (λ lives. first_fact ! (λ _. first_fact ! (λ _. first_fact ! (λ _. heard ! _ (λ enough.
+    alloc_all ! (λ locals. pass_all ! refl ((tt, tt), typed) $
     sets ! (addr ! (through ! refl (fld ! refl (stop !)))) refl (tt, tt) $
     -- [obs; the borrow; its token; the others]
     move ! (3 ∷ []) $ use1 𝓛 (‵ (flft κ₁ q₁) ⊛ raw (Others 𝓛 κs qs)) (id⊢ 𝓤 _) $ split ! $
@@ -61,37 +64,52 @@ lend_spec 𝓤 𝓛 𝓜 𝓡 wired X N B L fits LB members dict dict_met =
     sets ! (addr ! (through ! refl (stop !))) refl (tt, tt) $
     move ! (3 ∷ []) $ ages ! (λ age. move ! (1 ∷ []) $ part_lent ! tt (Rr E) age κ x.ring rb (ro + 0) (λ δ.
     let lent : MutBor (RingState (el_x E)) = record { ref_ptr = (rb, ro + 0); ghost_name = δ; now = x.ring } in
-    nothing ! $ move ! (1 ∷ 0 ∷ []) $ fjoin ! $
-    -- [the lent ring; the right;
+    let words : ℕ × (ℕ × Unit {0}) = (before, (behind, tt)) in
+    let vals = machine_values 1 (Two κs) 2 (lent, words) in
+    pure_i ! (owns (usize ∷ usize ∷ []) words vals.1) _ ((refl, typed.0.1.fits), ((refl, typed.1.0.1.fits), tt)) $
+    move ! (1 ∷ 0 ∷ []) $ fjoin ! $
+    -- [the lent ring and the words; the right;
     -- the open borrow; the other field; the way back; obs γ; auth γ; half the token; that of T; the others]
     nothing ! $ move ! (9 ∷ 0 ∷ []) $ join ! $ move ! (8 ∷ 0 ∷ []) $ join ! $ join ! $
-    nothing ! $ knows ! lives $ join ! $
+    let same = ap (λ (u : DequeState (el_x E)). length u.items) seen in
+    let len = length x.ring.items - before - behind in
+    let is : len ≡ length d.items - before - behind = omega (arith, same) in
+    let within : before + len ≤ length d.items = omega (arith, same, enough) in
+    knows ! {φ = before + behind ≤ length x.ring.items} (omega (arith, same, enough)) $ knows ! lives $ join ! $
     calls_met 𝓛 ! 𝓜 𝓣 (g.ended X) (g.clauses X 𝓛 𝓜.mem 𝓡.returns)
     (met 𝓤 𝓛 𝓜 𝓡 (code.calls-arraydeque_ring::ring::Ring::lend 𝓡.env wired) X L)
-    ((Two κs, (r, (q₁, tt)), (bounds.0, tt), (lent, tt), machine_values 1 (Two κs) 0 (lent, tt)), tt) (id⊢ 𝓤 _)
-    (and_then ! (get ! refl) (no_more !)) (loan_lawful E) (λ v it ws typed. lands_as ! refl refl typed.0 $
+    ((Two κs, (r, (q₁, tt)), (bounds.0, tt), (lent, words), vals), tt) (id⊢ 𝓤 _)
+    (and_then ! (get ! refl) (and_then ! (get ! refl) (and_then ! (get ! refl) (no_more !)))) (loan_lawful E)
+    (λ v it ws it_typed. lands_as ! refl refl it_typed.0 $
     let α : NamedLft = named_lft 2 0 tt (Two κs) in let It = loan.the_row α (R E) in
-    move ! (2 ∷ []) $ use1 𝓛 (‵ (ring.lends_loan (R E) lent it) ⊛ raw _) (id⊢ 𝓤 _) $
+    move ! (2 ∷ []) $ use1 𝓛 (‵ (ring.lends_loan (R E) lent before len it) ⊛ raw _) (id⊢ 𝓤 _) $
     split ! $ move ! (1 ∷ []) $ first_fact ! (λ value. first_fact ! (λ _. heard ! _ (λ piece. fsplit ! $
     -- [what δ follows; what the loan's name follows;
     -- the loan; the tokens; the right; the open borrow; the other field; the way back; obs γ; auth γ; the others]
-    let V : RingState (el_x E) → DequeState (el_x E) = λ u. view E N B (after E N B x d seen kept u.items) in
+    let written : RingState (el_x E) → List (el_x E) = λ u. take len (dropped before u.items) in
+    let V : RingState (el_x E) → DequeState (el_x E) =
+    λ u. view E N B (after_part E N B x d seen kept before len within (written u)) in
+    let F : DequeState (el_x E) → DequeState (el_x E) =
+    λ u. part_rewritten before len d (take len (dropped before u.items)) in
     move ! (6 ∷ 7 ∷ []) $ join ! $ move ! (6 ∷ 7 ∷ 8 ∷ 5 ∷ 1 ∷ 0 ∷ []) $
-    hands_on ! tt (mem (Dr E N B)) (mem (Rr E)) (mem (Rr E)) (λ u. rewritten d u.items) V
-    (λ u. ring.rewritten x.ring u.items) age rb ro rb (ro + 0) d
-    (λ u. deque_whole E N B LB 𝓛 rb ro (rewritten d (V u).items) x (ring.rewritten x.ring u.items)
-    (seen_after E N B x d seen kept u.items) (kept_after E N B x d seen kept u.items)) (λ ν.
+    hands_on ! tt (mem (Dr E N B)) (mem (Rr E)) (mem (Rr E)) F V
+    (λ u. ring.part_rewritten before len x.ring (written u)) age rb ro rb (ro + 0) d
+    (λ u. deque_whole E N B LB 𝓛 rb ro (F (V u)) x (ring.part_rewritten before len x.ring (written u))
+    (seen_part E N B x d seen kept before len within (written u))
+    (kept_part E N B x d seen kept before len within (written u))) (λ ν.
     -- [half the token; what γ follows;
     -- what ν follows; what the loan's name follows; the loan; the tokens; the others]
     let Rows = mem (Array (R E) 0) in
     let joined : List (el_x E) → List (el_x E) → List (el_x E) =
     λ us vs. as_many it.first.now us ++ as_many it.second.now vs in
     move ! (2 ∷ 3 ∷ []) $ use2 𝓛 (‵ (after₂ (mem (Dr E N B)) Rows Rows ν it.first.ghost_name it.second.ghost_name
-    (λ us vs. rewritten d (joined us vs)))) (followed_both 𝓛 (mem (Dr E N B)) (mem (Rr E)) Rows _ _ _ _ _ _ _
-    (λ us vs. written E N B x d seen kept (joined us vs))) $
+    (λ us vs. part_rewritten before len d (joined us vs)))) (followed_both 𝓛 (mem (Dr E N B)) (mem (Rr E)) Rows _ _ _
+    _ _ _ _ (λ us vs. part_written E N B x d seen kept before len within (joined us vs))) $
     -- [what ν follows; half the token; what γ follows; the loan; the tokens; the others]
     let out : LoanState (el_x E) = record it { name = ν } in
-    move ! (2 ∷ 0 ∷ []) $ fjoin ! $ move ! (2 ∷ []) $
+    move ! (2 ∷ 0 ∷ []) $ fjoin ! $
+    rewrite ! 0 (λ k. ‵ (lends_loan (R E) (param 1 (number N)) (param 2 B) a.0 before k out)) is refl $
+    move ! (2 ∷ []) $
     use1 𝓛 (‵ (It.own_val out (v ∷ []))) (loan_renamed α (R E) 𝓛 it ν (v ∷ [])) $
     -- [the loan; what the deque follows; half the token; the tokens; the others]
     move ! (3 ∷ 4 ∷ []) $ use2 𝓛 (‵ (flft κ r) ⊛ raw (toks 𝓛 3 κs.1 qs.1)) (come_back 𝓛 κs (r, qs.1)) $
@@ -105,4 +123,5 @@ lend_spec 𝓤 𝓛 𝓜 𝓡 wired X N B L fits LB members dict dict_met =
       ap (λ (u : DequeState (el_x E)). u.start) seen,
       ap (λ (u : DequeState (el_x E)). length u.items) seen,
     )) in
-    says_two ! (value ∙ ap (λ (u : DequeState (el_x E)). u.items) seen, none) $ done !)))))))))))
+    let items = ap (λ (u : DequeState (el_x E)). take len (dropped before u.items)) seen in
+    says_two ! (rw (← is) (value ∙ items), none) $ done !)))))))))))))))

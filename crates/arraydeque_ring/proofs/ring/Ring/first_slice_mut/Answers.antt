@@ -1,6 +1,6 @@
 use Rattle.std.proofs.Common.{refl, arith}
 use Rattle.arraydeque_ring.proofs.{
-  loans.Halves.{front_filled, front_held, front_after},
+  loans.Parts.{front_filled, front_held, front_after},
   Opened.{opened, closed, kept},
 }
 use Rattle.arraydeque_ring.proofs.ring.Ring.first_slice_mut.Goals as goal

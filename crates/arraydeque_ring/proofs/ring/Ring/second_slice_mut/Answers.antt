@@ -1,6 +1,6 @@
 use Rattle.std.proofs.Common.{refl, arith}
 use Rattle.arraydeque_ring.proofs.{
-  loans.Halves.{back_filled, back_held, back_after},
+  loans.Parts.{back_filled, back_held, back_after},
   Opened.{opened, closed, kept},
 }
 use Rattle.arraydeque_ring.proofs.ring.Ring.second_slice_mut.Goals as goal
