@@ -95,7 +95,7 @@ shows l len many = (l.length_is, rw l.length_is l.in_region, FilledFrom-LaidOut 
 abbrev pub Become : {X : Type 0} → ℕ → ℕ → ℕ → List X → List (Option X) → Type 0
 Become {X} n t len xs qs = (ps : List (Option X)) → ps ≡ qs → (ps ≡ qs) × Shows n t len xs ps
 
-become : {X : Type 0} {n t : ℕ} {xs : List X} {qs : List (Option X)} → LaidOut n t xs qs → (len : ℕ)
+pub become : {X : Type 0} {n t : ℕ} {xs : List X} {qs : List (Option X)} → LaidOut n t xs qs → (len : ℕ)
     → length xs ≡ len → Become n t len xs qs
 become l len many ps is = (is, rw is (shows l len many))
 

@@ -2,25 +2,25 @@
 -- before the items that go behind. And no placement of the list gives fewer items another place.
 use Rattle.std.proofs.{
   Common.{◌≡◌, ℕ, ◌+◌, ◌-◌, ◌<◌, ◌≤◌, ◌==◌, ◌++◌, length, take, drop, inl, inr, min, not},
-  Common.{if◌then◌else◌, nat_lt, List, Option, arith},
+  Common.{if◌then◌else◌, nat_lt, List, [], ◌∷◌, Option, None, set, arith},
   lemmas.{
     Bool.{cases_lt, Decides.nat_tests},
     Grind.common_steps,
-    List.{length-append, length-take-le, length-drop, append-nil},
+    List.{length-append, length-take-le, length-drop, length_push, append-nil},
   },
 }
 use Rattle.arraydeque_ring.{
   proofs.{
     gaps.{
       Fewest.{count_sides, one_start},
-      GapMoves.{may_close, gap_moves},
-      Gapped.{Gapped, LaidOut-gap_last},
+      GapMoves.{may_close, Gapped-behind, gap_moves},
+      Gapped.{Gapped, LaidOut-gap_last, LaidOut-put},
     },
-    Opened.{Opened, Shows, shows},
+    Opened.{Opened, Shows, shows, Become, become},
     places.{
       Holds.{Holds-from, Holds-same},
       Items.items,
-      LaidOut.{LaidOut-by, holds},
+      LaidOut.{LaidOut-by, LaidOut-take_front, IsFilled-start, held_at-start, holds},
       Rotated.{place_of_cases, place_of-sum},
     },
   },
@@ -28,6 +28,7 @@ use Rattle.arraydeque_ring.{
     Changed.{changed_rotate, IsFewest},
     declared.ring.Ring.TheInside.Inside,
     Gaps.{MayClose, first_closed, gap_moved},
+    Places.held_at,
     Ring.{RingState, place_of, rotated},
     Sides.{moves_to_rotate, start_rotated},
   },
@@ -73,6 +74,21 @@ module _ {X : Type 0} {r : Inside X} {v : RingState X} (o : Opened r v) (m : ℕ
   pub start_turned : first_closed (r.len - m) (v.capacity - r.len) m v.capacity t
       ≡ start_rotated m v
   start_turned = grind (arith, common_steps, place_of-sum)
+
+-- where only the first item goes behind the others it moves into the place behind the last
+pub turned_one : {X : Type 0} {r : Inside X} {v : RingState X} → Opened r v → 0 < r.len → r.len < v.capacity
+    → Become v.capacity (place_of r.start 1 v.capacity) r.len (drop 1 v.items ++ take 1 v.items)
+    (set (set r.slots.places r.start None) (place_of r.start r.len v.capacity) (held_at r.slots.places r.start))
+turned_one {r = r} {v = v} o some room =
+    let first = IsFilled-start o.laid (omega (arith, o.len)) in
+    let is : take 1 v.items ≡ first.0 ∷ [] = grind (arith, items, held_at-start o.laid (omega arith), first.1) in
+    let long = length-drop 1 v.items in
+    let behind : place_of (place_of r.start 1 v.capacity) (r.len - 1) v.capacity ≡ place_of r.start r.len v.capacity =
+    grind (arith, place_of-sum r.start 1 (r.len - 1) v.capacity) in
+    let taken = LaidOut-take_front o.laid (omega (arith, o.len)) in
+    let put = LaidOut-put (r.len - 1) first.0 (Gapped-behind taken (omega (arith, o.len, long)))
+    (omega (arith, o.len, long)) in
+    rw (is, first.1) (become (rw behind at put) _ (omega (arith, o.len, long, length_push (drop 1 v.items) first.0)))
 
 module _ (m n c t : ℕ) (t_in : t ≤ c - 1) (m_in : m ≤ n) (within : n ≤ c) where
   -- the others stay where the start goes up by the first m, and these where it goes down by the others

