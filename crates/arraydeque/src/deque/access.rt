@@ -63,7 +63,11 @@ impl<T, const CAP: usize, B: Behavior> ArrayDeque<T, CAP, B> {
         ensures empty { IfNone result (self.now.items ≡ []) }
         ensures within { length self.now.items ≤ CAP }
     {
-        self.get(self.len().saturating_sub(1))
+        let len = self.len();
+        if len == 0 {
+            return None;
+        }
+        self.get(len - 1)
     }
 
     /// Returns a reference to the item at an index, or `None` if there is none. The front has index
@@ -127,8 +131,11 @@ impl<T, const CAP: usize, B: Behavior> ArrayDeque<T, CAP, B> {
         ensures* writes_back { let last = length self.old.items - 1 in
             sem 𝓛 (lends_item T.row CAP.row B.row self.entry last result) }
     {
-        let last = self.len().saturating_sub(1);
-        self.get_mut(last)
+        let len = self.len();
+        if len == 0 {
+            return None;
+        }
+        self.get_mut(len - 1)
     }
 
     /// Returns a mutable reference to the item at an index, or `None` if there is none. The front
