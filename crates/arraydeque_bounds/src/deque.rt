@@ -1,5 +1,6 @@
 //! The deque's calls that are the same under either policy.
-ghost use Rattle.std.specs.Prelude.{◌≡◌, ◌<◌, ◌≤◌, Some, length, slice_get, slice_range};
+ghost use Rattle.std.specs.Prelude.{◌<◌, ◌≤◌, length, slice_get, slice_range};
+ghost use Rattle.std.specs.Option.{ForSome};
 ghost use Rattle.std.specs.Fn.{FnOnceTakesAtMut};
 ghost use Rattle.arraydeque.specs.Deque.{as_ring, last_item};
 ghost use Rattle.arraydeque.specs.Range.{IsRangeOf, span_of};
@@ -14,137 +15,127 @@ use std::cmp::Ordering;
 use std::io;
 use std::io::{BufRead, Read};
 
-fn new<T, const CAP: usize, B: Behavior>(
-    alloc: Global,
-) -> Result<ArrayDeque<T, CAP, B>, AllocError> {
-    ArrayDeque::new(alloc)
-}
-
-fn len<T, const CAP: usize, B: Behavior>(deque: &ArrayDeque<T, CAP, B>) -> usize {
-    deque.len()
-}
-
-fn capacity<T, const CAP: usize, B: Behavior>(deque: &ArrayDeque<T, CAP, B>) -> usize {
-    deque.capacity()
-}
-
-fn is_empty<T, const CAP: usize, B: Behavior>(deque: &ArrayDeque<T, CAP, B>) -> bool {
-    deque.is_empty()
-}
-
-fn is_full<T, const CAP: usize, B: Behavior>(deque: &ArrayDeque<T, CAP, B>) -> bool {
-    deque.is_full()
-}
-
-fn pop_front<T, const CAP: usize, B: Behavior>(deque: &mut ArrayDeque<T, CAP, B>) -> Option<T> {
-    deque.pop_front()
-}
-
-fn pop_back<T, const CAP: usize, B: Behavior>(deque: &mut ArrayDeque<T, CAP, B>) -> Option<T> {
-    deque.pop_back()
-}
-
-fn pop_front_if<T, const CAP: usize, B: Behavior, P: FnOnce(&mut T) -> bool>(
-    deque: &mut ArrayDeque<T, CAP, B>,
-    predicate: P,
-) -> Option<T>
-    requires { (item : T) → slice_get deque.old.items 0 ≡ Some item →
-        FnOnceTakesAtMut P.FnOnce predicate item }
+fn any_read<T, const CAP: usize, B: Behavior>(deque: &ArrayDeque<T, CAP, B>, index: usize) -> &T
+    requires in_bounds { index < length deque.now.items }
+    requires in_one_piece { IsInOnePiece (as_ring CAP deque.now) }
 {
-    deque.pop_front_if(predicate)
-}
-
-fn pop_back_if<T, const CAP: usize, B: Behavior, P: FnOnce(&mut T) -> bool>(
-    deque: &mut ArrayDeque<T, CAP, B>,
-    predicate: P,
-) -> Option<T>
-    requires { (item : T) → last_item deque.old.items ≡ Some item →
-        FnOnceTakesAtMut P.FnOnce predicate item }
-{
-    deque.pop_back_if(predicate)
-}
-
-fn front<T, const CAP: usize, B: Behavior>(deque: &ArrayDeque<T, CAP, B>) -> Option<&T> {
-    deque.front()
-}
-
-fn back<T, const CAP: usize, B: Behavior>(deque: &ArrayDeque<T, CAP, B>) -> Option<&T> {
-    deque.back()
-}
-
-fn get<T, const CAP: usize, B: Behavior>(
-    deque: &ArrayDeque<T, CAP, B>,
-    index: usize,
-) -> Option<&T> {
-    deque.get(index)
-}
-
-fn index<T, const CAP: usize, B: Behavior>(deque: &ArrayDeque<T, CAP, B>, index: usize) -> &T
-    requires { index < length deque.now.items }
-{
+    deque.len();
+    deque.capacity();
+    deque.is_empty();
+    deque.is_full();
+    deque.front();
+    deque.back();
+    deque.get(index);
+    deque.iter();
+    deque.into_iter();
+    deque.as_slices();
+    deque.as_slice();
     &deque[index]
 }
 
-fn front_mut<T, const CAP: usize, B: Behavior>(
+fn any_moved<T, const CAP: usize, B: Behavior>(
     deque: &mut ArrayDeque<T, CAP, B>,
-) -> Option<&mut T> {
-    deque.front_mut()
-}
-
-fn back_mut<T, const CAP: usize, B: Behavior>(deque: &mut ArrayDeque<T, CAP, B>) -> Option<&mut T> {
-    deque.back_mut()
-}
-
-fn get_mut<T, const CAP: usize, B: Behavior>(
-    deque: &mut ArrayDeque<T, CAP, B>,
-    index: usize,
-) -> Option<&mut T> {
-    deque.get_mut(index)
-}
-
-fn index_mut<T, const CAP: usize, B: Behavior>(
-    deque: &mut ArrayDeque<T, CAP, B>,
-    index: usize,
-) -> &mut T
-    requires { index < length deque.old.items }
+    i: usize,
+    j: usize,
+)
+    requires i_in_bounds { i < length deque.old.items }
+    requires j_in_bounds { j < length deque.old.items }
 {
-    &mut deque[index]
+    deque.swap(i, j);
+    deque.rotate_left(i);
+    deque.rotate_right(j);
+    deque.linearize();
 }
 
-fn iter<T, const CAP: usize, B: Behavior>(deque: &ArrayDeque<T, CAP, B>) -> Iter<'_, T> {
-    deque.iter()
+fn any_lent<T, const CAP: usize, B: Behavior>(
+    deque: &mut ArrayDeque<T, CAP, B>,
+    index: usize,
+) -> &mut [T]
+    requires in_bounds { index < length deque.old.items }
+    requires in_one_piece { IsInOnePiece (as_ring CAP deque.old) }
+{
+    let _ = &mut deque[index];
+    deque.front_mut();
+    deque.back_mut();
+    deque.get_mut(index);
+    deque.first_slice_mut();
+    deque.second_slice_mut();
+    deque.as_mut_slice()
 }
 
-fn iter_mut<T, const CAP: usize, B: Behavior>(deque: &mut ArrayDeque<T, CAP, B>) -> IterMut<'_, T> {
-    deque.iter_mut()
-}
-
-fn ref_into_iter<T, const CAP: usize, B: Behavior>(deque: &ArrayDeque<T, CAP, B>) -> Iter<'_, T> {
-    deque.into_iter()
-}
-
-fn mut_into_iter<T, const CAP: usize, B: Behavior>(
+fn any_lent_by_iter<T, const CAP: usize, B: Behavior>(
     deque: &mut ArrayDeque<T, CAP, B>,
 ) -> IterMut<'_, T> {
+    deque.iter_mut();
     deque.into_iter()
 }
 
-fn into_iter<T: Drop, const CAP: usize, B: Behavior>(
-    deque: ArrayDeque<T, CAP, B>,
-) -> IntoIter<T, CAP, B> {
-    deque.into_iter()
+fn any_lent_in_slices<T, const CAP: usize, B: Behavior>(
+    deque: &mut ArrayDeque<T, CAP, B>,
+) -> (&mut [T], &mut [T]) {
+    deque.as_mut_slices()
 }
 
-fn range<T, const CAP: usize, B: Behavior, R: RangeArgument<usize> + Drop>(
-    deque: &ArrayDeque<T, CAP, B>,
-    range: R,
-) -> Iter<'_, T>
-    requires { IsRangeOf R.RangeArgument range deque.now.items }
+fn any_handed_out<T, const CAP: usize, B: Behavior>(
+    deque: &mut ArrayDeque<T, CAP, B>,
+    index: usize,
+) -> (Option<T>, Option<T>, Option<T>, Option<T>, Option<T>) {
+    (
+        deque.pop_front(),
+        deque.pop_back(),
+        deque.remove(index),
+        deque.swap_remove_back(index),
+        deque.swap_remove_front(index),
+    )
+}
+
+fn any_made<T, const CAP: usize, B: Behavior>(
+    alloc: Global,
+    deque: &mut ArrayDeque<T, CAP, B>,
+    at: usize,
+) -> (
+    Result<ArrayDeque<T, CAP, B>, AllocError>,
+    Result<ArrayDeque<T, CAP, B>, AllocError>,
+)
+    requires { at ≤ length deque.old.items }
 {
-    deque.range(range)
+    (ArrayDeque::new(alloc), deque.split_off(at))
 }
 
-fn range_mut<T, const CAP: usize, B: Behavior, R: RangeArgument<usize> + Drop>(
+fn any_into_vec<T, const CAP: usize, B: Behavior>(
+    deque: ArrayDeque<T, CAP, B>,
+) -> Result<Vec<T>, MakeError<ArrayDeque<T, CAP, B>>> {
+    deque.into_vec()
+}
+
+fn any_popped_if<T, const CAP: usize, B: Behavior, P: FnOnce(&mut T) -> bool>(
+    deque: &mut ArrayDeque<T, CAP, B>,
+    at_front: bool,
+    predicate: P,
+) -> Option<T>
+    requires front { ForSome (slice_get deque.old.items 0) (FnOnceTakesAtMut P.FnOnce predicate) }
+    requires back { ForSome (last_item deque.old.items) (FnOnceTakesAtMut P.FnOnce predicate) }
+{
+    if at_front {
+        deque.pop_front_if(predicate)
+    } else {
+        deque.pop_back_if(predicate)
+    }
+}
+
+fn any_in_range<T, const CAP: usize, B: Behavior, R: RangeArgument<usize> + Drop>(
+    deque: &mut ArrayDeque<T, CAP, B>,
+    lent: R,
+    drained: R,
+) -> Result<Drain<T>, AllocError>
+    requires lent { IsRangeOf R.RangeArgument lent deque.old.items }
+    requires drained { IsRangeOf R.RangeArgument drained deque.old.items }
+{
+    deque.range(lent);
+    deque.drain(drained)
+}
+
+fn any_lent_in_range<T, const CAP: usize, B: Behavior, R: RangeArgument<usize> + Drop>(
     deque: &mut ArrayDeque<T, CAP, B>,
     range: R,
 ) -> IterMut<'_, T>
@@ -153,41 +144,7 @@ fn range_mut<T, const CAP: usize, B: Behavior, R: RangeArgument<usize> + Drop>(
     deque.range_mut(range)
 }
 
-fn as_slices<T, const CAP: usize, B: Behavior>(deque: &ArrayDeque<T, CAP, B>) -> (&[T], &[T]) {
-    deque.as_slices()
-}
-
-fn as_slice<T, const CAP: usize, B: Behavior>(deque: &ArrayDeque<T, CAP, B>) -> &[T]
-    requires { IsInOnePiece (as_ring CAP deque.now) }
-{
-    deque.as_slice()
-}
-
-fn as_mut_slices<T, const CAP: usize, B: Behavior>(
-    deque: &mut ArrayDeque<T, CAP, B>,
-) -> (&mut [T], &mut [T]) {
-    deque.as_mut_slices()
-}
-
-fn as_mut_slice<T, const CAP: usize, B: Behavior>(deque: &mut ArrayDeque<T, CAP, B>) -> &mut [T]
-    requires { IsInOnePiece (as_ring CAP deque.old) }
-{
-    deque.as_mut_slice()
-}
-
-fn first_slice_mut<T, const CAP: usize, B: Behavior>(
-    deque: &mut ArrayDeque<T, CAP, B>,
-) -> &mut [T] {
-    deque.first_slice_mut()
-}
-
-fn second_slice_mut<T, const CAP: usize, B: Behavior>(
-    deque: &mut ArrayDeque<T, CAP, B>,
-) -> &mut [T] {
-    deque.second_slice_mut()
-}
-
-fn for_each_mut<T, const CAP: usize, B: Behavior, F: FnMut(&mut T) + Drop>(
+fn any_written<T, const CAP: usize, B: Behavior, F: FnMut(&mut T) + Drop>(
     deque: &mut ArrayDeque<T, CAP, B>,
     f: F,
 )
@@ -196,7 +153,7 @@ fn for_each_mut<T, const CAP: usize, B: Behavior, F: FnMut(&mut T) + Drop>(
     deque.for_each_mut(f);
 }
 
-fn for_each_mut_in<T, const CAP: usize, B: Behavior, R, F>(
+fn any_written_in_range<T, const CAP: usize, B: Behavior, R, F>(
     deque: &mut ArrayDeque<T, CAP, B>,
     range: R,
     f: F,
@@ -211,75 +168,7 @@ where
     deque.for_each_mut_in(range, f);
 }
 
-fn linearize<T, const CAP: usize, B: Behavior>(deque: &mut ArrayDeque<T, CAP, B>) {
-    deque.linearize();
-}
-
-fn swap<T, const CAP: usize, B: Behavior>(deque: &mut ArrayDeque<T, CAP, B>, i: usize, j: usize)
-    requires i_in_bounds { i < length deque.old.items }
-    requires j_in_bounds { j < length deque.old.items }
-{
-    deque.swap(i, j);
-}
-
-fn swap_remove_back<T, const CAP: usize, B: Behavior>(
-    deque: &mut ArrayDeque<T, CAP, B>,
-    index: usize,
-) -> Option<T> {
-    deque.swap_remove_back(index)
-}
-
-fn swap_remove_front<T, const CAP: usize, B: Behavior>(
-    deque: &mut ArrayDeque<T, CAP, B>,
-    index: usize,
-) -> Option<T> {
-    deque.swap_remove_front(index)
-}
-
-fn remove<T, const CAP: usize, B: Behavior>(
-    deque: &mut ArrayDeque<T, CAP, B>,
-    index: usize,
-) -> Option<T> {
-    deque.remove(index)
-}
-
-fn rotate_left<T, const CAP: usize, B: Behavior>(deque: &mut ArrayDeque<T, CAP, B>, count: usize)
-    requires { count ≤ length deque.old.items }
-{
-    deque.rotate_left(count);
-}
-
-fn rotate_right<T, const CAP: usize, B: Behavior>(deque: &mut ArrayDeque<T, CAP, B>, count: usize)
-    requires { count ≤ length deque.old.items }
-{
-    deque.rotate_right(count);
-}
-
-fn drain<T, const CAP: usize, B: Behavior, R: RangeArgument<usize> + Drop>(
-    deque: &mut ArrayDeque<T, CAP, B>,
-    range: R,
-) -> Result<Drain<T>, AllocError>
-    requires { IsRangeOf R.RangeArgument range deque.old.items }
-{
-    deque.drain(range)
-}
-
-fn split_off<T, const CAP: usize, B: Behavior>(
-    deque: &mut ArrayDeque<T, CAP, B>,
-    at: usize,
-) -> Result<ArrayDeque<T, CAP, B>, AllocError>
-    requires { at ≤ length deque.old.items }
-{
-    deque.split_off(at)
-}
-
-fn into_vec<T, const CAP: usize, B: Behavior>(
-    deque: ArrayDeque<T, CAP, B>,
-) -> Result<Vec<T>, MakeError<ArrayDeque<T, CAP, B>>> {
-    deque.into_vec()
-}
-
-fn partition_point<T, const CAP: usize, B: Behavior, P: FnMut(&T) -> bool>(
+fn any_parted<T, const CAP: usize, B: Behavior, P: FnMut(&T) -> bool>(
     deque: &ArrayDeque<T, CAP, B>,
     pred: P,
 ) -> usize
@@ -288,7 +177,7 @@ fn partition_point<T, const CAP: usize, B: Behavior, P: FnMut(&T) -> bool>(
     deque.partition_point(pred)
 }
 
-fn binary_search_by<T, const CAP: usize, B: Behavior, F: FnMut(&T) -> Ordering>(
+fn any_found<T, const CAP: usize, B: Behavior, F: FnMut(&T) -> Ordering>(
     deque: &ArrayDeque<T, CAP, B>,
     f: F,
 ) -> Result<usize, usize>
@@ -297,7 +186,7 @@ fn binary_search_by<T, const CAP: usize, B: Behavior, F: FnMut(&T) -> Ordering>(
     deque.binary_search_by(f)
 }
 
-fn binary_search_by_key<T, const CAP: usize, B: Behavior, K: Ord + Drop, F: FnMut(&T) -> K>(
+fn any_found_by_key<T, const CAP: usize, B: Behavior, K: Ord + Drop, F: FnMut(&T) -> K>(
     deque: &ArrayDeque<T, CAP, B>,
     key: &K,
     f: F,
@@ -307,24 +196,36 @@ fn binary_search_by_key<T, const CAP: usize, B: Behavior, K: Ord + Drop, F: FnMu
     deque.binary_search_by_key(key, f)
 }
 
-fn drop<T: Drop, const CAP: usize, B: Behavior>(_deque: ArrayDeque<T, CAP, B>) {}
-
-fn clear<T: Drop, const CAP: usize, B: Behavior>(deque: &mut ArrayDeque<T, CAP, B>) {
-    deque.clear();
-}
-
-fn truncate<T: Drop, const CAP: usize, B: Behavior>(deque: &mut ArrayDeque<T, CAP, B>, len: usize) {
-    deque.truncate(len);
-}
-
-fn truncate_front<T: Drop, const CAP: usize, B: Behavior>(
-    deque: &mut ArrayDeque<T, CAP, B>,
+fn owned<T: Drop, const CAP: usize, B: Behavior>(
+    mut deque: ArrayDeque<T, CAP, B>,
+    _dropped: ArrayDeque<T, CAP, B>,
     len: usize,
-) {
+) -> IntoIter<T, CAP, B> {
+    deque.truncate(len);
     deque.truncate_front(len);
+    deque.clear();
+    deque.into_iter()
 }
 
-fn resize<T: Copy, const CAP: usize, B: Behavior>(
+fn owned_retained<T: Drop, const CAP: usize, B: Behavior, F: FnMut(&T) -> bool + Drop>(
+    deque: &mut ArrayDeque<T, CAP, B>,
+    f: F,
+)
+    requires { MayBeAsked F.FnMut f deque.old.items }
+{
+    deque.retain(f);
+}
+
+fn owned_retained_mut<T: Drop, const CAP: usize, B: Behavior, F: FnMut(&mut T) -> bool + Drop>(
+    deque: &mut ArrayDeque<T, CAP, B>,
+    f: F,
+)
+    requires { MayBeAskedMut F.FnMut f deque.old.items }
+{
+    deque.retain_mut(f);
+}
+
+fn copied<T: Copy, const CAP: usize, B: Behavior>(
     deque: &mut ArrayDeque<T, CAP, B>,
     len: usize,
     value: T,
@@ -334,37 +235,11 @@ fn resize<T: Copy, const CAP: usize, B: Behavior>(
     deque.resize(len, value);
 }
 
-fn retain<T: Drop, const CAP: usize, B: Behavior, F: FnMut(&T) -> bool + Drop>(
-    deque: &mut ArrayDeque<T, CAP, B>,
-    f: F,
-)
-    requires { MayBeAsked F.FnMut f deque.old.items }
-{
-    deque.retain(f);
-}
-
-fn retain_mut<T: Drop, const CAP: usize, B: Behavior, F: FnMut(&mut T) -> bool + Drop>(
-    deque: &mut ArrayDeque<T, CAP, B>,
-    f: F,
-)
-    requires { MayBeAskedMut F.FnMut f deque.old.items }
-{
-    deque.retain_mut(f);
-}
-
-fn read<const CAP: usize, B: Behavior>(
-    deque: &mut ArrayDeque<u8, CAP, B>,
+fn bytes<'a, const CAP: usize, B: Behavior>(
+    deque: &'a mut ArrayDeque<u8, CAP, B>,
     buf: &mut [u8],
-) -> io::Result<usize> {
-    deque.read(buf)
-}
-
-fn fill_buf<const CAP: usize, B: Behavior>(
-    deque: &mut ArrayDeque<u8, CAP, B>,
-) -> io::Result<&[u8]> {
+) -> io::Result<&'a [u8]> {
+    let read = deque.read(buf)?;
+    deque.consume(read);
     deque.fill_buf()
-}
-
-fn consume<const CAP: usize, B: Behavior>(deque: &mut ArrayDeque<u8, CAP, B>, amount: usize) {
-    deque.consume(amount);
 }

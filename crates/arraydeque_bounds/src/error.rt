@@ -1,4 +1,5 @@
 //! What a refused call gives back.
+use crate::compare::as_eq;
 use arraydeque::{CapacityError, MakeError};
 use std::alloc::AllocError;
 use std::cmp::Ordering;
@@ -11,12 +12,9 @@ fn as_texts<E: Display + Debug>(error: &E) -> &E {
     error
 }
 
-fn capacity_error_as_texts<T>(refusal: &CapacityError<T>) -> &CapacityError<T> {
-    as_texts(refusal)
-}
-
-fn make_error_as_texts<S>(refusal: &MakeError<S>) -> &MakeError<S> {
-    as_texts(refusal)
+fn any<T, S>(refusal: &CapacityError<T>, failure: &MakeError<S>) {
+    as_texts(refusal);
+    as_texts(failure);
 }
 
 /// An error, with its two texts, with the bounds that its caller has.
@@ -24,51 +22,41 @@ fn as_error<E: Error>(error: E) -> E {
     error
 }
 
-fn capacity_error_as_error<T: Drop>(refusal: CapacityError<T>) -> CapacityError<T> {
-    as_error(refusal)
+fn owned<T: Drop, S: Drop>(
+    refusal: CapacityError<T>,
+    failure: MakeError<S>,
+    other: MakeError<S>,
+) -> (io::Error, io::Error, AllocError) {
+    (
+        as_error(refusal).into(),
+        as_error(failure).into(),
+        other.into(),
+    )
 }
 
-fn make_error_as_error<S: Drop>(refusal: MakeError<S>) -> MakeError<S> {
-    as_error(refusal)
-}
-
-fn io_error_from_capacity_error<T: Drop>(refusal: CapacityError<T>) -> io::Error {
-    refusal.into()
-}
-
-fn io_error_from_make_error<S: Drop>(refusal: MakeError<S>) -> io::Error {
-    refusal.into()
-}
-
-fn alloc_error_from_make_error<S: Drop>(refusal: MakeError<S>) -> AllocError {
-    refusal.into()
-}
-
-fn capacity_error_clone<T: Clone>(
-    refusal: &CapacityError<T>,
-) -> Result<CapacityError<T>, AllocError> {
+fn of_clone<T: Clone>(refusal: &CapacityError<T>) -> Result<CapacityError<T>, AllocError> {
     refusal.clone()
 }
 
-fn capacity_error_copy<T: Copy>(refusal: &CapacityError<T>) -> CapacityError<T> {
+fn copied<T: Copy>(refusal: &CapacityError<T>) -> CapacityError<T> {
     *refusal
 }
 
-fn capacity_error_eq<T: PartialEq>(left: &CapacityError<T>, right: &CapacityError<T>) -> bool {
-    *left == *right
+fn of_partial_eq<T: PartialEq>(refusal: &CapacityError<T>, other: &CapacityError<T>) -> bool {
+    *refusal == *other
 }
 
-fn capacity_error_as_eq<T: Eq>(refusal: &CapacityError<T>) -> &CapacityError<T> {
-    crate::compare::as_eq(refusal)
+fn of_eq<T: Eq>(refusal: &CapacityError<T>) -> &CapacityError<T> {
+    as_eq(refusal)
 }
 
-fn capacity_error_partial_cmp<T: PartialOrd>(
-    left: &CapacityError<T>,
-    right: &CapacityError<T>,
+fn of_partial_ord<T: PartialOrd>(
+    refusal: &CapacityError<T>,
+    other: &CapacityError<T>,
 ) -> Option<Ordering> {
-    left.partial_cmp(right)
+    refusal.partial_cmp(other)
 }
 
-fn capacity_error_cmp<T: Ord>(left: &CapacityError<T>, right: &CapacityError<T>) -> Ordering {
-    left.cmp(right)
+fn of_ord<T: Ord>(refusal: &CapacityError<T>, other: &CapacityError<T>) -> Ordering {
+    refusal.cmp(other)
 }

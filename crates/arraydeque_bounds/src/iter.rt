@@ -13,62 +13,40 @@ fn from_both_ends<I: DoubleEndedIterator + ExactSizeIterator + FusedIterator>(it
     items
 }
 
-fn iter_from_both_ends<T>(items: Iter<'_, T>) -> Iter<'_, T> {
-    from_both_ends(items)
+fn any_lent<'a, T>(items: Iter<'a, T>) -> Result<Iter<'a, T>, AllocError> {
+    from_both_ends(items).clone()
 }
 
-fn iter_clone<'a, T>(items: &Iter<'a, T>) -> Result<Iter<'a, T>, AllocError> {
-    items.clone()
-}
-
-fn iter_fold<'a, T, A, F: FnMut(A, &'a T) -> A>(items: Iter<'a, T>, init: A, f: F) -> A
+fn any_folded<'a, T, A, F: FnMut(A, &'a T) -> A>(items: Iter<'a, T>, init: A, f: F) -> A
     requires { CallableInFold (YieldsFirstRef (λ xs. xs)) F.FnMut items f init }
 {
     items.fold(init, f)
 }
 
-fn iter_for_each<'a, T, F: FnMut(&'a T)>(items: Iter<'a, T>, f: F)
+fn any_called_on<'a, T, F: FnMut(&'a T)>(items: Iter<'a, T>, f: F)
     requires { CallableInForEach (YieldsFirstRef (λ xs. xs)) F.FnMut items f }
 {
     items.for_each(f);
 }
 
-fn iter_drop<T>(_items: Iter<'_, T>) {}
-
-fn iter_mut_from_both_ends<T>(items: IterMut<'_, T>) -> IterMut<'_, T> {
-    from_both_ends(items)
+fn any_lent_mut<T>(items: IterMut<'_, T>) -> (&mut [T], &mut [T]) {
+    from_both_ends(items).into_slices()
 }
 
-fn iter_mut_into_slices<T>(items: IterMut<'_, T>) -> (&mut [T], &mut [T]) {
-    items.into_slices()
-}
-
-fn iter_mut_for_each<'a, T, F: FnMut(&'a mut T)>(items: IterMut<'a, T>, f: F)
+fn any_called_on_mut<'a, T, F: FnMut(&'a mut T)>(items: IterMut<'a, T>, f: F)
     requires { CallableInForEach (YieldsFirstMut remaining) F.FnMut items f }
 {
     items.for_each(f);
 }
 
-fn iter_mut_drop<T>(_items: IterMut<'_, T>) {}
+fn any_let_go<T>(_items: Iter<'_, T>, _items_mut: IterMut<'_, T>) {}
 
-fn into_iter_from_both_ends<T: Drop, const CAP: usize, B: Behavior>(
+fn owned<T: Drop, const CAP: usize, B: Behavior>(
     items: IntoIter<T, CAP, B>,
-) -> IntoIter<T, CAP, B> {
-    from_both_ends(items)
+    of_ring: arraydeque_ring::IntoIter<T>,
+    drained: Drain<T>,
+) {
+    from_both_ends(items);
+    from_both_ends(of_ring);
+    from_both_ends(drained);
 }
-
-fn into_iter_drop<T: Drop, const CAP: usize, B: Behavior>(_items: IntoIter<T, CAP, B>) {}
-
-fn drain_from_both_ends<T: Drop>(items: Drain<T>) -> Drain<T> {
-    from_both_ends(items)
-}
-
-fn drain_drop<T: Drop>(_items: Drain<T>) {}
-
-fn ring_into_iter_from_both_ends<T: Drop>(
-    items: arraydeque_ring::IntoIter<T>,
-) -> arraydeque_ring::IntoIter<T> {
-    from_both_ends(items)
-}
-
-fn ring_into_iter_drop<T: Drop>(_items: arraydeque_ring::IntoIter<T>) {}

@@ -2,10 +2,10 @@
 ghost use Rattle.std.specs.Prelude.{◌<◌, ◌≤◌, length};
 
 use arraydeque::lookahead::Scanner;
-use arraydeque::{CapacityError, Iter, MakeError};
+use arraydeque::{CapacityError, MakeError};
 use std::alloc::Global;
 
-fn new<I: Iterator, const CAP: usize>(
+fn any_made<I: Iterator, const CAP: usize>(
     alloc: Global,
     iter: I,
 ) -> Result<Scanner<I, CAP>, MakeError<I>>
@@ -14,17 +14,21 @@ fn new<I: Iterator, const CAP: usize>(
     Scanner::new(alloc, iter)
 }
 
-fn peek<I: Iterator, const CAP: usize>(scanner: &mut Scanner<I, CAP>, k: usize) -> Option<&I::Item>
-    requires { k < CAP }
+fn any<I: Iterator, const CAP: usize>(
+    scanner: &mut Scanner<I, CAP>,
+    index: usize,
+    item: I::Item,
+) -> (Option<I::Item>, Result<(), CapacityError<I::Item>>)
+    requires ahead { index ≤ length scanner.old.buffer }
+    requires in_bounds { index < CAP }
 {
-    scanner.peek(k)
+    scanner.ahead(index);
+    scanner.peek(index);
+    scanner.read_ahead(index);
+    (scanner.next(), scanner.unread(item))
 }
 
-fn next<I: Iterator, const CAP: usize>(scanner: &mut Scanner<I, CAP>) -> Option<I::Item> {
-    scanner.next()
-}
-
-fn next_if<I: Iterator, const CAP: usize, P: FnOnce(&I::Item) -> bool>(
+fn any_wanted<I: Iterator, const CAP: usize, P: FnOnce(&I::Item) -> bool>(
     scanner: &mut Scanner<I, CAP>,
     accepts: P,
 ) -> Option<I::Item>
@@ -34,38 +38,11 @@ fn next_if<I: Iterator, const CAP: usize, P: FnOnce(&I::Item) -> bool>(
     scanner.next_if(accepts)
 }
 
-fn read_ahead<I: Iterator, const CAP: usize>(scanner: &mut Scanner<I, CAP>, count: usize) -> usize
-    requires { count ≤ CAP }
-{
-    scanner.read_ahead(count)
-}
-
-fn ahead<I: Iterator, const CAP: usize>(
-    scanner: &Scanner<I, CAP>,
-    count: usize,
-) -> Iter<'_, I::Item>
-    requires { count ≤ length scanner.now.buffer }
-{
-    scanner.ahead(count)
-}
-
-fn advance<I: Iterator<Item: Drop>, const CAP: usize>(
-    scanner: &mut Scanner<I, CAP>,
-    count: usize,
-) -> usize {
-    scanner.advance(count)
-}
-
-fn unread<I: Iterator, const CAP: usize>(
-    scanner: &mut Scanner<I, CAP>,
-    item: I::Item,
-) -> Result<(), CapacityError<I::Item>> {
-    scanner.unread(item)
-}
-
 /// The scanner is an iterator too, if its items can be dropped.
-fn iterator<I: Iterator<Item: Drop>, const CAP: usize>(
+fn owned<I: Iterator<Item: Drop>, const CAP: usize>(
     scanner: &mut Scanner<I, CAP>,
+    count: usize,
 ) -> Option<I::Item> {
+    scanner.advance(count);
     Iterator::next(scanner)
 }

@@ -7,18 +7,12 @@ fn as_argument<T, R: RangeArgument<T>>(range: R) -> R {
     range
 }
 
-fn range_full<T>(range: RangeFull) -> RangeFull {
-    as_argument::<T, RangeFull>(range)
+fn any<T>(full: RangeFull) -> RangeFull {
+    as_argument::<T, RangeFull>(full)
 }
 
-fn range_from<T: Copy>(range: RangeFrom<T>) -> RangeFrom<T> {
-    as_argument::<T, RangeFrom<T>>(range)
-}
-
-fn range_to<T: Copy>(range: RangeTo<T>) -> RangeTo<T> {
-    as_argument::<T, RangeTo<T>>(range)
-}
-
-fn range<T: Copy>(range: Range<T>) -> Range<T> {
-    as_argument::<T, Range<T>>(range)
+fn copied<T: Copy>(from: RangeFrom<T>, to: RangeTo<T>, both: Range<T>) {
+    as_argument::<T, RangeFrom<T>>(from);
+    as_argument::<T, RangeTo<T>>(to);
+    as_argument::<T, Range<T>>(both);
 }
