@@ -1,5 +1,5 @@
 //! Looking ahead in an iterator.
-ghost use Rattle.std.specs.Prelude.{◌≡◌, ◌<◌, ◌≤◌, ◌+◌, ◌-◌, ◌*◌, ◌∷◌, [], List, length, min, take, drop, slice_get, option_copied, ⊤, true, IfOk, IfErr, OnOk, OnErr, IsOk, OnSome, IfSome, IfNone, false, ◌↔◌};
+ghost use Rattle.std.specs.Prelude.{◌≡◌, ◌<◌, ◌≤◌, ◌+◌, ◌*◌, ◌∷◌, [], List, length, min, take, drop, slice_get, option_copied, ⊤, true, IfOk, IfErr, OnOk, OnErr, IsOk, OnSome, IfSome, IfNone, false, ◌↔◌};
 ghost use Rattle.std.specs.Borrow.{sem};
 ghost use Rattle.std.specs.Fn.{FnOnceReturnsAt};
 ghost use Rattle.std.specs.Iterator.{IsFinite, MakesProgress, UpTo, count_map, size};

@@ -22,11 +22,14 @@ fn has_nothing_to_write(mut items: IterMut<'_, i64>) -> bool {
         && items.next_back().is_none()
 }
 
-/// Whether no item is called on, by a `fold` and by a `for_each` of either iterator.
+/// Whether no item is called on, by a `fold`, by a `for_each` of either iterator and by a
+/// `for_each_mut` of all or a part.
 fn calls_on_nothing<const CAP: usize, B: Behavior>(deque: &mut ArrayDeque<i64, CAP, B>) -> bool {
     let mut is_called = false;
     deque.iter().for_each(|_| is_called = true);
     deque.iter_mut().for_each(|_| is_called = true);
+    deque.for_each_mut(|_| is_called = true);
+    deque.for_each_mut_in(.., |_| is_called = true);
     !deque.iter().fold(is_called, |_, _| true)
 }
 
@@ -43,6 +46,8 @@ fn lends_nothing<const CAP: usize, B: Behavior>(
     deque.linearize();
     Ok(
         deque.as_mut_slice().is_empty()
+            && deque.first_slice_mut().is_empty()
+            && deque.second_slice_mut().is_empty()
             && calls_on_nothing(deque)
             && is_cut
             && is_read
@@ -155,12 +160,23 @@ fn is_written_in_one_slice<B: Behavior>(mut deque: ArrayDeque<i64, 1, B>) -> boo
     holds(&deque, &[5])
 }
 
+/// Whether it is written in place: by a closure, called on all items and on a range, and in the
+/// first of the two slices.
+fn is_written_in_place<B: Behavior>(mut deque: ArrayDeque<i64, 1, B>) -> bool {
+    deque.for_each_mut(|item| *item = item.wrapping_mul(2));
+    deque.for_each_mut_in(.., |item| *item = item.wrapping_add(1));
+    let is_called = holds(&deque, &[13]);
+    deque.first_slice_mut().fill(7);
+    is_called && deque.second_slice_mut().is_empty() && holds(&deque, &[7])
+}
+
 /// Whether the one item is written over in every way.
 fn writes_over_one<B: Behavior>(mut deque: ArrayDeque<i64, 1, B>) -> Result<bool, Fail> {
     let is_lent = is_written_by_iter_mut(deque.clone()?)
         && is_written_by_a_loan(deque.clone()?)
         && is_written_by_range_mut(deque.clone()?)
-        && is_written_in_one_slice(deque.clone()?);
+        && is_written_in_one_slice(deque.clone()?)
+        && is_written_in_place(deque.clone()?);
     let is_whole = writes_in_slices(&mut deque);
     Ok(is_lent && is_whole && holds(&deque, &[9]))
 }

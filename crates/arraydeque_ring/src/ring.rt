@@ -4,7 +4,7 @@
 //! item and the steps of its region. A ring has no policy: a push requires room.
 #![tactic(auto, using(crate::proofs::Opened::ring_facts))]
 
-ghost use Rattle.std.specs.Prelude.{◌≡◌, ◌-◌, ◌*◌, ◌+◌, ◌<◌, ◌≤◌, ◌==◌, [], ◌∷◌, ◌++◌, length, take, drop, slice_get, Some, option_copied, IfOk, OnErr, OnSome, IfNone};
+ghost use Rattle.std.specs.Prelude.{◌≡◌, ◌-◌, ◌*◌, ◌<◌, ◌≤◌, [], ◌∷◌, ◌++◌, length, take, drop, slice_get, Some, option_copied, IfOk, OnErr, OnSome, IfNone};
 ghost use Rattle.std.specs.Borrow.{sem};
 ghost use Rattle.std.specs.Mem.{type_size};
 ghost use Rattle.std.specs.Option.{option_copied_mut};

@@ -1,5 +1,5 @@
 //! Iterators that note how often they are asked.
-ghost use Rattle.std.specs.Prelude.{◌≡◌, ◌-◌, ◌+◌, ◌%◌, ◌^◌, Some, None, length, drop, slice_get, unwrap_or, pos};
+ghost use Rattle.std.specs.Prelude.{◌≡◌, ◌+◌, ◌%◌, ◌^◌, Some, None, length, drop, slice_get, unwrap_or, pos};
 ghost use Rattle.std.specs.Int.{int_wrapping_add, w64};
 ghost use Rattle.std.specs.Iterator.{at_most};
 

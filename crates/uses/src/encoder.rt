@@ -2,9 +2,9 @@
 //!
 //! It uses `arraydeque` under `Saturating`, and is proved over the deque's public contract alone:
 //! what it gives to read is the text of the bytes that were written.
-ghost use Rattle.std.specs.Prelude.{◌≡◌, ◌<◌, ◌≤◌, ◌+◌, ◌++◌, ◌∷◌, [], length, take, drop, min, None, Some, Ok, IsTrue, IfOk, IsOk, OnErr};
+ghost use Rattle.std.specs.Prelude.{◌≡◌, ◌<◌, ◌≤◌, ◌+◌, ◌++◌, ◌∷◌, [], length, take, drop, min, None, Some, Ok, IsTrue, IfOk, IsOk};
 ghost use Rattle.std.specs.Io.{ReadsAtMost, WritesAtMost};
-ghost use Rattle.std.specs.Io.KnownBytes.{Keeps, ReadConsumes, WriteAppends};
+ghost use Rattle.std.specs.Io.KnownBytes.{ReadConsumes, WriteAppends};
 ghost use Rattle.uses.specs.Encoder.{four_of, text_of, left_of};
 
 use arraydeque::{ArrayDeque, Saturating};

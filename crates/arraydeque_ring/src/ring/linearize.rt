@@ -1,5 +1,5 @@
 //! Laying the list in one piece, in place.
-ghost use Rattle.std.specs.Prelude.{◌≡◌, ◌+◌, ◌-◌, ◌<◌, ◌≤◌, ◌⊎◌, ◌==◌, length, if◌then◌else◌};
+ghost use Rattle.std.specs.Prelude.{◌≡◌, ◌-◌, ◌<◌, ◌≤◌, ◌⊎◌, ◌==◌, length, if◌then◌else◌};
 ghost use Rattle.arraydeque_ring.specs.Ring.{IsInOnePiece, rotated, filled, FilledFrom};
 ghost use Rattle.arraydeque_ring.specs.Runs.{run_rotated};
 ghost use Rattle.arraydeque_ring.specs.Steps.{more_moves, Rearranges};
