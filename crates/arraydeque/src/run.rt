@@ -14,7 +14,7 @@ use crate::iter;
 use std::mem;
 
 /// A call of a deque, as a value.
-#[derive(Drop)]
+#[derive(Debug, Drop)]
 pub enum Call<T> {
     /// Adds an element at the front.
     PushFront(T),

@@ -11,7 +11,7 @@ ghost use Rattle.arraydeque_ring.specs.Moved.{is_block};
 ghost use Rattle.arraydeque_ring.specs.Steps.{Steps, more_puts, more_takes, more_moves, more_exchanges};
 
 mod copies;
-pub mod loan;
+pub(crate) mod loan;
 mod moves;
 mod raw;
 
@@ -20,8 +20,9 @@ use std::alloc::{AllocError, Global};
 use std::marker::{Model, Send, Sync};
 use std::mem::replace;
 
-/// The most bytes of a block. The C library copies fastest from 8 kB on (by `rep movsb` in glibc
-/// 2.36: to a lower address in about half the time).
+/// The most bytes of a block: four times the 8 kB from which on the C library copies fastest (by
+/// `rep movsb` in glibc 2.36: to a lower address in about half the time). Each size of block is at
+/// most four times the next, so the largest that fits has 8 kB or more, if items have 8 bytes.
 const BLOCK_BYTES: usize = 32_768;
 
 /// A kind of step that is counted.
