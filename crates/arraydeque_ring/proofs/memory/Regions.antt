@@ -2,13 +2,13 @@
 -- a `&mut` to one is opened and closed. Assumes `Logic`.
 use Rattle.arraydeque_ring.{
   proofs.memory.{
-    Kit.{◌≡◌, sym, length-replicate, None, refl, ap, subst, ◌∙◌, List, [], ◌∷◌, ◌++◌, ℕ, ◌+◌, ◌*◌},
+    Kit.{◌≡◌, sym, length-replicate, refl, ap, ◌∙◌, List, [], ◌∷◌, ◌++◌, ℕ, ◌+◌, ◌*◌},
     Kit.{◌<◌, ◌≤◌, ◌^◌, arith, length, Ura, full_share, Gv, ent, sep, emp, id⊢, never, Lft, Share},
     Kit.{GName, Fml, fsep, flft, fobs, fauth, fbor, fobor, ftrue, w64, Val, vunit, vint, vptr},
     Kit.{vstruct, vcons, vnil, of_list, Logic, sem, Borrowed, Goal, Soaks, Step, step, Seq, Item},
     Kit.{‵, ◌$◌, ◌∵◌, !, qed, move, drop, rewrite, use0, fsplit, fjoin, fpick, fpack, feq_l, feq_i},
     Kit.{flt_l, flt_i, RattleType, Valss, Is, shows, layout, cell_at, mem, Ptr, block_ptr, ptr_val},
-    Kit.{in_a_block, nothing, opens, closes, peeks, Good, heap_val, heap_Tells, times_below, done},
+    Kit.{in_a_block, nothing, opens, closes, peeks, Good, heap_val, heap_Tells, done},
     Kit.{El, R, el_x, part_of, makes_shadow, Global},
   },
   specs.{Places.Region, Ownership.slots_owned, declared.slots.Slots.TheInside.Inside},
@@ -73,25 +73,16 @@ module _ (E : El) where
     pub reach : length r.places * item_size E + o < 2 ^ 63
 
   pub Fits-empty : (o n : ℕ) → n < 2 ^ 64 → n * item_size E + o < 2 ^ 63 → Fits (empty_region n) o n
-  Fits-empty o n word reach = let long = sym (length-replicate n None) in record {
-    capacity = long;
-    word = word;
-    reach = subst (λ k. k * item_size E + o < 2 ^ 63) long reach;
-  }
+  Fits-empty o n word reach = grind (arith, length-replicate)
 
   module _ {r : Seen} {o n : ℕ} (ok : Fits r o n) where
     -- they say it of any region of as many places
     Fits-as : (r' : Seen) → length r.places ≡ length r'.places → Fits r' o n
-    Fits-as r' same = record {
-      capacity = ok.capacity ∙ same;
-      word = ok.word;
-      reach = subst (λ k. k * item_size E + o < 2 ^ 63) same ok.reach;
-    }
+    Fits-as r' same = grind arith
 
     -- the bytes before a place fit a word, and those of a run are in reach
     pub run_fits : (k : ℕ) → k ≤ length r.places → (k < 2 ^ 64) × (k * item_size E < 2 ^ 63)
-    run_fits k le = let same = ok.capacity in let word = ok.word in let reach = ok.reach in
-        (omega arith, times_below k (length r.places) (item_size E) (2 ^ 63) le (omega arith))
+    run_fits k le = grind arith
 
     pub near : (k : ℕ) → k ≤ length r.places → k * item_size E < 2 ^ 64
     near k le = let below = (run_fits k le).1 in omega arith

@@ -23,7 +23,7 @@ pub record Holds {X : Type 0} (n t : ℕ) (f : ℕ → Option X) (ps : List (Opt
 -- the same is read in the list ts that begins there
 pub Holds-of_rotated : {X : Type 0} {n t : ℕ} {f : ℕ → Option X} {ps ts : List (Option X)} → rotated t ps ≡ ts
     → length ts ≡ n → t ≤ n - 1 → ((k : ℕ) → k < n → held_at ts k ≡ f k) → Holds n t f ps
-Holds-of_rotated {n = n} {t = t} {ps = ps} is long within each = grind (arith, length-rotated, get_or-rotated)
+Holds-of_rotated is long within each = grind (arith, length-rotated, get_or-rotated)
 
 module _ {X : Type 0} {n t : ℕ} {f : ℕ → Option X} {ps : List (Option X)} (h : Holds n t f ps) where
   pub Holds-rotated : (k : ℕ) → k < n → get_or (rotated t ps) k None ≡ f k

@@ -1,4 +1,4 @@
-use Rattle.std.proofs.Common.{◌≡◌, refl, arith}
+use Rattle.std.proofs.Common.{◌≡◌, arith}
 use Rattle.arraydeque_ring.{
   proofs.{
     loans.Placed.{length-as_many, as_many-same},
@@ -18,15 +18,5 @@ lent g c = grind (arith, slice_facts)
 
 pub returns : goal.returns
 returns g c =
-    let now = lent g (goal.at.returns g c).After-slice_mut in (
-      (
-        refl,
-        λ w. let written = piece_written c.self.inside c.self.invariant (as_many c.slice_mut.result.now w) in
-            grind (arith, bounds, length-as_many, written),
-      ),
-      record {
-        writes_back = tt;
-        value = now;
-        same_len = as_many-same c.args.self.now.items;
-      },
-    )
+    let now = lent g (goal.at.returns g c).After-slice_mut in
+    grind (arith, piece_written, bounds, length-as_many, as_many-same)

@@ -1,8 +1,5 @@
-use Rattle.std.proofs.Common.{◌-◌, arith}
-use Rattle.arraydeque_ring.proofs.{
-  Opened.{bounds, piece_filled, rest_filled},
-  places.Filled.length_filled,
-}
+use Rattle.std.proofs.{Common.{◌-◌, arith}, lemmas.Grind.common_steps}
+use Rattle.arraydeque_ring.proofs.Opened.{bounds, piece_filled, rest_filled}
 use Rattle.arraydeque_ring.proofs.ring.Ring.as_slices.Goals as goal
 
 pub slice-requires-else-self-to_end : goal.slice-requires-else-self-to_end
@@ -14,9 +11,4 @@ slice-requires-else-self-to_end-2 g c = grind
     (arith, bounds, rest_filled c.self.inside c.self.invariant (c.capacity.result - c.self.inside.start))
 
 pub returns-else-self-to_end-clause-cut : goal.returns-else-self-to_end-clause-cut
-returns-else-self-to_end-clause-cut g c =
-    let ring = bounds _ _ c.self.invariant c.self.view_is in
-    let first = c.slice-else-self-to_end in
-    let long = length_filled c.self.inside.slots.places c.self.inside.start
-    (c.capacity.result - c.self.inside.start) (omega arith, (first.result.now, first.ensures)) in
-    omega arith
+returns-else-self-to_end-clause-cut g c = grind (arith, common_steps, bounds)

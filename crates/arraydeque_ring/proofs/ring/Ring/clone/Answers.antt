@@ -1,4 +1,4 @@
-use Rattle.std.proofs.{Common.{rules, Any}, lemmas.List.Elements.Contains-append_right}
+use Rattle.std.proofs.{Common.rules, lemmas.List.Elements.Contains-append_right}
 use Rattle.arraydeque_ring.proofs.ring.Ring.clone.Goals as goal
 
 pub clone_back-requires-2-clause-same : goal.clone_back-requires-2-clause-same
@@ -10,6 +10,4 @@ returns-in_err-clone_back-2-clause-refused g c =
     let was = c.in_err-clone_back-2.ensures.refused in
     let here = rw c.as_slices.ensures.joined at
     (Contains-append_right c.as_slices.result.0.now _ was.1 (was.0, was.2, was.3)) in
-    let refused : Any (λ x. ¬ g.T.Clone.is_infallible x) c.args.self.now.items =
-    (here.0, was.1, here.1, here.2, was.4) in
     search rules

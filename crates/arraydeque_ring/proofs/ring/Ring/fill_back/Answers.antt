@@ -5,14 +5,13 @@ use Rattle.std.proofs.{
 use Rattle.arraydeque_ring.proofs.{
   fills.{InRows.filled_back-both, Laying.{begun, more, filled, empty_behind, laid_back}},
   Opened.opened,
-  places.Rotated.{MayStartAt-place_of},
+  places.Rotated.MayStartAt-place_of,
   ring.Ring.fill_back.Goals.{then-loop-ended-test+else-self-capacity, else-loop-ended-test},
 }
 use Rattle.arraydeque_ring.proofs.ring.Ring.fill_back.Goals as goal
 
 pub loop-ended-init : goal.loop-ended-init
-loop-ended-init g c = begun (opened _ c.self.invariant c.self.view_is) c.capacity-capacity.ensures
-    c.move_out-slots.ensures c.requires (grind (arith, append-nil))
+loop-ended-init g c = grind (arith, begun, opened, append-nil)
 
 pub fill_up-written-requires-clause-empty : goal.fill_up-written-requires-clause-empty
 fill_up-written-requires-clause-empty g c = let was = c.loop-ended.invariant in

@@ -6,8 +6,7 @@ use Rattle.arraydeque_ring.proofs.{
 use Rattle.arraydeque_ring.proofs.ring.Ring.first_slice_mut.Goals as goal
 
 pub slice_mut-requires : goal.slice_mut-requires
-slice_mut-requires g c = let ring = opened c.self.inside c.self.invariant c.self.view_is in
-    front_filled ring c.min-len.result (omega arith)
+slice_mut-requires g c = let ring = opened c.self.inside c.self.invariant c.self.view_is in grind (arith, front_filled)
 
 pub invariant_of-self-lent : goal.invariant_of-self-lent
 invariant_of-self-lent g c w = let ring = opened c.self.inside c.self.invariant c.self.view_is in

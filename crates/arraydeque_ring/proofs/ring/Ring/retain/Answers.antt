@@ -1,4 +1,4 @@
-use Rattle.std.{proofs.{Common.arith, lemmas.Fn.called_at}}
+use Rattle.std.proofs.{Common.arith, lemmas.Fn.called_at}
 use Rattle.arraydeque_ring.proofs.{
   Opened.opened,
   retained.Retaining.{all_kept, first_goes, next_filled, next_asked, counted, one_stays, one_goes},

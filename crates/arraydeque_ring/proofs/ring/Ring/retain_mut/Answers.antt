@@ -1,4 +1,4 @@
-use Rattle.std.{proofs.{Common.{arith, sym, ◌∙◌}, lemmas.List.take_all, RetainMut.Called-Mut}}
+use Rattle.std.proofs.{Common.{arith, sym, ◌∙◌}, lemmas.List.take_all, RetainMut.Called-Mut}
 use Rattle.arraydeque_ring.proofs.{
   Opened.opened,
   retained.Writing.{none_asked, next_held, next_filled, written_filled, gap_empty, moves_up},

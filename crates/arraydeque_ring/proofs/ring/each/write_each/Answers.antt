@@ -3,8 +3,7 @@ use Rattle.arraydeque_ring.proofs.Written.{written_next, written_on, written_all
 use Rattle.arraydeque_ring.proofs.ring.each.write_each.Goals as goal
 
 pub f-requires : goal.f-requires
-f-requires g c = let next = written_next c.loop-item.invariant c.item-item.result (omega arith) in
-    c.requires.asks _ _ _ next.0 next.1
+f-requires g c = let next = written_next c.loop-item.invariant c.item-item.result (omega arith) in grind arith
 
 pub loop-item-preserved : goal.loop-item-preserved
 loop-item-preserved g c =

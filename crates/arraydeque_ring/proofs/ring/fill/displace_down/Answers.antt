@@ -1,4 +1,4 @@
-use Rattle.std.proofs.{Common.{◌-◌, ◌∙◌, arith}, lemmas.{Grind.common_steps, List.set-set}}
+use Rattle.std.proofs.{Common.{◌-◌, arith}, lemmas.{Grind.common_steps, List.set-set}}
 use Rattle.arraydeque_ring.proofs.{fills.Filling.one_down, places.Filled.filled_in_run}
 use Rattle.arraydeque_ring.proofs.ring.fill.displace_down.Goals as goal
 
@@ -8,13 +8,4 @@ take-last-requires g c =
     (some.0, rw c.loop-displaced.invariant.came.holds.1 (grind (arith, common_steps)))
 
 pub loop-displaced-preserved : goal.loop-displaced-preserved
-loop-displaced-preserved g c =
-    let was = c.loop-displaced.invariant in let asked = c.in-Some.ensures in let goes = asked.goes.on was.ends in
-    record {
-      came = one_down _ _ _ asked.gives was.came (omega arith) (omega arith)
-          (c.put.ensures.places ∙ rw c.take-last.ensures.places (set-set _ _ _ _));
-      steps = grind arith;
-      may = goes.0;
-      ends = goes.1;
-      nearer = omega arith;
-    }
+loop-displaced-preserved g c = grind (arith, one_down, set-set)

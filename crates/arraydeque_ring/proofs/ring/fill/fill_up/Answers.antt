@@ -1,4 +1,4 @@
-use Rattle.std.proofs.{Common.{refl, arith}, lemmas.Grind.common_steps}
+use Rattle.std.proofs.{Common.arith, lemmas.Grind.common_steps}
 use Rattle.arraydeque_ring.proofs.{fills.Filling.one_up, places.Filled.empty_in_run}
 use Rattle.arraydeque_ring.proofs.ring.fill.fill_up.Goals as goal
 
@@ -7,9 +7,4 @@ put-requires g c = rw c.loop-filled.invariant.came.holds.1
     (grind (arith, common_steps, empty_in_run _ _ _ c.loop-filled.filled c.requires.empty))
 
 pub loop-filled-preserved : goal.loop-filled-preserved
-loop-filled-preserved g c =
-    let was = c.loop-filled.invariant in let asked = c.in-Some.ensures in record {
-      came = one_up _ _ _ asked.gives was.came (omega arith) c.put.ensures.places;
-      steps = grind arith;
-      goes = λ _. (asked.goes.keeps, λ f. (asked.goes.on ((was.goes refl).1 f)).1);
-    }
+loop-filled-preserved g c = grind (arith, one_up)

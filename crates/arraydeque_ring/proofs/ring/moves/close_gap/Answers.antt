@@ -3,9 +3,4 @@ use Rattle.arraydeque_ring.proofs.gaps.GapMoves.{closed_up}
 use Rattle.arraydeque_ring.proofs.ring.moves.close_gap.Goals as goal
 
 pub returns-then-before-behind : goal.returns-then-before-behind
-returns-then-before-behind g c = record {
-  start = grind arith;
-  places = rw (c.wrap_add.ensures, c.capacity-capacity.ensures)
-      (closed_up _ _ _ _ _ _ c.requires c.move_gap.ensures.places);
-  steps = grind arith;
-}
+returns-then-before-behind g c = grind (arith, closed_up)

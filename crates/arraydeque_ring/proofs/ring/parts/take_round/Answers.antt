@@ -1,5 +1,4 @@
-use Rattle.std.proofs.lemmas.Grind.{common_steps}
-use Rattle.std.proofs.Common.{◌++◌, drop, ap, ◌∙◌, arith}
+use Rattle.std.proofs.{Common.{◌++◌, drop, ap, ◌∙◌, arith}, lemmas.Grind.common_steps}
 use Rattle.arraydeque_ring.proofs.{
   places.Handed.{Handed, handed, first_empty, second_empty, both_put},
   ring.parts.take_round.{Given.Over, Goals.After-min-first},

@@ -1,4 +1,4 @@
-use Rattle.std.proofs.Common.{sym, arith}
+use Rattle.std.proofs.Common.{arith}
 use Rattle.arraydeque_ring.proofs.moved.Reads.{
   next_empty,
   next_second,
@@ -8,10 +8,7 @@ use Rattle.arraydeque_ring.proofs.moved.Reads.{
 use Rattle.arraydeque_ring.proofs.slots.Slots.move_down.Goals as goal
 
 pub loop-k-init : goal.loop-k-init
-loop-k-init g c = record {
-  places = sym (runs_exchanged_none c.args.dst c.args.src c.args.self.places (omega arith) (omega arith));
-  steps = grind arith;
-}
+loop-k-init g c = grind (arith, runs_exchanged_none)
 
 pub shift-requires-clause-filled : goal.shift-requires-clause-filled
 shift-requires-clause-filled g c = rw c.loop-k.invariant.places
@@ -22,7 +19,4 @@ shift-requires-clause-empty g c = rw c.loop-k.invariant.places
     (next_empty _ _ c.loop-k.k _ _ (omega arith) c.requires.apart c.requires.filled c.requires.empty)
 
 pub loop-k-preserved : goal.loop-k-preserved
-loop-k-preserved g c = rw (c.shift.ensures.places, c.shift.ensures.steps, c.loop-k.invariant.places) (record {
-  places = runs_moved_more _ _ c.loop-k.k _ _ (omega arith) c.requires.apart c.requires.filled c.requires.empty;
-  steps = grind arith;
-})
+loop-k-preserved g c = grind (arith, runs_moved_more)

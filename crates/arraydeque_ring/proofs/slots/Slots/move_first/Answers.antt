@@ -29,6 +29,4 @@ pub returns-else-is_block-clause-all : goal.returns-else-is_block-clause-all
 returns-else-is_block-clause-all g c = λ one. absurd (grind (arith, rw one at c.is_block.ensures, c.if-is_block.false))
 
 pub returns-after-loop-moved-clause-all : goal.returns-after-loop-moved-clause-all
-returns-after-loop-moved-clause-all g c = λ one. all_moved (c.args.dst + c.loop-moved.moved)
-    (c.args.src + c.loop-moved.moved) (c.args.len - c.loop-moved.moved) c.loop-moved.self
-    (omega arith) c.loop-moved.invariant.moved (grind (arith, c.loop-moved.invariant.steps))
+returns-after-loop-moved-clause-all g c = grind (arith, all_moved)

@@ -1,7 +1,7 @@
 use Rattle.std.proofs.Common.{◌+◌, ◌-◌, ◌∙◌, arith}
-use Rattle.arraydeque_ring.proofs.{
-  moved.{Flat.{all_moved, length-moved}, TwoMoves.{can_move, last_block_goes, round_run}},
-  slots.Slots.move_last.Goals.{then-is_block+else-loop-moved-test, else-is_block},
+use Rattle.arraydeque_ring.proofs.moved.{
+  Flat.{all_moved, length-moved},
+  TwoMoves.{can_move, last_block_goes, round_run},
 }
 use Rattle.arraydeque_ring.proofs.slots.Slots.move_last.Goals as goal
 
@@ -23,9 +23,4 @@ loop-moved-preserved g c =
     })
 
 pub returns-clause-all : goal.returns-clause-all
-returns-clause-all g c = λ one. elim c.if-is_block.branch [
-  | then-is_block+else-loop-moved-test w ↦ w.self-is
-      ∙ all_moved c.args.dst c.args.src (c.args.len - w.loop-moved.moved) w.loop-moved.self
-      (omega arith) w.loop-moved.invariant.moved (grind (arith, w.loop-moved.invariant.steps))
-  | else-is_block w ↦ absurd (grind (arith, rw one at c.is_block.ensures, w.if-is_block.false))
-]
+returns-clause-all g c = grind (arith, all_moved)

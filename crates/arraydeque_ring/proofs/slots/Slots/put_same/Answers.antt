@@ -1,5 +1,5 @@
 use Rattle.std.proofs.{
-  Common.{replicate, arith},
+  Common.arith,
   lemmas.{Grind.common_steps, List.{length-replicate, replicate_more}},
 }
 use Rattle.arraydeque_ring.proofs.{fills.Filling.with_run-behind, places.Filled.empty_in_run}
@@ -10,11 +10,4 @@ put-requires g c = rw c.loop-k.invariant.places
     (grind (arith, common_steps, empty_in_run _ _ _ c.loop-k.k c.requires))
 
 pub loop-k-preserved : goal.loop-k-preserved
-loop-k-preserved g c =
-    let xs = replicate c.loop-k.k c.args.value in
-    let many = length-replicate c.loop-k.k c.args.value in record {
-      places = rw (c.put.ensures.places, c.loop-k.invariant.places, ← replicate_more c.loop-k.k c.args.value)
-          (with_run-behind c.args.from xs c.args.self.places (omega (arith, many)) c.args.value _ (omega (arith, many))
-          (omega arith));
-      steps = grind arith;
-    }
+loop-k-preserved g c = grind (arith, length-replicate, replicate_more, with_run-behind)
