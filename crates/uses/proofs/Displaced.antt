@@ -1,8 +1,8 @@
 -- A window's samples in order, once a sample came and one that it displaced went.
 use Rattle.std.{
   proofs.{
-    Common.{◌≡◌, ℕ, suc, ◌+◌, ◌-◌, ◌<◌, ◌≤◌, List, [], ◌∷◌, ◌++◌, length, take, get_or},
-    Common.{Option, None, Some, option_to_list, IfSome, Contains, refl, zero, ap, ◌∙◌, cond, arith},
+    Common.{◌≡◌, ℕ, ◌<◌, List, [], ◌∷◌, ◌++◌, length, drop, Option, None, Some, option_to_list, IfSome},
+    Common.{Contains, refl, ap, cond, arith},
     lemmas.List.{
       length-append,
       Sorted.{length_permutation, Contains-permutation},
@@ -13,20 +13,12 @@ use Rattle.std.{
 }
 use Rattle.uses.proofs.Counted.{SameCounts-permutation, permutation_from_counts}
 
-there_by : (xs ys : List ℕ) (x k : ℕ) (o : Option ℕ) → IsPermutation xs ys → k ≤ length xs
-    → option_to_list o ≡ take k (xs ++ x ∷ []) → IfSome o (Contains ys)
-there_by xs ys x k None was within is = tt
-there_by [] ys x k (Some y) was within is =
-    let none : k ≡ 0 = omega (arith, within) in
-    absurd (omega (arith, ap length (is ∙ ap (λ m. take m (x ∷ [])) none)))
-there_by (z ∷ zs) ys x zero (Some y) was within is = absurd (omega (arith, ap length is))
-there_by (z ∷ zs) ys x (suc k) (Some y) was within is =
-    rw (ap (λ l. get_or l 0 0) is) (Contains-permutation (z ∷ zs) ys z was (0, omega arith, refl))
-
 -- what a push displaces is there
-pub displaced_there : (n : ℕ) (recent ordered : List ℕ) (x : ℕ) (o : Option ℕ) → 0 < n → IsPermutation recent ordered
-    → option_to_list o ≡ take (length recent + 1 - n) (recent ++ x ∷ []) → IfSome o (Contains ordered)
-displaced_there n recent ordered x o some was = there_by recent ordered x (length recent + 1 - n) o was (omega arith)
+pub displaced_there : (n : ℕ) (recent ordered : List ℕ) (o : Option ℕ) → 0 < n → IsPermutation recent ordered
+    → IfSome o (λ gone. 0 < n → recent ≡ gone ∷ drop 1 recent) → IfSome o (Contains ordered)
+displaced_there n recent ordered None some was first = tt
+displaced_there n recent ordered (Some gone) some was first =
+    Contains-permutation recent ordered gone was (rw (first some) (0, omega arith, refl))
 
 module _ (recent left ordered : List ℕ) (x : ℕ) (o : Option ℕ)
     (window : option_to_list o ++ left ≡ recent ++ x ∷ []) (was : IsPermutation recent ordered) where

@@ -1,5 +1,5 @@
 //! Pushes, which differ by the policy.
-ghost use Rattle.std.specs.Prelude.{◌≡◌, ◌<◌, ◌≤◌, ◌+◌, ◌-◌, ◌++◌, ◌∷◌, [], length, take, slice_get, option_to_list, IfErr, OnOk, OnErr, IsOk, ◌↔◌};
+ghost use Rattle.std.specs.Prelude.{◌≡◌, ◌<◌, ◌≤◌, ◌+◌, ◌-◌, ◌++◌, ◌∷◌, [], length, take, drop, slice_get, option_to_list, IfErr, IfSome, OnOk, OnErr, IsNone, IsOk, ◌↔◌};
 ghost use Rattle.arraydeque_ring.specs.Ring.{place_of, up_by};
 ghost use Rattle.arraydeque_ring.specs.Steps.{more_puts, more_takes};
 ghost use Rattle.arraydeque.specs.Deque.{keep_last};
@@ -94,6 +94,9 @@ impl<T, const CAP: usize> ArrayDeque<T, CAP, Wrapping> {
     #[inline]
     pub fn push_front(&mut self, element: T) -> Option<T>
         // The element is the first item, and of a full deque the last one is displaced.
+        ensures room { IsNone result ↔ (length self.old.items < CAP) }
+        ensures displaced { IfSome result (λ gone. 0 < CAP →
+            self.old.items ≡ take (CAP - 1) self.old.items ++ gone ∷ []) }
         ensures value { result ≡ slice_get (element ∷ self.old.items) CAP }
         ensures items { self.new.items ≡ take CAP (element ∷ self.old.items) }
         ensures start { 0 < CAP → self.new.start ≡ place_of self.old.start (CAP - 1) CAP }
@@ -135,6 +138,9 @@ impl<T, const CAP: usize> ArrayDeque<T, CAP, Wrapping> {
     #[inline]
     pub fn push_back(&mut self, element: T) -> Option<T>
         // The element is the last item, and of a full deque the first one is displaced.
+        ensures room { IsNone result ↔ (length self.old.items < CAP) }
+        ensures displaced { IfSome result (λ gone. 0 < CAP →
+            self.old.items ≡ gone ∷ drop 1 self.old.items) }
         ensures value { let displaced = length self.old.items + 1 - CAP in
             option_to_list result ≡ take displaced (self.old.items ++ element ∷ []) }
         ensures items { self.new.items ≡ keep_last CAP (self.old.items ++ element ∷ []) }

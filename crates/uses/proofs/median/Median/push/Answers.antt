@@ -19,8 +19,8 @@ invariant_of-self g c =
 pub take_out_given-requires : goal.take_out_given-requires
 take_out_given-requires g c =
     let was = c.self.invariant in
-    let there = displaced_there g.row.CAP c.self.inside.recent.items c.self.inside.ordered.items c.args.sample
-    c.push_back-oldest.result was.some was.order.same c.push_back-oldest.ensures.value in
+    let there = displaced_there g.row.CAP c.self.inside.recent.items c.self.inside.ordered.items
+    c.push_back-oldest.result was.some was.order.same c.push_back-oldest.ensures.displaced in
     (omega arith, (was.order.rises, there))
 
 pub put_in-requires : goal.put_in-requires
