@@ -6,11 +6,7 @@ use Rattle.std.{
     lemmas.{Bool.cases_lt, List.{get_or_append_left, length-append}},
     Math.Seq.get_or-append_seam,
   },
-  specs.{
-    declared.result.Result.{Result, TheVariants.{Ok, Err}},
-    List.AllAdjacentBelow,
-    Prelude.OnErr,
-  },
+  specs.List.AllAdjacentBelow,
 }
 use Rattle.uses.specs.{
   declared.tokens.{Kind.{Kind, TheVariants.Sign}, Token.Token},
@@ -20,10 +16,6 @@ use Rattle.uses.specs.{
 pub some_weaker : {X : Type 0} {P Q : X → Type 0} (o : Option X) → IfSome o P → ((x : X) → P x → Q x) → IfSome o Q
 some_weaker None holds weaker = tt
 some_weaker (Some x) holds weaker = weaker x holds
-
-pub on_err : {A E P : Type 0} (r : Result A E) → P → OnErr r P
-on_err (Ok a) holds = tt
-on_err (Err e) holds = holds
 
 pub adjacent_push : {X : Type 0} (R : X → X → Type 0) (xs : List X) (x : X) → AllAdjacentBelow R xs (length xs)
     → ((d : X) → 0 < length xs → R (get_or xs (length xs - 1) d) x)

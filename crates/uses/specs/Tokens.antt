@@ -2,9 +2,8 @@
 use Rattle.std.specs.{
   Char.{is_ascii_alphabetic, is_ascii_digit},
   List.{flat_map, AllAdjacentBelow},
-  Prelude.{◌≡◌, ◌<◌, ℕ, List, length, slice_get, All, Option, IfSome, if◌then◌else◌},
+  Prelude.{◌≡◌, ◌<◌, ℕ, List, length, slice_get, All, IfSome, if◌then◌else◌},
 }
-use Rattle.arraydeque.specs.Lookahead.{ScannerState, TakesOff}
 use Rattle.uses.specs.declared.tokens.{
   Kind.{Kind, TheVariants.{Letters, Digits, Sign}},
   Token.Token,
@@ -38,11 +37,3 @@ IsOver kind rest = IfSome (slice_get rest 0) (λ byte. kind_of byte ≡ kind →
 abbrev pub AreLongest : List Token → Type 0
 AreLongest tokens = AllAdjacentBelow
     (λ token next. token.kind ≡ next.kind → token.kind ≡ Sign) tokens (length tokens)
-
--- bytes of one kind, which were to be a token, are gone
-pub record LosesPart {S : Type 0} (gives : S → Option ℕ → S → Type 0) (old new : ScannerState S ℕ)
-    : Type 0 where
-  pub kind : Kind
-  pub bytes : List ℕ
-  pub one_kind : All (λ byte. kind_of byte ≡ kind) bytes
-  pub gone : TakesOff gives old bytes new

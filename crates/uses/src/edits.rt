@@ -3,15 +3,15 @@
 //! It uses `arraydeque::lookahead::Scanner`, and is proved over the scanner's public contract
 //! alone: the runs, written out, are the edits, so none is lost, and no two side by side could be
 //! one.
-ghost use Rattle.std.specs.Prelude.{◌≡◌, ◌≢◌, ◌<◌, ◌≤◌, [], length, take, drop, slice_get, replicate, List, All, IfOk, OnErr, IfSome, IfNone, ⊤};
+ghost use Rattle.std.specs.Prelude.{◌≡◌, ◌≢◌, ◌<◌, ◌≤◌, [], length, take, drop, slice_get, replicate, All, IfOk, IfErr, IfSome, IfNone, ⊤};
 ghost use Rattle.std.specs.Iterator.{IsFinite, MakesProgress};
 ghost use Rattle.std.specs.Option.{option_to_list};
 ghost use Rattle.arraydeque.specs.Lookahead.{HasRest, TakesOff, NextIs};
 ghost use Rattle.uses.specs.Edits.{written_out, AreMerged};
 
-use arraydeque::Iter;
 use arraydeque::lookahead::Scanner;
-use std::alloc::{AllocError, Global};
+use arraydeque::{Iter, MakeError};
+use std::alloc::Global;
 
 /// What becomes of the next line of a text.
 #[derive(Clone, Copy, Debug, PartialEq, Eq)]
@@ -34,27 +34,31 @@ pub struct Run {
 }
 
 /// Merges all edits that a scanner has left into runs, none longer than it can look ahead. If
-/// memory is refused, the edits taken so far are gone, and the scanner has the others.
+/// memory is refused, the edits taken so far come back in the error, as runs, and the scanner has
+/// the others.
 ///
 /// It requires a scanner that can look at least one edit ahead.
 pub fn merge<I: Iterator<Item = Edit>, const AHEAD: usize>(
     alloc: Global,
     edits: &mut Scanner<I, AHEAD>,
-) -> Result<Vec<Run>, AllocError>
+) -> Result<Vec<Run>, MakeError<Vec<Run>>>
     requires ahead { 0 < AHEAD }
     requires ends { IsFinite edits.old.left }
     ensures none_lost { IfOk result (λ runs.
         HasRest I.next_gives edits.old (written_out runs.items)) }
     ensures within { IfOk result (λ runs. All (λ run. run.count ≤ AHEAD) runs.items) }
     ensures merged { IfOk result (λ runs. AreMerged AHEAD runs.items) }
-    ensures refused { OnErr result ((gone : List Edit)
-        × TakesOff I.next_gives edits.old gone edits.new) }
+    ensures refused { IfErr result (λ refusal.
+        TakesOff I.next_gives edits.old (written_out refusal.source.items) edits.new) }
 {
     let mut runs = Vec::new(alloc);
-    while let Some(run) = next_run(edits) {
-        runs.push(run)?;
+    while runs.reserve(1).is_ok() {
+        let Some(run) = next_run(edits) else {
+            return Ok(runs);
+        };
+        runs.push_reserved(run);
     }
-    Ok(runs)
+    Err(MakeError { source: runs })
 }
 
 /// Takes the edits of one kind that come next, or returns `None` at the end.

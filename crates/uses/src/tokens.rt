@@ -2,12 +2,13 @@
 //!
 //! It uses `arraydeque::lookahead::Scanner`, and is proved over the scanner's public contract
 //! alone: the tokens of an input, joined, are the input, and no two side by side could be one.
-ghost use Rattle.std.specs.Prelude.{◌≡◌, ◌<◌, ℕ, List, [], IfOk, OnErr, IfSome, IfNone, All, ⊤};
+ghost use Rattle.std.specs.Prelude.{◌≡◌, ◌<◌, ℕ, List, [], IfOk, IfErr, IfSome, IfNone, All, ⊤};
 ghost use Rattle.std.specs.Iterator.{IsFinite, MakesProgress};
 ghost use Rattle.std.specs.Option.{option_to_list};
 ghost use Rattle.arraydeque.specs.Lookahead.{HasRest, TakesOff};
-ghost use Rattle.uses.specs.Tokens.{kind_of, joined, IsOfOneKind, IsOneByteIfSign, IsOver, AreLongest, LosesPart};
+ghost use Rattle.uses.specs.Tokens.{kind_of, joined, IsOfOneKind, IsOneByteIfSign, IsOver, AreLongest};
 
+use arraydeque::MakeError;
 use arraydeque::lookahead::Scanner;
 use std::alloc::{AllocError, Global};
 
@@ -32,13 +33,14 @@ pub struct Token {
 }
 
 /// Cuts all that a scanner has left into tokens: runs of letters, runs of digits, and single signs.
-/// If memory is refused, the bytes read so far are gone, and the scanner has the others.
+/// If memory is refused, the bytes taken so far come back in the error, as tokens, of which the
+/// last may be cut short, and the scanner has the others.
 ///
 /// It requires a scanner that can look at least one byte ahead.
 pub fn tokenize<I: Iterator<Item = u8>, const AHEAD: usize>(
     alloc: Global,
     scanner: &mut Scanner<I, AHEAD>,
-) -> Result<Vec<Token>, AllocError>
+) -> Result<Vec<Token>, MakeError<Vec<Token>>>
     requires ahead { 0 < AHEAD }
     requires ends { IsFinite scanner.old.left }
 
@@ -48,14 +50,26 @@ pub fn tokenize<I: Iterator<Item = u8>, const AHEAD: usize>(
     ensures one_kind { IfOk result (λ tokens. All IsOfOneKind tokens.items) }
     ensures signs { IfOk result (λ tokens. All IsOneByteIfSign tokens.items) }
     ensures longest { IfOk result (λ tokens. AreLongest tokens.items) }
-    ensures refused { OnErr result ((gone : List ℕ)
-        × TakesOff I.next_gives scanner.old gone scanner.new) }
+
+    // What a refusal hands back.
+    ensures refused { IfErr result (λ refusal.
+        TakesOff I.next_gives scanner.old (joined refusal.source.items) scanner.new) }
+    ensures cut { IfErr result (λ refusal. All IsOfOneKind refusal.source.items) }
 {
     let mut tokens = Vec::new(alloc);
-    while let Some(token) = next_token(alloc, scanner)? {
-        tokens.push(token)?;
+    while tokens.reserve(1).is_ok() {
+        match next_token(alloc, scanner) {
+            Ok(Some(token)) => tokens.push_reserved(token),
+            Ok(None) => return Ok(tokens),
+            Err(refusal) => {
+                if let Some(token) = refusal.source {
+                    tokens.push_reserved(token);
+                }
+                return Err(MakeError { source: tokens });
+            }
+        }
     }
-    Ok(tokens)
+    Err(MakeError { source: tokens })
 }
 
 /// Cuts a text into tokens, with a scanner that looks one byte ahead.
@@ -66,15 +80,15 @@ pub fn tokenize_text(alloc: Global, text: &[u8]) -> Result<Vec<Token>, AllocErro
     ensures longest { IfOk result (λ tokens. AreLongest tokens.items) }
 {
     let mut scanner = Scanner::<_, 1>::new(alloc, text.iter().copied())?;
-    tokenize(alloc, &mut scanner)
+    Ok(tokenize(alloc, &mut scanner)?)
 }
 
-/// Takes the next token, or returns `None` at the end. If memory is refused, bytes of one kind are
-/// gone.
+/// Takes the next token, or returns `None` at the end. If memory is refused, the bytes taken come
+/// back in the error, as a token that is cut short.
 fn next_token<I: Iterator<Item = u8>, const AHEAD: usize>(
     alloc: Global,
     scanner: &mut Scanner<I, AHEAD>,
-) -> Result<Option<Token>, AllocError>
+) -> Result<Option<Token>, MakeError<Option<Token>>>
     requires ahead { 0 < AHEAD }
     requires ends { IsFinite scanner.old.left }
 
@@ -86,22 +100,34 @@ fn next_token<I: Iterator<Item = u8>, const AHEAD: usize>(
     ensures signs { IfOk result (λ token. IfSome token IsOneByteIfSign) }
     ensures longest { IfOk result (λ token. IfSome token (λ token. (rest : List ℕ)
         → HasRest I.next_gives scanner.new rest → IsOver token.kind rest)) }
-    ensures refused { OnErr result (LosesPart I.next_gives scanner.old scanner.new) }
+
+    // What a refusal hands back.
+    ensures refused { IfErr result (λ refusal. TakesOff I.next_gives scanner.old
+        (joined (option_to_list refusal.source)) scanner.new) }
+    ensures cut { IfErr result (λ refusal. IfSome refusal.source IsOfOneKind) }
 
     // What callers' proofs want.
     ensures goes { IfOk result (λ token.
         MakesProgress (λ _. ⊤) (λ s. s.left) scanner.old token scanner.new) }
 {
+    let mut text = Vec::new(alloc);
+    if text.reserve(1).is_err() {
+        return Err(MakeError { source: None });
+    }
     let Some(first) = scanner.next() else {
         return Ok(None);
     };
     let kind = kind_of(first);
-    let mut text = Vec::new(alloc);
-    text.push(first)?;
-    while let Some(byte) = scanner.next_if(|byte| kind != Kind::Sign && kind_of(*byte) == kind) {
-        text.push(byte)?;
+    text.push_reserved(first);
+    while text.reserve(1).is_ok() {
+        let Some(byte) = scanner.next_if(|byte| kind != Kind::Sign && kind_of(*byte) == kind) else {
+            return Ok(Some(Token { kind, text }));
+        };
+        text.push_reserved(byte);
     }
-    Ok(Some(Token { kind, text }))
+    Err(MakeError {
+        source: Some(Token { kind, text }),
+    })
 }
 
 /// What kind of token a byte is in.

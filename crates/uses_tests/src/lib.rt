@@ -32,6 +32,8 @@ mod peaks;
 #[cfg(test)]
 mod pipe;
 #[cfg(test)]
+mod refusals;
+#[cfg(test)]
 mod reorder;
 #[cfg(test)]
 mod scanning;

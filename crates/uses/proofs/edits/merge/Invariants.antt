@@ -9,8 +9,8 @@ use Rattle.uses.{
 }
 use Rattle.uses.proofs.edits.merge.Given as goal
 
-abbrev pub invariant-loop-run : goal.invariant-loop-run
-invariant-loop-run g l = record {
+abbrev pub invariant-loop-edits : goal.invariant-loop-edits
+invariant-loop-edits g l = record {
   taken : TakesOff g.I.Iterator.next_gives l.fn.edits (written_out l.runs.items) l.edits;
   within : All (λ run. run.count ≤ g.row.AHEAD) l.runs.items;
   merged : (rest : List Edit) → HasRest g.I.Iterator.next_gives l.edits rest
@@ -18,5 +18,5 @@ invariant-loop-run g l = record {
   ends : IsFinite l.edits.left;
 }
 
-abbrev pub decreases-loop-run : goal.decreases-loop-run
-decreases-loop-run g l = size l.edits.left
+abbrev pub decreases-loop-edits : goal.decreases-loop-edits
+decreases-loop-edits g l = size l.edits.left

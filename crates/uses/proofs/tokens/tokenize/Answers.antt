@@ -1,50 +1,36 @@
 use Rattle.std.proofs.{
-  Common.{[], ◌∷◌, ◌++◌, append-nil, arith},
-  lemmas.Grind.{common_steps, flat_map-append},
+  Common.{◌≡◌, [], ◌∷◌, ◌++◌},
+  lemmas.{Grind.flat_map-append, List.Elements.All-push},
 }
 use Rattle.arraydeque.proofs.Scanned.{TakesOff-append}
-use Rattle.uses.{proofs.Cut.{AreCut-push, on_err}, specs.Tokens.joined}
+use Rattle.uses.{
+  proofs.{Cut.AreCut-push, tokens.tokenize.Goals.{in-Some, in_default}},
+  specs.Tokens.{joined, IsOfOneKind, IsOneByteIfSign},
+}
 use Rattle.uses.proofs.tokens.tokenize.Goals as goal
 
-pub loop-tokens-preserved : goal.loop-tokens-preserved
-loop-tokens-preserved g c =
-    let token = rw c.in-Some.is at c.in_ok-token.ensures.taken in
+pub loop-alloc-preserved : goal.loop-alloc-preserved
+loop-alloc-preserved g c =
+    let was = c.loop-alloc.invariant in
+    let tokens = c.loop-alloc.tokens.items in
+    let token = c.in-Ok-Some.token in
+    let next = rw c.in-Ok-Some.field-0-is at c.in-Ok-Some.ensures in
+    let pushed : c.push_reserved.new.self.items ≡ tokens ++ token ∷ [] = cc in
     record {
-      taken = rw (c.in_ok-push.ensures.items, flat_map-append)
-          (TakesOff-append g.I.Iterator.next_gives c.args.scanner.now c.loop-tokens.scanner c.next_token.new.scanner
-          (joined c.loop-tokens.tokens.items) (joined (c.in-Some.token ∷ [])) c.loop-tokens.invariant.taken token);
-      one_kind = grind (arith, common_steps);
-      signs = grind (arith, common_steps);
-      longest = λ rest has. rw c.in_ok-push.ensures.items (AreCut-push c.loop-tokens.tokens.items c.in-Some.token rest
-          (c.loop-tokens.invariant.longest (joined (c.in-Some.token ∷ []) ++ rest) (token rest has)) (rw c.in-Some.is at
-          c.in_ok-token.ensures.one_kind) ((rw c.in-Some.is at c.in_ok-token.ensures.longest) rest has));
-      ends = grind (arith, common_steps);
+      taken = rw (pushed, flat_map-append) (TakesOff-append g.I.Iterator.next_gives c.args.scanner.now
+          c.loop-alloc.scanner c.next_token.new.scanner (joined tokens) (joined (token ∷ [])) was.taken next.taken);
+      one_kind = rw pushed (All-push IsOfOneKind tokens token was.one_kind next.one_kind);
+      signs = rw pushed (All-push IsOneByteIfSign tokens token was.signs next.signs);
+      longest = λ rest has. rw pushed (AreCut-push tokens token rest
+          (was.longest (joined (token ∷ []) ++ rest) (next.taken rest has)) next.one_kind (next.longest rest has));
+      ends = (next.goes.on was.ends).1;
     }
 
-pub returns-clause-joined : goal.returns-clause-joined
-returns-clause-joined g c =
-    let over = rw c.in_default.is at c.in_ok-token.ensures.over in
-    rw append-nil at (c.loop-tokens.invariant.taken [] over)
-
-pub returns-clause-longest : goal.returns-clause-longest
-returns-clause-longest g c =
-    let over = rw c.in_default.is at c.in_ok-token.ensures.over in
-    (c.loop-tokens.invariant.longest [] over).0
-
-pub returns-in_err-token-clause-refused : goal.returns-in_err-token-clause-refused
-returns-in_err-token-clause-refused g c =
-    let lost = c.in_err-token.ensures.refused in
-    on_err c.from_residual.result (
-      joined c.loop-tokens.tokens.items ++ lost.bytes,
-      TakesOff-append g.I.Iterator.next_gives c.args.scanner.now c.loop-tokens.scanner c.next_token.new.scanner
-          (joined c.loop-tokens.tokens.items) lost.bytes c.loop-tokens.invariant.taken lost.gone,
-    )
-
-pub returns-in_err-push-clause-refused : goal.returns-in_err-push-clause-refused
-returns-in_err-push-clause-refused g c =
-    let token = rw c.in-Some.is at c.in_ok-token.ensures.taken in
-    on_err c.from_residual-in_err-push.result (
-      joined c.loop-tokens.tokens.items ++ joined (c.in-Some.token ∷ []),
-      TakesOff-append g.I.Iterator.next_gives c.args.scanner.now c.loop-tokens.scanner c.next_token.new.scanner
-          (joined c.loop-tokens.tokens.items) (joined (c.in-Some.token ∷ [])) c.loop-tokens.invariant.taken token,
-    )
+pub returns-in-Err-clause-cut : goal.returns-in-Err-clause-cut
+returns-in-Err-clause-cut g c = let was = c.loop-alloc.invariant.one_kind in elim c.match-refusal.branch [
+  | in-Some w ↦
+      let pushed : c.match-refusal.tokens.items ≡ c.loop-alloc.tokens.items ++ w.in-Some.token ∷ [] = cc in
+      rw pushed (All-push IsOfOneKind c.loop-alloc.tokens.items w.in-Some.token was (rw w.in-Some.is at
+      c.in-Err.ensures.cut))
+  | in_default w ↦ let same : c.match-refusal.tokens.items ≡ c.loop-alloc.tokens.items = cc in rw same was
+]

@@ -3,8 +3,8 @@ use Rattle.arraydeque.specs.Lookahead.{HasRest, TakesOff}
 use Rattle.uses.{proofs.Cut.AreCut, specs.Tokens.{joined, IsOfOneKind, IsOneByteIfSign}}
 use Rattle.uses.proofs.tokens.tokenize.Given as goal
 
-abbrev pub invariant-loop-tokens : goal.invariant-loop-tokens
-invariant-loop-tokens g l = record {
+abbrev pub invariant-loop-alloc : goal.invariant-loop-alloc
+invariant-loop-alloc g l = record {
   taken : TakesOff g.I.Iterator.next_gives l.fn.scanner (joined l.tokens.items) l.scanner;
   one_kind : All IsOfOneKind l.tokens.items;
   signs : All IsOneByteIfSign l.tokens.items;
@@ -12,5 +12,5 @@ invariant-loop-tokens g l = record {
   ends : IsFinite l.scanner.left;
 }
 
-abbrev pub decreases-loop-tokens : goal.decreases-loop-tokens
-decreases-loop-tokens g l = size l.scanner.left
+abbrev pub decreases-loop-alloc : goal.decreases-loop-alloc
+decreases-loop-alloc g l = size l.scanner.left
