@@ -1,34 +1,30 @@
 -- What is taken of a source of items.
 use Rattle.std.{
   proofs.{
-    Common.{◌≡◌, ℕ, ◌<◌, ◌≤◌, List, length, take, Option, Some, slice_get, slice_index_or, Bool},
-    Common.{true, false, ◌++◌, refl, sym, subst, ap, ◌∙◌, arith},
+    Common.{◌≡◌, ℕ, ◌<◌, ◌≤◌, List, length, take, Option, Bool, true, false, ◌++◌, refl, sym, subst, arith},
     iter.runs.{Lists.Yields-both, Made.{run, run_of_exit, took}},
-    lemmas.{List.{same_lists, length-take, get_or-take, take_all}, Option.slice_get-get_or},
+    lemmas.List.{same_lists, length-take, get_or-take, take_all},
   },
-  specs.{Iterator.{Drains, Runs.{Run, ItemsAre, YieldsInOrder}}, Option.option_map},
+  specs.Iterator.{Drains, Runs.{Run, ItemsAre, YieldsInOrder}},
 }
 use Rattle.arraydeque_ring.specs.Fills.{Fills, Ends}
-use Rattle.arraydeque.specs.Sources.{TakesFrom, TakesAll}
+use Rattle.arraydeque.specs.Sources.{IsReadOff, TakesFrom, TakesAll}
 
 -- a run whose items are read off a list
 module _ {S A : Type 0} {gives : S → Option A → S → Type 0} (run : Run gives) (xs : List A)
     (within : run.len ≤ length xs) where
-  -- at each index
-  abbrev Reads : Type 0
-  Reads = (k : ℕ) (d : A) → k < run.len → option_map (λ y. y) (run.at k) ≡ Some (slice_index_or xs k d)
-
-  reads-at : ((k : ℕ) → k < run.len → run.at k ≡ slice_get xs k) → Reads
-  reads-at reads k d here = ap (option_map (λ y. y)) (reads k here ∙ slice_get-get_or xs k d (omega arith))
-
   -- they are its first ones, as many as they are
-  items_are : Reads → take run.len xs ≡ run.items
+  items_are : IsReadOff run xs → take run.len xs ≡ run.items
   items_are reads = grind (arith, same_lists, length-take, get_or-take)
 
-  -- and its first n, where there are fewer only at its end
+  -- its first n, where there are fewer only at its end
   first_items : (n : ℕ) → run.len ≤ n → (run.len < n → run.whole ≡ true) → (run.whole ≡ true → run.len ≡ length xs)
-      → Reads → run.items ≡ take n xs
+      → IsReadOff run xs → run.items ≡ take n xs
   first_items n at_most fewer all reads = grind (arith, items_are, take_all)
+
+  -- and all of it, if they are as many
+  all_items : run.len ≡ length xs → IsReadOff run xs → run.items ≡ xs
+  all_items many reads = grind (arith, items_are, take_all)
 
 -- of a source whose iterator shows the list xs
 module _ {Source S A : Type 0} (becomes : Source → S → Type 0) (gives : S → Option A → S → Type 0) (source : Source)
@@ -87,10 +83,8 @@ module _ {Source S A : Type 0} {becomes : Source → S → Type 0} {gives : S �
             at_most = filled.at_most;
             or_all = or_all;
             holds = holds filled.items filled.holds;
-            first = λ xs within all reads.
-                first_items ran xs within n filled.at_most or_all all (reads-at ran xs within reads);
-            as_many = λ m xs is le reads. let within : ran.len ≤ length xs = omega arith in
-                sym (ap (λ k. take k xs) is ∙ items_are ran xs within (reads-at ran xs within reads));
+            first = λ xs within reads all. first_items ran xs within n filled.at_most or_all all reads;
+            same = λ xs many reads. all_items ran xs (omega arith) many reads;
           }
 
       pub TakesAll-fills : ended ≡ true → P filled.items → TakesAll becomes gives source P

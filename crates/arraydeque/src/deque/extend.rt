@@ -27,8 +27,11 @@ impl<T, const CAP: usize> ArrayDeque<T, CAP, Saturating> {
     #[inline(never)] // Inlined, 64 bytes took 1.15 of `VecDeque`'s time, not 1.
     pub fn extend_back<I: IntoIterator<Item = T>>(&mut self, iter: I)
         requires { IsIterable I.into_iter_gives I.IntoIter.can_next iter }
-        ensures { TakesFrom I.into_iter_gives I.IntoIter.next_gives iter
-            (CAP - length self.old.items) (λ xs. self.new ≡ with_back xs self.old) }
+
+        // Of what the iterator gives, as much is added as there is room for.
+        ensures taken { let room = CAP - length self.old.items in
+            TakesFrom I.into_iter_gives I.IntoIter.next_gives iter room
+            (λ came. self.new ≡ with_back came self.old) }
     {
         let mut elements = iter.into_iter();
         self.fill_back(&mut elements);
@@ -48,8 +51,11 @@ impl<T, const CAP: usize> ArrayDeque<T, CAP, Saturating> {
     /// ```
     pub fn extend_front<I: IntoIterator<Item = T>>(&mut self, iter: I)
         requires { IsIterable I.into_iter_gives I.IntoIter.can_next iter }
-        ensures { TakesFrom I.into_iter_gives I.IntoIter.next_gives iter
-            (CAP - length self.old.items) (λ xs. self.new ≡ with_front CAP xs self.old) }
+
+        // Of what the iterator gives, as much is added as there is room for.
+        ensures taken { let room = CAP - length self.old.items in
+            TakesFrom I.into_iter_gives I.IntoIter.next_gives iter room
+            (λ came. self.new ≡ with_front CAP came self.old) }
     {
         let mut elements = iter.into_iter();
         self.fill_front(&mut elements);
@@ -114,8 +120,10 @@ impl<T: Drop, const CAP: usize> ArrayDeque<T, CAP, Wrapping> {
     pub fn extend_back<I: IntoIterator<Item = T>>(&mut self, iter: I)
         requires { IsFiniteIterable
             I.into_iter_gives I.IntoIter.can_next I.IntoIter.remaining iter }
-        ensures { TakesAll I.into_iter_gives I.IntoIter.next_gives iter
-            (λ xs. WrapsBack CAP self.old xs self.new) }
+
+        // All that the iterator gives is pushed, one by one.
+        ensures taken { TakesAll I.into_iter_gives I.IntoIter.next_gives iter
+            (λ came. WrapsBack CAP self.old came self.new) }
     {
         let mut elements = iter.into_iter();
         if self.capacity() == 0 {
@@ -145,8 +153,10 @@ impl<T: Drop, const CAP: usize> ArrayDeque<T, CAP, Wrapping> {
     pub fn extend_front<I: IntoIterator<Item = T>>(&mut self, iter: I)
         requires { IsFiniteIterable
             I.into_iter_gives I.IntoIter.can_next I.IntoIter.remaining iter }
-        ensures { TakesAll I.into_iter_gives I.IntoIter.next_gives iter
-            (λ xs. WrapsFront CAP self.old xs self.new) }
+
+        // All that the iterator gives is pushed, one by one.
+        ensures taken { TakesAll I.into_iter_gives I.IntoIter.next_gives iter
+            (λ came. WrapsFront CAP self.old came self.new) }
     {
         let mut elements = iter.into_iter();
         if self.capacity() == 0 {
@@ -180,12 +190,17 @@ impl<T: Drop, const CAP: usize> Extend<T> for ArrayDeque<T, CAP, Saturating> {
     fn extend<I: IntoIterator<Item = T>>(&mut self, iter: I) -> Result<(), AllocError>
         requires { IsFiniteIterable
             I.into_iter_gives I.IntoIter.can_next I.IntoIter.remaining iter }
+
+        // Of what the iterator gives, as much is added as there is room for.
+        ensures taken { let room = CAP - length self.old.items in
+            TakesAll I.into_iter_gives I.IntoIter.next_gives iter
+            (λ came. self.new ≡ with_back (take room came) self.old) }
+        ensures ok { IsOk result }
+
+        // The same in std's words, for code that is generic over `Extend`.
         ensures ran { ExtendsWithItems I.into_iter_gives I.IntoIter.next_gives
             (λ old xs new. new ≡ with_back (take (CAP - length old.items) xs) old)
             iter self.old self.new result }
-        ensures taken { TakesAll I.into_iter_gives I.IntoIter.next_gives iter
-            (λ xs. self.new ≡ with_back (take (CAP - length self.old.items) xs) self.old) }
-        ensures ok { IsOk result }
     {
         let mut elements = iter.into_iter();
         let ended = self.fill_back(&mut elements);
@@ -214,11 +229,15 @@ impl<T: Drop, const CAP: usize> Extend<T> for ArrayDeque<T, CAP, Wrapping> {
     fn extend<I: IntoIterator<Item = T>>(&mut self, iter: I) -> Result<(), AllocError>
         requires { IsFiniteIterable
             I.into_iter_gives I.IntoIter.can_next I.IntoIter.remaining iter }
+
+        // All that the iterator gives is pushed, one by one.
+        ensures taken { TakesAll I.into_iter_gives I.IntoIter.next_gives iter
+            (λ came. WrapsBack CAP self.old came self.new) }
+        ensures ok { IsOk result }
+
+        // The same in std's words, for code that is generic over `Extend`.
         ensures ran { ExtendsWithItems I.into_iter_gives I.IntoIter.next_gives
             (WrapsBack CAP) iter self.old self.new result }
-        ensures taken { TakesAll I.into_iter_gives I.IntoIter.next_gives iter
-            (λ xs. WrapsBack CAP self.old xs self.new) }
-        ensures ok { IsOk result }
     {
         self.extend_back(iter);
         Ok(())
@@ -242,13 +261,18 @@ impl<'a, T: Copy + 'a, const CAP: usize> Extend<&'a T> for ArrayDeque<T, CAP, Sa
     fn extend<I: IntoIterator<Item = &'a T>>(&mut self, iter: I) -> Result<(), AllocError>
         requires { IsFiniteIterable
             I.into_iter_gives I.IntoIter.can_next I.IntoIter.remaining iter }
+
+        // Of what the iterator gives, as much is copied as there is room for.
+        ensures taken { let room = CAP - length self.old.items in
+            TakesAll I.into_iter_gives I.IntoIter.next_gives iter
+            (λ came. self.new ≡ with_back (take room (map (λ x. x.now) came)) self.old) }
+        ensures ok { IsOk result }
+
+        // The same in std's words, for code that is generic over `Extend`.
         ensures ran { ExtendsWithItems I.into_iter_gives I.IntoIter.next_gives
             (λ old xs new.
             new ≡ with_back (take (CAP - length old.items) (map (λ x. x.now) xs)) old)
             iter self.old self.new result }
-        ensures taken { TakesAll I.into_iter_gives I.IntoIter.next_gives iter (λ xs. self.new ≡
-            with_back (take (CAP - length self.old.items) (map (λ x. x.now) xs)) self.old) }
-        ensures ok { IsOk result }
     {
         let _ = Extend::<T>::extend(self, iter.into_iter().copied());
         Ok(())
@@ -272,12 +296,16 @@ impl<'a, T: Copy + 'a, const CAP: usize> Extend<&'a T> for ArrayDeque<T, CAP, Wr
     fn extend<I: IntoIterator<Item = &'a T>>(&mut self, iter: I) -> Result<(), AllocError>
         requires { IsFiniteIterable
             I.into_iter_gives I.IntoIter.can_next I.IntoIter.remaining iter }
+
+        // A copy of all that the iterator gives is pushed, one by one.
+        ensures taken { TakesAll I.into_iter_gives I.IntoIter.next_gives iter
+            (λ came. WrapsBack CAP self.old (map (λ x. x.now) came) self.new) }
+        ensures ok { IsOk result }
+
+        // The same in std's words, for code that is generic over `Extend`.
         ensures ran { ExtendsWithItems I.into_iter_gives I.IntoIter.next_gives
             (λ old xs new. WrapsBack CAP old (map (λ x. x.now) xs) new)
             iter self.old self.new result }
-        ensures taken { TakesAll I.into_iter_gives I.IntoIter.next_gives iter
-            (λ xs. WrapsBack CAP self.old (map (λ x. x.now) xs) self.new) }
-        ensures ok { IsOk result }
     {
         self.extend_back(iter.into_iter().copied());
         Ok(())

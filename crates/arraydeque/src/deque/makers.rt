@@ -30,9 +30,13 @@ impl<T, const CAP: usize> ArrayDeque<T, CAP, Saturating> {
         iter: I,
     ) -> Result<Self, MakeError<I>>
         requires { IsIterable I.into_iter_gives I.IntoIter.can_next iter }
+
+        // If memory is granted, the deque has of what the iterator gives as much as finds room.
         ensures items { IfOk result (λ deque.
             TakesFrom I.into_iter_gives I.IntoIter.next_gives iter CAP
-            (λ xs. deque ≡ with_back xs empty_deque)) }
+            (λ came. deque ≡ with_back came empty_deque)) }
+
+        // If memory is refused, the source comes back, and nothing was taken from it.
         ensures source { IfErr result (λ refusal. refusal.source ≡ iter) }
         ensures refused { OnErr result (0 < CAP * type_size T.row) }
     {
@@ -59,7 +63,11 @@ impl<T, const CAP: usize> ArrayDeque<T, CAP, Saturating> {
     pub fn from_vec(alloc: Global, v: Vec<T>) -> Result<Self, MakeError<Vec<T>>>
     where
         T: Drop,
+
+        // If memory is granted, the first items are the deque's.
         ensures items { IfOk result (λ deque. deque ≡ with_back (take CAP v.items) empty_deque) }
+
+        // If memory is refused, the vector comes back.
         ensures source { IfErr result (λ refusal. refusal.source ≡ v) }
         ensures refused { OnErr result (0 < CAP * type_size T.row) }
     {
@@ -82,7 +90,11 @@ impl<T, const CAP: usize> ArrayDeque<T, CAP, Saturating> {
     pub fn from_array<const N: usize>(alloc: Global, a: [T; N]) -> Result<Self, MakeError<[T; N]>>
     where
         T: Copy,
+
+        // If memory is granted, the first items are the deque's.
         ensures items { IfOk result (λ deque. deque ≡ with_back (take CAP a) empty_deque) }
+
+        // If memory is refused, the array comes back.
         ensures source { IfErr result (λ refusal. refusal.source ≡ a) }
         ensures refused { OnErr result (0 < CAP * type_size T.row) }
     {
@@ -114,9 +126,13 @@ impl<T: Drop, const CAP: usize> ArrayDeque<T, CAP, Wrapping> {
     ) -> Result<Self, MakeError<I>>
         requires { IsFiniteIterable
             I.into_iter_gives I.IntoIter.can_next I.IntoIter.remaining iter }
+
+        // If memory is granted, all that the iterator gives is pushed, one by one.
         ensures items { IfOk result (λ deque.
             TakesAll I.into_iter_gives I.IntoIter.next_gives iter
-            (λ xs. WrapsBack CAP empty_deque xs deque)) }
+            (λ came. WrapsBack CAP empty_deque came deque)) }
+
+        // If memory is refused, the source comes back, and nothing was taken from it.
         ensures source { IfErr result (λ refusal. refusal.source ≡ iter) }
         ensures refused { OnErr result (0 < CAP * type_size T.row) }
     {
@@ -142,10 +158,14 @@ impl<T: Drop, const CAP: usize> ArrayDeque<T, CAP, Wrapping> {
     /// assert!(rt; deque.into_vec()?.as_slice() == [2, 3].as_slice());
     /// ```
     pub fn from_vec(alloc: Global, v: Vec<T>) -> Result<Self, MakeError<Vec<T>>>
+
+        // If memory is granted, the items are pushed, one by one, and the last are the deque's.
         ensures items { IfOk result (λ deque. deque.items ≡ keep_last CAP v.items) }
         ensures pushed { IfOk result (λ deque.
             0 < CAP → deque ≡ wrapped_back CAP v.items empty_deque) }
         ensures no_places { IfOk result (λ deque. CAP ≡ 0 → deque ≡ empty_deque) }
+
+        // If memory is refused, the vector comes back.
         ensures source { IfErr result (λ refusal. refusal.source ≡ v) }
         ensures refused { OnErr result (0 < CAP * type_size T.row) }
     {
@@ -165,7 +185,11 @@ impl<T: Drop, const CAP: usize> ArrayDeque<T, CAP, Wrapping> {
     pub fn from_array<const N: usize>(alloc: Global, a: [T; N]) -> Result<Self, MakeError<[T; N]>>
     where
         T: Copy,
+
+        // If memory is granted, the last items are the deque's.
         ensures items { IfOk result (λ deque. deque ≡ with_back (keep_last CAP a) empty_deque) }
+
+        // If memory is refused, the array comes back.
         ensures source { IfErr result (λ refusal. refusal.source ≡ a) }
         ensures refused { OnErr result (0 < CAP * type_size T.row) }
     {

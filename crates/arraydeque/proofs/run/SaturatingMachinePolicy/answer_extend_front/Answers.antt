@@ -7,6 +7,6 @@ use Rattle.arraydeque.proofs.run.SaturatingMachinePolicy.answer_extend_front.Goa
 
 pub returns : goal.returns
 returns g c =
-    let added = TakesFrom-list c.args.elements.items into_iter_items c.extend_front.ensures
+    let added = TakesFrom-list c.args.elements.items into_iter_items c.extend_front.ensures.taken
     (λ it became. (became.0, became.3)) in
     record { makes = grind (arith, nat_tests) }

@@ -6,19 +6,25 @@ use Rattle.arraydeque.proofs.{
 use Rattle.arraydeque.proofs.deque.extend.ArrayDeque+T+CAP+Wrapping.extend_back.Goals as goal
 
 pub returns-then-capacity-eq0 : goal.returns-then-capacity-eq0
-returns-then-capacity-eq0 g c =
-    TakesAll-ends _ c.into_iter-elements.ensures.into_iter_gives _ c.drop_all.ensures.drains
-    (WrapsBack-no_places g.row.CAP c.args.self.now _ (omega arith) c.capacity.ensures.within)
+returns-then-capacity-eq0 g c = record {
+  taken =
+      TakesAll-ends _ c.into_iter-elements.ensures.into_iter_gives _ c.drop_all.ensures.drains
+      (WrapsBack-no_places g.row.CAP c.args.self.now _ (omega arith) c.capacity.ensures.within);
+}
 
 pub returns-then-ended : goal.returns-then-ended
 returns-then-ended g c =
     let came = c.fill_back-ended.ensures.came in
-    TakesAll-fills _ c.into_iter-elements.ensures.into_iter_gives came c.if-ended.true
-    (WrapsBack-room g.row.CAP (omega arith) c.args.self.now _ _ came.holds c.fill_back-ended.ensures.within)
+    record {
+      taken = TakesAll-fills _ c.into_iter-elements.ensures.into_iter_gives came c.if-ended.true
+          (WrapsBack-room g.row.CAP (omega arith) c.args.self.now _ _ came.holds c.fill_back-ended.ensures.within);
+    }
 
 pub returns : goal.returns
 returns g c =
     let came = c.fill_back-ended.ensures.came in
-    TakesAll-both _ c.into_iter-elements.ensures.into_iter_gives came c.if-ended.false c.displace_first.ensures
-    (WrapsBack-both g.row.CAP (omega arith) c.args.self.now _ _ came.holds c.self.inside.ring _ _ c.self.view_is
-    c.self.invariant.0 (c.fill_back-ended.ensures.full c.if-ended.false) c.displace_first.ensures.holds)
+    record {
+      taken = TakesAll-both _ c.into_iter-elements.ensures.into_iter_gives came c.if-ended.false c.displace_first.ensures
+          (WrapsBack-both g.row.CAP (omega arith) c.args.self.now _ _ came.holds c.self.inside.ring _ _ c.self.view_is
+          c.self.invariant.0 (c.fill_back-ended.ensures.full c.if-ended.false) c.displace_first.ensures.holds);
+    }

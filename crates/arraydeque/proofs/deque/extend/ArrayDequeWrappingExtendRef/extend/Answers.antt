@@ -4,7 +4,7 @@ use Rattle.arraydeque.proofs.deque.extend.ArrayDequeWrappingExtendRef.extend.Goa
 
 pub returns-clause-taken : goal.returns-clause-taken
 returns-clause-taken g c =
-    let all = TakesAll-drains c.extend_back.ensures in
+    let all = TakesAll-drains c.extend_back.ensures.taken in
     let from = drains_copied g.I.IntoIter.Iterator.next_gives copied_source all.0 all.1 all.4 in
     TakesAll-ends (copied_source all.0) (rw (all.2, c.copied.ensures.source) c.into_iter.ensures.into_iter_gives)
     from.0 from.1 (rw from.2 all.3)
