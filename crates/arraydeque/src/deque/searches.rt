@@ -109,7 +109,7 @@ impl<T, const CAP: usize, B: Behavior> ArrayDeque<T, CAP, B> {
         ensures bound { IsSearchInRange result (length self.now.items) }
         ensures within { length self.now.items ≤ CAP }
 
-        // If `f` computes the key `key_of` of an item, the result is as of `binary_search`, by keys.
+        // If `f` computes `key_of` of the items, the result is as of `binary_search`, by the keys.
         ensures position { (key_of : T → K) → ComputesKey F.FnMut key_of f
             → IsBinarySearchResult (λ y. K.cmp (key_of y) key.now) self.now.items result }
         ensures first { (key_of : T → K) → ComputesKey F.FnMut key_of f
