@@ -100,34 +100,18 @@ module _ (E : El) (N : ℕ) (B : RattleType) (x : Fields E N B) (d : DequeState 
   abbrev pub after_part : List (el_x E) → Fields E N B
   after_part ws = with_ring E N B x (ring.part_rewritten from len x.ring ws)
 
-  all_items : x.ring.items ≡ d.items
-  all_items = ap (λ (v : DequeState (el_x E)). v.items) seen
-
   pub kept_part : (ws : List (el_x E)) → Kept E N B (after_part ws)
-  kept_part ws = (
-    kept.0,
-    rw all_items (omega (arith, length_rewritten d.items ws from len within, ap length all_items, kept.1)),
-  )
+  kept_part ws = grind (arith, length_rewritten)
 
   pub seen_part : (ws : List (el_x E))
       → view E N B (after_part ws) ≡ part_rewritten from len d (take len (drop from (view E N B (after_part ws)).items))
-  seen_part ws = rw (
-    all_items,
-    part_twice d.items ws from len within,
-    ap (λ (v : DequeState (el_x E)). v.start) seen,
-    ap (λ (v : DequeState (el_x E)). v.steps) seen,
-  ) refl
+  seen_part ws = grind (arith, part_twice)
 
   -- the same where what the ring ends as is said by what was written
   pub part_written : (ws : List (el_x E))
       → view E N B (after_part (take len (drop from (ring.part_rewritten from len x.ring ws).items)))
       ≡ part_rewritten from len d ws
-  part_written ws = rw (
-    all_items,
-    part_twice d.items ws from len within,
-    ap (λ (v : DequeState (el_x E)). v.start) seen,
-    ap (λ (v : DequeState (el_x E)). v.steps) seen,
-  ) refl
+  part_written ws = grind (arith, part_twice)
 
 -- the part of all items
 pub all_rewritten : {X : Type 0} (d : DequeState X) (m : ℕ) (xs : List X) → m ≡ length d.items

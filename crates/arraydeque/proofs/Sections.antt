@@ -50,7 +50,7 @@ module _ {X : Type 0} where
     -- behind lists that are as long, and that have no say
     behind : {xs ys us vs xs' ys' : List X} → xs ≡ us ++ xs' → ys ≡ vs ++ ys' → length us ≡ length vs
         → lists us vs ≡ lists [] [] → lists xs' ys' ≡ lists xs ys
-    behind {us = us} {vs} {xs'} {ys'} first second long equal = grind (arith, both)
+    behind first second long equal = grind (arith, both)
 
   pointwise_pairs : (E : X → X → Bool) → Pairwise (λ a b. a && b) E (pointwise E)
   pointwise_pairs E = grind arith

@@ -1,6 +1,6 @@
 use Rattle.std.{
   proofs.{
-    Common.{arith, rules, subst, sym, ◌∙◌},
+    Common.{arith, subst, sym, ◌∙◌},
     lemmas.{
       Grind.common_steps,
       Iterator.{Adapters.YieldsList-from_vec, Consumers.YieldsList-end},
@@ -13,18 +13,7 @@ use Rattle.arraydeque.{proofs.DequeRuns.{DequeRun-push, RunCosts-of}, specs.Run.
 use Rattle.arraydeque.proofs.deque.ArrayDeque.run.Goals as goal
 
 pub loop-call-preserved : goal.loop-call-preserved
-loop-call-preserved g c = record {
-  exact = c.push_reserved.ensures.capacity ∙ c.loop-call.invariant.exact;
-  room = omega (
-    arith,
-    c.loop-call.invariant.room,
-    c.push_reserved.ensures.len,
-    c.push_reserved.ensures.capacity,
-    c.in-Some.ensures.steps.1,
-  );
-  whole = rw c.push_reserved.ensures.items
-      (DequeRun-push g.B.MachinePolicy.policy _ _ _ _ _ _ _ _ c.loop-call.invariant.whole c.answer-reply.ensures.makes);
-}
+loop-call-preserved g c = grind (arith, DequeRun-push)
 
 pub returns : goal.returns
 returns g c =
@@ -36,15 +25,7 @@ returns g c =
     let whole = subst (λ calls. DequeRun g.B.MachinePolicy.policy (type_size g.row.T) c.args.self.now calls
     c.loop-call.replies.items c.loop-call.self) done c.loop-call.invariant.whole in
     let costs = RunCosts-of g.B.MachinePolicy.policy _ _ _ _ _ whole in
-    record {
-      whole = whole;
-      ok = costs.run;
-      costs = costs;
-      exact = c.loop-call.invariant.exact;
-      source = search rules;
-      unchanged = search rules;
-      refused = search rules;
-    }
+    grind arith
 
 pub returns-in-Err-clause-refused : goal.returns-in-Err-clause-refused
 returns-in-Err-clause-refused g c = grind (arith, common_steps)

@@ -1,21 +1,13 @@
-use Rattle.std.proofs.{
-  Common.{◌≡◌, [], ◌∷◌, length, add-zero, ap, subst, refl, ◌∙◌, arith},
-  lemmas.{Grind.common_steps, List.length-drop},
-}
+use Rattle.std.proofs.{Common.{[], ◌∷◌, add-zero, refl, arith}, lemmas.List.length-drop}
 use Rattle.arraydeque.{
   proofs.Scanned.{first_taken, none_taken, Advances-nothing, Advances-append, HasRest-ended},
-  specs.Lookahead.{Advances, HasRest, left_of},
+  specs.Lookahead.{Advances, left_of},
 }
 use Rattle.arraydeque.proofs.lookahead.Scanner.advance.Goals as goal
 
 pub loop-gone-init : goal.loop-gone-init
 unfolding left_of
-loop-gone-init g c = record {
-  advances = Advances-nothing g.I.Iterator.next_gives g.I.Iterator.remaining c.args.self.now (grind arith);
-  buffered = λ _. refl;
-  ended = refl;
-  most = omega arith;
-}
+loop-gone-init g c = grind (arith, Advances-nothing)
 
 pub loop-gone-preserved : goal.loop-gone-preserved
 loop-gone-preserved g c =
@@ -35,14 +27,7 @@ loop-gone-preserved g c =
       counts = next.counts;
     } in
     let left = length-drop c.loop-gone.gone c.args.self.now.buffer in
-    record {
-      advances = Advances-append g.I.Iterator.next_gives g.I.Iterator.remaining c.args.self.now c.loop-gone.self
-          c.next.new.self c.loop-gone.gone 1 was.advances one;
-      buffered = λ there. (next.buffered (omega (arith, ap length was.advances.buffer, left))).1
-          ∙ was.buffered (omega arith);
-      ended = grind (arith, common_steps);
-      most = omega arith;
-    }
+    grind (arith, Advances-append)
 
 pub returns-in_default-clause-advances : goal.returns-in_default-clause-advances
 returns-in_default-clause-advances g c =
@@ -61,14 +46,10 @@ returns-in_default-clause-advances g c =
       lowers = λ ends. let low = next.lowers ends in (low.0, omega (arith, low.1));
       counts = next.counts;
     } in
-    subst (λ n. Advances g.I.Iterator.next_gives g.I.Iterator.remaining c.args.self.now n c.next.new.self)
-    (add-zero c.loop-gone.gone) (Advances-append g.I.Iterator.next_gives g.I.Iterator.remaining c.args.self.now
-    c.loop-gone.self c.next.new.self c.loop-gone.gone 0 was.advances none)
+    grind (arith, add-zero, Advances-append)
 
 pub returns-in_default-clause-over : goal.returns-in_default-clause-over
 returns-in_default-clause-over g c fewer =
     let next = c.in_default.ensures in
     let empty = none_taken c.loop-gone.self.buffer (λ some. (next.buffered some).0) in
-    let spent : c.next.new.self.buffer ≡ [] = grind (arith, next.buffer, empty) in
-    subst (λ rest. HasRest g.I.Iterator.next_gives c.next.new.self rest) spent
-    (HasRest-ended g.I.Iterator.next_gives c.next.new.self next.none)
+    grind (arith, HasRest-ended)

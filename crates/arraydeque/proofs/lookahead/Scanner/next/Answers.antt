@@ -10,5 +10,4 @@ pub returns-in-None-clause-rest : goal.returns-in-None-clause-rest
 returns-in-None-clause-rest g c = TakesOff-from_out g.I.Iterator.next_gives _ _ _ (returns-in-None-clause-hands_out g c)
 
 pub returns-in-None-clause-over : goal.returns-in-None-clause-over
-returns-in-None-clause-over g c = HasRest-nothing g.I.Iterator.next_gives _ c.read.new.self c.read.result
-    (returns-in-None-clause-hands_out g c) (grind (arith, common_steps)) c.read.ensures.none
+returns-in-None-clause-over g c = grind (arith, HasRest-nothing)
