@@ -22,12 +22,16 @@
 //! - [`in_place`]: a deque sorted, filled and searched
 //! - [`scanning`]: what a caller knows of a scanner
 //! - [`writing`]: what a caller knows of a deque it wrote through
+//! - [`extending`]: what a caller knows of a deque that an iterator's items were added to
+//! - [`callers`]: what it knows after each call that no other use makes
 #![tactic(auto)]
 
 pub mod ageing;
+pub mod callers;
 pub mod copying;
 pub mod edits;
 pub mod encoder;
+pub mod extending;
 pub mod history;
 pub mod in_place;
 pub mod input;

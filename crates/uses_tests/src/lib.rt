@@ -4,11 +4,15 @@
 #[cfg(test)]
 mod ageing;
 #[cfg(test)]
+mod callers;
+#[cfg(test)]
 mod copying;
 #[cfg(test)]
 mod edits;
 #[cfg(test)]
 mod encoder;
+#[cfg(test)]
+mod extending;
 #[cfg(test)]
 mod history;
 #[cfg(test)]

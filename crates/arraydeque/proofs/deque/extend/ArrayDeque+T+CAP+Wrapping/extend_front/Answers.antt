@@ -23,8 +23,9 @@ returns-then-ended g c =
 pub returns : goal.returns
 returns g c =
     let came = c.fill_front-ended.ensures.came in
+    let begun = c.into_iter-elements.ensures.into_iter_gives in
     record {
-      taken = TakesAll-both _ c.into_iter-elements.ensures.into_iter_gives came c.if-ended.false c.displace_last.ensures
+      taken = TakesAll-both _ begun came c.if-ended.false c.displace_last.ensures
           (WrapsFront-both g.row.CAP (omega arith) c.args.self.now _ _ came.holds c.self.inside.ring _ _ c.self.view_is
           c.self.invariant.0 (c.fill_front-ended.ensures.full c.if-ended.false) c.displace_last.ensures.holds);
     }

@@ -1,0 +1,280 @@
+//! Callers of the calls that no other use makes, a line each: by a call's contract alone its caller
+//! promises what a user would ask for.
+ghost use Rattle.std.specs.Prelude.{◌≡◌, ◌+◌, ◌-◌, ◌≤◌, ◌++◌, [], length, take, drop, swap, replicate, slice_get, slice_set, IfOk, IfSome, OnOk, OnErr};
+ghost use Rattle.std.specs.List.{list_any};
+ghost use Rattle.std.specs.List.Sorted.{IsBinarySearchResult, IsSearchInRange};
+ghost use Rattle.std.specs.Fn.{ComputesKey};
+ghost use Rattle.arraydeque_ring.specs.Ring.{IsInOnePiece};
+ghost use Rattle.arraydeque.specs.Deque.{as_ring, keep_last, last_item};
+
+use arraydeque::behavior::Behavior;
+use arraydeque::{ArrayDeque, Drain, MakeError, Saturating, Wrapping};
+use std::alloc::{AllocError, Global};
+use std::cmp::Ordering;
+
+/// How many items find room.
+pub fn capacity<T, const CAP: usize, B: Behavior>(deque: &ArrayDeque<T, CAP, B>) -> usize
+    ensures { result ≡ CAP }
+{
+    deque.capacity()
+}
+
+/// Whether an item is there.
+pub fn contains<T: PartialEq, const CAP: usize, B: Behavior>(
+    deque: &ArrayDeque<T, CAP, B>,
+    item: &T,
+) -> bool
+    ensures { result ≡ list_any (λ other. T.eq other item.now) deque.now.items }
+{
+    deque.contains(item)
+}
+
+/// Writes over the first item, if there is one.
+pub fn write_front<T: Copy + Drop, const CAP: usize, B: Behavior>(
+    deque: &mut ArrayDeque<T, CAP, B>,
+    item: T,
+)
+    ensures { deque.new.items ≡ slice_set deque.old.items 0 item }
+{
+    if let Some(first) = deque.front_mut() {
+        *first = item;
+    }
+}
+
+/// Writes over the last item, if there is one.
+pub fn write_back<T: Copy + Drop, const CAP: usize, B: Behavior>(
+    deque: &mut ArrayDeque<T, CAP, B>,
+    item: T,
+)
+    ensures { deque.new.items ≡ slice_set deque.old.items (length deque.old.items - 1) item }
+{
+    if let Some(last) = deque.back_mut() {
+        *last = item;
+    }
+}
+
+/// Writes over the item at an index, if there is one.
+pub fn write_at<T: Copy + Drop, const CAP: usize, B: Behavior>(
+    deque: &mut ArrayDeque<T, CAP, B>,
+    index: usize,
+    item: T,
+)
+    requires { index + 1 ≤ length deque.old.items }
+    ensures { deque.new.items ≡ slice_set deque.old.items index item }
+{
+    if let Some(written) = deque.get_mut(index) {
+        *written = item;
+    }
+}
+
+/// The items in one slice.
+pub fn as_slice<T, const CAP: usize, B: Behavior>(deque: &ArrayDeque<T, CAP, B>) -> &[T]
+    requires { IsInOnePiece (as_ring CAP deque.now) }
+    ensures { result.now ≡ deque.now.items }
+{
+    deque.as_slice()
+}
+
+/// Where an item is that a comparison finds equal, or where it would go.
+pub fn find_by<T, F: FnMut(&T) -> Ordering, const CAP: usize, B: Behavior>(
+    deque: &ArrayDeque<T, CAP, B>,
+    compare: F,
+) -> Result<usize, usize>
+    requires { F.IsAlwaysCallable compare }
+    ensures { (order : T → Ordering) → ComputesKey F.FnMut order compare
+        → IsBinarySearchResult order deque.now.items result }
+{
+    deque.binary_search_by(compare)
+}
+
+/// Where the pair of a key is, or would go.
+pub fn find_by_key<const CAP: usize, B: Behavior>(
+    deque: &ArrayDeque<(u64, u64), CAP, B>,
+    key: u64,
+) -> Result<usize, usize>
+    ensures { IsSearchInRange result (length deque.now.items) }
+{
+    deque.binary_search_by_key(&key, |item| item.0)
+}
+
+/// Exchanges the first and the last item.
+pub fn swap_ends<T, const CAP: usize, B: Behavior>(deque: &mut ArrayDeque<T, CAP, B>)
+    requires { 1 ≤ length deque.old.items }
+    ensures { deque.new.items ≡ swap deque.old.items 0 (length deque.old.items - 1) }
+{
+    let last = deque.len() - 1;
+    deque.swap(0, last);
+}
+
+/// Moves the first items behind the others.
+pub fn rotate_left<T, const CAP: usize, B: Behavior>(
+    deque: &mut ArrayDeque<T, CAP, B>,
+    count: usize,
+)
+    requires { count ≤ length deque.old.items }
+    ensures { deque.new.items ≡ drop count deque.old.items ++ take count deque.old.items }
+{
+    deque.rotate_left(count);
+}
+
+/// Moves the last items before the others.
+pub fn rotate_right<T, const CAP: usize, B: Behavior>(
+    deque: &mut ArrayDeque<T, CAP, B>,
+    count: usize,
+)
+    requires { count ≤ length deque.old.items }
+    ensures { let others = length deque.old.items - count in
+        deque.new.items ≡ drop others deque.old.items ++ take others deque.old.items }
+{
+    deque.rotate_right(count);
+}
+
+/// Rotates there and back.
+pub fn rotate_back<T, const CAP: usize, B: Behavior>(
+    deque: &mut ArrayDeque<T, CAP, B>,
+    count: usize,
+)
+    requires { count ≤ length deque.old.items }
+    ensures { deque.new.items ≡ deque.old.items }
+{
+    deque.rotate_left(count);
+    deque.rotate_right(count);
+}
+
+/// Takes out an item, in whose place the last one goes.
+pub fn take_for_last<T, const CAP: usize, B: Behavior>(
+    deque: &mut ArrayDeque<T, CAP, B>,
+    index: usize,
+) -> Option<T>
+    requires { index + 1 ≤ length deque.old.items }
+    ensures value { result ≡ slice_get deque.old.items index }
+    ensures items { let last = length deque.old.items - 1 in
+        deque.new.items ≡ take last (swap deque.old.items index last) }
+{
+    deque.swap_remove_back(index)
+}
+
+/// Takes out an item, in whose place the first one goes.
+pub fn take_for_first<T, const CAP: usize, B: Behavior>(
+    deque: &mut ArrayDeque<T, CAP, B>,
+    index: usize,
+) -> Option<T>
+    requires { index + 1 ≤ length deque.old.items }
+    ensures value { result ≡ slice_get deque.old.items index }
+    ensures items { deque.new.items ≡ drop 1 (swap deque.old.items index 0) }
+{
+    deque.swap_remove_front(index)
+}
+
+/// Keeps the first items.
+pub fn keep_first<T: Drop, const CAP: usize, B: Behavior>(
+    deque: &mut ArrayDeque<T, CAP, B>,
+    count: usize,
+)
+    ensures { deque.new.items ≡ take count deque.old.items }
+{
+    deque.truncate(count);
+}
+
+/// Keeps the last items.
+pub fn keep_last_items<T: Drop, const CAP: usize, B: Behavior>(
+    deque: &mut ArrayDeque<T, CAP, B>,
+    count: usize,
+)
+    ensures { deque.new.items ≡ keep_last count deque.old.items }
+{
+    deque.truncate_front(count);
+}
+
+/// Fills the room with a value.
+pub fn fill_up<T: Copy + Drop, const CAP: usize, B: Behavior>(
+    deque: &mut ArrayDeque<T, CAP, B>,
+    value: T,
+)
+    ensures { deque.new.items ≡
+        deque.old.items ++ replicate (CAP - length deque.old.items) value }
+{
+    let _len = deque.len();
+    deque.resize(CAP, value);
+}
+
+/// Cuts a deque in two and joins the parts again.
+pub fn cut_and_join<T: Drop, const CAP: usize>(
+    deque: &mut ArrayDeque<T, CAP, Saturating>,
+    at: usize,
+) -> Result<(), AllocError>
+    requires { at ≤ length deque.old.items }
+    ensures { deque.new.items ≡ deque.old.items }
+{
+    let _len = deque.len();
+    let mut rest = deque.split_off(at)?;
+    deque.append(&mut rest);
+    Ok(())
+}
+
+/// Moves what finds room from one deque to another.
+pub fn append<T, const CAP: usize, const N: usize>(
+    to: &mut ArrayDeque<T, CAP, Saturating>,
+    from: &mut ArrayDeque<T, N, Saturating>,
+)
+    ensures to_has { to.new.items ≡
+        to.old.items ++ take (CAP - length to.old.items) from.old.items }
+    ensures from_has { from.new.items ≡ drop (CAP - length to.old.items) from.old.items }
+{
+    to.append(from);
+}
+
+/// Moves all from one deque to another, which keeps the last.
+pub fn append_all<T: Drop, const CAP: usize, const N: usize>(
+    to: &mut ArrayDeque<T, CAP, Wrapping>,
+    from: &mut ArrayDeque<T, N, Wrapping>,
+)
+    ensures to_has { to.new.items ≡ keep_last CAP (to.old.items ++ from.old.items) }
+    ensures from_has { from.new.items ≡ [] }
+{
+    to.append(from);
+}
+
+/// Takes a range out.
+pub fn take_range<T, const CAP: usize, B: Behavior>(
+    deque: &mut ArrayDeque<T, CAP, B>,
+    from: usize,
+    to: usize,
+) -> Result<Drain<T>, AllocError>
+    requires in_order { from ≤ to }
+    requires in_bounds { to ≤ length deque.old.items }
+    ensures taken { IfOk result (λ drained.
+        drained ≡ take (to - from) (drop from deque.old.items)) }
+    ensures left { OnOk result (deque.new.items ≡
+        take from deque.old.items ++ drop to deque.old.items) }
+    ensures unchanged { OnErr result (deque.new.items ≡ deque.old.items) }
+{
+    deque.drain(from..to)
+}
+
+/// A copy of a deque of numbers.
+pub fn clone<const CAP: usize, B: Behavior>(
+    deque: &ArrayDeque<u64, CAP, B>,
+) -> Result<ArrayDeque<u64, CAP, B>, AllocError>
+    ensures { IfOk result (λ copy. copy.items ≡ deque.now.items) }
+{
+    deque.clone()
+}
+
+/// A deque of an array's first items.
+pub fn from_array<T: Copy, const CAP: usize, const N: usize>(
+    array: [T; N],
+    alloc: Global,
+) -> Result<ArrayDeque<T, CAP, Saturating>, MakeError<[T; N]>>
+    ensures { IfOk result (λ deque. deque.items ≡ take CAP array) }
+{
+    ArrayDeque::<T, CAP, Saturating>::from_array(alloc, array)
+}
+
+/// A vector made a deque, and a vector again: its first items are left.
+pub fn there_and_back<T: Drop, const CAP: usize>(list: Vec<T>, alloc: Global) -> Option<Vec<T>>
+    ensures { IfSome result (λ left. left.items ≡ take CAP list.items) }
+{
+    let deque = ArrayDeque::<T, CAP, Saturating>::from_vec(alloc, list).ok()?;
+    deque.into_vec().ok()
+}

@@ -1,0 +1,21 @@
+//! Calls that no other use makes.
+use arraydeque::{ArrayDeque, Saturating};
+use std::alloc::AllocError;
+use std::test::Fail;
+use uses::callers::{cut_and_join, rotate_left, take_for_first, write_back};
+
+/// Whether each of several calls changes three items as it should.
+fn all_work(rt: &HostRuntime) -> Result<bool, AllocError> {
+    let mut deque = ArrayDeque::<u64, 4, Saturating>::from_array(rt.alloc(), [1, 2, 3])?;
+    rotate_left(&mut deque, 1);
+    cut_and_join(&mut deque, 2)?;
+    write_back(&mut deque, 7);
+    let taken = take_for_first(&mut deque, 1);
+    Ok(taken == Some(3) && deque.into_vec()?.as_slice() == [2, 7].as_slice())
+}
+
+#[test]
+fn each_call_does_what_its_caller_promises(rt: HostRuntime) -> Result<(), Fail> {
+    assert!(rt; all_work(&rt)?);
+    Ok(())
+}
