@@ -1,11 +1,11 @@
 //! Callers of the calls that no other use makes, a line each: by a call's contract alone its caller
 //! promises what a user would ask for.
-ghost use Rattle.std.specs.Prelude.{◌≡◌, ◌+◌, ◌-◌, ◌≤◌, ◌++◌, [], length, take, drop, swap, replicate, slice_get, slice_set, IfOk, IfSome, OnOk, OnErr};
+ghost use Rattle.std.specs.Prelude.{◌≡◌, ◌-◌, ◌<◌, ◌≤◌, ◌++◌, [], length, take, drop, swap, replicate, slice_get, slice_set, IfOk, IfSome, OnOk, OnErr};
 ghost use Rattle.std.specs.List.{list_any};
-ghost use Rattle.std.specs.List.Sorted.{IsBinarySearchResult, IsSearchInRange};
+ghost use Rattle.std.specs.List.Sorted.{IsBinarySearchResult};
 ghost use Rattle.std.specs.Fn.{ComputesKey};
 ghost use Rattle.arraydeque_ring.specs.Ring.{IsInOnePiece};
-ghost use Rattle.arraydeque.specs.Deque.{as_ring, keep_last, last_item};
+ghost use Rattle.arraydeque.specs.Deque.{as_ring, keep_last};
 
 use arraydeque::behavior::Behavior;
 use arraydeque::{ArrayDeque, Drain, MakeError, Saturating, Wrapping};
@@ -53,13 +53,13 @@ pub fn write_back<T: Copy + Drop, const CAP: usize, B: Behavior>(
     }
 }
 
-/// Writes over the item at an index, if there is one.
+/// Writes over the item at an index, at which there must be one.
 pub fn write_at<T: Copy + Drop, const CAP: usize, B: Behavior>(
     deque: &mut ArrayDeque<T, CAP, B>,
     index: usize,
     item: T,
 )
-    requires { index + 1 ≤ length deque.old.items }
+    requires { index < length deque.old.items }
     ensures { deque.new.items ≡ slice_set deque.old.items index item }
 {
     if let Some(written) = deque.get_mut(index) {
@@ -87,19 +87,24 @@ pub fn find_by<T, F: FnMut(&T) -> Ordering, const CAP: usize, B: Behavior>(
     deque.binary_search_by(compare)
 }
 
-/// Where the pair of a key is, or would go.
-pub fn find_by_key<const CAP: usize, B: Behavior>(
-    deque: &ArrayDeque<(u64, u64), CAP, B>,
-    key: u64,
+/// Where an item of a key is, or where it would go.
+pub fn find_by_key<T, K: Ord, F: FnMut(&T) -> K, const CAP: usize, B: Behavior>(
+    deque: &ArrayDeque<T, CAP, B>,
+    key: &K,
+    key_of: F,
 ) -> Result<usize, usize>
-    ensures { IsSearchInRange result (length deque.now.items) }
+where
+    K: Drop,
+    requires { F.IsAlwaysCallable key_of }
+    ensures { (keys : T → K) → ComputesKey F.FnMut keys key_of
+        → IsBinarySearchResult (λ item. K.cmp (keys item) key.now) deque.now.items result }
 {
-    deque.binary_search_by_key(&key, |item| item.0)
+    deque.binary_search_by_key(key, key_of)
 }
 
 /// Exchanges the first and the last item.
 pub fn swap_ends<T, const CAP: usize, B: Behavior>(deque: &mut ArrayDeque<T, CAP, B>)
-    requires { 1 ≤ length deque.old.items }
+    requires { 0 < length deque.old.items }
     ensures { deque.new.items ≡ swap deque.old.items 0 (length deque.old.items - 1) }
 {
     let last = deque.len() - 1;
@@ -141,12 +146,12 @@ pub fn rotate_back<T, const CAP: usize, B: Behavior>(
     deque.rotate_right(count);
 }
 
-/// Takes out an item, in whose place the last one goes.
+/// Takes out the item at an index, in whose place the last one goes.
 pub fn take_for_last<T, const CAP: usize, B: Behavior>(
     deque: &mut ArrayDeque<T, CAP, B>,
     index: usize,
 ) -> Option<T>
-    requires { index + 1 ≤ length deque.old.items }
+    requires { index < length deque.old.items }
     ensures value { result ≡ slice_get deque.old.items index }
     ensures items { let last = length deque.old.items - 1 in
         deque.new.items ≡ take last (swap deque.old.items index last) }
@@ -154,12 +159,12 @@ pub fn take_for_last<T, const CAP: usize, B: Behavior>(
     deque.swap_remove_back(index)
 }
 
-/// Takes out an item, in whose place the first one goes.
+/// Takes out the item at an index, in whose place the first one goes.
 pub fn take_for_first<T, const CAP: usize, B: Behavior>(
     deque: &mut ArrayDeque<T, CAP, B>,
     index: usize,
 ) -> Option<T>
-    requires { index + 1 ≤ length deque.old.items }
+    requires { index < length deque.old.items }
     ensures value { result ≡ slice_get deque.old.items index }
     ensures items { deque.new.items ≡ drop 1 (swap deque.old.items index 0) }
 {
