@@ -67,6 +67,7 @@ module _ {Source S A : Type 0} {becomes : Source → S → Type 0} {gives : S �
           from_it = ran.1;
           to_end = ran.2;
           holds = subst P (sym ran.3.0) holds;
+          same = λ xs many reads. all_items ran.0 xs (omega arith) many reads;
         }
 
     -- by a fill, and by what takes all that it left

@@ -33,7 +33,7 @@ module _ {Source S A : Type 0} (becomes : Source → S → Type 0)
     pub same : (xs : List A) → run.len ≡ length xs → IsReadOff run xs → run.items ≡ xs
 
   -- the source became an iterator whose calls gave items and then the first None, and P holds of
-  -- these items
+  -- these items; of a list that they were read off and that has as many, they are the whole list
   pub record TakesAll (P : List A → Type 0) : Type 0 where
     pub iterator : S
     pub became : becomes source iterator
@@ -41,3 +41,4 @@ module _ {Source S A : Type 0} (becomes : Source → S → Type 0)
     pub from_it : run.from ≡ iterator
     pub to_end : run.whole ≡ true
     pub holds : P run.items
+    pub same : (xs : List A) → run.len ≡ length xs → IsReadOff run xs → run.items ≡ xs

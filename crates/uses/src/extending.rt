@@ -368,6 +368,17 @@ pub fn push_all<T: Drop, const CAP: usize, const N: usize>(
     Ok(())
 }
 
+/// Pushes copies of a slice's first items.
+pub fn push_some_of_slice<const CAP: usize>(
+    to: &mut ArrayDeque<u64, CAP, Wrapping>,
+    from: &[u64],
+    count: usize,
+)
+    ensures { to.new.items ≡ keep_last CAP (to.old.items ++ take count from.now) }
+{
+    to.extend_back(from.iter().copied().take(count));
+}
+
 /// Pushes copies of a deque's items, from the last to the first.
 pub fn push_reversed<const CAP: usize, const N: usize>(
     to: &mut ArrayDeque<u64, CAP, Wrapping>,
