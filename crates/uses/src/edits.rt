@@ -50,6 +50,7 @@ pub fn merge<I: Iterator<Item = Edit>, const AHEAD: usize>(
     ensures merged { IfOk result (λ runs. AreMerged AHEAD runs.items) }
     ensures refused { IfErr result (λ refusal.
         TakesOff I.next_gives edits.old (written_out refusal.source.items) edits.new) }
+    ensures ends { IsFinite edits.new.left }
 {
     let mut runs = Vec::new(alloc);
     while runs.reserve(1).is_ok() {

@@ -55,6 +55,9 @@ pub fn tokenize<I: Iterator<Item = u8>, const AHEAD: usize>(
     ensures refused { IfErr result (λ refusal.
         TakesOff I.next_gives scanner.old (joined refusal.source.items) scanner.new) }
     ensures cut { IfErr result (λ refusal. All IsOfOneKind refusal.source.items) }
+
+    // What callers' proofs want.
+    ensures ends { IsFinite scanner.new.left }
 {
     let mut tokens = Vec::new(alloc);
     while tokens.reserve(1).is_ok() {
@@ -107,6 +110,7 @@ fn next_token<I: Iterator<Item = u8>, const AHEAD: usize>(
     ensures cut { IfErr result (λ refusal. IfSome refusal.source IsOfOneKind) }
 
     // What callers' proofs want.
+    ensures ends { IsFinite scanner.new.left }
     ensures goes { IfOk result (λ token.
         MakesProgress (λ _. ⊤) (λ s. s.left) scanner.old token scanner.new) }
 {
