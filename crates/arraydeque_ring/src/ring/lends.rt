@@ -157,12 +157,13 @@ impl<T> Ring<T> {
     #[inline]
     pub fn lend_part(&mut self, from: usize, len: usize) -> Loan<'_, T>
         requires { from + len ≤ length self.old.items }
-        // Whatever is written, the part keeps its length and the others stay. 2 lends are counted.
-        ensures* writes_back { sem 𝓛 (lends_part T.row self.entry from len result.name) }
         ensures value { remaining result ≡ take len (drop from self.old.items) }
         ensures cut { length result.first.now ≡
             min len (self.old.capacity - place_from self.old.start from self.old.capacity) }
         ensures one_piece { IsInOnePiece self.old → result.second.now ≡ [] }
+
+        // Whatever is written, the part keeps its length and the others stay. 2 lends are counted.
+        ensures* writes_back { sem 𝓛 (lends_part T.row self.entry from len result.name) }
     {
         let behind = self.len - from - len;
         self.lend_between(from, behind)
