@@ -1,7 +1,7 @@
 //! Instructions of a round, as valgrind counts them.
-use crate::all_workloads;
 use crate::figures::{self, Figures};
 use crate::times;
+use crate::{all_workloads, ours};
 use std::hint::black_box;
 use std::process::Command;
 
@@ -11,35 +11,15 @@ const COUNTS: &str = "counts.csv";
 /// Who does a workload, in the order of the columns.
 const WHO: [&str; 3] = ["ours", "crate", "VecDeque"];
 
-type Ours = Box<dyn Fn(usize) -> u64>;
-
-/// Work whose cost is not to grow with the capacity.
-fn scale_workloads() -> Vec<(String, Ours)> {
-    let mut list: Vec<(String, Ours)> = Vec::new();
-    macro_rules! scaled {
-        ($export:ident) => {
-            unsafe extern "C" {
-                fn $export(capacity: usize, rounds: usize) -> u64;
-            }
-            for capacity in [64, 1024, 65536, 1048576] {
-                let name = format!("{}_{capacity}", stringify!($export).trim_start_matches("arraydeque_scale_"));
-                // SAFETY: the declaration fits the export, which asks for nothing.
-                list.push((name, Box::new(move |rounds| unsafe { $export(capacity, rounds) })));
-            }
-        };
-    }
-    scaled!(arraydeque_scale_push);
-    scaled!(arraydeque_scale_pop);
-    scaled!(arraydeque_scale_get);
-    scaled!(arraydeque_scale_insert);
-    list
-}
+/// Work of ours whose cost is not to grow with the capacity, and the capacities at which it is counted.
+const SCALED: [&str; 4] = ["scale_push", "scale_pop", "scale_get", "scale_insert"];
+const CAPACITIES: [usize; 4] = [64, 1024, 65536, 1048576];
 
 /// Makes rounds of one workload by one of the three alone, for valgrind to count its instructions.
 pub fn once(name: &str, who: &str, rounds: usize) {
     let rounds = black_box(rounds);
-    if let Some((_, work)) = scale_workloads().iter().find(|(known, _)| known == name) {
-        black_box(work(rounds));
+    if let Some((name, capacity)) = name.split_once('@') {
+        black_box(ours(name, 8, capacity.parse().expect("a capacity"), rounds));
         return;
     }
     let all = all_workloads();
@@ -93,9 +73,8 @@ pub fn count_long() -> std::io::Result<()> {
 /// Prints the instructions of a round of ours at four capacities.
 pub fn scale() {
     println!("| Instructions a round | 64 | 1024 | 65536 | 1048576 |\n|---|---|---|---|---|");
-    for works in scale_workloads().chunks(4) {
-        let name = works[0].0.trim_end_matches("_64");
-        let counts = works.iter().map(|(name, _)| format!("{:.1}", instructions(name, WHO[0], 10_000)));
-        println!("| {name} | {} |", counts.collect::<Vec<_>>().join(" | "));
+    for name in SCALED {
+        let counted = |capacity| format!("{:.1}", instructions(&format!("{name}@{capacity}"), WHO[0], 10_000));
+        println!("| {name} | {} |", CAPACITIES.map(counted).join(" | "));
     }
 }

@@ -34,13 +34,14 @@ fn fail_of(what: &str, names: &[String]) -> Result<()> {
 }
 
 fn main() -> Result<()> {
-    let all = figures::load(figures::TIMES)?;
-    fail_of("summaries.rs has no task of", &summaries::without_task(&all))?;
+    let mut all = figures::load(figures::TIMES)?;
+    let others = summaries::take_without_task(&mut all);
     let workloads = summaries::by_workload(&all);
     std::fs::write("figures.md", tables::page(&all)?)?;
     std::fs::write("chart.svg", chart::of_workloads(&workloads))?;
     std::fs::write(format!("../{PICTURE}"), chart::of_tasks(&summaries::by_task(&all)))?;
     write_between_marks("../README.md", &tables::of_tasks(&all, PICTURE))?;
     write_between_marks("README.md", &tables::of_all(&all, &when()?))?;
+    fail_of("summaries.rs has no task, and pages have no row, of", &others)?;
     fail_of(&format!("causes.csv has no cause above {} of", figures::LONG), &tables::unexplained(&all)?)
 }

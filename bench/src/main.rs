@@ -26,6 +26,16 @@ std::arch::global_asm!(
     ".text"
 );
 
+unsafe extern "C" {
+    fn arraydeque_bench(name: *const u8, len: usize, bytes: usize, capacity: usize, rounds: usize) -> u64;
+}
+
+/// What so many rounds of a proved workload come to, or 0 if it has no such row.
+pub fn ours(name: &str, bytes: usize, capacity: usize, rounds: usize) -> u64 {
+    // SAFETY: the declaration fits the export, which asks for a slice and no more.
+    unsafe { arraydeque_bench(name.as_ptr(), name.len(), bytes, capacity, rounds) }
+}
+
 /// One workload at one size of items and one capacity, as each of the three does it.
 pub struct Workload {
     name: String,
@@ -35,215 +45,158 @@ pub struct Workload {
     agrees: bool,
 }
 
-/// The items of a workload, unless it names another kind to go by.
-macro_rules! kind_or {
-    ($item:ty) => { $item };
-    ($item:ty, $kind:ty) => { $kind };
-}
-
-macro_rules! workloads {
-    ($list:ident, $work:ident, $export:ident, $agrees:literal, $(($bytes:literal, $item:ty, $capacity:literal $(, $kind:ty)?)),+) => {{
-        unsafe extern "C" {
-            fn $export(bytes: usize, capacity: usize, rounds: usize) -> u64;
-        }
-        $($list.push(Workload {
-            name: format!("{}, {} bytes, capacity {}", stringify!($work), $bytes, $capacity),
-            // SAFETY: the declaration fits the export, which asks for nothing.
-            ours: Box::new(|rounds| unsafe { $export($bytes, $capacity, rounds) }),
-            peers: [
-                works::$work::<kind_or!($item $(, $kind)?), Crate<$item, $capacity>, $capacity>,
-                works::$work::<kind_or!($item $(, $kind)?), Bounded<$item, $capacity>, $capacity>,
-            ],
-            agrees: $agrees,
-        });)+
-    }};
-}
-
-/// At 1, 8 and 64 bytes.
-macro_rules! of_all_items {
-    ($list:ident, $work:ident, $export:ident $(, $more:tt)*) => {
-        workloads!(
-            $list, $work, $export, true,
-            (1, u8, 1024), (8, u64, 1024), (8, u64, 1000), (64, Block, 1024) $(, $more)*
-        )
+/// The work of a peer over items, unless the row names another kind to go by, with constants if it takes any.
+macro_rules! work {
+    ($work:ident, [$($constant:literal),*], $peer:ident, $item:ty, $capacity:literal) => {
+        works::$work::<$item, $peer<$item, $capacity>, $capacity $(, $constant)*>
+    };
+    ($work:ident, [], $peer:ident, $item:ty, $capacity:literal, $kind:ty) => {
+        works::$work::<$kind, $peer<$item, $capacity>, $capacity>
     };
 }
 
-/// The calls that most users make, mostly at a large capacity.
-fn common_workloads() -> Vec<Workload> {
-    let mut list = Vec::new();
-    of_all_items!(list, queue, arraydeque_bench_queue, (8, u64, 64), (8, u64, 1000000));
-    of_all_items!(list, ends, arraydeque_bench_ends);
-    of_all_items!(list, history, arraydeque_bench_history);
-    of_all_items!(list, get, arraydeque_bench_get, (8, u64, 64), (8, u64, 1000000));
-    workloads!(list, index, arraydeque_bench_index, true, (8, u64, 1024), (8, u64, 1000));
-    of_all_items!(list, iterate, arraydeque_bench_iterate);
-    of_all_items!(list, iterate_mut, arraydeque_bench_iterate_mut);
-    of_all_items!(list, middle, arraydeque_bench_middle);
-    of_all_items!(list, random, arraydeque_bench_random);
-    of_all_items!(list, extend_slice, arraydeque_bench_extend_slice);
-    of_all_items!(list, extend_lent, arraydeque_bench_extend_lent);
-    of_all_items!(list, extend_front, arraydeque_bench_extend_front);
-    of_all_items!(list, extend_history, arraydeque_bench_extend_history);
-    workloads!(list, extend_vec, arraydeque_bench_extend_vec, true, (8, u64, 1024), (8, u64, 1000));
-    of_all_items!(list, drain_middle, arraydeque_bench_drain_middle);
-    of_all_items!(list, drain_all, arraydeque_bench_drain_all);
-    of_all_items!(list, split_off, arraydeque_bench_split_off);
-    of_all_items!(list, retain, arraydeque_bench_retain);
-    of_all_items!(list, linearize, arraydeque_bench_linearize);
-    workloads!(list, linearize_one, arraydeque_bench_linearize_one, true, (8, u64, 1024), (8, u64, 1000));
-    workloads!(list, clone, arraydeque_bench_clone, true, (8, u64, 1024), (8, u64, 1000));
-    workloads!(list, equal, arraydeque_bench_equal, true, (1, u8, 1024), (8, u64, 1024), (8, u64, 1000));
-    // Equal deques of the peers can feed a hasher differently, and differently from ours.
-    workloads!(list, hash, arraydeque_bench_hash, false, (1, u8, 1024), (8, u64, 1024), (8, u64, 1000));
-    list
+/// Workloads at some rows: `rotate[true, true] as rotate_full_one` is one that takes constants, and its name.
+macro_rules! workloads {
+    ($list:ident, $rows:tt, $($work:ident $([$($constant:literal),+] as $name:ident)?),+) => {
+        $(workloads!(@one $list, $rows, $work $([$($constant),+] $name)?);)+
+    };
+    (@one $list:ident, $rows:tt, $work:ident) => {
+        workloads!(@one $list, $rows, $work [] $work)
+    };
+    (
+        @one $list:ident, [$(($bytes:literal, $item:ty, $capacity:literal $(, $kind:ty)?)),+],
+        $work:ident $constants:tt $name:ident
+    ) => {
+        $($list.push(Workload {
+            name: format!("{}, {} bytes, capacity {}", stringify!($name), $bytes, $capacity),
+            ours: Box::new(|rounds| ours(stringify!($name), $bytes, $capacity, rounds)),
+            peers: [
+                work!($work, $constants, Crate, $item, $capacity $(, $kind)?),
+                work!($work, $constants, Bounded, $item, $capacity $(, $kind)?),
+            ],
+            // Equal deques of the peers can feed a hasher differently, and differently from ours.
+            agrees: stringify!($name) != "hash",
+        });)+
+    };
+}
+
+/// At items of 1, 8 and 64 bytes, in many places.
+macro_rules! of_all_items {
+    ($list:ident, $($works:tt)+) => {
+        workloads!($list, [(1, u8, 1024), (8, u64, 1024), (8, u64, 1000), (64, Block, 1024)], $($works)+)
+    };
 }
 
 /// At a small and a very small capacity.
 macro_rules! of_few_items {
-    ($list:ident, $work:ident, $export:ident $(, $more:tt)*) => {
-        workloads!($list, $work, $export, true, (8, u64, 64), (8, u64, 16) $(, $more)*)
+    ($list:ident, $($works:tt)+) => {
+        workloads!($list, [(8, u64, 64), (8, u64, 16)], $($works)+)
     };
 }
 
-/// At all sizes and capacities.
+/// At both, in many places and in few.
 macro_rules! of_all_lists {
-    ($list:ident, $work:ident, $export:ident $(, $more:tt)*) => {
-        of_all_items!($list, $work, $export, (8, u64, 64), (8, u64, 16) $(, $more)*)
+    ($list:ident, $($works:tt)+) => {
+        of_all_items!($list, $($works)+);
+        of_few_items!($list, $($works)+);
     };
 }
 
-/// Items whose numbers rise in a list of any capacity.
-macro_rules! of_rising_items {
-    ($list:ident, $work:ident, $export:ident) => {
-        workloads!(
-            $list, $work, $export, true,
-            (8, u64, 1024), (8, u64, 1000), (64, Block, 1024), (8, u64, 64), (8, u64, 16), (8, u64, 1000000)
-        )
+/// At a million items.
+macro_rules! of_a_million {
+    ($list:ident, $($works:tt)+) => {
+        workloads!($list, [(8, u64, 1000000)], $($works)+)
     };
 }
 
-/// Boxes and texts.
-macro_rules! of_owned_items {
-    ($list:ident, $work:ident, $export:ident) => {
-        workloads!(
-            $list, $work, $export, true,
-            (100, Box<u64>, 64), (100, Box<u64>, 1024), (101, String, 64), (101, String, 1024)
-        )
-    };
-}
-
-/// Pieces of bytes.
-macro_rules! of_pieces {
-    ($list:ident, $work:ident, $export:ident) => {
-        workloads!(
-            $list, $work, $export, true,
-            (16, u8, 8192, Bytes<16>), (256, u8, 8192, Bytes<256>), (4096, u8, 8192, Bytes<4096>)
-        )
-    };
-}
-
-/// The same at other capacities.
-fn common_workloads_of_few() -> Vec<Workload> {
+/// Items in and out, and single items.
+fn workloads_of_items() -> Vec<Workload> {
     let mut list = Vec::new();
-    workloads!(list, queue, arraydeque_bench_queue, true, (8, u64, 16));
-    workloads!(list, get, arraydeque_bench_get, true, (8, u64, 16));
-    of_few_items!(list, history, arraydeque_bench_history, (8, u64, 1000000));
-    of_few_items!(list, index, arraydeque_bench_index);
-    of_few_items!(list, iterate, arraydeque_bench_iterate, (8, u64, 1000000));
-    of_few_items!(list, iterate_mut, arraydeque_bench_iterate_mut, (8, u64, 1000000));
-    of_few_items!(list, middle, arraydeque_bench_middle);
-    of_few_items!(list, random, arraydeque_bench_random);
-    of_few_items!(list, extend_slice, arraydeque_bench_extend_slice);
-    of_few_items!(list, extend_front, arraydeque_bench_extend_front);
-    of_few_items!(list, drain_middle, arraydeque_bench_drain_middle);
-    of_few_items!(list, drain_all, arraydeque_bench_drain_all);
-    of_few_items!(list, split_off, arraydeque_bench_split_off);
-    of_few_items!(list, retain, arraydeque_bench_retain);
-    of_few_items!(list, linearize, arraydeque_bench_linearize);
-    of_few_items!(list, clone, arraydeque_bench_clone);
-    of_few_items!(list, equal, arraydeque_bench_equal);
-    workloads!(list, hash, arraydeque_bench_hash, false, (8, u64, 64), (8, u64, 16));
+    of_all_lists!(list, queue, history, lent_queue, lent_history, get, index_mut);
+    of_all_items!(list, ends);
+    of_all_lists!(list, middle, random, swap, swap_remove_back, swap_remove_front);
+    of_a_million!(list, queue, history, get, index_mut, get_mut, swap, swap_remove_back, swap_remove_front);
+    // The other rows showed the same as those of `index_mut`.
+    workloads!(list, [(8, u64, 1000)], get_mut);
+    workloads!(
+        list,
+        [(8, u64, 1024), (8, u64, 1000), (64, Block, 1024), (8, u64, 64), (8, u64, 16), (8, u64, 1000000)],
+        search, partition_point
+    );
     list
 }
 
-/// All items read or written, or one of them at random.
+/// All items, read or written.
 fn workloads_in_place() -> Vec<Workload> {
     let mut list = Vec::new();
-    of_all_lists!(list, fold, arraydeque_bench_fold, (8, u64, 1000000));
-    of_all_lists!(list, rev, arraydeque_bench_rev);
-    of_all_lists!(list, zip, arraydeque_bench_zip);
-    of_all_lists!(list, add_each, arraydeque_bench_add_each, (8, u64, 1000000));
-    // Not at capacity 16, whose rounds the compiler sums without making them.
-    of_all_items!(list, iter_mut_for_each, arraydeque_bench_iter_mut_for_each, (8, u64, 64), (8, u64, 1000000));
-    of_all_items!(list, for_each_mut, arraydeque_bench_for_each_mut, (8, u64, 64), (8, u64, 1000000));
-    of_all_items!(list, for_each_mut_in, arraydeque_bench_for_each_mut_in, (8, u64, 64), (8, u64, 1000000));
-    of_all_lists!(list, range_mut, arraydeque_bench_range_mut, (8, u64, 1000000));
-    of_all_lists!(list, contains, arraydeque_bench_contains, (8, u64, 1000000));
+    of_all_lists!(list, iterate, fold, rev, zip, contains, iterate_mut);
+    of_a_million!(list, iterate, fold, contains);
+    of_a_million!(list, iterate_mut, add_each, for_each_mut, for_each_mut_in, range_mut);
+    // Items of 64 bytes showed the same as in `iterate_mut`. At capacity 16 the compiler sums the rounds of
+    // `for_each_mut*` without making them.
     workloads!(
-        list, compare, arraydeque_bench_compare, true,
-        (1, u8, 1024), (8, u64, 1024), (8, u64, 1000), (8, u64, 64), (8, u64, 16)
+        list, [(1, u8, 1024), (8, u64, 1024), (8, u64, 1000), (8, u64, 64)],
+        add_each, for_each_mut, for_each_mut_in, range_mut
     );
-    of_all_lists!(list, swap, arraydeque_bench_swap, (8, u64, 1000000));
-    of_all_lists!(list, swap_remove_back, arraydeque_bench_swap_remove_back, (8, u64, 1000000));
-    of_all_lists!(list, swap_remove_front, arraydeque_bench_swap_remove_front, (8, u64, 1000000));
-    of_all_lists!(list, index_mut, arraydeque_bench_index_mut, (8, u64, 1000000));
-    of_all_lists!(list, get_mut, arraydeque_bench_get_mut, (8, u64, 1000000));
+    workloads!(list, [(8, u64, 16)], add_each, range_mut);
+    workloads!(
+        list, [(1, u8, 1024), (8, u64, 1024), (8, u64, 1000), (8, u64, 64), (8, u64, 16)],
+        equal, compare, hash
+    );
     list
 }
 
-/// Deques made and taken apart, and many items moved.
+/// Many items in, out or moved, and deques made and taken apart.
 fn workloads_of_many() -> Vec<Workload> {
     let mut list = Vec::new();
-    of_all_lists!(list, from_vec, arraydeque_bench_from_vec);
-    of_all_lists!(list, into_vec, arraydeque_bench_into_vec);
-    of_all_lists!(list, vec_and_back, arraydeque_bench_vec_and_back);
-    of_all_lists!(list, into_items, arraydeque_bench_into_items);
-    of_all_lists!(list, into_fold, arraydeque_bench_into_fold);
-    of_all_lists!(list, into_ends, arraydeque_bench_into_ends);
-    of_few_items!(list, from_array, arraydeque_bench_from_array, (8, u64, 1000), (8, u64, 1024));
-    of_all_lists!(list, lent_queue, arraydeque_bench_lent_queue);
-    of_all_lists!(list, lent_history, arraydeque_bench_lent_history);
-    of_all_lists!(list, drain_fold, arraydeque_bench_drain_fold);
-    of_all_lists!(list, drain_four, arraydeque_bench_drain_four);
-    of_all_lists!(list, split_append, arraydeque_bench_split_append);
-    of_all_lists!(list, split_rejoin, arraydeque_bench_split_rejoin);
-    of_all_lists!(list, truncate, arraydeque_bench_truncate);
+    of_all_lists!(list, extend_slice, extend_front, truncate, retain, retain_mut);
+    of_all_lists!(list, split_off, split_append, split_rejoin);
+    of_all_items!(list, extend_lent, extend_history, resize);
+    workloads!(list, [(8, u64, 1024), (8, u64, 1000)], extend_vec);
     // Not at capacity 16, whose rounds the compiler sums without making them.
-    of_all_items!(list, resize, arraydeque_bench_resize, (8, u64, 64));
-    of_all_lists!(list, retain_mut, arraydeque_bench_retain_mut);
-    of_all_lists!(list, rotate_full_one, arraydeque_bench_rotate_full_one);
-    of_all_lists!(list, rotate_full_half, arraydeque_bench_rotate_full_half);
-    of_all_lists!(list, rotate_half_one, arraydeque_bench_rotate_half_one);
-    of_all_lists!(list, rotate_half_half, arraydeque_bench_rotate_half_half);
+    workloads!(list, [(8, u64, 64)], resize);
+    of_all_lists!(list, drain_middle, drain_four);
+    // Items of 64 bytes showed the same as in `drain_middle`, and the other rows of `drain_fold` as in `drain_all`.
+    workloads!(list, [(1, u8, 1024), (8, u64, 1024), (8, u64, 1000), (8, u64, 64), (8, u64, 16)], drain_all);
+    workloads!(list, [(64, Block, 1024)], drain_fold);
+    of_all_lists!(
+        list,
+        rotate[true, true] as rotate_full_one,
+        rotate[true, false] as rotate_full_half,
+        rotate[false, true] as rotate_half_one,
+        rotate[false, false] as rotate_half_half
+    );
+    of_all_lists!(list, linearize);
+    of_all_items!(list, linearize_full, linearize_some[1] as linearize_1);
+    workloads!(
+        list, [(1, u8, 1024), (8, u64, 1024), (64, Block, 1024)],
+        linearize_some[8] as linearize_8, linearize_some[64] as linearize_64
+    );
+    of_all_lists!(list, from_vec, into_vec, vec_and_back, into_items, into_fold, into_ends);
+    workloads!(list, [(8, u64, 1024), (8, u64, 1000), (8, u64, 64), (8, u64, 16)], clone, from_array);
     list
 }
 
-/// Searches, items that own memory, bytes, and small programs.
+/// Items that own memory, bytes, and small programs.
 fn further_workloads() -> Vec<Workload> {
     let mut list = Vec::new();
-    of_rising_items!(list, search, arraydeque_bench_search);
-    of_rising_items!(list, partition_point, arraydeque_bench_partition_point);
-    of_owned_items!(list, owned_queue, arraydeque_bench_owned_queue);
-    of_owned_items!(list, owned_clone, arraydeque_bench_owned_clone);
-    of_owned_items!(list, owned_clear, arraydeque_bench_owned_clear);
-    of_owned_items!(list, owned_truncate, arraydeque_bench_owned_truncate);
-    of_owned_items!(list, owned_insert, arraydeque_bench_owned_insert);
-    of_owned_items!(list, owned_retain, arraydeque_bench_owned_retain);
-    of_owned_items!(list, owned_drain, arraydeque_bench_owned_drain);
-    of_pieces!(list, pipe, arraydeque_bench_pipe);
-    of_pieces!(list, pipe_truncating, arraydeque_bench_pipe_truncating);
-    of_pieces!(list, pipe_popping, arraydeque_bench_pipe_popping);
-    of_pieces!(list, pipe_wrapping, arraydeque_bench_pipe_wrapping);
-    of_pieces!(list, stream, arraydeque_bench_stream);
-    workloads!(list, linearize_1, arraydeque_bench_linearize_1, true, (1, u8, 1024), (8, u64, 1024), (64, Block, 1024));
-    workloads!(list, linearize_8, arraydeque_bench_linearize_8, true, (1, u8, 1024), (8, u64, 1024), (64, Block, 1024));
-    workloads!(list, linearize_64, arraydeque_bench_linearize_64, true, (1, u8, 1024), (8, u64, 1024), (64, Block, 1024));
-    of_all_items!(list, linearize_full, arraydeque_bench_linearize_full);
-    workloads!(list, window, arraydeque_bench_window, true, (8, u64, 64), (8, u64, 1000), (8, u64, 1024));
-    workloads!(list, window_largest, arraydeque_bench_window_largest, true, (8, u64, 64), (8, u64, 1000), (8, u64, 1024));
-    workloads!(list, run, arraydeque_bench_run, true, (8, u64, 64), (8, u64, 1000), (8, u64, 1024));
-    workloads!(list, scan, arraydeque_bench_scan, true, (1, u8, 1));
+    workloads!(
+        list, [(100, Box<u64>, 64), (100, Box<u64>, 1024), (101, String, 64), (101, String, 1024)],
+        owned_queue, owned_insert, owned_retain, owned_drain
+    );
+    // Boxes in 64 places showed the same as in `owned_retain`, and other rows of `owned_truncate` as in `owned_drain`.
+    workloads!(list, [(100, Box<u64>, 1024), (101, String, 64), (101, String, 1024)], owned_clone);
+    workloads!(list, [(101, String, 1024)], owned_truncate);
+    workloads!(
+        list, [(16, u8, 8192, Bytes<16>), (256, u8, 8192, Bytes<256>), (4096, u8, 8192, Bytes<4096>)],
+        pipe, pipe_truncating, pipe_popping, pipe_wrapping, stream
+    );
+    workloads!(list, [(64, u8, 4096, Bytes<64>), (1000, u8, 4096, Bytes<1000>)], pipe_varying);
+    workloads!(list, [(8, u64, 64), (8, u64, 1000), (8, u64, 1024)], window, window_largest, run);
+    workloads!(list, [(1, u8, 1)], scan);
+    workloads!(list, [(4, char, 16)], yaml);
+    workloads!(list, [(24, Vec<u8>, 64)], log_copied);
+    workloads!(list, [(16, &'static [u8], 64)], log_lent);
     list
 }
 
@@ -338,7 +291,7 @@ fn print_sums(rounds: usize, wanted: &str) {
 }
 
 fn all_workloads() -> Vec<Workload> {
-    let parts = [common_workloads, common_workloads_of_few, workloads_in_place, workloads_of_many, further_workloads];
+    let parts = [workloads_of_items, workloads_in_place, workloads_of_many, further_workloads];
     parts.into_iter().flat_map(|part| part()).collect()
 }
 

@@ -81,6 +81,9 @@ pub trait History<T> {
     fn push_back(&mut self, item: T) -> Option<T>;
     fn extend_back(&mut self, items: impl IntoIterator<Item = T>);
     fn front(&self) -> Option<&T>;
+    fn iter<'a>(&'a self) -> impl Iterator<Item = &'a T>
+    where
+        T: 'a;
 }
 
 /// The calls that both peers have under the same names.
@@ -340,6 +343,13 @@ impl<T, const CAP: usize> History<T> for ArrayDeque<T, CAP, Wrapping> {
     fn front(&self) -> Option<&T> {
         ArrayDeque::front(self)
     }
+    #[inline]
+    fn iter<'a>(&'a self) -> impl Iterator<Item = &'a T>
+    where
+        T: 'a,
+    {
+        ArrayDeque::iter(self)
+    }
 }
 
 /// std's `VecDeque`, bounded by hand.
@@ -479,5 +489,12 @@ impl<T, const CAP: usize> History<T> for Bounded<T, CAP> {
     #[inline]
     fn front(&self) -> Option<&T> {
         self.0.front()
+    }
+    #[inline]
+    fn iter<'a>(&'a self) -> impl Iterator<Item = &'a T>
+    where
+        T: 'a,
+    {
+        self.0.iter()
     }
 }

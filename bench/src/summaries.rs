@@ -21,12 +21,9 @@ const fn other(name: &'static str, workloads: &'static [&'static str]) -> Task {
 pub const TASKS: [Task; 23] = [
     common("push and pop at the ends", &["queue", "ends", "history"]),
     common("the same through a reference", &["lent_queue", "lent_history"]),
-    common("an item by its index", &["get", "index", "get_mut", "index_mut"]),
+    common("an item by its index", &["get", "get_mut", "index_mut"]),
     common("all items read", &["iterate", "rev", "zip", "fold"]),
-    common(
-        "all items written",
-        &["iterate_mut", "add_each", "iter_mut_for_each", "for_each_mut", "range_mut", "for_each_mut_in"],
-    ),
+    common("all items written", &["iterate_mut", "add_each", "for_each_mut", "range_mut", "for_each_mut_in"]),
     common("contains", &["contains"]),
     common("equality, order, hash", &["equal", "compare", "hash"]),
     common("binary searches", &["search", "partition_point"]),
@@ -34,7 +31,7 @@ pub const TASKS: [Task; 23] = [
     other("swaps and swap removals", &["swap", "swap_remove_back", "swap_remove_front"]),
     common("rotate by one", &["rotate_full_one", "rotate_half_one"]),
     common("rotate by half", &["rotate_full_half", "rotate_half_half"]),
-    other("linearize", &["linearize", "linearize_full", "linearize_one", "linearize_1", "linearize_8", "linearize_64"]),
+    other("linearize", &["linearize", "linearize_full", "linearize_1", "linearize_8", "linearize_64"]),
     common("retain", &["retain", "retain_mut"]),
     common("extend", &["extend_slice", "extend_lent", "extend_front", "extend_vec", "extend_history"]),
     common("drain", &["drain_middle", "drain_all", "drain_four", "drain_fold"]),
@@ -42,11 +39,11 @@ pub const TASKS: [Task; 23] = [
     other("clone, from an array, by value", &["clone", "from_array", "into_items", "into_ends", "into_fold"]),
     common("from a vector, into a vector", &["from_vec", "into_vec"]),
     other("a vector in and back", &["vec_and_back"]),
-    other("bytes in and out", &["pipe", "pipe_truncating", "pipe_popping", "pipe_wrapping", "stream"]),
+    other("bytes in and out", &["pipe", "pipe_truncating", "pipe_popping", "pipe_wrapping", "pipe_varying", "stream"]),
     common("boxes and texts", &[
-        "owned_queue", "owned_clone", "owned_clear", "owned_truncate", "owned_insert", "owned_retain", "owned_drain",
+        "owned_queue", "owned_clone", "owned_truncate", "owned_insert", "owned_retain", "owned_drain",
     ]),
-    other("small programs", &["window", "window_largest", "run", "scan"]),
+    other("small programs", &["window", "window_largest", "run", "scan", "yaml", "log_copied", "log_lent"]),
 ];
 
 impl Figures {
@@ -117,14 +114,13 @@ pub fn by_task(all: &[Figures]) -> Vec<Summary> {
     TASKS.iter().map(|task| Summary::of(task.name, &task.rows(all))).collect()
 }
 
-/// The workloads that no task names.
-pub fn without_task(all: &[Figures]) -> Vec<String> {
-    let mut others: Vec<String> = all
-        .iter()
-        .map(Figures::workload)
-        .filter(|name| TASKS.iter().all(|task| !task.workloads.contains(name)))
-        .map(str::to_string)
-        .collect();
+/// Takes out the rows of workloads that no task names, and returns these workloads.
+pub fn take_without_task(all: &mut Vec<Figures>) -> Vec<String> {
+    let has_task = |row: &Figures| TASKS.iter().any(|task| task.workloads.contains(&row.workload()));
+    let mut others: Vec<String> =
+        all.iter().filter(|row| !has_task(row)).map(|row| row.workload().to_string()).collect();
+    others.sort();
     others.dedup();
+    all.retain(has_task);
     others
 }

@@ -1,6 +1,6 @@
 //! The figures as tables: by task, and what costs the rows that take long.
 use crate::figures::{Figures, LONG};
-use crate::summaries::{Span, TASKS};
+use crate::summaries::{Span, TASKS, by_workload};
 use std::fmt::Write;
 use std::io::Result;
 use std::ops::RangeInclusive;
@@ -22,6 +22,9 @@ const QUEUES: [(&str, &str); 2] =
     [("1,024", "queue, 8 bytes, capacity 1024"), ("1,000", "queue, 8 bytes, capacity 1000")];
 const VECTOR: &str = "vec_and_back, 64 bytes, capacity 1024";
 
+/// A scanner, which README tells as parts of the peers' times.
+const SCANNER: &str = "yaml, 4 bytes, capacity 16";
+
 /// A row of README's table: the means beside the crate by capacity, the mean beside `VecDeque`, and what is worst.
 fn task_line(name: &str, rows: &[&Figures], worst: &str) -> String {
     let mut line = format!("| {name} |");
@@ -41,21 +44,26 @@ fn above(all: &[Figures], limit: f64) -> [usize; 2] {
 
 /// What stands behind README's ratios: how many are how great, and some times.
 fn behind(all: &[Figures]) -> String {
-    let times = |name: &str| {
-        let row = all.iter().find(|row| row.name == name);
-        row.unwrap_or_else(|| panic!("no row is {name}")).columns
-    };
+    let row = |name: &str| all.iter().find(|row| row.name == name);
+    let times = |name: &str| row(name).unwrap_or_else(|| panic!("no row is {name}")).columns;
     let [[rust_slower, std_slower], [rust_twice, std_twice]] = [LONGER, 2.0].map(|limit| above(all, limit));
     let [one, other] = QUEUES.map(|(places, name)| {
         let [ours, rust, std] = times(name);
         format!("{ours:.1} ns at {places} places (the crate {rust:.1}, `VecDeque` {std:.1})")
     });
+    let scanner = row(SCANNER).map_or_else(String::new, |row| {
+        let [rust, std] = [0, 1].map(|peer| row.ratio(peer));
+        format!(
+            " A scanner of YAML, over a look-ahead of 16 characters, takes {rust:.2} of its time over the crate, and \
+             {std:.2} of that over `VecDeque`."
+        )
+    });
     let [ours, _, std] = times(VECTOR);
     format!(
         "Of {} measured times, {rust_slower} are over a tenth longer than the crate's ({rust_twice} over twice as \
          long), and {std_slower} than `VecDeque`'s ({std_twice}). A `push_back` with a `pop_front` takes {one}, \
-         {other}. A vector handed over and back costs `VecDeque` {std:.0} ns, and this deque a move of each item \
-         ({:.1} µs for 1,024 of 64 bytes).\n",
+         {other}.{scanner} A vector handed over and back costs `VecDeque` {std:.0} ns, and this deque a move of each \
+         item ({:.1} µs for 1,024 of 64 bytes).\n",
         all.len(),
         ours / 1000.0,
     )
@@ -101,7 +109,7 @@ fn whole_line(whose: &str, rows: &[&Figures], peer: usize) -> String {
 pub fn of_all(all: &[Figures], when: &str) -> String {
     let every: Vec<&Figures> = all.iter().collect();
     let others: Vec<&Figures> = all.iter().filter(|row| !OF_VECTORS.contains(&row.workload())).collect();
-    let workloads: usize = TASKS.iter().map(|task| task.workloads.len()).sum();
+    let workloads: usize = by_workload(all).iter().map(|(_, list)| list.len()).sum();
     format!(
         "{} rows of {workloads} workloads, measured {when}:\n\n\
          | Our time as a part of | geometric mean | rows a tenth faster | within a tenth | a tenth slower \

@@ -1,5 +1,6 @@
 //! The workloads, each as in the proved crate, over a peer: a file a subject.
 mod bytes;
+mod clients;
 mod ends;
 mod makers;
 mod owned;
@@ -8,8 +9,10 @@ mod places;
 mod programs;
 mod turns;
 mod walks;
+mod yaml;
 
 pub use self::bytes::*;
+pub use self::clients::*;
 pub use self::ends::*;
 pub use self::makers::*;
 pub use self::owned::*;
@@ -18,6 +21,7 @@ pub use self::places::*;
 pub use self::programs::*;
 pub use self::turns::*;
 pub use self::walks::*;
+pub use self::yaml::*;
 
 use crate::items::Item;
 use crate::peers::Peer;

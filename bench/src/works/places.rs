@@ -16,19 +16,6 @@ pub fn get<T: Item, D: Peer<T>, const CAP: usize>(rounds: usize) -> u64 {
     sum
 }
 
-pub fn index<T: Item, D: Peer<T>, const CAP: usize>(rounds: usize) -> u64 {
-    let deque: D = peer_at(CAP / 2, CAP);
-    let mut sum = 0u64;
-    let mut index = 0usize;
-    for _ in 0..rounds {
-        if index < deque.len() {
-            sum = sum.wrapping_add(deque.at(index).number());
-        }
-        index = if index < CAP / 2 { index + CAP / 3 } else { index - CAP / 2 };
-    }
-    sum
-}
-
 pub fn get_mut<T: Item, D: Peer<T>, const CAP: usize>(rounds: usize) -> u64 {
     let mut deque: D = peer_at(CAP / 2, CAP);
     let mut state = 1u64;

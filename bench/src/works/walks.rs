@@ -86,7 +86,8 @@ pub fn add_each<T: Item, D: Peer<T>, const CAP: usize>(rounds: usize) -> u64 {
     sum
 }
 
-pub fn iter_mut_for_each<T: Item, D: Peer<T>, const CAP: usize>(rounds: usize) -> u64 {
+/// By an iterator, as the peers have no other way.
+pub fn for_each_mut<T: Item, D: Peer<T>, const CAP: usize>(rounds: usize) -> u64 {
     let mut deque: D = peer_at(CAP / 2, CAP);
     let mut sum = 0u64;
     for _ in 0..rounds {
@@ -94,11 +95,6 @@ pub fn iter_mut_for_each<T: Item, D: Peer<T>, const CAP: usize>(rounds: usize) -
         sum = sum.wrapping_add(last_number(&deque));
     }
     sum
-}
-
-/// By an iterator, as the peers have no other way.
-pub fn for_each_mut<T: Item, D: Peer<T>, const CAP: usize>(rounds: usize) -> u64 {
-    iter_mut_for_each::<T, D, CAP>(rounds)
 }
 
 pub fn for_each_mut_in<T: Item, D: Peer<T>, const CAP: usize>(rounds: usize) -> u64 {
