@@ -5,15 +5,19 @@ use crate::script::{BROKEN, REFUSED};
 use crate::theirs;
 use arraydeque::{Saturating, Wrapping};
 
-type Export = unsafe extern "C" fn(
-    capacity: usize,
-    script: *const u64,
-    script_len: usize,
-    replies: *mut u64,
-    replies_len: usize,
-    lists: *mut u64,
-    lists_len: usize,
-) -> u64;
+unsafe extern "C" {
+    fn arraydeque_replay(
+        player: *const u8,
+        player_len: usize,
+        capacity: usize,
+        script: *const u64,
+        script_len: usize,
+        replies: *mut u64,
+        replies_len: usize,
+        lists: *mut u64,
+        lists_len: usize,
+    ) -> u64;
+}
 
 /// What a side tells of a script: for each call the reply, and the list behind it.
 #[derive(Default)]
@@ -55,7 +59,7 @@ pub struct Pair {
     pub policy: &'static str,
     pub capacity: usize,
     pub copied: bool,
-    ours: Export,
+    player: &'static str,
     theirs: fn(&[u64], &mut [u64], &mut [u64]) -> u64,
     pub list_behind: fn(&[u64]) -> Vec<u64>,
 }
@@ -65,9 +69,11 @@ impl Pair {
     pub fn play_ours(&self, script: &[u64], refused: u64, told: &mut Told) -> u64 {
         told.clear(script.len());
         memory::begin(refused);
-        // SAFETY: the export is handed three slices, and keeps none.
+        // SAFETY: the export is handed four slices, and keeps none.
         told.end = unsafe {
-            (self.ours)(
+            arraydeque_replay(
+                self.player.as_ptr(),
+                self.player.len(),
                 self.capacity,
                 script.as_ptr(),
                 script.len(),
@@ -90,46 +96,35 @@ impl Pair {
 }
 
 macro_rules! pairs {
-    ($list:ident, $items:literal, $copied:literal, $item:ty, $policy:ident, $export:ident, $($capacity:literal),+) => {{
-        unsafe extern "C" {
-            fn $export(
-                capacity: usize,
-                script: *const u64,
-                script_len: usize,
-                replies: *mut u64,
-                replies_len: usize,
-                lists: *mut u64,
-                lists_len: usize,
-            ) -> u64;
-        }
+    ($list:ident, $items:literal, $copied:literal, $item:ty, $policy:ident, $($capacity:literal),+) => {
         $($list.push(Pair {
             items: $items,
             policy: stringify!($policy),
             capacity: $capacity,
             copied: $copied,
-            ours: $export,
+            player: concat!($items, " ", stringify!($policy)),
             theirs: theirs::play::<$item, $capacity, $policy>,
             list_behind: theirs::list_behind::<$item, $capacity, $policy>,
         });)+
-    }};
+    };
 }
 
 macro_rules! at_all_capacities {
-    ($list:ident, $items:literal, $copied:literal, $item:ty, $policy:ident, $export:ident) => {
-        pairs!($list, $items, $copied, $item, $policy, $export, 1, 2, 3, 4, 5, 7, 8, 16, 31, 64, 100, 200)
+    ($list:ident, $items:literal, $copied:literal, $item:ty, $policy:ident) => {
+        pairs!($list, $items, $copied, $item, $policy, 1, 2, 3, 4, 5, 7, 8, 16, 31, 64, 100, 200)
     };
 }
 
 /// All pairs.
 pub fn all() -> Vec<Pair> {
     let mut list = Vec::new();
-    at_all_capacities!(list, "bytes", true, u8, Saturating, arraydeque_replay_bytes_saturating);
-    at_all_capacities!(list, "bytes", true, u8, Wrapping, arraydeque_replay_bytes_wrapping);
-    at_all_capacities!(list, "words", true, u64, Saturating, arraydeque_replay_words_saturating);
-    at_all_capacities!(list, "words", true, u64, Wrapping, arraydeque_replay_words_wrapping);
-    at_all_capacities!(list, "blocks", true, Block, Saturating, arraydeque_replay_blocks_saturating);
-    at_all_capacities!(list, "blocks", true, Block, Wrapping, arraydeque_replay_blocks_wrapping);
-    at_all_capacities!(list, "owned", false, Owned, Saturating, arraydeque_replay_owned_saturating);
-    at_all_capacities!(list, "owned", false, Owned, Wrapping, arraydeque_replay_owned_wrapping);
+    at_all_capacities!(list, "bytes", true, u8, Saturating);
+    at_all_capacities!(list, "bytes", true, u8, Wrapping);
+    at_all_capacities!(list, "words", true, u64, Saturating);
+    at_all_capacities!(list, "words", true, u64, Wrapping);
+    at_all_capacities!(list, "blocks", true, Block, Saturating);
+    at_all_capacities!(list, "blocks", true, Block, Wrapping);
+    at_all_capacities!(list, "owned", false, Owned, Saturating);
+    at_all_capacities!(list, "owned", false, Owned, Wrapping);
     list
 }
