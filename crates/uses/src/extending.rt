@@ -3,7 +3,7 @@
 //!
 //! Under `Saturating` most stand twice: for as much as finds room, and as `.._that_fits` for a
 //! source that has room. What comes through `rev`, `skip`, `filter` or `map` is added by `extend`,
-//! whose contract speaks of all that came; a part of a deque by the caller that adds a drain.
+//! whose contract speaks of all that came; a part that is drained by the caller that adds a drain.
 ghost use Rattle.std.specs.Prelude.{◌≡◌, ◌+◌, ◌-◌, ◌≤◌, ◌++◌, ◌∷◌, [], length, take, drop, reverse, map, nat_le, bit_and, IfOk, IfSome, OnOk};
 ghost use Rattle.std.specs.List.{filter};
 ghost use Rattle.arraydeque.specs.Deque.{keep_last};
@@ -202,6 +202,21 @@ pub fn add_copies_that_fits<const CAP: usize, const N: usize>(
     to.extend_back(from.iter().copied());
 }
 
+/// Adds copies of a part of a deque, as far as there is room.
+pub fn add_part<const CAP: usize, const N: usize>(
+    to: &mut ArrayDeque<u64, CAP, Saturating>,
+    from: &ArrayDeque<u64, N, Saturating>,
+    start: usize,
+    end: usize,
+)
+    requires in_order { start ≤ end }
+    requires there { end ≤ length from.now.items }
+    ensures { let room = CAP - length to.old.items in
+        to.new.items ≡ to.old.items ++ take room (take (end - start) (drop start from.now.items)) }
+{
+    to.extend_back(from.range(start..end).copied());
+}
+
 /// Moves a deque's first items, as far as there is room.
 pub fn move_first<T: Drop, const CAP: usize, const N: usize>(
     to: &mut ArrayDeque<T, CAP, Saturating>,
@@ -365,6 +380,59 @@ pub fn push_all<T: Drop, const CAP: usize, const N: usize>(
     ensures { OnOk result (to.new.items ≡ keep_last CAP (to.old.items ++ from.old.items)) }
 {
     to.extend_back(from.drain(..)?);
+    Ok(())
+}
+
+/// Pushes a vector's items.
+pub fn push_vector<T: Drop, const CAP: usize>(to: &mut ArrayDeque<T, CAP, Wrapping>, from: Vec<T>)
+    ensures { to.new.items ≡ keep_last CAP (to.old.items ++ from.items) }
+{
+    to.extend_back(from);
+}
+
+/// Pushes two items.
+pub fn push_two<const CAP: usize>(to: &mut ArrayDeque<u64, CAP, Wrapping>, a: u64, b: u64)
+    ensures { to.new.items ≡ keep_last CAP (to.old.items ++ a ∷ b ∷ []) }
+{
+    to.extend_back([a, b]);
+}
+
+/// Pushes the items of a deque.
+pub fn push_deque<T: Drop, const CAP: usize, const N: usize>(
+    to: &mut ArrayDeque<T, CAP, Wrapping>,
+    from: ArrayDeque<T, N, Saturating>,
+)
+    ensures { to.new.items ≡ keep_last CAP (to.old.items ++ from.items) }
+{
+    to.extend_back(from);
+}
+
+/// Pushes copies of a part of a deque.
+pub fn push_part<const CAP: usize, const N: usize>(
+    to: &mut ArrayDeque<u64, CAP, Wrapping>,
+    from: &ArrayDeque<u64, N, Saturating>,
+    start: usize,
+    end: usize,
+)
+    requires in_order { start ≤ end }
+    requires there { end ≤ length from.now.items }
+    ensures { let part = take (end - start) (drop start from.now.items) in
+        to.new.items ≡ keep_last CAP (to.old.items ++ part) }
+{
+    to.extend_back(from.range(start..end).copied());
+}
+
+/// Pushes a deque's first items.
+pub fn push_first<T: Drop, const CAP: usize, const N: usize>(
+    to: &mut ArrayDeque<T, CAP, Wrapping>,
+    from: &mut ArrayDeque<T, N, Saturating>,
+    count: usize,
+) -> Result<(), AllocError>
+    requires { count ≤ length from.old.items }
+    ensures { OnOk result
+        (to.new.items ≡ keep_last CAP (to.old.items ++ take count from.old.items)) }
+{
+    to.extend_back(from.drain(..count)?);
     Ok(())
 }
 
