@@ -1,7 +1,8 @@
 //! The raw memory of a region: the one file with pointers.
 //!
 //! A leaf is a function of this file: it touches the memory, and its callers know only its
-//! contract. A leaf counts each read and write of a place, and each lend. No other function does.
+//! contract. A leaf counts each value that it reads out of a place or writes into one, and each
+//! lend for writing. No other function does. What others do through a reference isn't counted.
 ghost use Rattle.std.specs.Prelude.{◌≡◌, ◌+◌, ◌*◌, ◌^◌, ◌<◌, ◌≤◌, length, take, drop, slice_set, Some, None, IfOk, true};
 ghost use Rattle.std.specs.Borrow.{sem};
 ghost use Rattle.std.specs.List.{splice};
