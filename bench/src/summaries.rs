@@ -9,7 +9,7 @@ pub struct Task {
     pub is_in_table: bool,
 }
 
-const fn common(name: &'static str, workloads: &'static [&'static str]) -> Task {
+const fn shown(name: &'static str, workloads: &'static [&'static str]) -> Task {
     Task { name, workloads, is_in_table: true }
 }
 
@@ -19,28 +19,28 @@ const fn other(name: &'static str, workloads: &'static [&'static str]) -> Task {
 
 /// All workloads, by tasks.
 pub const TASKS: [Task; 23] = [
-    common("push and pop at the ends", &["queue", "ends", "history"]),
-    common("the same through a reference", &["lent_queue", "lent_history"]),
-    common("an item by its index", &["get", "get_mut", "index_mut"]),
-    common("all items read", &["iterate", "rev", "zip", "fold"]),
-    common("all items written", &["iterate_mut", "add_each", "for_each_mut", "range_mut", "for_each_mut_in"]),
-    common("contains", &["contains"]),
-    common("equality, order, hash", &["equal", "compare", "hash"]),
-    common("binary searches", &["search", "partition_point"]),
-    common("insert and remove", &["middle", "random"]),
+    shown("push and pop at the ends", &["queue", "ends", "history"]),
+    other("the same through a reference", &["lent_queue", "lent_history"]),
+    other("an item by its index", &["get", "get_mut", "index_mut"]),
+    shown("all items read", &["iterate", "rev", "zip", "fold"]),
+    other("all items written", &["iterate_mut", "add_each", "for_each_mut", "range_mut", "for_each_mut_in"]),
+    other("contains", &["contains"]),
+    other("equality, order, hash", &["equal", "compare", "hash"]),
+    other("binary searches", &["search", "partition_point"]),
+    shown("insert and remove", &["middle", "random"]),
     other("swaps and swap removals", &["swap", "swap_remove_back", "swap_remove_front"]),
-    common("rotate by one", &["rotate_full_one", "rotate_half_one"]),
-    common("rotate by half", &["rotate_full_half", "rotate_half_half"]),
+    other("rotate by one", &["rotate_full_one", "rotate_half_one"]),
+    other("rotate by half", &["rotate_full_half", "rotate_half_half"]),
     other("linearize", &["linearize", "linearize_full", "linearize_1", "linearize_8", "linearize_64"]),
-    common("retain", &["retain", "retain_mut"]),
-    common("extend", &["extend_slice", "extend_lent", "extend_front", "extend_vec", "extend_history"]),
-    common("drain", &["drain_middle", "drain_all", "drain_four", "drain_fold"]),
+    other("retain", &["retain", "retain_mut"]),
+    shown("extend", &["extend_slice", "extend_lent", "extend_front", "extend_vec", "extend_history"]),
+    shown("drain", &["drain_middle", "drain_all", "drain_four", "drain_fold"]),
     other("split, append, truncate, resize", &["split_off", "split_append", "split_rejoin", "truncate", "resize"]),
     other("clone, from an array, by value", &["clone", "from_array", "into_items", "into_ends", "into_fold"]),
-    common("from a vector, into a vector", &["from_vec", "into_vec"]),
+    other("from a vector, into a vector", &["from_vec", "into_vec"]),
     other("a vector in and back", &["vec_and_back"]),
     other("bytes in and out", &["pipe", "pipe_truncating", "pipe_popping", "pipe_wrapping", "pipe_varying", "stream"]),
-    common("boxes and texts", &[
+    other("boxes and texts", &[
         "owned_queue", "owned_clone", "owned_truncate", "owned_insert", "owned_retain", "owned_drain",
     ]),
     other("small programs", &["window", "window_largest", "run", "scan", "yaml", "log_copied", "log_lent"]),

@@ -62,14 +62,14 @@ fn behind(all: &[Figures]) -> String {
     format!(
         "Of {} measured times, {rust_slower} are over a tenth longer than the crate's ({rust_twice} over twice as \
          long), and {std_slower} than `VecDeque`'s ({std_twice}). A `push_back` with a `pop_front` takes {one}, \
-         {other}.{scanner} A vector handed over and back costs `VecDeque` {std:.0} ns, and this deque a move of each \
-         item ({:.1} µs for 1,024 of 64 bytes).\n",
+         {other}.{scanner} Turning a vector into a deque and back costs `VecDeque` {std:.0} ns; this deque moves each \
+         item twice ({:.1} µs for 1,024 of 64 bytes).\n",
         all.len(),
         ours / 1000.0,
     )
 }
 
-/// README's part: a picture of all tasks, and a table of those that are common.
+/// README's part: a picture of all tasks, and a table of some that differ.
 pub fn of_tasks(all: &[Figures], picture: &str) -> String {
     let mut text = format!(
         "![our time divided by the Rust crate's and by VecDeque's, by task]({picture})\n\n\
