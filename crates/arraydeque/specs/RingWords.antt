@@ -6,7 +6,8 @@ pub use Rattle.arraydeque_ring.specs.Changed.{changed_rotate}
 pub use Rattle.arraydeque_ring.specs.Computed.{ComputesAt, ComputesAtMut, Changes}
 pub use Rattle.arraydeque_ring.specs.Loans.{LoanState, remaining}
 pub use Rattle.arraydeque_ring.specs.Retained.{Retains, MayBeAsked, count_moved}
-pub use Rattle.arraydeque_ring.specs.Retained.{RetainsMut, MayBeAskedMut, WrittenAs, as_were, as_left}
+pub use Rattle.arraydeque_ring.specs.Retained.{RetainsMut, MayBeAskedMut}
+pub use Rattle.arraydeque_ring.specs.Retained.{WrittenAs, as_were, as_left}
 pub use Rattle.arraydeque_ring.specs.Ring.{RingState, place_of, up_by, down_by, IsInOnePiece}
 pub use Rattle.arraydeque_ring.specs.Ring.{ClonesAreSame, CloneMayFail}
 pub use Rattle.arraydeque_ring.specs.Runs.{as_many}
