@@ -182,7 +182,7 @@ impl<I: Iterator, const CAP: usize> Scanner<I, CAP> {
             → (result ≡ slice_get self.old.buffer 0) × (self.new.iter ≡ self.old.iter) }
         ensures some { OnSome result (self.new.ended ≡ self.old.ended) }
 
-        // At the end there is none, and nothing was left.
+        // If none comes, the input has ended: nothing was left.
         ensures none { IfNone result (self.new.ended ≡ true) }
         ensures over { IfNone result (HasRest I.next_gives self.old []) }
 
@@ -259,7 +259,7 @@ impl<I: Iterator, const CAP: usize> Scanner<I, CAP> {
         ensures accepted { IfSome result (λ item.
             FnOnceReturnsAt P.FnOnce accepts item true) }
 
-        // If it is rejected, it stays the next one, in the buffer. At the end there is none.
+        // If rejected, it stays the next one, in the buffer. If that is empty, the input has ended.
         ensures rejected { IfNone result (NextIs I.next_gives
             (λ item. FnOnceReturnsAt P.FnOnce accepts item false) self.new) }
         ensures none { IfNone result

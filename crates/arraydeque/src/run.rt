@@ -117,7 +117,7 @@ impl<T: Drop, const CAP: usize, B: RunPolicy<T, CAP>> ArrayDeque<T, CAP, B> {
         // And each makes of the deque what the call itself promises: list, start and steps.
         ensures whole { IfOk result (λ replies.
             DequeRun B.policy (type_size T.row) self.old calls.items replies.items self.new) }
-        // No more moves and exchanges are made than these calls cost in all.
+        // Moves and exchanges are what these cost, with a `Linearize` at most that.
         ensures costs { IfOk result (λ replies.
             RunCosts B.policy self.old calls.items replies.items self.new) }
         ensures exact { IfOk result (λ replies. vec_capacity replies ≡ length calls.items) }

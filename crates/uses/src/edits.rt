@@ -76,7 +76,7 @@ pub fn next_run<I: Iterator<Item = Edit>, const AHEAD: usize>(
     ensures longest { IfSome result (λ run. run.count < AHEAD →
         NextIs I.next_gives (λ edit. edit ≢ run.edit) edits.new) }
 
-    // At the end there is none.
+    // If none comes, none was left.
     ensures over { IfNone result (HasRest I.next_gives edits.old []) }
 
     // What callers' proofs want.

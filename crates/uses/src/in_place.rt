@@ -44,7 +44,7 @@ pub fn replace_found<const CAP: usize, B: Behavior>(
     ensures replaced { IfOk result (λ index.
         deque.new.items ≡ slice_set deque.old.items index value) }
 
-    // If none is found, nothing changes.
+    // If none is found, the list stays.
     ensures unchanged { OnErr result (deque.new.items ≡ deque.old.items) }
 
     // Where the search ends.

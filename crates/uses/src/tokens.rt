@@ -44,14 +44,14 @@ pub fn tokenize<I: Iterator<Item = u8>, const AHEAD: usize>(
     requires ahead { 0 < AHEAD }
     requires ends { IsFinite scanner.old.left }
 
-    // What is returned, and what is left.
+    // If memory is granted, all is cut into tokens.
     ensures joined { IfOk result (λ tokens.
         HasRest I.next_gives scanner.old (joined tokens.items)) }
     ensures one_kind { IfOk result (λ tokens. All IsOfOneKind tokens.items) }
     ensures signs { IfOk result (λ tokens. All IsOneByteIfSign tokens.items) }
     ensures longest { IfOk result (λ tokens. AreLongest tokens.items) }
 
-    // What a refusal hands back.
+    // If memory is refused, the bytes taken come back.
     ensures refused { IfErr result (λ refusal.
         TakesOff I.next_gives scanner.old (joined refusal.source.items) scanner.new) }
     ensures cut { IfErr result (λ refusal. All IsOfOneKind refusal.source.items) }
@@ -95,7 +95,7 @@ fn next_token<I: Iterator<Item = u8>, const AHEAD: usize>(
     requires ahead { 0 < AHEAD }
     requires ends { IsFinite scanner.old.left }
 
-    // What is returned, and what is left.
+    // If memory is granted, the next token is taken.
     ensures taken { IfOk result (λ token.
         TakesOff I.next_gives scanner.old (joined (option_to_list token)) scanner.new) }
     ensures over { IfOk result (λ token. IfNone token (HasRest I.next_gives scanner.old [])) }
@@ -104,7 +104,7 @@ fn next_token<I: Iterator<Item = u8>, const AHEAD: usize>(
     ensures longest { IfOk result (λ token. IfSome token (λ token. (rest : List ℕ)
         → HasRest I.next_gives scanner.new rest → IsOver token.kind rest)) }
 
-    // What a refusal hands back.
+    // If memory is refused, the bytes taken come back.
     ensures refused { IfErr result (λ refusal. TakesOff I.next_gives scanner.old
         (joined (option_to_list refusal.source)) scanner.new) }
     ensures cut { IfErr result (λ refusal. IfSome refusal.source IsOfOneKind) }

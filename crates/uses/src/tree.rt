@@ -35,7 +35,7 @@ impl Tree {
         ensures nodes { OnOk result
             (node_count self.new ≡ node_count self.old + node_count branch) }
 
-        // If it is full, or a leaf, the branch comes back, and nothing changes.
+        // If it is refused, it comes back, and nothing changes.
         ensures handed_back { IfErr result (λ back. back ≡ branch) }
         ensures unchanged { OnErr result (self.new ≡ self.old) }
     {
