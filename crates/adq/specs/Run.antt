@@ -46,7 +46,7 @@ IsOutcome (Some s) text (Err Fault.Arguments) = ⊥
 IsOutcome (Some s) text (Err (Fault.Line n)) = (k : ℕ) × (n ≡ k + 1) × IsFirstBad (lines_of text) k
 IsOutcome (Some s) text (Err _) = ⊤
 
--- where anything is printed, or a line is blamed, all that the reader had is behind the old text
+-- if anything is printed, or a line is blamed, all that the reader had is behind the old text
 abbrev pub ReadsWhole : {A : Type 0} → Option (List ℕ) → List ℕ → List ℕ
     → Result (String A) Fault → Type 0
 ReadsWhole known old new (Ok printed) = IfSome known (λ xs. new ≡ old ++ xs)

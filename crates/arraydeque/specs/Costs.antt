@@ -33,7 +33,7 @@ module _ {X : Type 0} where
   moves_of Linearize done l = length l
   moves_of _ _ l = 0
 
-  -- how many pairs of the list l a call exchanges: one, where two of its items change places
+  -- how many pairs of the list l a call exchanges: one, if two of its items change places
   abbrev pub exchanges_of : Call X → List X → ℕ
   exchanges_of (Swap i j) l =
       if nat_lt i (length l) && (nat_lt j (length l) && not (i == j)) then 1 else 0
@@ -53,7 +53,7 @@ module _ {X : Type 0} where
   cost_of_run p l _ _ last run = 0
 
 -- the calls are a run from the old deque's list to the new one's, and no more moves and exchanges
--- were made than it costs; just as many where none of the calls is a Linearize
+-- were made than it costs; just as many if none of the calls is a Linearize
 pub record RunCosts {X B : Type 0} {n : ℕ} (p : Policy) (old : DequeState X)
     (calls : List (Call X)) (replies : List (Reply X n B)) (new : DequeState X) : Type 0 where
   pub run : MachineRun p old.items calls replies new.items

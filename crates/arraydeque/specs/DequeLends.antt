@@ -58,7 +58,7 @@ module _ (T CAP B : RattleType) (deque : MutBor (DequeState T.Denot)) where
   lends_slices r = LendsBoth (the_row T CAP B) (Array T 0) (Array T 0) deque r
       (λ ws vs. rewritten deque.now (as_many r.0.now ws ++ as_many r.1.now vs))
 
-  -- the deque follows the name of a loan of these items, and that name follows the two slices
+  -- the deque follows the name of a part's loan, and that name follows the two slices
   abbrev pub lends_loan : ℕ → ℕ → LoanState T.Denot → Fml
   lends_loan from len loan = fsep
       (lends_part from len loan.name)

@@ -34,7 +34,7 @@ module _ {S A : Type 0} (remaining : S → Count) where
       × MatchOption item (size new.left ≤ size old.left) (λ _. size new.left < size old.left)
 
 module _ {S A : Type 0} (gives : S → Option A → S → Type 0) where
-  -- the iterator gave xs, and then None exactly where it ended; one that had ended wasn't asked
+  -- the iterator gave xs, and then None exactly if it ended; one that had ended wasn't asked
   abbrev pub Reads : Bool → S → List A → Bool → S → Type 0
   Reads true s xs ended t = (xs ≡ []) × (t ≡ s) × (ended ≡ true)
   Reads false s xs true t = YieldsThen gives s xs None t

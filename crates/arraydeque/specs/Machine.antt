@@ -60,28 +60,28 @@ module _ {X : Type 0} where
   abbrev pub Gives : Answer X → List X → Outcome X
   Gives a l answer left = (answer ≡ a) × (left ≡ l)
 
-  -- P where there is room for one more item than l, and else a refusal that hands x back and leaves
+  -- P if there is room for one more item than l, and else a refusal that hands x back and leaves
   -- l as it is
   abbrev pub IfRoom : ℕ → List X → X → Outcome X → Outcome X
   IfRoom n l x P answer left =
       MatchBool (nat_lt (length l) n) (P answer left) (Gives (full x) l answer left)
 
-  -- P where the indexes are in range, and else a refusal that hands the element back and leaves l
+  -- P if the indexes are in range, and else a refusal that hands the element back and leaves l
   abbrev pub InRange : Bool → Option X → List X → Outcome X → Outcome X
   InRange in_range element l P answer left =
       MatchBool in_range (P answer left) (Gives (out_of_range element) l answer left)
 
-  -- P, or a refusal for memory that leaves l, which can come only where the call asks for memory
+  -- P, or a refusal for memory that leaves l, which can come only if the call asks for memory
   abbrev pub OrNoMemory : Bool → List X → Outcome X → Outcome X
   OrNoMemory asks l P answer left = P answer left ⊎ ((asks ≡ true) × Gives no_memory l answer left)
 
-  -- a push of x before l: saturating refuses it where there is no room, and wrapping keeps the
+  -- a push of x before l: saturating refuses it if there is no room, and wrapping keeps the
   -- first n items and gives up the one behind them
   abbrev pub PushesFront : Policy → ℕ → List X → X → Outcome X
   PushesFront saturating n l x = IfRoom n l x (Gives done (x ∷ l))
   PushesFront wrapping n l x = Gives (displaced (slice_get (x ∷ l) n)) (take n (x ∷ l))
 
-  -- a push of x behind l: saturating refuses it where there is no room, and wrapping keeps the last
+  -- a push of x behind l: saturating refuses it if there is no room, and wrapping keeps the last
   -- n items and gives up the one before them
   abbrev pub PushesBack : Policy → ℕ → List X → X → Outcome X
   PushesBack saturating n l x = IfRoom n l x (Gives done (l ++ x ∷ []))

@@ -90,7 +90,7 @@ module _ {X : Type 0} (p : Policy) (n : ℕ) where
   steps_after (Extend v) done old = (pushed_back p n v.items old).steps
   steps_after _ _ old = old.steps
 
-  -- the call leaves these steps: a Linearize no more moves and exchanges than items, and none where
+  -- the call leaves these steps: a Linearize no more moves and exchanges than items, and none if
   -- the list is in one piece, and any other call exactly those above
   abbrev pub StepsAre : Call X → Answer X → DequeState X → Steps → Type 0
   StepsAre Linearize answer old steps = Rearranges
@@ -98,7 +98,7 @@ module _ {X : Type 0} (p : Policy) (n : ℕ) where
   StepsAre call answer old steps = steps ≡ steps_after call answer old
 
   -- a call that inserted, removed or drained moved the fewest items that any placement of the new
-  -- list allows, and just so many where it starts at `start`
+  -- list allows, and just so many if it starts at `start`
   abbrev pub MovesFewest : Call X → Answer X → DequeState X → ℕ → Type 0
   MovesFewest (Insert i x) done old start = InsertMovesFewest i (as_ring n old) start
   MovesFewest (Remove i) (item (Some x)) old start = RemoveMovesFewest i (as_ring n old) start
@@ -116,7 +116,7 @@ module _ {X B : Type 0} (p : Policy) (n size : ℕ) where
   }
   TailIs _ _ old = Unit {0}
 
-  -- memory was refused only where the region for what goes out takes some, at `size` bytes an item
+  -- memory was refused only if the region for what goes out takes some, at `size` bytes an item
   abbrev pub MayBeRefused : Call X → Reply X n B → Type 0
   MayBeRefused (Drain from to) NoMemory = 0 < (to - from) * size
   MayBeRefused (SplitOff at) NoMemory = 0 < n * size

@@ -11,7 +11,7 @@ abbrev pub IsLessCount : {X : Type 0} → (X → Ordering) → List X → ℕ �
 IsLessCount ord xs n = IsPartitionedBy (λ y. is_lt (ord y)) xs
     → IsPartitionPoint (λ y. is_lt (ord y) ≡ true) (λ y. is_lt (ord y) ≡ false) xs n
 
--- where the answers rise, all items before one that is found are less
+-- if the answers rise, all items before one that is found are less
 abbrev pub IsFirstFound : {X : Type 0} → (X → Ordering) → List X → Result ℕ ℕ → Type 0
 IsFirstFound ord xs r = IsNonDecreasingBy (λ y. ordering_index (ord y)) xs
     → IfOk r (AllWithin (λ y. ord y ≡ Less) xs 0)

@@ -9,7 +9,7 @@ use Rattle.std.specs.{
 abbrev pub IsIterable : {Source S : Type 0} → (Source → S → Type 0) → (S → Type 0) → Source → Type 0
 IsIterable {S = S} becomes can source = (it : S) → becomes source it → can it
 
--- each item of a run is the one of xs at its place
+-- each item of a run is the one of xs at its index
 abbrev pub IsReadOff : {S A : Type 0} {gives : S → Option A → S → Type 0}
     → Run gives → List A → Type 0
 IsReadOff {A = A} run xs = (k : ℕ) (d : A)
@@ -17,7 +17,7 @@ IsReadOff {A = A} run xs = (k : ℕ) (d : A)
 
 module _ {Source S A : Type 0} (becomes : Source → S → Type 0)
     (gives : S → Option A → S → Type 0) (source : Source) where
-  -- the source became an iterator whose calls gave at most n items, and fewer only where a None
+  -- the source became an iterator whose calls gave at most n items, and fewer only if a None
   -- came after them, and P holds of these items; of a list that they were read off, they are the
   -- first n, and the whole list if it has as many
   pub record TakesFrom (n : ℕ) (P : List A → Type 0) : Type 0 where

@@ -46,14 +46,14 @@ changed_rotate count len capacity start new_start =
     (if nat_lt k count then k + (len - count) else k - count)) len
 
 -- wherever the new list starts, no fewer items change their places than `count`, and just so many
--- do where it starts at `start`
+-- do if it starts at `start`
 pub record IsFewest (count capacity : ℕ) (changed : ℕ → ℕ) (start : ℕ) : Type 0 where
   pub least : (u : ℕ) → u < capacity → count ≤ changed u
   pub met : changed start ≡ count
 
 module _ {X : Type 0} where
   -- an insert at the index into the ring moves the fewest items that any placement of the new list
-  -- allows, and just so many where it starts at `new_start`
+  -- allows, and just so many if it starts at `new_start`
   abbrev pub InsertMovesFewest : ℕ → RingState X → ℕ → Type 0
   InsertMovesFewest index ring new_start =
       let len = length ring.items in

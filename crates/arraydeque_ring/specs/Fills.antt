@@ -5,7 +5,7 @@ use Rattle.std.specs.{
 }
 
 module _ {S A : Type 0} (gives : S → Option A → S → Type 0) (from : S) where
-  -- calls took the iterator from `from` to `to` and gave at most n items, and fewer only where a
+  -- calls took the iterator from `from` to `to` and gave at most n items, and fewer only if a
   -- None came after them, which `ended` tells, and P holds of these items
   pub record Fills (to : S) (n : ℕ) (ended : Bool) (P : List A → Type 0) : Type 0 where
     pub items : List A

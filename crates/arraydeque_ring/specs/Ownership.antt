@@ -15,7 +15,7 @@ use denote.{
 }
 use Rattle.std.specs.contracts.impls.GlobalAllocator.TheImpl as heap
 
--- F where the test holds, else nothing
+-- F if the test holds, else nothing
 abbrev pub owned_if : Bool → Fml → Fml
 owned_if true F = F
 owned_if false F = ftrue

@@ -58,7 +58,7 @@ module _ (R : RattleType) (ring : MutBor (RingState R.Denot)) where
   lends_slices r = LendsBoth (the_row R) (Array R 0) (Array R 0) ring r
       (λ ws vs. rewritten ring.now (as_many r.0.now ws ++ as_many r.1.now vs))
 
-  -- the ring follows the name of a loan of these items, and that name follows the two slices
+  -- the ring follows the name of a part's loan, and that name follows the two slices
   abbrev pub lends_loan : ℕ → ℕ → LoanState R.Denot → Fml
   lends_loan from len loan = fsep
       (lends_part from len loan.name)

@@ -50,7 +50,7 @@ module _ {S : Type 0} (gives : S → Option ℕ → S → Type 0) where
   abbrev pub IsFused : Type 0
   IsFused = (s t u : S) (c : ℕ) → gives s None t → ¬ (gives t (Some c) u)
 
-  -- cs are characters of the input in order, and then zeros, which come only where it has ended
+  -- cs are characters of the input in order, and then zeros, which come only if it has ended
   pub record IsPadded (s : S) (cs : List ℕ) (t : S) : Type 0 where
     pub chars : List ℕ
     pub zeros : ℕ

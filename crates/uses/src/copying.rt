@@ -22,7 +22,7 @@ pub fn pour<const CAP: usize, B: Behavior>(
     io::copy(from, into)
 }
 
-/// Moves all bytes behind those of another deque, and returns their number. Where that one has too
+/// Moves all bytes behind those of another deque, and returns their number. If that one has too
 /// little room it fails, full, and the other bytes are lost.
 pub fn pour_over<const CAP: usize, const N: usize, B: Behavior>(
     from: &mut ArrayDeque<u8, CAP, B>,

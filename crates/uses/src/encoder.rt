@@ -37,7 +37,7 @@ impl<const CAP: usize> Encoder<CAP> {
         Ok(Encoder { text, group })
     }
 
-    /// Takes a byte, or returns `false` where it is the third and there is no room for the text.
+    /// Takes a byte, or returns `false` if it is the third and there is no room for the text.
     fn put(&mut self, byte: u8) -> bool
         // If the byte is taken, it waits, or as the third it makes four characters.
         ensures text { IsTrue result →

@@ -9,7 +9,7 @@ use arraydeque::ArrayDeque;
 use arraydeque::behavior::Behavior;
 use std::alloc::{AllocError, Global};
 
-/// Sorts the items. Where memory is refused they stay as they were.
+/// Sorts the items. If memory is refused they stay as they were.
 pub fn sort<T: Ord, const CAP: usize, B: Behavior>(
     alloc: Global,
     deque: &mut ArrayDeque<T, CAP, B>,

@@ -2,7 +2,7 @@
 //! it: characters read ahead, and `'\0'` for each behind the input's end.
 //!
 //! It uses `arraydeque` under `Saturating`, and is proved over the deque's public contract alone:
-//! no character is lost or comes twice, and zeros come only where the input has ended.
+//! no character is lost or comes twice, and zeros come only if the input has ended.
 ghost use Rattle.std.specs.Prelude.{◌≡◌, ◌<◌, ◌≤◌, ◌==◌, ◌∷◌, [], max, length, drop, slice_get, IfOk, IfErr, IfSome, Some, true};
 ghost use Rattle.std.specs.Iterator.{IsFinite};
 ghost use Rattle.uses.specs.Input.{HandsOut, IsFused, LeavesFewer, Pads, ReadsNonBreakz, ReadsRaw, SkipsLine, is_breakz};

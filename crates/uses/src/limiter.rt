@@ -35,7 +35,7 @@ impl<const CAP: usize> Limiter<CAP> {
         Ok(Limiter { span, admitted })
     }
 
-    /// Admits a request at a time, or returns `false` where `CAP` requests were admitted within the
+    /// Admits a request at a time, or returns `false` if `CAP` requests were admitted within the
     /// span before it.
     pub fn admit(&mut self, now: u64) -> bool
         // If fewer than `CAP` requests are recent, this one is admitted.

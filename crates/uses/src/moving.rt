@@ -1,7 +1,7 @@
 //! Items that go from one deque to another, a few at a time.
 //!
 //! It uses `arraydeque` under `Saturating`, and is proved over the deque's public contract alone:
-//! no item is lost, and it stops early only where there is no room or no item.
+//! no item is lost, and it stops early only if there is no room or no item.
 ghost use Rattle.std.specs.Prelude.{◌≡◌, ◌++◌, ◌+◌, ◌≤◌, ◌<◌, ◌⊎◌, [], length};
 
 use arraydeque::{ArrayDeque, Saturating};

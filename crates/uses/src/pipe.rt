@@ -75,7 +75,7 @@ impl<const CAP: usize> Pipe<CAP> {
         Ok(count)
     }
 
-    /// Appends a text to `into` through an empty pipe, piece by piece. Where memory is refused,
+    /// Appends a text to `into` through an empty pipe, piece by piece. If memory is refused,
     /// `into` has what was sent so far, and some of the next bytes wait in the pipe.
     pub fn send(&mut self, text: &[u8], into: &mut Vec<u8>) -> Result<(), AllocError>
         requires room { 0 < CAP }

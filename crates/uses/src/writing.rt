@@ -106,7 +106,7 @@ pub fn fill_by_hand<const CAP: usize, B: Behavior>(deque: &mut ArrayDeque<i64, C
 }
 
 /// Writes 0 over each item before the first that is `stop`, or returns `false` and writes 1 over
-/// all where there is none.
+/// all if there is none.
 pub fn fill_until<const CAP: usize, B: Behavior>(
     deque: &mut ArrayDeque<i64, CAP, B>,
     stop: i64,
