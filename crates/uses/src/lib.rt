@@ -23,7 +23,7 @@
 //! - [`scanning`]: what a caller knows of a scanner
 //! - [`writing`]: what a caller knows of a deque it wrote through
 //! - [`extending`]: what a caller knows of a deque that an iterator's items were added to
-//! - [`callers`]: what it knows after each call that no other use makes
+//! - [`callers`]: what it knows after one call or two
 #![tactic(auto)]
 
 pub mod ageing;
