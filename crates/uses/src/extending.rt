@@ -210,7 +210,7 @@ pub fn add_part<const CAP: usize, const N: usize>(
     end: usize,
 )
     requires in_order { start ≤ end }
-    requires there { end ≤ length from.now.items }
+    requires in_bounds { end ≤ length from.now.items }
     ensures { let room = CAP - length to.old.items in
         to.new.items ≡ to.old.items ++ take room (take (end - start) (drop start from.now.items)) }
 {
@@ -238,7 +238,7 @@ pub fn move_first_that_fits<T: Drop, const CAP: usize, const N: usize>(
     from: &mut ArrayDeque<T, N, Saturating>,
     count: usize,
 ) -> Result<(), AllocError>
-    requires there { count ≤ length from.old.items }
+    requires in_bounds { count ≤ length from.old.items }
     requires room { length to.old.items + count ≤ CAP }
     ensures { OnOk result (to.new.items ≡ to.old.items ++ take count from.old.items) }
 {
@@ -332,7 +332,7 @@ pub fn of_vector<T: Drop, const CAP: usize>(
     ArrayDeque::<T, CAP, Saturating>::from_iter(alloc, from)
 }
 
-/// A deque of an array's first items.
+/// A deque of an array's first items, by `from_iter`.
 pub fn of_array<const CAP: usize>(
     from: [u64; 3],
     alloc: Global,
@@ -407,6 +407,33 @@ pub fn push_deque<T: Drop, const CAP: usize, const N: usize>(
     to.extend_back(from);
 }
 
+/// Pushes what a drain holds.
+pub fn push_drained<T: Drop, const CAP: usize>(
+    to: &mut ArrayDeque<T, CAP, Wrapping>,
+    from: Drain<T>,
+)
+    ensures { to.new.items ≡ keep_last CAP (to.old.items ++ from) }
+{
+    to.extend_back(from);
+}
+
+/// Pushes copies of a slice's items.
+pub fn push_slice<const CAP: usize>(to: &mut ArrayDeque<u64, CAP, Wrapping>, from: &[u64])
+    ensures { to.new.items ≡ keep_last CAP (to.old.items ++ from.now) }
+{
+    to.extend_back(from.iter().copied());
+}
+
+/// Pushes copies of a deque's items.
+pub fn push_copies<const CAP: usize, const N: usize>(
+    to: &mut ArrayDeque<u64, CAP, Wrapping>,
+    from: &ArrayDeque<u64, N, Saturating>,
+)
+    ensures { to.new.items ≡ keep_last CAP (to.old.items ++ from.now.items) }
+{
+    to.extend_back(from.iter().copied());
+}
+
 /// Pushes copies of a part of a deque.
 pub fn push_part<const CAP: usize, const N: usize>(
     to: &mut ArrayDeque<u64, CAP, Wrapping>,
@@ -415,7 +442,7 @@ pub fn push_part<const CAP: usize, const N: usize>(
     end: usize,
 )
     requires in_order { start ≤ end }
-    requires there { end ≤ length from.now.items }
+    requires in_bounds { end ≤ length from.now.items }
     ensures { let part = take (end - start) (drop start from.now.items) in
         to.new.items ≡ keep_last CAP (to.old.items ++ part) }
 {
