@@ -44,12 +44,18 @@ pub fn merge<I: Iterator<Item = Edit>, const AHEAD: usize>(
 ) -> Result<Vec<Run>, MakeError<Vec<Run>>>
     requires ahead { 0 < AHEAD }
     requires ends { IsFinite edits.old.left }
+
+    // If memory is granted, all are merged, as far as can be.
     ensures none_lost { IfOk result (λ runs.
         HasRest I.next_gives edits.old (written_out runs.items)) }
     ensures within { IfOk result (λ runs. All (λ run. run.count ≤ AHEAD) runs.items) }
     ensures merged { IfOk result (λ runs. AreMerged AHEAD runs.items) }
-    ensures refused { IfErr result (λ refusal.
+
+    // If memory is refused, the edits taken come back.
+    ensures source { IfErr result (λ refusal.
         TakesOff I.next_gives edits.old (written_out refusal.source.items) edits.new) }
+
+    // What callers' proofs want.
     ensures ends { IsFinite edits.new.left }
 {
     let mut runs = Vec::new(alloc);

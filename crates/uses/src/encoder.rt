@@ -87,7 +87,7 @@ impl<const CAP: usize> Write for Encoder<CAP> {
         // If not all are taken, the next one is a third, and there is no room for the text.
         ensures third { IfOk result (λ count.
             count < length buf.now → length self.new.group ≡ 2) }
-        ensures full { IfOk result (λ count.
+        ensures no_room { IfOk result (λ count.
             count < length buf.now → CAP < length self.new.text + 4) }
 
         // What callers' proofs want.

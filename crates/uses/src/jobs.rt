@@ -58,7 +58,7 @@ impl<T, const CAP: usize> Jobs<T, CAP, Saturating> {
         ensures none_lost { OnOk result (self.new ≡ self.old ++ job ∷ []) }
 
         // If the queue is full, the job comes back, and nothing changes.
-        ensures handed_back { IfErr result (λ back. back ≡ job) }
+        ensures full { IfErr result (λ back. back ≡ job) }
         ensures unchanged { OnErr result (self.new ≡ self.old) }
     {
         match self.waiting.push_back(job) {

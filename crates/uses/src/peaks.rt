@@ -50,7 +50,7 @@ impl<const CAP: usize> Peaks<CAP> {
             self.new ≡ peaks_of (samples ++ sample ∷ [])) }
 
         // If it is refused, it comes back, and nothing changes.
-        ensures handed_back { IfErr result (λ refusal. refusal.element ≡ sample) }
+        ensures full { IfErr result (λ refusal. refusal.element ≡ sample) }
         ensures unchanged { OnErr result (self.new ≡ self.old) }
     {
         // This call makes it known that the peaks fit the capacity.

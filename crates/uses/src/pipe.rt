@@ -63,7 +63,7 @@ impl<const CAP: usize> Pipe<CAP> {
     pub fn write_to<W: Write>(&mut self, writer: &mut W) -> io::Result<usize>
         // If the writer answers, the bytes that it took are gone.
         ensures left { IfOk result (λ count. self.new ≡ drop count self.old) }
-        ensures within { WritesAtMost result self.old }
+        ensures bound { WritesAtMost result self.old }
         ensures written { WriteAppends (W.contents writer.old) (W.contents writer.new)
             result self.old }
 

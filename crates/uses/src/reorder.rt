@@ -45,7 +45,7 @@ impl<T, const CAP: usize> Reorder<T, CAP> {
         ensures in_order { IsNonDecreasingBy (λ (waiting : ℕ × T). waiting.0) self.new }
 
         // If the buffer is full, the piece comes back, and nothing changes.
-        ensures handed_back { IfErr result (λ back. back ≡ piece) }
+        ensures full { IfErr result (λ back. back ≡ piece) }
         ensures unchanged { OnErr result (self.new ≡ self.old) }
     {
         let behind = self.waiting.partition_point(|other| other.0 <= number);

@@ -52,9 +52,9 @@ pub fn tokenize<I: Iterator<Item = u8>, const AHEAD: usize>(
     ensures longest { IfOk result (λ tokens. AreLongest tokens.items) }
 
     // If memory is refused, the bytes taken come back.
-    ensures refused { IfErr result (λ refusal.
+    ensures source { IfErr result (λ refusal.
         TakesOff I.next_gives scanner.old (joined refusal.source.items) scanner.new) }
-    ensures cut { IfErr result (λ refusal. All IsOfOneKind refusal.source.items) }
+    ensures source_kind { IfErr result (λ refusal. All IsOfOneKind refusal.source.items) }
 
     // What callers' proofs want.
     ensures ends { IsFinite scanner.new.left }
@@ -105,9 +105,9 @@ fn next_token<I: Iterator<Item = u8>, const AHEAD: usize>(
         → HasRest I.next_gives scanner.new rest → IsOver token.kind rest)) }
 
     // If memory is refused, the bytes taken come back.
-    ensures refused { IfErr result (λ refusal. TakesOff I.next_gives scanner.old
+    ensures source { IfErr result (λ refusal. TakesOff I.next_gives scanner.old
         (joined (option_to_list refusal.source)) scanner.new) }
-    ensures cut { IfErr result (λ refusal. IfSome refusal.source IsOfOneKind) }
+    ensures source_kind { IfErr result (λ refusal. IfSome refusal.source IsOfOneKind) }
 
     // What callers' proofs want.
     ensures ends { IsFinite scanner.new.left }

@@ -2,7 +2,7 @@
 //!
 //! It is a type that holds deques of itself, and is proved over the deque's public contract alone:
 //! a tree's nodes are counted, and a branch that finds no room comes back.
-ghost use Rattle.std.specs.Prelude.{◌≡◌, ◌+◌, ◌++◌, ◌∷◌, [], ◌^◌, ◌<◌, length, Some, IsOk, IfSome, IfOk, IfErr, OnErr, OnOk};
+ghost use Rattle.std.specs.Prelude.{◌≡◌, ◌+◌, ◌++◌, ◌∷◌, [], ◌^◌, ◌<◌, length, Some, IsOk, IsSomeAnd, IfSome, IfOk, IfErr, OnErr, OnOk, ◌↔◌};
 ghost use Rattle.uses.specs.Tree.{branches_of, node_count};
 
 use arraydeque::{ArrayDeque, Saturating};
@@ -28,15 +28,15 @@ impl Tree {
     /// Puts a branch behind the others. A full fork hands it back, and so does a leaf.
     pub fn graft(&mut self, branch: Tree) -> Result<(), Tree>
         // If the fork has room, the branch is its last one.
-        ensures room { IfSome (branches_of self.old) (λ branches.
-            length branches < 4 → IsOk result) }
+        ensures room { IsOk result ↔ IsSomeAnd (branches_of self.old) (λ branches.
+            length branches < 4) }
         ensures branches { OnOk result (IfSome (branches_of self.old) (λ branches.
             branches_of self.new ≡ Some (branches ++ branch ∷ []))) }
         ensures nodes { OnOk result
             (node_count self.new ≡ node_count self.old + node_count branch) }
 
         // If it is refused, it comes back, and nothing changes.
-        ensures handed_back { IfErr result (λ back. back ≡ branch) }
+        ensures full { IfErr result (λ back. back ≡ branch) }
         ensures unchanged { OnErr result (self.new ≡ self.old) }
     {
         match self {

@@ -1,4 +1,4 @@
-//! Calls that no other use makes.
+//! Callers of a call or two.
 use arraydeque::{ArrayDeque, Saturating};
 use std::alloc::AllocError;
 use std::test::Fail;
@@ -15,7 +15,7 @@ fn all_work(rt: &HostRuntime) -> Result<bool, AllocError> {
 }
 
 #[test]
-fn each_call_does_what_its_caller_promises(rt: HostRuntime) -> Result<(), Fail> {
+fn calls_do_what_their_callers_promise(rt: HostRuntime) -> Result<(), Fail> {
     assert!(rt; all_work(&rt)?);
     Ok(())
 }

@@ -26,11 +26,11 @@ loop-alloc-preserved g c =
       ends = (next.goes.on was.ends).1;
     }
 
-pub returns-in-Err-clause-cut : goal.returns-in-Err-clause-cut
-returns-in-Err-clause-cut g c = let was = c.loop-alloc.invariant.one_kind in elim c.match-refusal.branch [
+pub returns-in-Err-clause-source_kind : goal.returns-in-Err-clause-source_kind
+returns-in-Err-clause-source_kind g c = let was = c.loop-alloc.invariant.one_kind in elim c.match-refusal.branch [
   | in-Some w ↦
       let pushed : c.match-refusal.tokens.items ≡ c.loop-alloc.tokens.items ++ w.in-Some.token ∷ [] = cc in
       rw pushed (All-push IsOfOneKind c.loop-alloc.tokens.items w.in-Some.token was (rw w.in-Some.is at
-      c.in-Err.ensures.cut))
+      c.in-Err.ensures.source_kind))
   | in_default w ↦ let same : c.match-refusal.tokens.items ≡ c.loop-alloc.tokens.items = cc in rw same was
 ]
