@@ -9,7 +9,7 @@ use Rattle.std.specs.{
 abbrev pub IsIterable : {Source S : Type 0} → (Source → S → Type 0) → (S → Type 0) → Source → Type 0
 IsIterable {S = S} becomes can source = (it : S) → becomes source it → can it
 
--- each item of a run is the one of xs at its index
+-- each item of a run is the one of xs at its index, as std's ItemsAre says it
 abbrev pub IsReadOff : {S A : Type 0} {gives : S → Option A → S → Type 0}
     → Run gives → List A → Type 0
 IsReadOff {A = A} run xs = (k : ℕ) (d : A)

@@ -74,9 +74,11 @@ impl<const CAP: usize, B: Behavior> BufRead for ArrayDeque<u8, CAP, B> {
     fn fill_buf(&mut self) -> Result<&[u8]>
         ensures front { IfOk result (λ bytes. StartsWith self.old.items bytes.now) }
         ensures end { IfOk result (λ bytes. length bytes.now ≡ 0 → self.old.items ≡ []) }
+
         // Once the bytes are given back, the deque is as it was.
         ensures* after_borrow { sem 𝓛 (Rests (the_row byte CAP.row B.row) self.entry
             (λ new. new ≡ self.old)) }
+
         ensures cut { IfOk result (λ bytes.
             length bytes.now ≡ min (length self.old.items) (CAP - self.old.start)) }
         ensures ok { IsOk result }

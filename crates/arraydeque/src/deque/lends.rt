@@ -180,8 +180,11 @@ impl<T, const CAP: usize, B: Behavior> ArrayDeque<T, CAP, B> {
     /// ```
     #[inline]
     pub fn as_mut_slices(&mut self) -> (&mut [T], &mut [T])
-        // For a proof by hand. Else call `for_each_mut`, or `first_slice_mut`.
+        // For a proof by hand (else call `for_each_mut`, or `first_slice_mut`): the items end as
+        // they were last written, with 2 lends counted.
         ensures* writes_back { sem 𝓛 (lends_slices T.row CAP.row B.row self.entry result) }
+
+        // What is lent.
         ensures joined { result.0.now ++ result.1.now ≡ self.old.items }
         ensures one_piece { IsInOnePiece (as_ring CAP self.old) → result.1.now ≡ [] }
     {

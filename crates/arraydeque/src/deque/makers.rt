@@ -214,8 +214,11 @@ impl<T, const CAP: usize, B: Behavior> ArrayDeque<T, CAP, B> {
     /// assert!(rt; list.as_slice() == [2, 3, 4].as_slice());
     /// ```
     pub fn into_vec(self) -> Result<Vec<T>, MakeError<Self>>
+        // If memory is granted, the items are the vector's, which has no room to spare.
         ensures items { IfOk result (λ v. v.items ≡ self.items) }
         ensures exact { IfOk result (λ v. vec_capacity v ≡ length self.items) }
+
+        // If memory is refused, the deque comes back.
         ensures source { IfErr result (λ refusal. refusal.source ≡ self) }
         ensures refused { OnErr result (0 < length self.items) }
     {

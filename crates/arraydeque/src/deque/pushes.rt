@@ -95,8 +95,8 @@ impl<T, const CAP: usize> ArrayDeque<T, CAP, Wrapping> {
     pub fn push_front(&mut self, element: T) -> Option<T>
         // The element is the first item, and of a full deque the last one is displaced.
         ensures room { IsNone result ↔ (length self.old.items < CAP) }
-        ensures displaced { IfSome result (λ gone. 0 < CAP →
-            self.old.items ≡ take (CAP - 1) self.old.items ++ gone ∷ []) }
+        ensures displaced { IfSome result (λ item. 0 < CAP →
+            self.old.items ≡ take (CAP - 1) self.old.items ++ item ∷ []) }
         ensures value { result ≡ slice_get (element ∷ self.old.items) CAP }
         ensures items { self.new.items ≡ take CAP (element ∷ self.old.items) }
         ensures start { 0 < CAP → self.new.start ≡ place_of self.old.start (CAP - 1) CAP }
@@ -139,8 +139,8 @@ impl<T, const CAP: usize> ArrayDeque<T, CAP, Wrapping> {
     pub fn push_back(&mut self, element: T) -> Option<T>
         // The element is the last item, and of a full deque the first one is displaced.
         ensures room { IsNone result ↔ (length self.old.items < CAP) }
-        ensures displaced { IfSome result (λ gone. 0 < CAP →
-            self.old.items ≡ gone ∷ drop 1 self.old.items) }
+        ensures displaced { IfSome result (λ item. 0 < CAP →
+            self.old.items ≡ item ∷ drop 1 self.old.items) }
         ensures value { let displaced = length self.old.items + 1 - CAP in
             option_to_list result ≡ take displaced (self.old.items ++ element ∷ []) }
         ensures items { self.new.items ≡ keep_last CAP (self.old.items ++ element ∷ []) }

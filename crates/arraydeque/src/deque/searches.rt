@@ -55,9 +55,11 @@ impl<T, const CAP: usize, B: Behavior> ArrayDeque<T, CAP, B> {
 
         // An item that is found equals `x`, and if the items rise, it is the first that does. If
         // they rise and none is found, `x` would keep their order at the index in the error.
-        ensures ok { IfOk result (HoldsAt (λ y. T.cmp y x.now ≡ Ordering.Equal) self.now.items) }
         ensures position { IsBinarySearchResult (λ y. T.cmp y x.now) self.now.items result }
         ensures first { IsFirstFound (λ y. T.cmp y x.now) self.now.items result }
+
+        // What callers' proofs want.
+        ensures ok { IfOk result (HoldsAt (λ y. T.cmp y x.now ≡ Ordering.Equal) self.now.items) }
     {
         self.binary_search_by(|item| item.cmp(x))
     }

@@ -98,7 +98,10 @@ impl<T> Ring<T> {
     /// ```
     #[inline]
     pub fn as_mut_slices(&mut self) -> (&mut [T], &mut [T])
+        // The items end as they were last written, with 2 lends counted.
         ensures* writes_back { sem 𝓛 (lends_slices T.row self.entry result) }
+
+        // What is lent.
         ensures joined { result.0.now ++ result.1.now ≡ self.old.items }
         ensures cut { length result.0.now ≡
             min (length self.old.items) (self.old.capacity - self.old.start) }

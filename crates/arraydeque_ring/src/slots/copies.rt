@@ -60,8 +60,7 @@ impl<T> Slots<T> {
         self.put_blocks::<1>(from, items, put);
     }
 
-    /// Puts copies of narrow items, fewer than 1024, in blocks, the largest first. No put is
-    /// counted.
+    /// Puts copies of narrow items in blocks, the largest first. No put is counted.
     #[tactic(auto, using(crate::proofs::fills::Copied::all_written))]
     #[inline(always)] // So a caller's number of items chooses the blocks when it is compiled.
     fn put_short(&mut self, from: usize, items: &[T])
