@@ -27,6 +27,13 @@ pub record Gapped {X : Type 0} (n t : ℕ) (xs : List X) (gap : ℕ) (ys : List 
   pub reads : Holds n t (gapped xs gap ys) ps
 
 module _ {X : Type 0} {n t : ℕ} {xs : List X} {ps : List (Option X)} (l : LaidOut n t xs ps) where
+  -- no gap, behind any k of the items
+  pub Gapped-none : (k : ℕ) → k ≤ length xs → Gapped n t (take k xs) 0 (drop k xs) ps
+  Gapped-none k le = let front = length-take-le k xs le in record {
+    within = omega (arith, l.within, length-drop k xs);
+    reads = Holds-same (holds l) (λ j lt. grind (arith, items));
+  }
+
   -- a gap where items are taken out
   pub Gapped-taken : (from gap : ℕ) (qs : List (Option X)) → from + gap ≤ length xs
       → rotated t qs ≡ run_emptied from gap (rotated t ps) → Gapped n t (take from xs) gap (drop (from + gap) xs) qs
@@ -99,8 +106,3 @@ module _ {X : Type 0} {n t : ℕ} {xs : List X} {gap : ℕ} {ps : List (Option X
     reads = Holds-set p.reads i None (omega arith) (grind arith)
         (λ k lt other. grind (arith, items));
   }
-
-  -- and moved to the gap's first place, which may be its own
-  pub Gapped-move : (x : X) (k : ℕ) → slice_get ys j ≡ Some x → length xs ≡ k → Gapped n t (xs ++ x ∷ []) gap
-      (drop (j + 1) ys) (set (set ps (place_of t i n) None) (place_of t k n) (held_at ps (place_of t i n)))
-  Gapped-move x k is front = rw (held_behind, is) (Gapped-put k x Gapped-take front)

@@ -45,14 +45,14 @@ module _ {X F : Type 0} (R : F → X → Bool → F → Type 0) where
   answer_next f g h k xs x b lt is told said = grind (arith, answers_push, length-replicate)
 
   -- what is answered at a list is so at a longer one
-  pub told_longer : (f g : F) (bs : List Bool) (xs ys : List X) → ReturnsInTurn R f bs xs g
+  told_longer : (f g : F) (bs : List Bool) (xs ys : List X) → ReturnsInTurn R f bs xs g
       → ReturnsInTurn R f bs (xs ++ ys) g
   told_longer f g [] xs ys told = told
   told_longer f g (b ∷ bs) [] ys told = absurd told
   told_longer f g (b ∷ bs) (x ∷ xs) ys told = (told.0, told.1, told_longer told.0 g bs xs ys told.2)
 
   -- answers at all of one list, and then at another
-  told_behind : (f g h : F) (bs cs : List Bool) (xs ys : List X) → length bs ≡ length xs → ReturnsInTurn R f bs xs g
+  pub told_behind : (f g h : F) (bs cs : List Bool) (xs ys : List X) → length bs ≡ length xs → ReturnsInTurn R f bs xs g
       → ReturnsInTurn R g cs ys h → ReturnsInTurn R f (bs ++ cs) (xs ++ ys) h
   told_behind f g h [] cs [] ys long told after = rw told after
   told_behind f g h [] cs (x ∷ xs) ys long told after = absurd (omega arith)
