@@ -131,12 +131,12 @@ fn workloads_in_place() -> Vec<Workload> {
     let mut list = Vec::new();
     of_all_lists!(list, iterate, fold, rev, zip, contains, iterate_mut);
     of_a_million!(list, iterate, fold, contains);
-    of_a_million!(list, iterate_mut, add_each, for_each_mut, for_each_mut_in, range_mut);
+    of_a_million!(list, iterate_mut, add_each, iter_mut_for_each, for_each_mut, for_each_mut_in, range_mut);
     // Items of 64 bytes showed the same as in `iterate_mut`. At capacity 16 the compiler sums the rounds of
-    // `for_each_mut*` without making them.
+    // `*for_each*` without making them.
     workloads!(
         list, [(1, u8, 1024), (8, u64, 1024), (8, u64, 1000), (8, u64, 64)],
-        add_each, for_each_mut, for_each_mut_in, range_mut
+        add_each, iter_mut_for_each, for_each_mut, for_each_mut_in, range_mut
     );
     workloads!(list, [(8, u64, 16)], add_each, range_mut);
     workloads!(
@@ -182,7 +182,7 @@ fn further_workloads() -> Vec<Workload> {
     let mut list = Vec::new();
     workloads!(
         list, [(100, Box<u64>, 64), (100, Box<u64>, 1024), (101, String, 64), (101, String, 1024)],
-        owned_queue, owned_insert, owned_retain, owned_drain
+        owned_queue, owned_clear, owned_insert, owned_retain, owned_drain
     );
     // Boxes in 64 places showed the same as in `owned_retain`, and other rows of `owned_truncate` as in `owned_drain`.
     workloads!(list, [(100, Box<u64>, 1024), (101, String, 64), (101, String, 1024)], owned_clone);

@@ -23,7 +23,10 @@ pub const TASKS: [Task; 23] = [
     other("the same through a reference", &["lent_queue", "lent_history"]),
     other("an item by its index", &["get", "get_mut", "index_mut"]),
     shown("all items read", &["iterate", "rev", "zip", "fold"]),
-    other("all items written", &["iterate_mut", "add_each", "for_each_mut", "range_mut", "for_each_mut_in"]),
+    other(
+        "all items written",
+        &["iterate_mut", "add_each", "iter_mut_for_each", "for_each_mut", "range_mut", "for_each_mut_in"],
+    ),
     other("contains", &["contains"]),
     other("equality, order, hash", &["equal", "compare", "hash"]),
     other("binary searches", &["search", "partition_point"]),
@@ -41,7 +44,7 @@ pub const TASKS: [Task; 23] = [
     other("a vector in and back", &["vec_and_back"]),
     other("bytes in and out", &["pipe", "pipe_truncating", "pipe_popping", "pipe_wrapping", "pipe_varying", "stream"]),
     other("boxes and texts", &[
-        "owned_queue", "owned_clone", "owned_truncate", "owned_insert", "owned_retain", "owned_drain",
+        "owned_queue", "owned_clone", "owned_clear", "owned_truncate", "owned_insert", "owned_retain", "owned_drain",
     ]),
     other("small programs", &["window", "window_largest", "run", "scan", "yaml", "log_copied", "log_lent"]),
 ];

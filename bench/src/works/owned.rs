@@ -32,6 +32,19 @@ pub fn owned_clone<T: Owned, D: Peer<T> + Clone, const CAP: usize>(rounds: usize
     sum
 }
 
+pub fn owned_clear<T: Owned, D: Peer<T>, const CAP: usize>(rounds: usize) -> u64 {
+    let mut deque = D::new();
+    let mut sum = 0u64;
+    for round in 0..rounds {
+        for number in 0..CAP / 2 {
+            deque.push_back(T::make((number ^ round) as u64));
+        }
+        sum = sum.wrapping_add(deque.back().map_or(0, Owned::number));
+        deque.clear();
+    }
+    sum
+}
+
 pub fn owned_truncate<T: Owned, D: Peer<T>, const CAP: usize>(rounds: usize) -> u64 {
     let mut deque: D = deque_of(CAP - CAP / 4);
     drop(deque.drain(0..CAP / 2));

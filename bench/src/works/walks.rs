@@ -86,8 +86,7 @@ pub fn add_each<T: Item, D: Peer<T>, const CAP: usize>(rounds: usize) -> u64 {
     sum
 }
 
-/// By an iterator, as the peers have no other way.
-pub fn for_each_mut<T: Item, D: Peer<T>, const CAP: usize>(rounds: usize) -> u64 {
+pub fn iter_mut_for_each<T: Item, D: Peer<T>, const CAP: usize>(rounds: usize) -> u64 {
     let mut deque: D = peer_at(CAP / 2, CAP);
     let mut sum = 0u64;
     for _ in 0..rounds {
@@ -96,6 +95,9 @@ pub fn for_each_mut<T: Item, D: Peer<T>, const CAP: usize>(rounds: usize) -> u64
     }
     sum
 }
+
+/// By an iterator, as the peers have no other way.
+pub use self::iter_mut_for_each as for_each_mut;
 
 pub fn for_each_mut_in<T: Item, D: Peer<T>, const CAP: usize>(rounds: usize) -> u64 {
     let mut deque: D = peer_at(CAP / 2, CAP);
