@@ -166,7 +166,7 @@ fn workloads_of_many() -> Vec<Workload> {
         rotate[false, true] as rotate_half_one,
         rotate[false, false] as rotate_half_half
     );
-    of_all_lists!(list, linearize);
+    of_all_lists!(list, rotate_half_one_right, linearize);
     of_all_items!(list, linearize_full, linearize_some[1] as linearize_1);
     workloads!(
         list, [(1, u8, 1024), (8, u64, 1024), (64, Block, 1024)],

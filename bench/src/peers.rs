@@ -50,6 +50,7 @@ pub trait Peer<T>: Sized {
     /// Writes each item, and keeps those that are wanted then.
     fn retain_mut(&mut self, writes: impl FnMut(&mut T), keeps: impl FnMut(&T) -> bool);
     fn rotate_left(&mut self, count: usize);
+    fn rotate_right(&mut self, count: usize);
     fn binary_search_by(&self, order: impl FnMut(&T) -> Ordering) -> Result<usize, usize>;
     fn partition_point(&self, is_before: impl FnMut(&T) -> bool) -> usize;
     fn pop_back_if(&mut self, is_wanted: impl FnOnce(&mut T) -> bool) -> Option<T>;
@@ -280,6 +281,14 @@ impl<T, const CAP: usize> Peer<T> for Crate<T, CAP> {
         }
     }
     #[inline]
+    fn rotate_right(&mut self, count: usize) {
+        for _ in 0..count {
+            if let Some(item) = self.0.pop_back() {
+                let _ = self.0.push_front(item);
+            }
+        }
+    }
+    #[inline]
     fn binary_search_by(&self, mut order: impl FnMut(&T) -> Ordering) -> Result<usize, usize> {
         let (front, back) = self.0.as_slices();
         if back.first().is_some_and(|item| order(item).is_le()) {
@@ -437,6 +446,10 @@ impl<T, const CAP: usize> Peer<T> for Bounded<T, CAP> {
     #[inline]
     fn rotate_left(&mut self, count: usize) {
         self.0.rotate_left(count);
+    }
+    #[inline]
+    fn rotate_right(&mut self, count: usize) {
+        self.0.rotate_right(count);
     }
     #[inline]
     fn binary_search_by(&self, order: impl FnMut(&T) -> Ordering) -> Result<usize, usize> {

@@ -32,7 +32,7 @@ pub const TASKS: [Task; 23] = [
     other("binary searches", &["search", "partition_point"]),
     shown("insert and remove", &["middle", "random"]),
     other("swaps and swap removals", &["swap", "swap_remove_back", "swap_remove_front"]),
-    other("rotate by one", &["rotate_full_one", "rotate_half_one"]),
+    other("rotate by one", &["rotate_full_one", "rotate_half_one", "rotate_half_one_right"]),
     other("rotate by half", &["rotate_full_half", "rotate_half_half"]),
     other("linearize", &["linearize", "linearize_full", "linearize_1", "linearize_8", "linearize_64"]),
     other("retain", &["retain", "retain_mut"]),

@@ -15,6 +15,16 @@ pub fn rotate<T: Item, D: Peer<T>, const CAP: usize, const IS_FULL: bool, const 
     sum
 }
 
+pub fn rotate_half_one_right<T: Item, D: Peer<T>, const CAP: usize>(rounds: usize) -> u64 {
+    let mut deque: D = peer_at(CAP / 3, CAP / 2);
+    let mut sum = 0u64;
+    for _ in 0..rounds {
+        deque.rotate_right(1);
+        sum = sum.wrapping_mul(3).wrapping_add(last_number(&deque));
+    }
+    sum
+}
+
 pub fn linearize<T: Item, D: Peer<T>, const CAP: usize>(rounds: usize) -> u64 {
     let mut deque: D = peer_at(CAP / 2, CAP - CAP / 4);
     let mut sum = 0u64;
