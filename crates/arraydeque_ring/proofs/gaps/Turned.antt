@@ -1,27 +1,28 @@
 -- A rotation is a gap that closes: read from the first item that goes to the front, the ring's empty places stand
 -- before the items that go behind. And no placement of the list gives fewer items another place.
 use Rattle.std.proofs.{
-  Common.{◌≡◌, ℕ, ◌+◌, ◌-◌, ◌<◌, ◌≤◌, ◌==◌, ◌++◌, length, take, drop, inl, inr, min, not},
+  Common.{◌≡◌, ℕ, suc, refl, ◌+◌, ◌-◌, ◌<◌, ◌≤◌, ◌==◌, ◌++◌, length, take, drop, inl, inr, min, not},
   Common.{if◌then◌else◌, nat_lt, List, [], ◌∷◌, Option, None, set, arith},
   lemmas.{
     Bool.{cases_lt, Decides.nat_tests},
     Grind.common_steps,
-    List.{length-append, length-take-le, length-drop, length_push, append-nil},
+    List.{length-append, length-take-le, length-drop, length_push, append-nil, drop_all, drop_more},
+    Option.get_or_from_slice_get,
   },
 }
 use Rattle.arraydeque_ring.{
   proofs.{
     gaps.{
       Fewest.{count_sides, one_start},
-      GapMoves.{may_close, Gapped-behind, gap_moves},
-      Gapped.{Gapped, LaidOut-gap_last, LaidOut-put},
+      GapMoves.{may_close, Gapped-behind, Gapped-before, gap_moves},
+      Gapped.{Gapped, Gapped-taken_one, LaidOut-gap_last, LaidOut-put},
     },
     Opened.{Opened, Shows, shows, Become, become},
     places.{
       Holds.{Holds-from, Holds-same},
       Items.items,
-      LaidOut.{LaidOut-by, LaidOut-take_front, IsFilled-start, held_at-start, holds},
-      Rotated.{place_of_cases, place_of-sum},
+      LaidOut.{LaidOut-by, LaidOut-take_front, IsFilled-start, IsFilled-place_of, held_at-start, holds},
+      Rotated.{place_of_cases, place_of-sum, place_of-zero},
     },
   },
   specs.{
@@ -89,6 +90,22 @@ turned_one {r = r} {v = v} o some room =
     let put = LaidOut-put (r.len - 1) first.0 (Gapped-behind taken (omega (arith, o.len, long)))
     (omega (arith, o.len, long)) in
     rw (is, first.1) (become (rw behind at put) _ (omega (arith, o.len, long, length_push (drop 1 v.items) first.0)))
+
+-- and where only the last goes before them, into the place before the first
+pub turned_last : {X : Type 0} {r : Inside X} {v : RingState X} → Opened r v → (m : ℕ) → m + 1 ≡ r.len
+    → r.len < v.capacity → let n = v.capacity in let last = place_of r.start m n in
+    Become n (place_of r.start (n - 1) n) r.len (drop m v.items ++ take m v.items)
+    (set (set r.slots.places last None) (place_of r.start (n - 1) n) (held_at r.slots.places last))
+turned_last {r = r} {v = v} o m len room =
+    let last = IsFilled-place_of o.laid m (omega (arith, o.len)) in
+    let none = drop_all (suc m) v.items (omega (arith, o.len)) in
+    let is : drop m v.items ≡ last.0 ∷ [] =
+    grind (arith, none, o.laid.at m, last.1, drop_more v.items m last.0, get_or_from_slice_get v.items m last.0) in
+    let long = length-take-le m v.items (omega (arith, o.len)) in
+    let taken = LaidOut-gap_last (rw none at (Gapped-taken_one o.laid m (omega (arith, o.len)))) in
+    let gap = Gapped-before taken (omega (arith, long)) in
+    let put = LaidOut-put 0 last.0 gap refl in
+    rw (is, last.1) (become (rw (place_of-zero _ v.capacity gap.reads.in_region) at put) _ (omega (arith, long)))
 
 module _ (m n c t : ℕ) (t_in : t ≤ c - 1) (m_in : m ≤ n) (within : n ≤ c) where
   -- the others stay where the start goes up by the first m, and these where it goes down by the others

@@ -98,7 +98,7 @@ impl<T> Ring<T> {
     /// assert!(rt; IntoIter::from_ring(ring).eq([2, 3, 1]));
     /// ```
     #[tactic(auto, using(crate::proofs::Opened::end_facts))]
-    #[inline]
+    #[inline(always)] // By a hint, `rotate_half_one_right` took 54 instructions, not 13.
     pub fn rotate_left(&mut self, count: usize)
         requires { count ≤ length self.old.items }
         ensures items { self.new.items ≡ drop count self.old.items ++ take count self.old.items }
@@ -116,6 +116,15 @@ impl<T> Ring<T> {
             self.start = wrap_add(start, 1, capacity);
             if self.len < capacity {
                 self.slots.shift(behind, start);
+            }
+            return;
+        }
+        if others == 1 && 1 < count {
+            let before = wrap_add(start, capacity - 1, capacity);
+            self.start = before;
+            if self.len < capacity {
+                let last = wrap_add(start, count, capacity);
+                self.slots.shift(before, last);
             }
             return;
         }

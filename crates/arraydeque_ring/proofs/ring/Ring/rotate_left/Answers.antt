@@ -1,6 +1,6 @@
 use Rattle.std.proofs.Common.{◌++◌, length, take, drop, arith}
 use Rattle.arraydeque_ring.proofs.{
-  gaps.Turned.{fewest_rotate, may_turn, start_turned, turned, turned_full, turned_one},
+  gaps.Turned.{fewest_rotate, may_turn, start_turned, turned, turned_full, turned_last, turned_one},
   Opened.{opened, bounds, Shows},
   places.Rotated.place_of-zero,
   ring.Ring.rotate_left.{Given.Over, Goals.{After-close_room-slots, Else-has_room}},
@@ -69,6 +69,31 @@ pub returns-then-others-gt0-clause-fewest : goal.returns-then-others-gt0-clause-
 returns-then-others-gt0-clause-fewest g c =
     let ring = opened c.self.inside c.self.invariant c.self.view_is in
     rw (returns-then-others-gt0-clause-start g c)
+    (fewest_rotate c.args.count _ _ _ (omega arith) c.requires (omega arith))
+
+pub invariant_of-self-then-self-capacity-2 : goal.invariant_of-self-then-self-capacity-2
+invariant_of-self-then-self-capacity-2 g c =
+    let ring = opened c.self.inside c.self.invariant c.self.view_is in
+    grind (arith, turned_last ring c.args.count)
+
+pub invariant_of-self-else-self-capacity-2 : goal.invariant_of-self-else-self-capacity-2
+invariant_of-self-else-self-capacity-2 g c =
+    let ring = opened c.self.inside c.self.invariant c.self.view_is in
+    grind (arith, turned_full ring c.args.count)
+
+pub returns-then-count-gt1-clause-items : goal.returns-then-count-gt1-clause-items
+returns-then-count-gt1-clause-items g c =
+    let ring = opened c.self.inside c.self.invariant c.self.view_is in
+    let m = c.args.count in
+    grind (arith, turned_last ring m, turned_full ring m, c.if-self-capacity-2.branch)
+
+pub returns-then-count-gt1-clause-start : goal.returns-then-count-gt1-clause-start
+returns-then-count-gt1-clause-start g c = grind (arith, bounds)
+
+pub returns-then-count-gt1-clause-fewest : goal.returns-then-count-gt1-clause-fewest
+returns-then-count-gt1-clause-fewest g c =
+    let ring = opened c.self.inside c.self.invariant c.self.view_is in
+    rw (returns-then-count-gt1-clause-start g c)
     (fewest_rotate c.args.count _ _ _ (omega arith) c.requires (omega arith))
 
 pub invariant_of-self-then-has_room : goal.invariant_of-self-then-has_room
