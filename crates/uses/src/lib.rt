@@ -1,4 +1,4 @@
-//! Uses of deque and ring, to be read as examples. Each is proved, over their public contracts
+//! Uses of the deque, to be read as examples. Each is proved, over the deque's public contracts
 //! alone, to keep what its users care about.
 //!
 //! - [`window`]: the last samples and their sum
@@ -20,18 +20,12 @@
 //! - [`tree`]: a tree whose forks have at most four branches, and a count of its nodes
 //! - [`encoder`]: three bytes in, four characters out; both a writer and a reader
 //! - [`in_place`]: a deque sorted, filled and searched
-//! - [`scanning`]: what a caller knows of a scanner
-//! - [`writing`]: what a caller knows of a deque it wrote through
-//! - [`extending`]: what a caller knows of a deque that an iterator's items were added to
-//! - [`callers`]: what it knows after one call or two
 #![tactic(auto)]
 
 pub mod ageing;
-pub mod callers;
 pub mod copying;
 pub mod edits;
 pub mod encoder;
-pub mod extending;
 pub mod history;
 pub mod in_place;
 pub mod input;
@@ -44,8 +38,6 @@ pub mod moving;
 pub mod peaks;
 pub mod pipe;
 pub mod reorder;
-pub mod scanning;
 pub mod tokens;
 pub mod tree;
 pub mod window;
-pub mod writing;

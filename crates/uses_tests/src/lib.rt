@@ -4,15 +4,11 @@
 #[cfg(test)]
 mod ageing;
 #[cfg(test)]
-mod callers;
-#[cfg(test)]
 mod copying;
 #[cfg(test)]
 mod edits;
 #[cfg(test)]
 mod encoder;
-#[cfg(test)]
-mod extending;
 #[cfg(test)]
 mod history;
 #[cfg(test)]
@@ -40,12 +36,8 @@ mod refusals;
 #[cfg(test)]
 mod reorder;
 #[cfg(test)]
-mod scanning;
-#[cfg(test)]
 mod tokens;
 #[cfg(test)]
 mod tree;
 #[cfg(test)]
 mod window;
-#[cfg(test)]
-mod writing;

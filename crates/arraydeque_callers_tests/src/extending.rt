@@ -1,8 +1,8 @@
 //! What extends add.
 use arraydeque::{ArrayDeque, Saturating};
+use arraydeque_callers::extending::{add_reversed, add_two, move_all};
 use std::alloc::AllocError;
 use std::test::Fail;
-use uses::extending::{add_reversed, add_two, move_all};
 
 /// Whether a deque of three places takes what it should of one that has two items.
 fn as_much_as_fits(rt: &HostRuntime) -> Result<bool, AllocError> {

@@ -1,6 +1,6 @@
 use Rattle.std.proofs.Common.{rules, arith, ℕ, ◌+◌, ◌^◌, ◌<◌}
 use Rattle.arraydeque.proofs.WrittenEach.{may_write}
-use Rattle.uses.proofs.writing.add_to_each.Goals as goal
+use Rattle.arraydeque_callers.proofs.writing.add_to_each.Goals as goal
 
 pub for_each_mut-requires : goal.for_each_mut-requires
 for_each_mut-requires g c =

@@ -1,8 +1,8 @@
 //! Callers of a call or two.
 use arraydeque::{ArrayDeque, Saturating};
+use arraydeque_callers::calls::{cut_and_join, rotate_left, take_for_first, write_back};
 use std::alloc::AllocError;
 use std::test::Fail;
-use uses::callers::{cut_and_join, rotate_left, take_for_first, write_back};
 
 /// Whether each of several calls changes three items as it should.
 fn all_work(rt: &HostRuntime) -> Result<bool, AllocError> {

@@ -1,6 +1,6 @@
 use Rattle.std.proofs.Common.{◌≢◌, All}
 use Rattle.arraydeque_ring.specs.Loans.{remaining}
-use Rattle.uses.proofs.writing.fill_until.Given as goal
+use Rattle.arraydeque_callers.proofs.writing.fill_until.Given as goal
 
 abbrev pub invariant-loop-found : goal.invariant-loop-found
 invariant-loop-found g l = record {

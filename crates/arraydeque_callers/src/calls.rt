@@ -1,5 +1,4 @@
-//! Callers of a call or two, most in a line: by a call's contract alone its caller promises what a
-//! user would ask for.
+//! Callers of a call or two, most in a line.
 ghost use Rattle.std.specs.Prelude.{◌≡◌, ◌-◌, ◌<◌, ◌≤◌, ◌++◌, [], length, take, drop, swap, replicate, slice_get, slice_set, IfOk, IfSome, OnOk, OnErr};
 ghost use Rattle.std.specs.List.{list_any};
 ghost use Rattle.std.specs.List.Sorted.{IsBinarySearchResult};

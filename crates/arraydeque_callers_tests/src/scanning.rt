@@ -1,8 +1,8 @@
 //! What a caller answers of a scanner.
 use arraydeque::lookahead::Scanner;
+use arraydeque_callers::scanning::next_or;
 use std::alloc::AllocError;
 use std::test::Fail;
-use uses::scanning::next_or;
 
 /// Two answers of a text of one byte.
 fn answers(rt: &HostRuntime) -> Result<(u8, u8), AllocError> {

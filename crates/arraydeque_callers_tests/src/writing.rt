@@ -1,12 +1,12 @@
 //! What is written over items that wrap, or that don't.
 use arraydeque::{ArrayDeque, Wrapping};
-use arraydeque_ring::ring::Ring;
-use arraydeque_samples::build::{deque_at, holds};
-use std::test::Fail;
-use uses::writing::{
+use arraydeque_callers::writing::{
     count_in_slices, fill_behind_first, fill_by_hand, fill_from, fill_from_the_back, fill_until,
     fill_walked, wipe_and_pop, write_ends_and_push, write_ring_slices, write_slices_and_push,
 };
+use arraydeque_ring::ring::Ring;
+use arraydeque_samples::build::{deque_at, holds};
+use std::test::Fail;
 
 #[test]
 fn each_item_is_written(rt: HostRuntime) -> Result<(), Fail> {

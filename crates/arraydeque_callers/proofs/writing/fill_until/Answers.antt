@@ -2,7 +2,7 @@ use Rattle.std.proofs.{
   Common.{◌≢◌, ℤ, to_z, of_z, w64, rules},
   lemmas.List.Elements.{All-cons, All-tail},
 }
-use Rattle.uses.proofs.writing.fill_until.Goals as goal
+use Rattle.arraydeque_callers.proofs.writing.fill_until.Goals as goal
 
 pub loop-found-preserved : goal.loop-found-preserved
 loop-found-preserved g c =
