@@ -1,5 +1,5 @@
 //! Callers of a call or two, most in a line.
-ghost use Rattle.std.specs.Prelude.{◌≡◌, ◌-◌, ◌<◌, ◌≤◌, ◌++◌, [], length, take, drop, swap, replicate, slice_get, slice_set, IfOk, IfSome, OnOk, OnErr};
+ghost use Rattle.std.specs.Prelude.{◌≡◌, ◌-◌, ◌<◌, ◌≤◌, ◌++◌, ◌∷◌, [], length, take, drop, swap, replicate, filter, slice_get, slice_set, pos, int_le, IfOk, IfSome, OnOk, OnErr};
 ghost use Rattle.std.specs.List.{list_any};
 ghost use Rattle.std.specs.List.Sorted.{IsBinarySearchResult};
 ghost use Rattle.std.specs.Fn.{ComputesKey};
@@ -8,6 +8,7 @@ ghost use Rattle.arraydeque.specs.Deque.{as_ring, keep_last};
 
 use arraydeque::behavior::Behavior;
 use arraydeque::{ArrayDeque, Drain, MakeError, Saturating, Wrapping};
+use arraydeque_ring::Ring;
 use std::alloc::{AllocError, Global};
 use std::cmp::Ordering;
 
@@ -190,6 +191,13 @@ pub fn keep_last_items<T: Drop, const CAP: usize, B: Behavior>(
     deque.truncate_front(count);
 }
 
+/// Removes each item that is negative.
+pub fn drop_negative<const CAP: usize, B: Behavior>(deque: &mut ArrayDeque<i64, CAP, B>)
+    ensures { deque.new.items ≡ filter (λ item. int_le (pos 0) item) deque.old.items }
+{
+    deque.retain(|item| *item >= 0);
+}
+
 /// Fills the room with a value.
 pub fn fill_up<T: Copy + Drop, const CAP: usize, B: Behavior>(
     deque: &mut ArrayDeque<T, CAP, B>,
@@ -281,4 +289,15 @@ pub fn there_and_back<T: Drop, const CAP: usize>(list: Vec<T>, alloc: Global) ->
 {
     let deque = ArrayDeque::<T, CAP, Saturating>::from_vec(alloc, list).ok()?;
     deque.into_vec().ok()
+}
+
+/// Puts an item behind the others of a ring. Of a full one the first item is removed.
+pub fn push_last(ring: &mut Ring<i64>, item: i64)
+    ensures { ring.new.items ≡ keep_last ring.old.capacity (ring.old.items ++ item ∷ []) }
+{
+    if ring.len() < ring.capacity() {
+        ring.push_back(item);
+    } else if let Some(_) = ring.pop_front() {
+        ring.push_back(item);
+    }
 }

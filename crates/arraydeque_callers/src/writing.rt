@@ -28,6 +28,13 @@ pub fn add_to_each<const CAP: usize, B: Behavior>(deque: &mut ArrayDeque<u64, CA
     );
 }
 
+/// Takes `by` off each item, down to 0.
+pub fn lower<const CAP: usize, B: Behavior>(deque: &mut ArrayDeque<u64, CAP, B>, by: u64)
+    ensures { deque.new.items ≡ map (λ item. item - by) deque.old.items }
+{
+    deque.for_each_mut(|item| *item = item.saturating_sub(by));
+}
+
 /// Writes over each item, by a closure.
 pub fn fill_each<T: Copy + Drop, const CAP: usize, B: Behavior>(
     deque: &mut ArrayDeque<T, CAP, B>,

@@ -6,7 +6,7 @@
 //! - [`pipe`]: bytes for a writer that may take only some of them
 //! - [`reorder`]: pieces that come early wait in order
 //! - [`moving`]: items moved from one deque to another, a few at a time
-//! - [`copying`]: bytes copied from one deque to another, or to a vector
+//! - [`copying`]: bytes copied from one deque to another, or to a vector; a line taken out
 //! - [`limiter`]: requests per span of time
 //! - [`jobs`]: a work queue, under either policy
 //! - [`ageing`]: entries that age, and are removed when their time is over

@@ -1,9 +1,9 @@
-//! Bytes copied from a deque to a vector, and to another deque.
+//! Bytes copied from a deque to a vector, and to another deque, and a line of them.
 use arraydeque::{ArrayDeque, Saturating, Wrapping};
 use arraydeque_samples::build::{holds, made};
 use std::io::ErrorKind;
 use std::test::Fail;
-use uses::copying::{pour, pour_over};
+use uses::copying::{pour, pour_over, take_line};
 
 #[test]
 fn all_bytes_go_over(rt: HostRuntime) -> Result<(), Fail> {
@@ -24,5 +24,16 @@ fn what_finds_no_room_is_lost(rt: HostRuntime) -> Result<(), Fail> {
     let mut into = ArrayDeque::<u8, 3, Saturating>::new(alloc)?;
     let refused = pour_over(&mut from, &mut into).map_err(|error| error.kind());
     assert!(rt; refused == Err(ErrorKind::WriteZero) && from.is_empty() && holds(&into, b"abc"));
+    Ok(())
+}
+
+#[test]
+fn a_line_goes_with_its_line_feed(rt: HostRuntime) -> Result<(), Fail> {
+    let alloc = rt.alloc();
+    let mut from = made(ArrayDeque::<u8, 5, Saturating>::from_array(alloc, *b"ab\nc"))?;
+    let mut into = vec![in alloc; 0]?;
+    assert!(rt; take_line(&mut from, &mut into)? == 3 && holds(&from, b"c"));
+    assert!(rt; take_line(&mut from, &mut into)? == 1 && from.is_empty());
+    assert!(rt; into.as_slice() == b"\0ab\nc".as_slice());
     Ok(())
 }

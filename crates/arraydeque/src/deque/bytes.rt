@@ -98,6 +98,17 @@ impl<const CAP: usize, B: Behavior> BufRead for ArrayDeque<u8, CAP, B> {
     /// deque.consume(2);
     /// assert!(rt; deque.is_empty());
     /// ```
+    ///
+    /// So bytes go to a writer that may take only some of them.
+    ///
+    /// ```
+    /// let mut waiting = ArrayDeque::<u8, 8, Saturating>::from_array(alloc, *b"bytes")?;
+    /// let mut room = [0; 3];
+    /// let mut writer = room.as_mut_slice();
+    /// let written = writer.write(waiting.fill_buf()?)?;
+    /// waiting.consume(written);
+    /// assert!(rt; waiting.into_vec()?.as_slice() == b"es".as_slice());
+    /// ```
     #[inline]
     fn consume(&mut self, amount: usize)
         ensures items { self.new.items ≡ drop amount self.old.items }

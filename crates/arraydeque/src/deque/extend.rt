@@ -24,6 +24,15 @@ impl<T, const CAP: usize> ArrayDeque<T, CAP, Saturating> {
     /// assert!(rt; numbers.next() == Some(4));
     /// assert!(rt; deque.into_vec()?.as_slice() == [1, 2, 3].as_slice());
     /// ```
+    ///
+    /// So a deque is filled up to a length by calls of a closure.
+    ///
+    /// ```
+    /// let mut deque = ArrayDeque::<i64, 4, Saturating>::from_array(alloc, [1])?;
+    /// let room = 3_usize.saturating_sub(deque.len());
+    /// deque.extend_back(std::iter::repeat_with(|| 7).take(room));
+    /// assert!(rt; deque.into_vec()?.as_slice() == [1, 7, 7].as_slice());
+    /// ```
     #[inline(never)] // Inlined, 64 bytes took 1.15 of `VecDeque`'s time, not 1.
     pub fn extend_back<I: IntoIterator<Item = T>>(&mut self, iter: I)
         requires { IsIterable I.into_iter_gives I.IntoIter.can_next iter }
