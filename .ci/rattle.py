@@ -17,9 +17,9 @@ BODY = re.compile(r'^( *)(?:(?:pub|fn|const|unsafe|\))[^\n]* )?\{\n(.*?)^\1\}$',
 BRANCH = re.compile(r'\b(?:if|else|match|for|while|loop|return)\b|\?')
 
 
-def without_comments(text):
-    """A text without comments, whose literals are empty."""
-    return COMMENT_OR_LITERAL.sub(lambda it: '' if it[0].startswith('/') else '""', text)
+def without_comments(text, literal='""'):
+    """A text without comments, and with this for each literal, or the literal itself for None."""
+    return COMMENT_OR_LITERAL.sub(lambda it: '' if it[0].startswith('/') else literal or it[0], text)
 
 
 def without_tests(text):
