@@ -33,9 +33,10 @@
 //!
 //! - No room: only under `Saturating`, and in [`lookahead::Scanner::unread`]. The element comes
 //!   back in the [`CapacityError`].
-//! - No memory: only in `new`, `from_iter`, `from_vec`, `from_array`, `clone`, `drain`,
-//!   `split_off`, `into_vec`, `run` and `Scanner::new`. The `from_` calls, `into_vec`, `run` and
-//!   `Scanner::new` hand back what they consumed, as it was, in a [`MakeError`].
+//! - No memory: only in `new`, `from_iter`, `from_vec`, `from_array`, `clone`, also of a
+//!   [`CapacityError`], `drain`, `split_off`, `into_vec`, `run` and `Scanner::new`. The `from_`
+//!   calls, `into_vec`, `run` and `Scanner::new` hand back what they consumed, as it was, in a
+//!   [`MakeError`].
 //! - No such item: a pop, `front`, `back`, `get`, their `_mut`, `remove`, `swap_remove_back` or
 //!   `swap_remove_front` returns `None`.
 //!
