@@ -25,6 +25,7 @@ mod moves;
 mod parts;
 mod pop_if;
 mod pushes;
+mod resize;
 mod retain;
 mod searches;
 mod swaps;

@@ -12,7 +12,7 @@
 //! | `rotate_left`, `rotate_right` | `takes_nothing_out` | `finds_one` |
 //! | pops, all of `pop_if` | `takes_nothing_out` | `is_free_after` |
 //! | `remove`, `swap_remove_back`, `swap_remove_front` | `takes_nothing_out` | `is_free_after` |
-//! | all of `retain` | `takes_nothing_out` | `is_free_after`, `reads_one`, `writes_one` |
+//! | all of `resize`, `retain` | `takes_nothing_out` | `is_free_after`, `reads_one`, `writes_one` |
 //! | `swap` and `[i]`, which ask for an item | | `reads_one`, `writes_one` |
 //! | `linearize` | `takes_nothing_out` | `reads_one` |
 //! | `drain`, its both ends, `split_off` | `has_no_parts` | `has_two_parts`, `drains_one` |

@@ -20,6 +20,7 @@ mod linearize;
 mod makers;
 mod moves;
 mod parts;
+mod resize;
 mod retain;
 mod swaps;
 

@@ -26,6 +26,8 @@ mod pop_if;
 #[cfg(test)]
 mod pushes;
 #[cfg(test)]
+mod resize;
+#[cfg(test)]
 mod retain;
 #[cfg(test)]
 mod searches;

@@ -1,115 +1,16 @@
-//! Dropping items at their places: all, those at one end, or those that a closure rejects; and
-//! another length.
-ghost use Rattle.std.specs.Prelude.{◌≡◌, ◌-◌, ◌≤◌, ◌++◌, Bool, [], length, map, take, replicate};
+//! Dropping the items that a closure rejects.
+ghost use Rattle.std.specs.Prelude.{◌≡◌, ◌≤◌, Bool, length, map};
 ghost use Rattle.std.specs.List.{filter};
 ghost use Rattle.std.specs.Fn.{CalledAt, CalledAtMut};
 ghost use Rattle.std.specs.List.Retain.{IsFiltered, RetainsInTurn};
 ghost use Rattle.arraydeque_ring.specs.Computed.{ComputesAt, ComputesAtMut};
-ghost use Rattle.arraydeque_ring.specs.Ring.{up_by};
 ghost use Rattle.arraydeque_ring.specs.Retained.{Retains, RetainsMut, MayBeAsked, MayBeAskedMut};
-ghost use Rattle.arraydeque_ring.specs.Steps.{more_puts, more_takes};
-ghost use Rattle.arraydeque.specs.Deque.{as_ring, keep_last};
+ghost use Rattle.arraydeque.specs.Deque.{as_ring};
 
 use super::ArrayDeque;
 use crate::behavior::Behavior;
 
 impl<T, const CAP: usize, B: Behavior> ArrayDeque<T, CAP, B> {
-    /// Drops every item, front to back. The region stays.
-    ///
-    /// Start: 0. Steps: 1 take for each item.
-    ///
-    /// ```
-    /// let mut deque = ArrayDeque::<i64, 2, Saturating>::new(alloc)?;
-    /// deque.extend_back([1, 2]);
-    /// deque.clear();
-    /// assert!(rt; deque.is_empty());
-    /// assert!(rt; deque.push_back(3) == Ok(()));
-    /// ```
-    pub fn clear(&mut self)
-    where
-        T: Drop,
-        ensures { self.new ≡ record {
-          items = [];
-          start = 0;
-          steps = more_takes (length self.old.items) self.old.steps;
-        } }
-    {
-        self.ring.clear();
-    }
-
-    /// Keeps the first `len` items, or all if there are no more. The others are dropped, front to
-    /// back. No item moves.
-    ///
-    /// Start: stays. Steps: 1 take for each item dropped.
-    ///
-    /// ```
-    /// let mut deque = ArrayDeque::<i64, 3, Saturating>::new(alloc)?;
-    /// deque.extend_back([1, 2, 3]);
-    /// deque.truncate(2);
-    /// assert!(rt; deque.into_vec()?.as_slice() == [1, 2].as_slice());
-    /// ```
-    pub fn truncate(&mut self, len: usize)
-    where
-        T: Drop,
-        ensures items { self.new.items ≡ take len self.old.items }
-        ensures within { length self.new.items ≤ CAP }
-        ensures start { self.new.start ≡ self.old.start }
-        ensures steps { self.new.steps ≡ more_takes (length self.old.items - len) self.old.steps }
-    {
-        self.ring.truncate(len);
-    }
-
-    /// Makes the list `len` items long: keeps the first `len`, or all and puts copies of `value`
-    /// behind them. The others are dropped, front to back. No item moves, and no memory is taken.
-    /// Requires a length up to `CAP`.
-    ///
-    /// Start: stays. Steps: 1 take for each item dropped, 1 put for each copy.
-    ///
-    /// ```
-    /// let mut deque = ArrayDeque::<i64, 4, Saturating>::new(alloc)?;
-    /// deque.extend_back([1, 2]);
-    /// deque.resize(4, 7);
-    /// assert!(rt; (deque.len(), deque.back()) == (4, Some(&7)));
-    /// deque.resize(1, 7);
-    /// assert!(rt; deque.into_vec()?.as_slice() == [1].as_slice());
-    /// ```
-    pub fn resize(&mut self, len: usize, value: T)
-    where
-        T: Copy,
-        requires { len ≤ CAP }
-        ensures items { self.new.items ≡
-            take len self.old.items ++ replicate (len - length self.old.items) value }
-        ensures len { length self.new.items ≡ len }
-        ensures within { length self.new.items ≤ CAP }
-        ensures start { self.new.start ≡ self.old.start }
-        ensures steps { self.new.steps ≡ more_puts (len - length self.old.items)
-            (more_takes (length self.old.items - len) self.old.steps) }
-    {
-        self.ring.resize(len, value);
-    }
-
-    /// Keeps the last `len` items, or all if there are no more. The others are dropped, front to
-    /// back. No item moves, and no memory is taken.
-    ///
-    /// Start: 1 up for each item dropped. Steps: 1 take for each.
-    ///
-    /// ```
-    /// let mut deque = ArrayDeque::<i64, 3, Saturating>::new(alloc)?;
-    /// deque.extend_back([1, 2, 3]);
-    /// deque.truncate_front(2);
-    /// assert!(rt; deque.into_vec()?.as_slice() == [2, 3].as_slice());
-    /// ```
-    pub fn truncate_front(&mut self, len: usize)
-    where
-        T: Drop,
-        ensures items { self.new.items ≡ keep_last len self.old.items }
-        ensures within { length self.new.items ≤ CAP }
-        ensures start { self.new.start ≡ up_by (length self.old.items - len) self.old.start CAP }
-        ensures steps { self.new.steps ≡ more_takes (length self.old.items - len) self.old.steps }
-    {
-        self.ring.truncate_front(len);
-    }
-
     /// Keeps the items for which `f` returns true, in order, and drops the others. `f` is called
     /// once on each item, front to back.
     ///

@@ -3,7 +3,7 @@ use Rattle.arraydeque_ring.proofs.places.{
   Emptied.{next_unchanged, next_emptied},
   Filled.filled_in_run,
 }
-use Rattle.arraydeque_ring.proofs.ring.retain.drop_run.Goals as goal
+use Rattle.arraydeque_ring.proofs.ring.resize.drop_run.Goals as goal
 
 pub take-requires : goal.take-requires
 take-requires g c =

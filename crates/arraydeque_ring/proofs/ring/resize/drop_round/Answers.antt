@@ -1,9 +1,9 @@
 use Rattle.std.proofs.Common.{arith}
 use Rattle.arraydeque_ring.proofs.{
   places.Handed.{Handed, handed},
-  ring.retain.drop_round.{Given.Over, Goals.After-min-first},
+  ring.resize.drop_round.{Given.Over, Goals.After-min-first},
 }
-use Rattle.arraydeque_ring.proofs.ring.retain.drop_round.Goals as goal
+use Rattle.arraydeque_ring.proofs.ring.resize.drop_round.Goals as goal
 
 -- the values stand in two runs
 parts : (g : Over) (c : After-min-first g) →

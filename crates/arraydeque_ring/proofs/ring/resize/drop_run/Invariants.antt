@@ -1,6 +1,6 @@
 use Rattle.std.proofs.Common.{◌≡◌, ◌-◌}
 use Rattle.arraydeque_ring.specs.{Runs.run_emptied, Steps.more_takes}
-use Rattle.arraydeque_ring.proofs.ring.retain.drop_run.Given as goal
+use Rattle.arraydeque_ring.proofs.ring.resize.drop_run.Given as goal
 
 abbrev pub invariant-loop-place : goal.invariant-loop-place
 invariant-loop-place g l = record {
