@@ -22,6 +22,7 @@ use Rattle.arraydeque_ring.{
       Gapped.{Gapped, Gapped-taken, Gapped-taken_one, LaidOut-gap_first, LaidOut-gap_last},
       Gapped.LaidOut-put,
     },
+    LastPopped.last_and_rest,
     loans.Placed.length-as_many,
     places.{
       Appended.{LaidOut-appended, LaidOut-written, LaidOut-new, IsEmptyRun-behind},
@@ -31,7 +32,7 @@ use Rattle.arraydeque_ring.{
       LaidOut.{IsFilled-place_of, HoldsRun-rotated, IsFilledRun-LaidOut, HoldsRun-LaidOut},
       LaidOut.{same_run, LaidOut-set, LaidOut-swap},
       Rotated.{MayStartAt, MayStartAt-place_of, place_of-first, place_of-zero, place_of-lt},
-      Rotated.{one_place, place_of_cases, length-rotated},
+      Rotated.{one_place, place_of_cases, place_of-sum, length-rotated},
     },
   },
   specs.{
@@ -220,6 +221,26 @@ module _ {X : Type 0} (r : Inside X) (kept : Kept r) where
   front_taken place some is =
       become (rw is (LaidOut-take_front laid (omega (arith, len)))) _ (omega (arith, len, length-drop 1 items))
 
+  -- in a full ring one comes in at an end, in the place of the one at the other, which goes
+  pub first_replaced : (place : ℕ) (x : X) → 0 < r.len → r.len ≡ n → place ≡ r.start
+      → Become n (place_of r.start 1 n) r.len (drop 1 items ++ x ∷ []) (set (set places place None) place (Some x))
+  first_replaced place x some full is =
+      let long = length-drop 1 items in
+      let here : place_of (place_of r.start 1 n) (r.len - 1) n ≡ r.start =
+      grind (arith, place_of-sum r.start 1 (r.len - 1) n, place_of_cases r.start n n, place_of-zero r.start n) in
+      let taken = LaidOut-take_front laid (omega (arith, len)) in
+      let put = LaidOut-put (r.len - 1) x (Gapped-behind taken (omega (arith, len, long))) (omega (arith, len, long)) in
+      rw is (become (rw here at put) _ (omega (arith, len, long, length_push (drop 1 items) x)))
+
+  pub last_replaced : (place : ℕ) (x : X) → 0 < r.len → r.len ≡ n → place ≡ place_of r.start (n - 1) n
+      → Become n place r.len (x ∷ take (n - 1) items) (set (set places place None) place (Some x))
+  last_replaced place x some full is =
+      let long = length-take-le (n - 1) items (omega (arith, len)) in
+      let taken = LaidOut-gap_last (rw (drop_all (suc (n - 1)) items (omega (arith, len))) at
+      (Gapped-taken_one laid (n - 1) (omega (arith, len)))) in
+      let gap = Gapped-before taken (omega (arith, long)) in
+      rw is (become (rw (place_of-zero _ n gap.reads.in_region) at (LaidOut-put 0 x gap refl)) _ (omega (arith, long)))
+
   -- one takes the place of another
   pub item_set : (k : ℕ) (x : X) → k < r.len
       → Become n r.start r.len (set items k x) (set places (place_of r.start k n) (Some x))
@@ -402,6 +423,19 @@ pub ruleset end_facts = (
   back_taken,
   front_taken,
   slice_get_past,
+  place_of-lt,
+)
+
+-- and where one comes into a full ring
+pub ruleset full_facts = (
+  bounds,
+  at_index,
+  at_start,
+  first_filled,
+  is_filled,
+  first_replaced,
+  last_replaced,
+  last_and_rest,
   place_of-lt,
 )
 

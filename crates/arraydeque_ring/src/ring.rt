@@ -138,7 +138,6 @@ impl<T> Ring<T> {
     /// ring.push_back(2);
     /// assert!(rt; (ring.get(0), ring.get(1)) == (Some(&1), Some(&2)));
     /// ```
-    #[tactic(auto, using(crate::proofs::Opened::end_facts))]
     #[inline]
     pub fn push_back(&mut self, element: T)
         requires { length self.old.items < self.old.capacity }
@@ -147,7 +146,31 @@ impl<T> Ring<T> {
           steps = more_puts 1 self.old.steps;
         } }
     {
-        let behind = wrap_add(self.start, self.len, self.slots.capacity());
+        let capacity = self.slots.capacity();
+        self.push_back_given(capacity, element);
+    }
+
+    /// As `push_back`, for a caller who gives the capacity: so a constant chooses how the place is
+    /// found, also behind a `&mut`.
+    ///
+    /// Start: stays. Steps: 1 put.
+    ///
+    /// ```
+    /// let mut ring = Ring::new(alloc, 2)?;
+    /// ring.push_back_given(2, 1);
+    /// assert!(rt; ring.get(0) == Some(&1));
+    /// ```
+    #[tactic(auto, using(crate::proofs::Opened::end_facts))]
+    #[inline]
+    pub fn push_back_given(&mut self, capacity: usize, element: T)
+        requires capacity { capacity ≡ self.old.capacity }
+        requires room { length self.old.items < self.old.capacity }
+        ensures { self.new ≡ record self.old {
+          items = self.old.items ++ element ∷ [];
+          steps = more_puts 1 self.old.steps;
+        } }
+    {
+        let behind = wrap_add(self.start, self.len, capacity);
         self.len += 1;
         self.slots.put(behind, element);
     }
@@ -161,7 +184,6 @@ impl<T> Ring<T> {
     /// ring.push_front(2);
     /// assert!(rt; (ring.get(0), ring.get(1)) == (Some(&2), Some(&1)));
     /// ```
-    #[tactic(auto, using(crate::proofs::Opened::end_facts))]
     #[inline]
     pub fn push_front(&mut self, element: T)
         requires { length self.old.items < self.old.capacity }
@@ -172,6 +194,30 @@ impl<T> Ring<T> {
         } }
     {
         let capacity = self.slots.capacity();
+        self.push_front_given(capacity, element);
+    }
+
+    /// As `push_front`, for a caller who gives the capacity, as in `push_back_given`.
+    ///
+    /// Start: 1 down. Steps: 1 put.
+    ///
+    /// ```
+    /// let mut ring = Ring::new(alloc, 2)?;
+    /// ring.push_front_given(2, 1);
+    /// ring.push_front_given(2, 2);
+    /// assert!(rt; (ring.get(0), ring.get(1)) == (Some(&2), Some(&1)));
+    /// ```
+    #[tactic(auto, using(crate::proofs::Opened::end_facts))]
+    #[inline]
+    pub fn push_front_given(&mut self, capacity: usize, element: T)
+        requires capacity { capacity ≡ self.old.capacity }
+        requires room { length self.old.items < self.old.capacity }
+        ensures { self.new ≡ record self.old {
+          items = element ∷ self.old.items;
+          start = place_of self.old.start (self.old.capacity - 1) self.old.capacity;
+          steps = more_puts 1 self.old.steps;
+        } }
+    {
         let before = wrap_add(self.start, capacity - 1, capacity);
         self.start = before;
         self.len += 1;
@@ -238,6 +284,68 @@ impl<T> Ring<T> {
         let last = wrap_add(self.start, self.len - 1, self.slots.capacity());
         self.len -= 1;
         Some(self.slots.take(last))
+    }
+
+    /// Adds an element at the back, in the place of the first item, which is returned. No other
+    /// item moves. Requires a full ring of one place or more, and its capacity, as
+    /// `push_back_given`.
+    ///
+    /// Start: 1 up. Steps: 1 take, 1 put.
+    ///
+    /// ```
+    /// let mut ring = Ring::from_slice(alloc, 2, &[1, 2])?;
+    /// assert!(rt; ring.replace_first(2, 3) == 1);
+    /// assert!(rt; IntoIter::from_ring(ring).eq([2, 3]));
+    /// ```
+    #[tactic(auto, using(crate::proofs::Opened::full_facts))]
+    #[inline]
+    pub fn replace_first(&mut self, capacity: usize, element: T) -> T
+        requires capacity { capacity ≡ self.old.capacity }
+        requires some { 0 < self.old.capacity }
+        requires full { length self.old.items ≡ self.old.capacity }
+        ensures value { result ∷ drop 1 self.old.items ≡ self.old.items }
+        ensures replaced { self.new ≡ record self.old {
+          items = drop 1 self.old.items ++ element ∷ [];
+          start = place_of self.old.start 1 self.old.capacity;
+          steps = more_puts 1 (more_takes 1 self.old.steps);
+        } }
+    {
+        let place = self.start;
+        self.start = wrap_add(place, 1, capacity);
+        let first = self.slots.take(place);
+        self.slots.put(place, element);
+        first
+    }
+
+    /// Adds an element at the front, in the place of the last item, which is returned. No other
+    /// item moves. Requires what `replace_first` does.
+    ///
+    /// Start: 1 down. Steps: 1 take, 1 put.
+    ///
+    /// ```
+    /// let mut ring = Ring::from_slice(alloc, 2, &[1, 2])?;
+    /// assert!(rt; ring.replace_last(2, 0) == 2);
+    /// assert!(rt; IntoIter::from_ring(ring).eq([0, 1]));
+    /// ```
+    #[tactic(auto, using(crate::proofs::Opened::full_facts))]
+    #[inline]
+    pub fn replace_last(&mut self, capacity: usize, element: T) -> T
+        requires capacity { capacity ≡ self.old.capacity }
+        requires some { 0 < self.old.capacity }
+        requires full { length self.old.items ≡ self.old.capacity }
+        ensures value { take (self.old.capacity - 1) self.old.items ++ result ∷ [] ≡
+            self.old.items }
+        ensures replaced { self.new ≡ record self.old {
+          items = element ∷ take (self.old.capacity - 1) self.old.items;
+          start = place_of self.old.start (self.old.capacity - 1) self.old.capacity;
+          steps = more_puts 1 (more_takes 1 self.old.steps);
+        } }
+    {
+        let place = wrap_add(self.start, capacity - 1, capacity);
+        self.start = place;
+        let last = self.slots.take(place);
+        self.slots.put(place, element);
+        last
     }
 
     /// Returns a reference to the item at an index, or `None` if there is none. The front has index

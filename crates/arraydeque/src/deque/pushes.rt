@@ -39,7 +39,7 @@ impl<T, const CAP: usize> ArrayDeque<T, CAP, Saturating> {
         if self.is_full() {
             return Err(CapacityError { element });
         }
-        self.ring.push_front(element);
+        self.ring.push_front_given(CAP, element);
         Ok(())
     }
 
@@ -72,7 +72,7 @@ impl<T, const CAP: usize> ArrayDeque<T, CAP, Saturating> {
         if self.is_full() {
             return Err(CapacityError { element });
         }
-        self.ring.push_back(element);
+        self.ring.push_back_given(CAP, element);
         Ok(())
     }
 }
@@ -111,15 +111,13 @@ impl<T, const CAP: usize> ArrayDeque<T, CAP, Wrapping> {
         ensures within { length self.new.items ≤ CAP }
     {
         if !self.is_full() {
-            self.ring.push_front(element);
+            self.ring.push_front_given(CAP, element);
             return None;
         }
         if CAP == 0 {
             return Some(element);
         }
-        let displaced = self.pop_back();
-        self.ring.push_front(element);
-        displaced
+        Some(self.ring.replace_last(CAP, element))
     }
 
     /// Adds an element at the back. If the deque is full, removes the first item to make room and
@@ -158,14 +156,12 @@ impl<T, const CAP: usize> ArrayDeque<T, CAP, Wrapping> {
         ensures within { length self.new.items ≤ CAP }
     {
         if !self.is_full() {
-            self.ring.push_back(element);
+            self.ring.push_back_given(CAP, element);
             return None;
         }
         if CAP == 0 {
             return Some(element);
         }
-        let displaced = self.pop_front();
-        self.ring.push_back(element);
-        displaced
+        Some(self.ring.replace_first(CAP, element))
     }
 }
