@@ -1,6 +1,6 @@
 -- Which side of a gap moves: the one with fewer items, and on a tie the items behind the gap.
 use Rattle.std.specs.Prelude.{ℕ, ◌+◌, ◌-◌, length, min, nat_lt, if◌then◌else◌}
-use Rattle.arraydeque_ring.specs.Ring.{RingState, place_of}
+use Rattle.arraydeque_ring.specs.{Gaps.first_closed, Ring.{RingState, place_of}}
 
 -- how many of len items move so that one comes in at the index
 abbrev pub moves_to_insert : ℕ → ℕ → ℕ
@@ -27,12 +27,10 @@ module _ {X : Type 0} where
       if nat_lt index (length ring.items - index)
       then place_of ring.start (ring.capacity - 1) ring.capacity else ring.start
 
-  -- its start once `count` items from the index on are out, and the gap is closed: as many places
-  -- up if the items before it move
+  -- its start once `count` items from the index on are out, and the gap is closed
   abbrev pub start_closed : ℕ → ℕ → RingState X → ℕ
   start_closed index count ring =
-      if nat_lt index (length ring.items - (index + count))
-      then place_of ring.start count ring.capacity else ring.start
+      first_closed index count (length ring.items - (index + count)) ring.capacity ring.start
 
   -- its start once the first `count` items stand behind the others: if the others move, down by as
   -- many places, round the end

@@ -1,5 +1,6 @@
 //! Places counted round the end of a region.
 ghost use Rattle.std.specs.Prelude.{◌≡◌, ◌+◌, ◌%◌, ◌<◌, ◌≤◌};
+ghost use Rattle.arraydeque_ring.specs.Loans.{place_from};
 
 /// Returns the place `offset` places after `place`, round the end of a region of `capacity` places.
 /// If the capacity is a power of two it is found by a mask (a `queue` at 1024 fell from 26
@@ -19,5 +20,21 @@ pub(crate) fn wrap_add(place: usize, offset: usize, capacity: usize) -> usize
         place + offset
     } else {
         offset - to_end
+    }
+}
+
+/// Returns where the places from the index `from` on begin, if they are read from `start` on: its
+/// place, or the region's end in the stead of the first place.
+#[inline]
+pub(crate) fn place_from(start: usize, from: usize, capacity: usize) -> usize
+    requires in_region { start ≤ capacity }
+    requires in_reach { from ≤ capacity }
+    ensures { result ≡ place_from start from capacity }
+{
+    let to_end = capacity - start;
+    if from <= to_end {
+        start + from
+    } else {
+        from - to_end
     }
 }

@@ -106,15 +106,18 @@ module _ {X : Type 0} {n t : ℕ} {xs : List X} {ps : List (Option X)} (l : Laid
   ]
 
 module _ {X : Type 0} where
+  -- a ring over another region
   abbrev pub with_slots : Inside X → Region X → Inside X
   with_slots r w = record { slots = w; start = r.start; len = r.len }
 
   -- the part of all items
   module _ (v : RingState X) (m : ℕ) where
+    -- what is written to it is written to the list
     pub all_rewritten : (xs : List X) → m ≡ length v.items
         → part_rewritten 0 m v (take m (part_rewritten 0 m v xs).items) ≡ rewritten v xs
     all_rewritten xs all i = record (rewritten v xs) { items = all_written v.items m xs all i }
 
+    -- what is lent of it are all items, cut at the region's end
     pub all_lent : (xs ys : List X) → m ≡ length v.items → xs ++ ys ≡ take m v.items
         → length xs ≡ min m (v.capacity - place_from v.start 0 v.capacity)
         → (xs ++ ys ≡ v.items) × (length xs ≡ min (length v.items) (v.capacity - v.start))
@@ -148,12 +151,14 @@ module _ {X : Type 0} where
       abbrev rest : ℕ
       rest = m - first
 
+      -- where the first run starts, and that it ends within the region
       starts : MayStartAt r.start i v.capacity p
       starts = let long = o.laid.length_is in let region = o.laid.in_region in grind arith
 
       fits : p + first ≤ v.capacity
       fits = let long = o.laid.length_is in let room = o.laid.within in let region = o.laid.in_region in grind arith
 
+      -- where the rest start, if there are any
       goes_on : (rest ≡ 0) ⊎ MayStartAt r.start (i + first) v.capacity 0
       goes_on = let long = o.laid.length_is in let room = o.laid.within in let region = o.laid.in_region in grind arith
 
@@ -161,6 +166,7 @@ module _ {X : Type 0} where
       pub first_filled : IsFilledRun ps p first
       first_filled = run_filled o.laid i p first (omega arith) fits (inr starts)
 
+      -- and that they end within the region
       behind : 0 + rest ≤ v.capacity
       behind = omega (arith, o.laid.within)
 
@@ -168,6 +174,7 @@ module _ {X : Type 0} where
       rest_filled = run_filled o.laid (i + first) 0 rest (omega arith) behind goes_on
 
       module _ (xs ys : List X) (held : HoldsRun ps p first xs) (held' : HoldsRun ps 0 rest ys) where
+        -- how many each run holds
         first_length : length xs ≡ first
         first_length = run_length o.laid i p first (omega arith) fits (inr starts) xs held
 
@@ -184,6 +191,7 @@ module _ {X : Type 0} where
           all,
         ) refl
 
+        -- where a contract says that the first ends, and when the second is empty
         pub cut : length xs ≡ min m (v.capacity - place_from v.start i v.capacity)
         cut = grind (arith, first_length, o.start, o.laid.length_is)
 
@@ -214,6 +222,7 @@ module _ {X : Type 0} where
 
     -- the first of the two slices has the items up to the region's end, or all, and the second the others
     module _ (k : ℕ) (is : k ≡ min r.len (length ps - r.start)) where
+      -- the first slice ends within the list and the region, and starts where the list does
       within : 0 + k ≤ length v.items
       within = omega (arith, o.len)
 
@@ -223,6 +232,7 @@ module _ {X : Type 0} where
       front : MayStartAt r.start 0 v.capacity r.start
       front = inl (omega arith)
 
+      -- so does the second, which starts at the first place
       both : k + (r.len - k) ≤ length v.items
       both = omega (arith, o.len)
 
@@ -232,9 +242,11 @@ module _ {X : Type 0} where
       back : (r.len - k ≡ 0) ⊎ MayStartAt r.start k v.capacity 0
       back = let long = o.laid.length_is in let region = o.laid.in_region in grind arith
 
+      -- how many the first has, as a contract says it
       cut_is : k ≡ min (v.capacity - v.start) (length v.items)
       cut_is = omega (arith, o.len, o.start, o.laid.length_is)
 
+      -- both are filled
       pub front_filled : IsFilledRun ps r.start k
       front_filled = run_filled o.laid 0 r.start k within to_end (inr front)
 
@@ -242,6 +254,7 @@ module _ {X : Type 0} where
       back_filled = run_filled o.laid k 0 (r.len - k) both from_first back
 
       module _ (xs : List X) (held : HoldsRun ps r.start k xs) where
+        -- what the first holds, and the ring once that was written
         pub front_held : xs ≡ take (v.capacity - v.start) v.items
         front_held =
             let here = run_held o.laid 0 r.start k within to_end (inr front) xs held in
@@ -259,6 +272,7 @@ module _ {X : Type 0} where
             whole_after 1 (rw many at laid) (grind (arith, length-append, length-drop, within))
 
       module _ (ys : List X) (held : HoldsRun ps 0 (r.len - k) ys) where
+        -- the same of the second
         pub back_held : ys ≡ drop (v.capacity - v.start) v.items
         back_held =
             let here = run_held o.laid k 0 (r.len - k) both from_first back ys held in

@@ -119,6 +119,7 @@ impl<T> Ring<T> {
             }
             return;
         }
+        // The last item alone, likewise. A count of 1 came above, and by one of 0 nothing moves.
         if others == 1 && 1 < count {
             let before = wrap_add(start, capacity - 1, capacity);
             self.start = before;

@@ -10,6 +10,7 @@ ghost use Rattle.arraydeque_ring.specs.SlotsLends.{lends_two_runs, lends_loan};
 ghost use base.Fml.{GName};
 
 use super::Slots;
+use crate::wrap::place_from;
 use std::marker::{Model, PhantomData, Send, Sync};
 
 /// The name of a loan, and nothing else. It takes no bytes.
@@ -124,21 +125,5 @@ impl<T> Slots<T> {
         let place = place_from(start, from, capacity);
         let first = len.min(capacity - place);
         self.lend_two(place, first, 0, len - first)
-    }
-}
-
-/// Returns where the places from the index `from` on begin, if they are read from `start` on: its
-/// place, or the region's end in the stead of the first place.
-#[inline]
-fn place_from(start: usize, from: usize, capacity: usize) -> usize
-    requires in_region { start ≤ capacity }
-    requires in_reach { from ≤ capacity }
-    ensures { result ≡ place_from start from capacity }
-{
-    let to_end = capacity - start;
-    if from <= to_end {
-        start + from
-    } else {
-        from - to_end
     }
 }

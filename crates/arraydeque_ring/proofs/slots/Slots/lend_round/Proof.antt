@@ -13,14 +13,14 @@ use Rattle.arraydeque_ring.{
       Regions.{Sr, slots_open, slots_close},
     },
     slots.Slots.lend_two.Met.met,
-    slots.loan.place_from.Met.met as w_met,
+    wrap.place_from.Met.met as w_met,
   },
   specs.Loans.{AreApart, place_from},
 }
 use denote.Plain.{uint_Lawful}
 use Rattle.std.{specs.Prelude.{◌-◌, min}, below.core.proofs.int.usize.min.Met.met as e_met}
 use Rattle.arraydeque_ring.specs.contracts.slots.Slots.lend_two as g
-use Rattle.arraydeque_ring.specs.contracts.slots.loan.place_from as w
+use Rattle.arraydeque_ring.specs.contracts.wrap.place_from as w
 use Rattle.std.below.core.specs.contracts.int.usize.min as e
 use Rattle.arraydeque_ring.specs.contracts.slots.Slots.lend_round as f
 use Rattle.arraydeque_ring.proofs.slots.Slots.lend_round.Statement as stated
@@ -51,7 +51,7 @@ lend_round_spec 𝓤 𝓛 𝓜 𝓡 wired X L =
     knows ! {φ = from ≤ n} (omega (arith, ok.capacity)) $ knows ! {φ = start ≤ n} (omega (arith, ok.capacity)) $
     join ! $
     calls_met 𝓛 ! 𝓜 𝓣 w.ended (w.clauses 𝓛 𝓜.mem 𝓡.returns)
-    (w_met 𝓤 𝓛 𝓜 𝓡 (code.calls-arraydeque_ring::slots::loan::place_from 𝓡.env wired)) zᵥ (id⊢ 𝓤 _)
+    (w_met 𝓤 𝓛 𝓜 𝓡 (code.calls-arraydeque_ring::wrap::place_from 𝓡.env wired)) zᵥ (id⊢ 𝓤 _)
     (and_then ! (get ! refl) (and_then ! (get ! refl) (and_then ! (get ! refl) (no_more !)))) (uint_Lawful 𝓛 w64)
     (λ u wrapped ws wrapped_typed. fsplit ! $ feq_l ! (λ is_wrapped. drop ! $ drop ! $ heard ! _ (λ wraps.
     let here : wrapped ≡ place = wraps ∙ ap (place_from start from) ok.capacity in
