@@ -1,6 +1,6 @@
 //! The iterators of a deque. A contract sees each as the list of the items that remain.
+mod closure;
 mod drain;
-mod each;
 mod into_iter;
 mod iter;
 mod iter_mut;

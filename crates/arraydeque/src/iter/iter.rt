@@ -6,7 +6,7 @@ ghost use Rattle.std.specs.Iterator.{CallableInForEach, CallsOnEach};
 ghost use Rattle.std.specs.Iterator.Runs.{WholeRun, AllItemsGive};
 ghost use Rattle.std.specs.Iterator.SizeHint.{IsWithinCount};
 
-use super::each::call_on_each;
+use super::closure::call_on_each;
 use crate::behavior::Behavior;
 use crate::deque::ArrayDeque;
 use std::alloc::AllocError;

@@ -8,7 +8,7 @@ ghost use Rattle.std.specs.Iterator.SizeHint.{IsWithinCount};
 ghost use Rattle.arraydeque_ring.specs.Loans.{remaining};
 ghost use Rattle.arraydeque.specs.DequeLends.{lends_items};
 
-use super::each::call_on_each;
+use super::closure::call_on_each;
 use crate::behavior::Behavior;
 use crate::deque::ArrayDeque;
 use arraydeque_ring::ring::{Loan, LoanName};

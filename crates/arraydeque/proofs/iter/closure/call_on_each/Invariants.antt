@@ -1,6 +1,6 @@
 use Rattle.std.specs.{Fn.Called, Iterator.{EndsFrom, items_left, CallableWhile}, List.FoldsTo}
 use Rattle.std.proofs.iter.Next as it
-use Rattle.arraydeque.proofs.iter.each.call_on_each.Given as goal
+use Rattle.arraydeque.proofs.iter.closure.call_on_each.Given as goal
 
 abbrev pub invariant-loop-item : goal.invariant-loop-item
 invariant-loop-item g l =

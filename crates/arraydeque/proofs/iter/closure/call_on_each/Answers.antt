@@ -1,6 +1,6 @@
 use Rattle.std.{proofs.{Common.refl, SliceLists.chained_more}, specs.Fn.Called}
 use Rattle.std.proofs.iter.Next as it
-use Rattle.arraydeque.proofs.iter.each.call_on_each.Goals as goal
+use Rattle.arraydeque.proofs.iter.closure.call_on_each.Goals as goal
 
 pub loop-item-preserved : goal.loop-item-preserved
 loop-item-preserved g c =
