@@ -209,7 +209,7 @@ impl<T, const CAP: usize, B: Behavior> ArrayDeque<T, CAP, B> {
         ensures none { IfNone result (self.new ≡ self.old) }
         ensures empty { IfNone result (self.old.items ≡ []) }
 
-        // What callers' proofs want.
+        // No item is lost, a pop leaves room, and the list always fits.
         ensures conserved { option_to_list result ++ self.new.items ≡ self.old.items }
         ensures room { OnSome result (length self.new.items < CAP) }
         ensures within { length self.new.items ≤ CAP }
@@ -242,7 +242,7 @@ impl<T, const CAP: usize, B: Behavior> ArrayDeque<T, CAP, B> {
         ensures none { IfNone result (self.new ≡ self.old) }
         ensures empty { IfNone result (self.old.items ≡ []) }
 
-        // What callers' proofs want.
+        // No item is lost, a pop leaves room, and the list always fits.
         ensures conserved { self.new.items ++ option_to_list result ≡ self.old.items }
         ensures room { OnSome result (length self.new.items < CAP) }
         ensures within { length self.new.items ≤ CAP }

@@ -192,7 +192,7 @@ impl<I: Iterator, const CAP: usize> Scanner<I, CAP> {
         ensures lowers { Lowers I.remaining self.old result self.new }
         ensures counts { CountsLeft I.remaining self.new }
 
-        // What callers' proofs want.
+        // A buffer that has places has room then.
         ensures room { 0 < CAP → length self.new.buffer < CAP }
     {
         match self.buffer.pop_front() {

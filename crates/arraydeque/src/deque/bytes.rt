@@ -44,7 +44,7 @@ impl<const CAP: usize, B: Behavior> Read for ArrayDeque<u8, CAP, B> {
         ensures steps { let count = min (length self.old.items) (length buf.old) in
             self.new.steps ≡ more_takes count self.old.steps }
 
-        // What callers' proofs want.
+        // The same in std's words for a reader. The list always fits.
         ensures bound { ReadsAtMost result buf.new }
         ensures bytes { ReadConsumes (Some self.old.items) (Some self.new.items) result buf.new }
         ensures within { length self.new.items ≤ CAP }

@@ -39,7 +39,7 @@ impl<T, const CAP: usize, B: Behavior> ArrayDeque<T, CAP, B> {
         ensures start { self.new.start ≡ self.old.start }
         ensures steps { self.new.steps ≡ more_lends 2 self.old.steps }
 
-        // What callers' proofs want.
+        // The list keeps its length, and always fits.
         ensures len { length self.new.items ≡ length self.old.items }
         ensures within { length self.new.items ≤ CAP }
     {
@@ -80,7 +80,7 @@ impl<T, const CAP: usize, B: Behavior> ArrayDeque<T, CAP, B> {
         ensures start { self.new.start ≡ self.old.start }
         ensures steps { self.new.steps ≡ more_lends 2 self.old.steps }
 
-        // What callers' proofs want.
+        // The list keeps its length, and always fits.
         ensures len { length self.new.items ≡ length self.old.items }
         ensures within { length self.new.items ≤ CAP }
     {

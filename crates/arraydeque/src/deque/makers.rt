@@ -63,7 +63,6 @@ impl<T, const CAP: usize> ArrayDeque<T, CAP, Saturating> {
     pub fn from_vec(alloc: Global, v: Vec<T>) -> Result<Self, MakeError<Vec<T>>>
     where
         T: Drop,
-
         // If memory is granted, the first items are the deque's.
         ensures items { IfOk result (λ deque. deque ≡ with_back (take CAP v.items) empty_deque) }
 
@@ -90,7 +89,6 @@ impl<T, const CAP: usize> ArrayDeque<T, CAP, Saturating> {
     pub fn from_array<const N: usize>(alloc: Global, a: [T; N]) -> Result<Self, MakeError<[T; N]>>
     where
         T: Copy,
-
         // If memory is granted, the first items are the deque's.
         ensures items { IfOk result (λ deque. deque ≡ with_back (take CAP a) empty_deque) }
 
@@ -158,7 +156,6 @@ impl<T: Drop, const CAP: usize> ArrayDeque<T, CAP, Wrapping> {
     /// assert!(rt; deque.into_vec()?.as_slice() == [2, 3].as_slice());
     /// ```
     pub fn from_vec(alloc: Global, v: Vec<T>) -> Result<Self, MakeError<Vec<T>>>
-
         // If memory is granted, the items are pushed, one by one, and the last are the deque's.
         ensures items { IfOk result (λ deque. deque.items ≡ keep_last CAP v.items) }
         ensures pushed { IfOk result (λ deque.
@@ -185,7 +182,6 @@ impl<T: Drop, const CAP: usize> ArrayDeque<T, CAP, Wrapping> {
     pub fn from_array<const N: usize>(alloc: Global, a: [T; N]) -> Result<Self, MakeError<[T; N]>>
     where
         T: Copy,
-
         // If memory is granted, the last items are the deque's.
         ensures items { IfOk result (λ deque. deque ≡ with_back (keep_last CAP a) empty_deque) }
 

@@ -47,7 +47,7 @@ impl<T, const CAP: usize> ArrayDeque<T, CAP, Saturating> {
         ensures full { IfErr result (λ refusal. refusal.element ≡ element) }
         ensures unchanged { OnErr result (self.new ≡ self.old) }
 
-        // What callers' proofs want.
+        // The list always fits.
         ensures within { length self.new.items ≤ CAP }
     {
         if self.is_full() {
@@ -90,7 +90,7 @@ impl<T, const CAP: usize, B: Behavior> ArrayDeque<T, CAP, B> {
         // Out of range nothing changes.
         ensures none { IfNone result (self.new ≡ self.old) }
 
-        // What callers' proofs want.
+        // A removal leaves room, and the list always fits.
         ensures room { OnSome result (length self.new.items < CAP) }
         ensures within { length self.new.items ≤ CAP }
     {

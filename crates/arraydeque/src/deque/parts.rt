@@ -59,7 +59,7 @@ impl<T, const CAP: usize, B: Behavior> ArrayDeque<T, CAP, B> {
         ensures refused { let span = span_of R.RangeArgument range self.old.items in
             OnErr result (0 < (span.to - span.from) * type_size T.row) }
 
-        // What callers' proofs want.
+        // What loops over a drain are given, from either end. The list always fits.
         ensures runs { GivesInOrder T }
         ensures runs_back { GivesInReverse T }
         ensures within { length self.new.items ≤ CAP }
@@ -105,7 +105,7 @@ impl<T, const CAP: usize, B: Behavior> ArrayDeque<T, CAP, B> {
         ensures unchanged { OnErr result (self.new ≡ self.old) }
         ensures refused { OnErr result (0 < CAP * type_size T.row) }
 
-        // What callers' proofs want.
+        // The list always fits.
         ensures within { length self.new.items ≤ CAP }
     {
         let ring = self.ring.split_off(at)?;
@@ -146,7 +146,7 @@ impl<T, const CAP: usize> ArrayDeque<T, CAP, Saturating> {
         ensures other_steps { let room = CAP - length self.old.items in
             other.new.steps ≡ more_takes (min (length other.old.items) room) other.old.steps }
 
-        // What callers' proofs want.
+        // No item is lost, and the list always fits.
         ensures conserved { self.new.items ++ other.new.items ≡ self.old.items ++ other.old.items }
         ensures within { length self.new.items ≤ CAP }
     {
@@ -191,7 +191,7 @@ impl<T: Drop, const CAP: usize> ArrayDeque<T, CAP, Wrapping> {
         ensures other_steps { other.new.steps ≡
             more_takes (length other.old.items) other.old.steps }
 
-        // What callers' proofs want.
+        // The list always fits.
         ensures within { length self.new.items ≤ CAP }
     {
         let len = other.len().min(CAP);

@@ -43,7 +43,7 @@ impl<T, const CAP: usize, B: Behavior> ArrayDeque<T, CAP, B> {
           steps = more_lends (min 1 (length self.old.items)) self.old.steps;
         }) }
 
-        // What callers' proofs want.
+        // A pop shortens the list, which always fits.
         ensures shorter { OnSome result (length self.new.items < length self.old.items) }
         ensures within { length self.new.items ≤ CAP }
     {
@@ -85,7 +85,7 @@ impl<T, const CAP: usize, B: Behavior> ArrayDeque<T, CAP, B> {
           steps = more_lends (min 1 (length self.old.items)) self.old.steps;
         }) }
 
-        // What callers' proofs want.
+        // A pop shortens the list, which always fits.
         ensures shorter { OnSome result (length self.new.items < length self.old.items) }
         ensures within { length self.new.items ≤ CAP }
     {

@@ -33,7 +33,7 @@ impl<T, const CAP: usize> ArrayDeque<T, CAP, Saturating> {
         ensures full { IfErr result (λ refusal. refusal.element ≡ element) }
         ensures unchanged { OnErr result (self.new ≡ self.old) }
 
-        // What callers' proofs want.
+        // The list always fits.
         ensures within { length self.new.items ≤ CAP }
     {
         if self.is_full() {
@@ -66,7 +66,7 @@ impl<T, const CAP: usize> ArrayDeque<T, CAP, Saturating> {
         ensures full { IfErr result (λ refusal. refusal.element ≡ element) }
         ensures unchanged { OnErr result (self.new ≡ self.old) }
 
-        // What callers' proofs want.
+        // The list always fits.
         ensures within { length self.new.items ≤ CAP }
     {
         if self.is_full() {
@@ -100,13 +100,13 @@ impl<T, const CAP: usize> ArrayDeque<T, CAP, Wrapping> {
         ensures value { result ≡ slice_get (element ∷ self.old.items) CAP }
         ensures items { self.new.items ≡ take CAP (element ∷ self.old.items) }
         ensures start { 0 < CAP → self.new.start ≡ place_of self.old.start (CAP - 1) CAP }
-        ensures steps { let displaced = length self.old.items + 1 - CAP in
-            0 < CAP → self.new.steps ≡ more_puts 1 (more_takes displaced self.old.steps) }
+        ensures steps { let out = length self.old.items + 1 - CAP in
+            0 < CAP → self.new.steps ≡ more_puts 1 (more_takes out self.old.steps) }
 
         // At capacity 0 nothing changes.
         ensures no_places { CAP ≡ 0 → self.new ≡ self.old }
 
-        // What callers' proofs want.
+        // No item is lost, and the list always fits.
         ensures conserved { self.new.items ++ option_to_list result ≡ element ∷ self.old.items }
         ensures within { length self.new.items ≤ CAP }
     {
@@ -139,18 +139,18 @@ impl<T, const CAP: usize> ArrayDeque<T, CAP, Wrapping> {
         ensures room { IsNone result ↔ (length self.old.items < CAP) }
         ensures displaced { IfSome result (λ item. 0 < CAP →
             self.old.items ≡ item ∷ drop 1 self.old.items) }
-        ensures value { let displaced = length self.old.items + 1 - CAP in
-            option_to_list result ≡ take displaced (self.old.items ++ element ∷ []) }
+        ensures value { let out = length self.old.items + 1 - CAP in
+            option_to_list result ≡ take out (self.old.items ++ element ∷ []) }
         ensures items { self.new.items ≡ keep_last CAP (self.old.items ++ element ∷ []) }
-        ensures start { let displaced = length self.old.items + 1 - CAP in
-            0 < CAP → self.new.start ≡ up_by displaced self.old.start CAP }
-        ensures steps { let displaced = length self.old.items + 1 - CAP in
-            0 < CAP → self.new.steps ≡ more_puts 1 (more_takes displaced self.old.steps) }
+        ensures start { let out = length self.old.items + 1 - CAP in
+            0 < CAP → self.new.start ≡ up_by out self.old.start CAP }
+        ensures steps { let out = length self.old.items + 1 - CAP in
+            0 < CAP → self.new.steps ≡ more_puts 1 (more_takes out self.old.steps) }
 
         // At capacity 0 nothing changes.
         ensures no_places { CAP ≡ 0 → self.new ≡ self.old }
 
-        // What callers' proofs want.
+        // No item is lost, and the list always fits.
         ensures conserved { option_to_list result ++ self.new.items ≡
             self.old.items ++ element ∷ [] }
         ensures within { length self.new.items ≤ CAP }

@@ -58,7 +58,7 @@ impl<T, const CAP: usize, B: Behavior> ArrayDeque<T, CAP, B> {
         ensures position { IsBinarySearchResult (λ y. T.cmp y x.now) self.now.items result }
         ensures first { IsFirstFound (λ y. T.cmp y x.now) self.now.items result }
 
-        // What callers' proofs want.
+        // Of that only what is known of the item found.
         ensures ok { IfOk result (HoldsAt (λ y. T.cmp y x.now ≡ Ordering.Equal) self.now.items) }
     {
         self.binary_search_by(|item| item.cmp(x))

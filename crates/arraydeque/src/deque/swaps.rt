@@ -33,7 +33,7 @@ impl<T, const CAP: usize, B: Behavior> ArrayDeque<T, CAP, B> {
         // Out of range nothing changes.
         ensures none { IfNone result (self.new ≡ self.old) }
 
-        // What callers' proofs want.
+        // A removal leaves room, and the list always fits.
         ensures room { OnSome result (length self.new.items < CAP) }
         ensures within { length self.new.items ≤ CAP }
     {
@@ -63,7 +63,7 @@ impl<T, const CAP: usize, B: Behavior> ArrayDeque<T, CAP, B> {
         // Out of range nothing changes.
         ensures none { IfNone result (self.new ≡ self.old) }
 
-        // What callers' proofs want.
+        // A removal leaves room, and the list always fits.
         ensures room { OnSome result (length self.new.items < CAP) }
         ensures within { length self.new.items ≤ CAP }
     {
