@@ -55,7 +55,7 @@ pub fn merge<I: Iterator<Item = Edit>, const AHEAD: usize>(
     ensures source { IfErr result (λ refusal.
         TakesOff I.next_gives edits.old (written_out refusal.source.items) edits.new) }
 
-    // What callers' proofs want.
+    // The input still ends.
     ensures ends { IsFinite edits.new.left }
 {
     let mut runs = Vec::new(alloc);
@@ -85,7 +85,7 @@ pub fn next_run<I: Iterator<Item = Edit>, const AHEAD: usize>(
     // If none comes, none was left.
     ensures over { IfNone result (HasRest I.next_gives edits.old []) }
 
-    // What callers' proofs want.
+    // Less of the input is left, unless it has ended.
     ensures goes { MakesProgress (λ _. ⊤) (λ s. s.left) edits.old result edits.new }
 {
     let there = edits.read_ahead(AHEAD);

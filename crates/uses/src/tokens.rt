@@ -56,7 +56,7 @@ pub fn tokenize<I: Iterator<Item = u8>, const AHEAD: usize>(
         TakesOff I.next_gives scanner.old (joined refusal.source.items) scanner.new) }
     ensures source_kind { IfErr result (λ refusal. All IsOfOneKind refusal.source.items) }
 
-    // What callers' proofs want.
+    // The input still ends.
     ensures ends { IsFinite scanner.new.left }
 {
     let mut tokens = Vec::new(alloc);
@@ -109,7 +109,7 @@ fn next_token<I: Iterator<Item = u8>, const AHEAD: usize>(
         (joined (option_to_list refusal.source)) scanner.new) }
     ensures source_kind { IfErr result (λ refusal. IfSome refusal.source IsOfOneKind) }
 
-    // What callers' proofs want.
+    // The input still ends, and less of it is left.
     ensures ends { IsFinite scanner.new.left }
     ensures goes { IfOk result (λ token.
         MakesProgress (λ _. ⊤) (λ s. s.left) scanner.old token scanner.new) }
