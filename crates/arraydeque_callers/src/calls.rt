@@ -301,3 +301,41 @@ pub fn push_last(ring: &mut Ring<i64>, item: i64)
         ring.push_back(item);
     }
 }
+
+/// Puts an item behind those of a full ring, in the place of the first, which comes back.
+pub fn replace_first<T>(ring: &mut Ring<T>, item: T) -> T
+    requires some { 0 < ring.old.capacity }
+    requires full { length ring.old.items ≡ ring.old.capacity }
+    ensures { result ∷ ring.new.items ≡ ring.old.items ++ item ∷ [] }
+{
+    let capacity = ring.capacity();
+    ring.replace_first(capacity, item)
+}
+
+/// Puts an item before those of a full ring, in the place of the last, which comes back.
+pub fn replace_last<T>(ring: &mut Ring<T>, item: T) -> T
+    requires some { 0 < ring.old.capacity }
+    requires full { length ring.old.items ≡ ring.old.capacity }
+    ensures { ring.new.items ++ result ∷ [] ≡ item ∷ ring.old.items }
+{
+    let capacity = ring.capacity();
+    ring.replace_last(capacity, item)
+}
+
+/// Adds an item at the back of a ring of two places.
+pub fn push_back_of_two<T>(ring: &mut Ring<T>, item: T)
+    requires two { ring.old.capacity ≡ 2 }
+    requires room { length ring.old.items < 2 }
+    ensures { ring.new.items ≡ ring.old.items ++ item ∷ [] }
+{
+    ring.push_back_given(2, item);
+}
+
+/// Adds an item at the front of a ring of two places.
+pub fn push_front_of_two<T>(ring: &mut Ring<T>, item: T)
+    requires two { ring.old.capacity ≡ 2 }
+    requires room { length ring.old.items < 2 }
+    ensures { ring.new.items ≡ item ∷ ring.old.items }
+{
+    ring.push_front_given(2, item);
+}

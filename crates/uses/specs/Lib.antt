@@ -1,4 +1,5 @@
 pub mod Ageing
+pub mod Average
 pub mod Edits
 pub mod Encoder
 pub mod History

@@ -85,7 +85,7 @@ pub fn next_run<I: Iterator<Item = Edit>, const AHEAD: usize>(
     // If none comes, none was left.
     ensures over { IfNone result (HasRest I.next_gives edits.old []) }
 
-    // Less of the input is left, unless it has ended.
+    // A loop over it ends: each run leaves fewer edits.
     ensures goes { MakesProgress (λ _. ⊤) (λ s. s.left) edits.old result edits.new }
 {
     let there = edits.read_ahead(AHEAD);

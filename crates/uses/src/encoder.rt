@@ -90,7 +90,7 @@ impl<const CAP: usize> Write for Encoder<CAP> {
         ensures no_room { IfOk result (λ count.
             count < length buf.now → CAP < length self.new.text + 4) }
 
-        // It writes as std's trait says.
+        // The same in std's words for a writer.
         ensures bound { WritesAtMost result buf.now }
         ensures bytes { WriteAppends None None result buf.now }
     {

@@ -2,6 +2,7 @@
 //! alone, to keep what its users care about.
 //!
 //! - [`window`]: the last samples and their sum
+//! - [`average`]: the mean of the last samples, at each
 //! - [`history`]: undo and redo
 //! - [`pipe`]: bytes for a writer that may take only some of them
 //! - [`reorder`]: pieces that come early wait in order
@@ -23,6 +24,7 @@
 #![tactic(auto)]
 
 pub mod ageing;
+pub mod average;
 pub mod copying;
 pub mod edits;
 pub mod encoder;

@@ -109,7 +109,7 @@ fn next_token<I: Iterator<Item = u8>, const AHEAD: usize>(
         (joined (option_to_list refusal.source)) scanner.new) }
     ensures source_kind { IfErr result (λ refusal. IfSome refusal.source IsOfOneKind) }
 
-    // The input still ends, and less of it is left.
+    // The input still ends, and each token leaves less of it.
     ensures ends { IsFinite scanner.new.left }
     ensures goes { IfOk result (λ token.
         MakesProgress (λ _. ⊤) (λ s. s.left) scanner.old token scanner.new) }

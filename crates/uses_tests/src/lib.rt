@@ -4,6 +4,8 @@
 #[cfg(test)]
 mod ageing;
 #[cfg(test)]
+mod average;
+#[cfg(test)]
 mod copying;
 #[cfg(test)]
 mod edits;
