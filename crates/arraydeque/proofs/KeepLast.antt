@@ -1,13 +1,17 @@
 -- The last items of a list.
-use Rattle.std.proofs.{
-  Common.{◌≡◌, ℕ, ◌+◌, ◌-◌, ◌≤◌, List, [], ◌∷◌, ◌<◌, ◌++◌, length, take, drop, map, min, inl},
-  Common.{inr, ap, ◌∙◌, arith},
-  lemmas.{
-    Bool.cases_lt,
-    List.{length-append, length-drop, length-map, drop-append-le, drop-drop, drop-map, drop_all},
-    List.{drop_min, take_all},
+use Rattle.std.{
+  proofs.{
+    Common.{◌≡◌, ℕ, ◌+◌, ◌-◌, ◌≤◌, List, [], ◌∷◌, ◌<◌, ◌++◌, length, take, drop, map, min, inl},
+    Common.{inr, ap, ◌∙◌, arith, get_or, ◌⊎◌},
+    lemmas.{
+      Bool.cases_lt,
+      List.{length-append, length-drop, length-map, drop-append-le, drop-drop, drop-map, drop_all},
+      List.{drop_min, take_all, get_or-drop, get_or_append_left, get_or_push},
+      List.Elements.{All-push, All-drop},
+    },
+    Math.Seq.drop-append-add,
   },
-  Math.Seq.drop-append-add,
+  specs.Prelude.All,
 }
 use Rattle.arraydeque_ring.{proofs.places.Appended.up_by-both, specs.Ring.up_by}
 use Rattle.arraydeque.specs.Deque.{keep_last}
@@ -40,6 +44,29 @@ keep_last-map n f xs = rw (length-map xs f) (drop-map f (length xs - n) xs)
 
 -- what becomes of the last items, one extend or push after another
 pub ruleset keep_last_rules = (keep_last-all, keep_last-append, keep_last-full, keep_last-map)
+
+-- what holds of all items and of a pushed one holds of all that are kept
+pub All-kept : {X : Type 0} (P : X → Type 0) (n : ℕ) (xs : List X) (x : X) → All P xs → P x
+    → All P (keep_last n (xs ++ x ∷ []))
+All-kept P n xs x all this = All-drop P (length (xs ++ x ∷ []) - n) (xs ++ x ∷ []) (All-push P xs x all this)
+
+-- one that is kept is an old item or the pushed one, which the search reads an `All` by
+pub kept_item : {X : Type 0} (m : ℕ) (xs : List X) (x : X) (k : ℕ) (d : X) → k < length (drop m (xs ++ x ∷ [])) →
+    let item = get_or (drop m (xs ++ x ∷ [])) k d in
+    (item ≡ x) ⊎ ((m + k < length xs) × (item ≡ get_or xs (m + k) d))
+kept_item m xs x k d within = elim (cases_lt (m + k) (length xs)) [
+  | inl old ↦ grind (arith, get_or-drop m (xs ++ x ∷ []) k d, get_or_append_left xs (x ∷ []) d (m + k))
+  | inr next ↦ grind (
+    arith,
+    get_or-drop m (xs ++ x ∷ []) k d,
+    get_or_push xs x d (m + k),
+    length-drop m (xs ++ x ∷ []),
+    length-append xs (x ∷ []),
+  )
+]
+
+-- that a push which may take the first item out keeps what holds of all items
+pub ruleset kept_rules = (kept_item)
 
 -- what is dropped of two lists is dropped of the first, and the rest of the second
 drop-append : {X : Type 0} (k : ℕ) (xs ys : List X) → drop k (xs ++ ys) ≡ drop k xs ++ drop (k - length xs) ys
