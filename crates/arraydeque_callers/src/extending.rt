@@ -4,7 +4,7 @@
 //! Under `Saturating` most stand twice: for as much as finds room, and as `.._that_fits` for a
 //! source that has room. What comes through `rev`, `skip`, `filter` or `map` is added by `extend`,
 //! whose contract speaks of all that came; a part that is drained by the caller that adds a drain.
-ghost use Rattle.std.specs.Prelude.{◌≡◌, ◌+◌, ◌-◌, ◌≤◌, ◌++◌, ◌∷◌, [], length, take, drop, reverse, map, nat_le, bit_and, IfOk, IfSome, OnOk};
+ghost use Rattle.std.specs.Prelude.{◌≡◌, ◌+◌, ◌-◌, ◌≤◌, ◌<◌, ◌++◌, ◌∷◌, [], length, take, drop, reverse, map, All, nat_le, bit_and, IfOk, IfSome, OnOk};
 ghost use Rattle.std.specs.List.{filter};
 ghost use Rattle.arraydeque.specs.Deque.{keep_last};
 
@@ -52,6 +52,26 @@ pub fn add_some_of_slice_that_fits<const CAP: usize>(
     ensures { to.new.items ≡ to.old.items ++ (take count from.now) }
 {
     to.extend_back(from.iter().copied().take(count));
+}
+
+/// Adds copies of a slice's first `M` items, as far as there is room.
+pub fn add_first<const CAP: usize, const M: usize>(
+    to: &mut ArrayDeque<u64, CAP, Saturating>,
+    from: &[u64],
+)
+    ensures { let room = CAP - length to.old.items in
+        to.new.items ≡ to.old.items ++ take room (take M from.now) }
+{
+    to.extend_back(from.iter().copied().take(M));
+}
+
+/// Adds copies of a slice's first two items, as far as there is room. At a literal, `take(2)`, the
+/// list isn't known.
+pub fn add_first_two<const CAP: usize>(to: &mut ArrayDeque<u64, CAP, Saturating>, from: &[u64])
+    ensures { let room = CAP - length to.old.items in
+        to.new.items ≡ to.old.items ++ take room (take 2 from.now) }
+{
+    add_first::<CAP, 2>(to, from);
 }
 
 /// Adds a vector's items, as far as there is room.
@@ -472,6 +492,33 @@ pub fn push_some_of_slice<const CAP: usize>(
     ensures { to.new.items ≡ keep_last CAP (to.old.items ++ take count from.now) }
 {
     to.extend_back(from.iter().copied().take(count));
+}
+
+/// Pushes an item below a limit, where all are: those that are kept are too.
+#[tactic(auto, using(arraydeque::proofs::KeepLast::kept_rules))]
+pub fn push_below<const CAP: usize>(to: &mut ArrayDeque<u64, CAP, Wrapping>, item: u64, limit: u64)
+    requires all { All (λ each. each < limit) to.old.items }
+    requires this { item < limit }
+    ensures { All (λ each. each < limit) to.new.items }
+{
+    to.push_back(item);
+}
+
+/// Pushes copies of a slice's first `M` items.
+pub fn push_first_of_slice<const CAP: usize, const M: usize>(
+    to: &mut ArrayDeque<u64, CAP, Wrapping>,
+    from: &[u64],
+)
+    ensures { to.new.items ≡ keep_last CAP (to.old.items ++ take M from.now) }
+{
+    to.extend_back(from.iter().copied().take(M));
+}
+
+/// Pushes copies of a slice's first two items.
+pub fn push_first_two<const CAP: usize>(to: &mut ArrayDeque<u64, CAP, Wrapping>, from: &[u64])
+    ensures { to.new.items ≡ keep_last CAP (to.old.items ++ take 2 from.now) }
+{
+    push_first_of_slice::<CAP, 2>(to, from);
 }
 
 /// Pushes copies of a deque's items, from the last to the first.
