@@ -7,7 +7,7 @@ use Rattle.std.{
       Bool.cases_lt,
       List.{length-append, length-drop, length-map, drop-append-le, drop-drop, drop-map, drop_all},
       List.{drop_min, take_all, get_or-drop, get_or_append_left, get_or_push},
-      List.Elements.{All-push, All-drop},
+      List.Elements.{All-push, All-drop, All-same},
     },
     Math.Seq.drop-append-add,
   },
@@ -46,9 +46,11 @@ keep_last-map n f xs = rw (length-map xs f) (drop-map f (length xs - n) xs)
 pub ruleset keep_last_rules = (keep_last-all, keep_last-append, keep_last-full, keep_last-map)
 
 -- what holds of all items and of a pushed one holds of all that are kept
-pub All-kept : {X : Type 0} (P : X → Type 0) (n : ℕ) (xs : List X) (x : X) → All P xs → P x
-    → All P (keep_last n (xs ++ x ∷ []))
-All-kept P n xs x all this = All-drop P (length (xs ++ x ∷ []) - n) (xs ++ x ∷ []) (All-push P xs x all this)
+pub All-kept : {X : Type 0} (P : X → Type 0) (n : ℕ) (old new : List X) (x : X) → new ≡ keep_last n (old ++ x ∷ [])
+    → All P old → P x → All P new
+All-kept P n old new x is all this =
+    let both = All-push P old x all this in
+    All-same P new (keep_last n (old ++ x ∷ [])) is (All-drop P (length (old ++ x ∷ []) - n) (old ++ x ∷ []) both)
 
 -- one that is kept is an old item or the pushed one, which the search reads an `All` by
 pub kept_item : {X : Type 0} (m : ℕ) (xs : List X) (x : X) (k : ℕ) (d : X) → k < length (drop m (xs ++ x ∷ [])) →

@@ -1,5 +1,5 @@
 //! Callers of a call or two, most in a line.
-ghost use Rattle.std.specs.Prelude.{◌≡◌, ◌-◌, ◌<◌, ◌≤◌, ◌++◌, ◌∷◌, [], length, take, drop, swap, replicate, filter, slice_get, slice_set, pos, int_le, IfOk, IfSome, OnOk, OnErr};
+ghost use Rattle.std.specs.Prelude.{◌≡◌, ◌-◌, ◌<◌, ◌≤◌, ◌^◌, ◌↔◌, ◌++◌, ◌∷◌, [], length, take, drop, swap, replicate, filter, slice_get, slice_set, pos, int_le, sum, IsTrue, IfOk, IfSome, OnOk, OnErr};
 ghost use Rattle.std.specs.List.{list_any};
 ghost use Rattle.std.specs.List.Sorted.{IsBinarySearchResult};
 ghost use Rattle.std.specs.Fn.{ComputesKey};
@@ -120,6 +120,40 @@ pub fn rotate_left<T, const CAP: usize, B: Behavior>(
     ensures { deque.new.items ≡ drop count deque.old.items ++ take count deque.old.items }
 {
     deque.rotate_left(count);
+}
+
+/// Puts the first `count` items behind the others, if there are so many.
+pub fn rotate_by<T, const CAP: usize, B: Behavior>(
+    deque: &mut ArrayDeque<T, CAP, B>,
+    count: usize,
+) -> bool
+    ensures possible { IsTrue result ↔ (count ≤ length deque.old.items) }
+    ensures rotated { IsTrue result →
+        deque.new.items ≡ drop count deque.old.items ++ take count deque.old.items }
+    ensures unchanged { ¬ IsTrue result → deque.new ≡ deque.old }
+{
+    if count > deque.len() {
+        return false;
+    }
+    deque.rotate_left(count);
+    true
+}
+
+/// The sum of a slice's items, of which there are fewer than 2^32.
+fn sum_of(items: &[u32]) -> u64
+    requires { length items.now < 2 ^ 32 }
+    ensures { result ≡ sum items.now }
+{
+    items.iter().map(|item| *item as u64).sum()
+}
+
+/// The sum of a deque's items, of which there are fewer than 2^32. They are laid in one piece.
+pub fn total<const CAP: usize, B: Behavior>(deque: &mut ArrayDeque<u32, CAP, B>) -> u64
+    requires { CAP < 2 ^ 32 }
+    ensures { result ≡ sum deque.old.items }
+{
+    deque.linearize();
+    sum_of(deque.as_slice())
 }
 
 /// Moves the last items before the others.

@@ -2,13 +2,14 @@
 //! deque has then.
 //!
 //! Under `Saturating` most stand twice: for as much as finds room, and as `.._that_fits` for a
-//! source that has room. What comes through `rev`, `skip`, `filter` or `map` is added by `extend`,
-//! whose contract speaks of all that came; a part that is drained by the caller that adds a drain.
+//! source that has room. What comes through `rev`, `skip`, `filter` or `map`, or out of a drained
+//! part, is added by `extend`, whose contract speaks of all that came, and does so under either
+//! policy.
 ghost use Rattle.std.specs.Prelude.{◌≡◌, ◌+◌, ◌-◌, ◌≤◌, ◌<◌, ◌++◌, ◌∷◌, [], length, take, drop, reverse, map, All, nat_le, bit_and, IfOk, IfSome, OnOk};
 ghost use Rattle.std.specs.List.{filter};
 ghost use Rattle.arraydeque.specs.Deque.{keep_last};
 
-use arraydeque::{ArrayDeque, Drain, MakeError, Saturating, Wrapping};
+use arraydeque::{ArrayDeque, Drain, Iter, MakeError, Saturating, Wrapping};
 use std::alloc::{AllocError, Global};
 
 /// Adds copies of a slice's items, as far as there is room.
@@ -110,6 +111,29 @@ pub fn add_array_that_fits<const CAP: usize>(
     ensures { to.new.items ≡ to.old.items ++ from }
 {
     to.extend_back(from);
+}
+
+/// Adds the items of an array of bounded length, as far as there is room.
+pub fn add_array_of<const CAP: usize, const N: usize>(
+    to: &mut ArrayDeque<u64, CAP, Saturating>,
+    from: [u64; N],
+)
+    requires { N ≤ 1000 }
+    ensures { let room = CAP - length to.old.items in
+        to.new.items ≡ to.old.items ++ take room from.entry }
+{
+    to.extend_back(from);
+}
+
+/// Adds copies of the items of any array, as far as there is room.
+pub fn add_array_by_slice<T: Copy + Drop, const CAP: usize, const N: usize>(
+    to: &mut ArrayDeque<T, CAP, Saturating>,
+    from: [T; N],
+)
+    ensures { let room = CAP - length to.old.items in
+        to.new.items ≡ to.old.items ++ take room from }
+{
+    to.extend_back(from.iter().copied());
 }
 
 /// Adds two items, as far as there is room.
@@ -309,6 +333,61 @@ pub fn add_masked<const CAP: usize, const N: usize>(
         to.new.items ≡ to.old.items ++ take room (map (λ item. bit_and item 7) from.now.items) }
 {
     let _ = to.extend(from.iter().copied().map(|item| item & 7));
+}
+
+/// The last items of a deque. In a function of its own the list is known to be `keep_last`.
+pub fn last_ones<const N: usize>(
+    from: &ArrayDeque<u64, N, Saturating>,
+    count: usize,
+) -> Iter<'_, u64>
+    requires { count ≤ length from.now.items }
+    ensures { result ≡ keep_last count from.now.items }
+{
+    from.range(from.len() - count..)
+}
+
+/// Adds copies of a deque's last items, as far as there is room.
+pub fn add_last<const CAP: usize, const N: usize>(
+    to: &mut ArrayDeque<u64, CAP, Saturating>,
+    from: &ArrayDeque<u64, N, Saturating>,
+    count: usize,
+)
+    requires { count ≤ length from.now.items }
+    ensures { let room = CAP - length to.old.items in
+        to.new.items ≡ to.old.items ++ take room (keep_last count from.now.items) }
+{
+    to.extend_back(last_ones(from, count).copied());
+}
+
+/// Moves a deque's items in a range, as far as there is room, by `extend`.
+pub fn move_range<T: Drop, const CAP: usize, const N: usize>(
+    to: &mut ArrayDeque<T, CAP, Saturating>,
+    from: &mut ArrayDeque<T, N, Saturating>,
+    start: usize,
+    end: usize,
+) -> Result<(), AllocError>
+    requires in_order { start ≤ end }
+    requires in_bounds { end ≤ length from.old.items }
+    ensures { let room = CAP - length to.old.items in
+        let part = take (end - start) (drop start from.old.items) in
+        OnOk result (to.new.items ≡ to.old.items ++ take room part) }
+{
+    let _ = to.extend(from.drain(start..end)?);
+    Ok(())
+}
+
+/// Moves a deque's first items, as far as there is room, by `extend`.
+pub fn extend_first<T: Drop, const CAP: usize, const N: usize>(
+    to: &mut ArrayDeque<T, CAP, Saturating>,
+    from: &mut ArrayDeque<T, N, Saturating>,
+    count: usize,
+) -> Result<(), AllocError>
+    requires { count ≤ length from.old.items }
+    ensures { let room = CAP - length to.old.items in
+        OnOk result (to.new.items ≡ to.old.items ++ take room (take count from.old.items)) }
+{
+    let _ = to.extend(from.drain(..count)?);
+    Ok(())
 }
 
 /// Adds a deque's items at the front, as far as there is room.
@@ -521,6 +600,18 @@ pub fn push_first_two<const CAP: usize>(to: &mut ArrayDeque<u64, CAP, Wrapping>,
     push_first_of_slice::<CAP, 2>(to, from);
 }
 
+/// Pushes copies of a deque's last items.
+pub fn push_last<const CAP: usize, const N: usize>(
+    to: &mut ArrayDeque<u64, CAP, Wrapping>,
+    from: &ArrayDeque<u64, N, Saturating>,
+    count: usize,
+)
+    requires { count ≤ length from.now.items }
+    ensures { to.new.items ≡ keep_last CAP (to.old.items ++ keep_last count from.now.items) }
+{
+    to.extend_back(from.iter().copied().skip(from.len() - count));
+}
+
 /// Pushes copies of a deque's items, from the last to the first.
 pub fn push_reversed<const CAP: usize, const N: usize>(
     to: &mut ArrayDeque<u64, CAP, Wrapping>,
@@ -561,4 +652,46 @@ pub fn push_masked<const CAP: usize, const N: usize>(
         to.new.items ≡ keep_last CAP (to.old.items ++ masked) }
 {
     to.extend_back(from.iter().copied().map(|item| item & 7));
+}
+
+/// Pushes copies of a deque's items, from the last to the first, by `extend`.
+pub fn extend_reversed<const CAP: usize, const N: usize>(
+    to: &mut ArrayDeque<u64, CAP, Wrapping>,
+    from: &ArrayDeque<u64, N, Saturating>,
+)
+    ensures { to.new.items ≡ keep_last CAP (to.old.items ++ reverse from.now.items) }
+{
+    let _ = to.extend(from.iter().rev().copied());
+}
+
+/// Pushes copies of a deque's items but the first two, by `extend`.
+pub fn extend_all_but_two<const CAP: usize, const N: usize>(
+    to: &mut ArrayDeque<u64, CAP, Wrapping>,
+    from: &ArrayDeque<u64, N, Saturating>,
+)
+    ensures { to.new.items ≡ keep_last CAP (to.old.items ++ drop 2 from.now.items) }
+{
+    let _ = to.extend(from.iter().copied().skip(2));
+}
+
+/// Pushes copies of the items up to 5, by `extend`.
+pub fn extend_small<const CAP: usize, const N: usize>(
+    to: &mut ArrayDeque<u64, CAP, Wrapping>,
+    from: &ArrayDeque<u64, N, Saturating>,
+)
+    ensures { let small = filter (λ item. nat_le item 5) from.now.items in
+        to.new.items ≡ keep_last CAP (to.old.items ++ small) }
+{
+    let _ = to.extend(from.iter().copied().filter(|item| *item <= 5));
+}
+
+/// Pushes what a mask leaves of each item, by `extend`.
+pub fn extend_masked<const CAP: usize, const N: usize>(
+    to: &mut ArrayDeque<u64, CAP, Wrapping>,
+    from: &ArrayDeque<u64, N, Saturating>,
+)
+    ensures { let masked = map (λ item. bit_and item 7) from.now.items in
+        to.new.items ≡ keep_last CAP (to.old.items ++ masked) }
+{
+    let _ = to.extend(from.iter().copied().map(|item| item & 7));
 }
