@@ -48,6 +48,7 @@ pub fn take_line<const CAP: usize, B: Behavior>(
     ensures taken { OnOk result
         (into.new.items ≡ into.old.items ++ take_through 10 from.old.items) }
     ensures left { OnOk result (from.new.items ≡ drop_through 10 from.old.items) }
+    ensures count { IfOk result (λ count. count ≡ length (take_through 10 from.old.items)) }
 {
     from.read_until(b'\n', into)
 }
