@@ -112,7 +112,7 @@ macro_rules! of_a_million {
 /// Items in and out, and single items.
 fn workloads_of_items() -> Vec<Workload> {
     let mut list = Vec::new();
-    of_all_lists!(list, queue, history, lent_queue, lent_history, get, index_mut);
+    of_all_lists!(list, queue, history, lent_queue, lent_history, lent_many, lent_get, get, index_mut);
     of_all_items!(list, ends);
     of_all_lists!(list, middle, random, swap, swap_remove_back, swap_remove_front);
     of_a_million!(list, queue, history, get, index_mut, get_mut, swap, swap_remove_back, swap_remove_front);

@@ -20,7 +20,7 @@ const fn other(name: &'static str, workloads: &'static [&'static str]) -> Task {
 /// All workloads, by tasks.
 pub const TASKS: [Task; 23] = [
     shown("push and pop at the ends", &["queue", "ends", "history"]),
-    other("the same through a reference", &["lent_queue", "lent_history"]),
+    other("the same through a reference", &["lent_queue", "lent_history", "lent_many", "lent_get"]),
     other("an item by its index", &["get", "get_mut", "index_mut"]),
     shown("all items read", &["iterate", "rev", "zip", "fold"]),
     other(

@@ -74,3 +74,25 @@ pub fn lent_history<T: Item, D: Peer<T>, const CAP: usize>(rounds: usize) -> u64
     }
     sum
 }
+
+pub fn lent_many<T: Item, D: Peer<T>, const CAP: usize>(rounds: usize) -> u64 {
+    #[inline(never)]
+    fn fill_and_empty<T: Item, D: Peer<T>, const CAP: usize>(deque: &mut D, number: u64) -> u64 {
+        for place in 0..CAP as u64 / 2 {
+            deque.push_back(T::of(number.wrapping_add(place)));
+        }
+        let mut sum = 0u64;
+        for _ in 0..deque.len() {
+            if let Some(item) = deque.pop_front() {
+                sum = sum.wrapping_add(item.number());
+            }
+        }
+        sum
+    }
+    let mut deque: D = peer_at(0, 0);
+    let mut sum = 0u64;
+    for round in 0..rounds as u64 {
+        sum = sum.wrapping_add(fill_and_empty::<T, D, CAP>(&mut deque, round));
+    }
+    sum
+}

@@ -16,6 +16,21 @@ pub fn get<T: Item, D: Peer<T>, const CAP: usize>(rounds: usize) -> u64 {
     sum
 }
 
+pub fn lent_get<T: Item, D: Peer<T>, const CAP: usize>(rounds: usize) -> u64 {
+    #[inline(never)]
+    fn number_at<T: Item, D: Peer<T>>(deque: &D, index: usize) -> u64 {
+        deque.get(index).map_or(0, |item| item.number())
+    }
+    let deque: D = peer_at(CAP / 2, CAP);
+    let mut sum = 0u64;
+    let mut index = 0usize;
+    for _ in 0..rounds {
+        sum = sum.wrapping_add(number_at::<T, D>(&deque, index));
+        index = if index < CAP / 2 { index + CAP / 3 } else { index - CAP / 2 };
+    }
+    sum
+}
+
 pub fn get_mut<T: Item, D: Peer<T>, const CAP: usize>(rounds: usize) -> u64 {
     let mut deque: D = peer_at(CAP / 2, CAP);
     let mut state = 1u64;
