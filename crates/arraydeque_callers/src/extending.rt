@@ -496,6 +496,17 @@ pub fn push_two<const CAP: usize>(to: &mut ArrayDeque<u64, CAP, Wrapping>, a: u6
     to.extend_back([a, b]);
 }
 
+/// Pushes the items of an array of bounded length.
+pub fn push_array_of<const CAP: usize, const N: usize>(
+    to: &mut ArrayDeque<u64, CAP, Wrapping>,
+    from: [u64; N],
+)
+    requires { N ≤ 1000 }
+    ensures { to.new.items ≡ keep_last CAP (to.old.items ++ from.entry) }
+{
+    to.extend_back(from);
+}
+
 /// Pushes the items of a deque.
 pub fn push_deque<T: Drop, const CAP: usize, const N: usize>(
     to: &mut ArrayDeque<T, CAP, Wrapping>,
