@@ -1,17 +1,10 @@
 -- The sum of the samples, as one comes and another leaves.
 use Rattle.std.proofs.{
-  Common.{◌≡◌, ℕ, ◌+◌, ◌-◌, ◌*◌, ◌≤◌, ◌<◌, ◌^◌, List, [], ◌∷◌, ◌++◌, All, length, sum, get_or},
-  Common.{Option, Some, None, option_to_list, unwrap_or, zero-add, subst, refl, sym, ap, ◌∙◌},
+  Common.{◌≡◌, ℕ, ◌+◌, ◌-◌, ◌*◌, ◌≤◌, ◌<◌, ◌^◌, List, [], ◌∷◌, ◌++◌, All, length, sum},
+  Common.{Option, Some, None, option_to_list, unwrap_or, zero-add, refl, sym, ap, ◌∙◌},
   Common.arith,
-  lemmas.List.{length-append, get_or-append-add, Sums.{sum_by-append, sum_by_push, sum_by-le}},
+  lemmas.List.Sums.{sum_by-append, sum_by_push, sum_by-le},
 }
-
--- what is true of each that was there is true of each that is kept
-pub All-kept : {X : Type 0} (P : X → Type 0) (out kept all : List X) → out ++ kept ≡ all → All P all → All P kept
-All-kept P out kept all same each k d within =
-    let here : get_or kept k d ≡ get_or all (length out + k) d =
-    sym (get_or-append-add out kept k d) ∙ ap (λ l. get_or l (length out + k) d) same in
-    subst P (sym here) (each (length out + k) d (omega (arith, length-append out kept, ap length same)))
 
 -- the kept ones sum up to what was there and what came, without what left
 pub sum-kept : (out kept old : List ℕ) (x : ℕ) → out ++ kept ≡ old ++ x ∷ [] → sum out + sum kept ≡ sum old + x

@@ -1,5 +1,6 @@
-use Rattle.std.proofs.{Common.{◌<◌, ◌^◌, option_to_list, arith}, lemmas.List.Elements.All-push}
-use Rattle.uses.proofs.Totals.{All-kept, sum-kept, sum-option, sum-fits}
+use Rattle.std.proofs.Common.{◌<◌, ◌^◌, option_to_list, arith}
+use Rattle.arraydeque.proofs.KeepLast.{All-kept}
+use Rattle.uses.proofs.Totals.{sum-kept, sum-option, sum-fits}
 use Rattle.uses.proofs.window.Window.push.Goals as goal
 
 pub overflow_add-self : goal.overflow_add-self
@@ -21,5 +22,5 @@ invariant_of-self g c =
       summed = omega (arith, summed, left, was.summed, c.unwrap_or-left.ensures);
       within = c.push_back.ensures.within;
       few = was.few;
-      small = All-kept (λ y. y < 2 ^ 32) _ _ _ same (All-push (λ y. y < 2 ^ 32) _ _ was.small small);
+      small = All-kept (λ y. y < 2 ^ 32) g.row.CAP _ _ _ c.push_back.ensures.items was.small small;
     }
