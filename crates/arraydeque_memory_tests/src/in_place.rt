@@ -157,19 +157,31 @@ fn retains_and_clears(deque: &mut ArrayDeque<i64, 4, Saturating>) -> bool {
     is_retained && is_halved && deque.is_empty()
 }
 
-/// Whether two of the items 6, 7, 8 and 9 stay after an item goes at either end.
-fn truncates(deque: &mut ArrayDeque<i64, 4, Saturating>) -> bool {
+/// Whether two of the items 6, 7, 8 and 9 stay after an item goes at either end, and two copies are
+/// put behind them.
+fn truncates_and_resizes(deque: &mut ArrayDeque<i64, 4, Saturating>) -> bool {
     deque.truncate(3);
     deque.truncate_front(2);
-    holds(deque, &[7, 8])
+    let is_cut = holds(deque, &[7, 8]);
+    deque.resize(4, 5);
+    is_cut && holds(deque, &[7, 8, 5, 5])
 }
 
-/// Whether a `for_each` doubles the items 1 to 4.
-fn doubles_each(deque: &mut Deque) -> bool {
+/// Whether the items 1 to 4, which wrap, are written by closures that are called on each, by the
+/// iterator of a range, and in either slice.
+fn writes_to_each(deque: &mut Deque) -> bool {
     deque
         .iter_mut()
         .for_each(|item| *item = item.wrapping_mul(2));
-    holds(deque, &[2, 4, 6, 8])
+    deque.for_each_mut(|item| *item = item.wrapping_add(1));
+    deque.for_each_mut_in(.., |item| *item = item.wrapping_add(1));
+    if let Some(last) = deque.range_mut(..).next_back() {
+        *last = 7;
+    }
+    let is_called = holds(deque, &[4, 6, 8, 7]);
+    deque.first_slice_mut().reverse();
+    deque.second_slice_mut().reverse();
+    is_called && holds(deque, &[6, 4, 7, 8])
 }
 
 /// Whether two items are left alone where nothing is to be handed out, and whether a vector of none
@@ -213,16 +225,16 @@ fn calls_in_place_1_request_32_bytes(rt: HostRuntime) -> Result<(), Fail> {
     refill(&mut deque, &[8, 9, 6, 7]);
     let is_retained = retains_and_clears(&mut deque);
     refill(&mut deque, &[6, 7, 8, 9]);
-    let is_truncated = truncates(&mut deque);
+    let is_resized = truncates_and_resizes(&mut deque);
     refill(&mut deque, &[1, 2, 3, 4]);
-    let is_doubled = doubles_each(&mut deque);
+    let is_written_to = writes_to_each(&mut deque);
     refill(&mut deque, &[1, 2]);
     let are_edited = is_written
         && is_moved
         && is_rotated
         && is_retained
-        && is_truncated
-        && is_doubled;
+        && is_resized
+        && is_written_to;
     assert!(rt; hands_out_nothing(rt.alloc(), deque)? && are_edited);
     Ok(())
 }
@@ -462,9 +474,16 @@ fn calls_that_ask_for_nothing_3_requests_96_bytes(rt: HostRuntime) -> Result<(),
     Ok(())
 }
 
-/// Whether a scanner gives the input, and the one item that it has room for before the rest.
+/// Whether a scanner has the items 4 and 5 ahead, and drops them both.
+fn reads_ahead(scanner: &mut Scanner<Script<'_>, 2>) -> bool {
+    let there = scanner.read_ahead(2);
+    scanner.ahead(there).eq([4, 5].iter()) && scanner.advance(3) == 2
+}
+
+/// Whether a scanner gives the input, and the one item that it has room for before the rest. Then
+/// it reads on to the end, and drops what is left.
 fn scans(alloc: Global) -> Result<bool, Fail> {
-    let input = [Some(1), Some(2), Some(3)];
+    let input = [Some(1), Some(2), Some(3), Some(4), Some(5)];
     let mut scanner = made(Scanner::<_, 2>::new(alloc, Script::of(&input)))?;
     Ok(
         scanner.peek(1) == Some(&2)
@@ -473,7 +492,8 @@ fn scans(alloc: Global) -> Result<bool, Fail> {
             && scanner.unread(8).is_err()
             && (scanner.next(), scanner.next()) == (Some(9), Some(2))
             && scanner.next_if(|item| *item > 3) == None
-            && scanner.next_if(|item| *item == 3) == Some(3),
+            && scanner.next_if(|item| *item == 3) == Some(3)
+            && reads_ahead(&mut scanner),
     )
 }
 

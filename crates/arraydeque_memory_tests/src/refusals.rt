@@ -1,7 +1,5 @@
 //! What comes back where memory is refused. Each test holds where none is, and where any one
 //! request of the tested calls is; where one of its set-up is, it ends there.
-mod compared;
-
 use crate::asked::{Count, Script};
 use crate::build::{deque_at, holds};
 use arraydeque::behavior::Behavior;
@@ -105,6 +103,20 @@ fn a_refused_call_leaves_the_list(rt: HostRuntime) -> Result<(), Fail> {
         Err(_) => holds(&deque, &[0, 1, 2, 3]),
     };
     assert!(rt; drains);
+    Ok(())
+}
+
+/// At capacity 0, where a deque has no region, a clone makes no request at all.
+#[test]
+fn a_refused_clone_leaves_the_list(rt: HostRuntime) -> Result<(), Fail> {
+    let nothing = ArrayDeque::<i64, 0, Saturating>::new(rt.alloc())?;
+    assert!(rt; nothing.clone()? == nothing);
+    let deque = deque_at::<3>(rt.alloc(), 2, &[1, 2, 3])?;
+    let is_whole = match deque.clone() {
+        Ok(clone) => holds(&clone, &[1, 2, 3]),
+        Err(_) => true,
+    };
+    assert!(rt; is_whole && holds(&deque, &[1, 2, 3]));
     Ok(())
 }
 

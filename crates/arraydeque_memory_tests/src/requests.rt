@@ -18,14 +18,6 @@ fn new_deques_2_requests_48_bytes(rt: HostRuntime) -> Result<(), Fail> {
     Ok(())
 }
 
-/// The deque's region, and a vector without room to spare.
-#[test]
-fn a_vector_of_a_list_that_wraps_2_requests_56_bytes(rt: HostRuntime) -> Result<(), Fail> {
-    let list = made(deque_at::<4>(rt.alloc(), 2, &[2, 3, 4])?.into_vec())?;
-    assert!(rt; list.as_slice() == [2, 3, 4].as_slice());
-    Ok(())
-}
-
 /// Four deques of an iterator or an array, and one of a vector, whose bytes are counted too.
 #[test]
 fn makers_6_requests_200_bytes(rt: HostRuntime) -> Result<(), Fail> {
