@@ -14,14 +14,3 @@ fn an_undo_gives_the_state_before_back(rt: HostRuntime) -> Result<(), Fail> {
     assert!(rt; !history.redo());
     Ok(())
 }
-
-#[test]
-fn only_so_many_steps_can_be_undone(rt: HostRuntime) -> Result<(), Fail> {
-    let mut history = History::<_, 2>::new(rt.alloc(), 1)?;
-    for state in 2..6 {
-        history.step(state);
-    }
-    assert!(rt; (history.undo(), history.undo(), history.undo()) == (true, true, false));
-    assert!(rt; *history.present() == 3);
-    Ok(())
-}

@@ -1,10 +1,13 @@
-//! Tests of the uses at concrete types; there is nothing here to call.
+//! Tests of the uses and of some callers at concrete types: that they run as compiled, what stands
+//! after writes, and what a refused call leaves. There is nothing here to call.
 #![tactic(auto)]
 
 #[cfg(test)]
 mod ageing;
 #[cfg(test)]
 mod average;
+#[cfg(test)]
+mod callers;
 #[cfg(test)]
 mod copying;
 #[cfg(test)]
@@ -43,3 +46,5 @@ mod tokens;
 mod tree;
 #[cfg(test)]
 mod window;
+#[cfg(test)]
+mod writing;

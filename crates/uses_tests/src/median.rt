@@ -26,9 +26,3 @@ fn the_median_of_the_last_samples(rt: HostRuntime) -> Result<(), Fail> {
     assert!(rt; four.as_slice() == [5, 5, 5, 5, 2, 7].as_slice());
     Ok(())
 }
-
-#[test]
-fn a_window_without_samples_has_no_median(rt: HostRuntime) -> Result<(), Fail> {
-    assert!(rt; Median::<1>::new(rt.alloc())?.median() == None);
-    Ok(())
-}

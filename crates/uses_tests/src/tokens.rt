@@ -1,8 +1,6 @@
-//! What a few inputs are cut into.
-use arraydeque::lookahead::Scanner;
-use std::alloc::AllocError;
+//! What an input is cut into.
 use std::test::Fail;
-use uses::tokens::{Kind, Token, tokenize, tokenize_text};
+use uses::tokens::{Kind, Token, tokenize_text};
 
 /// Whether the tokens are these.
 fn are(tokens: &[Token], wanted: &[(Kind, &[u8])]) -> bool {
@@ -32,21 +30,5 @@ fn a_text_is_cut_where_the_kind_changes(rt: HostRuntime) -> Result<(), Fail> {
         (Kind::Sign, b";"),
     ];
     assert!(rt; are(&tokens, &wanted));
-    Ok(())
-}
-
-#[test]
-fn equal_signs_stay_apart(rt: HostRuntime) -> Result<(), Fail> {
-    let mut scanner = Scanner::<_, 2>::new(rt.alloc(), b"==".iter().copied()).map_err(
-        |_| AllocError,
-    )?;
-    let tokens = tokenize(rt.alloc(), &mut scanner)?;
-    assert!(rt; are(&tokens, &[(Kind::Sign, b"="), (Kind::Sign, b"=")]));
-    Ok(())
-}
-
-#[test]
-fn an_empty_input_has_no_token(rt: HostRuntime) -> Result<(), Fail> {
-    assert!(rt; tokenize_text(rt.alloc(), b"")?.is_empty());
     Ok(())
 }

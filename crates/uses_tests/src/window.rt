@@ -13,11 +13,3 @@ fn the_oldest_sample_leaves_a_full_window(rt: HostRuntime) -> Result<(), Fail> {
     assert!(rt; (window.count(), window.sum()) == (3, 4294967301));
     Ok(())
 }
-
-#[test]
-fn a_window_of_no_capacity_sums_nothing(rt: HostRuntime) -> Result<(), Fail> {
-    let mut window = Window::<0>::new(rt.alloc())?;
-    window.push(9);
-    assert!(rt; (window.count(), window.sum()) == (0, 0));
-    Ok(())
-}

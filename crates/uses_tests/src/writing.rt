@@ -1,8 +1,8 @@
-//! What is written over items that wrap, or that don't.
+//! What callers write over items that wrap, or that don't.
 use arraydeque::{ArrayDeque, Wrapping};
 use arraydeque_callers::writing::{
-    count_in_slices, fill_behind_first, fill_by_hand, fill_from, fill_from_the_back, fill_until,
-    fill_walked, wipe_and_pop, write_ends_and_push, write_ring_slices, write_slices_and_push,
+    count_in_slices, fill_behind_first, fill_by_hand, fill_from_the_back, fill_until, fill_walked,
+    wipe_and_pop, write_ends_and_push, write_ring_slices, write_slices_and_push,
 };
 use arraydeque_ring::ring::Ring;
 use arraydeque_samples::build::{deque_at, holds};
@@ -25,16 +25,6 @@ fn each_item_is_written(rt: HostRuntime) -> Result<(), Fail> {
             (filled, counted) == (3, 3) && holds(&deque, &[0, 0, 0]),
             "start {start}"
         );
-    }
-    Ok(())
-}
-
-#[test]
-fn items_before_an_index_stay(rt: HostRuntime) -> Result<(), Fail> {
-    for start in 0..4 {
-        let mut deque = deque_at::<4>(rt.alloc(), start, &[1, 2, 3])?;
-        fill_from(&mut deque, 1, 7);
-        assert!(rt; holds(&deque, &[1, 7, 7]), "start {start}");
     }
     Ok(())
 }
