@@ -167,21 +167,23 @@ fn truncates_and_resizes(deque: &mut ArrayDeque<i64, 4, Saturating>) -> bool {
     is_cut && holds(deque, &[7, 8, 5, 5])
 }
 
-/// Whether the items 1 to 4, which wrap, are written by closures that are called on each, by the
-/// iterator of a range, and in either slice.
+/// Whether the items 1 to 4, which wrap, are written by closures that are called on each or on a
+/// part, by the iterator of a range, and in either slice.
 fn writes_to_each(deque: &mut Deque) -> bool {
     deque
         .iter_mut()
         .for_each(|item| *item = item.wrapping_mul(2));
     deque.for_each_mut(|item| *item = item.wrapping_add(1));
-    deque.for_each_mut_in(.., |item| *item = item.wrapping_add(1));
+    if deque.len() == 4 {
+        deque.for_each_mut_in(1..3, |item| *item = item.wrapping_add(1));
+    }
     if let Some(last) = deque.range_mut(..).next_back() {
         *last = 7;
     }
-    let is_called = holds(deque, &[4, 6, 8, 7]);
+    let is_called = holds(deque, &[3, 6, 8, 7]);
     deque.first_slice_mut().reverse();
     deque.second_slice_mut().reverse();
-    is_called && holds(deque, &[6, 4, 7, 8])
+    is_called && holds(deque, &[6, 3, 7, 8])
 }
 
 /// Whether two items are left alone where nothing is to be handed out, and whether a vector of none

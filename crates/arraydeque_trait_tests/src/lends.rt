@@ -150,37 +150,6 @@ fn lends_slices(alloc: Global) -> Result<bool, Fail> {
     Ok(is_lent && is_pushed && is_cut && holds(&deque, &[2, 9, 1]))
 }
 
-/// Whether each item, or each of a part, is called on once and in order, at each start, and one
-/// slice and the other keep what is written.
-fn is_written_in_place(alloc: Global) -> Result<bool, Fail> {
-    for start in 0..5 {
-        let mut deque = deque_at::<5>(alloc, start, &[1, 2, 3, 4])?;
-        let mut count = 0i64;
-        deque.for_each_mut(|item| {
-            count = count.wrapping_add(1);
-            *item = item.wrapping_mul(10).wrapping_add(count);
-        });
-        let is_called = holds(&deque, &[11, 22, 33, 44]);
-        let mut sum = 0i64;
-        deque.for_each_mut_in(1..3, |item| {
-            sum = sum.wrapping_add(*item);
-            *item = sum;
-        });
-        let is_called = is_called && holds(&deque, &[11, 22, 55, 44]);
-        let (front, rest) = deque.as_slices();
-        let (front, rest) = (front.len(), rest.len());
-        let is_cut = deque.first_slice_mut().len() == front;
-        deque.first_slice_mut().fill(1);
-        deque.second_slice_mut().fill(2);
-        let is_filled = deque.iter().filter(|item| **item == 1).count() == front
-            && deque.iter().rev().take(rest).all(|item| *item == 2);
-        if !(is_called && is_cut && is_filled && deque.len() == 4) {
-            return Ok(false);
-        }
-    }
-    Ok(true)
-}
-
 /// Whether both iterators lend what those of an array do.
 fn lends_as_an_array(alloc: Global) -> Result<bool, Fail> {
     let mut deque = deque_at::<3>(alloc, 0, &[0, 1, 2])?;
@@ -193,7 +162,6 @@ fn items_are_lent_for_writing(rt: HostRuntime) -> Result<(), Fail> {
     assert!(rt;
         lends_for_writing(rt.alloc())?
             && lends_slices(rt.alloc())?
-            && is_written_in_place(rt.alloc())?
             && lends_as_an_array(rt.alloc())?
     );
     Ok(())
@@ -234,46 +202,8 @@ fn items_are_given_in_order(rt: HostRuntime) -> Result<(), Fail> {
     Ok(())
 }
 
-/// Whether an iterator lends what the list has, four times, at the ends that the binary digits of
-/// `ends` tell: 1 is the back.
-fn lends_alike(mut items: Iter<'_, i64>, list: &[i64], mut ends: u32) -> bool {
-    let mut plain = list.iter();
-    for _ in 0..4 {
-        let (lent, expected) = if ends % 2 == 1 {
-            (items.next_back(), plain.next_back())
-        } else {
-            (items.next(), plain.next())
-        };
-        if lent != expected || items.len() != plain.len() {
-            return false;
-        }
-        ends /= 2;
-    }
-    true
-}
-
-/// The same of an iterator that gives its items.
-fn gives_alike<const CAP: usize>(
-    mut items: IntoIter<i64, CAP, Saturating>,
-    list: &[i64],
-    mut ends: u32,
-) -> bool {
-    let mut plain = list.iter();
-    for _ in 0..4 {
-        let (given, expected) = if ends % 2 == 1 {
-            (items.next_back(), plain.next_back())
-        } else {
-            (items.next(), plain.next())
-        };
-        if given != expected.copied() || items.len() != plain.len() {
-            return false;
-        }
-        ends /= 2;
-    }
-    true
-}
-
-/// Writes 10 and on over four items, from the ends that `ends` tells, and 0 over the others.
+/// Writes 10 and on over four items, from the ends that the binary digits of `ends` tell: 1 is the
+/// back. Writes 0 over the others.
 fn write_over(mut items: IterMut<'_, i64>, mut ends: u32) {
     for number in 10..14 {
         let lent = if ends % 2 == 1 {
@@ -310,22 +240,8 @@ fn write_over_list(list: &mut [i64], mut ends: u32) {
     }
 }
 
-/// Whether the items stand in one slice for writing once they are in one piece, and are turned
-/// round there as those of a plain list.
-fn turns_alike<const CAP: usize>(
-    deque: &mut ArrayDeque<i64, CAP, Saturating>,
-    list: &mut [i64],
-) -> bool {
-    deque.linearize();
-    let slice = deque.as_mut_slice();
-    let is_whole = *slice == *list;
-    slice.reverse();
-    list.reverse();
-    is_whole && holds(deque, list)
-}
-
-/// Whether the three walks over a deque do what they do over a plain list.
-fn walks_alike<const CAP: usize>(
+/// Whether what is written over a deque by an iterator is what a plain list has.
+fn writes_alike<const CAP: usize>(
     alloc: Global,
     start: usize,
     len: usize,
@@ -333,22 +249,18 @@ fn walks_alike<const CAP: usize>(
 ) -> Result<bool, Fail> {
     let mut list = numbers(alloc, len)?;
     let mut deque = deque_at::<CAP>(alloc, start, &list)?;
-    let read = lends_alike(deque.iter(), &list, ends);
     write_over(deque.iter_mut(), ends);
     write_over_list(&mut list, ends);
-    let written = holds(&deque, &list);
-    let turned = turns_alike(&mut deque, &mut list);
-    Ok(read && written && turned && gives_alike(deque.into_iter(), &list, ends))
+    Ok(holds(&deque, &list))
 }
 
-/// The walks at each start and length, by each mixture of four ends, and so of fewer too: what is
-/// given is compared call by call.
-fn compare_all<const CAP: usize>(rt: &impl Abort, alloc: Global) -> Result<(), Fail> {
+/// The writes at each start and length, by each mixture of four ends, and so of fewer too.
+fn write_all<const CAP: usize>(rt: &impl Abort, alloc: Global) -> Result<(), Fail> {
     for start in 0..CAP {
         for len in 0..=CAP {
             for ends in 0..16 {
                 assert!(rt;
-                    walks_alike::<CAP>(alloc, start, len, ends)?,
+                    writes_alike::<CAP>(alloc, start, len, ends)?,
                     "of {CAP}, start {start}, length {len}, ends {ends}"
                 );
             }
@@ -358,13 +270,13 @@ fn compare_all<const CAP: usize>(rt: &impl Abort, alloc: Global) -> Result<(), F
 }
 
 #[test]
-fn every_start_and_length(rt: HostRuntime) -> Result<(), Fail> {
-    compare_all::<1>(&rt, rt.alloc())?;
-    compare_all::<2>(&rt, rt.alloc())?;
-    compare_all::<3>(&rt, rt.alloc())?;
-    compare_all::<4>(&rt, rt.alloc())?;
-    compare_all::<5>(&rt, rt.alloc())?;
-    compare_all::<6>(&rt, rt.alloc())?;
+fn what_is_written_from_both_ends_stays(rt: HostRuntime) -> Result<(), Fail> {
+    write_all::<1>(&rt, rt.alloc())?;
+    write_all::<2>(&rt, rt.alloc())?;
+    write_all::<3>(&rt, rt.alloc())?;
+    write_all::<4>(&rt, rt.alloc())?;
+    write_all::<5>(&rt, rt.alloc())?;
+    write_all::<6>(&rt, rt.alloc())?;
     Ok(())
 }
 
