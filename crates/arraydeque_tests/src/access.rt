@@ -1,5 +1,5 @@
-//! Reading and writing items where they stand.
-use crate::build::{deque_at, holds};
+//! Items that are read, or lent for writing, where they stand.
+use crate::build::deque_at;
 use arraydeque::{ArrayDeque, Saturating};
 use std::test::Fail;
 
@@ -62,32 +62,6 @@ fn an_index_follows_the_front(rt: HostRuntime) -> Result<(), Fail> {
             && deque.pop_back() == Some(3)
             && deque.len() == 2
             && deque[1] == 2
-    );
-    Ok(())
-}
-
-#[test]
-fn writes_change_one_item(rt: HostRuntime) -> Result<(), Fail> {
-    let mut pair = deque_at::<2>(rt.alloc(), 1, &[1, 2])?;
-    if let Some(first) = pair.front_mut() {
-        *first = 3;
-    }
-    if let Some(last) = pair.back_mut() {
-        *last = 4;
-    }
-    assert!(rt; holds(&pair, &[3, 4]));
-    drop(pair);
-    let mut deque = deque_at::<3>(rt.alloc(), 2, &[1, 2, 3])?;
-    if let Some(item) = deque.get_mut(1) {
-        *item = 9;
-    }
-    assert!(rt; deque.len() == 3);
-    deque[0] = 7;
-    assert!(rt;
-        holds(&deque, &[7, 9, 3])
-            && deque.get_mut(3).is_none()
-            && deque.contains(&9)
-            && !deque.contains(&1)
     );
     Ok(())
 }

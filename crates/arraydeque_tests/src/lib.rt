@@ -22,11 +22,7 @@ mod moves;
 #[cfg(test)]
 mod parts;
 #[cfg(test)]
-mod pop_if;
-#[cfg(test)]
 mod pushes;
-#[cfg(test)]
-mod resize;
 #[cfg(test)]
 mod retain;
 #[cfg(test)]

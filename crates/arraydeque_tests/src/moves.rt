@@ -1,4 +1,4 @@
-//! Inserting and removing at an index, and rotations.
+//! Inserting and removing at an index.
 use crate::build::{deque_at, holds, numbers};
 use arraydeque::{ArrayDeque, CapacityError, Saturating};
 use std::alloc::Global;
@@ -125,24 +125,4 @@ pub(crate) fn removes_alike<const CAP: usize>(
         None
     };
     Ok(removed == expected && holds(&deque, &list))
-}
-
-/// Whether a rotation to the left, and that to the right by the other items, do what the first does
-/// to a plain list.
-pub(crate) fn rotates_alike<const CAP: usize>(
-    alloc: Global,
-    start: usize,
-    len: usize,
-    count: usize,
-) -> Result<bool, Fail> {
-    let mut list = numbers(alloc, len)?;
-    if count > list.len() {
-        return Ok(false);
-    }
-    let mut left = deque_at::<CAP>(alloc, start, &list)?;
-    left.rotate_left(count);
-    let mut right = deque_at::<CAP>(alloc, start, &list)?;
-    right.rotate_right(list.len() - count);
-    list.rotate_left(count);
-    Ok(holds(&left, &list) && holds(&right, &list))
 }

@@ -1,8 +1,8 @@
-//! Draining a part, splitting and appending; these and edits beside a plain list.
+//! Draining a part and splitting; these, edits and writes beside a plain list.
 ghost use Rattle.std.specs.Prelude.{Some, ◌+◌};
 
-use crate::build::{deque_at, holds, numbers, wrapping_at};
-use crate::moves::{inserts_alike, removes_alike, rotates_alike};
+use crate::build::{deque_at, holds, numbers};
+use crate::moves::{inserts_alike, removes_alike};
 use arraydeque::RangeArgument;
 use std::alloc::Global;
 use std::process::Abort;
@@ -128,24 +128,6 @@ fn a_drain_of_three_may_be_dropped_early(rt: HostRuntime) -> Result<(), Fail> {
     Ok(())
 }
 
-#[test]
-fn a_drain_gives_from_both_ends(rt: HostRuntime) -> Result<(), Fail> {
-    let mut drain = deque_at::<5>(rt.alloc(), 3, &[1, 2, 3, 4, 5])?.drain(..)?;
-    let rows = [
-        (5, Some(1), Some(5)),
-        (3, Some(2), Some(4)),
-        (1, Some(3), None),
-        (0, None, None),
-        (0, None, None),
-    ];
-    for (len, first, last) in rows {
-        let lens = (drain.len(), drain.size_hint());
-        let items = (drain.next(), drain.next_back());
-        assert!(rt; (lens, items) == ((len, (len, Some(len))), (first, last)));
-    }
-    Ok(())
-}
-
 /// Whether a split at `to`, and a drain from `from` on to there, do what they do to a plain list.
 fn parts_alike<const CAP: usize>(
     alloc: Global,
@@ -164,25 +146,6 @@ fn parts_alike<const CAP: usize>(
     let mut deque = deque_at::<CAP>(alloc, start, &list)?;
     let drains = deque.drain(from..to)?.eq(list.drain(from..to)) && holds(&deque, &list);
     Ok(splits && drains)
-}
-
-/// Whether a range from `from` up to `to`, and one slice, lend what a plain list does.
-fn lends_alike<const CAP: usize>(
-    alloc: Global,
-    start: usize,
-    len: usize,
-    from: usize,
-    to: usize,
-) -> Result<bool, Fail> {
-    let list = numbers(alloc, len)?;
-    let mut deque = deque_at::<CAP>(alloc, start, &list)?;
-    if from > to || to > deque.len() {
-        return Ok(false);
-    }
-    let part: Vec<i64> = deque.range(from..to).copied().collect(alloc)?;
-    let is_lent = part.as_slice() == &list[from..to];
-    deque.linearize();
-    Ok(is_lent && deque.as_slice() == list.as_slice())
 }
 
 /// Whether writing over a part writes over that of a plain list, and leaves the others.
@@ -211,22 +174,19 @@ fn writes_alike<const CAP: usize>(
     Ok(holds(&deque, &list))
 }
 
-/// Edits, rotations, drains, splits and ranges beside a plain list, at each start and length, for
-/// each part.
+/// Edits, drains, splits and writes beside a plain list, at each start and length, for each part.
 fn compare_all<const CAP: usize>(rt: &impl Abort, alloc: Global) -> Result<(), Fail> {
     for start in 0..CAP {
         for len in 0..=CAP {
             for to in 0..=len {
                 assert!(rt;
                     inserts_alike::<CAP>(alloc, start, len, to)?
-                        && removes_alike::<CAP>(alloc, start, len, to)?
-                        && rotates_alike::<CAP>(alloc, start, len, to)?,
+                        && removes_alike::<CAP>(alloc, start, len, to)?,
                     "index {to} of {CAP}, start {start}, length {len}"
                 );
                 for from in 0..=to {
                     assert!(rt;
                         parts_alike::<CAP>(alloc, start, len, from, to)?
-                            && lends_alike::<CAP>(alloc, start, len, from, to)?
                             && writes_alike::<CAP>(alloc, start, len, from, to)?,
                         "{from} to {to} of {CAP}, start {start}, length {len}"
                     );
@@ -248,64 +208,5 @@ fn every_start_length_and_stretch(rt: HostRuntime) -> Result<(), Fail> {
     compare_all::<7>(&rt, rt.alloc())?;
     compare_all::<8>(&rt, rt.alloc())?;
     compare_all::<16>(&rt, rt.alloc())?;
-    Ok(())
-}
-
-/// Whether two deques, one of the first `at` items of a plain list and one of the others, become
-/// what their capacities make of that list, under either policy.
-fn appends_alike<const CAP: usize, const N: usize>(
-    alloc: Global,
-    starts: (usize, usize),
-    at: usize,
-    len: usize,
-) -> Result<bool, Fail> {
-    let list = numbers(alloc, len)?;
-    if at > list.len() {
-        return Ok(false);
-    }
-    let mut saturating = deque_at::<CAP>(alloc, starts.0, &list[..at])?;
-    let mut left = wrapping_at::<N>(alloc, starts.1, &list[at..])?;
-    saturating.append(&mut left);
-    let mut wrapping = wrapping_at::<CAP>(alloc, starts.0, &list[..at])?;
-    let mut emptied = deque_at::<N>(alloc, starts.1, &list[at..])?;
-    wrapping.append(&mut emptied);
-    let kept = list.len().min(CAP);
-    Ok(
-        holds(&saturating, &list[..kept])
-            && holds(&left, &list[kept..])
-            && holds(&wrapping, &list[list.len() - kept..])
-            && emptied.is_empty(),
-    )
-}
-
-/// Appends at each start and length of either deque.
-fn append_all<const CAP: usize, const N: usize>(
-    rt: &impl Abort,
-    alloc: Global,
-) -> Result<(), Fail> {
-    for start in 0..CAP {
-        for other_start in 0..N {
-            for at in 0..=CAP {
-                for more in 0..=N {
-                    let starts = (start, other_start);
-                    assert!(rt;
-                        appends_alike::<CAP, N>(alloc, starts, at, at.wrapping_add(more))?,
-                        "{at} of {CAP} and {more} of {N}, starts {starts:?}"
-                    );
-                }
-            }
-        }
-    }
-    Ok(())
-}
-
-#[test]
-fn appends_at_every_start_and_length(rt: HostRuntime) -> Result<(), Fail> {
-    append_all::<1, 1>(&rt, rt.alloc())?;
-    append_all::<1, 4>(&rt, rt.alloc())?;
-    append_all::<3, 2>(&rt, rt.alloc())?;
-    append_all::<3, 5>(&rt, rt.alloc())?;
-    append_all::<4, 4>(&rt, rt.alloc())?;
-    append_all::<5, 3>(&rt, rt.alloc())?;
     Ok(())
 }
