@@ -11,7 +11,6 @@ use std::alloc::{AllocError, Global};
 use std::fmt::Write;
 use std::io;
 use std::io::ErrorKind;
-use std::ops::Range;
 use std::test::Fail;
 
 /// The words after the program's name.
@@ -247,87 +246,6 @@ fn a_long_run_is_whole(rt: HostRuntime) -> Result<(), Fail> {
             fails(rt.alloc(), "sat 0", input, refused.as_str(), calls)?,
             "at {call}"
         );
-    }
-    Ok(())
-}
-
-/// A hundred thousand lines that push a number each, and one that adds them all.
-fn long_lines(alloc: Global) -> Result<String, AllocError> {
-    let mut lines = String::new(alloc);
-    for number in 0..100_000 {
-        writeln!(lines, "push_back {number}")?;
-    }
-    lines.push_str("extend_back")?;
-    for number in 0..100_000 {
-        write!(lines, " {number}")?;
-    }
-    lines.push_str("\n")?;
-    Ok(lines)
-}
-
-/// What they print: three replies alike, this word with each number, and the list.
-fn long_replies(
-    alloc: Global,
-    first: &str,
-    word: &str,
-    numbers: Range<i64>,
-    list: &str,
-) -> Result<String, AllocError> {
-    let mut text = String::new(alloc);
-    for _ in 0..3 {
-        writeln!(text, "{first}")?;
-    }
-    for number in numbers {
-        writeln!(text, "{word}{number}")?;
-    }
-    writeln!(text, "ok\nlist: {list}")?;
-    Ok(text)
-}
-
-/// A bad line behind many others is blamed, and if the flush fails, some beginning was written.
-#[test]
-fn a_hundred_thousand_lines_are_run(rt: HostRuntime) -> Result<(), Fail> {
-    let mut lines = long_lines(rt.alloc())?;
-    let unflushed = Calls::failing(usize::MAX, 1, 1, ErrorKind::Other);
-    for (words, first, word, numbers, list) in [
-        ("sat 3", "ok", "full ", 3..100_000, "[0, 1, 2]"),
-        ("wrap 3", "none", "", 0..99_997, "[99997, 99998, 99999]"),
-    ] {
-        let text = long_replies(rt.alloc(), first, word, numbers, list)?;
-        assert!(rt;
-            prints(rt.alloc(), words, lines.as_bytes(), text.as_str())?
-                && fails(
-                    rt.alloc(),
-                    words,
-                    lines.as_bytes(),
-                    text.as_str(),
-                    unflushed
-                )?,
-            "{words}"
-        );
-    }
-    lines.push_str("drain 0 x")?;
-    for words in ["sat 3", "wrap 3"] {
-        assert!(rt;
-            blames(rt.alloc(), words, lines.as_bytes(), 100_002)?,
-            "{words}"
-        );
-    }
-    Ok(())
-}
-
-/// A line whose word is behind so many spaces that a read ends within it, or beside it.
-#[test]
-fn an_input_is_read_to_its_end(rt: HostRuntime) -> Result<(), Fail> {
-    for piece in [8192, 65_536, 131_072, 262_144] {
-        for size in piece - 4..piece + 2 {
-            let mut line = Vec::new(rt.alloc());
-            line.resize(size, b' ')?;
-            line.extend_from_slice(b"len")?;
-            assert!(rt; prints(rt.alloc(), "wrap 5", line.as_slice(), "0\nlist: []\n")?);
-            line.extend_from_slice(b"x")?;
-            assert!(rt; blames(rt.alloc(), "wrap 5", line.as_slice(), 1)?);
-        }
     }
     Ok(())
 }
