@@ -1,6 +1,9 @@
-//! Tests of whole lists of calls, and of their replies; there is nothing here to call.
+//! Tests of whole lists of calls and of their replies, and of the smallest and the largest
+//! capacities; there is nothing here to call.
 #![tactic(auto)]
 
+#[cfg(test)]
+mod largest;
 #[cfg(test)]
 mod refusals;
 #[cfg(test)]
@@ -9,3 +12,7 @@ mod replies;
 mod run;
 #[cfg(test)]
 mod smallest;
+#[cfg(test)]
+mod smallest_calls;
+#[cfg(test)]
+mod smallest_iterators;

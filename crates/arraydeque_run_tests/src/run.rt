@@ -7,67 +7,6 @@ use std::alloc::Global;
 use std::test::Fail;
 
 #[test]
-fn each_call_has_its_reply(rt: HostRuntime) -> Result<(), Fail> {
-    let rows = vec![in rt.alloc();
-        (Call::PushFront(1), "done"),
-        (Call::PushFront(2), "done"),
-        (Call::PushFront(3), "done"),
-        (Call::PushFront(4), "full 4"),
-        (Call::PopBack, "1"),
-        (Call::Len, "number 2"),
-    ]?;
-    let mut deque = deque_at::<3>(rt.alloc(), 0, &[])?;
-    run(&rt, rt.alloc(), &mut deque, rows)?;
-    assert!(rt; holds(&deque, &[3, 2]));
-    Ok(())
-}
-
-#[test]
-fn the_other_calls_have_theirs(rt: HostRuntime) -> Result<(), Fail> {
-    let rows = vec![in rt.alloc();
-        (Call::PushBack(0), "done"),
-        (Call::PopFront, "0"),
-        (Call::IsEmpty, "true"),
-        (Call::PopFront, "none"),
-        (Call::PopBack, "none"),
-        (Call::PushBack(5), "done"),
-        (Call::PushBack(6), "done"),
-        (Call::PushBack(7), "full 7"),
-        (Call::IsEmpty, "false"),
-        (Call::Capacity, "number 2"),
-        (Call::PopFront, "5"),
-    ]?;
-    let mut deque = deque_at::<2>(rt.alloc(), 0, &[])?;
-    run(&rt, rt.alloc(), &mut deque, rows)?;
-    assert!(rt; holds(&deque, &[6]));
-    Ok(())
-}
-
-#[test]
-fn edits_have_their_replies(rt: HostRuntime) -> Result<(), Fail> {
-    let rows = vec![in rt.alloc();
-        (Call::Insert(0, 3), "done"),
-        (Call::Insert(0, 1), "done"),
-        (Call::Insert(1, 2), "done"),
-        (Call::Insert(1, 4), "full 4"),
-        (Call::Insert(4, 9), "range 9"),
-        (Call::Swap(0, 3), "range"),
-        (Call::Swap(3, 0), "range"),
-        (Call::Swap(0, 2), "done"),
-        (Call::Remove(3), "none"),
-        (Call::Remove(1), "2"),
-        (Call::SwapRemoveBack(0), "3"),
-        (Call::SwapRemoveFront(1), "none"),
-        (Call::SwapRemoveFront(0), "1"),
-        (Call::Clear, "done"),
-    ]?;
-    let mut deque = deque_at::<3>(rt.alloc(), 0, &[])?;
-    run(&rt, rt.alloc(), &mut deque, rows)?;
-    assert!(rt; deque.is_empty());
-    Ok(())
-}
-
-#[test]
 fn parts_have_their_replies(rt: HostRuntime) -> Result<(), Fail> {
     let rows = vec![in rt.alloc();
         (Call::SplitOff(4), "range"),
@@ -101,37 +40,6 @@ fn parts_have_their_replies(rt: HostRuntime) -> Result<(), Fail> {
         run(&rt, rt.alloc(), &mut deque, rows)?;
         assert!(rt; holds(&deque, left), "at {at}");
     }
-    Ok(())
-}
-
-#[test]
-fn a_wrapping_deque_has_its_replies(rt: HostRuntime) -> Result<(), Fail> {
-    let rows = vec![in rt.alloc();
-        (Call::ExtendBack(vec![in rt.alloc(); 1, 2, 3, 4]?), "done"),
-        (Call::Insert(0, 9), "unoffered 9"),
-        (Call::Insert(9, 9), "unoffered 9"),
-        (Call::PushBack(5), "displaced 2"),
-        (Call::PushFront(2), "displaced 5"),
-        (Call::Drain(0, 1), "drained [2]"),
-        (Call::Drain(1, 9), "range"),
-        (Call::PopFront, "3"),
-        (Call::PushBack(6), "displaced none"),
-        (Call::Extend(vec![in rt.alloc(); 7, 8]?), "done"),
-        (Call::ExtendFront(vec![in rt.alloc(); 1, 0]?), "done"),
-        (Call::IsFull, "true"),
-    ]?;
-    let mut deque = wrapping_at::<3>(rt.alloc(), 0, &[])?;
-    run(&rt, rt.alloc(), &mut deque, rows)?;
-    assert!(rt; holds(&deque, &[0, 1, 6]));
-    Ok(())
-}
-
-#[test]
-fn a_linearize_lays_the_list_in_one_piece(rt: HostRuntime) -> Result<(), Fail> {
-    let mut deque = wrapping_at::<4>(rt.alloc(), 2, &[2, 3, 4, 5])?;
-    assert!(rt; deque.as_slices().1 == [4, 5].as_slice());
-    made(deque.run(vec![in rt.alloc(); Call::Linearize]?))?;
-    assert!(rt; deque.as_slices().0 == [2, 3, 4, 5].as_slice());
     Ok(())
 }
 

@@ -326,6 +326,20 @@ fn a_deque_prints_as_a_list(rt: HostRuntime) -> Result<(), Fail> {
     Ok(())
 }
 
+#[test]
+fn debug_texts(rt: HostRuntime) -> Result<(), Fail> {
+    let alloc = rt.alloc();
+    assert!(rt;
+        prints(alloc, &deque_at::<0>(alloc, 0, &[])?, "[]")?
+            && prints(alloc, &wrapping_at::<0>(alloc, 0, &[])?, "[]")?
+            && prints(alloc, &deque_at::<1>(alloc, 0, &[])?, "[]")?
+            && prints(alloc, &wrapping_at::<1>(alloc, 0, &[])?, "[]")?
+            && prints(alloc, &deque_at::<1>(alloc, 0, &[6])?, "[6]")?
+            && prints(alloc, &wrapping_at::<1>(alloc, 0, &[6])?, "[6]")?
+    );
+    Ok(())
+}
+
 /// Whether an error's `{}` and `{:?}` are these texts.
 fn says<T: Error>(alloc: Global, error: &T, text: &str, debug: &str) -> Result<bool, Fail> {
     Ok(format!(in alloc; "{error}")?.as_str() == text && prints(alloc, error, debug)?)

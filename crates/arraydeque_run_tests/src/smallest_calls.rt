@@ -1,7 +1,9 @@
-//! Calls that mean the same under either policy.
+//! Calls at the capacities 0 and 1, under either policy: all that the Rust crate has too, except
+//! iterators (`smallest_iterators`), extends at either end, which a run makes (`smallest`), and
+//! texts (`arraydeque_trait_tests`).
 use arraydeque::behavior::Behavior;
-use arraydeque::{ArrayDeque, Saturating, Wrapping};
-use arraydeque_samples::build::{deque_at, holds, is_cut, wrapping_at};
+use arraydeque::{ArrayDeque, CapacityError, Saturating, Wrapping};
+use arraydeque_samples::build::{deque_at, holds, is_cut, made, wrapping_at};
 use std::alloc::Global;
 use std::cmp::Ordering;
 use std::hash::{DefaultHasher, Hash, Hasher};
@@ -86,15 +88,6 @@ fn compares_as<const CAP: usize, B: Behavior>(
     )
 }
 
-/// Whether a deque prints as that text.
-fn prints<const CAP: usize, B: Behavior>(
-    alloc: Global,
-    deque: &ArrayDeque<i64, CAP, B>,
-    text: &str,
-) -> Result<bool, Fail> {
-    Ok(format!(in alloc; "{deque:?}")?.as_str() == text)
-}
-
 /// Whether a new deque is empty in every way.
 fn is_nothing<const CAP: usize, B: Behavior>(alloc: Global) -> Result<bool, Fail> {
     let mut deque = ArrayDeque::<i64, CAP, B>::new(alloc)?;
@@ -116,9 +109,6 @@ fn no_items_of_no_places_0_requests_0_bytes(rt: HostRuntime) -> Result<(), Fail>
 
 /// Whether the one item is read.
 fn reads_one<B: Behavior>(deque: &mut ArrayDeque<i64, 1, B>) -> bool {
-    deque.truncate(1);
-    deque.truncate_front(2);
-    deque.resize(1, 7);
     deque.linearize();
     (deque.len(), deque.capacity()) == (1, 1)
         && (deque.is_empty(), deque.is_full()) == (false, true)
@@ -129,29 +119,7 @@ fn reads_one<B: Behavior>(deque: &mut ArrayDeque<i64, 1, B>) -> bool {
         && (deque.len() == 1 && deque[0] == 6)
 }
 
-/// Whether the one item is lent and found, also once it has changed ends.
-fn finds_one<B: Behavior>(deque: &mut ArrayDeque<i64, 1, B>) -> bool {
-    for count in [0, 1] {
-        if count <= deque.len() {
-            deque.rotate_left(count);
-        }
-        if count <= deque.len() {
-            deque.rotate_right(count);
-        }
-    }
-    deque.linearize();
-    deque.as_slice() == [6].as_slice()
-        && deque.range(..).next() == Some(&6)
-        && (
-            deque.partition_point(|_| true),
-            deque.partition_point(|_| false),
-        ) == (1, 0)
-        && (deque.binary_search(&6), deque.binary_search(&7)) == (Ok(0), Err(1))
-        && deque.binary_search_by(|item| item.cmp(&6)) == Ok(0)
-        && deque.binary_search_by_key(&5, |item| *item) == Err(0)
-}
-
-/// Whether the one item is written over where it stands, or by a resize, and is 6 again.
+/// Whether the one item is written over where it stands, and is 6 again.
 fn writes_one<B: Behavior>(deque: &mut ArrayDeque<i64, 1, B>) -> bool {
     if let Some(item) = deque.front_mut() {
         *item = 7;
@@ -165,25 +133,11 @@ fn writes_one<B: Behavior>(deque: &mut ArrayDeque<i64, 1, B>) -> bool {
         *item = 9;
     }
     let by_get = holds(deque, &[9]);
-    deque.retain_mut(|item| {
-        *item = 5;
-        true
-    });
-    let by_retain_mut = holds(deque, &[5]);
-    deque.clear();
-    deque.resize(1, 4);
-    let by_resize = holds(deque, &[4]);
     if deque.len() == 1 {
         deque[0] = 6;
         deque.swap(0, 0);
     }
-    by_the_front
-        && by_the_back
-        && by_get
-        && by_retain_mut
-        && by_resize
-        && deque.get_mut(1).is_none()
-        && holds(deque, &[6])
+    by_the_front && by_the_back && by_get && deque.get_mut(1).is_none() && holds(deque, &[6])
 }
 
 /// Whether a drain gives the one item.
@@ -213,8 +167,7 @@ fn has_two_parts<B: Behavior>(mut deque: ArrayDeque<i64, 1, B>) -> Result<bool, 
 /// Whether one item is there in every way, and is parted at last.
 fn is_one<B: Behavior>(mut deque: ArrayDeque<i64, 1, B>) -> Result<bool, Fail> {
     Ok(
-        finds_one(&mut deque)
-            && reads_one(&mut deque)
+        reads_one(&mut deque)
             && writes_one(&mut deque)
             && compares_as(&deque, &[6])?
             && has_two_parts(deque)?,
@@ -231,36 +184,16 @@ fn no_items_and_one_item_of_one_place(rt: HostRuntime) -> Result<(), Fail> {
     Ok(())
 }
 
-#[test]
-fn debug_texts(rt: HostRuntime) -> Result<(), Fail> {
-    let alloc = rt.alloc();
-    assert!(rt;
-        prints(alloc, &deque_at::<0>(alloc, 0, &[])?, "[]")?
-            && prints(alloc, &wrapping_at::<0>(alloc, 0, &[])?, "[]")?
-            && prints(alloc, &deque_at::<1>(alloc, 0, &[])?, "[]")?
-            && prints(alloc, &wrapping_at::<1>(alloc, 0, &[])?, "[]")?
-            && prints(alloc, &deque_at::<1>(alloc, 0, &[6])?, "[6]")?
-            && prints(alloc, &wrapping_at::<1>(alloc, 0, &[6])?, "[6]")?
-    );
-    Ok(())
-}
-
 /// A call that takes the one item out.
 #[derive(Clone, Copy, Debug)]
 enum Out {
     Front,
     Back,
-    FrontIf,
-    BackIf,
     Remove,
     SwapBack,
     SwapFront,
     Clear,
-    Truncate,
-    TruncateFront,
-    Resize,
     Retain,
-    RetainMut,
 }
 
 /// Takes the item at index 0 out in that way. Returns it, or 6 where the call returns nothing.
@@ -268,8 +201,6 @@ fn take_out<B: Behavior>(deque: &mut ArrayDeque<i64, 1, B>, out: Out) -> Option<
     match out {
         Out::Front => deque.pop_front(),
         Out::Back => deque.pop_back(),
-        Out::FrontIf => deque.pop_front_if(|item| *item == 6),
-        Out::BackIf => deque.pop_back_if(|item| *item == 6),
         Out::Remove => deque.remove(0),
         Out::SwapBack => deque.swap_remove_back(0),
         Out::SwapFront => deque.swap_remove_front(0),
@@ -277,24 +208,8 @@ fn take_out<B: Behavior>(deque: &mut ArrayDeque<i64, 1, B>, out: Out) -> Option<
             deque.clear();
             Some(6)
         }
-        Out::Truncate => {
-            deque.truncate(0);
-            Some(6)
-        }
-        Out::TruncateFront => {
-            deque.truncate_front(0);
-            Some(6)
-        }
-        Out::Resize => {
-            deque.resize(0, 7);
-            Some(6)
-        }
         Out::Retain => {
             deque.retain(|item| *item != 6);
-            Some(6)
-        }
-        Out::RetainMut => {
-            deque.retain_mut(|item| *item != 6);
             Some(6)
         }
     }
@@ -321,20 +236,192 @@ fn one_place_is_free_once_its_item_goes(rt: HostRuntime) -> Result<(), Fail> {
     let ways = [
         Out::Front,
         Out::Back,
-        Out::FrontIf,
-        Out::BackIf,
         Out::Remove,
         Out::SwapBack,
         Out::SwapFront,
         Out::Clear,
-        Out::Truncate,
-        Out::TruncateFront,
-        Out::Resize,
         Out::Retain,
-        Out::RetainMut,
     ];
     for out in ways {
         assert!(rt; is_free_after(rt.alloc(), out)?, "{out:?}");
     }
+    Ok(())
+}
+
+type Refusing<const CAP: usize> = ArrayDeque<i64, CAP, Saturating>;
+
+type Displacing<const CAP: usize> = ArrayDeque<i64, CAP, Wrapping>;
+
+/// Whether a deque of no places, which has just been pushed to, stays empty until it is dropped.
+fn stays_empty<B: Behavior>(mut deque: ArrayDeque<i64, 0, B>) -> bool {
+    deque.clear();
+    let is_cleared = is_cut(&deque, &[], &[]);
+    deque.linearize();
+    let is_empty = is_cut(&deque, &[], &[]) && deque.len() == 0;
+    drop(deque);
+    is_cleared && is_empty
+}
+
+/// Whether a deque of no places hands each element back.
+fn refuses_all(alloc: Global) -> Result<bool, Fail> {
+    let mut deque = Refusing::<0>::new(alloc)?;
+    let is_refused = deque.push_back(5) == Err(CapacityError { element: 5 });
+    let mut other = Refusing::<0>::new(alloc)?;
+    Ok(
+        is_refused
+            && stays_empty(deque)
+            && other.push_front(6) == Err(CapacityError { element: 6 })
+            && other.len() == 0
+            && other.insert(0, 7) == Err(CapacityError { element: 7 })
+            && stays_empty(other),
+    )
+}
+
+/// Whether a deque of no places gives each item up.
+fn displaces_all(alloc: Global) -> Result<bool, Fail> {
+    let mut deque = Displacing::<0>::new(alloc)?;
+    let is_given_up = deque.push_back(5) == Some(5);
+    let mut other = Displacing::<0>::new(alloc)?;
+    Ok(is_given_up && stays_empty(deque) && other.push_front(6) == Some(6) && stays_empty(other))
+}
+
+/// Whether one place takes one item, and hands back what comes then.
+fn refuses_at_one(alloc: Global) -> Result<bool, Fail> {
+    let mut deque = Refusing::<1>::new(alloc)?;
+    let mut front = Refusing::<1>::new(alloc)?;
+    Ok(
+        deque.push_back(6) == Ok(())
+            && deque.push_back(7) == Err(CapacityError { element: 7 })
+            && deque.push_front(7) == Err(CapacityError { element: 7 })
+            && deque.len() == 1
+            && deque.insert(1, 8) == Err(CapacityError { element: 8 })
+            && deque.insert(0, 9) == Err(CapacityError { element: 9 })
+            && holds(&deque, &[6])
+            && front.push_front(6) == Ok(())
+            && holds(&front, &[6]),
+    )
+}
+
+/// Whether one place takes one item, and gives it up for what comes then.
+fn displaces_at_one(alloc: Global) -> Result<bool, Fail> {
+    let mut deque = Displacing::<1>::new(alloc)?;
+    let mut front = Displacing::<1>::new(alloc)?;
+    Ok(
+        (deque.push_back(6), deque.push_back(7), deque.push_front(8)) == (None, Some(6), Some(7))
+            && holds(&deque, &[8])
+            && front.push_front(6).is_none()
+            && holds(&front, &[6]),
+    )
+}
+
+/// Whether 3 and 4, added by the trait to a deque of these items, leave the list.
+fn refusing_extends<const CAP: usize>(
+    alloc: Global,
+    items: &[i64],
+    left: &[i64],
+) -> Result<bool, Fail> {
+    let mut deque = deque_at::<CAP>(alloc, 0, items)?;
+    deque.extend([3, 4])?;
+    Ok(holds(&deque, left))
+}
+
+/// The same under the policy that displaces.
+fn displacing_extends<const CAP: usize>(
+    alloc: Global,
+    items: &[i64],
+    left: &[i64],
+) -> Result<bool, Fail> {
+    let mut deque = wrapping_at::<CAP>(alloc, 0, items)?;
+    deque.extend([3, 4])?;
+    Ok(holds(&deque, left))
+}
+
+/// Whether the deques of 1 and 2 keep these items, and that of a vector keeps those.
+fn refusing_makers<const CAP: usize>(
+    alloc: Global,
+    kept: &[i64],
+    list: Vec<i64>,
+    kept_of_list: &[i64],
+) -> Result<bool, Fail> {
+    Ok(
+        holds(&made(Refusing::<CAP>::from_iter(alloc, 1..3))?, kept)
+            && holds(&made(Refusing::<CAP>::from_array(alloc, [1, 2]))?, kept)
+            && holds(&made(Refusing::<CAP>::from_vec(alloc, list))?, kept_of_list),
+    )
+}
+
+/// The same under the policy that displaces.
+fn displacing_makers<const CAP: usize>(
+    alloc: Global,
+    kept: &[i64],
+    list: Vec<i64>,
+    kept_of_list: &[i64],
+) -> Result<bool, Fail> {
+    Ok(
+        holds(&made(Displacing::<CAP>::from_iter(alloc, 1..3))?, kept)
+            && holds(&made(Displacing::<CAP>::from_array(alloc, [1, 2]))?, kept)
+            && holds(
+                &made(Displacing::<CAP>::from_vec(alloc, list))?,
+                kept_of_list,
+            ),
+    )
+}
+
+/// Whether a deque of these items keeps them under the other policy, and under the first again.
+fn are_converted<const CAP: usize>(alloc: Global, items: &[i64]) -> Result<bool, Fail> {
+    let wrapping: Displacing<CAP> = deque_at::<CAP>(alloc, 0, items)?.into();
+    let is_wrapping = is_cut(&wrapping, items, &[]);
+    let saturating: Refusing<CAP> = wrapping.into();
+    Ok(is_wrapping && is_cut(&saturating, items, &[]))
+}
+
+#[test]
+fn no_places_0_requests_0_bytes(rt: HostRuntime) -> Result<(), Fail> {
+    let alloc = rt.alloc();
+    assert!(rt;
+        refuses_all(alloc)?
+            && displaces_all(alloc)?
+            && refusing_extends::<0>(alloc, &[], &[])?
+            && displacing_extends::<0>(alloc, &[], &[])?
+            && refusing_makers::<0>(alloc, &[], Vec::new(alloc), &[])?
+            && displacing_makers::<0>(alloc, &[], Vec::new(alloc), &[])?
+            && are_converted::<0>(alloc, &[])?
+    );
+    Ok(())
+}
+
+#[test]
+fn a_vector_and_a_deque_into_no_places(rt: HostRuntime) -> Result<(), Fail> {
+    let (list, other) = (vec![in rt.alloc(); 1, 2]?, vec![in rt.alloc(); 1, 2]?);
+    let mut none = deque_at::<0>(rt.alloc(), 0, &[])?;
+    let mut two = wrapping_at::<2>(rt.alloc(), 0, &[3, 4])?;
+    none.append(&mut two);
+    assert!(rt;
+        refusing_makers::<0>(rt.alloc(), &[], list, &[])?
+            && displacing_makers::<0>(rt.alloc(), &[], other, &[])?
+            && none.is_empty()
+            && holds(&two, &[3, 4])
+    );
+    Ok(())
+}
+
+#[test]
+fn one_place(rt: HostRuntime) -> Result<(), Fail> {
+    let alloc = rt.alloc();
+    let (list, other) = (vec![in alloc; 1, 2]?, vec![in alloc; 1, 2]?);
+    assert!(rt;
+        refuses_at_one(alloc)?
+            && displaces_at_one(alloc)?
+            && refusing_extends::<1>(alloc, &[], &[3])?
+            && refusing_extends::<1>(alloc, &[1], &[1])?
+            && displacing_extends::<1>(alloc, &[], &[4])?
+            && displacing_extends::<1>(alloc, &[1], &[4])?
+    );
+    assert!(rt;
+        refusing_makers::<1>(alloc, &[1], list, &[1])?
+            && displacing_makers::<1>(alloc, &[2], other, &[2])?
+            && are_converted::<1>(alloc, &[])?
+            && are_converted::<1>(alloc, &[6])?
+    );
     Ok(())
 }

@@ -1,4 +1,4 @@
-//! Iterators of no items and of one, under either policy.
+//! Iterators of no items and of one, at the capacities 0 and 1, under either policy.
 use arraydeque::behavior::Behavior;
 use arraydeque::{ArrayDeque, IntoIter, Iter, IterMut, Saturating, Wrapping};
 use arraydeque_samples::build::{deque_at, holds, made, wrapping_at};
@@ -88,25 +88,6 @@ fn has_one(mut front: Iter<'_, i64>, mut back: Iter<'_, i64>) -> Result<bool, Al
     )
 }
 
-/// Whether a deque lends its one item.
-fn lends_one<B: Behavior>(deque: &ArrayDeque<i64, 1, B>) -> Result<bool, AllocError> {
-    has_one(deque.iter(), deque.into_iter())
-}
-
-/// Whether the one item is called on once, by a `fold` and by a `for_each` of either iterator.
-fn calls_on_one<B: Behavior>(mut deque: ArrayDeque<i64, 1, B>) -> bool {
-    let mut total = deque.iter().fold(1_i64, |total, item| {
-        total.wrapping_mul(10).wrapping_add(*item)
-    });
-    deque
-        .iter()
-        .for_each(|item| total = total.wrapping_mul(10).wrapping_add(*item));
-    deque
-        .iter_mut()
-        .for_each(|item| *item = item.wrapping_add(1));
-    total == 166 && holds(&deque, &[7])
-}
-
 /// Whether an iterator lends one item for writing, from the end that is asked for, and no more.
 /// It becomes the number.
 fn writes_over(mut items: IterMut<'_, i64>, is_back: bool, number: i64) -> bool {
@@ -125,68 +106,24 @@ fn writes_over(mut items: IterMut<'_, i64>, is_back: bool, number: i64) -> bool 
         && items.len() == 0
 }
 
-/// Whether the one item is written over by an iterator, from the front.
-fn is_written_by_iter_mut<B: Behavior>(mut deque: ArrayDeque<i64, 1, B>) -> bool {
+/// Whether the one item is written over by an iterator, by that of a loan, and in the first slice.
+fn writes_over_one<B: Behavior>(mut deque: ArrayDeque<i64, 1, B>) -> bool {
     let is_lent = writes_over(deque.iter_mut(), false, 7);
-    is_lent && holds(&deque, &[7])
-}
-
-/// Whether it is by the iterator of a loan, from the back.
-fn is_written_by_a_loan<B: Behavior>(mut deque: ArrayDeque<i64, 1, B>) -> bool {
+    let by_iter_mut = is_lent && holds(&deque, &[7]);
     let is_lent = writes_over((&mut deque).into_iter(), true, 8);
-    is_lent && holds(&deque, &[8])
-}
-
-/// Whether it is by the iterator over a range, from the back.
-fn is_written_by_range_mut<B: Behavior>(mut deque: ArrayDeque<i64, 1, B>) -> bool {
-    let is_lent = writes_over(deque.range_mut(..), true, 4);
-    is_lent && holds(&deque, &[4])
-}
-
-/// Whether it stands in the first slice for writing. It becomes 9.
-fn writes_in_slices<B: Behavior>(deque: &mut ArrayDeque<i64, 1, B>) -> bool {
+    let by_a_loan = is_lent && holds(&deque, &[8]);
     let (front, back) = deque.as_mut_slices();
     let is_whole = front.len() == 1 && back.is_empty();
     if let Some(item) = front.first_mut() {
         *item = 9;
     }
-    is_whole
-}
-
-/// Whether the one item is written over in the one slice of a list that is in one piece.
-fn is_written_in_one_slice<B: Behavior>(mut deque: ArrayDeque<i64, 1, B>) -> bool {
-    deque.linearize();
-    deque.as_mut_slice().fill(5);
-    holds(&deque, &[5])
-}
-
-/// Whether it is written in place: by a closure, called on all items and on a range, and in the
-/// first of the two slices.
-fn is_written_in_place<B: Behavior>(mut deque: ArrayDeque<i64, 1, B>) -> bool {
-    deque.for_each_mut(|item| *item = item.wrapping_mul(2));
-    deque.for_each_mut_in(.., |item| *item = item.wrapping_add(1));
-    let is_called = holds(&deque, &[13]);
-    deque.first_slice_mut().fill(7);
-    is_called && deque.second_slice_mut().is_empty() && holds(&deque, &[7])
-}
-
-/// Whether the one item is written over in every way.
-fn writes_over_one<B: Behavior>(mut deque: ArrayDeque<i64, 1, B>) -> Result<bool, Fail> {
-    let is_lent = is_written_by_iter_mut(deque.clone()?)
-        && is_written_by_a_loan(deque.clone()?)
-        && is_written_by_range_mut(deque.clone()?)
-        && is_written_in_one_slice(deque.clone()?)
-        && is_written_in_place(deque.clone()?);
-    let is_whole = writes_in_slices(&mut deque);
-    Ok(is_lent && is_whole && holds(&deque, &[9]))
+    by_iter_mut && by_a_loan && is_whole && holds(&deque, &[9])
 }
 
 /// Whether a deque and its clones lend their one item for reading and writing, and give it to an
 /// iterator, from either end, and to a vector.
 fn gives_one<B: Behavior>(deque: ArrayDeque<i64, 1, B>) -> Result<bool, Fail> {
-    let is_lent = lends_one(&deque)?
-        && calls_on_one(deque.clone()?)
-        && writes_over_one(deque.clone()?)?;
+    let is_lent = has_one(deque.iter(), (&deque).into_iter())? && writes_over_one(deque.clone()?);
     let list = made(deque.clone()?.into_vec())?;
     let mut front = deque.clone()?.into_iter();
     let mut back = deque.into_iter();
