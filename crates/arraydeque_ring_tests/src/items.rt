@@ -1,4 +1,9 @@
-//! Items of every size that are told apart.
+//! Items of every size that are told apart, and rings of them.
+use arraydeque_ring::ring::Ring;
+use std::alloc::Global;
+use std::process::Abort;
+use std::test::Fail;
+
 /// Items that are told apart by a number, where they take any bytes.
 pub(crate) trait Numbered: Drop {
     fn of(number: u8) -> Self;
@@ -75,4 +80,25 @@ impl Numbered for Wide {
         let [first, .., last] = self.bytes;
         if first == last { first } else { u8::MAX }
     }
+}
+
+/// A ring whose `len` items are numbered from 0 on, and stand from the place `start` on.
+pub(crate) fn ring_at<T: Numbered>(
+    rt: &impl Abort,
+    alloc: Global,
+    capacity: usize,
+    start: u8,
+    len: u8,
+) -> Result<Ring<T>, Fail> {
+    let mut ring = Ring::<T>::new(alloc, capacity)?;
+    for _ in 0..start {
+        assert!(rt; ring.len() < ring.capacity());
+        ring.push_back(T::of(0));
+        ring.pop_front();
+    }
+    for number in 0..len {
+        assert!(rt; ring.len() < ring.capacity());
+        ring.push_back(T::of(number));
+    }
+    Ok(ring)
 }

@@ -1,5 +1,5 @@
 //! Items that move across the region's end, in rings of items of every size.
-use crate::items::{Numbered, Three, Wide};
+use crate::items::{Numbered, Three, Wide, ring_at};
 use arraydeque_ring::ring::Ring;
 use std::alloc::Global;
 use std::process::Abort;
@@ -26,27 +26,6 @@ fn has_at<T: Numbered>(ring: &Ring<T>, index: usize, item: T) -> bool {
         Some(held) => held.number() == item.number(),
         None => false,
     }
-}
-
-/// A ring whose `len` items are numbered from 0 on, and stand from the place `start` on.
-fn ring_at<T: Numbered>(
-    rt: &impl Abort,
-    alloc: Global,
-    capacity: usize,
-    start: u8,
-    len: u8,
-) -> Result<Ring<T>, Fail> {
-    let mut ring = Ring::<T>::new(alloc, capacity)?;
-    for _ in 0..start {
-        assert!(rt; ring.len() < ring.capacity());
-        ring.push_back(T::of(0));
-        ring.pop_front();
-    }
-    for number in 0..len {
-        assert!(rt; ring.len() < ring.capacity());
-        ring.push_back(T::of(number));
-    }
-    Ok(ring)
 }
 
 /// Inserts an item, and takes it out again.
@@ -111,34 +90,6 @@ fn items_of_every_size_move_across_the_end(rt: HostRuntime) -> Result<(), Fail> 
     move_across_the_end::<u64>(&rt, rt.alloc())?;
     move_across_the_end::<Three>(&rt, rt.alloc())?;
     move_across_the_end::<Wide>(&rt, rt.alloc())
-}
-
-#[test]
-fn long_runs_move_across_the_end(rt: HostRuntime) -> Result<(), Fail> {
-    for start in [0, 20, 60] {
-        for index in [25, 33, 40] {
-            rotate(
-                &rt,
-                ring_at::<Three>(&rt, rt.alloc(), 70, start, 66)?,
-                index,
-                66,
-            );
-            insert_and_remove(
-                &rt,
-                ring_at::<Three>(&rt, rt.alloc(), 70, start, 66)?,
-                index,
-                66,
-            );
-            drain_between(
-                &rt,
-                ring_at::<Wide>(&rt, rt.alloc(), 70, start, 66)?,
-                20,
-                index,
-                66,
-            )?;
-        }
-    }
-    Ok(())
 }
 
 /// The number of the item at an index of a long list.
