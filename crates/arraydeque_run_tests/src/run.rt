@@ -9,19 +9,6 @@ use std::test::Fail;
 #[test]
 fn parts_have_their_replies(rt: HostRuntime) -> Result<(), Fail> {
     let rows = vec![in rt.alloc();
-        (Call::SplitOff(4), "range"),
-        (Call::Drain(2, 1), "range"),
-        (Call::Drain(1, 4), "range"),
-        (Call::Drain(1, 1), "drained []"),
-        (Call::Drain(0, 1), "drained [0]"),
-        (Call::SplitOff(1), "split [2]"),
-        (Call::SplitOff(1), "split []"),
-    ]?;
-    let mut deque = deque_at::<3>(rt.alloc(), 1, &[0, 1, 2])?;
-    run(&rt, rt.alloc(), &mut deque, rows)?;
-    assert!(rt; holds(&deque, &[1]));
-
-    let rows = vec![in rt.alloc();
         (Call::PushBack(4), "done"),
         (Call::Drain(1, 3), "drained [1, 2]"),
         (Call::PopFront, "0"),

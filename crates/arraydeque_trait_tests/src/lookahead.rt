@@ -198,19 +198,6 @@ fn looks_at_several_and_drops_several(alloc: Global) -> Result<bool, Fail> {
     Ok(scans(&mut scanner, &asked, &calls))
 }
 
-/// Whether a walk that is left early leaves the rest, also of what was looked at.
-fn leaves_the_rest_of_a_walk(alloc: Global) -> Result<bool, Fail> {
-    let mut scanner = made(Scanner::<_, 3>::new(alloc, [1, 2, 3, 4].into_iter()))?;
-    let seen = scanner.peek(2).copied();
-    for item in &mut scanner {
-        if item == 2 {
-            break;
-        }
-    }
-    let rest = (scanner.next(), scanner.next(), scanner.next());
-    Ok((seen, rest) == (Some(3), (Some(3), Some(4), None)))
-}
-
 #[test]
 fn scanners_answer_and_ask_as_they_should(rt: HostRuntime) -> Result<(), Fail> {
     assert!(rt; gives_the_input_and_what_was_put_back(rt.alloc())?);
@@ -219,6 +206,5 @@ fn scanners_answer_and_ask_as_they_should(rt: HostRuntime) -> Result<(), Fail> {
     assert!(rt; asks_for_no_more_than_it_wants(rt.alloc())?);
     assert!(rt; leaves_what_is_not_accepted(rt.alloc())?);
     assert!(rt; looks_at_several_and_drops_several(rt.alloc())?);
-    assert!(rt; leaves_the_rest_of_a_walk(rt.alloc())?);
     Ok(())
 }
