@@ -1,27 +1,24 @@
 //! The whole program, over any streams.
 ghost use Rattle.std.specs.Option.{option_zip};
-ghost use Rattle.std.specs.Prelude.{◌≡◌, ◌≤◌, ◌⊎◌, ◌∷◌, [], ◌++◌, Result, IfOk, IfErr, IfSome, OnOk, Some, None, ⊤, codes, flat_map, map, string_bytes};
-ghost use Rattle.std.specs.Io.KnownBytes.{IsAtEnd};
+ghost use Rattle.std.specs.Prelude.{◌≡◌, ◌≤◌, ◌∷◌, [], ◌++◌, Result, IfOk, IfErr, Some, None, ⊤, codes, flat_map, map, string_bytes};
 ghost use Rattle.arraydeque.specs.Machine.{answer_of};
-ghost use Rattle.adq.specs.Run.{policy_of, settings_of, Drives, IsOutcome, ReadsWhole, Reports, Writes};
+ghost use Rattle.adq.specs.Run.{policy_of, settings_of, Drives, IsOutcome, ReadsWhole, Reports};
 ghost use Rattle.adq.specs.Text.{text_of, list_text};
 ghost use Rattle.adq.specs.declared.fault.Fault.{Fault};
-ghost use Rattle.adq.specs.declared.fault.Fault.TheVariants.{Memory, Io};
+ghost use Rattle.adq.specs.declared.fault.Fault.TheVariants.{Memory};
 
 use crate::fault::Fault;
 use crate::line::calls;
 use crate::print::{print_deque, print_reply};
+use crate::streams::{read, write};
 use arraydeque::behavior::Behavior;
 use arraydeque::run::{Reply, RunPolicy};
 use arraydeque::{ArrayDeque, Saturating, Wrapping};
 use std::alloc::Global;
-use std::io::{ErrorKind, Read, Write};
+use std::io::{Read, Write};
 
 #[cfg(test)]
 mod tests;
-
-/// How many bytes of the input a read may give.
-const PIECE: usize = 8192;
 
 /// Runs the program on the words after its name, and returns its status.
 ///
@@ -63,12 +60,13 @@ fn write_run<R: Read, W: Write>(
         → input.new ≡ input.old }
 {
     let mut text = Vec::new(alloc);
-    let printed = dispatch(alloc, args, input, &mut text)?;
+    let printed = run_with(alloc, args, input, &mut text)?;
     write(output, printed.as_bytes())
 }
 
-/// Reads the text into `text`, and returns what it prints.
-fn dispatch<R: Read>(
+/// Reads the text into `text`, and returns what it prints at the capacity and under the policy that
+/// the words name.
+fn run_with<R: Read>(
     alloc: Global,
     args: &[String],
     input: &mut R,
@@ -83,23 +81,8 @@ fn dispatch<R: Read>(
     let [policy, capacity] = args else {
         return Err(Fault::Arguments);
     };
-    run_with(alloc, capacity.as_str(), policy.as_str(), input, text)
-}
-
-/// The same at the capacity that a word names, under the policy that another names.
-fn run_with<R: Read>(
-    alloc: Global,
-    capacity: &str,
-    policy: &str,
-    input: &mut R,
-    text: &mut Vec<u8>,
-) -> Result<String, Fault>
-    ensures outcome { IsOutcome
-        (settings_of (policy.now ∷ capacity.now ∷ [])) text.new.items result }
-    ensures whole { ReadsWhole (R.remaining input.old) text.old.items text.new.items result }
-    ensures unread { settings_of (policy.now ∷ capacity.now ∷ []) ≡ None → input.new ≡ input.old }
-{
-    match capacity {
+    let policy = policy.as_str();
+    match capacity.as_str() {
         "0" => run_at::<R, 0>(alloc, policy, input, text),
         "1" => run_at::<R, 1>(alloc, policy, input, text),
         "2" => run_at::<R, 2>(alloc, policy, input, text),
@@ -148,27 +131,6 @@ fn run_on<R: Read, const CAP: usize, B: RunPolicy<i64, CAP>>(
     print(alloc, replies, &deque)
 }
 
-/// Appends the input, up to its end. A read takes no memory from the program, so a failed one is a
-/// fault of the stream.
-fn read<R: Read>(input: &mut R, text: &mut Vec<u8>) -> Result<(), Fault>
-    ensures bytes { OnOk result (IfSome (R.remaining input.old)
-        (λ xs. text.new.items ≡ text.old.items ++ xs)) }
-    ensures end { OnOk result (IsAtEnd (R.remaining input.new)) }
-    ensures failed { IfErr result (λ fault. (fault ≡ Memory) ⊎ (fault ≡ Io)) }
-{
-    let mut piece = [0; PIECE];
-    for _ in 0..u64::MAX {
-        match input.read(&mut piece) {
-            Ok(0) => return Ok(()),
-            Ok(count) => text.extend_from_slice(&piece[..count])?,
-            Err(error) if error.kind() == ErrorKind::Interrupted => {}
-            Err(_) => return Err(Fault::Io),
-        }
-    }
-    // Most of so many reads were interrupted: no memory holds as many bytes.
-    Err(Fault::Io)
-}
-
 /// The text of the replies, and then of the list.
 fn print<const CAP: usize, B: Behavior>(
     alloc: Global,
@@ -187,24 +149,4 @@ fn print<const CAP: usize, B: Behavior>(
     text.push_str("list: ")?;
     print_deque(&mut text, deque)?;
     Ok(text)
-}
-
-/// Writes all of the output and flushes it, or writes some beginning of it.
-pub(crate) fn write<W: Write>(output: &mut W, printed: &[u8]) -> Result<(), Fault>
-    ensures { Writes (W.contents output.old) (W.contents output.new) printed.now result }
-{
-    let mut rest = printed;
-    for _ in 0..u64::MAX {
-        if rest.is_empty() {
-            return Ok(output.flush()?);
-        }
-        match output.write(rest) {
-            Ok(0) => return Err(Fault::Io),
-            Ok(count) => rest = &rest[count..],
-            Err(error) if error.kind() == ErrorKind::Interrupted => {}
-            Err(_) => return Err(Fault::Io),
-        }
-    }
-    // Most of so many writes were interrupted: no memory holds as many bytes.
-    Err(Fault::Io)
 }

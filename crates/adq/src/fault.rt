@@ -5,7 +5,7 @@ ghost use Rattle.adq.specs.Text.{fault_text, report_of};
 ghost use Rattle.adq.specs.declared.fault.Fault.{Fault};
 ghost use Rattle.adq.specs.declared.fault.Fault.TheVariants.{Io, Memory};
 
-use crate::drive::write;
+use crate::streams::write;
 use arraydeque::MakeError;
 use std::alloc::{AllocError, AllocFailed};
 use std::fmt::{InlineText, Write};

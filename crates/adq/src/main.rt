@@ -6,6 +6,7 @@ mod drive;
 mod fault;
 mod line;
 mod print;
+mod streams;
 
 use crate::drive::drive;
 use crate::fault::Fault;

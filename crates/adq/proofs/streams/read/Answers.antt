@@ -5,8 +5,8 @@ use Rattle.std.{
   },
   specs.Io.KnownBytes.{ReadConsumes, IsAtEnd},
 }
-use Rattle.adq.proofs.drive.read.Goals.{in-Ok+in_ok-extend_from_slice-in-Ok, in-Err}
-use Rattle.adq.proofs.drive.read.Goals as goal
+use Rattle.adq.proofs.streams.read.Goals.{in-Ok+in_ok-extend_from_slice-in-Ok, in-Err}
+use Rattle.adq.proofs.streams.read.Goals as goal
 
 pub loop-init : goal.loop-init
 loop-init g c = ([], sym (append-nil _), Consumes-nil _)

@@ -1,5 +1,5 @@
 use Rattle.std.{proofs.Common.{◌≡◌, ◌++◌, ℕ, List}, specs.Io.KnownBytes.Consumes}
-use Rattle.adq.proofs.drive.read.Given as goal
+use Rattle.adq.proofs.streams.read.Given as goal
 
 -- what was read so far, and nothing else, is what the reader lost
 abbrev pub invariant-loop : goal.invariant-loop

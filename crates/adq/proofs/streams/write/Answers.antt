@@ -6,8 +6,8 @@ use Rattle.std.{
   },
   specs.Io.KnownBytes.WriteAppends,
 }
-use Rattle.adq.proofs.drive.write.Goals.{in-Ok, in-Err}
-use Rattle.adq.proofs.drive.write.Goals as goal
+use Rattle.adq.proofs.streams.write.Goals.{in-Ok, in-Err}
+use Rattle.adq.proofs.streams.write.Goals as goal
 
 -- a write takes the first n bytes of the rest
 taken : (all done rest : List ℕ) (n : ℕ) → all ≡ done ++ rest

@@ -1,5 +1,5 @@
 use Rattle.std.{proofs.Common.{◌≡◌, ◌++◌, ℕ, List}, specs.Io.KnownBytes.Appends}
-use Rattle.adq.proofs.drive.write.Given as goal
+use Rattle.adq.proofs.streams.write.Given as goal
 
 -- what is gone from the output was written, and nothing else
 abbrev pub invariant-loop : goal.invariant-loop
