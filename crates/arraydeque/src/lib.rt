@@ -52,8 +52,8 @@
 //!
 //! - `deque[index]` and `swap`: indexes below the length. `insert`, `split_off`, `rotate_left` and
 //!   `rotate_right`: an index or a count up to the length.
-//! - `drain`, `range`, `range_mut` and `for_each_mut_in`: a range that is in order and ends within
-//!   the list.
+//! - `drain`, `remove_range`, `range`, `range_mut` and `for_each_mut_in`: a range that is in order
+//!   and ends within the list.
 //! - `resize`: a length up to `CAP`. (`truncate` and `truncate_front` take any.)
 //! - `as_slice` and `as_mut_slice`: a list in one piece, as `linearize` leaves it.
 //! - `extend_back`, `extend_front` and `from_iter` under [`Wrapping`], and `extend` under either

@@ -298,6 +298,19 @@ pub fn take_range<T, const CAP: usize, B: Behavior>(
     deque.drain(from..to)
 }
 
+/// Drops a range, and takes no memory for it.
+pub fn drop_range<T: Drop, const CAP: usize, B: Behavior>(
+    deque: &mut ArrayDeque<T, CAP, B>,
+    from: usize,
+    to: usize,
+)
+    requires in_order { from ≤ to }
+    requires in_bounds { to ≤ length deque.old.items }
+    ensures { deque.new.items ≡ take from deque.old.items ++ drop to deque.old.items }
+{
+    deque.remove_range(from..to);
+}
+
 /// A copy of a deque of numbers.
 pub fn clone<const CAP: usize, B: Behavior>(
     deque: &ArrayDeque<u64, CAP, B>,

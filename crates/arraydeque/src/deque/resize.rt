@@ -1,11 +1,16 @@
-//! Another length: drops all items or those at one end, or puts copies behind.
+//! Another length: drops all items, those at one end or those of a range, or puts copies behind.
 ghost use Rattle.std.specs.Prelude.{◌≡◌, ◌-◌, ◌≤◌, ◌++◌, [], length, take, replicate};
+ghost use Rattle.std.specs.List.{remove_range};
+ghost use Rattle.arraydeque_ring.specs.Changed.{DrainMovesFewest};
 ghost use Rattle.arraydeque_ring.specs.Ring.{up_by};
-ghost use Rattle.arraydeque_ring.specs.Steps.{more_puts, more_takes};
-ghost use Rattle.arraydeque.specs.Deque.{keep_last};
+ghost use Rattle.arraydeque_ring.specs.Sides.{moves_to_drain, start_closed};
+ghost use Rattle.arraydeque_ring.specs.Steps.{more_moves, more_puts, more_takes};
+ghost use Rattle.arraydeque.specs.Deque.{as_ring, keep_last};
+ghost use Rattle.arraydeque.specs.Range.{IsRangeOf, span_of};
 
 use super::ArrayDeque;
 use crate::behavior::Behavior;
+use crate::range::RangeArgument;
 
 impl<T, const CAP: usize, B: Behavior> ArrayDeque<T, CAP, B> {
     /// Drops every item, front to back. The region stays.
@@ -80,6 +85,45 @@ impl<T, const CAP: usize, B: Behavior> ArrayDeque<T, CAP, B> {
             (more_takes (length self.old.items - len) self.old.steps) }
     {
         self.ring.resize(len, value);
+    }
+
+    /// Drops the items of a range, front to back. Requires a range in order that ends within the
+    /// list.
+    ///
+    /// The gap is closed as by `drain`. No memory is taken, so it never fails.
+    ///
+    /// Start: 1 up for each item of the range if fewer items are before it than behind it, else
+    /// stays.
+    /// Steps: 1 take for each item of the range, 1 move for each item that moves.
+    ///
+    /// ```
+    /// let mut deque = ArrayDeque::<i64, 5, Saturating>::new(alloc)?;
+    /// deque.extend_back([0, 1, 2, 3, 4]);
+    /// assert!(rt; deque.len() == 5);
+    /// deque.remove_range(1..3);
+    /// assert!(rt; deque.into_vec()?.as_slice() == [0, 3, 4].as_slice());
+    /// ```
+    pub fn remove_range<R: RangeArgument<usize>>(&mut self, range: R)
+    where
+        T: Drop,
+        R: Drop,
+        requires { IsRangeOf R.RangeArgument range self.old.items }
+        ensures items { let span = span_of R.RangeArgument range self.old.items in
+            self.new.items ≡ remove_range self.old.items span.from span.to }
+        ensures within { length self.new.items ≤ CAP }
+
+        // Where the list lies, and what it cost.
+        ensures start { let span = span_of R.RangeArgument range self.old.items in
+            self.new.start ≡ start_closed span.from (span.to - span.from) (as_ring CAP self.old) }
+        ensures steps { let span = span_of R.RangeArgument range self.old.items in
+            self.new.steps ≡ more_moves (moves_to_drain span.from span.to (length self.old.items))
+            (more_takes (span.to - span.from) self.old.steps) }
+        ensures fewest { let span = span_of R.RangeArgument range self.old.items in
+            DrainMovesFewest span.from span.to (as_ring CAP self.old) self.new.start }
+    {
+        let from = range.start().unwrap_or(0);
+        let to = range.end().unwrap_or(self.len());
+        self.ring.remove_range(from, to);
     }
 
     /// Keeps the last `len` items, or all if there are no more. The others are dropped, front to

@@ -1,10 +1,14 @@
-//! Another length: drops all items or those at one end, or puts copies behind.
+//! Another length: drops all items, those at one end or those of a range, or puts copies behind.
 ghost use Rattle.std.specs.Prelude.{◌≡◌, ◌+◌, ◌-◌, ◌≤◌, ◌++◌, [], length, take, drop, replicate};
+ghost use Rattle.std.specs.List.{remove_range};
+ghost use Rattle.arraydeque_ring.specs.Changed.{DrainMovesFewest};
 ghost use Rattle.arraydeque_ring.specs.Ring.{rotated, up_by};
 ghost use Rattle.arraydeque_ring.specs.Runs.{run_emptied, IsFilledRun};
-ghost use Rattle.arraydeque_ring.specs.Steps.{more_puts, more_takes};
+ghost use Rattle.arraydeque_ring.specs.Sides.{moves_to_drain, start_closed};
+ghost use Rattle.arraydeque_ring.specs.Steps.{more_moves, more_puts, more_takes};
 
 use super::Ring;
+use super::moves::close_gap;
 use crate::slots::Slots;
 use crate::wrap::wrap_add;
 
@@ -108,6 +112,40 @@ impl<T> Ring<T> {
         drop_round(&mut self.slots, self.start, 0, gone);
         self.start = wrap_add(self.start, gone, capacity);
         self.len -= gone;
+    }
+
+    /// Drops the items of the range `from..to`, front to back. Requires a range that is in order
+    /// and ends within the list.
+    ///
+    /// The gap is closed as by `drain`. No memory is taken, so it never fails.
+    ///
+    /// ```
+    /// let mut ring = Ring::from_slice(alloc, 4, &[1, 2, 3, 4])?;
+    /// ring.remove_range(1, 3);
+    /// assert!(rt; IntoIter::from_ring(ring).eq([1, 4]));
+    /// ```
+    #[tactic(auto, using(crate::proofs::Opened::drop_facts))]
+    pub fn remove_range(&mut self, from: usize, to: usize)
+    where
+        T: Drop,
+        requires in_order { from ≤ to }
+        requires in_bounds { to ≤ length self.old.items }
+        ensures items { self.new.items ≡ remove_range self.old.items from to }
+        ensures capacity { self.new.capacity ≡ self.old.capacity }
+        ensures start { self.new.start ≡ start_closed from (to - from) self.old }
+        ensures steps { self.new.steps ≡
+            more_moves (moves_to_drain from to (length self.old.items))
+            (more_takes (to - from) self.old.steps) }
+        ensures fewest { DrainMovesFewest from to self.old self.new.start }
+    {
+        let count = to - from;
+        let left = self.len - count;
+        if count == 0 {
+            return;
+        }
+        drop_round(&mut self.slots, self.start, from, count);
+        self.len = left;
+        self.start = close_gap(&mut self.slots, self.start, from, count, left - from);
     }
 
     /// Adds `count` copies of a value at the back. Requires room for all.
