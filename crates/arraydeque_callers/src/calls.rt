@@ -298,6 +298,14 @@ pub fn take_range<T, const CAP: usize, B: Behavior>(
     deque.drain(from..to)
 }
 
+/// Lends the items up to the region's end, which are none only if there are none at all.
+pub fn first_run<T, const CAP: usize, B: Behavior>(deque: &ArrayDeque<T, CAP, B>) -> &[T]
+    ensures { 0 < length deque.now.items → 0 < length result.now }
+{
+    let _start = deque.len();
+    deque.as_slices().0
+}
+
 /// Drops a range, and takes no memory for it.
 pub fn drop_range<T: Drop, const CAP: usize, B: Behavior>(
     deque: &mut ArrayDeque<T, CAP, B>,

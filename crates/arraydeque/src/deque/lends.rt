@@ -1,8 +1,8 @@
 //! Items of a deque, all or a part, lent for reading or for writing.
-ghost use Rattle.std.specs.Prelude.{◌≡◌, ◌≤◌, ◌+◌, ◌-◌, ◌++◌, [], List, length, take, drop, slice_range};
+ghost use Rattle.std.specs.Prelude.{◌≡◌, ◌≤◌, ◌+◌, ◌-◌, ◌++◌, [], List, length, min, take, drop, slice_range};
 ghost use Rattle.std.specs.List.{refill};
 ghost use Rattle.std.specs.Borrow.{sem};
-ghost use Rattle.arraydeque_ring.specs.Loans.{remaining};
+ghost use Rattle.arraydeque_ring.specs.Loans.{remaining, place_from};
 ghost use Rattle.arraydeque_ring.specs.Ring.{IsInOnePiece};
 ghost use Rattle.arraydeque.specs.Deque.{as_ring};
 ghost use Rattle.arraydeque.specs.Range.{IsRangeOf, span_of};
@@ -136,6 +136,8 @@ impl<T, const CAP: usize, B: Behavior> ArrayDeque<T, CAP, B> {
     #[inline]
     pub fn as_slices(&self) -> (&[T], &[T])
         ensures joined { result.0.now ++ result.1.now ≡ self.now.items }
+        ensures cut { length result.0.now ≡
+            min (length self.now.items) (CAP - self.now.start) }
         ensures within { length self.now.items ≤ CAP }
         ensures one_piece { IsInOnePiece (as_ring CAP self.now) → result.1.now ≡ [] }
     {
@@ -186,6 +188,8 @@ impl<T, const CAP: usize, B: Behavior> ArrayDeque<T, CAP, B> {
 
         // What is lent.
         ensures joined { result.0.now ++ result.1.now ≡ self.old.items }
+        ensures cut { length result.0.now ≡
+            min (length self.old.items) (CAP - self.old.start) }
         ensures one_piece { IsInOnePiece (as_ring CAP self.old) → result.1.now ≡ [] }
     {
         self.lend(0, 0).into_slices()
@@ -231,6 +235,9 @@ impl<T, const CAP: usize, B: Behavior> ArrayDeque<T, CAP, B> {
             sem 𝓛 (lends_loan T.row CAP.row B.row self.entry before len result) }
         ensures value { let len = length self.old.items - before - behind in
             remaining result ≡ take len (drop before self.old.items) }
+        ensures cut { let len = length self.old.items - before - behind in
+            length result.first.now ≡
+            min len (CAP - place_from self.old.start before CAP) }
         ensures one_piece { IsInOnePiece (as_ring CAP self.old) → result.second.now ≡ [] }
     {
         let ring = &mut self.ring;

@@ -1,5 +1,5 @@
 -- `as_mut_slices` is `lend` of all items, and the deque follows the loan's slices. Assumes `Logic`.
-use Rattle.std.proofs.{Common.◌-◌, lemmas.List.take_all}
+use Rattle.std.proofs.{Common.◌-◌, mem.Facts.{says_three}}
 use contract.Lifetimes.{toks}
 use denote.Param.{param}
 use Rattle.arraydeque.{
@@ -8,20 +8,20 @@ use Rattle.arraydeque.{
     deque.ArrayDeque.lend.Met.met,
     Lent.{Dr, all_rewritten},
   },
-  specs.DequeLends.{lends_loan, rewritten},
+  specs.{Deque.as_ring, DequeLends.{lends_loan, rewritten}},
 }
 use Rattle.arraydeque_ring.{
   proofs.{
     memory.{
       Called.{calls_met, first_fact, knows},
       Methods.{method, spent, machine_values},
-      Kit.{emp, refl, [], ◌∷◌, ◌++◌, ◌∙◌, ℕ, ◌+◌, ◌≤◌, arith, length, lit<, id⊢, tables, owns, ‵},
+      Kit.{emp, refl, [], ◌∷◌, ◌++◌, ℕ, ◌+◌, ◌≤◌, arith, length, lit<, id⊢, tables, owns, ‵},
       Kit.{raw, ◌⊛◌, ◌$◌, !, move, drop, use1, use2, split, join, fsplit, fjoin, fjoin3, feq_i},
       Kit.{frame, suffices, addr, lit, stop, no_more, and_then, returns, alloc_all, pass_all},
       Kit.{free_all, look_at, get, through, sets, lands_as, mem, nothing, heard, done, usize, El},
-      Kit.{R, RattleType, Array, both_by, after₂, mut_vals, pure_i, number, says_two},
+      Kit.{R, RattleType, Array, both_by, after₂, mut_vals, pure_i, number},
     },
-    loans.{Made.loan_lawful, Names.followed_both, Slices.in_slices},
+    loans.{Made.loan_lawful, Names.followed_both, Parts.all_lent, Slices.in_slices},
     slots.loan.Loan.into_slices.Met.met as into_met,
   },
   specs.Runs.as_many,
@@ -57,7 +57,7 @@ as_mut_slices_spec 𝓤 𝓛 𝓜 𝓡 wired X N B L fits LB members dict dict_m
     (λ v it ws typed. lands_as ! refl refl typed.0 $
     move ! (2 ∷ []) $
     use1 𝓛 (‵ (lends_loan (R E) (param 1 C) (param 2 B) a.0 0 m it) ⊛ raw _) (id⊢ 𝓤 _) $ split ! $
-    move ! (1 ∷ []) $ first_fact ! (λ value. heard ! _ (λ piece. fsplit ! $
+    move ! (1 ∷ []) $ first_fact ! (λ value. first_fact ! (λ cut. heard ! _ (λ piece. fsplit ! $
     -- [what the deque follows; what the loan's name follows; the loan; the tokens]
     let Rows = mem (Array (R E) 0) in
     use2 𝓛 (‵ (after₂ (mem (Dr E N B)) Rows Rows a.0.ghost_name it.first.ghost_name it.second.ghost_name
@@ -75,4 +75,5 @@ as_mut_slices_spec 𝓤 𝓛 𝓜 𝓡 wired X N B L fits LB members dict dict_m
     -- [the pair; the tokens; what the deque follows]
     returns ! (look_at ! 0 refl) $ free_all ! refl $
     suffices ! _ (ends u (it.first, it.second) tt) $ nothing ! $ frame ! $ frame ! $ frame ! $
-    says_two ! (value ∙ take_all m d.items (omega arith), piece) $ done !))))))))))
+    let all = all_lent (as_ring N d) m it.first.now it.second.now (omega arith) value cut in
+    says_three ! (all.0, all.1, piece) $ done !)))))))))))

@@ -1,6 +1,6 @@
 -- `lend` lends a part of the items: the ring lends its own, and the deque follows what the ring follows.
 -- Assumes `Logic`.
-use Rattle.std.proofs.Common.{◌-◌, take, drop as dropped}
+use Rattle.std.proofs.{Common.{◌-◌, take, drop as dropped, min}, mem.Facts.{says_three}}
 use Rattle.arraydeque_ring.{
   proofs.{
     loans.{Made.{loan_lawful, loan_renamed}, Names.{hands_on, followed_both, part_lent}, Rings.Rr},
@@ -10,13 +10,13 @@ use Rattle.arraydeque_ring.{
       Kit.{Share, flft, tables, ‵, raw, ◌⊛◌, some, ◌$◌, !, move, keep, use1, use2, split, split3},
       Kit.{join, pick, frame, fsplit, fjoin, suffices, done, addr, stop, fld, no_more, and_then},
       Kit.{returns, alloc_all, pass_all, free_all, look_at, get, through, sets, lands_as, mem},
-      Kit.{part_at, says_two, heard, nothing, RattleType, El, R, el_x, after₂, Array, both_by},
+      Kit.{part_at, heard, nothing, RattleType, El, R, el_x, after₂, Array, both_by},
       Kit.{number, MutBor, NamedLft, named_lft, owns, usize, pure_i, rewrite},
       Methods.{method, spent, machine_values},
     },
     ring.Ring.lend.Met.met,
   },
-  specs.{Loans.LoanState, Ring.RingState, Runs.as_many},
+  specs.{Loans.{LoanState, place_from}, Ring.RingState, Runs.as_many},
 }
 use types.{Late.ages, Mut.open_ref}
 use denote.Param.{param}
@@ -83,7 +83,7 @@ lend_spec 𝓤 𝓛 𝓜 𝓡 wired X N B L fits LB members dict dict_met =
     (λ v it ws it_typed. lands_as ! refl refl it_typed.0 $
     let α : NamedLft = named_lft 2 0 tt (Two κs) in let It = loan.the_row α (R E) in
     move ! (2 ∷ []) $ use1 𝓛 (‵ (ring.lends_loan (R E) lent before len it) ⊛ raw _) (id⊢ 𝓤 _) $
-    split ! $ move ! (1 ∷ []) $ first_fact ! (λ value. first_fact ! (λ _. heard ! _ (λ piece. fsplit ! $
+    split ! $ move ! (1 ∷ []) $ first_fact ! (λ value. first_fact ! (λ ring_cut. heard ! _ (λ piece. fsplit ! $
     -- [what δ follows; what the loan's name follows;
     -- the loan; the tokens; the right; the open borrow; the other field; the way back; obs γ; auth γ; the others]
     let written : RingState (el_x E) → List (el_x E) = λ u. take len (dropped before u.items) in
@@ -124,4 +124,8 @@ lend_spec 𝓤 𝓛 𝓜 𝓡 wired X N B L fits LB members dict dict_met =
       ap (λ (u : DequeState (el_x E)). length u.items) seen,
     )) in
     let items = ap (λ (u : DequeState (el_x E)). take len (dropped before u.items)) seen in
-    says_two ! (rw (← is) (value ∙ items), none) $ done !)))))))))))))))
+    let starts : x.ring.start ≡ d.start = ap (λ (u : DequeState (el_x E)). u.start) seen in
+    let cut : length it.first.now ≡ min len (N - place_from d.start before N) =
+    ring_cut ∙ ap (λ (s : ℕ). min len (x.ring.capacity - place_from s before x.ring.capacity)) starts
+    ∙ ap (λ (n : ℕ). min len (n - place_from d.start before n)) kept.0 in
+    says_three ! (rw (← is) (value ∙ items, cut, none)) $ done !)))))))))))))))

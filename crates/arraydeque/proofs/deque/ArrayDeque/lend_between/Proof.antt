@@ -40,7 +40,7 @@ lend_between_spec 𝓤 𝓛 𝓜 𝓡 wired X N B L fits LB members dict dict_me
     (λ v it ws it_typed. lands_as ! refl refl it_typed.0 $
     move ! (2 ∷ []) $
     use1 𝓛 (‵ (lends_loan (R E) (param 1 C) (param 2 B) a.0 before len it) ⊛ raw _) (id⊢ 𝓤 _) $ split ! $
-    move ! (1 ∷ []) $ first_fact ! (λ value. heard ! _ (λ _. fsplit ! $
+    move ! (1 ∷ []) $ first_fact ! (λ value. first_fact ! (λ _. heard ! _ (λ _. fsplit ! $
     -- [what the deque follows; what the loan's name follows; the loan; the tokens]
     returns ! (look_at ! 0 refl) $ free_all ! refl $ keep ! (2 ∷ 3 ∷ 0 ∷ []) $
-    suffices ! _ (ends v it tt) $ nothing ! $ frame ! $ frame ! $ frame ! $ says ! value $ done !))))))
+    suffices ! _ (ends v it tt) $ nothing ! $ frame ! $ frame ! $ frame ! $ says ! value $ done !)))))))
