@@ -16,7 +16,7 @@ use Rattle.std.{
 use Rattle.arraydeque_ring.proofs.{LastPopped.last_and_rest, places.Items.slice_get-set}
 
 module _ {X : Type 0} where
-  -- another item in the stead of the first
+  -- another item instead of the first
   pub set_first : (xs : List X) (x y : X) → Some x ≡ slice_get xs 0 → slice_set xs 0 y ≡ y ∷ drop 1 xs
   set_first [] x y none = absurd cc
   set_first (z ∷ zs) x y some = refl

@@ -32,7 +32,7 @@ rewritten deque xs = record deque {
   steps = more_lends 2 deque.steps;
 }
 
--- a deque with the items xs in the stead of the len items from the index `from` on, as many of them
+-- a deque with the items xs instead of the len items from the index `from` on, as many of them
 -- as these were, and two lends counted
 abbrev pub part_rewritten : {X : Type 0} → ℕ → ℕ → DequeState X → List X → DequeState X
 part_rewritten from len deque xs = record deque {

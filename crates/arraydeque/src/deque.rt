@@ -16,7 +16,6 @@ mod blocks;
 mod bytes;
 mod clone;
 mod compare;
-mod each;
 mod extend;
 mod lends;
 mod linearize;
@@ -29,6 +28,7 @@ mod resize;
 mod retain;
 mod searches;
 mod swaps;
+mod writes;
 
 /// A double-ended queue of at most `CAP` items, in one region of memory that is taken when the
 /// deque is made. The policy `B` says what a push into a full deque does.

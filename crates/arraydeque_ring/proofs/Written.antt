@@ -65,7 +65,7 @@ module _ {F X : Type 0} {R : F → X → F → X → Type 0} {f g : F} {old new 
   written_all past = rw (take_all index old (omega (arith, s.many)), take_all index new past) at s.told
 
 module _ {X : Type 0} where
-  -- the list with ys in the stead of the items from the index a up to the index b
+  -- the list with ys instead of the items from the index a up to the index b
   abbrev with_part : ℕ → ℕ → List X → List X → List X
   with_part a b ys xs = take a xs ++ (ys ++ drop (b - a) (drop a xs))
 

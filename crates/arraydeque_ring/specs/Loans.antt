@@ -19,7 +19,7 @@ abbrev pub AreApart : ℕ → ℕ → ℕ → ℕ → Type 0
 AreApart a m b n = (k : ℕ) → a ≤ k → k < a + m → b ≤ k → k < b + n → ⊥
 
 -- of n places that are read from the place `start` on, where those from an index on begin: its
--- place, or the region's end in the stead of the first place
+-- place, or the region's end instead of the first place
 abbrev pub place_from : ℕ → ℕ → ℕ → ℕ
 place_from start index n =
     if nat_le index (n - start) then start + index else index - (n - start)

@@ -37,7 +37,7 @@ rewritten ring xs = record ring {
   steps = more_lends 2 ring.steps;
 }
 
--- a ring with the items xs in the stead of the len items from the index `from` on, as many of them
+-- a ring with the items xs instead of the len items from the index `from` on, as many of them
 -- as these were, and two lends counted
 abbrev pub part_rewritten : {X : Type 0} → ℕ → ℕ → RingState X → List X → RingState X
 part_rewritten from len ring xs = record ring {

@@ -36,7 +36,7 @@ module _ (R : RattleType) (region : MutBor (Region R.Denot)) where
     })
 
   module _ (a b : ℕ) where
-    -- the region with ws in the stead of the values xs from the place a on, with vs in the stead of
+    -- the region with ws instead of the values xs from the place a on, with vs instead of
     -- the values ys from the place b on, and with two lends counted
     abbrev pub two_written : (xs ys ws vs : List R.Denot) → Region R.Denot
     two_written xs ys ws vs = record {

@@ -12,7 +12,6 @@ ghost use Rattle.arraydeque_ring.specs.Ring.{empty_ring, place_of};
 ghost use Rattle.arraydeque_ring.specs.Steps.{more_puts, more_takes};
 
 mod clone;
-mod each;
 mod fill;
 pub mod into_iter;
 mod lends;
@@ -23,6 +22,7 @@ mod parts;
 mod resize;
 mod retain;
 mod swaps;
+mod writes;
 
 use crate::slots::Slots;
 pub use crate::slots::loan::{Loan, LoanName};

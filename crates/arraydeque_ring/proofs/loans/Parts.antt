@@ -35,7 +35,7 @@ use Rattle.arraydeque_ring.{
   },
 }
 
--- items are written in the stead of others, and then more behind them
+-- items are written instead of others, and then more behind them
 pub splice-both : {X : Type 0} (xs us vs : List X) (i m : ℕ) → length us + length vs ≡ m → i + m ≤ length xs
     → splice (splice xs i (i + length us) us) (i + length us) (i + length us + length vs) vs
     ≡ splice xs i (i + m) (us ++ vs)

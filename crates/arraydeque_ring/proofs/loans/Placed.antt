@@ -1,4 +1,4 @@
--- What is written in the stead of as many items of a list, or of as many places, and runs that lie apart.
+-- What is written instead of as many items of a list, or of as many places, and runs that lie apart.
 use Rattle.std.{
   proofs.{
     Common.{◌≡◌, ℕ, ◌+◌, ◌≤◌, ◌⊎◌, List, map, length, take, drop, Option, Some, refl, sym, ◌∙◌},
@@ -13,7 +13,7 @@ use Rattle.std.{
 use Rattle.arraydeque_ring.specs.{Loans.AreApart, Runs.{as_many, with_run}}
 
 module _ {Y : Type 0} where
-  -- the list, with ws in the stead of the n items from the index i on
+  -- the list, with ws instead of the n items from the index i on
   abbrev pub placed : ℕ → ℕ → List Y → List Y → List Y
   placed i n ws ps = splice ps i (i + n) ws
 
@@ -56,7 +56,7 @@ module _ {X : Type 0} where
   pub as_many-twice : (xs ws : List X) → as_many xs (as_many xs ws) ≡ as_many xs ws
   as_many-twice xs ws = as_many-same xs (as_many xs ws) (length-as_many xs ws)
 
-  -- as many in the stead of m items, as `with_run` writes them
+  -- as many instead of m items, as `with_run` writes them
   pub as_run : (i : ℕ) (xs us : List X) (ps : List (Option X)) {m : ℕ} → length xs ≡ m → length us ≡ m
       → placed i m (map Some us) ps ≡ with_run i (as_many xs us) ps
   as_run i xs us ps long same = rw (as_many-same xs us (same ∙ sym long), sym same)

@@ -54,7 +54,7 @@ module _ (E : El) (b o : ℕ) where
   -- two runs apart are taken out
   module _ {M : Type 1} {𝓤 : Ura M} (𝓛 : Logic 𝓤) (K : Type 0) (Γ : List (Item 𝓤)) (G : Goal 𝓤 𝓛.H) (t : K)
       (ps : List (Place E)) where
-    -- how a proof goes on with both: as many in the stead of both give, with the rest, the places again
+    -- how a proof goes on with both: as many instead of both give, with the rest, the places again
     abbrev Next : ℕ → ℕ → ℕ → ℕ → Type 1
     Next i m j n = (Rest : Fml)
         → ((us vs : List (Place E)) → length us ≡ m → length vs ≡ n

@@ -144,7 +144,7 @@ module _ (E : El) {M : Type 1} {𝓤 : Ura M} {𝓛 : Logic 𝓤} {K : Type 0} {
       opens t z (Sr E) {h = r} rb ro (λ vs. move t (1 ∷ []) $ slots_apart E t r vs (λ g b o n ok is.
       rewrite t 2 (λ ws. ‵ (cell_at full_share (Sr E).mir ws rb ro)) is refl $ then g b o n ok))
 
-  -- and closed with other places in the stead of those of r, as many
+  -- and closed with other places instead of those of r, as many
   pub slots_close : K → Soaks G → {κ : Lft} {q : Share} {u v : Gv} {γ : GName} {g : Global} {r : Seen E} (new : Seen E)
       {b o n rb ro : ℕ} → Fits E r o n → length r.places ≡ length new.places
       → Step K 𝓛 (‵ (fobs γ ((Sr E).coded.code new)) ∷ ‵ (fbor κ (Borrowed (mem (Sr E)) rb ro γ)) ∷ ‵ (flft κ q) ∷ Γ) G

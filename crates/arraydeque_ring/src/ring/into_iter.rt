@@ -13,8 +13,8 @@ use std::marker::Model;
 #[derive(Drop)]
 pub struct IntoIter<T> {
     ring: Ring<T>,
-    /// No more items than this are behind the run that [`Ring::take_before_end`] takes.
-    most_behind_run: usize,
+    /// While more items than this are left, the next start needs no wrap.
+    no_wrap_above: usize,
 }
 
 impl<T> Model for IntoIter<T> {
@@ -25,7 +25,7 @@ impl<T> Model for IntoIter<T> {
     ghost view = { λ it. it.ring.items };
 
     ghost invariant = { λ it.
-        length it.ring.items - (it.ring.capacity - 1 - it.ring.start) ≤ it.most_behind_run };
+        length it.ring.items - (it.ring.capacity - 1 - it.ring.start) ≤ it.no_wrap_above };
 }
 
 impl<T> IntoIter<T> {
@@ -40,10 +40,10 @@ impl<T> IntoIter<T> {
     pub fn from_ring(ring: Ring<T>) -> IntoIter<T>
         ensures { result ≡ ring.items }
     {
-        let most_behind_run = ring.len_behind_run();
+        let no_wrap_above = ring.len_behind_run();
         IntoIter {
             ring,
-            most_behind_run,
+            no_wrap_above,
         }
     }
 }
@@ -62,11 +62,11 @@ impl<T: Drop> Iterator for IntoIter<T> {
     /// ```
     #[inline]
     fn next(&mut self) -> Option<T> {
-        if self.ring.len() > self.most_behind_run {
+        if self.ring.len() > self.no_wrap_above {
             return Some(self.ring.take_before_end());
         }
         let item = self.ring.pop_front();
-        self.most_behind_run = self.ring.len_behind_run();
+        self.no_wrap_above = self.ring.len_behind_run();
         item
     }
 

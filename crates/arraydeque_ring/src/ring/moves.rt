@@ -30,7 +30,7 @@ impl<T> Ring<T> {
         requires in_bounds { index ≤ length self.old.items }
         requires room { length self.old.items < self.old.capacity }
 
-        // What is returned, and what is left.
+        // What is left.
         ensures items { self.new.items ≡ insert self.old.items index element }
         ensures capacity { self.new.capacity ≡ self.old.capacity }
 
@@ -108,35 +108,76 @@ impl<T> Ring<T> {
             (moves_to_rotate count (length self.old.items) self.old.capacity) self.old.steps }
         ensures fewest { RotateMovesFewest count self.old self.new.start }
     {
-        let capacity = self.slots.capacity();
-        let (start, others) = (self.start, self.len - count);
+        let others = self.len - count;
         if count == 1 && 0 < others {
-            // By `close_room`, one item of a ring with room took 3.4 ns, not 0.9.
-            let behind = wrap_add(start, self.len, capacity);
-            self.start = wrap_add(start, 1, capacity);
-            if self.len < capacity {
-                self.slots.shift(behind, start);
-            }
-            return;
+            self.first_to_back();
+        } else if others == 1 && 1 < count {
+            self.last_to_front();
+        } else if 0 < count {
+            self.turn(count);
         }
-        // The last item alone, likewise. A count of 1 came above, and by one of 0 nothing moves.
-        if others == 1 && 1 < count {
-            let before = wrap_add(start, capacity - 1, capacity);
-            self.start = before;
-            if self.len < capacity {
-                let last = wrap_add(start, count, capacity);
-                self.slots.shift(before, last);
-            }
-            return;
+    }
+
+    /// Puts the first item behind the others. Requires two items or more.
+    #[tactic(auto, using(crate::proofs::Opened::end_facts))]
+    #[inline(always)] // By `turn`, `rotate_half_one` takes longer.
+    fn first_to_back(&mut self)
+        requires { 1 < length self.old.items }
+        ensures items { self.new.items ≡ drop 1 self.old.items ++ take 1 self.old.items }
+        ensures capacity { self.new.capacity ≡ self.old.capacity }
+        ensures start { self.new.start ≡ start_rotated 1 self.old }
+        ensures steps { self.new.steps ≡ more_moves
+            (moves_to_rotate 1 (length self.old.items) self.old.capacity) self.old.steps }
+    {
+        let capacity = self.slots.capacity();
+        let first = self.start;
+        let behind = wrap_add(first, self.len, capacity);
+        self.start = wrap_add(first, 1, capacity);
+        if self.len < capacity {
+            self.slots.shift(behind, first);
         }
-        if count == 0 {
-            return;
+    }
+
+    /// Puts the last item before the others. Requires three items or more: of two, the first moves.
+    #[tactic(auto, using(crate::proofs::Opened::end_facts))]
+    #[inline(always)] // By `turn`, `rotate_half_one_right` takes longer.
+    fn last_to_front(&mut self)
+        requires { 2 < length self.old.items }
+        ensures items { let others = length self.old.items - 1 in
+            self.new.items ≡ drop others self.old.items ++ take others self.old.items }
+        ensures capacity { self.new.capacity ≡ self.old.capacity }
+        ensures start { self.new.start ≡ start_rotated (length self.old.items - 1) self.old }
+        ensures steps { let len = length self.old.items in
+            self.new.steps ≡ more_moves
+            (moves_to_rotate (len - 1) len self.old.capacity) self.old.steps }
+    {
+        let capacity = self.slots.capacity();
+        let last = wrap_add(self.start, self.len - 1, capacity);
+        let before = wrap_add(self.start, capacity - 1, capacity);
+        self.start = before;
+        if self.len < capacity {
+            self.slots.shift(before, last);
         }
+    }
+
+    /// Puts the first `count` items behind the others. Requires a count above 0, up to the length.
+    #[tactic(auto, using(crate::proofs::Opened::end_facts))]
+    #[inline(always)] // As `rotate_left`.
+    fn turn(&mut self, count: usize)
+        requires some { 0 < count }
+        requires within { count ≤ length self.old.items }
+        ensures items { self.new.items ≡ drop count self.old.items ++ take count self.old.items }
+        ensures capacity { self.new.capacity ≡ self.old.capacity }
+        ensures start { self.new.start ≡ start_rotated count self.old }
+        ensures steps { self.new.steps ≡ more_moves
+            (moves_to_rotate count (length self.old.items) self.old.capacity) self.old.steps }
+    {
+        let capacity = self.slots.capacity();
         let has_room = self.len < capacity;
-        let first = wrap_add(start, count, capacity);
+        let first = wrap_add(self.start, count, capacity);
         self.start = first;
         if has_room {
-            let gap = capacity - self.len;
+            let (others, gap) = (self.len - count, capacity - self.len);
             let (slots, start) = close_room(self.slots.move_out(), first, others, gap, count);
             self.slots = slots;
             self.start = start;

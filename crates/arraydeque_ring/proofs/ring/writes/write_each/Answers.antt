@@ -1,6 +1,6 @@
 use Rattle.std.proofs.{Common.arith, RetainMut.Called-Mut}
 use Rattle.arraydeque_ring.proofs.Written.{written_next, written_on, written_all}
-use Rattle.arraydeque_ring.proofs.ring.each.write_each.Goals as goal
+use Rattle.arraydeque_ring.proofs.ring.writes.write_each.Goals as goal
 
 pub f-requires : goal.f-requires
 f-requires g c = let next = written_next c.loop-item.invariant c.item-item.result (omega arith) in grind arith
