@@ -13,9 +13,9 @@
 //! assert!(rt; (queue.pop_front(), queue.pop_front()) == (Some(3), Some(4)));
 //! ```
 //!
-//! Beside the deque: [`run`] makes a list of calls given as values, [`lookahead::Scanner`] looks
-//! ahead in an iterator, and a deque of bytes is std's `Read` and `BufRead`, and under
-//! [`Saturating`] its `Write`.
+//! There is more beside the deque: [`run`] makes a list of calls that are given as values, and
+//! [`lookahead::Scanner`] looks ahead in an iterator. A deque of bytes is std's `Read` and
+//! `BufRead`, and under [`Saturating`] also its `Write`.
 //!
 //! # Policies
 //!
@@ -27,18 +27,18 @@
 //!   keeps the last items of both deques. There is no `insert`, and no `write`.
 //!
 //! A deque of capacity 0 is always empty and always full, and takes no memory. A push returns its
-//! element: in the error under `Saturating`, in place of an item under `Wrapping`.
+//! element: in the error under `Saturating`, and in place of an item under `Wrapping`.
 //!
 //! # What can fail
 //!
-//! - No room: only under `Saturating`, and in [`lookahead::Scanner::unread`]. The element comes
-//!   back in the [`CapacityError`].
-//! - No memory: only in `new`, `from_iter`, `from_vec`, `from_array`, `clone`, also of a
-//!   [`CapacityError`], `drain`, `split_off`, `into_vec`, `run` and `Scanner::new`. The `from_`
-//!   calls, `into_vec`, `run` and `Scanner::new` hand back what they consumed, as it was, in a
-//!   [`MakeError`].
-//! - No such item: a pop, `front`, `back`, `get`, their `_mut`, `remove`, `swap_remove_back` or
-//!   `swap_remove_front` returns `None`.
+//! - There may be no room, but only under `Saturating` and in [`lookahead::Scanner::unread`]. Then
+//!   the element comes back in the [`CapacityError`].
+//! - Memory may be refused, but only in `new`, `from_iter`, `from_vec`, `from_array`, `drain`,
+//!   `split_off`, `into_vec`, `run` and `Scanner::new`, and in `clone`, also of a
+//!   [`CapacityError`]. The `from_` calls, `into_vec`, `run` and `Scanner::new` hand back what they
+//!   consumed, as it was, in a [`MakeError`].
+//! - There may be no such item. Then a pop, `front`, `back`, `get`, their `_mut`, `remove`,
+//!   `swap_remove_back` or `swap_remove_front` returns `None`.
 //!
 //! After each of these the deque is as it was.
 //!
@@ -50,21 +50,21 @@
 //!
 //! The caller has to show it, for instance by a test of `len`; `run` makes such tests itself.
 //!
-//! - `deque[index]` and `swap`: indexes below the length. `insert`, `split_off`, `rotate_left` and
-//!   `rotate_right`: an index or a count up to the length.
-//! - `drain`, `remove_range`, `range`, `range_mut` and `for_each_mut_in`: a range that is in order
-//!   and ends within the list.
-//! - `resize`: a length up to `CAP`. (`truncate` and `truncate_front` take any.)
-//! - `as_slice` and `as_mut_slice`: a list in one piece, as `linearize` leaves it.
+//! - `deque[index]` and `swap` require indexes below the length. `insert`, `split_off`,
+//!   `rotate_left` and `rotate_right` require an index or a count up to the length.
+//! - `drain`, `remove_range`, `range`, `range_mut` and `for_each_mut_in` require a range that is in
+//!   order and ends within the list.
+//! - `resize` requires a length up to `CAP`. (`truncate` and `truncate_front` take any.)
+//! - `as_slice` and `as_mut_slice` require a list in one piece, as `linearize` leaves it.
 //! - `extend_back`, `extend_front` and `from_iter` under [`Wrapping`], and `extend` under either
-//!   policy: an iterator that ends.
-//! - `clone`: that the clone of an item is the same value as the item, as with numbers.
-//! - A call with an iterator or a closure: that it may be called. A search and `next_if` may always
-//!   call their closure, `retain`, `retain_mut` and `for_each_mut` once on each item in turn,
-//!   `for_each_mut_in` on those of its range, `pop_front_if` and `pop_back_if` on the item at that
-//!   end.
-//! - [`lookahead::Scanner`]: `peek(k)` a k below its capacity, `read_ahead(k)` a k up to it,
-//!   `ahead(k)` a k up to what it has read ahead, `next_if` a capacity above 0.
+//!   policy, require an iterator that ends.
+//! - `clone` requires that the clone of an item is the same value as the item, as with numbers.
+//! - A call with an iterator or a closure requires that it may be called. A search and `next_if`
+//!   may always call their closure. `retain`, `retain_mut` and `for_each_mut` may call theirs once
+//!   on each item in turn, `for_each_mut_in` on those of its range, and `pop_front_if` and
+//!   `pop_back_if` on the item at that end.
+//! - Of a [`lookahead::Scanner`], `peek(k)` requires a k below its capacity, `read_ahead(k)` a k up
+//!   to it, `ahead(k)` a k up to what it has read ahead, and `next_if` a capacity above 0.
 //!
 //! # What a call moves
 //!

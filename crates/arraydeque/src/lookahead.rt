@@ -90,11 +90,11 @@ impl<I: Iterator, const CAP: usize> Scanner<I, CAP> {
     /// Returns item `k` of what is left, or `None` if the input ends before it. Item 0 is what
     /// `next` will return. Requires `k` below `CAP`.
     ///
-    /// If the buffer has more than `k` items nothing changes. Else what is read is kept there,
-    /// behind the others, until it has `k + 1`.
+    /// If the buffer has more than `k` items, nothing changes. Otherwise what is read is kept
+    /// there, behind the others, until it has `k + 1`.
     ///
     /// In a function over any iterator, make `CAP` a const parameter and require that `k` is below
-    /// it: with a number in its place the prover doesn't see that.
+    /// it. With a number in its place, the prover doesn't see that.
     ///
     /// ```
     /// let mut scanner = Scanner::<_, 3>::new(alloc, [1, 2].into_iter())?;
@@ -115,8 +115,8 @@ impl<I: Iterator, const CAP: usize> Scanner<I, CAP> {
     }
 
     /// Reads on until `count` items are in the buffer, and returns how many of the next `count` are
-    /// there: fewer only if the input ends before. Requires `count` up to `CAP`. What is read goes
-    /// behind what is in the buffer; if that has `count` items already nothing changes.
+    /// there. They are fewer only if the input ends before. Requires `count` up to `CAP`. What is
+    /// read goes behind what is in the buffer; if that has `count` items already, nothing changes.
     ///
     /// ```
     /// let mut scanner = Scanner::<_, 3>::new(alloc, [1, 2].into_iter())?;
@@ -164,7 +164,7 @@ impl<I: Iterator, const CAP: usize> Scanner<I, CAP> {
     }
 
     /// Removes the next item and returns it: the first of the buffer, or what the iterator gives if
-    /// that is empty. Returns `None` only at the end.
+    /// the buffer is empty. Returns `None` only at the end.
     ///
     /// ```
     /// let mut scanner = Scanner::<_, 1>::new(alloc, [1, 2].into_iter())?;
@@ -201,8 +201,8 @@ impl<I: Iterator, const CAP: usize> Scanner<I, CAP> {
         }
     }
 
-    /// Drops the next items, up to `count`, front to back, and returns how many went: fewer only if
-    /// the input ends before.
+    /// Drops the next items, up to `count`, front to back, and returns how many went. They are
+    /// fewer only if the input ends before.
     ///
     /// ```
     /// let mut scanner = Scanner::<_, 2>::new(alloc, [1, 2, 3, 4].into_iter())?;

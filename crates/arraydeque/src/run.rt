@@ -50,13 +50,13 @@ pub enum Call<T> {
     Drain(usize, usize),
     /// Removes the items from an index on.
     SplitOff(usize),
-    /// How many items the deque holds.
+    /// Asks how many items the deque holds.
     Len,
-    /// How many items the deque can hold.
+    /// Asks how many items the deque can hold.
     Capacity,
-    /// Whether the deque holds no item.
+    /// Asks whether the deque holds no item.
     IsEmpty,
-    /// Whether the deque holds `CAP` items.
+    /// Asks whether the deque holds `CAP` items.
     IsFull,
 }
 
@@ -78,10 +78,11 @@ pub enum Reply<T, const CAP: usize, B: Behavior> {
     Drained(iter::Drain<T>),
     /// The items that were split off.
     Split(ArrayDeque<T, CAP, B>),
-    /// A push or an insert into a full deque. The element comes back, and the list is as it was.
+    /// It was a push or an insert into a full deque. The element comes back, and the list is as it
+    /// was.
     Full(CapacityError<T>),
-    /// An index out of range, or a drain's two out of order. The element comes back, if the call
-    /// had one, and the list is as it was.
+    /// An index was out of range, or the two of a drain were out of order. The element comes back,
+    /// if the call had one, and the list is as it was.
     OutOfRange(Option<T>),
     /// Memory was refused, and the list is as it was.
     NoMemory,
@@ -167,17 +168,17 @@ pub(crate) trait MachinePolicy<T, const CAP: usize>: Behavior {
     // What the list machine calls it.
     ghost policy: { Policy };
 
-    /// A push before the first item.
+    /// Answers a push before the first item.
     fn answer_push_front(deque: &mut ArrayDeque<T, CAP, Self>, element: T) -> Reply<T, CAP, Self>
         ensures makes { Makes policy CAP (type_size T.row) (PushFront element) result
             deque.old deque.new };
 
-    /// A push behind the last item.
+    /// Answers a push behind the last item.
     fn answer_push_back(deque: &mut ArrayDeque<T, CAP, Self>, element: T) -> Reply<T, CAP, Self>
         ensures makes { Makes policy CAP (type_size T.row) (PushBack element) result
             deque.old deque.new };
 
-    /// An insert, if the policy offers it.
+    /// Answers an insert, if the policy offers it.
     fn answer_insert(
         deque: &mut ArrayDeque<T, CAP, Self>,
         index: usize,
@@ -186,7 +187,7 @@ pub(crate) trait MachinePolicy<T, const CAP: usize>: Behavior {
         ensures makes { Makes policy CAP (type_size T.row) (Insert index element) result
             deque.old deque.new };
 
-    /// Elements added at the back, by either call.
+    /// Answers either call that adds elements at the back.
     fn answer_extend_back(
         deque: &mut ArrayDeque<T, CAP, Self>,
         elements: Vec<T>,
@@ -196,7 +197,7 @@ pub(crate) trait MachinePolicy<T, const CAP: usize>: Behavior {
         ensures makes_extend { Makes policy CAP (type_size T.row) (Extend elements) result
             deque.old deque.new };
 
-    /// Elements added at the front.
+    /// Answers a call that adds elements at the front.
     fn answer_extend_front(
         deque: &mut ArrayDeque<T, CAP, Self>,
         elements: Vec<T>,
@@ -205,6 +206,8 @@ pub(crate) trait MachinePolicy<T, const CAP: usize>: Behavior {
             deque.old deque.new };
 }
 
+// The methods below repeat the clauses of their trait: the check can't give these to the extends
+// yet.
 impl<T: Drop, const CAP: usize> MachinePolicy<T, CAP> for Saturating {
     ghost policy = { saturating };
 
@@ -374,7 +377,7 @@ impl<T: Drop, const CAP: usize, B: RunPolicy<T, CAP>> ArrayDeque<T, CAP, B> {
 }
 
 impl<T: Drop, const CAP: usize, B: Behavior> ArrayDeque<T, CAP, B> {
-    /// An exchange of two items, if both indexes are in range.
+    /// Answers an exchange of two items, which is made if both indexes are in range.
     fn answer_swap(&mut self, i: usize, j: usize) -> Reply<T, CAP, B>
         ensures makes { (p : Policy) →
             Makes p CAP (type_size T.row) (Swap i j) result self.old self.new }
@@ -387,7 +390,7 @@ impl<T: Drop, const CAP: usize, B: Behavior> ArrayDeque<T, CAP, B> {
         Reply::Done
     }
 
-    /// An item replaced, if its index is in range.
+    /// Answers that an item is replaced, if its index is in range.
     fn answer_replace(&mut self, index: usize, element: T) -> Reply<T, CAP, B>
         ensures makes { (p : Policy) →
             Makes p CAP (type_size T.row) (Replace index element) result self.old self.new }
@@ -398,7 +401,7 @@ impl<T: Drop, const CAP: usize, B: Behavior> ArrayDeque<T, CAP, B> {
         }
     }
 
-    /// The items of a range, if it is within the list and memory is granted.
+    /// Answers with the items of a range, if it is within the list and memory is granted.
     fn answer_drain(&mut self, from: usize, to: usize) -> Reply<T, CAP, B>
         ensures makes { (p : Policy) →
             Makes p CAP (type_size T.row) (Drain from to) result self.old self.new }
@@ -412,7 +415,7 @@ impl<T: Drop, const CAP: usize, B: Behavior> ArrayDeque<T, CAP, B> {
         }
     }
 
-    /// The items from an index on, if it is in range and memory is granted.
+    /// Answers with the items from an index on, if it is in range and memory is granted.
     fn answer_split_off(&mut self, at: usize) -> Reply<T, CAP, B>
         ensures makes { (p : Policy) →
             Makes p CAP (type_size T.row) (SplitOff at) result self.old self.new }

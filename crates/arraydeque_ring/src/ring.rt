@@ -150,8 +150,8 @@ impl<T> Ring<T> {
         self.push_back_given(capacity, element);
     }
 
-    /// As `push_back`, for a caller who gives the capacity: so a constant chooses how the place is
-    /// found, also behind a `&mut`.
+    /// Does what `push_back` does, for a caller who gives the capacity. A constant capacity then
+    /// chooses how the place is found, even behind a `&mut`.
     ///
     /// Start: stays. Steps: 1 put.
     ///
@@ -197,7 +197,7 @@ impl<T> Ring<T> {
         self.push_front_given(capacity, element);
     }
 
-    /// As `push_front`, for a caller who gives the capacity, as in `push_back_given`.
+    /// Does what `push_front` does, for a caller who gives the capacity, as to `push_back_given`.
     ///
     /// Start: 1 down. Steps: 1 put.
     ///
@@ -288,7 +288,7 @@ impl<T> Ring<T> {
 
     /// Adds an element at the back, in the place of the first item, which is returned. No other
     /// item moves. Requires a full ring of one place or more, and its capacity, as
-    /// `push_back_given`.
+    /// `push_back_given` does.
     ///
     /// Start: 1 up. Steps: 1 take, 1 put.
     ///
@@ -433,11 +433,11 @@ impl<T> Ring<T> {
         slots.get_mut(place)
     }
 
-    /// Returns the place of the item at an index. No branch depends on the index, since indexes may
-    /// come at random (with one a random `swap` at capacity 1000 took 13 ns, not 4.4). If the
-    /// capacity is a power of two the place is found by a mask, else by subtracting the capacity or
-    /// 0 from the sum. If the sum might pass `usize::MAX`, as it can only for items of size zero,
-    /// `wrap_add` finds the place.
+    /// Returns the place of the item at an index. No branch depends on the index, because indexes
+    /// may come at random, as in the workload `swap` at capacity 1000. If the capacity is a power
+    /// of two, the place is found by a mask; otherwise the capacity or 0 is subtracted from the
+    /// sum. If the sum might pass `usize::MAX`, as it can only for items of size zero, `wrap_add`
+    /// finds the place.
     #[inline(always)] // So a caller's constant capacity chooses mask or sum.
     fn place(&self, index: usize) -> usize
         requires { index < length self.now.items }

@@ -20,9 +20,10 @@ use std::alloc::{AllocError, Global};
 use std::marker::{Model, Send, Sync};
 use std::mem::replace;
 
-/// The most bytes of a block: four times the 8 kB from which on the C library copies fastest (by
-/// `rep movsb` in glibc 2.36: to a lower address in about half the time). Each size of block is at
-/// most four times the next, so the largest that fits has 8 kB or more, if items have 8 bytes.
+/// The most bytes of a block. They are four times the 8 kB from which on the C library copies
+/// fastest: glibc 2.36 then uses `rep movsb`, which needs about half the time if it copies to a
+/// lower address. Each size of block is at most four times the next, so the largest that fits has
+/// 8 kB or more, if items have 8 bytes.
 const BLOCK_BYTES: usize = 32_768;
 
 /// A kind of step that is counted.
@@ -141,8 +142,8 @@ impl<T> Slots<T> {
         self.count(StepKind::Move, 1);
     }
 
-    /// Exchanges the values in two places. If the two are the same nothing happens. Requires filled
-    /// places.
+    /// Exchanges the values in two places. If the two are the same, nothing happens. Requires
+    /// filled places.
     #[inline]
     pub fn exchange(&mut self, a: usize, b: usize)
         requires a_filled { IsFilled self.old.places a }
@@ -192,7 +193,7 @@ fn can_be_named<T>(capacity: usize) -> bool
     size == 0 || capacity <= isize::MAX as usize / size
 }
 
-/// Returns whether a block may have `N` items: it is one item, or has at most `BLOCK_BYTES`.
+/// Returns whether a block may have `N` items: it is a single item, or has at most `BLOCK_BYTES`.
 #[inline(always)] // A constant, by which loops over blocks that are too large are removed.
 fn is_block<T, const N: usize>() -> bool
     requires { 0 < N }

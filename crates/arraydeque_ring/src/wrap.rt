@@ -1,11 +1,10 @@
-//! Places counted round the end of a region.
+//! Places that are counted round the end of a region.
 ghost use Rattle.std.specs.Prelude.{◌≡◌, ◌+◌, ◌%◌, ◌<◌, ◌≤◌};
 ghost use Rattle.arraydeque_ring.specs.Loans.{place_from};
 
 /// Returns the place `offset` places after `place`, round the end of a region of `capacity` places.
-/// If the capacity is a power of two it is found by a mask (a `queue` at 1024 fell from 26
-/// instructions to 16), else by a branch, which a processor predicts if places come in a row
-/// (without it a `queue` took 3.5 ns, not 1.8).
+/// If the capacity is a power of two, the place is found by a mask, otherwise by a branch, which a
+/// processor predicts if places come in a row. The workload `queue` is faster by either.
 #[inline(always)] // So a caller's constant capacity chooses mask or branch.
 pub(crate) fn wrap_add(place: usize, offset: usize, capacity: usize) -> usize
     requires in_region { place < capacity }
@@ -23,8 +22,8 @@ pub(crate) fn wrap_add(place: usize, offset: usize, capacity: usize) -> usize
     }
 }
 
-/// Returns where the places from the index `from` on begin, if they are read from `start` on: its
-/// place, or the region's end in the stead of the first place.
+/// Returns where the places from the index `from` on begin, if they are read from `start` on. That
+/// is the place of the index, or the region's end instead of the first place.
 #[inline]
 pub(crate) fn place_from(start: usize, from: usize, capacity: usize) -> usize
     requires in_region { start ≤ capacity }

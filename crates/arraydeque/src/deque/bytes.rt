@@ -30,7 +30,7 @@ impl<const CAP: usize, B: Behavior> Read for ArrayDeque<u8, CAP, B> {
     /// assert!(rt; deque.read(&mut buf)? == 1 && buf == [3, 2]);
     /// ```
     #[tactic(auto, using(crate::proofs::BytesRead::read_rules))]
-    #[inline(always)] // By calls, 16 bytes in and out took 13.8 ns, not 8.2.
+    #[inline(always)] // By calls, `stream` of 16 bytes takes two thirds longer.
     fn read(&mut self, buf: &mut [u8]) -> Result<usize>
         // What is returned, and what is left.
         ensures count { result ≡ Ok (min (length self.old.items) (length buf.old)) }
@@ -61,8 +61,8 @@ impl<const CAP: usize, B: Behavior> Read for ArrayDeque<u8, CAP, B> {
 }
 
 impl<const CAP: usize, B: Behavior> BufRead for ArrayDeque<u8, CAP, B> {
-    /// Lends the bytes up to the region's end: only an empty deque lends none. The deque stays as
-    /// it was. It always returns `Ok`.
+    /// Lends the bytes up to the region's end. Only an empty deque lends none. The deque stays as
+    /// it was. The call always returns `Ok`.
     ///
     /// ```
     /// let mut deque = ArrayDeque::<u8, 4, Saturating>::new(alloc)?;
@@ -135,7 +135,7 @@ fn copy_at(from: &[u8], to: &mut [u8], at: usize)
 }
 
 impl<const CAP: usize, B: Behavior> ArrayDeque<u8, CAP, B> {
-    /// The bytes up to the region's end.
+    /// Returns the bytes up to the region's end.
     fn front_bytes(&self) -> &[u8]
         ensures front { StartsWith self.now.items result.now }
         ensures cut { length result.now ≡ min (length self.now.items) (CAP - self.now.start) }
@@ -163,7 +163,7 @@ impl<const CAP: usize> Write for ArrayDeque<u8, CAP, Saturating> {
     /// assert!(rt; deque.write(&[4])? == 0 && deque.write_all(&[4]).is_err());
     /// assert!(rt; deque.into_vec()?.as_slice() == [1, 2, 3].as_slice());
     /// ```
-    #[inline(always)] // By calls, 16 bytes in and out took 13.8 ns, not 8.2.
+    #[inline(always)] // By calls, `stream` of 16 bytes takes two thirds longer.
     fn write(&mut self, buf: &[u8]) -> Result<usize>
         ensures count { result ≡ Ok (min (length buf.now) (CAP - length self.old.items)) }
         ensures written { self.new ≡ with_back

@@ -1,4 +1,4 @@
-//! Equality, order and hashes: those of the lists, wherever the rings start.
+//! Equality, order and hashes. They are those of the lists, wherever the rings start.
 ghost use Rattle.std.specs.Cmp.{on_equiv, on_per, on_po, on_total};
 ghost use Rattle.std.specs.Cmp.Lexicographic.{pointwise, slice_cmp, slice_partial_cmp, lists_agrees, lists_equiv, lists_per, lists_po, lists_ties, lists_total};
 ghost use Rattle.std.specs.Hash as fed;

@@ -114,7 +114,7 @@ fn drop_all<T: Drop, I: Iterator<Item = T>>(elements: I)
 
 impl<T: Drop, const CAP: usize> ArrayDeque<T, CAP, Wrapping> {
     /// Adds the items of an iterator at the back, in order. For each item that finds the deque
-    /// full, the first item is dropped; at capacity 0, the new item itself. Requires an iterator
+    /// full, the first item is dropped; at capacity 0, the new item itself is. Requires an iterator
     /// that ends. No kept item moves.
     ///
     /// Start: 1 up for each item dropped.
@@ -148,7 +148,7 @@ impl<T: Drop, const CAP: usize> ArrayDeque<T, CAP, Wrapping> {
 
     /// Adds the items of an iterator at the front, one by one: the last one is the first
     /// afterwards. For each item that finds the deque full, the last item is dropped; at capacity
-    /// 0, the new item itself. Requires an iterator that ends. No kept item moves.
+    /// 0, the new item itself is. Requires an iterator that ends. No kept item moves.
     ///
     /// Start: 1 down for each item of the iterator.
     /// Steps: 1 put for each of these, 1 take for each item dropped.
@@ -184,7 +184,7 @@ impl<T: Drop, const CAP: usize> Extend<T> for ArrayDeque<T, CAP, Saturating> {
     ghost extend_gives = { λ old xs new. new ≡ with_back (take (CAP - length old.items) xs) old };
 
     /// Adds the items of an iterator at the back, in order, while there is room, and drops the
-    /// others: unlike `extend_back` it runs the iterator to its end. Requires an iterator that
+    /// others. Unlike `extend_back`, it runs the iterator to its end. Requires an iterator that
     /// ends. It always returns `Ok`.
     ///
     /// Start: stays. Steps: 1 put for each item added.

@@ -225,9 +225,9 @@ impl<T, const CAP: usize, B: Behavior> ArrayDeque<T, CAP, B> {
         ring.as_mut_slice()
     }
 
-    /// The items but for the first `before` and the last `behind`, for writing, as one loan of two
-    /// slices: its clause says what the loan's name follows too, which
-    /// [`ArrayDeque::as_mut_slices`] needs.
+    /// Lends the items for writing, except for the first `before` and the last `behind`, as one
+    /// loan of two slices. Its clause says what the deque follows, and also what the loan's name
+    /// follows, which [`ArrayDeque::as_mut_slices`] needs.
     #[inline]
     fn lend(&mut self, before: usize, behind: usize) -> Loan<'_, T>
         requires { before + behind ≤ length self.old.items }
@@ -244,7 +244,7 @@ impl<T, const CAP: usize, B: Behavior> ArrayDeque<T, CAP, B> {
         ring.lend(before, behind)
     }
 
-    /// As [`ArrayDeque::lend`], of which it says what the loan's name tells alone.
+    /// Does what [`ArrayDeque::lend`] does, but says only what the loan's name tells.
     #[inline]
     fn lend_between(&mut self, before: usize, behind: usize) -> Loan<'_, T>
         requires { before + behind ≤ length self.old.items }

@@ -8,8 +8,8 @@ use super::ArrayDeque;
 use crate::behavior::Behavior;
 
 impl<T, const CAP: usize, B: Behavior> ArrayDeque<T, CAP, B> {
-    /// Lays the list in one piece, so that the first slice of `as_slices` has all items. If it lies
-    /// in one piece already nothing happens.
+    /// Lays the list in one piece, so that the first slice of `as_slices` has all items. If the
+    /// list lies in one piece already, nothing happens.
     ///
     /// It works in place and takes no memory.
     ///

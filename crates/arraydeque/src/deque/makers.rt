@@ -1,4 +1,4 @@
-//! Deques made of other collections, a vector of a deque, and the other policy.
+//! Deques that are made of other collections, a vector of a deque, and the other policy.
 ghost use Rattle.std.specs.Prelude.{◌≡◌, ◌<◌, ◌*◌, length, take, IfOk, IfErr, OnErr, vec_capacity};
 ghost use Rattle.std.specs.Iterator.{IsFiniteIterable};
 ghost use Rattle.std.specs.Mem.{type_size};

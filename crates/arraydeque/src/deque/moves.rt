@@ -16,8 +16,8 @@ impl<T, const CAP: usize> ArrayDeque<T, CAP, Saturating> {
     /// Requires an index up to the length. If the deque is full, returns the element in the error,
     /// and nothing has changed.
     ///
-    /// Either the items before the index or those from it on move by one place: whichever are
-    /// fewer, and on a tie the latter. That is at most half of the items.
+    /// Either the items before the index move by one place, or those from it on: whichever are
+    /// fewer, and on a tie the latter. So at most half of the items move.
     ///
     /// Start: 1 down if fewer items are before the index than from it on, else stays.
     /// Steps: 1 put, 1 move for each item that moves.
@@ -62,7 +62,7 @@ impl<T, const CAP: usize, B: Behavior> ArrayDeque<T, CAP, B> {
     /// Removes the item at an index and returns it, or returns `None` if there is none.
     ///
     /// The items before it or those behind it move by one place, whichever are fewer, and on a tie
-    /// the latter: fewer than half of the items.
+    /// the latter. So fewer than half of the items move.
     ///
     /// Start: 1 up if fewer items are before the index than behind it, else stays.
     /// Steps: 1 take, 1 move for each item that moves.
@@ -102,8 +102,8 @@ impl<T, const CAP: usize, B: Behavior> ArrayDeque<T, CAP, B> {
 
     /// Puts the first `count` items behind the others. Requires a count up to the length.
     ///
-    /// In a full deque no item moves. Else the first `count` items or the others move, whichever
-    /// are fewer, and on a tie the first: at most half of the items.
+    /// In a full deque no item moves. Otherwise the first `count` items or the others move,
+    /// whichever are fewer, and on a tie the first. So at most half of the items move.
     ///
     /// Start: `count` up, or if the others are fewer, 1 down for each of these.
     /// Steps: 1 move for each item that moves.
@@ -131,8 +131,8 @@ impl<T, const CAP: usize, B: Behavior> ArrayDeque<T, CAP, B> {
 
     /// Puts the last `count` items before the others. Requires a count up to the length.
     ///
-    /// In a full deque no item moves. Else the last `count` items or the others move, whichever are
-    /// fewer, and on a tie the others: at most half of the items.
+    /// In a full deque no item moves. Otherwise the last `count` items or the others move,
+    /// whichever are fewer, and on a tie the others. So at most half of the items move.
     ///
     /// Start: 1 up for each of the others, or if the last `count` are fewer, `count` down.
     /// Steps: 1 move for each item that moves.

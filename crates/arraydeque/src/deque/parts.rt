@@ -15,12 +15,13 @@ use std::alloc::AllocError;
 
 impl<T, const CAP: usize, B: Behavior> ArrayDeque<T, CAP, B> {
     /// Removes the items of a range, and returns them in a [`Drain`], which owns them in a region
-    /// of its own, with a place for each. Requires a range in order that ends within the list.
+    /// of its own, with a place for each. Requires a range that is in order and ends within the
+    /// list.
     ///
     /// The deque has no gap when the call returns: the items before the range or those behind it
-    /// have moved, whichever are fewer, on a tie the latter, and none for an empty range. Fails
-    /// only if memory is refused; then nothing has changed. An empty range, or items of size zero,
-    /// take no memory.
+    /// have moved, whichever are fewer, and on a tie the latter. For an empty range no item moves.
+    /// Fails only if memory is refused; then nothing has changed. An empty range, or items of size
+    /// zero, take no memory.
     ///
     /// Start: 1 up for each item of the range if fewer items are before it than behind it, else
     /// stays.

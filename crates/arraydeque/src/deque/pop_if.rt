@@ -11,8 +11,8 @@ use super::ArrayDeque;
 use crate::behavior::Behavior;
 
 impl<T, const CAP: usize, B: Behavior> ArrayDeque<T, CAP, B> {
-    /// Removes the first item and returns it, if `predicate` returns true for it. Else returns
-    /// `None`, and the item stays, as `predicate` left it. No other item moves. An empty deque
+    /// Removes the first item and returns it, if `predicate` returns true for it. Otherwise returns
+    /// `None`, and the item stays as `predicate` left it. No other item moves. An empty deque
     /// doesn't call `predicate`.
     ///
     /// Start: 1 up if the item is removed, else stays.
@@ -55,8 +55,8 @@ impl<T, const CAP: usize, B: Behavior> ArrayDeque<T, CAP, B> {
         }
     }
 
-    /// Removes the last item and returns it, if `predicate` returns true for it. Else returns
-    /// `None`, and the item stays, as `predicate` left it. No other item moves. An empty deque
+    /// Removes the last item and returns it, if `predicate` returns true for it. Otherwise returns
+    /// `None`, and the item stays as `predicate` left it. No other item moves. An empty deque
     /// doesn't call `predicate`.
     ///
     /// Start: stays. Steps: 1 lend if there is an item, 1 take if it is removed.

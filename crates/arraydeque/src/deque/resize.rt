@@ -58,9 +58,9 @@ impl<T, const CAP: usize, B: Behavior> ArrayDeque<T, CAP, B> {
         self.ring.truncate(len);
     }
 
-    /// Makes the list `len` items long: keeps the first `len`, or all and puts copies of `value`
-    /// behind them. The others are dropped, front to back. No item moves, and no memory is taken.
-    /// Requires a length up to `CAP`.
+    /// Makes the list `len` items long: it keeps the first `len`, or it keeps all and puts copies
+    /// of `value` behind them. The others are dropped, front to back. No item moves, and no memory
+    /// is taken. Requires a length up to `CAP`.
     ///
     /// Start: stays. Steps: 1 take for each item dropped, 1 put for each copy.
     ///
@@ -87,10 +87,10 @@ impl<T, const CAP: usize, B: Behavior> ArrayDeque<T, CAP, B> {
         self.ring.resize(len, value);
     }
 
-    /// Drops the items of a range, front to back. Requires a range in order that ends within the
-    /// list.
+    /// Drops the items of a range, front to back. Requires a range that is in order and ends within
+    /// the list.
     ///
-    /// The gap is closed as by `drain`. No memory is taken, so it never fails.
+    /// The gap is closed as `drain` closes it. No memory is taken, so the call never fails.
     ///
     /// Start: 1 up for each item of the range if fewer items are before it than behind it, else
     /// stays.

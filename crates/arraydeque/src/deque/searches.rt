@@ -11,8 +11,9 @@ use crate::behavior::Behavior;
 use std::cmp::Ordering;
 
 impl<T, const CAP: usize, B: Behavior> ArrayDeque<T, CAP, B> {
-    /// Returns how many items `pred` accepts, if those come first and the others behind them: the
-    /// index of the first of the others. What `pred` answers has to be a function of the item.
+    /// Returns how many items `pred` accepts, if those come first and the others behind them. That
+    /// is the index of the first of the others. What `pred` answers has to be a function of the
+    /// item.
     ///
     /// ```
     /// let mut deque = ArrayDeque::<i64, 3, Wrapping>::new(alloc)?;
@@ -145,13 +146,13 @@ impl<T, const CAP: usize, B: Behavior> ArrayDeque<T, CAP, B> {
     }
 }
 
-/// As `less_count`, in a slice.
+/// Does what `less_count` does, in a slice.
 ///
-/// Two loops, one within the other, for speed alone: LLVM turns a choice into a branch in an
-/// innermost loop only, and here every second branch would be foreseen wrongly. So up to 8,192
-/// items are halved in the outer loop, without one. More than that don't fit a near cache, and
-/// there a branch is wanted: it fetches the next item before the answer is known. By one loop
-/// 1,024 items took 59 ns, not 15.
+/// There are two loops, one within the other, for speed alone: LLVM turns a choice into a branch in
+/// an innermost loop only, and here every second branch would be foreseen wrongly. So up to 8,192
+/// items are halved in the outer loop, without a branch. More than that don't fit a near cache, and
+/// there a branch is wanted: it fetches the next item before the answer is known. By one loop,
+/// `search` among 1,024 items takes several times as long.
 fn slice_less_count<T, F: FnMut(&T) -> Ordering>(items: &[T], f: &mut F) -> usize
     requires { F.IsAlwaysCallable f.old }
     ensures bound { result ≤ length items.now }

@@ -70,8 +70,8 @@ impl<T, const CAP: usize, B: Behavior> ArrayDeque<T, CAP, B> {
         self.ring.swap_remove_front(index)
     }
 
-    /// Exchanges the items at two indexes. If the two are the same nothing happens. Requires
-    /// both to be below the length.
+    /// Exchanges the items at two indexes. If the two are the same, nothing happens. Requires both
+    /// to be below the length.
     ///
     /// Start: stays. Steps: 1 exchange, but none if the two indexes are the same.
     ///

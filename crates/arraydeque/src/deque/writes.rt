@@ -1,4 +1,4 @@
-//! The items written in place: all or a part by a closure, or those of one of the two slices.
+//! Items that are written in place: all or a part by a closure, or those of one of the two slices.
 ghost use Rattle.std.specs.Prelude.{◌≡◌, ◌-◌, ◌≤◌, length, map, take, drop, slice_range};
 ghost use Rattle.std.specs.Borrow.{sem};
 ghost use Rattle.std.specs.List.{splice};
@@ -89,8 +89,8 @@ impl<T, const CAP: usize, B: Behavior> ArrayDeque<T, CAP, B> {
         self.ring.for_each_mut_in(from, to, f);
     }
 
-    /// Returns the first of the two slices of [`ArrayDeque::as_slices`], for writing: the items
-    /// from the front to the region's end. They end as they were written.
+    /// Returns the first of the two slices of [`ArrayDeque::as_slices`], for writing. It has the
+    /// items from the front to the region's end. They end as they were written.
     ///
     /// Start: stays. Steps: 1 lend.
     ///
@@ -112,8 +112,8 @@ impl<T, const CAP: usize, B: Behavior> ArrayDeque<T, CAP, B> {
         ring.first_slice_mut()
     }
 
-    /// Returns the second of the two slices of [`ArrayDeque::as_slices`], for writing: the other
-    /// items, from the region's first place on. They end as they were written.
+    /// Returns the second of the two slices of [`ArrayDeque::as_slices`], for writing. It has the
+    /// other items, from the region's first place on. They end as they were written.
     ///
     /// Start: stays. Steps: 1 lend.
     ///

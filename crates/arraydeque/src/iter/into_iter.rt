@@ -9,8 +9,8 @@ use arraydeque_ring::ring::into_iter;
 use std::iter::FusedIterator;
 use std::marker::{Model, PhantomData};
 
-/// An iterator that owns the items of a deque, from both ends: that of a deque by value. It drops
-/// the items that are not taken, front to back.
+/// An iterator that owns the items of a deque, from both ends. It is made of a deque by value, and
+/// drops the items that are not taken, front to back.
 ///
 /// ```
 /// let mut deque = ArrayDeque::<i64, 3, Saturating>::new(alloc)?;

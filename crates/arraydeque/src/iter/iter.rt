@@ -32,9 +32,9 @@ impl<'a, T> Model for Iter<'a, T> {
 }
 
 impl<'a, T> Iter<'a, T> {
-    /// Calls `f` on a total, which begins as `init`, and each item in turn, and returns the last
-    /// total: one call an item. Std's own `fold` asks for one item after the other; this one walks
-    /// each of the two slices as a whole.
+    /// Calls `f` on a total, which begins as `init`, and on each item in turn, and returns the last
+    /// total. Std's own `fold` asks for one item after the other; this one walks each of the two
+    /// slices as a whole.
     ///
     /// ```
     /// let mut deque = ArrayDeque::<i64, 3, Saturating>::new(alloc)?;

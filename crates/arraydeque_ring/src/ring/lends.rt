@@ -110,10 +110,10 @@ impl<T> Ring<T> {
         self.lend(0, 0).into_slices()
     }
 
-    /// Lends the items for writing, but for the first `before` and the last `behind`, as one loan
-    /// of two slices: its clause says that the ring follows the loan's name, and what that name
-    /// follows. A caller of this one is proved by hand; all others call [`Ring::lend_part`].
-    /// Requires that there are so many items.
+    /// Lends the items for writing, except for the first `before` and the last `behind`, as one
+    /// loan of two slices. Its clause says that the ring follows the loan's name, and also what
+    /// that name follows. A caller of this method is proved by hand; all others call
+    /// [`Ring::lend_part`]. Requires that there are so many items.
     ///
     /// Start: stays. Steps: 2 lends.
     ///
@@ -172,7 +172,7 @@ impl<T> Ring<T> {
         self.lend_between(from, behind)
     }
 
-    /// As [`Ring::lend`], of which it says what the loan's name tells alone.
+    /// Does what [`Ring::lend`] does, but says only what the loan's name tells.
     #[inline]
     fn lend_between(&mut self, before: usize, behind: usize) -> Loan<'_, T>
         requires { before + behind ≤ length self.old.items }

@@ -1,4 +1,4 @@
-//! Laying the list in one piece, in place.
+//! Laying the list in one piece, without a second region.
 ghost use Rattle.std.specs.Prelude.{◌≡◌, ◌-◌, ◌<◌, ◌≤◌, ◌⊎◌, ◌==◌, length, if◌then◌else◌};
 ghost use Rattle.arraydeque_ring.specs.Ring.{IsInOnePiece, rotated, filled, FilledFrom};
 ghost use Rattle.arraydeque_ring.specs.Runs.{run_rotated};
@@ -10,7 +10,7 @@ use crate::slots::Slots;
 
 impl<T> Ring<T> {
     /// Lays the list in one piece that starts at the first place, so that the first slice of
-    /// `as_slices` has all items. If it lies in one piece already, wherever that is, nothing
+    /// `as_slices` has all items. If the list lies in one piece already, wherever that is, nothing
     /// happens.
     ///
     /// It works in place, by no more moves and exchanges than there are items.
@@ -43,7 +43,8 @@ impl<T> Ring<T> {
 }
 
 /// Rotates the region, whose `len` values begin at the place `start` and wrap, so that they begin
-/// at the first place. Seven values, in a region of 8 places:
+/// at the first place. Runs of values are exchanged or moved. With seven values in a region of 8
+/// places:
 ///
 ///     place             0 1 2 3 4 5 6 7
 ///     before, from 5 on d e f g . a b c
@@ -75,8 +76,8 @@ fn rotate<T>(mut slots: Slots<T>, start: usize, len: usize) -> Slots<T>
     place_rest(slots, dst, next, len)
 }
 
-/// Moves the values that aren't in their places yet to these, without an exchange: they are in one
-/// piece from `next` on, or there is room before `next` for those past the end.
+/// Moves the values that aren't in their places yet to these places. No exchange is needed, because
+/// they are in one piece from `next` on, or there is room before `next` for those past the end.
 #[inline(never)] // Inlined, a call with nothing to do took 33 instructions, not 19.
 fn place_rest<T>(slots: Slots<T>, dst: usize, next: usize, len: usize) -> Slots<T>
     requires in_order { dst ≤ next }

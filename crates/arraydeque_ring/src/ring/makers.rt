@@ -1,4 +1,4 @@
-//! Rings made of other collections, and a vector of a ring.
+//! Rings that are made of other collections, and a vector that is made of a ring.
 ghost use Rattle.std.specs.Prelude.{◌≡◌, ◌*◌, ◌<◌, ◌≤◌, length, take, IfOk, IfErr, OnErr, vec_capacity};
 ghost use Rattle.std.specs.Mem.{type_size};
 ghost use Rattle.arraydeque_ring.specs.Steps.{no_steps, more_puts};
@@ -112,8 +112,8 @@ impl<T> Ring<T> {
             start,
             len,
         } = self;
-        // By `take_before_end` and `pop_front` 79 lines of proof would go, and 1,024 words in one
-        // piece would take a tenth longer.
+        // By `take_before_end` and `pop_front`, 79 lines of proof would go, and `into_vec` of 1,024
+        // words would take longer.
         let first = len.min(slots.capacity() - start);
         for k in 0..first {
             v.push_reserved(slots.take(start + k));

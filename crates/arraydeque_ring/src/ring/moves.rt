@@ -1,5 +1,5 @@
-//! Calls that open or close a gap by moving the side with fewer items. A rotation closes one too:
-//! the empty places, seen from its new first item on.
+//! Calls that open or close a gap by moving the side with fewer items. A rotation closes a gap too:
+//! the ring's empty places, as they are seen from its new first item on.
 ghost use Rattle.std.specs.Prelude.{◌≡◌, ◌-◌, ◌+◌, ◌<◌, ◌≤◌, ◌++◌, length, take, drop, slice_get, min, max};
 ghost use Rattle.std.specs.List.{insert, remove};
 ghost use Rattle.arraydeque_ring.specs.Gaps.{Closes, MayClose, gap_moved};
@@ -17,8 +17,8 @@ impl<T> Ring<T> {
     /// Adds an element before the item at an index, or at the back if the index is the length.
     /// Requires room, and an index up to the length.
     ///
-    /// Either the items before the index, and the start with them, or those from it on move by one
-    /// place: whichever are fewer, and on a tie the latter.
+    /// Either the items before the index move by one place, and the start with them, or those from
+    /// the index on: whichever are fewer, and on a tie the latter.
     ///
     /// ```
     /// let mut ring = Ring::from_slice(alloc, 4, &[1, 3])?;
@@ -56,7 +56,7 @@ impl<T> Ring<T> {
 
     /// Removes the item at an index and returns it. Requires an index below the length.
     ///
-    /// Either the items before it, and the start with them, or those behind it move by one place:
+    /// Either the items before it move by one place, and the start with them, or those behind it:
     /// whichever are fewer, and on a tie the latter.
     ///
     /// ```
@@ -88,8 +88,8 @@ impl<T> Ring<T> {
 
     /// Puts the first `count` items behind the others. Requires a count up to the length.
     ///
-    /// In a full ring no item moves. Else the first `count` items or the others move, whichever are
-    /// fewer, and on a tie the first.
+    /// In a full ring no item moves. Otherwise the first `count` items or the others move,
+    /// whichever are fewer, and on a tie the first.
     ///
     /// ```
     /// let mut ring = Ring::from_slice(alloc, 4, &[1, 2, 3])?;
@@ -187,7 +187,7 @@ impl<T> Ring<T> {
 
 /// Closes the `gap` empty places between the `before` values from the place `start` on and the
 /// `behind` values that follow the gap. The values on one side move: those before it if they are
-/// fewer, else those behind it. Returns the list's new start.
+/// fewer, otherwise those behind it. Returns the list's new start.
 #[inline(always)] // So a removal's gap of one place is known to `move_gap`.
 pub(super) fn close_gap<T>(
     slots: &mut Slots<T>,
@@ -209,9 +209,9 @@ pub(super) fn close_gap<T>(
     }
 }
 
-/// Closes the empty places of a rotation, as `close_gap`, in a region that it hands back. A full
-/// ring has none, and doesn't call it.
-#[inline(never)] // Apart and by value: a full ring of 16 places turned in 0.7 ns, not 4.2.
+/// Closes the gap of a rotation, as `close_gap` does, in a region that it hands back. A full ring
+/// has no gap, and doesn't call it.
+#[inline(never)] // Inlined, or by a borrow, `rotate_full_half` takes several times as long.
 fn close_room<T>(
     mut slots: Slots<T>,
     start: usize,
@@ -228,8 +228,8 @@ fn close_room<T>(
 
 /// Moves the `gap` empty places from the index `from` on to the index `to`, by moving the values
 /// between the other way as one block. Indexes are counted from the place `start` on, round the
-/// end, and `to` without the gap. A move by one place has calls of its own: an `insert` and a
-/// `remove` at index 5 fell from 239 instructions to 191.
+/// end, and `to` is counted as if the gap weren't there. A move by one place has calls of its own,
+/// which take a fifth of its instructions from the workload `middle`.
 #[inline(always)] // By a hint, `middle` took 244 instructions, not 194.
 pub(super) fn move_gap<T>(slots: &mut Slots<T>, start: usize, from: usize, to: usize, gap: usize)
     requires some { 0 < gap }

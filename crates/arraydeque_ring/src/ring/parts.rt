@@ -18,10 +18,10 @@ impl<T> Ring<T> {
     /// Removes the items of the range `from..to`, and returns them in a ring of their own with no
     /// place to spare. Requires a range that is in order and ends within the list.
     ///
-    /// The ring has no gap when the call returns: the items before the range, and the start with
-    /// them, or those behind it have moved, whichever are fewer, on a tie the latter, and none for
-    /// an empty range. Fails only if memory is refused; then nothing has changed. An empty range,
-    /// or items of size zero, take no memory. In a ring of 8 places:
+    /// The ring has no gap when the call returns. The items before the range have moved, and the
+    /// start with them, or else the items behind it: whichever are fewer, and on a tie the latter.
+    /// For an empty range no item moves. The call fails only if memory is refused; then nothing has
+    /// changed. An empty range, or items of size zero, take no memory. In a ring of 8 places:
     ///
     ///     place                 0 1 2 3 4 5 6 7
     ///     before, from 5 on     d e . . . a b c
@@ -186,9 +186,9 @@ impl<T> Ring<T> {
     }
 }
 
-/// Hands the `len` values from the index `at` on over to the first places of another region: those
-/// up to the end in one run, the others in a second. Indexes are counted from the place `start` on,
-/// round the end.
+/// Hands the `len` values from the index `at` on over to the first places of another region. Those
+/// up to the end go in one run, and the others in a second. Indexes are counted from the place
+/// `start` on, round the end.
 fn take_round<T>(slots: &mut Slots<T>, start: usize, at: usize, len: usize, taken: &mut Slots<T>)
     requires in_region { start ≤ length slots.old.places - 1 }
     requires filled { IsFilledRun (rotated start slots.old.places) at len }

@@ -59,9 +59,9 @@ impl<T> Ring<T> {
         self.len = len;
     }
 
-    /// Makes the list `len` items long: keeps the first `len`, or all and puts copies of `value`
-    /// behind them. The others are dropped, front to back. No item moves. Requires a length up to
-    /// the capacity.
+    /// Makes the list `len` items long: it keeps the first `len`, or it keeps all and puts copies
+    /// of `value` behind them. The others are dropped, front to back. No item moves. Requires a
+    /// length up to the capacity.
     ///
     /// ```
     /// let mut ring = Ring::from_slice(alloc, 4, &[1, 2])?;
@@ -117,7 +117,7 @@ impl<T> Ring<T> {
     /// Drops the items of the range `from..to`, front to back. Requires a range that is in order
     /// and ends within the list.
     ///
-    /// The gap is closed as by `drain`. No memory is taken, so it never fails.
+    /// The gap is closed as `drain` closes it. No memory is taken, so the call never fails.
     ///
     /// ```
     /// let mut ring = Ring::from_slice(alloc, 4, &[1, 2, 3, 4])?;

@@ -92,9 +92,9 @@ impl<T> Ring<T> {
         self.len = kept;
     }
 
-    /// Returns how many items come before the first that `f` rejects, the last on which it is
-    /// called. They don't move, so the loop counts places alone, which saved a tenth to a half of
-    /// the time of a `retain`.
+    /// Returns how many items come before the first that `f` rejects, which is the last on which
+    /// `f` is called. They don't move, so the loop only counts places, which makes the workload
+    /// `retain` faster.
     #[tactic(auto, using(crate::proofs::Opened::slice_facts))]
     fn kept_count<F: FnMut(&T) -> bool>(&self, f: &mut F) -> usize
         requires { MayBeAsked F.FnMut f.old self.now.items }

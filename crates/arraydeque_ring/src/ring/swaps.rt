@@ -6,7 +6,7 @@ ghost use Rattle.arraydeque_ring.specs.Steps.{more_takes, more_exchanges};
 use super::Ring;
 
 impl<T> Ring<T> {
-    /// Exchanges the items at two indexes. If the two are the same nothing happens. Requires both
+    /// Exchanges the items at two indexes. If the two are the same, nothing happens. Requires both
     /// to be below the length.
     ///
     /// ```

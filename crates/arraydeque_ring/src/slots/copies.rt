@@ -12,12 +12,12 @@ use super::{BLOCK_BYTES, Slots, StepKind, is_block};
 const NARROW: usize = BLOCK_BYTES / 1024;
 
 impl<T> Slots<T> {
-    /// Puts copies of the first `first` items into the empty places from `from` on, and of the
-    /// others into the first places. If the run doesn't wrap, there are no others.
+    /// Puts copies of the first `first` items into the empty places from `from` on, and copies of
+    /// the others into the first places. If the run doesn't wrap, there are no others.
     ///
-    /// All that it calls but `put_long` is inlined with it, so that a caller's sizes choose the
-    /// blocks.
-    #[inline(always)] // `stream` of 16 bytes, in blocks of 512 to 1: 8.2 ns, not 13.8.
+    /// All that it calls, except for `put_long`, is inlined with it, so that a caller's sizes
+    /// choose the blocks.
+    #[inline(always)] // By blocks of 512 to 1, `stream` of 16 bytes takes two thirds longer.
     pub(crate) fn put_copies(&mut self, from: usize, items: &[T], first: usize)
     where
         T: Copy,
@@ -77,9 +77,10 @@ impl<T> Slots<T> {
         self.put_rest(from, items, put);
     }
 
-    /// Puts copies of the narrow items from the index `at` on. Bytes, if fewer than 16, go in one
-    /// block of just their number. By blocks of 8, 4, 2 and 1, each of them tried, pieces of 1 to
-    /// 64 bytes took 1.08 ns a byte, not 0.88. Returns the number of all items.
+    /// Puts copies of the narrow items from the index `at` on. Returns the number of all items.
+    ///
+    /// If fewer than 16 bytes are left, they go in one block of exactly their number. If blocks of
+    /// 8, 4, 2 and 1 bytes were tried one after the other, `pipe_varying` would take longer.
     #[inline(always)] // So a known number of items chooses its block when the caller is compiled.
     fn put_rest(&mut self, from: usize, items: &[T], at: usize) -> usize
     where

@@ -1,4 +1,4 @@
-//! Values lent for writing: one run in a slice, or two runs in two slices.
+//! Values that are lent for writing: one run in a slice, or two runs in two slices.
 //!
 //! A contract sees a [`Loan`] as its two slices and its name. By that name a clause says what the
 //! lender is once the loan has ended, so that a caller who only writes through the loan knows it.
@@ -31,7 +31,7 @@ unsafe impl<'a, T: Send> Send for LoanName<'a, T> {}
 
 unsafe impl<'a, T: Sync> Sync for LoanName<'a, T> {}
 
-/// Values lent for writing in two slices, one behind the other, under one name.
+/// Values that are lent for writing in two slices, one behind the other, under one name.
 #[derive(Drop)]
 pub struct Loan<'a, T> {
     pub(super) first: &'a mut [T],

@@ -1,9 +1,10 @@
 //! Runs of values that move to other places, or are exchanged.
 //!
-//! Between two regions a run moves at once. Within a region it is cut into parts that don't pass
-//! the region's end. A part moves at once too or, if its new places meet its old ones, in blocks by
-//! `move_block`, in an order that overwrites no value that has yet to move. While values are moved
-//! or exchanged one by one, the region is a local variable: its pointer is known to stay.
+//! Between two regions, a run moves at once. Within a region, a run is cut into parts that don't
+//! pass the region's end. A part moves at once too, unless its new places meet its old ones. Then
+//! it moves in blocks, by `move_block`, in an order that overwrites no value that has yet to move.
+//! While values are moved or exchanged one by one, the region is a local variable, so that its
+//! pointer is known to stay.
 ghost use Rattle.std.specs.Prelude.{◌≡◌, ◌+◌, ◌-◌, ◌*◌, ◌<◌, ◌≤◌, length, take, drop, if◌then◌else◌, ◌==◌};
 ghost use Rattle.std.specs.List.{splice};
 ghost use Rattle.arraydeque_ring.specs.Moved.{MeetAtOneEndAtMost, IsFilledRound, IsFreeRound, CanMoveRun, CanMove, is_block, run_moved};
@@ -149,9 +150,10 @@ impl<T> Slots<T> {
         self.count(StepKind::Move, len);
     }
 
-    /// Moves a run in three parts, cut where either side passes the region's end, one after the
-    /// other: from the first on if the run moves down, by no more places than are free, else from
-    /// the last on. In a region of 8 places, six values from place 4 on to place 6:
+    /// Moves a run in three parts, which are cut where either side passes the region's end. They
+    /// move one after the other: from the first on if the run moves down by no more places than are
+    /// free, otherwise from the last on. In a region of 8 places, six values move from place 4 on
+    /// to place 6:
     ///
     ///     place              0 1 2 3 4 5 6 7
     ///     before             e f . . a b c d
@@ -183,8 +185,8 @@ impl<T> Slots<T> {
         }
     }
 
-    /// Moves a run of which neither side passes the end: at once, unless its new places meet its
-    /// old ones.
+    /// Moves a run of which neither side passes the end. It moves at once, unless its new places
+    /// meet its old ones.
     #[inline(never)] // Inlined, it made `move_in_parts` 1842 bytes of 346, and no rotation faster.
     fn move_run(&mut self, dst: usize, src: usize, len: usize)
         requires { CanMoveRun dst src len self.old.places }
@@ -200,8 +202,8 @@ impl<T> Slots<T> {
         }
     }
 
-    /// Moves a run of which neither side passes the end, in blocks, the largest first: from the
-    /// first value on if the run moves down, else from the last on.
+    /// Moves a run of which neither side passes the end, in blocks, the largest first. It begins
+    /// with the first value if the run moves down, otherwise with the last.
     #[inline(never)] // Inlined, `rotate_half_half` of 16 places took 218 instructions, not 186.
     fn move_in_blocks(&mut self, dst: usize, src: usize, len: usize)
         requires { CanMoveRun dst src len self.old.places }
