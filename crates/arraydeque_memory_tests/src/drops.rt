@@ -143,6 +143,21 @@ fn truncates_drop_front_to_back(rt: HostRuntime) -> Result<(), Fail> {
     Ok(())
 }
 
+/// What a range of the items 1 to 5 drops when it is removed, and the deque that is left.
+#[test]
+fn a_removed_range_drops_front_to_back(rt: HostRuntime) -> Result<(), Fail> {
+    let drops = Drops::new();
+    for start in 0..5 {
+        let mut deque = deque_at::<5>(rt.alloc(), &drops, start, 5)?;
+        drops.since();
+        assert!(rt; deque.len() == 5);
+        deque.remove_range(1..4);
+        let gone = drops.since();
+        assert!(rt; [gone, drops.with(deque)] == [234, 15], "start {start}");
+    }
+    Ok(())
+}
+
 /// What an append of the items 1 to 5 to a deque of the items 8 and 9 drops, and what the deque and
 /// the other drop then.
 fn append_to<const CAP: usize>(

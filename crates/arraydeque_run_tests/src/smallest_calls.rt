@@ -39,6 +39,7 @@ fn takes_nothing_out<const CAP: usize, B: Behavior>(deque: &mut ArrayDeque<i64, 
     deque.truncate(0);
     deque.truncate_front(0);
     deque.resize(0, 7);
+    deque.remove_range(..);
     deque.clear();
     deque.rotate_left(0);
     deque.rotate_right(0);
