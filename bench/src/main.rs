@@ -1,17 +1,15 @@
 //! Times the proved deque beside the Rust crate arraydeque and std's `VecDeque`, all in one process.
-mod counts;
-mod figures;
 mod items;
 mod peers;
 mod times;
 mod works;
 
-use figures::Figures;
 use items::{Block, Bytes};
 use peers::{Bounded, Crate};
 use std::hint::black_box;
 use std::io::IsTerminal;
 use std::time::{Duration, Instant};
+use times::Figures;
 
 /// How long one timed run of a workload is to take, about.
 const RUN: Duration = Duration::from_millis(3);
@@ -31,13 +29,13 @@ unsafe extern "C" {
 }
 
 /// What so many rounds of a proved workload come to, or 0 if it has no such row.
-pub fn ours(name: &str, bytes: usize, capacity: usize, rounds: usize) -> u64 {
+fn ours(name: &str, bytes: usize, capacity: usize, rounds: usize) -> u64 {
     // SAFETY: the declaration fits the export, which asks for a slice and no more.
     unsafe { arraydeque_bench(name.as_ptr(), name.len(), bytes, capacity, rounds) }
 }
 
 /// One workload at one size of items and one capacity, as each of the three does it.
-pub struct Workload {
+struct Workload {
     name: String,
     ours: Box<dyn Fn(usize) -> u64>,
     peers: [fn(usize) -> u64; 2],
@@ -279,7 +277,6 @@ fn measure(wanted: &str, repetitions: usize, writes: bool) -> std::io::Result<()
     }
     println!("{}", times::HEAD);
     all.iter().for_each(|row| println!("{}", times::line(row)));
-    println!("{}", times::mean_line(&all));
     if writes && wanted.is_empty() { times::write(&all) } else { Ok(()) }
 }
 
@@ -288,6 +285,17 @@ fn print_sums(rounds: usize, wanted: &str) {
     for workload in all_workloads().iter().filter(|workload| workload.name.contains(wanted)) {
         println!("{}: {}", workload.name, workload.peers[1](rounds));
     }
+}
+
+/// Makes rounds of one workload by one of the three alone, for another program to watch.
+fn once(name: &str, who: &str, rounds: usize) {
+    let all = all_workloads();
+    let workload = all.iter().find(|workload| workload.name == name).expect("a workload");
+    black_box(match who {
+        "ours" => (workload.ours)(rounds),
+        "crate" => workload.peers[0](rounds),
+        _ => workload.peers[1](rounds),
+    });
 }
 
 fn all_workloads() -> Vec<Workload> {
@@ -305,13 +313,8 @@ fn main() {
 fn work(words: &[String]) {
     let word = |place: usize| words.get(place).map_or("", String::as_str);
     match word(0) {
-        "--scale" => counts::scale(),
-        "--count" if words.len() == 1 => {
-            counts::count_long().expect("figures.csv can be read, and what was counted be written");
-        }
-        "--count" => counts::count(word(1)),
         "--sums" => print_sums(word(1).parse().expect("a number of rounds"), word(2)),
-        "--once" => counts::once(word(1), word(2), word(3).parse().expect("a number of rounds")),
+        "--once" => once(word(1), word(2), word(3).parse().expect("a number of rounds")),
         wanted => {
             let repetitions = word(1).parse().unwrap_or(13);
             let writes = std::env::var_os("ARRAYDEQUE_BENCH_CPU").is_none();
