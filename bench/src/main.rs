@@ -110,16 +110,13 @@ macro_rules! of_a_million {
 /// Items in and out, and single items.
 fn workloads_of_items() -> Vec<Workload> {
     let mut list = Vec::new();
-    of_all_lists!(list, queue, history, lent_queue, lent_history, lent_many, lent_get, get, index_mut);
+    of_all_lists!(list, queue, history, lent_queue, lent_history, lent_many, lent_get, middle, swap);
     of_all_items!(list, ends);
-    of_all_lists!(list, middle, random, swap, swap_remove_back, swap_remove_front);
-    of_a_million!(list, queue, history, get, index_mut, get_mut, swap, swap_remove_back, swap_remove_front);
-    // The other rows showed the same as those of `index_mut`.
-    workloads!(list, [(8, u64, 1000)], get_mut);
+    of_a_million!(list, queue, history, swap, search);
     workloads!(
         list,
-        [(8, u64, 1024), (8, u64, 1000), (64, Block, 1024), (8, u64, 64), (8, u64, 16), (8, u64, 1000000)],
-        search, partition_point
+        [(8, u64, 1024), (8, u64, 1000), (64, Block, 1024), (8, u64, 64), (8, u64, 16)],
+        search
     );
     list
 }
@@ -127,51 +124,30 @@ fn workloads_of_items() -> Vec<Workload> {
 /// All items, read or written.
 fn workloads_in_place() -> Vec<Workload> {
     let mut list = Vec::new();
-    of_all_lists!(list, iterate, fold, rev, zip, contains, iterate_mut);
-    of_a_million!(list, iterate, fold, contains);
-    of_a_million!(list, iterate_mut, add_each, iter_mut_for_each, for_each_mut, for_each_mut_in, range_mut);
-    // Items of 64 bytes showed the same as in `iterate_mut`. At capacity 16 the compiler sums the rounds of
-    // `*for_each*` without making them.
-    workloads!(
-        list, [(1, u8, 1024), (8, u64, 1024), (8, u64, 1000), (8, u64, 64)],
-        add_each, iter_mut_for_each, for_each_mut, for_each_mut_in, range_mut
-    );
-    workloads!(list, [(8, u64, 16)], add_each, range_mut);
-    workloads!(
-        list, [(1, u8, 1024), (8, u64, 1024), (8, u64, 1000), (8, u64, 64), (8, u64, 16)],
-        equal, compare, hash
-    );
+    of_all_lists!(list, iterate, rev, contains, iterate_mut);
+    of_a_million!(list, iterate, contains, iterate_mut, for_each_mut_in);
+    // At capacity 16 the compiler sums the rounds of `for_each_mut_in` without making them.
+    workloads!(list, [(1, u8, 1024), (8, u64, 1024), (8, u64, 1000), (8, u64, 64)], for_each_mut_in);
+    workloads!(list, [(1, u8, 1024), (8, u64, 1024), (8, u64, 1000), (8, u64, 64), (8, u64, 16)], equal, hash);
     list
 }
 
 /// Many items in, out or moved, and deques made and taken apart.
 fn workloads_of_many() -> Vec<Workload> {
     let mut list = Vec::new();
-    of_all_lists!(list, extend_slice, extend_front, truncate, retain, retain_mut);
-    of_all_lists!(list, split_off, split_append, split_rejoin);
-    of_all_items!(list, extend_lent, extend_history, resize);
-    workloads!(list, [(8, u64, 1024), (8, u64, 1000)], extend_vec);
+    of_all_lists!(list, extend_slice, truncate, retain, drain_four, split_append, split_rejoin);
+    of_all_items!(list, resize, linearize_full);
     // Not at capacity 16, whose rounds the compiler sums without making them.
     workloads!(list, [(8, u64, 64)], resize);
-    of_all_lists!(list, drain_middle, drain_four);
-    // Items of 64 bytes showed the same as in `drain_middle`, and the other rows of `drain_fold` as in `drain_all`.
     workloads!(list, [(1, u8, 1024), (8, u64, 1024), (8, u64, 1000), (8, u64, 64), (8, u64, 16)], drain_all);
-    workloads!(list, [(64, Block, 1024)], drain_fold);
     of_all_lists!(
         list,
         rotate[true, true] as rotate_full_one,
-        rotate[true, false] as rotate_full_half,
         rotate[false, true] as rotate_half_one,
         rotate[false, false] as rotate_half_half
     );
-    of_all_lists!(list, rotate_half_one_right, linearize);
-    of_all_items!(list, linearize_full, linearize_some[1] as linearize_1);
-    workloads!(
-        list, [(1, u8, 1024), (8, u64, 1024), (64, Block, 1024)],
-        linearize_some[8] as linearize_8, linearize_some[64] as linearize_64
-    );
-    of_all_lists!(list, from_vec, into_vec, vec_and_back, into_items, into_fold, into_ends);
-    workloads!(list, [(8, u64, 1024), (8, u64, 1000), (8, u64, 64), (8, u64, 16)], clone, from_array);
+    of_all_lists!(list, vec_and_back, into_items);
+    workloads!(list, [(8, u64, 1024), (8, u64, 1000), (8, u64, 64), (8, u64, 16)], from_array);
     list
 }
 
@@ -180,21 +156,17 @@ fn further_workloads() -> Vec<Workload> {
     let mut list = Vec::new();
     workloads!(
         list, [(100, Box<u64>, 64), (100, Box<u64>, 1024), (101, String, 64), (101, String, 1024)],
-        owned_queue, owned_clear, owned_insert, owned_retain, owned_drain
+        owned_insert
     );
-    // Boxes in 64 places showed the same as in `owned_retain`, and other rows of `owned_truncate` as in `owned_drain`.
     workloads!(list, [(100, Box<u64>, 1024), (101, String, 64), (101, String, 1024)], owned_clone);
-    workloads!(list, [(101, String, 1024)], owned_truncate);
     workloads!(
         list, [(16, u8, 8192, Bytes<16>), (256, u8, 8192, Bytes<256>), (4096, u8, 8192, Bytes<4096>)],
-        pipe, pipe_truncating, pipe_popping, pipe_wrapping, stream
+        pipe, stream
     );
     workloads!(list, [(64, u8, 4096, Bytes<64>), (1000, u8, 4096, Bytes<1000>)], pipe_varying);
-    workloads!(list, [(8, u64, 64), (8, u64, 1000), (8, u64, 1024)], window, window_largest, run);
+    workloads!(list, [(8, u64, 64), (8, u64, 1000), (8, u64, 1024)], window_largest, run);
     workloads!(list, [(1, u8, 1)], scan);
     workloads!(list, [(4, char, 16)], yaml);
-    workloads!(list, [(24, Vec<u8>, 64)], log_copied);
-    workloads!(list, [(16, &'static [u8], 64)], log_lent);
     list
 }
 

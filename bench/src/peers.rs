@@ -23,20 +23,16 @@ pub trait Peer<T>: Sized {
     fn back(&self) -> Option<&T>;
     fn back_mut(&mut self) -> Option<&mut T>;
     fn get_mut(&mut self, index: usize) -> Option<&mut T>;
-    fn at_mut(&mut self, index: usize) -> &mut T;
     fn contains(&self, item: &T) -> bool
     where
         T: PartialEq;
     fn swap(&mut self, i: usize, j: usize);
-    fn swap_remove_back(&mut self, index: usize) -> Option<T>;
-    fn swap_remove_front(&mut self, index: usize) -> Option<T>;
     fn from_vec(items: Vec<T>) -> Self;
     fn from_array<const N: usize>(items: [T; N]) -> Self;
     fn into_vec(self) -> Vec<T>;
     fn insert(&mut self, index: usize, item: T) -> bool;
     fn remove(&mut self, index: usize) -> Option<T>;
     fn extend_back(&mut self, items: impl IntoIterator<Item = T>);
-    fn extend_front(&mut self, items: impl IntoIterator<Item = T>);
     fn clear(&mut self);
     fn drain(&mut self, range: Range<usize>) -> impl Iterator<Item = T>;
     fn split_off(&mut self, at: usize) -> Self;
@@ -45,14 +41,10 @@ pub trait Peer<T>: Sized {
     fn resize(&mut self, len: usize, value: T)
     where
         T: Clone;
-    fn into_items(self) -> impl DoubleEndedIterator<Item = T>;
+    fn into_items(self) -> impl Iterator<Item = T>;
     fn retain(&mut self, keeps: impl FnMut(&T) -> bool);
-    /// Writes each item, and keeps those that are wanted then.
-    fn retain_mut(&mut self, writes: impl FnMut(&mut T), keeps: impl FnMut(&T) -> bool);
     fn rotate_left(&mut self, count: usize);
-    fn rotate_right(&mut self, count: usize);
     fn binary_search_by(&self, order: impl FnMut(&T) -> Ordering) -> Result<usize, usize>;
-    fn partition_point(&self, is_before: impl FnMut(&T) -> bool) -> usize;
     fn pop_back_if(&mut self, is_wanted: impl FnOnce(&mut T) -> bool) -> Option<T>;
     fn pop_front_if(&mut self, is_wanted: impl FnOnce(&mut T) -> bool) -> Option<T>;
     fn iter<'a>(&'a self) -> impl DoubleEndedIterator<Item = &'a T>
@@ -80,11 +72,6 @@ pub trait Stream: Peer<u8> {
 pub trait History<T> {
     fn new() -> Self;
     fn push_back(&mut self, item: T) -> Option<T>;
-    fn extend_back(&mut self, items: impl IntoIterator<Item = T>);
-    fn front(&self) -> Option<&T>;
-    fn iter<'a>(&'a self) -> impl Iterator<Item = &'a T>
-    where
-        T: 'a;
 }
 
 /// The calls that both peers have under the same names.
@@ -123,10 +110,6 @@ macro_rules! shared {
             self.0.get_mut(index)
         }
         #[inline]
-        fn at_mut(&mut self, index: usize) -> &mut T {
-            &mut self.0[index]
-        }
-        #[inline]
         fn contains(&self, item: &T) -> bool
         where
             T: PartialEq,
@@ -136,14 +119,6 @@ macro_rules! shared {
         #[inline]
         fn swap(&mut self, i: usize, j: usize) {
             self.0.swap(i, j);
-        }
-        #[inline]
-        fn swap_remove_back(&mut self, index: usize) -> Option<T> {
-            self.0.swap_remove_back(index)
-        }
-        #[inline]
-        fn swap_remove_front(&mut self, index: usize) -> Option<T> {
-            self.0.swap_remove_front(index)
         }
         #[inline]
         fn from_vec(items: Vec<T>) -> Self {
@@ -174,7 +149,7 @@ macro_rules! shared {
             Self(self.0.split_off(at))
         }
         #[inline]
-        fn into_items(self) -> impl DoubleEndedIterator<Item = T> {
+        fn into_items(self) -> impl Iterator<Item = T> {
             self.0.into_iter()
         }
         #[inline]
@@ -207,7 +182,7 @@ macro_rules! shared {
 }
 
 /// The Rust crate arraydeque.
-#[derive(Clone, PartialEq, Eq, PartialOrd, Ord, Hash)]
+#[derive(Clone, PartialEq, Hash)]
 pub struct Crate<T, const CAP: usize>(ArrayDeque<T, CAP, Saturating>);
 
 impl<T, const CAP: usize> Peer<T> for Crate<T, CAP> {
@@ -233,10 +208,6 @@ impl<T, const CAP: usize> Peer<T> for Crate<T, CAP> {
     #[inline]
     fn extend_back(&mut self, items: impl IntoIterator<Item = T>) {
         self.0.extend_back(items);
-    }
-    #[inline]
-    fn extend_front(&mut self, items: impl IntoIterator<Item = T>) {
-        self.0.extend_front(items);
     }
     #[inline]
     fn append(&mut self, other: Self) {
@@ -268,23 +239,10 @@ impl<T, const CAP: usize> Peer<T> for Crate<T, CAP> {
         self.0.linearize();
     }
     #[inline]
-    fn retain_mut(&mut self, writes: impl FnMut(&mut T), keeps: impl FnMut(&T) -> bool) {
-        self.0.iter_mut().for_each(writes);
-        self.0.retain(keeps);
-    }
-    #[inline]
     fn rotate_left(&mut self, count: usize) {
         for _ in 0..count {
             if let Some(item) = self.0.pop_front() {
                 let _ = self.0.push_back(item);
-            }
-        }
-    }
-    #[inline]
-    fn rotate_right(&mut self, count: usize) {
-        for _ in 0..count {
-            if let Some(item) = self.0.pop_back() {
-                let _ = self.0.push_front(item);
             }
         }
     }
@@ -296,15 +254,6 @@ impl<T, const CAP: usize> Peer<T> for Crate<T, CAP> {
             back.binary_search_by(order).map(shifted).map_err(shifted)
         } else {
             front.binary_search_by(order)
-        }
-    }
-    #[inline]
-    fn partition_point(&self, mut is_before: impl FnMut(&T) -> bool) -> usize {
-        let (front, back) = self.0.as_slices();
-        if back.first().is_some_and(&mut is_before) {
-            front.len() + back.partition_point(is_before)
-        } else {
-            front.partition_point(is_before)
         }
     }
     #[inline]
@@ -344,25 +293,10 @@ impl<T, const CAP: usize> History<T> for ArrayDeque<T, CAP, Wrapping> {
     fn push_back(&mut self, item: T) -> Option<T> {
         ArrayDeque::<T, CAP, Wrapping>::push_back(self, item)
     }
-    #[inline]
-    fn extend_back(&mut self, items: impl IntoIterator<Item = T>) {
-        ArrayDeque::<T, CAP, Wrapping>::extend_back(self, items);
-    }
-    #[inline]
-    fn front(&self) -> Option<&T> {
-        ArrayDeque::front(self)
-    }
-    #[inline]
-    fn iter<'a>(&'a self) -> impl Iterator<Item = &'a T>
-    where
-        T: 'a,
-    {
-        ArrayDeque::iter(self)
-    }
 }
 
 /// std's `VecDeque`, bounded by hand.
-#[derive(Clone, PartialEq, Eq, PartialOrd, Ord, Hash)]
+#[derive(Clone, PartialEq, Hash)]
 pub struct Bounded<T, const CAP: usize>(VecDeque<T>);
 
 impl<T, const CAP: usize> Peer<T> for Bounded<T, CAP> {
@@ -403,13 +337,6 @@ impl<T, const CAP: usize> Peer<T> for Bounded<T, CAP> {
         self.0.extend(items.into_iter().take(room));
     }
     #[inline]
-    fn extend_front(&mut self, items: impl IntoIterator<Item = T>) {
-        let room = CAP - self.0.len();
-        for item in items.into_iter().take(room) {
-            self.0.push_front(item);
-        }
-    }
-    #[inline]
     fn append(&mut self, mut other: Self) {
         other.0.truncate(CAP - self.0.len());
         self.0.append(&mut other.0);
@@ -437,27 +364,12 @@ impl<T, const CAP: usize> Peer<T> for Bounded<T, CAP> {
         self.0.make_contiguous();
     }
     #[inline]
-    fn retain_mut(&mut self, mut writes: impl FnMut(&mut T), mut keeps: impl FnMut(&T) -> bool) {
-        self.0.retain_mut(|item| {
-            writes(item);
-            keeps(item)
-        });
-    }
-    #[inline]
     fn rotate_left(&mut self, count: usize) {
         self.0.rotate_left(count);
     }
     #[inline]
-    fn rotate_right(&mut self, count: usize) {
-        self.0.rotate_right(count);
-    }
-    #[inline]
     fn binary_search_by(&self, order: impl FnMut(&T) -> Ordering) -> Result<usize, usize> {
         self.0.binary_search_by(order)
-    }
-    #[inline]
-    fn partition_point(&self, is_before: impl FnMut(&T) -> bool) -> usize {
-        self.0.partition_point(is_before)
     }
     #[inline]
     fn pop_back_if(&mut self, is_wanted: impl FnOnce(&mut T) -> bool) -> Option<T> {
@@ -492,22 +404,5 @@ impl<T, const CAP: usize> History<T> for Bounded<T, CAP> {
         let oldest = if self.0.len() < CAP { None } else { self.0.pop_front() };
         self.0.push_back(item);
         oldest
-    }
-    #[inline]
-    fn extend_back(&mut self, items: impl IntoIterator<Item = T>) {
-        for item in items {
-            History::push_back(self, item);
-        }
-    }
-    #[inline]
-    fn front(&self) -> Option<&T> {
-        self.0.front()
-    }
-    #[inline]
-    fn iter<'a>(&'a self) -> impl Iterator<Item = &'a T>
-    where
-        T: 'a,
-    {
-        self.0.iter()
     }
 }

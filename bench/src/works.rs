@@ -1,6 +1,5 @@
 //! The workloads, each as in the proved crate, over a peer: a file a subject.
 mod bytes;
-mod clients;
 mod ends;
 mod makers;
 mod owned;
@@ -12,7 +11,6 @@ mod walks;
 mod yaml;
 
 pub use self::bytes::*;
-pub use self::clients::*;
 pub use self::ends::*;
 pub use self::makers::*;
 pub use self::owned::*;

@@ -1,7 +1,7 @@
 //! Many items in and out.
 use super::{last_number, peer_at};
 use crate::items::{Item, first_items, next_random};
-use crate::peers::{History, Peer};
+use crate::peers::Peer;
 
 pub fn extend_slice<T: Item, D: Peer<T>, const CAP: usize>(rounds: usize) -> u64 {
     let items = first_items::<T>(CAP / 2);
@@ -11,73 +11,6 @@ pub fn extend_slice<T: Item, D: Peer<T>, const CAP: usize>(rounds: usize) -> u64
         deque.extend_back(items.iter().copied());
         sum = sum.wrapping_add(last_number(&deque));
         deque.clear();
-    }
-    sum
-}
-
-pub fn extend_vec<T: Item, D: Peer<T>, const CAP: usize>(rounds: usize) -> u64 {
-    let items = first_items::<T>(CAP / 2);
-    let mut deque: D = peer_at(0, CAP / 3);
-    let mut sum = 0u64;
-    for _ in 0..rounds {
-        deque.extend_back(items.clone());
-        sum = sum.wrapping_add(last_number(&deque));
-        deque.clear();
-    }
-    sum
-}
-
-pub fn extend_lent<T: Item, D: Peer<T>, const CAP: usize>(rounds: usize) -> u64 {
-    #[inline(never)]
-    fn extend_through<T: Item, D: Peer<T>>(deque: &mut D, items: &[T]) {
-        deque.extend_back(items.iter().copied());
-    }
-    let items = first_items::<T>(CAP / 2);
-    let mut deque: D = peer_at(0, CAP / 3);
-    let mut sum = 0u64;
-    for _ in 0..rounds {
-        extend_through(&mut deque, &items);
-        sum = sum.wrapping_add(last_number(&deque));
-        deque.clear();
-    }
-    sum
-}
-
-pub fn extend_front<T: Item, D: Peer<T>, const CAP: usize>(rounds: usize) -> u64 {
-    let items = first_items::<T>(CAP / 2);
-    let mut deque: D = peer_at(0, CAP / 3);
-    let mut sum = 0u64;
-    for _ in 0..rounds {
-        deque.extend_front(items.iter().copied());
-        sum = sum.wrapping_add(last_number(&deque));
-        deque.clear();
-    }
-    sum
-}
-
-pub fn extend_history<T: Item, D: Peer<T>, const CAP: usize>(rounds: usize) -> u64 {
-    let items = first_items::<T>(CAP / 2);
-    let mut deque = D::History::new();
-    deque.extend_back(first_items::<T>(CAP));
-    let mut sum = 0u64;
-    for _ in 0..rounds {
-        deque.extend_back(items.iter().copied());
-        sum = sum.wrapping_add(deque.front().map_or(0, Item::number));
-    }
-    sum
-}
-
-pub fn drain_middle<T: Item, D: Peer<T>, const CAP: usize>(rounds: usize) -> u64 {
-    let items = first_items::<T>(CAP / 2);
-    let mut deque: D = peer_at(CAP / 2, CAP);
-    let mut sum = 0u64;
-    for _ in 0..rounds {
-        let from = deque.len() / 4;
-        let to = deque.len() - from;
-        for item in deque.drain(from..to) {
-            sum = sum.wrapping_add(item.number());
-        }
-        deque.extend_back(items.iter().copied());
     }
     sum
 }
@@ -96,18 +29,6 @@ pub fn drain_all<T: Item, D: Peer<T>, const CAP: usize>(rounds: usize) -> u64 {
     sum
 }
 
-pub fn drain_fold<T: Item, D: Peer<T>, const CAP: usize>(rounds: usize) -> u64 {
-    let items = first_items::<T>(CAP / 2);
-    let mut deque: D = peer_at(CAP / 2, 0);
-    let mut sum = 0u64;
-    for _ in 0..rounds {
-        deque.extend_back(items.iter().copied());
-        let len = deque.len();
-        sum = deque.drain(0..len).fold(sum, |sum, item| sum.wrapping_add(item.number()));
-    }
-    sum
-}
-
 pub fn drain_four<T: Item, D: Peer<T>, const CAP: usize>(rounds: usize) -> u64 {
     let items = first_items::<T>(4);
     let mut deque: D = peer_at(CAP / 2, CAP);
@@ -118,20 +39,6 @@ pub fn drain_four<T: Item, D: Peer<T>, const CAP: usize>(rounds: usize) -> u64 {
             for item in deque.drain(from..from + 4) {
                 sum = sum.wrapping_add(item.number());
             }
-        }
-        deque.extend_back(items.iter().copied());
-    }
-    sum
-}
-
-pub fn split_off<T: Item, D: Peer<T>, const CAP: usize>(rounds: usize) -> u64 {
-    let items = first_items::<T>(CAP / 2);
-    let mut deque: D = peer_at(CAP / 2, CAP);
-    let mut sum = 0u64;
-    for _ in 0..rounds {
-        let middle = deque.len() / 2;
-        for item in deque.split_off(middle).into_items() {
-            sum = sum.wrapping_add(item.number());
         }
         deque.extend_back(items.iter().copied());
     }
@@ -198,21 +105,6 @@ pub fn retain<T: Item, D: Peer<T>, const CAP: usize>(rounds: usize) -> u64 {
         deque.retain(|item| item.number() & bit != 0);
         bit = if bit == 128 { 1 } else { bit << 1 };
         sum = sum.wrapping_add(deque.len() as u64);
-    }
-    sum
-}
-
-pub fn retain_mut<T: Item, D: Peer<T>, const CAP: usize>(rounds: usize) -> u64 {
-    let mut deque: D = peer_at(CAP / 2, 0);
-    let mut sum = 0u64;
-    let mut state = 1u64;
-    for _ in 0..rounds {
-        while deque.len() < CAP {
-            state = next_random(state);
-            deque.push_back(T::of(state));
-        }
-        deque.retain_mut(|item| *item = T::of(item.number() >> 1), |item| item.number() & 1 != 0);
-        sum = sum.wrapping_mul(3).wrapping_add(last_number(&deque));
     }
     sum
 }

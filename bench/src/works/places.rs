@@ -1,20 +1,7 @@
-//! One item at a place: read, written, put in, taken out, exchanged or searched for.
+//! One item at a place: read, put in and taken out, exchanged or searched for.
 use super::{peer_at, place_of, sum_of};
 use crate::items::{Item, next_random};
 use crate::peers::Peer;
-
-pub fn get<T: Item, D: Peer<T>, const CAP: usize>(rounds: usize) -> u64 {
-    let deque: D = peer_at(CAP / 2, CAP);
-    let mut sum = 0u64;
-    let mut index = 0usize;
-    for _ in 0..rounds {
-        if let Some(item) = deque.get(index) {
-            sum = sum.wrapping_add(item.number());
-        }
-        index = if index < CAP / 2 { index + CAP / 3 } else { index - CAP / 2 };
-    }
-    sum
-}
 
 pub fn lent_get<T: Item, D: Peer<T>, const CAP: usize>(rounds: usize) -> u64 {
     #[inline(never)]
@@ -31,32 +18,6 @@ pub fn lent_get<T: Item, D: Peer<T>, const CAP: usize>(rounds: usize) -> u64 {
     sum
 }
 
-pub fn get_mut<T: Item, D: Peer<T>, const CAP: usize>(rounds: usize) -> u64 {
-    let mut deque: D = peer_at(CAP / 2, CAP);
-    let mut state = 1u64;
-    for _ in 0..rounds {
-        state = next_random(state);
-        if let Some(item) = deque.get_mut(place_of::<CAP>(state)) {
-            *item = T::of(item.number().wrapping_add(1));
-        }
-    }
-    sum_of(&deque)
-}
-
-pub fn index_mut<T: Item, D: Peer<T>, const CAP: usize>(rounds: usize) -> u64 {
-    let mut deque: D = peer_at(CAP / 2, CAP);
-    let mut state = 1u64;
-    for _ in 0..rounds {
-        state = next_random(state);
-        let i = place_of::<CAP>(state);
-        if i < deque.len() {
-            let number = deque.at(i).number();
-            *deque.at_mut(i) = T::of(number.wrapping_add(1));
-        }
-    }
-    sum_of(&deque)
-}
-
 pub fn middle<T: Item, D: Peer<T>, const CAP: usize>(rounds: usize) -> u64 {
     let mut deque: D = peer_at(CAP / 2, CAP.saturating_sub(1));
     let mut sum = 0u64;
@@ -64,22 +25,6 @@ pub fn middle<T: Item, D: Peer<T>, const CAP: usize>(rounds: usize) -> u64 {
         let index = deque.len() / 2;
         deque.insert(index, T::of(round));
         if let Some(item) = deque.remove(index) {
-            sum = sum.wrapping_add(item.number());
-        }
-    }
-    sum
-}
-
-pub fn random<T: Item, D: Peer<T>, const CAP: usize>(rounds: usize) -> u64 {
-    let mut deque: D = peer_at(CAP / 2, CAP.saturating_sub(1));
-    let mut sum = 0u64;
-    let mut state = 1u64;
-    for round in 0..rounds as u64 {
-        state = next_random(state);
-        let index = (state >> 32) as usize % CAP;
-        deque.insert(index, T::of(round));
-        state = next_random(state);
-        if let Some(item) = deque.remove((state >> 32) as usize % CAP) {
             sum = sum.wrapping_add(item.number());
         }
     }
@@ -99,30 +44,6 @@ pub fn swap<T: Item, D: Peer<T>, const CAP: usize>(rounds: usize) -> u64 {
     sum_of(&deque)
 }
 
-pub fn swap_remove_back<T: Item, D: Peer<T>, const CAP: usize>(rounds: usize) -> u64 {
-    let mut deque: D = peer_at(CAP / 2, CAP);
-    let mut state = 1u64;
-    for _ in 0..rounds {
-        state = next_random(state);
-        if let Some(item) = deque.swap_remove_back(place_of::<CAP>(state)) {
-            deque.push_back(item);
-        }
-    }
-    sum_of(&deque)
-}
-
-pub fn swap_remove_front<T: Item, D: Peer<T>, const CAP: usize>(rounds: usize) -> u64 {
-    let mut deque: D = peer_at(CAP / 2, CAP);
-    let mut state = 1u64;
-    for _ in 0..rounds {
-        state = next_random(state);
-        if let Some(item) = deque.swap_remove_front(place_of::<CAP>(state)) {
-            deque.push_front(item);
-        }
-    }
-    sum_of(&deque)
-}
-
 pub fn search<T: Item, D: Peer<T>, const CAP: usize>(rounds: usize) -> u64 {
     let deque: D = peer_at(CAP / 2, CAP);
     let mut sum = 0u64;
@@ -134,18 +55,6 @@ pub fn search<T: Item, D: Peer<T>, const CAP: usize>(rounds: usize) -> u64 {
             Ok(index) => sum = sum.wrapping_add(index as u64),
             Err(index) => sum = sum.wrapping_sub(index as u64),
         }
-    }
-    sum
-}
-
-pub fn partition_point<T: Item, D: Peer<T>, const CAP: usize>(rounds: usize) -> u64 {
-    let deque: D = peer_at(CAP / 2, CAP);
-    let mut sum = 0u64;
-    let mut state = 1u64;
-    for _ in 0..rounds {
-        state = next_random(state);
-        let bound = place_of::<CAP>(state) as u64;
-        sum = sum.wrapping_add(deque.partition_point(|item| item.number() < bound) as u64);
     }
     sum
 }

@@ -1,26 +1,7 @@
 //! Small programs.
 use super::peer_at;
-use crate::items::{Item, first_items, next_random};
-use crate::peers::{History, Peer};
-
-pub fn window<T: Item, D: Peer<T>, const CAP: usize>(rounds: usize) -> u64 {
-    let samples = first_items::<T>(1_000_000);
-    let mut recent = D::History::new();
-    for number in 0..CAP as u64 {
-        recent.push_back(T::of(number));
-    }
-    let (mut total, mut sum) = (0u64, 0u64);
-    for _ in 0..rounds {
-        for sample in &samples {
-            total = total.wrapping_add(sample.number());
-            if let Some(oldest) = recent.push_back(*sample) {
-                total = total.wrapping_sub(oldest.number());
-            }
-            sum ^= total;
-        }
-    }
-    sum
-}
+use crate::items::{Item, next_random};
+use crate::peers::Peer;
 
 pub fn window_largest<T: Item, D: Peer<u64>, const CAP: usize>(rounds: usize) -> u64 {
     let mut falling = D::new();

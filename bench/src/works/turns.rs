@@ -15,31 +15,6 @@ pub fn rotate<T: Item, D: Peer<T>, const CAP: usize, const IS_FULL: bool, const 
     sum
 }
 
-pub fn rotate_half_one_right<T: Item, D: Peer<T>, const CAP: usize>(rounds: usize) -> u64 {
-    let mut deque: D = peer_at(CAP / 3, CAP / 2);
-    let mut sum = 0u64;
-    for _ in 0..rounds {
-        deque.rotate_right(1);
-        sum = sum.wrapping_mul(3).wrapping_add(last_number(&deque));
-    }
-    sum
-}
-
-pub fn linearize<T: Item, D: Peer<T>, const CAP: usize>(rounds: usize) -> u64 {
-    let mut deque: D = peer_at(CAP / 2, CAP - CAP / 4);
-    let mut sum = 0u64;
-    for _ in 0..rounds {
-        for _ in 0..CAP / 2 {
-            if let Some(item) = deque.pop_front() {
-                deque.push_back(item);
-            }
-        }
-        deque.linearize();
-        sum = sum.wrapping_add(deque.first_slice().len() as u64);
-    }
-    sum
-}
-
 pub fn linearize_full<T: Item, D: Peer<T>, const CAP: usize>(rounds: usize) -> u64 {
     let mut deque: D = peer_at(0, CAP - CAP / 64);
     let mut sum = 0u64;
@@ -47,21 +22,6 @@ pub fn linearize_full<T: Item, D: Peer<T>, const CAP: usize>(rounds: usize) -> u
         for _ in 0..CAP / 32 {
             if let Some(item) = deque.pop_front() {
                 deque.push_back(item);
-            }
-        }
-        deque.linearize();
-        sum = sum.wrapping_add(deque.first_slice().len() as u64);
-    }
-    sum
-}
-
-pub fn linearize_some<T: Item, D: Peer<T>, const CAP: usize, const TURNED: usize>(rounds: usize) -> u64 {
-    let mut deque: D = peer_at(0, CAP - CAP / 4);
-    let mut sum = 0u64;
-    for _ in 0..rounds {
-        for _ in 0..TURNED {
-            if let Some(item) = deque.pop_back() {
-                deque.push_front(item);
             }
         }
         deque.linearize();

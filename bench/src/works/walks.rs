@@ -1,5 +1,5 @@
-//! All items of a list: read, written, compared, hashed or copied.
-use super::{last_number, peer_at};
+//! All items of a list: read, written, compared or hashed.
+use super::peer_at;
 use crate::items::Item;
 use crate::peers::Peer;
 use std::hash::{DefaultHasher, Hash, Hasher};
@@ -22,27 +22,6 @@ pub fn rev<T: Item, D: Peer<T>, const CAP: usize>(rounds: usize) -> u64 {
         for item in deque.iter().rev() {
             sum = sum.wrapping_add(item.number() ^ round);
         }
-    }
-    sum
-}
-
-pub fn zip<T: Item, D: Peer<T>, const CAP: usize>(rounds: usize) -> u64 {
-    let deque: D = peer_at(CAP / 2, CAP);
-    let other: D = peer_at(CAP / 3, CAP);
-    let mut sum = 0u64;
-    for round in 0..rounds as u64 {
-        for (left, right) in deque.iter().zip(other.iter()) {
-            sum = sum.wrapping_add(left.number() ^ right.number() ^ round);
-        }
-    }
-    sum
-}
-
-pub fn fold<T: Item, D: Peer<T>, const CAP: usize>(rounds: usize) -> u64 {
-    let deque: D = peer_at(CAP / 2, CAP);
-    let mut sum = 0u64;
-    for round in 0..rounds as u64 {
-        sum = deque.iter().fold(sum, |sum, item| sum.wrapping_add(item.number() ^ round));
     }
     sum
 }
@@ -74,31 +53,6 @@ pub fn iterate_mut<T: Item, D: Peer<T>, const CAP: usize>(rounds: usize) -> u64 
     sum
 }
 
-pub fn add_each<T: Item, D: Peer<T>, const CAP: usize>(rounds: usize) -> u64 {
-    let mut deque: D = peer_at(CAP / 2, CAP);
-    let mut sum = 0u64;
-    for _ in 0..rounds {
-        for item in deque.iter_mut() {
-            *item = T::of(item.number().wrapping_add(1));
-        }
-        sum = sum.wrapping_add(last_number(&deque));
-    }
-    sum
-}
-
-pub fn iter_mut_for_each<T: Item, D: Peer<T>, const CAP: usize>(rounds: usize) -> u64 {
-    let mut deque: D = peer_at(CAP / 2, CAP);
-    let mut sum = 0u64;
-    for _ in 0..rounds {
-        deque.iter_mut().for_each(|item| *item = T::of(item.number().wrapping_add(1)));
-        sum = sum.wrapping_add(last_number(&deque));
-    }
-    sum
-}
-
-/// By an iterator, as the peers have no other way.
-pub use self::iter_mut_for_each as for_each_mut;
-
 pub fn for_each_mut_in<T: Item, D: Peer<T>, const CAP: usize>(rounds: usize) -> u64 {
     let mut deque: D = peer_at(CAP / 2, CAP);
     let mut sum = 0u64;
@@ -106,22 +60,6 @@ pub fn for_each_mut_in<T: Item, D: Peer<T>, const CAP: usize>(rounds: usize) -> 
         let from = deque.len() / 4;
         let to = deque.len() - from;
         deque.range_mut(from..to).for_each(|item| *item = T::of(item.number().wrapping_add(1)));
-        if let Some(item) = deque.get(CAP / 2) {
-            sum = sum.wrapping_add(item.number());
-        }
-    }
-    sum
-}
-
-pub fn range_mut<T: Item, D: Peer<T>, const CAP: usize>(rounds: usize) -> u64 {
-    let mut deque: D = peer_at(CAP / 2, CAP);
-    let mut sum = 0u64;
-    for _ in 0..rounds {
-        let from = deque.len() / 4;
-        let to = deque.len() - from;
-        for item in deque.range_mut(from..to) {
-            *item = T::of(item.number().wrapping_add(1));
-        }
         if let Some(item) = deque.get(CAP / 2) {
             sum = sum.wrapping_add(item.number());
         }
@@ -142,19 +80,6 @@ pub fn equal<T: Item, D: Peer<T> + PartialEq, const CAP: usize>(rounds: usize) -
     sum
 }
 
-pub fn compare<T: Item + Ord, D: Peer<T> + Ord, const CAP: usize>(rounds: usize) -> u64 {
-    let mut deque: D = peer_at(0, CAP);
-    let other: D = peer_at(CAP / 3, CAP);
-    let mut sum = 0u64;
-    for round in 0..rounds as u64 {
-        if let Some(item) = deque.back_mut() {
-            *item = T::of((CAP as u64).wrapping_sub(1 + round % 2));
-        }
-        sum = sum.wrapping_add(if deque.cmp(&other).is_lt() { 1 } else { 2 });
-    }
-    sum
-}
-
 /// The sums of the peers differ from the proved deque's, which feeds each item by itself.
 pub fn hash<T: Item, D: Peer<T> + Hash, const CAP: usize>(rounds: usize) -> u64 {
     let deque: D = peer_at(CAP / 2, CAP);
@@ -163,19 +88,6 @@ pub fn hash<T: Item, D: Peer<T> + Hash, const CAP: usize>(rounds: usize) -> u64 
         let mut hasher = DefaultHasher::new();
         deque.hash(&mut hasher);
         sum = sum.wrapping_add(hasher.finish());
-    }
-    sum
-}
-
-pub fn clone<T: Item, D: Peer<T> + Clone, const CAP: usize>(rounds: usize) -> u64 {
-    let deque: D = peer_at(CAP / 2, CAP);
-    let mut sum = 0u64;
-    for _ in 0..rounds {
-        let clone = deque.clone();
-        sum = sum.wrapping_add(clone.second_slice().len() as u64);
-        if let Some(item) = clone.back() {
-            sum = sum.wrapping_add(item.number());
-        }
     }
     sum
 }
