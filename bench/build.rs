@@ -1,4 +1,4 @@
-//! Links the archive of the proved workloads, and the part of the kit in C that it calls. What draws needs neither.
+//! Links the archive of the proved workloads, and the part of the kit in C that it calls. To compile it needs neither.
 fn main() {
     for (variable, library) in [
         ("ARRAYDEQUE_BENCH_ARCHIVE", "arraydeque_bench"),

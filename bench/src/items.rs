@@ -29,7 +29,7 @@ impl Item for u64 {
 }
 
 /// Sixty-four bytes.
-#[derive(Clone, Copy, PartialEq, Eq, PartialOrd, Ord, Hash)]
+#[derive(Clone, Copy, PartialEq)]
 pub struct Block([u64; 8]);
 
 impl Item for Block {

@@ -3,6 +3,7 @@ use arraydeque::{ArrayDeque, Saturating, Wrapping};
 use std::cmp::Ordering;
 use std::collections::VecDeque;
 use std::hash::Hash;
+use std::hint::black_box;
 use std::io::{Read, Write};
 use std::iter::repeat;
 use std::ops::Range;
@@ -305,7 +306,8 @@ impl<T, const CAP: usize> Peer<T> for Bounded<T, CAP> {
     shared!();
 
     fn new() -> Self {
-        Self(VecDeque::with_capacity(CAP))
+        // Else the compiler finds at some capacities that the deque never grows, and folds its capacity into the loop.
+        Self(VecDeque::with_capacity(black_box(CAP)))
     }
     #[inline]
     fn push_back(&mut self, item: T) -> bool {
