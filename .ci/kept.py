@@ -1,97 +1,291 @@
 #!/usr/bin/env -S python3 -B
-"""Holds what ring and deque promise, as `promises.py` reads it, to what they promised at the last release.
+"""Holds what callers of ring and deque read to what they read at the last release.
 
-A release is the commit that gave its heading in CHANGELOG its day; while none has, or git doesn't know that commit,
-nothing is held. One bullet above that heading has to name, in backticks, a part with the call, type or word that it is
-of: under 'Breaks' what is gone, a `requires` that is new, and a `requires` or signature of another text; there or under
-'New' whatever else has another text. Whether a text says more or less isn't looked at.
+That is text, in one layout, without comments, tests and bodies, and none of it is understood; a name that is bound
+within a clause may change. Of `src`, but for the region: what `pub` hands on; each public type with what it derives,
+its private fields as one; each member of a public trait, or of an impl for a public type; a call's signature with its
+impl's bounds, and each clause by its label, with `=` if no other is of its kind; from where the words and types of all
+these come; and each `unsafe impl`, the region's too. Of `specs` each word, and from where its words come, of
+`specs/formers` the statements alone; of `proofs` the statements that CALLING names beside their file.
+
+An entry above that release's heading in CHANGELOG, a bullet or a table's row, has to name in backticks what differs, a
+clause by call and label: under 'Breaks' what is gone or has another text, what an old call or trait asks anew, and a
+call that hides a trait's; under 'Breaks' or 'New' an `ensures` of another text. If other places have such a call and
+clause, it names a type or policy that they lack. A release is the first commit that gave its heading a day. It is held
+itself to the release before it, by its own section. Without git's whole history nothing can be held, and that is a
+fault, unless ARRAYDEQUE_HISTORY is `none`.
+
+Not seen: whether a text says less, more or the same; what the toolchain's words mean; a type's invariant; what follows
+from private fields, such as `Send`; a new call that hides a trait's provided one; which crates are needed; what proofs
+by hand cite besides; time. For these the maintainer reads `git diff` of both crates.
 """
 import io
+import os
 import re
 import subprocess
 import sys
 import tarfile
 from pathlib import Path
 
-import promises
+from rattle import without_comments, without_tests
 
 ROOT = Path(__file__).resolve().parent.parent
-CHANGES = ROOT / 'CHANGELOG.md'
-RELEASE = re.compile(r'^## .*, \d+ \w+ \d{4}$', re.M)
+CRATES = ('crates/arraydeque', 'crates/arraydeque_ring')
+RELEASE = re.compile(r'^## (.*), \d+ \w+ \d{4}$', re.M)
 SECTION = re.compile(r'^### (Breaks|New)\n(.*?)(?=^#|\Z)', re.M | re.S)
+ENTRY = re.compile(r'^(?:- .*(?:\n +\S.*)*|\| .*)', re.M)
+ITEM = re.compile(r'^(?=(?:pub|impl|unsafe|ghost|struct|enum|trait|fn|mod|use|const|static|type)\b)', re.M)
+IMPL = re.compile(r'impl(<(?:->|[^<>]|<(?:[^<>]|<[^<>]*>)*>)*>)? ((?:[^{}]|\{[^{}\n]*\})*?) \{(.*)', re.S)
+MEMBER = re.compile(r'^    (?=#\[|(?:ghost (?!use )|type |(?:pub\S* )?(?:const |unsafe )*(?:fn |const ))\w)', re.M)
+SHOWN = re.compile(r'(ghost|type|(?:pub )?const) (?!fn )(\w+)')
+CALL = re.compile(r'(?:const |unsafe )*fn (\w+)')
+PUBLIC_CALL = re.compile(r'^ *pub (?:const |unsafe )*fn ', re.M)
+CLAUSE = re.compile(r'^ *(?=(?:requires|ensures)\b)', re.M)
+PRIVATE = re.compile(r'^(?:pub\(\w+\) )?(?:struct|enum|trait) (\w+)', re.M)
+FIELD = re.compile(r'^    (?:pub\(\w+\) )?(?!pub |ghost )\w+: .*\n?', re.M)
+LAYOUT = re.compile(r'(?<=\() |,? (?=\))|(?<=[( ])mut (?=\w+:|self\b)|,$')
+BOUND = re.compile(r'λ ([^.]*)\.|\blet (\w+) =|[({](\w+) :')
+USE = re.compile(r'^ *((?:ghost |pub )?)use (.*\{\n(?:.*\n)*?\}|.*).*\n', re.M)
+WORD = re.compile(r' *(?:\w+ )?pub (?:(?:mod|record|data|ruleset) )?([^\s(:{]+)')
 
 
-def git(*words):
-    """What git prints of this tree, or nothing if it fails."""
-    return subprocess.run(['git', *words], cwd=ROOT, capture_output=True).stdout
+def plain(text):
+    """A text in one line, in one layout."""
+    return LAYOUT.sub('', ' '.join(text.split()))
 
 
-def last_release():
-    """The heading of the newest release that git knows, and its commit, or why there is none."""
-    headings = RELEASE.findall(CHANGES.read_text())
-    if not headings:
-        return '', 'in CHANGELOG no release has its day'
-    if git('rev-parse', '--is-shallow-repository').strip() != b'false':
-        return '', 'their history is not here'
-    for heading in headings:
-        if commit := git('log', '-1', '--format=%h', f'-S{heading}', '--', CHANGES.name).decode().strip():
-            return heading, commit
-    return '', 'git knows no commit that gave a release its day'
+def words(text):
+    """The words of a text."""
+    return set(re.findall(r'[\w-]+', text))
+
+
+def imported(text, is_public=False):
+    """Each name that imports bring in, and from where. Of the crate's own modules it doesn't matter from which."""
+    for lines in [it[1] for it in USE.findall(text) if (it[0] == 'pub ') == is_public]:
+        outer = ['']
+        for part in re.findall(r'[^\s{},;]+(?: as \w+)?|[{}]', lines.replace('::', '.')):
+            if part == '}':
+                outer.pop()
+            elif part.endswith('.'):
+                outer.append(outer[-1] + part)
+            elif part != '{':
+                yield re.split(r'[. ]', part)[-1], re.sub(r'^(?:crate|super|self)\..*', 'crate', outer[-1] + part)
+
+
+def cited(owner, texts, imports):
+    """From where the words come that these texts of one owner cite, an operator by its signs."""
+    tokens = set(re.split(r'[\s(){}<>,;:.!&\[\]]+', ' '.join(texts)))
+    for name, origin in imports:
+        if tokens.issuperset(name.strip('◌').split('◌')):
+            yield (owner, name, 'from'), origin
+
+
+def of_clause(text, known):
+    """A clause, with numbers for names that it binds, but for those that are known otherwise, or name a field too."""
+    fields = set(re.findall(r'[{;] (\w+) =', text))
+    names = re.findall(r'\w+', ' '.join(' '.join(it) for it in BOUND.findall(text)))
+    numbers = {name: f'_{at}' for at, name in enumerate(dict.fromkeys(names)) if name not in known | fields}
+    return re.sub(r"(?<!\.)[\w'-]+", lambda it: numbers.get(it[0], it[0]), plain(text).removesuffix(';'))
+
+
+def of_call(owner, bounds, code, known):
+    """The signature and the clauses of a call."""
+    body = re.search(r'^(?:    )?(?:[{}]$|\S.* \{$)', code, re.M)
+    signature, *clauses = CLAUSE.split(code[: body.end() - 1] if body else code)
+    name, kinds = CALL.search(signature)[1], [re.match(r'\w+', it)[0] for it in clauses]
+    yield (owner, name, ''), plain(f'{bounds} {signature}').removesuffix(' {').removesuffix(';')
+    for kind, clause in zip(kinds, clauses):
+        label = re.match(r'\w+\*? ?(\w*)', clause)[1]
+        part = f'{kind}{"=" if kinds.count(kind) == 1 else ""} {label}'
+        yield (owner, name, part), of_clause(clause, known | words(signature))
+
+
+def of_block(owner, bounds, members, is_shown, known):
+    """The members of a trait or an impl: all of them, or the public ones."""
+    for member in MEMBER.split(members)[1:]:
+        if shown := SHOWN.match(member):
+            if is_shown and (' Model for ' not in owner or shown[2] == 'Value') or shown[1] == 'pub const':
+                yield (owner, shown[2], ''), of_clause(member.rpartition(';')[0], known)
+        elif CALL.search(member.partition('\n')[0]) and (is_shown or member.startswith('pub ')):
+            yield from of_call(owner, bounds, member, known)
+
+
+def of_type(crate, name, code, attributes):
+    """A public type, its private fields as one, and what it derives."""
+    others = re.sub(r'#\[(?:derive|tactic|doc).*\n', '', attributes)
+    hides = ' ..' if 'struct' in code and FIELD.search(code) else ''
+    yield (crate, name, ''), plain(others + (FIELD.sub('', code) if hides else code)) + hides
+    derived = re.findall(r'\w+', ' '.join(re.findall(r'derive\((.*)\)', attributes)))
+    yield from (((crate, name, f'derives {it}'), '') for it in derived)
+
+
+def of_item(path, crate, item, attributes, known):
+    """What a file has of promises by one item."""
+    if item.startswith('unsafe impl') and (marked := re.match(r'unsafe (impl.* (\w+) for (\w+).*)', item)):
+        yield (f'{crate} unsafe {marked[3]}', marked[2], ''), plain(marked[1])
+    elif '/src/slots' in path:
+        return
+    elif block := IMPL.match(item):
+        bounds, head, members = block[1] or '', plain(block[2]), block[3]
+        owner = f'{crate} {head}'
+        if ' for ' in head:
+            trait, name = (re.findall(r'\w+', it.partition('<')[0])[-1] for it in head.split(' for '))
+            yield (owner, name, f'impl {trait}'), plain(f'{bounds} {head}')
+        yield from of_block(owner, f'impl{bounds}', members, ' for ' in head, known)
+    elif block := re.match(r'(pub trait (\w+).*?) \{(.*)', item, re.S):
+        yield (f'{crate} trait {block[2]}', block[2], 'impl'), plain(block[1])
+        yield from of_block(f'{crate} trait {block[2]}', '', block[3], True, known)
+    elif kind := re.match(r'pub (?:struct|enum) (\w+)', item):
+        yield from of_type(crate, kind[1], item, attributes)
+    elif re.match(r'pub (?:use|mod) ', item):
+        yield from (((f'{path} pub', name, ''), '') for name, _ in imported(item.replace(' mod ', ' use '), True))
+    elif PUBLIC_CALL.match(item):
+        yield from of_call(crate, '', item, known)
+    elif other := re.match(r'pub (?:const|static|type) (\w+)', item):
+        yield (crate, other[1], ''), plain(item)
+
+
+def of_source(path, text):
+    """What a file of code has of promises, and from where their words come."""
+    crate, code = path.split('/')[1], without_tests(without_comments(text, None))
+    imports, attributes, found = [*imported(code)], '', []
+    for whole in ITEM.split(code):
+        item = re.sub(r'(?:^#.*\n)+\Z', '', whole, flags=re.M)
+        found += of_item(path, crate, item, attributes, {name for name, _ in imports})
+        attributes = whole[len(item):]
+    if len(PUBLIC_CALL.findall(code)) != sum(len(CALL.findall(it)) for (owner, _, part), it in found
+                                             if not part and ' for ' not in owner and ' trait ' not in owner):
+        sys.exit(f'kept: of {path} not each public call is read') if '/src/slots' not in path else None
+    yield from found
+    for owner in {it[0] for it, _ in found}:
+        yield from cited(owner, [it for key, it in found if key[0] == owner], imports)
+
+
+def of_words(path, text):
+    """The words of a file of `specs` or `proofs`, those that it passes on, and from where their words come."""
+    outer, around, found, states = '', '', [], '/proofs/' in path or '/formers/' in path
+    text = re.sub(r'^ *--.*\n', '', text, flags=re.M)
+    yield from (((path, name, 'use'), origin) for name, origin in imported(text, True))
+    for chunk in re.split(r'\n\n+|^(?= *(?:\w+ )?pub )', USE.sub('', text), flags=re.M):
+        if head := re.match(r' *module _ (.*?) where\n?', chunk, re.S):
+            outer = head[1] if chunk.startswith('module') else outer
+            around, chunk = f'{outer} {head[1]}', chunk[head.end():]
+        is_public = WORD.match(chunk)
+        name = is_public or re.match(r' *(?:\w+ )?([^\s(:{]+) :', chunk)
+        if not name or states and not is_public:
+            continue
+        if states:
+            chunk = re.split(rf'^ *{re.escape(name[1])}(?= |$)', chunk, flags=re.M)[0]
+        found.append(((path, name[1], '' if is_public else 'private'), plain(f'{around if chunk[0] == " " else ""} {chunk}')))
+    yield from found
+    yield from cited(path, [it for _, it in found], imported(text))
+
+
+def interface(texts):
+    """What callers may read in the files of a tree, by place, name and part."""
+    found = {}
+    code = {it: text for it, text in texts.items() if re.match(r'.*/src/(?!.*\btests\b).*\.rt$', it)}
+    hidden = {it for text in code.values() for it in PRIVATE.findall(text)} | {'Slots', 'slots'}
+    promises = [it for path, text in code.items() for it in of_source(path, text)
+                if ' unsafe ' in it[0][0] or not hidden & words(f'{it[0][0]} {it[0][1]}')]
+    for path, text in texts.items():
+        if re.match(r'.*/(?:specs|proofs)/.*\.antt$', path):
+            promises += of_words(path, text)
+    for key, text in promises:
+        found.setdefault(key, set()).add(text)
+    return {key: ' | '.join(sorted(it)) for key, it in found.items()}
+
+
+def promised(texts):
+    """What callers could rest on in the files of a tree: of `proofs` what CALLING names, beside its file."""
+    calling = ' '.join(re.findall(r'`[^`\n]+`', texts[f'{CRATES[0]}/CALLING.md'])).replace('::', '.')
+    told = {path for path in texts if '/proofs/' in path
+            and path.removeprefix('crates/').removesuffix('.antt').replace('/', '.') in calling}
+    return {key: it for key, it in interface(texts).items() if '/proofs/' not in key[0]
+            or key[0] in told and (key[1] in words(calling) or key[2] == 'from')}
+
+
+def differences(old, new):
+    """What callers have to be told: each with what became of it, and whether it breaks them."""
+    owners, gone = {it[0] for it in old}, old.keys() - new.keys()
+    blocks = {it[0] for it in gone if it[2].startswith('impl')}
+    methods = {(it[1], type_of(it[0])) for it in old if ' for ' in it[0]}
+    for key, text in old.items():
+        owner, name, part = key
+        # What is gone is told once, without its parts.
+        is_told = owner in blocks and not part.startswith('impl') or part and (owner, name, '') in gone
+        if key in new and new[key] != text:
+            yield key, 'has another text', ' trait ' in owner or not part.startswith('ensures')
+        elif key not in new and not is_told and part not in ('from', 'private'):
+            yield key, 'is gone', True
+    for owner, name, part in new.keys() - old.keys():
+        if part != 'from' and owner in owners and ' trait ' in owner or part[:3] == 'req' and (owner, name, '') in old:
+            yield (owner, name, part), 'is asked anew', True
+        elif ' ' in owner and not part and ' for ' not in owner and (name, type_of(owner)) in methods:
+            yield (owner, name, part), "hides a trait's", True
+
+
+def type_of(owner):
+    """The type that an impl is for."""
+    return re.match(r'\w*', (owner.split(' for ') if ' for ' in owner else owner.split(' ', 1))[-1])[0]
+
+
+def untold(old, new, news):
+    """What CHANGELOG's part above a release doesn't tell of a difference."""
+    entries = [(section, words(' '.join(re.findall(r'`[^`]+`', it)).replace('::', ' ')))
+               for section, text in SECTION.findall(news) for it in ENTRY.findall(text)]
+    for (owner, name, part), what, is_break in sorted(differences(old, new)):
+        others = [words(it[0]) for it in old if it[1:] == (name, part) and it[0] != owner and part != 'from']
+        only = words(owner) - {'trait'}.union(*others) if others else set()
+        only = {it for it in only if re.match(r'[A-Z]\w*[a-z]', it)} or only
+        wanted = {name.strip('◌'), *part.split()[1:]}
+        if not any(wanted <= named and (not only or only & named) and (section == 'Breaks' or not is_break)
+                   for section, named in entries):
+            also = f', and one of {" ".join(sorted(only))}' if only else ''
+            yield f'{owner}: {name} {part} {what}: CHANGELOG names {" and ".join(sorted(wanted))}{also}, under Breaks'
+
+
+def git(*given):
+    """What git prints of this tree."""
+    return subprocess.run(['git', *given], cwd=ROOT, capture_output=True, check=True).stdout
 
 
 def texts_at(commit):
     """The files of ring and deque at a commit."""
-    with tarfile.open(fileobj=io.BytesIO(git('archive', '--format=tar', commit, *promises.CRATES))) as files:
+    with tarfile.open(fileobj=io.BytesIO(git('archive', '--format=tar', commit, *CRATES))) as files:
         return {it.name: files.extractfile(it).read().decode() for it in files if it.isfile()}
 
 
 def texts_here():
     """The files of ring and deque in this tree."""
-    kinds = ('rt', 'antt', 'md')
-    files = [it for crate in promises.CRATES for kind in kinds for it in (ROOT / crate).rglob(f'*.{kind}')]
+    files = [it for crate in CRATES for kind in ('rt', 'antt', 'md') for it in (ROOT / crate).rglob(f'*.{kind}')]
     return {it.relative_to(ROOT).as_posix(): it.read_text() for it in files}
 
 
-def differences(old, new):
-    """What of the old promises is gone, has another text, or is required anew, and whether that is a break."""
-    had, has, places, gone = {it[:3] for it in old}, {it[:3]: it for it in new}, {it.place for it in new}, set()
-    for it in old:
-        if it[:3] in has:
-            if has[it[:3]].text != it.text:
-                yield it, 'has another text', it.is_strict
-        elif not {it.place, it[:2]} & gone:
-            yield it, 'is gone', True
-            # An impl, or what has parts, is told without these.
-            if ' for ' in it.place and it.place not in places:
-                gone.add(it.place)
-            elif not it.part:
-                gone.add(it[:2])
-    for it in new:
-        if it.is_strict and it.part and it[:3] not in had and (*it[:2], '') in had:
-            yield it, 'is required anew', True
-
-
-def untold(old, texts, news):
-    """What the files change of the old promises, and the part of CHANGELOG above the release doesn't tell."""
-    told = [(section, promises.names(' '.join(re.findall(r'`[^`]+`', bullet))))
-            for section, bullets in SECTION.findall(news) for bullet in re.findall(r'^- .*', bullets, re.M)]
-    code, words = promises.of_tree(texts)
-    for it, what, is_break in differences(old, [*code, *words]):
-        wanted = [it.name, *re.findall(r'[\w-]+$', it.part)]
-        if not any({*wanted} <= named and (section == 'Breaks' or not is_break) for section, named in told):
-            bullet = f'{" and ".join(f"`{word}`" for word in wanted)} in one bullet under Breaks'
-            bullet += '' if is_break else ' or New'
-            yield f'{" ".join(it[:3]).strip()} {what}, so CHANGELOG has to name {bullet}'
+def releases(names):
+    """The commits that made the newest release and the one before it, or nothing if the history isn't here."""
+    try:
+        if not (ROOT / '.git').exists() or git('rev-parse', '--is-shallow-repository').strip() != b'false':
+            return []
+        return [git('log', '--reverse', '--format=%h', f'-G^## {it}, [0-9]', '--', 'CHANGELOG.md').decode().split()[0]
+                for it in names[:2]]
+    except (OSError, subprocess.CalledProcessError, IndexError):
+        return []
 
 
 def faults_of_promises():
     """What isn't told, and in one line what it was held to."""
-    heading, commit = last_release()
-    if not heading:
-        return [], f'promises are held to none: {commit}'
-    old = promises.promised(texts_at(commit))
-    held = f'{len(old)} promises are as {heading.strip("# ")} ({commit}) has them, or CHANGELOG tells the change'
-    return [*untold(old, texts_here(), CHANGES.read_text().split(heading)[0])], held
+    news = (ROOT / 'CHANGELOG.md').read_text()
+    names, parts = RELEASE.findall(news), RELEASE.split(news)[::2]
+    commits = releases(names)
+    if not commits:
+        fault = "promises are held to none: a release's day, or the history, is not here: clone it whole"
+        return ([], fault) if os.environ.get('ARRAYDEQUE_HISTORY') == 'none' else ([fault], '')
+    had = [texts_at(it) for it in commits]
+    has = [interface(texts_here()), *(interface(it) for it in had[:-1])]
+    old = [promised(it) for it in had]
+    faults = [it for at in range(len(old)) for it in untold(old[at], has[at], parts[at])]
+    return faults, f'{len(old[0])} texts are as {names[0]} ({commits[0]}) has them, or CHANGELOG tells the change'
 
 
 if __name__ == '__main__':
