@@ -13,8 +13,6 @@ ITEM = re.compile(
     r'(?:pub\S* )?(?:unsafe )?(?:impl|trait|struct|enum|const|static|mod|type)\b(?:.*?(\w+)(?:<[^<>]*>)?(?: \{)?$)?'
 )
 FUNCTION = re.compile(r' *(?:pub\S* )?(?:const )?(?:unsafe )?fn (\w+)')
-BODY = re.compile(r'^( *)(?:(?:pub|fn|const|unsafe|\))[^\n]* )?\{\n(.*?)^\1\}$', re.M | re.S)
-BRANCH = re.compile(r'\b(?:if|else|match|for|while|loop|return)\b|\?')
 
 
 def without_comments(text, literal='""'):
@@ -39,12 +37,6 @@ def functions(text):
         if found:
             found[-1][1] += line + '\n'
     return [(name, code) for name, code in found if name]
-
-
-def body(code):
-    """The body of a function, in one line."""
-    found = BODY.search(code)
-    return ' '.join(found[2].split()) if found else ''
 
 
 def in_loops(code):
