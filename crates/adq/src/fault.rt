@@ -1,14 +1,11 @@
-//! Why a run ends early, and how it says so.
-ghost use Rattle.std.specs.Prelude.{◌≡◌, Result, Some, ⊤};
-ghost use Rattle.adq.specs.Run.{status_of, Writes};
-ghost use Rattle.adq.specs.Text.{fault_text, report_of};
-ghost use Rattle.adq.specs.declared.fault.Fault.{Fault};
+//! Why a run ends early.
+ghost use Rattle.std.specs.Prelude.{◌≡◌, Some};
+ghost use Rattle.adq.specs.Run.{status_of};
+ghost use Rattle.adq.specs.Text.{fault_text};
 ghost use Rattle.adq.specs.declared.fault.Fault.TheVariants.{Io, Memory};
 
-use crate::streams::write;
 use arraydeque::MakeError;
 use std::alloc::{AllocError, AllocFailed};
-use std::fmt::{InlineText, Write};
 use std::{fmt, io};
 
 /// Why a run ends early.
@@ -25,30 +22,6 @@ pub enum Fault {
 }
 
 impl Fault {
-    /// Writes to `faults` why the run ends, and returns its status, also if the write fails.
-    pub fn report<F: io::Write>(&self, faults: &mut F) -> u8
-        ensures status { result ≡ status_of self.now }
-        // The report is written whole or, if `told` is a fault, in part.
-        ensures told { (told : Result ⊤ Fault) × Writes (F.contents faults.old)
-            (F.contents faults.new) (report_of self.now) told }
-    {
-        let _ = self.tell(faults);
-        self.status()
-    }
-
-    /// Writes to `faults` why the run ends, as a line, which is made without memory.
-    pub fn tell<F: io::Write>(&self, faults: &mut F) -> Result<(), Fault>
-        ensures { Writes (F.contents faults.old) (F.contents faults.new) (report_of self.now)
-            result }
-    {
-        // The longest has 35 bytes.
-        let mut line = InlineText::<64>::new();
-        match writeln!(line, "adq: {self}") {
-            Ok(()) => write(faults, line.as_str().as_bytes()),
-            Err(_) => Err(Fault::Io),
-        }
-    }
-
     /// The status of a run that ends so.
     pub fn status(&self) -> u8
         ensures { result ≡ status_of self.now }

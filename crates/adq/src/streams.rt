@@ -1,11 +1,14 @@
-//! The input read whole, and the output written whole.
-ghost use Rattle.std.specs.Prelude.{◌≡◌, ◌⊎◌, ◌++◌, IfErr, IfSome, OnOk};
+//! The input read whole, the output written whole, and a fault told.
+ghost use Rattle.std.specs.Prelude.{◌≡◌, ◌⊎◌, ◌++◌, Result, IfErr, IfSome, OnOk, ⊤};
 ghost use Rattle.std.specs.Io.KnownBytes.{IsAtEnd};
-ghost use Rattle.adq.specs.Run.{Writes};
+ghost use Rattle.adq.specs.Run.{status_of, Writes};
+ghost use Rattle.adq.specs.Text.{report_of};
+ghost use Rattle.adq.specs.declared.fault.Fault.{Fault};
 ghost use Rattle.adq.specs.declared.fault.Fault.TheVariants.{Memory, Io};
 
 use crate::fault::Fault;
-use std::io::{ErrorKind, Read, Write};
+use std::fmt::{InlineText, Write};
+use std::io::{self, ErrorKind, Read};
 
 /// How many bytes of the input a read may give.
 const PIECE: usize = 8192;
@@ -32,7 +35,7 @@ pub fn read<R: Read>(input: &mut R, text: &mut Vec<u8>) -> Result<(), Fault>
 }
 
 /// Writes all of the output and flushes it, or writes some beginning of it.
-pub fn write<W: Write>(output: &mut W, printed: &[u8]) -> Result<(), Fault>
+pub fn write<W: io::Write>(output: &mut W, printed: &[u8]) -> Result<(), Fault>
     ensures { Writes (W.contents output.old) (W.contents output.new) printed.now result }
 {
     let mut rest = printed;
@@ -49,4 +52,30 @@ pub fn write<W: Write>(output: &mut W, printed: &[u8]) -> Result<(), Fault>
     }
     // Most of so many writes were interrupted: no memory holds as many bytes.
     Err(Fault::Io)
+}
+
+impl Fault {
+    /// Writes to `faults` why the run ends, and returns its status, also if the write fails.
+    pub fn report<F: io::Write>(&self, faults: &mut F) -> u8
+        ensures status { result ≡ status_of self.now }
+        // The report is written whole or, if `told` is a fault, in part.
+        ensures told { (told : Result ⊤ Fault) × Writes (F.contents faults.old)
+            (F.contents faults.new) (report_of self.now) told }
+    {
+        let _ = self.tell(faults);
+        self.status()
+    }
+
+    /// Writes to `faults` why the run ends, as a line, which is made without memory.
+    pub fn tell<F: io::Write>(&self, faults: &mut F) -> Result<(), Fault>
+        ensures { Writes (F.contents faults.old) (F.contents faults.new) (report_of self.now)
+            result }
+    {
+        // The longest has 35 bytes.
+        let mut line = InlineText::<64>::new();
+        match writeln!(line, "adq: {self}") {
+            Ok(()) => write(faults, line.as_str().as_bytes()),
+            Err(_) => Err(Fault::Io),
+        }
+    }
 }
