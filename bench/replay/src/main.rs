@@ -127,7 +127,7 @@ fn play(pairs: &[Pair], number: u64, seed: u64, refuses: bool, room: &mut Room) 
     let pair = &pairs[(number % pairs.len() as u64) as usize];
     let calls = if refuses { REFUSED_CALLS } else { CALLS };
     let Room { script, ours, theirs } = room;
-    script::script(&mut Random::of(seed, number), calls, pair.capacity, pair.copied, script);
+    script::script(&mut Random::of(seed, number), calls, pair.capacity, pair.calls, script);
     let requests = if refuses { pair.play_ours(script, 0, ours) } else { 0 };
     for refused in 0..=requests {
         if difference(pair, script, refused, ours, theirs).is_some() {
@@ -174,7 +174,7 @@ fn print_sums(mut pairs: Vec<Pair>) {
     let mut told = Told::default();
     pairs.retain(|pair| [("Saturating", 5), ("Wrapping", 8)].contains(&(pair.policy, pair.capacity)));
     for pair in pairs {
-        pair.play_theirs(&script::tried(pair.copied), &mut told);
+        pair.play_theirs(&script::tried(), &mut told);
         let calls = told.replies.iter().zip(&told.lists);
         let sum = calls.fold(told.end, |sum, (reply, list)| mix(mix(sum, *reply), *list));
         println!("{}, {}, capacity {}: {sum}", pair.items, pair.policy, pair.capacity);

@@ -1,7 +1,7 @@
 //! A deque of each side: the same items, policy and capacity.
 use crate::items::{Block, Owned};
 use crate::memory;
-use crate::script::{BROKEN, REFUSED};
+use crate::script::{self, BROKEN, REFUSED};
 use crate::theirs;
 use arraydeque::{Saturating, Wrapping};
 
@@ -58,7 +58,8 @@ pub struct Pair {
     pub items: &'static str,
     pub policy: &'static str,
     pub capacity: usize,
-    pub copied: bool,
+    /// How many of the calls its items have.
+    pub calls: usize,
     player: &'static str,
     theirs: fn(&[u64], &mut [u64], &mut [u64]) -> u64,
     pub list_behind: fn(&[u64]) -> Vec<u64>,
@@ -96,12 +97,12 @@ impl Pair {
 }
 
 macro_rules! pairs {
-    ($list:ident, $items:literal, $copied:literal, $item:ty, $policy:ident, $($capacity:literal),+) => {
+    ($list:ident, $items:literal, $calls:ident, $item:ty, $policy:ident, $($capacity:literal),+) => {
         $($list.push(Pair {
             items: $items,
             policy: stringify!($policy),
             capacity: $capacity,
-            copied: $copied,
+            calls: script::$calls,
             player: concat!($items, " ", stringify!($policy)),
             theirs: theirs::play::<$item, $capacity, $policy>,
             list_behind: theirs::list_behind::<$item, $capacity, $policy>,
@@ -110,21 +111,21 @@ macro_rules! pairs {
 }
 
 macro_rules! at_all_capacities {
-    ($list:ident, $items:literal, $copied:literal, $item:ty, $policy:ident) => {
-        pairs!($list, $items, $copied, $item, $policy, 1, 2, 3, 4, 5, 7, 8, 16, 31, 64, 100, 200)
+    ($list:ident, $items:literal, $calls:ident, $item:ty, $policy:ident) => {
+        pairs!($list, $items, $calls, $item, $policy, 1, 2, 3, 4, 5, 7, 8, 16, 31, 64, 100, 200)
     };
 }
 
 /// All pairs.
 pub fn all() -> Vec<Pair> {
     let mut list = Vec::new();
-    at_all_capacities!(list, "bytes", true, u8, Saturating);
-    at_all_capacities!(list, "bytes", true, u8, Wrapping);
-    at_all_capacities!(list, "words", true, u64, Saturating);
-    at_all_capacities!(list, "words", true, u64, Wrapping);
-    at_all_capacities!(list, "blocks", true, Block, Saturating);
-    at_all_capacities!(list, "blocks", true, Block, Wrapping);
-    at_all_capacities!(list, "owned", false, Owned, Saturating);
-    at_all_capacities!(list, "owned", false, Owned, Wrapping);
+    at_all_capacities!(list, "bytes", BYTES, u8, Saturating);
+    at_all_capacities!(list, "bytes", BYTES, u8, Wrapping);
+    at_all_capacities!(list, "words", COPIED, u64, Saturating);
+    at_all_capacities!(list, "words", COPIED, u64, Wrapping);
+    at_all_capacities!(list, "blocks", COPIED, Block, Saturating);
+    at_all_capacities!(list, "blocks", COPIED, Block, Wrapping);
+    at_all_capacities!(list, "owned", ANY, Owned, Saturating);
+    at_all_capacities!(list, "owned", ANY, Owned, Wrapping);
     list
 }

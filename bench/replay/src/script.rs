@@ -7,11 +7,18 @@ pub const REFUSED: u64 = u64::MAX;
 /// What our side tells where its source came back as another, or where it has no such capacity.
 pub const BROKEN: u64 = u64::MAX - 1;
 
-/// How many of the calls don't ask for items that can be copied.
-const COPIED: usize = 48;
+/// How many of the calls are of any items.
+pub const ANY: usize = 59;
 
-/// Which calls there are, by kind, with how often one is chosen.
-const CALLS: [(u64, &str, u64); COPIED + 6] = [
+/// How many are of items that can be copied.
+pub const COPIED: usize = ANY + 7;
+
+/// How many are of bytes, which is all.
+pub const BYTES: usize = COPIED + 4;
+
+/// Which calls there are, by kind, with how often one is chosen. The first `ANY` are of any items, the
+/// first `COPIED` of items that can be copied.
+const CALLS: [(u64, &str, u64); BYTES] = [
     (0, "pop_front", 40),
     (1, "pop_back", 40),
     (2, "front, back", 10),
@@ -60,12 +67,28 @@ const CALLS: [(u64, &str, u64); COPIED + 6] = [
     (45, "rotate_right", 10),
     (46, "retain_mut", 4),
     (47, "pop_front_if, pop_back_if", 20),
+    (54, "range(i..j)", 10),
+    (55, "range(i..)", 4),
+    (56, "range(..j)", 4),
+    (57, "range_mut(i..j)", 10),
+    (58, "range_mut(i..)", 4),
+    (59, "range_mut(..j)", 4),
+    (60, "for_each_mut_in", 5),
+    (61, "for_each_mut", 5),
+    (62, "linearize, as_slice", 5),
+    (63, "linearize, as_mut_slice", 5),
+    (64, "first_slice_mut, second_slice_mut", 10),
     (48, "contains", 10),
     (49, "clone", 5),
     (50, "==, partial_cmp, cmp", 5),
     (51, "from array", 2),
     (52, "debug text", 1),
     (53, "extend_back by a slice", 20),
+    (65, "resize", 10),
+    (66, "write", 30),
+    (67, "write_all", 20),
+    (68, "read", 10),
+    (69, "read_until", 10),
 ];
 
 /// A call: which one, two numbers below 4096, and the number of an item.
@@ -148,17 +171,17 @@ fn kind_at(calls: &[(u64, &str, u64)], mut number: u64) -> u64 {
     unreachable!("the number is below their sum")
 }
 
-/// A script of so many calls on a deque of that capacity.
-pub fn script(random: &mut Random, len: usize, capacity: usize, copied: bool, script: &mut Vec<u64>) {
+/// A script of so many calls on a deque of that capacity, whose items have so many of the calls.
+pub fn script(random: &mut Random, len: usize, capacity: usize, calls: usize, script: &mut Vec<u64>) {
     script.clear();
-    let chosen = &CALLS[..if copied { CALLS.len() } else { COPIED }];
+    let chosen = &CALLS[..calls];
     let all: u64 = chosen.iter().map(|(.., often)| often).sum();
     for _ in 0..len {
         let kind = kind_at(chosen, random.below(all));
         let word = random.next();
         // A source has a few items, or as many as fill the deque and three more.
         let first = match kind {
-            35..=40 | 53 => (word >> 8 & 0xFFF) % if word & 7 == 0 { capacity as u64 + 4 } else { 4 },
+            35..=40 | 53 | 66 | 67 => (word >> 8 & 0xFFF) % if word & 7 == 0 { capacity as u64 + 4 } else { 4 },
             _ => word >> 8 & 0xFFF,
         };
         // A small number is often there already.
@@ -167,12 +190,14 @@ pub fn script(random: &mut Random, len: usize, capacity: usize, copied: bool, sc
     }
 }
 
-/// The script that the tests of our players play.
-pub fn tried(copied: bool) -> Vec<u64> {
-    let kinds = if copied { CALLS.len() } else { COPIED } as u64;
-    let call = |number| {
+/// The script that the tests of our players play. Every other call is a push, so that few lists are
+/// empty. A call that the items lack does nothing.
+pub fn tried() -> Vec<u64> {
+    let kinds = CALLS.len() as u64;
+    let call = |number: u64| {
         let random = mix(mix(number, 1), 2);
-        (random >> 40) % kinds | (random & 0x1F) << 8 | (random >> 5 & 0xFFF) << 20 | (random >> 17 & 0xFF) << 32
+        let kind = if number.is_multiple_of(2) { 32 + random % 2 } else { (random >> 40) % kinds };
+        kind | (random & 0x1F) << 8 | (random >> 5 & 0xFFF) << 20 | (random >> 17 & 0xFF) << 32
     };
-    (0..500).map(call).collect()
+    (0..1000).map(call).collect()
 }

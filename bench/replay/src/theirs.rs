@@ -154,8 +154,41 @@ fn answer<T: Item, const CAP: usize, B: Behavior>(deque: &mut ArrayDeque<T, CAP,
             let last = if deque.back_mut().is_some_and(is_wanted) { deque.pop_back() } else { None };
             mix(digest_of(first), digest_of(last))
         }
+        54..=60 => range_reply(deque, call),
         _ => list_reply(deque, call),
     }
+}
+
+/// Calls that lend a range, or hand its items to a closure.
+fn range_reply<T: Item, const CAP: usize, B: Behavior>(deque: &mut ArrayDeque<T, CAP, B>, call: Call) -> u64 {
+    let len = deque.len();
+    let (one, other) = (call.index(len).min(len), call.other_place(len));
+    let (from, to) = match call.kind {
+        55 | 58 => (one.min(other), len),
+        56 | 59 => (0, one.max(other)),
+        _ => (one.min(other), one.max(other)),
+    };
+    let mut items = deque.iter_mut().skip(from).take(to - from);
+    match call.kind {
+        54..=56 => {
+            let sum = mix(items.len() as u64, digest_of_lent(items.next_back().as_deref()));
+            items.fold(sum, |sum, item| mix(sum, item.digest()))
+        }
+        57..=59 => {
+            let sum = mix(items.len() as u64, write_item(items.next_back(), call.number));
+            items.fold(sum, |sum, item| mix(sum, write_item(Some(item), call.number ^ 1)))
+        }
+        _ => write_sums(items, call.number),
+    }
+}
+
+/// Items written, each by the sum of those up to it.
+fn write_sums<'a, T: Item>(items: impl Iterator<Item = &'a mut T>, number: u64) -> u64 {
+    items.fold(number, |sum, item| {
+        let sum = mix(sum, item.digest());
+        item.set(sum);
+        sum
+    })
 }
 
 fn drain_range<T: Item, const CAP: usize, B: Behavior>(deque: &mut ArrayDeque<T, CAP, B>, call: Call) -> u64 {
@@ -212,7 +245,8 @@ fn list_reply<T: Item, const CAP: usize, B: Behavior>(deque: &mut ArrayDeque<T, 
             let (front, back) = deque.as_slices();
             slice_of(slice_of(0, front), back)
         }
-        28 => {
+        // The crate's slices are cut at another item than ours, so both are written.
+        28 | 64 => {
             let (front, back) = deque.as_mut_slices();
             let mut number = call.number;
             for item in front.iter_mut().chain(back) {
@@ -222,6 +256,17 @@ fn list_reply<T: Item, const CAP: usize, B: Behavior>(deque: &mut ArrayDeque<T, 
             number
         }
         31 => deque.iter().fold(1, |sum, item| mix(sum, item.digest())),
+        61 => write_sums(deque.iter_mut(), call.number),
+        62 => {
+            deque.linearize();
+            slice_of(deque.len() as u64, deque.as_slices().0)
+        }
+        63 => {
+            deque.linearize();
+            let items = deque.as_mut_slices().0;
+            items.reverse();
+            write_item(items.first_mut(), call.number)
+        }
         _ => 0,
     }
 }
@@ -345,6 +390,46 @@ fn wrapping<T: Item, const CAP: usize>(alive: &Alive, deque: &mut ArrayDeque<T, 
     }
 }
 
+/// The calls of `Saturating` on bytes.
+fn saturating_bytes<const CAP: usize>(
+    alive: &Alive,
+    deque: &mut ArrayDeque<u8, CAP, Saturating>,
+    call: Call,
+) -> u64 {
+    match call.kind {
+        66 | 67 => {
+            let bytes: Vec<u8> = items_from(alive, call.number, call.first);
+            let count = bytes.len().min(CAP - deque.len());
+            deque.extend_back(bytes[..count].iter().copied());
+            if call.kind == 66 { count as u64 } else { u64::from(count == bytes.len()) }
+        }
+        68 | 69 => read_bytes(deque, call),
+        _ => saturating(alive, deque, call),
+    }
+}
+
+/// The calls of `Wrapping` on bytes.
+fn wrapping_bytes<const CAP: usize>(alive: &Alive, deque: &mut ArrayDeque<u8, CAP, Wrapping>, call: Call) -> u64 {
+    match call.kind {
+        68 | 69 => read_bytes(deque, call),
+        _ => wrapping(alive, deque, call),
+    }
+}
+
+/// The first bytes, taken out as a vector: as many as a buffer has room for, or up to a wanted one.
+fn read_bytes<const CAP: usize, B: Behavior>(deque: &mut ArrayDeque<u8, CAP, B>, call: Call) -> u64 {
+    let room = call.index(deque.len());
+    let count = match call.kind {
+        68 => room.min(deque.len()),
+        _ => deque.iter().position(|byte| *byte == call.number as u8).map_or(deque.len(), |index| index + 1),
+    };
+    let mut bytes: Vec<u8> = deque.drain(..count).collect();
+    if call.kind == 68 {
+        bytes.extend((count..room).map(|index| (call.number + index as u64) as u8));
+    }
+    slice_of(count as u64, &bytes)
+}
+
 fn order_of(order: Option<Ordering>) -> u64 {
     match order {
         Some(Ordering::Less) => 1,
@@ -363,7 +448,7 @@ fn answer_by_copies<T, const CAP: usize, B>(
     extend_back: fn(&mut ArrayDeque<T, CAP, B>, &[T]),
 ) -> u64
 where
-    T: Item + Ord + Debug,
+    T: Item + Ord + Debug + Copy,
     B: Behavior,
     ArrayDeque<T, CAP, B>: Clone + FromIterator<T>,
 {
@@ -397,27 +482,34 @@ where
             extend_back(deque, &items);
             1
         }
+        65 => {
+            let mut items = Vec::from(mem::take(deque));
+            items.resize(call.index(CAP).min(CAP), T::make(alive, call.number));
+            *deque = items.into_iter().collect();
+            1
+        }
         _ => others(alive, deque, call),
     }
 }
 
 macro_rules! answers {
-    ($($item:ty),+) => {
-        $(impl<const CAP: usize> Answers<$item, CAP> for Saturating {
+    ($($item:ty, $policy:ident, $others:ident;)+) => {
+        $(impl<const CAP: usize> Answers<$item, CAP> for $policy {
             fn answer(alive: &Alive, deque: &mut ArrayDeque<$item, CAP, Self>, call: Call) -> u64 {
-                answer_by_copies(alive, deque, call, saturating, |deque, items| deque.extend_back(items.iter().copied()))
-            }
-        }
-
-        impl<const CAP: usize> Answers<$item, CAP> for Wrapping {
-            fn answer(alive: &Alive, deque: &mut ArrayDeque<$item, CAP, Self>, call: Call) -> u64 {
-                answer_by_copies(alive, deque, call, wrapping, |deque, items| deque.extend_back(items.iter().copied()))
+                answer_by_copies(alive, deque, call, $others, |deque, items| deque.extend_back(items.iter().copied()))
             }
         })+
     };
 }
 
-answers!(u8, u64, Block);
+answers! {
+    u8, Saturating, saturating_bytes;
+    u8, Wrapping, wrapping_bytes;
+    u64, Saturating, saturating;
+    u64, Wrapping, wrapping;
+    Block, Saturating, saturating;
+    Block, Wrapping, wrapping;
+}
 
 impl<const CAP: usize> Answers<Owned, CAP> for Saturating {
     fn answer(alive: &Alive, deque: &mut ArrayDeque<Owned, CAP, Self>, call: Call) -> u64 {
