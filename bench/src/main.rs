@@ -135,7 +135,7 @@ fn workloads_in_place() -> Vec<Workload> {
 /// Many items in, out or moved, and deques made and taken apart.
 fn workloads_of_many() -> Vec<Workload> {
     let mut list = Vec::new();
-    of_all_lists!(list, extend_slice, truncate, retain, drain_four, split_append, split_rejoin);
+    of_all_lists!(list, extend_slice, truncate, retain, drain_four, remove_range, split_append, split_rejoin);
     of_all_items!(list, resize, linearize_full);
     // Not at capacity 16, whose rounds the compiler sums without making them.
     workloads!(list, [(8, u64, 64)], resize);

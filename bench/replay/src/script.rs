@@ -8,7 +8,7 @@ pub const REFUSED: u64 = u64::MAX;
 pub const BROKEN: u64 = u64::MAX - 1;
 
 /// How many of the calls are of any items.
-pub const ANY: usize = 59;
+pub const ANY: usize = 60;
 
 /// How many are of items that can be copied.
 pub const COPIED: usize = ANY + 7;
@@ -78,6 +78,7 @@ const CALLS: [(u64, &str, u64); BYTES] = [
     (62, "linearize, as_slice", 5),
     (63, "linearize, as_mut_slice", 5),
     (64, "first_slice_mut, second_slice_mut", 10),
+    (70, "remove_range", 8),
     (48, "contains", 10),
     (49, "clone", 5),
     (50, "==, partial_cmp, cmp", 5),

@@ -140,6 +140,10 @@ fn answer<T: Item, const CAP: usize, B: Behavior>(deque: &mut ArrayDeque<T, CAP,
             drop(deque.drain(..len - index.min(len)));
             1
         }
+        70 => {
+            drop(deque.drain(i.min(j)..i.max(j)));
+            deque.len() as u64
+        }
         46 => {
             deque.iter_mut().for_each(|item| item.set(item.digest() ^ call.second as u64));
             deque.retain(|item| item.digest() % 3 != 0);

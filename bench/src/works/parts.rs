@@ -45,6 +45,21 @@ pub fn drain_four<T: Item, D: Peer<T>, const CAP: usize>(rounds: usize) -> u64 {
     sum
 }
 
+pub fn remove_range<T: Item, D: Peer<T>, const CAP: usize>(rounds: usize) -> u64 {
+    let items = first_items::<T>(4);
+    let mut deque: D = peer_at(CAP / 2, CAP);
+    let mut sum = 0u64;
+    for _ in 0..rounds {
+        let from = deque.len() / 4;
+        if from + 4 <= deque.len() {
+            drop(deque.drain(from..from + 4));
+        }
+        deque.extend_back(items.iter().copied());
+        sum = sum.wrapping_add(deque.get(from).map_or(0, Item::number));
+    }
+    sum
+}
+
 pub fn split_append<T: Item, D: Peer<T>, const CAP: usize>(rounds: usize) -> u64 {
     let mut deque: D = peer_at(CAP / 2, CAP);
     let mut sum = 0u64;
