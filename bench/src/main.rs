@@ -126,7 +126,7 @@ fn workloads_in_place() -> Vec<Workload> {
     let mut list = Vec::new();
     of_all_lists!(list, iterate, rev, contains, iterate_mut);
     of_a_million!(list, iterate, contains, iterate_mut, for_each_mut_in);
-    // At capacity 16 the compiler sums the rounds of `for_each_mut_in` without making them.
+    // Not at capacity 16, where the compiler may sum our rounds of `for_each_mut_in` without making them.
     workloads!(list, [(1, u8, 1024), (8, u64, 1024), (8, u64, 1000), (8, u64, 64)], for_each_mut_in);
     workloads!(list, [(1, u8, 1024), (8, u64, 1024), (8, u64, 1000), (8, u64, 64), (8, u64, 16)], equal, hash);
     list

@@ -1,5 +1,5 @@
-//! All items of a list: read, written, compared or hashed. Each round the compiler is told that the deque may be another
-//! one, or it would read a short list once for all rounds.
+//! All items of a list: read, written, compared or hashed. Each round the compiler is told that the deque may be
+//! another one, or it would read a short list once for all rounds.
 use super::peer_at;
 use crate::items::Item;
 use crate::peers::Peer;
