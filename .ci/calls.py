@@ -15,9 +15,9 @@ CALL = re.compile(
 HEAD = (
     '# All calls\n\n'
     'This page lists each public call of the deque and of the ring, with its type and the first sentence of its '
-    'documentation. The link leads to the call, where its contract and an example stand. A call of a trait of std, such '
-    'as `next` or `==`, stands at the `impl` of that trait. [CALLING](../crates/arraydeque/CALLING.md) explains the '
-    'calls task by task.\n\n'
+    'documentation. The link leads to the call, where its contract and an example stand. A call of a trait of std, '
+    'such as `next` or `==`, stands at the `impl` of that trait. [CALLING](../crates/arraydeque/CALLING.md) explains '
+    'the calls task by task.\n\n'
     '`.ci/calls.py` writes this page.\n'
 )
 
@@ -39,13 +39,11 @@ def calls_of(path):
     owner, text = '', path.read_text()
     for found in CALL.finditer(text):
         documentation, signature, name, block = found.groups()
-        if block:
-            owner = block
-            continue
-        line = text[: found.start(2)].count('\n') + 1
-        signature = re.sub(r',? \)', ')', ' '.join(signature.split()).replace('( ', '('))
-        link = f'../{path.relative_to(ROOT).as_posix()}#L{line}'
-        yield f'- [`{name}`]({link}) of `{owner}`: `{signature}`. {first_sentence(documentation)}'
+        owner = block or owner
+        if name:
+            signature = re.sub(r',? \)', ')', ' '.join(signature.split()).replace('( ', '('))
+            link = f'../{path.relative_to(ROOT).as_posix()}#L{text[: found.start(2)].count(chr(10)) + 1}'
+            yield f'- [`{name}`]({link}) of `{owner}`: `{signature}`. {first_sentence(documentation)}'
 
 
 def page_of_calls():

@@ -10,10 +10,10 @@ these come; and each `unsafe impl`, the region's too. Of `specs` each word, and 
 
 An entry above that release's heading in CHANGELOG, a bullet or a table's row, has to name in backticks what differs, a
 clause by call and label: under 'Breaks' what is gone or has another text, what an old call or trait asks anew, and a
-call that hides a trait's; under 'Breaks' or 'New' an `ensures` of another text. If other places have such a call and
-clause, it names a type or policy that they lack. A release is the first commit that gave its heading a day. It is held
-itself to the release before it, by its own section. Without git's whole history nothing can be held, and that is a
-fault, unless ARRAYDEQUE_HISTORY is `none`.
+call that hides a trait's; there or under 'New' an `ensures` of another text. If other places have such a call and
+clause, it names a type or policy that they lack. A release is the first commit that gave its heading a day, and is held
+to the release before it, by its own section. That git's history isn't whole is a fault, unless ARRAYDEQUE_HISTORY is
+`none`.
 
 Not seen: whether a text says less, more or the same; what the toolchain's words mean; a type's invariant; what follows
 from private fields, such as `Send`; a new call that hides a trait's provided one; which crates are needed; what proofs
@@ -113,8 +113,8 @@ def of_block(owner, bounds, members, is_shown, known):
 def of_type(crate, name, code, attributes):
     """A public type, its private fields as one, and what it derives."""
     others = re.sub(r'#\[(?:derive|tactic|doc).*\n', '', attributes)
-    hides = ' ..' if 'struct' in code and FIELD.search(code) else ''
-    yield (crate, name, ''), plain(others + (FIELD.sub('', code) if hides else code)) + hides
+    shown = FIELD.sub('', code) if code.startswith('pub struct') else code
+    yield (crate, name, ''), plain(others + shown) + ('' if shown == code else ' ..')
     derived = re.findall(r'\w+', ' '.join(re.findall(r'derive\((.*)\)', attributes)))
     yield from (((crate, name, f'derives {it}'), '') for it in derived)
 
@@ -135,14 +135,12 @@ def of_item(path, crate, item, attributes, known):
     elif block := re.match(r'(pub trait (\w+).*?) \{(.*)', item, re.S):
         yield (f'{crate} trait {block[2]}', block[2], 'impl'), plain(block[1])
         yield from of_block(f'{crate} trait {block[2]}', '', block[3], True, known)
-    elif kind := re.match(r'pub (?:struct|enum) (\w+)', item):
+    elif kind := re.match(r'pub (?:struct|enum|const|static|type) (?!fn )(\w+)', item):
         yield from of_type(crate, kind[1], item, attributes)
     elif re.match(r'pub (?:use|mod) ', item):
         yield from (((f'{path} pub', name, ''), '') for name, _ in imported(item.replace(' mod ', ' use '), True))
     elif PUBLIC_CALL.match(item):
         yield from of_call(crate, '', item, known)
-    elif other := re.match(r'pub (?:const|static|type) (\w+)', item):
-        yield (crate, other[1], ''), plain(item)
 
 
 def of_source(path, text):
@@ -153,9 +151,9 @@ def of_source(path, text):
         item = re.sub(r'(?:^#.*\n)+\Z', '', whole, flags=re.M)
         found += of_item(path, crate, item, attributes, {name for name, _ in imports})
         attributes = whole[len(item):]
-    if len(PUBLIC_CALL.findall(code)) != sum(len(CALL.findall(it)) for (owner, _, part), it in found
-                                             if not part and ' for ' not in owner and ' trait ' not in owner):
-        sys.exit(f'kept: of {path} not each public call is read') if '/src/slots' not in path else None
+    calls = [key for key, it in found if not key[2] and CALL.search(it) and not re.search(' for | trait ', key[0])]
+    if len(PUBLIC_CALL.findall(code)) != len(calls) and '/src/slots' not in path:
+        sys.exit(f'kept: of {path} not each public call is read')
     yield from found
     for owner in {it[0] for it, _ in found}:
         yield from cited(owner, [it for key, it in found if key[0] == owner], imports)
@@ -176,7 +174,8 @@ def of_words(path, text):
             continue
         if states:
             chunk = re.split(rf'^ *{re.escape(name[1])}(?= |$)', chunk, flags=re.M)[0]
-        found.append(((path, name[1], '' if is_public else 'private'), plain(f'{around if chunk[0] == " " else ""} {chunk}')))
+        stated = f'{around} {chunk}' if chunk.startswith(' ') else chunk
+        found.append(((path, name[1], '' if is_public else 'private'), plain(stated)))
     yield from found
     yield from cited(path, [it for _, it in found], imported(text))
 
@@ -184,12 +183,12 @@ def of_words(path, text):
 def interface(texts):
     """What callers may read in the files of a tree, by place, name and part."""
     found = {}
-    code = {it: text for it, text in texts.items() if re.match(r'.*/src/(?!.*\btests\b).*\.rt$', it)}
+    code = {it: text for it, text in texts.items() if re.match(r'crates/\w+/src/(?!.*\btests\b).*\.rt$', it)}
     hidden = {it for text in code.values() for it in PRIVATE.findall(text)} | {'Slots', 'slots'}
     promises = [it for path, text in code.items() for it in of_source(path, text)
                 if ' unsafe ' in it[0][0] or not hidden & words(f'{it[0][0]} {it[0][1]}')]
     for path, text in texts.items():
-        if re.match(r'.*/(?:specs|proofs)/.*\.antt$', path):
+        if re.match(r'crates/\w+/(?:specs|proofs)/.*\.antt$', path):
             promises += of_words(path, text)
     for key, text in promises:
         found.setdefault(key, set()).add(text)
@@ -201,15 +200,15 @@ def promised(texts):
     calling = ' '.join(re.findall(r'`[^`\n]+`', texts[f'{CRATES[0]}/CALLING.md'])).replace('::', '.')
     told = {path for path in texts if '/proofs/' in path
             and path.removeprefix('crates/').removesuffix('.antt').replace('/', '.') in calling}
-    return {key: it for key, it in interface(texts).items() if '/proofs/' not in key[0]
-            or key[0] in told and (key[1] in words(calling) or key[2] == 'from')}
+    return {key: it for key, it in interface(texts).items() if '/proofs/' not in key[0] or key[0] in told
+            and (key[1] in words(calling) or key[2] == 'from')}
 
 
 def differences(old, new):
     """What callers have to be told: each with what became of it, and whether it breaks them."""
     owners, gone = {it[0] for it in old}, old.keys() - new.keys()
     blocks = {it[0] for it in gone if it[2].startswith('impl')}
-    methods = {(it[1], type_of(it[0])) for it in old if ' for ' in it[0]}
+    methods = {(it[1], re.split('[ <]', it[0].split(' for ')[1])[0]) for it in old if ' for ' in it[0]}
     for key, text in old.items():
         owner, name, part = key
         # What is gone is told once, without its parts.
@@ -221,13 +220,8 @@ def differences(old, new):
     for owner, name, part in new.keys() - old.keys():
         if part != 'from' and owner in owners and ' trait ' in owner or part[:3] == 'req' and (owner, name, '') in old:
             yield (owner, name, part), 'is asked anew', True
-        elif ' ' in owner and not part and ' for ' not in owner and (name, type_of(owner)) in methods:
+        elif ' ' in owner and not part and ' for ' not in owner and (name, re.split('[ <]', owner)[1]) in methods:
             yield (owner, name, part), "hides a trait's", True
-
-
-def type_of(owner):
-    """The type that an impl is for."""
-    return re.match(r'\w*', (owner.split(' for ') if ' for ' in owner else owner.split(' ', 1))[-1])[0]
 
 
 def untold(old, new, news):
@@ -258,8 +252,8 @@ def texts_at(commit):
 
 def texts_here():
     """The files of ring and deque in this tree."""
-    files = [it for crate in CRATES for kind in ('rt', 'antt', 'md') for it in (ROOT / crate).rglob(f'*.{kind}')]
-    return {it.relative_to(ROOT).as_posix(): it.read_text() for it in files}
+    files = [it for crate in CRATES for part in ('src', 'specs', 'proofs') for it in (ROOT / crate / part).rglob('*.*')]
+    return {it.relative_to(ROOT).as_posix(): it.read_text() for it in [*files, ROOT / CRATES[0] / 'CALLING.md']}
 
 
 def releases(names):

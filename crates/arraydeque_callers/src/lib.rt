@@ -1,6 +1,5 @@
-//! What a caller knows after a call of the deque. (`.ci/bounds` shows what a call asks of its
-//! types.) Each function makes a call or two, and promises by their contracts alone what a user
-//! would ask for, in a form that the check finds.
+//! What a caller knows after a call of the deque. Each function makes a call or two, and promises
+//! by their contracts alone what a user would ask for, in a form that the check finds.
 //!
 //! - [`calls`]: the list and the result, after most calls
 //! - [`extending`]: the list, after an iterator's items were added

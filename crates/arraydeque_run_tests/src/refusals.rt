@@ -35,7 +35,7 @@ fn compare_calls(rt: &impl Abort, calls: Vec<Call<i64>>) {
     );
 }
 
-/// It prints what is left, so that `.ci/refusals` sees which outcome each refused request has.
+/// It prints what is left, so that `.ci/requests` sees which outcome each refused request has.
 #[test]
 fn a_run_goes_on_after_a_refused_drain(rt: HostRuntime) -> Result<(), Fail> {
     let mut deque = deque_at::<5>(rt.alloc(), 4, &[0, 1, 2, 3])?;
