@@ -6,10 +6,10 @@ from pathlib import Path
 
 ROOT = Path(__file__).resolve().parent.parent
 PAGE = ROOT / 'docs/CALLS.md'
-PARTS = [('The deque', 'arraydeque', 'its iterators and the scanner'), ('The ring', 'arraydeque_ring', 'its iterator')]
+PARTS = [('The deque, its iterators and the scanner', 'arraydeque'), ('The ring and its iterator', 'arraydeque_ring')]
 CALL = re.compile(
     r'((?:^    ///.*\n)+)(?:^    #\[.*\n)*^    pub ((?:const |unsafe )*fn (\w+)[\s\S]*?)'
-    r'(?=\n    \{|\n    where\n| \{\n|\n        (?:requires|ensures))|^impl(?:<.*?>)? ([^{\n]*?)(?: \{)?$',
+    r'(?=\n    \{| \{\n|\n        (?:requires|ensures|//))|^impl(?:<.*?>)? ([^{\n]*?)(?: \{)?$',
     re.M,
 )
 HEAD = (
@@ -41,7 +41,7 @@ def calls_of(path):
         documentation, signature, name, block = found.groups()
         owner = block or owner
         if name:
-            signature = re.sub(r',? \)', ')', ' '.join(signature.split()).replace('( ', '('))
+            signature = re.sub(r',? (?=\))|(?<=\() |,$', '', ' '.join(signature.split()))
             link = f'../{path.relative_to(ROOT).as_posix()}#L{text[: found.start(2)].count(chr(10)) + 1}'
             yield f'- [`{name}`]({link}) of `{owner}`: `{signature}`. {first_sentence(documentation)}'
 
@@ -49,10 +49,10 @@ def calls_of(path):
 def page_of_calls():
     """The page, as it has to be."""
     parts = [HEAD]
-    for title, crate, besides in PARTS:
+    for title, crate in PARTS:
         files = sorted((ROOT / 'crates' / crate / 'src').rglob('*.rt'))
         files = [it for it in files if not {'slots', 'slots.rt', 'tests'} & {*it.parts}]
-        parts.append(f'## {title}, {besides}\n\n' + '\n'.join(line for it in files for line in calls_of(it)) + '\n')
+        parts.append(f'## {title}\n\n' + '\n'.join(line for it in files for line in calls_of(it)) + '\n')
     return '\n'.join(parts)
 
 
