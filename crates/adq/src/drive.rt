@@ -60,13 +60,12 @@ fn write_run<R: Read, W: Write>(
         → input.new ≡ input.old }
 {
     let mut text = Vec::new(alloc);
-    let printed = run_with(alloc, args, input, &mut text)?;
+    let printed = dispatch(alloc, args, input, &mut text)?;
     write(output, printed.as_bytes())
 }
 
-/// Reads the text into `text`, and returns what it prints at the capacity and under the policy that
-/// the words name.
-fn run_with<R: Read>(
+/// Reads the text into `text`, and returns what it prints.
+fn dispatch<R: Read>(
     alloc: Global,
     args: &[String],
     input: &mut R,
@@ -81,8 +80,23 @@ fn run_with<R: Read>(
     let [policy, capacity] = args else {
         return Err(Fault::Arguments);
     };
-    let policy = policy.as_str();
-    match capacity.as_str() {
+    run_with(alloc, capacity.as_str(), policy.as_str(), input, text)
+}
+
+/// The same at the capacity that a word names, under the policy that another names.
+fn run_with<R: Read>(
+    alloc: Global,
+    capacity: &str,
+    policy: &str,
+    input: &mut R,
+    text: &mut Vec<u8>,
+) -> Result<String, Fault>
+    ensures outcome { IsOutcome
+        (settings_of (policy.now ∷ capacity.now ∷ [])) text.new.items result }
+    ensures whole { ReadsWhole (R.remaining input.old) text.old.items text.new.items result }
+    ensures unread { settings_of (policy.now ∷ capacity.now ∷ []) ≡ None → input.new ≡ input.old }
+{
+    match capacity {
         "0" => run_at::<R, 0>(alloc, policy, input, text),
         "1" => run_at::<R, 1>(alloc, policy, input, text),
         "2" => run_at::<R, 2>(alloc, policy, input, text),

@@ -4,7 +4,7 @@ use Rattle.std.proofs.Common.{take, drop, arith}
 use Rattle.arraydeque_ring.{
   proofs.{
     loans.{Parts.{length_rewritten, part_twice, all_written}, Rings.Rr},
-    memory.Kit.{◌≡◌, refl, ap, List, [], ◌∷◌, ℕ, ◌+◌, ◌≤◌, length, Ura, full_share},
+    memory.Kit.{◌≡◌, List, [], ◌∷◌, ℕ, ◌+◌, ◌≤◌, length, Ura, full_share},
     memory.Kit.{SProp, ent, sep, ex, Logic, sem, RattleType, part_at, param_laws, Fml, El, R, el_x},
     memory.Kit.via,
   },
