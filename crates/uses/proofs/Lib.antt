@@ -1,10 +1,12 @@
 pub mod Counted
 pub mod Cut
 pub mod Displaced
+pub mod Dot
 pub mod Grouped
 pub mod Merged
 pub mod Padded
 pub mod Recent
 pub mod Rising
 pub mod Runs
+pub mod Signed
 pub mod Totals

@@ -2,6 +2,7 @@ pub mod Ageing
 pub mod Average
 pub mod Edits
 pub mod Encoder
+pub mod Filter
 pub mod History
 pub mod Input
 pub mod Limiter

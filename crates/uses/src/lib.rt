@@ -3,6 +3,7 @@
 //!
 //! - [`window`]: the last samples and their sum
 //! - [`average`]: the mean of the last samples, at each
+//! - [`filter`]: signed samples, weighted and added up
 //! - [`history`]: undo and redo
 //! - [`pipe`]: bytes for a writer that may take only some of them
 //! - [`reorder`]: pieces that come early wait in order
@@ -28,6 +29,7 @@ pub mod average;
 pub mod copying;
 pub mod edits;
 pub mod encoder;
+pub mod filter;
 pub mod history;
 pub mod in_place;
 pub mod input;

@@ -15,6 +15,8 @@ mod edits;
 #[cfg(test)]
 mod encoder;
 #[cfg(test)]
+mod filter;
+#[cfg(test)]
 mod history;
 #[cfg(test)]
 mod in_place;
