@@ -195,19 +195,15 @@ pub(crate) const WORDS: [(&str, usize); 21] = [
 ];
 
 /// Inputs that have a bad line, and the number of that line.
-pub(crate) const BAD: [(&str, usize); 33] = [
+pub(crate) const BAD: [(&str, usize); 19] = [
     ("push_back 1\npush_back x\n", 2),
     ("\n  \npush_back 1\r\npush_back 007\nremove x", 5),
     ("push_back", 1),
     ("push_back 1 2", 1),
     ("PUSH_BACK 1", 1),
-    ("Push_back 1", 1),
     ("swap 1", 1),
     ("extend x", 1),
     ("extend_back 1 2x 3", 1),
-    ("LEN", 1),
-    ("extend_", 1),
-    ("len 1", 1),
     ("insert -1 2", 1),
     ("push_back +1", 1),
     ("push_back -", 1),
@@ -219,16 +215,6 @@ pub(crate) const BAD: [(&str, usize); 33] = [
     ("push_back 1\r\r", 1),
     ("push_back \u{661}", 1),
     ("len;len", 1),
-    ("insert x 1", 1),
-    ("insert 0 x", 1),
-    ("swap_remove_back x", 1),
-    ("swap_remove_front x", 1),
-    ("swap x 0", 1),
-    ("swap 0 x", 1),
-    ("replace x 1", 1),
-    ("drain x 1", 1),
-    ("drain 0 x", 1),
-    ("split_off x", 1),
 ];
 
 /// Inputs that aren't UTF-8 in the line of this number.
