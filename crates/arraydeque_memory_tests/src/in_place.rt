@@ -187,13 +187,13 @@ fn writes_to_each(deque: &mut Deque) -> bool {
     if deque.len() == 4 {
         deque.for_each_mut_in(1..3, |item| *item = item.wrapping_add(1));
     }
-    if let Some(last) = deque.range_mut(..).next_back() {
-        *last = 7;
+    for item in deque.range_mut(..) {
+        *item = item.wrapping_add(1);
     }
-    let is_called = holds(deque, &[3, 6, 8, 7]);
+    let is_called = holds(deque, &[4, 7, 9, 10]);
     deque.first_slice_mut().reverse();
     deque.second_slice_mut().reverse();
-    is_called && holds(deque, &[6, 3, 7, 8])
+    is_called && holds(deque, &[7, 4, 10, 9])
 }
 
 /// Whether two items are left alone where nothing is to be handed out, and whether a vector of none
