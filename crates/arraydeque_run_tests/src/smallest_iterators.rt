@@ -106,24 +106,39 @@ fn writes_over(mut items: IterMut<'_, i64>, is_back: bool, number: i64) -> bool 
         && items.len() == 0
 }
 
-/// Whether the one item is written over by an iterator, by that of a loan, and in the first slice.
-fn writes_over_one<B: Behavior>(mut deque: ArrayDeque<i64, 1, B>) -> bool {
+/// Whether the one item is written over by an iterator, from the front.
+fn is_written_by_iter_mut<B: Behavior>(mut deque: ArrayDeque<i64, 1, B>) -> bool {
     let is_lent = writes_over(deque.iter_mut(), false, 7);
-    let by_iter_mut = is_lent && holds(&deque, &[7]);
+    is_lent && holds(&deque, &[7])
+}
+
+/// Whether it is by the iterator of a loan, from the back.
+fn is_written_by_a_loan<B: Behavior>(mut deque: ArrayDeque<i64, 1, B>) -> bool {
     let is_lent = writes_over((&mut deque).into_iter(), true, 8);
-    let by_a_loan = is_lent && holds(&deque, &[8]);
+    is_lent && holds(&deque, &[8])
+}
+
+/// Whether it stands in the first slice for writing. It becomes 9.
+fn writes_in_slices<B: Behavior>(deque: &mut ArrayDeque<i64, 1, B>) -> bool {
     let (front, back) = deque.as_mut_slices();
     let is_whole = front.len() == 1 && back.is_empty();
     if let Some(item) = front.first_mut() {
         *item = 9;
     }
-    by_iter_mut && by_a_loan && is_whole && holds(&deque, &[9])
+    is_whole
+}
+
+/// Whether the one item is written over in every way.
+fn writes_over_one<B: Behavior>(mut deque: ArrayDeque<i64, 1, B>) -> Result<bool, Fail> {
+    let is_lent = is_written_by_iter_mut(deque.clone()?) && is_written_by_a_loan(deque.clone()?);
+    let is_whole = writes_in_slices(&mut deque);
+    Ok(is_lent && is_whole && holds(&deque, &[9]))
 }
 
 /// Whether a deque and its clones lend their one item for reading and writing, and give it to an
 /// iterator, from either end, and to a vector.
 fn gives_one<B: Behavior>(deque: ArrayDeque<i64, 1, B>) -> Result<bool, Fail> {
-    let is_lent = has_one(deque.iter(), (&deque).into_iter())? && writes_over_one(deque.clone()?);
+    let is_lent = has_one(deque.iter(), (&deque).into_iter())? && writes_over_one(deque.clone()?)?;
     let list = made(deque.clone()?.into_vec())?;
     let mut front = deque.clone()?.into_iter();
     let mut back = deque.into_iter();
