@@ -146,7 +146,7 @@ impl<T, const CAP: usize, B: Behavior> ArrayDeque<T, CAP, B> {
     pub fn len(&self) -> usize
         ensures len { result ≡ length self.now.items }
         ensures within { result ≤ CAP }
-        // True of every deque: so the slice that `fill_buf` lends is empty only if the deque is.
+        // This holds of every deque. By it, what `fill_buf` lends is empty only if the deque is.
         ensures start { self.now.start ≤ CAP - 1 }
     {
         self.ring.len()

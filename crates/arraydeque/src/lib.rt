@@ -37,18 +37,18 @@
 //!   `split_off`, `into_vec`, `run` and `Scanner::new`, and in `clone`, also of a
 //!   [`CapacityError`]. The `from_` calls, `into_vec`, `run` and `Scanner::new` hand back what they
 //!   consumed, as it was, in a [`MakeError`].
-//! - There may be no such item. Then a pop, `front`, `back`, `get`, their `_mut`, `remove`,
-//!   `swap_remove_back` or `swap_remove_front` returns `None`.
+//! - There may be no such item. Then a pop, `front`, `back`, `get`, `front_mut`, `back_mut`,
+//!   `get_mut`, `remove`, `swap_remove_back` or `swap_remove_front` returns `None`.
 //!
 //! After each of these the deque is as it was.
 //!
 //! A `pop_front_if` or `pop_back_if` also returns `None` if its closure rejects the item, which
 //! stays as the closure left it. `read` and `write` of a deque of bytes always return `Ok`, with
-//! how many bytes went, which may be none: `read_exact` and `write_all` fail then.
+//! how many bytes went. If none went, `read_exact` and `write_all` fail.
 //!
 //! # What a call requires
 //!
-//! The caller has to show it, for instance by a test of `len`; `run` makes such tests itself.
+//! The caller has to show this, for instance by a test of `len`. `run` makes such tests itself.
 //!
 //! - `deque[index]` and `swap` require indexes below the length. `insert`, `split_off`,
 //!   `rotate_left` and `rotate_right` require an index or a count up to the length.

@@ -91,7 +91,7 @@ impl<I: Iterator, const CAP: usize> Scanner<I, CAP> {
     /// `next` will return. Requires `k` below `CAP`.
     ///
     /// If the buffer has more than `k` items, nothing changes. Otherwise what is read is kept
-    /// there, behind the others, until it has `k + 1`.
+    /// there, behind the others, until the buffer has `k + 1` items.
     ///
     /// In a function over any iterator, make `CAP` a const parameter and require that `k` is below
     /// it. With a number in its place, the prover doesn't see that.
@@ -174,7 +174,7 @@ impl<I: Iterator, const CAP: usize> Scanner<I, CAP> {
     /// ```
     #[tactic(auto, unfolding(crate::specs::Lookahead::HasRest, crate::specs::Lookahead::left_of))]
     pub fn next(&mut self) -> Option<I::Item>
-        // If there is an item, the first of the buffer, or else the next of the iterator, goes out.
+        // What goes out is the first of the buffer, or if that is empty the next of the iterator.
         ensures hands_out { HandsOut I.next_gives self.old (option_to_list result) self.new }
         ensures rest { TakesOff I.next_gives self.old (option_to_list result) self.new }
         ensures buffer { self.new.buffer ≡ drop 1 self.old.buffer }
@@ -259,7 +259,7 @@ impl<I: Iterator, const CAP: usize> Scanner<I, CAP> {
         ensures accepted { IfSome result (λ item.
             FnOnceReturnsAt P.FnOnce accepts item true) }
 
-        // If rejected, it stays the next one, in the buffer. If that is empty, the input has ended.
+        // A rejected item stays the next one, in the buffer. If that is empty, the input has ended.
         ensures rejected { IfNone result (NextIs I.next_gives
             (λ item. FnOnceReturnsAt P.FnOnce accepts item false) self.new) }
         ensures none { IfNone result

@@ -94,9 +94,9 @@ impl<T: Drop, const CAP: usize, B: RunPolicy<T, CAP>> ArrayDeque<T, CAP, B> {
     /// Makes the calls in order, and returns a reply to each. A call that is refused doesn't stop
     /// the run: its reply says so, and the list is as it was.
     ///
-    /// Memory for just the replies is taken before the first call, and none if there is no call.
-    /// Fails only if that is refused; then nothing has changed, and the calls come back in the
-    /// error.
+    /// Memory for just the replies is taken before the first call. If there is no call, none is
+    /// taken. Fails only if that memory is refused; then nothing has changed, and the calls come
+    /// back in the error.
     ///
     /// Start: as the calls leave it in turn. Steps: those of the calls.
     ///
@@ -118,7 +118,7 @@ impl<T: Drop, const CAP: usize, B: RunPolicy<T, CAP>> ArrayDeque<T, CAP, B> {
         // And each makes of the deque what the call itself promises: list, start and steps.
         ensures whole { IfOk result (λ replies.
             DequeRun B.policy (type_size T.row) self.old calls.items replies.items self.new) }
-        // Moves and exchanges are what these cost, with a `Linearize` at most that.
+        // Moves and exchanges together are the costs of the calls, or fewer with a `Linearize`.
         ensures costs { IfOk result (λ replies.
             RunCosts B.policy self.old calls.items replies.items self.new) }
         ensures exact { IfOk result (λ replies. vec_capacity replies ≡ length calls.items) }

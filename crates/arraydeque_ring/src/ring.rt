@@ -436,8 +436,8 @@ impl<T> Ring<T> {
     /// Returns the place of the item at an index. No branch depends on the index, because indexes
     /// may come at random, as in the workload `swap` at capacity 1000. If the capacity is a power
     /// of two, the place is found by a mask; otherwise the capacity or 0 is subtracted from the
-    /// sum. If the sum might pass `usize::MAX`, as it can only for items of size zero, `wrap_add`
-    /// finds the place.
+    /// sum. If the sum might pass `usize::MAX`, which it can only for items of size zero,
+    /// `wrap_add` finds the place.
     #[inline(always)] // So a caller's constant capacity chooses mask or sum.
     fn place(&self, index: usize) -> usize
         requires { index < length self.now.items }

@@ -22,8 +22,8 @@ use std::mem::replace;
 
 /// The most bytes of a block. They are four times the 8 kB from which on the C library copies
 /// fastest: glibc 2.36 then uses `rep movsb`, which needs about half the time if it copies to a
-/// lower address. Each size of block is at most four times the next, so the largest that fits has
-/// 8 kB or more, if items have 8 bytes.
+/// lower address. Each size of block is at most four times the next. So the largest block that
+/// fits has 8 kB or more, if an item has 8 bytes or more.
 const BLOCK_BYTES: usize = 32_768;
 
 /// A kind of step that is counted.

@@ -4,7 +4,7 @@ ghost use Rattle.arraydeque_ring.specs.Loans.{place_from};
 
 /// Returns the place `offset` places after `place`, round the end of a region of `capacity` places.
 /// If the capacity is a power of two, the place is found by a mask, otherwise by a branch, which a
-/// processor predicts if places come in a row. The workload `queue` is faster by either.
+/// processor predicts if places come in a row. Each of the two makes the workload `queue` faster.
 #[inline(always)] // So a caller's constant capacity chooses mask or branch.
 pub(crate) fn wrap_add(place: usize, offset: usize, capacity: usize) -> usize
     requires in_region { place < capacity }

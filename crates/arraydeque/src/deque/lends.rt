@@ -28,8 +28,8 @@ impl<T, const CAP: usize, B: Behavior> ArrayDeque<T, CAP, B> {
         ensures value { result ≡ self.now.items }
         ensures within { length self.now.items ≤ CAP }
     {
-        // No clause speaks of all calls of the iterator, as one of `drain` does: with it in reach
-        // the prover's search misses what a plain loop over the iterator keeps.
+        // A clause of `drain` speaks of all calls of its iterator. Here there is none, because
+        // with it in reach the prover's search misses what a plain loop over the iterator keeps.
         let (first, second) = self.as_slices();
         Iter { first, second }
     }
@@ -182,8 +182,8 @@ impl<T, const CAP: usize, B: Behavior> ArrayDeque<T, CAP, B> {
     /// ```
     #[inline]
     pub fn as_mut_slices(&mut self) -> (&mut [T], &mut [T])
-        // For a proof by hand (else call `for_each_mut`, or `first_slice_mut`): the items end as
-        // they were last written, with 2 lends counted.
+        // For a proof by hand: the items end as they were last written, with 2 lends counted.
+        // Otherwise call `for_each_mut` or `first_slice_mut`.
         ensures* writes_back { sem 𝓛 (lends_slices T.row CAP.row B.row self.entry result) }
 
         // What is lent.

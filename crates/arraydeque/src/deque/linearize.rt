@@ -14,7 +14,7 @@ impl<T, const CAP: usize, B: Behavior> ArrayDeque<T, CAP, B> {
     /// It works in place and takes no memory.
     ///
     /// Start: 0, or stays if nothing happens.
-    /// Steps: moves and exchanges, taken together no more than items, or none if nothing happens.
+    /// Steps: moves and exchanges, together no more than there are items; none if nothing happens.
     ///
     /// ```
     /// let mut deque = ArrayDeque::<i64, 4, Saturating>::new(alloc)?;

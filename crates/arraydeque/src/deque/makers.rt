@@ -31,7 +31,7 @@ impl<T, const CAP: usize> ArrayDeque<T, CAP, Saturating> {
     ) -> Result<Self, MakeError<I>>
         requires { IsIterable I.into_iter_gives I.IntoIter.can_next iter }
 
-        // If memory is granted, the deque has of what the iterator gives as much as finds room.
+        // If memory is granted, the deque has as much of what the iterator gives as finds room.
         ensures items { IfOk result (λ deque.
             TakesFrom I.into_iter_gives I.IntoIter.next_gives iter CAP
             (λ came. deque ≡ with_back came empty_deque)) }

@@ -19,7 +19,7 @@ impl<T, const CAP: usize> ArrayDeque<T, CAP, Saturating> {
     /// Either the items before the index move by one place, or those from it on: whichever are
     /// fewer, and on a tie the latter. So at most half of the items move.
     ///
-    /// Start: 1 down if fewer items are before the index than from it on, else stays.
+    /// Start: 1 down if fewer items are before the index than from it on, otherwise stays.
     /// Steps: 1 put, 1 move for each item that moves.
     ///
     /// ```
@@ -64,7 +64,7 @@ impl<T, const CAP: usize, B: Behavior> ArrayDeque<T, CAP, B> {
     /// The items before it or those behind it move by one place, whichever are fewer, and on a tie
     /// the latter. So fewer than half of the items move.
     ///
-    /// Start: 1 up if fewer items are before the index than behind it, else stays.
+    /// Start: 1 up if fewer items are before the index than behind it, otherwise stays.
     /// Steps: 1 take, 1 move for each item that moves.
     ///
     /// ```

@@ -23,8 +23,8 @@ impl<T, const CAP: usize, B: Behavior> ArrayDeque<T, CAP, B> {
     /// Fails only if memory is refused; then nothing has changed. An empty range, or items of size
     /// zero, take no memory.
     ///
-    /// Start: 1 up for each item of the range if fewer items are before it than behind it, else
-    /// stays.
+    /// Start: 1 up for each item of the range if fewer items are before it than behind it,
+    /// otherwise stays.
     /// Steps: 1 take for each item of the range, 1 move for each item that moves.
     ///
     /// ```

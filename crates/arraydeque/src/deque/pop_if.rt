@@ -15,7 +15,7 @@ impl<T, const CAP: usize, B: Behavior> ArrayDeque<T, CAP, B> {
     /// `None`, and the item stays as `predicate` left it. No other item moves. An empty deque
     /// doesn't call `predicate`.
     ///
-    /// Start: 1 up if the item is removed, else stays.
+    /// Start: 1 up if the item is removed, otherwise stays.
     /// Steps: 1 lend if there is an item, 1 take if it is removed.
     ///
     /// ```
@@ -26,10 +26,10 @@ impl<T, const CAP: usize, B: Behavior> ArrayDeque<T, CAP, B> {
     /// assert!(rt; deque.into_vec()?.as_slice() == [2, 3].as_slice());
     /// ```
     pub fn pop_front_if<P: FnOnce(&mut T) -> bool>(&mut self, predicate: P) -> Option<T>
-        // If there is an item, `predicate` may be called at the first.
+        // If there is an item, `predicate` may be called on the first.
         requires { ForSome (slice_get self.old.items 0) (FnOnceTakesAtMut P.FnOnce predicate) }
 
-        // The first item goes if `predicate` returns true, and else stays as `predicate` left it.
+        // If `predicate` returns true, the item goes. If not, it stays as `predicate` left it.
         ensures cases { PopsFrontIf P.FnOnce self.old.items self.new.items predicate result }
 
         // If it goes: where the list lies, and what it cost.
@@ -68,10 +68,10 @@ impl<T, const CAP: usize, B: Behavior> ArrayDeque<T, CAP, B> {
     /// assert!(rt; deque.into_vec()?.as_slice() == [5].as_slice());
     /// ```
     pub fn pop_back_if<P: FnOnce(&mut T) -> bool>(&mut self, predicate: P) -> Option<T>
-        // If there is an item, `predicate` may be called at the last.
+        // If there is an item, `predicate` may be called on the last.
         requires { ForSome (last_item self.old.items) (FnOnceTakesAtMut P.FnOnce predicate) }
 
-        // The last item goes if `predicate` returns true, and else stays as `predicate` left it.
+        // If `predicate` returns true, the item goes. If not, it stays as `predicate` left it.
         ensures cases { PopsIf P.FnOnce self.old.items self.new.items predicate result }
 
         // If it goes: where the list lies, and what it cost.

@@ -123,7 +123,7 @@ impl<T, const CAP: usize> ArrayDeque<T, CAP, Wrapping> {
     /// Adds an element at the back. If the deque is full, removes the first item to make room and
     /// returns that one; at capacity 0 returns the element itself. No kept item moves.
     ///
-    /// Start: 1 up if the deque is full, else stays. Steps: 1 put, 1 take if it is full.
+    /// Start: 1 up if the deque is full, otherwise stays. Steps: 1 put, 1 take if it is full.
     ///
     /// ```
     /// let mut deque = ArrayDeque::<i64, 2, Wrapping>::new(alloc)?;

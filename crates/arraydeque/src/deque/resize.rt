@@ -92,8 +92,8 @@ impl<T, const CAP: usize, B: Behavior> ArrayDeque<T, CAP, B> {
     ///
     /// The gap is closed as `drain` closes it. No memory is taken, so the call never fails.
     ///
-    /// Start: 1 up for each item of the range if fewer items are before it than behind it, else
-    /// stays.
+    /// Start: 1 up for each item of the range if fewer items are before it than behind it,
+    /// otherwise stays.
     /// Steps: 1 take for each item of the range, 1 move for each item that moves.
     ///
     /// ```

@@ -40,7 +40,7 @@ impl<T, const CAP: usize, B: Behavior> ArrayDeque<T, CAP, B> {
         ensures retains { Retains (CalledAt F.FnMut) f
             (as_ring CAP self.old) (as_ring CAP self.new) }
 
-        // Of that the items alone. The list gets no longer, and always fits.
+        // Of this, the items alone. The list gets no longer, and always fits.
         ensures filtered { IsFiltered (CalledAt F.FnMut) f self.old.items self.new.items }
         ensures no_longer { length self.new.items ≤ length self.old.items }
         ensures within { length self.new.items ≤ CAP }
@@ -82,7 +82,7 @@ impl<T, const CAP: usize, B: Behavior> ArrayDeque<T, CAP, B> {
         ensures retains { RetainsMut (CalledAtMut F.FnMut) f
             (as_ring CAP self.old) (as_ring CAP self.new) }
 
-        // Of that the items alone. The list gets no longer, and always fits.
+        // Of this, the items alone. The list gets no longer, and always fits.
         ensures filtered { RetainsInTurn (CalledAtMut F.FnMut) f self.old.items self.new.items }
         ensures no_longer { length self.new.items ≤ length self.old.items }
         ensures within { length self.new.items ≤ CAP }

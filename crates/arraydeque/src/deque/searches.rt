@@ -1,4 +1,4 @@
-//! Binary searches of a list in order. What the order is, the caller says.
+//! Binary searches of a list in order. The caller says what the order is.
 ghost use Rattle.std.specs.Prelude.{◌≡◌, ◌≤◌, Bool, true, false, length, IfOk};
 ghost use Rattle.std.specs.declared.cmp.Ordering.{Ordering};
 ghost use Rattle.std.specs.Fn.{ComputesKey};
@@ -59,7 +59,7 @@ impl<T, const CAP: usize, B: Behavior> ArrayDeque<T, CAP, B> {
         ensures position { IsBinarySearchResult (λ y. T.cmp y x.now) self.now.items result }
         ensures first { IsFirstFound (λ y. T.cmp y x.now) self.now.items result }
 
-        // Of that only what is known of the item found.
+        // Of this, only what is known of the item that was found.
         ensures ok { IfOk result (HoldsAt (λ y. T.cmp y x.now ≡ Ordering.Equal) self.now.items) }
     {
         self.binary_search_by(|item| item.cmp(x))
@@ -79,7 +79,7 @@ impl<T, const CAP: usize, B: Behavior> ArrayDeque<T, CAP, B> {
         ensures bound { IsSearchInRange result (length self.now.items) }
         ensures within { length self.now.items ≤ CAP }
 
-        // If `f` computes `ord` of the items, the result is as of `binary_search`, by `ord`.
+        // If `f` computes `ord` of the items, the result is that of `binary_search`, by `ord`.
         ensures position { (ord : T → Ordering) → ComputesKey F.FnMut ord f
             → IsBinarySearchResult ord self.now.items result }
         ensures first { (ord : T → Ordering) → ComputesKey F.FnMut ord f
@@ -112,7 +112,7 @@ impl<T, const CAP: usize, B: Behavior> ArrayDeque<T, CAP, B> {
         ensures bound { IsSearchInRange result (length self.now.items) }
         ensures within { length self.now.items ≤ CAP }
 
-        // If `f` computes `key_of` of the items, the result is as of `binary_search`, by the keys.
+        // If `f` computes `key_of` of the items, the result is that of `binary_search`, by keys.
         ensures position { (key_of : T → K) → ComputesKey F.FnMut key_of f
             → IsBinarySearchResult (λ y. K.cmp (key_of y) key.now) self.now.items result }
         ensures first { (key_of : T → K) → ComputesKey F.FnMut key_of f
@@ -149,7 +149,7 @@ impl<T, const CAP: usize, B: Behavior> ArrayDeque<T, CAP, B> {
 /// Does what `less_count` does, in a slice.
 ///
 /// There are two loops, one within the other, for speed alone: LLVM turns a choice into a branch in
-/// an innermost loop only, and here every second branch would be foreseen wrongly. So up to 8,192
+/// an innermost loop only, and here every second branch would be predicted wrongly. So up to 8,192
 /// items are halved in the outer loop, without a branch. More than that don't fit a near cache, and
 /// there a branch is wanted: it fetches the next item before the answer is known. By one loop,
 /// `search` among 1,024 items takes several times as long.

@@ -80,8 +80,8 @@ impl<T> Ring<T> {
         let capacity = self.slots.capacity();
         let mut slots = self.slots.move_out();
         let mut ended = false;
-        // Written out as two runs, with 85 lines of proof and code more, `extend_front` is faster
-        // at 16 places.
+        // If this were written out as two runs, with 85 more lines of proof and code,
+        // `extend_front` would be faster at 16 places.
         while !ended && self.len < capacity {
             let from = if self.start == 0 {
                 capacity

@@ -112,7 +112,7 @@ impl<T> Ring<T> {
 
     /// Lends the items for writing, except for the first `before` and the last `behind`, as one
     /// loan of two slices. Its clause says that the ring follows the loan's name, and also what
-    /// that name follows. A caller of this method is proved by hand; all others call
+    /// that name follows. A caller of this method has to be proved by hand, so most call
     /// [`Ring::lend_part`]. Requires that there are so many items.
     ///
     /// Start: stays. Steps: 2 lends.

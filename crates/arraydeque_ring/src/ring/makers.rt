@@ -112,8 +112,8 @@ impl<T> Ring<T> {
             start,
             len,
         } = self;
-        // By `take_before_end` and `pop_front`, 79 lines of proof would go, and `into_vec` of 1,024
-        // words would take longer.
+        // If it called `take_before_end` and `pop_front`, 79 lines of proof would go, but
+        // `into_vec` of 1,024 words would take longer.
         let first = len.min(slots.capacity() - start);
         for k in 0..first {
             v.push_reserved(slots.take(start + k));

@@ -229,7 +229,7 @@ fn close_room<T>(
 /// Moves the `gap` empty places from the index `from` on to the index `to`, by moving the values
 /// between the other way as one block. Indexes are counted from the place `start` on, round the
 /// end, and `to` is counted as if the gap weren't there. A move by one place has calls of its own,
-/// which take a fifth of its instructions from the workload `middle`.
+/// by which the workload `middle` takes a fifth fewer instructions.
 #[inline(always)] // By a hint, `middle` took 244 instructions, not 194.
 pub(super) fn move_gap<T>(slots: &mut Slots<T>, start: usize, from: usize, to: usize, gap: usize)
     requires some { 0 < gap }
