@@ -197,7 +197,7 @@ impl<T> Ring<T> {
         self.push_front_given(capacity, element);
     }
 
-    /// Does what `push_front` does, for a caller who gives the capacity, as to `push_back_given`.
+    /// Does what `push_front` does, for a caller who gives the capacity.
     ///
     /// Start: 1 down. Steps: 1 put.
     ///

@@ -87,7 +87,7 @@ pub(super) fn order<T: Ord>(left: &[T], right: &[T]) -> Ordering
 
 /// Returns two slices without the blocks of equal pairs that they begin with. They stay whole if an
 /// item has fewer than `least_bytes` or more than `SMALL_BYTES`, or if the first pair differs, as
-/// it often does. Without this, `compare` of 8-byte items takes more than twice the time.
+/// it often does. Without this, `cmp` of 8-byte items takes more than twice the time.
 #[inline(always)] // So the test of an item's bytes is made when the caller is compiled.
 fn skip_equal_blocks<'a, T: PartialEq>(
     left: &'a [T],

@@ -98,7 +98,7 @@ impl<T> Ring<T> {
     /// assert!(rt; IntoIter::from_ring(ring).eq([2, 3, 1]));
     /// ```
     #[tactic(auto, using(crate::proofs::Opened::end_facts))]
-    #[inline(always)] // By a hint, `rotate_half_one_right` took 54 instructions, not 13.
+    #[inline(always)] // By a hint, a turn by one to the right takes longer.
     pub fn rotate_left(&mut self, count: usize)
         requires { count ≤ length self.old.items }
         ensures items { self.new.items ≡ drop count self.old.items ++ take count self.old.items }
@@ -140,7 +140,7 @@ impl<T> Ring<T> {
 
     /// Puts the last item before the others. Requires three items or more: of two, the first moves.
     #[tactic(auto, using(crate::proofs::Opened::end_facts))]
-    #[inline(always)] // By `turn`, `rotate_half_one_right` takes longer.
+    #[inline(always)] // By `turn`, one to the right takes longer.
     fn last_to_front(&mut self)
         requires { 2 < length self.old.items }
         ensures items { let others = length self.old.items - 1 in
@@ -162,7 +162,7 @@ impl<T> Ring<T> {
 
     /// Puts the first `count` items behind the others. Requires a count above 0, up to the length.
     #[tactic(auto, using(crate::proofs::Opened::end_facts))]
-    #[inline(always)] // As `rotate_left`.
+    #[inline(always)] // By a hint, as at `rotate_left`, it takes longer.
     fn turn(&mut self, count: usize)
         requires some { 0 < count }
         requires within { count ≤ length self.old.items }
@@ -211,7 +211,7 @@ pub(super) fn close_gap<T>(
 
 /// Closes the gap of a rotation, as `close_gap` does, in a region that it hands back. A full ring
 /// has no gap, and doesn't call it.
-#[inline(never)] // Inlined, or by a borrow, `rotate_full_half` takes several times as long.
+#[inline(never)] // Inlined, or by a borrow, a full ring's turn takes far longer.
 fn close_room<T>(
     mut slots: Slots<T>,
     start: usize,

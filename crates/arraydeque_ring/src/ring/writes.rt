@@ -1,4 +1,4 @@
-//! The items written in place: all or a part by a closure, or those of one of the two slices.
+//! Items that are written in place: all or a part by a closure, or those of one of the two slices.
 ghost use Rattle.std.specs.Prelude.{◌≡◌, ◌-◌, ◌≤◌, length, take, drop, slice_range};
 ghost use Rattle.std.specs.Borrow.{sem};
 ghost use Rattle.arraydeque_ring.specs.RingLends.{lends_first, lends_rest};
@@ -8,8 +8,8 @@ ghost use Rattle.arraydeque_ring.specs.Written.{WritesAt, WritesInTurn, WrittenI
 use super::Ring;
 
 impl<T> Ring<T> {
-    /// Returns the first of the two slices of [`Ring::as_slices`], for writing: the items from the
-    /// front to the region's end. They end as they were written.
+    /// Returns the first of the two slices of [`Ring::as_slices`], for writing. It has the items
+    /// from the front to the region's end. They end as they were written.
     ///
     /// Start: stays. Steps: 1 lend.
     ///
@@ -32,8 +32,8 @@ impl<T> Ring<T> {
         slots.slice_mut(start, len)
     }
 
-    /// Returns the second of the two slices of [`Ring::as_slices`], for writing: the other items,
-    /// from the region's first place on. They end as they were written.
+    /// Returns the second of the two slices of [`Ring::as_slices`], for writing. It has the other
+    /// items, from the region's first place on. They end as they were written.
     ///
     /// Start: stays. Steps: 1 lend.
     ///
