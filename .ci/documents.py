@@ -1,5 +1,4 @@
-"""What `.ci/examples` and `.ci/steps` share: the blocks of a page, README's sections, a copy of the libraries, and
-proofs over it."""
+"""What `.ci/examples` and `.ci/steps` share: the blocks of a page, a copy of the libraries, and proofs over it."""
 import re
 import shutil
 import subprocess
@@ -8,7 +7,6 @@ from textwrap import dedent
 
 ROOT = Path(__file__).resolve().parent.parent
 LIBRARIES = ('arraydeque_ring', 'arraydeque')
-FIRST = 'A first program'
 START = ROOT / 'docs/START.md'
 FENCE = re.compile(r'^( *)```([^\n`]*)\n(.*?)^\1```$', re.M | re.S)
 
@@ -21,12 +19,6 @@ def fences(page):
         prose, end = page[end : fence.start()], fence.end()
         path = re.search(r'`([\w./]+)`:$', prose.rstrip())
         yield fence[2], path and path[1], dedent(fence[3]), prose
-
-
-def sections_of_readme():
-    """The sections of README, by their headings."""
-    parts = re.split(r'^## (.*)\n', (ROOT / 'README.md').read_text(), flags=re.M)
-    return dict(zip(parts[1::2], parts[2::2]))
 
 
 def copy_libraries(to, *without):
