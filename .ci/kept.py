@@ -6,18 +6,19 @@ within a clause may change. Of `src`, but for the region: what `pub` hands on; e
 its private fields as one; each member of a public trait, or of an impl for a public type; a call's signature with its
 impl's bounds, and each clause by its label, with `=` if no other is of its kind; from where the words and types of all
 these come; and each `unsafe impl`, the region's too. Of `specs` each word, and from where its words come, of
-`specs/formers` the statements alone; of `proofs` the statements that CALLING names beside their file.
+`specs/formers` the statements alone; of `proofs` the statements that CALLING names beside their file, or in a ruleset.
 
 An entry above that release's heading in CHANGELOG, a bullet or a table's row, has to name in backticks what differs, a
-clause by call and label: under 'Breaks' what is gone or has another text, what an old call or trait asks anew, and a
-call that hides a trait's; there or under 'New' an `ensures` of another text. If other places have such a call and
-clause, it names a type or policy that they lack. A release is the first commit that gave its heading a day, and is held
-to the release before it, by its own section. That git's history isn't whole is a fault, unless ARRAYDEQUE_HISTORY is
-`none`.
+clause or field with its call or record: under 'Breaks' what is gone or has another text, what an old call or trait asks
+anew, and a call that hides a trait's; there or under 'New' an `ensures` of another text. If other places have such a
+call and clause, it names a type or policy that they lack. A release is the first commit that gave its heading a day, so
+a renamed heading makes another, and is held to the release before it, by its own section. That git's history isn't
+whole is a fault, unless ARRAYDEQUE_HISTORY is `none`.
 
-Not seen: whether a text says less, more or the same; what the toolchain's words mean; a type's invariant; what follows
-from private fields, such as `Send`; a new call that hides a trait's provided one; which crates are needed; what proofs
-by hand cite besides; time. For these the maintainer reads `git diff` of both crates.
+Not seen: whether a text says less, more or the same; what words of the toolchain mean, and private ones of `proofs`, of
+`formers` and of a private trait; a type's view and invariant; what follows from private fields, such as `Send`, or from
+an `impl !`; a new call or member in place of a trait's provided one; attributes of calls; which crates are needed; what
+proofs by hand cite besides; time. For these the maintainer reads `git diff` of both crates.
 """
 import io
 import os
@@ -35,7 +36,7 @@ RELEASE = re.compile(r'^## (.*), \d+ \w+ \d{4}$', re.M)
 SECTION = re.compile(r'^### (Breaks|New)\n(.*?)(?=^#|\Z)', re.M | re.S)
 ENTRY = re.compile(r'^(?:- .*(?:\n +\S.*)*|\| .*)', re.M)
 ITEM = re.compile(r'^(?=(?:pub|impl|unsafe|ghost|struct|enum|trait|fn|mod|use|const|static|type)\b)', re.M)
-IMPL = re.compile(r'impl(<(?:->|[^<>]|<(?:[^<>]|<[^<>]*>)*>)*>)? ((?:[^{}]|\{[^{}\n]*\})*?) \{(.*)', re.S)
+IMPL = re.compile(r'impl(<(?:->|[^<>]|<(?:[^<>]|<[^<>]*>)*>)*>)? ((?:[^{}]|\{[^{}\n]*\})*?)\s\{(.*)', re.S)
 MEMBER = re.compile(r'^    (?=#\[|(?:ghost (?!use )|type |(?:pub\S* )?(?:const |unsafe )*(?:fn |const ))\w)', re.M)
 SHOWN = re.compile(r'(ghost|type|(?:pub )?const) (?!fn )(\w+)')
 CALL = re.compile(r'(?:const |unsafe )*fn (\w+)')
@@ -43,9 +44,10 @@ PUBLIC_CALL = re.compile(r'^ *pub (?:const |unsafe )*fn ', re.M)
 CLAUSE = re.compile(r'^ *(?=(?:requires|ensures)\b)', re.M)
 PRIVATE = re.compile(r'^(?:pub\(\w+\) )?(?:struct|enum|trait) (\w+)', re.M)
 FIELD = re.compile(r'^    (?:pub\(\w+\) )?(?!pub |ghost )\w+: .*\n?', re.M)
-LAYOUT = re.compile(r'(?<=\() |,? (?=\))|(?<=[( ])mut (?=\w+:|self\b)|,$')
+LAYOUT = re.compile(r'(?<=\() |,? (?=\))|(?:(?<=\()|(?<=[(,] ))mut (?=\w+:|self\b)|,$')
 BOUND = re.compile(r'λ ([^.]*)\.|\blet (\w+) =|[({](\w+) :')
 USE = re.compile(r'^ *((?:ghost |pub )?)use (.*\{\n(?:.*\n)*?\}|.*).*\n', re.M)
+RECORD = re.compile(r'^( *)pub record (\S+).*\n(?:\1  .*\n)*', re.M)
 WORD = re.compile(r' *(?:\w+ )?pub (?:(?:mod|record|data|ruleset) )?([^\s(:{]+)')
 
 
@@ -74,7 +76,9 @@ def imported(text, is_public=False):
 
 def cited(owner, texts, imports):
     """From where the words come that these texts of one owner cite, an operator by its signs."""
-    tokens = set(re.split(r'[\s(){}<>,;:.!&\[\]]+', ' '.join(texts)))
+    text = re.sub(r'(?:\.|::|\bfn )\w+|\w+: ', ' ', ' '.join(texts))
+    tokens = {it for ends in (r'[\s(){},;]+', r'[\s(){}<>,;:.!&\[\]]+') for it in re.split(ends, text)}
+    yield from (((owner, it, 'from'), 'here') for it in tokens - {name for name, _ in imports})
     for name, origin in imports:
         if tokens.issuperset(name.strip('◌').split('◌')):
             yield (owner, name, 'from'), origin
@@ -85,7 +89,7 @@ def of_clause(text, known):
     fields = set(re.findall(r'[{;] (\w+) =', text))
     names = re.findall(r'\w+', ' '.join(' '.join(it) for it in BOUND.findall(text)))
     numbers = {name: f'_{at}' for at, name in enumerate(dict.fromkeys(names)) if name not in known | fields}
-    return re.sub(r"(?<!\.)[\w'-]+", lambda it: numbers.get(it[0], it[0]), plain(text).removesuffix(';'))
+    return re.sub(r"(?<![\w.'-])[\w'-]+", lambda it: numbers.get(it[0], it[0]), plain(text).removesuffix(';'))
 
 
 def of_call(owner, bounds, code, known):
@@ -123,8 +127,6 @@ def of_item(path, crate, item, attributes, known):
     """What a file has of promises by one item."""
     if item.startswith('unsafe impl') and (marked := re.match(r'unsafe (impl.* (\w+) for (\w+).*)', item)):
         yield (f'{crate} unsafe {marked[3]}', marked[2], ''), plain(marked[1])
-    elif '/src/slots' in path:
-        return
     elif block := IMPL.match(item):
         bounds, head, members = block[1] or '', plain(block[2]), block[3]
         owner = f'{crate} {head}'
@@ -134,11 +136,13 @@ def of_item(path, crate, item, attributes, known):
         yield from of_block(owner, f'impl{bounds}', members, ' for ' in head, known)
     elif block := re.match(r'(pub trait (\w+).*?) \{(.*)', item, re.S):
         yield (f'{crate} trait {block[2]}', block[2], 'impl'), plain(block[1])
+        yield (f'{crate} trait {block[2]}', block[2], 'from'), path
         yield from of_block(f'{crate} trait {block[2]}', '', block[3], True, known)
     elif kind := re.match(r'pub (?:struct|enum|const|static|type) (?!fn )(\w+)', item):
-        yield from of_type(crate, kind[1], item, attributes)
+        yield from [*of_type(crate, kind[1], item, attributes), ((crate, kind[1], 'from'), path)]
     elif re.match(r'pub (?:use|mod) ', item):
-        yield from (((f'{path} pub', name, ''), '') for name, _ in imported(item.replace(' mod ', ' use '), True))
+        for name, origin in imported(item.replace(' mod ', ' use '), True):
+            yield (f'{path} pub', name, ''), re.match(r'(?:std|arraydeque_ring)\b|', origin)[0]
     elif PUBLIC_CALL.match(item):
         yield from of_call(crate, '', item, known)
 
@@ -152,7 +156,7 @@ def of_source(path, text):
         found += of_item(path, crate, item, attributes, {name for name, _ in imports})
         attributes = whole[len(item):]
     calls = [key for key, it in found if not key[2] and CALL.search(it) and not re.search(' for | trait ', key[0])]
-    if len(PUBLIC_CALL.findall(code)) != len(calls) and '/src/slots' not in path:
+    if len(PUBLIC_CALL.findall(code)) != len(calls):
         sys.exit(f'kept: of {path} not each public call is read')
     yield from found
     for owner in {it[0] for it, _ in found}:
@@ -163,6 +167,7 @@ def of_words(path, text):
     """The words of a file of `specs` or `proofs`, those that it passes on, and from where their words come."""
     outer, around, found, states = '', '', [], '/proofs/' in path or '/formers/' in path
     text = re.sub(r'^ *--.*\n', '', text, flags=re.M)
+    text = RECORD.sub(lambda it: it[0].replace(f'\n{it[1]}  pub ', f'\n{it[1]}  pub {it[2]}.'), text)
     yield from (((path, name, 'use'), origin) for name, origin in imported(text, True))
     for chunk in re.split(r'\n\n+|^(?= *(?:\w+ )?pub )', USE.sub('', text), flags=re.M):
         if head := re.match(r' *module _ (.*?) where\n?', chunk, re.S):
@@ -175,9 +180,10 @@ def of_words(path, text):
         if states:
             chunk = re.split(rf'^ *{re.escape(name[1])}(?= |$)', chunk, flags=re.M)[0]
         stated = f'{around} {chunk}' if chunk.startswith(' ') else chunk
-        found.append(((path, name[1], '' if is_public else 'private'), plain(stated)))
+        word, _, field = name[1].partition('.')
+        found.append(((path, word, f'field {field}' if field else '' if is_public else 'private'), plain(stated)))
     yield from found
-    yield from cited(path, [it for _, it in found], imported(text))
+    yield from cited(path, [it for _, it in found], [*imported(text)])
 
 
 def interface(texts):
@@ -187,9 +193,8 @@ def interface(texts):
     hidden = {it for text in code.values() for it in PRIVATE.findall(text)} | {'Slots', 'slots'}
     promises = [it for path, text in code.items() for it in of_source(path, text)
                 if ' unsafe ' in it[0][0] or not hidden & words(f'{it[0][0]} {it[0][1]}')]
-    for path, text in texts.items():
-        if re.match(r'crates/\w+/(?:specs|proofs)/.*\.antt$', path):
-            promises += of_words(path, text)
+    promises += [it for path, text in texts.items() if re.match(r'crates/\w+/(?:specs|proofs)/.*\.antt$', path)
+                 for it in of_words(path, text)]
     for key, text in promises:
         found.setdefault(key, set()).add(text)
     return {key: ' | '.join(sorted(it)) for key, it in found.items()}
@@ -198,10 +203,11 @@ def interface(texts):
 def promised(texts):
     """What callers could rest on in the files of a tree: of `proofs` what CALLING names, beside its file."""
     calling = ' '.join(re.findall(r'`[^`\n]+`', texts[f'{CRATES[0]}/CALLING.md'])).replace('::', '.')
-    told = {path for path in texts if '/proofs/' in path
-            and path.removeprefix('crates/').removesuffix('.antt').replace('/', '.') in calling}
-    return {key: it for key, it in interface(texts).items() if '/proofs/' not in key[0] or key[0] in told
-            and (key[1] in words(calling) or key[2] == 'from')}
+    told = {it for it in texts if '/proofs/' in it and it[len('crates/'):-len('.antt')].replace('/', '.') in calling}
+    found, named = interface(texts), words(calling)
+    named |= {it for key, text in found.items() if key[1] in named and 'pub ruleset ' in text for it in words(text)}
+    return {key: it for key, it in found.items() if '/proofs/' not in key[0] or key[0] in told
+            and (key[1] in named or key[2] == 'from')}
 
 
 def differences(old, new):
@@ -226,7 +232,7 @@ def differences(old, new):
 
 def untold(old, new, news):
     """What CHANGELOG's part above a release doesn't tell of a difference."""
-    entries = [(section, words(' '.join(re.findall(r'`[^`]+`', it)).replace('::', ' ')))
+    entries = [(section, words(' '.join(re.findall(r'`[^`]+`', it)).replace('::', ' ')) | {*re.findall(r'`(\W+)`', it)})
                for section, text in SECTION.findall(news) for it in ENTRY.findall(text)]
     for (owner, name, part), what, is_break in sorted(differences(old, new)):
         others = [words(it[0]) for it in old if it[1:] == (name, part) and it[0] != owner and part != 'from']
@@ -259,10 +265,9 @@ def texts_here():
 def releases(names):
     """The commits that made the newest release and the one before it, or nothing if the history isn't here."""
     try:
-        if not (ROOT / '.git').exists() or git('rev-parse', '--is-shallow-repository').strip() != b'false':
-            return []
+        is_whole = (ROOT / '.git').exists() and git('rev-parse', '--is-shallow-repository').strip() == b'false'
         return [git('log', '--reverse', '--format=%h', f'-G^## {it}, [0-9]', '--', 'CHANGELOG.md').decode().split()[0]
-                for it in names[:2]]
+                for it in names[:2] if is_whole]
     except (OSError, subprocess.CalledProcessError, IndexError):
         return []
 
@@ -276,9 +281,8 @@ def faults_of_promises():
         fault = "promises are held to none: a release's day, or the history, is not here: clone it whole"
         return ([], fault) if os.environ.get('ARRAYDEQUE_HISTORY') == 'none' else ([fault], '')
     had = [texts_at(it) for it in commits]
-    has = [interface(texts_here()), *(interface(it) for it in had[:-1])]
     old = [promised(it) for it in had]
-    faults = [it for at in range(len(old)) for it in untold(old[at], has[at], parts[at])]
+    faults = [it for each in zip(old, map(interface, [texts_here(), *had]), parts) for it in untold(*each)]
     return faults, f'{len(old[0])} texts are as {names[0]} ({commits[0]}) has them, or CHANGELOG tells the change'
 
 
