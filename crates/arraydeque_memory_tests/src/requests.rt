@@ -114,7 +114,7 @@ fn drains_one_by_one(mut deque: Deque) -> Result<bool, Fail> {
 /// Whether three of five bytes go: eight bytes of a region, and three.
 fn drains_bytes(alloc: Global) -> Result<bool, Fail> {
     let mut deque = ArrayDeque::<u8, 8, Wrapping>::new(alloc)?;
-    deque.extend_back([1, 2, 3, 4, 5]);
+    deque.extend(&[1, 2, 3, 4, 5])?;
     Ok(
         deque.len() == 5
             && deque.drain(1..4)?.len() == 3
