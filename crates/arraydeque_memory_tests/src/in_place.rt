@@ -267,6 +267,8 @@ fn streams(deque: &mut ArrayDeque<u8, 4, Saturating>) -> Result<bool, Fail> {
 fn bytes_as_a_stream_1_request_4_bytes(rt: HostRuntime) -> Result<(), Fail> {
     let mut deque = ArrayDeque::<u8, 4, Saturating>::new(rt.alloc())?;
     assert!(rt; streams(&mut deque)? && deque.is_empty());
+    let mut none = ArrayDeque::<u8, 0, Saturating>::new(rt.alloc())?;
+    assert!(rt; none.write(&[1])? == 0 && none.fill_buf()?.is_empty() && none.read(&mut [2])? == 0);
     Ok(())
 }
 

@@ -22,8 +22,7 @@ fn has_nothing_to_write(mut items: IterMut<'_, i64>) -> bool {
         && items.next_back().is_none()
 }
 
-/// Whether no item is called on, by a `fold`, by a `for_each` of either iterator and by a
-/// `for_each_mut` of all or a part.
+/// Whether no item is called on, neither by an iterator nor in place.
 fn calls_on_nothing<const CAP: usize, B: Behavior>(deque: &mut ArrayDeque<i64, CAP, B>) -> bool {
     let mut is_called = false;
     deque.iter().for_each(|_| is_called = true);
@@ -135,8 +134,7 @@ fn writes_over_one<B: Behavior>(mut deque: ArrayDeque<i64, 1, B>) -> Result<bool
     Ok(is_lent && is_whole && holds(&deque, &[9]))
 }
 
-/// Whether a deque and its clones lend their one item for reading and writing, and give it to an
-/// iterator, from either end, and to a vector.
+/// Whether a deque lends its one item, and gives it to an iterator, from either end, or a vector.
 fn gives_one<B: Behavior>(deque: ArrayDeque<i64, 1, B>) -> Result<bool, Fail> {
     let is_lent = has_one(deque.iter(), (&deque).into_iter())? && writes_over_one(deque.clone()?)?;
     let list = made(deque.clone()?.into_vec())?;
