@@ -496,7 +496,7 @@ fn scans(alloc: Global) -> Result<bool, Fail> {
             && scanner.next() == Some(1)
             && scanner.unread(9).is_ok()
             && scanner.unread(8).is_err()
-            && (scanner.next(), scanner.next()) == (Some(9), Some(2))
+            && (scanner.next(), Iterator::next(&mut scanner)) == (Some(9), Some(2))
             && scanner.next_if(|item| *item > 3) == None
             && scanner.next_if(|item| *item == 3) == Some(3)
             && reads_ahead(&mut scanner),
