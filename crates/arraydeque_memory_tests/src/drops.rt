@@ -122,8 +122,7 @@ fn each_written_item_that_goes_drops_once(rt: HostRuntime) -> Result<(), Fail> {
     Ok(())
 }
 
-/// What a truncate to the first two of the items 1 to 5 drops, one to the last two, and the deques
-/// that are left.
+/// What a truncate to the first two of 1 to 5 drops, one to the last two, and the deques left.
 #[test]
 fn truncates_drop_front_to_back(rt: HostRuntime) -> Result<(), Fail> {
     let drops = Drops::new();

@@ -188,8 +188,7 @@ fn writes_to_each(deque: &mut Deque) -> bool {
     is_called && holds(deque, &[7, 4, 10, 9])
 }
 
-/// Whether two items are left alone where nothing is to be handed out, and whether a vector of none
-/// is empty.
+/// Whether two items stay where nothing is handed out, and whether a vector of none is empty.
 fn hands_out_nothing(alloc: Global, mut deque: Deque) -> Result<bool, Fail> {
     let is_left_alone = deque.len() == 2
         && deque.drain(1..1)?.next().is_none()
@@ -243,8 +242,7 @@ fn calls_in_place_1_request_32_bytes(rt: HostRuntime) -> Result<(), Fail> {
     Ok(())
 }
 
-/// Whether bytes go in and out by each call of a stream, where the list wraps, and by pops that
-/// ask.
+/// Whether bytes go in and out by each call of a stream, over a wrap, and by pops that ask.
 fn streams(deque: &mut ArrayDeque<u8, 4, Saturating>) -> Result<bool, Fail> {
     let mut buf = [0; 3];
     let is_read = deque.write(&[1, 2, 3])? == 3 && deque.read(&mut buf)? == 3 && buf == [1, 2, 3];

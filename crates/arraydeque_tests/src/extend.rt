@@ -199,8 +199,7 @@ fn an_iterator_is_asked_to_its_end(rt: HostRuntime) -> Result<(), Fail> {
     Ok(())
 }
 
-/// Whether makers and extends at both ends, under either policy, take what comes before the first
-/// `None`.
+/// Whether makers and extends, under either policy, take what comes before the first `None`.
 fn ends_at_none(alloc: Global, answers: &[Option<i64>]) -> Result<bool, Fail> {
     let mut saturating = made(ArrayDeque::<i64, 5, Saturating>::from_iter(
         alloc,

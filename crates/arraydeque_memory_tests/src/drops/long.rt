@@ -102,6 +102,10 @@ fn a_thousand_drop_front_to_back(rt: HostRuntime) -> Result<(), Fail> {
     deque.truncate_front(300);
     assert!(rt; [drops.since(), drops.with(deque)] == [up(0, 700), up(700, 1000)]);
     let mut deque = deque_of(rt.alloc(), &drops, 1000)?;
+    assert!(rt; deque.len() == 1000);
+    deque.remove_range(300..900);
+    assert!(rt; drops.since() == up(300, 900) && drops.with(deque).0 == 400);
+    let mut deque = deque_of(rt.alloc(), &drops, 1000)?;
     deque.retain(|item| item.number < 300 || 900 <= item.number);
     let ((count, sum, _), (left, left_sum, _)) = (drops.since(), drops.with(deque));
     assert!(rt; (count, sum, left, left_sum) == (600, 359_700, 400, 139_800));
