@@ -2,7 +2,7 @@
 ghost use Rattle.std.specs.Option.{option_zip};
 ghost use Rattle.std.specs.Prelude.{◌≡◌, ◌≤◌, ◌∷◌, [], ◌++◌, Result, IfOk, IfErr, Some, None, ⊤, codes, flat_map, map, string_bytes};
 ghost use Rattle.arraydeque.specs.Machine.{answer_of};
-ghost use Rattle.adq.specs.Run.{policy_of, settings_of, Drives, IsOutcome, ReadsWhole, Reports};
+ghost use Rattle.adq.specs.Run.{policy_of, settings_of, Drives, Reports};
 ghost use Rattle.adq.specs.Text.{text_of, list_text};
 ghost use Rattle.adq.specs.declared.fault.Fault.{Fault};
 ghost use Rattle.adq.specs.declared.fault.Fault.TheVariants.{Memory};
@@ -41,14 +41,15 @@ pub fn drive<R: Read, W: Write, F: Write>(
     ensures unread { settings_of (map (λ word. string_bytes word) args.now) ≡ None
         → input.new ≡ input.old }
 {
-    match write_run(alloc, args, input, output) {
+    match run_with(alloc, args, input, output) {
         Ok(()) => 0,
         Err(fault) => fault.report(faults),
     }
 }
 
-/// Reads all input, and writes what it prints.
-fn write_run<R: Read, W: Write>(
+/// Reads all input, and writes what it prints, at the capacity and under the policy that two words
+/// name.
+fn run_with<R: Read, W: Write>(
     alloc: Global,
     args: &[String],
     input: &mut R,
@@ -59,90 +60,58 @@ fn write_run<R: Read, W: Write>(
     ensures unread { settings_of (map (λ word. string_bytes word) args.now) ≡ None
         → input.new ≡ input.old }
 {
-    let mut text = Vec::new(alloc);
-    let printed = dispatch(alloc, args, input, &mut text)?;
-    write(output, printed.as_bytes())
-}
-
-/// Reads the text into `text`, and returns what it prints.
-fn dispatch<R: Read>(
-    alloc: Global,
-    args: &[String],
-    input: &mut R,
-    text: &mut Vec<u8>,
-) -> Result<String, Fault>
-    ensures outcome { IsOutcome
-        (settings_of (map (λ word. string_bytes word) args.now)) text.new.items result }
-    ensures whole { ReadsWhole (R.remaining input.old) text.old.items text.new.items result }
-    ensures unread { settings_of (map (λ word. string_bytes word) args.now) ≡ None
-        → input.new ≡ input.old }
-{
     let [policy, capacity] = args else {
         return Err(Fault::Arguments);
     };
-    run_with(alloc, capacity.as_str(), policy.as_str(), input, text)
-}
-
-/// The same at the capacity that a word names, under the policy that another names.
-fn run_with<R: Read>(
-    alloc: Global,
-    capacity: &str,
-    policy: &str,
-    input: &mut R,
-    text: &mut Vec<u8>,
-) -> Result<String, Fault>
-    ensures outcome { IsOutcome
-        (settings_of (policy.now ∷ capacity.now ∷ [])) text.new.items result }
-    ensures whole { ReadsWhole (R.remaining input.old) text.old.items text.new.items result }
-    ensures unread { settings_of (policy.now ∷ capacity.now ∷ []) ≡ None → input.new ≡ input.old }
-{
-    match capacity {
-        "0" => run_at::<R, 0>(alloc, policy, input, text),
-        "1" => run_at::<R, 1>(alloc, policy, input, text),
-        "2" => run_at::<R, 2>(alloc, policy, input, text),
-        "3" => run_at::<R, 3>(alloc, policy, input, text),
-        "5" => run_at::<R, 5>(alloc, policy, input, text),
-        "7" => run_at::<R, 7>(alloc, policy, input, text),
-        "8" => run_at::<R, 8>(alloc, policy, input, text),
+    let policy = policy.as_str();
+    match capacity.as_str() {
+        "0" => run_at::<R, W, 0>(alloc, policy, input, output),
+        "1" => run_at::<R, W, 1>(alloc, policy, input, output),
+        "2" => run_at::<R, W, 2>(alloc, policy, input, output),
+        "3" => run_at::<R, W, 3>(alloc, policy, input, output),
+        "5" => run_at::<R, W, 5>(alloc, policy, input, output),
+        "7" => run_at::<R, W, 7>(alloc, policy, input, output),
+        "8" => run_at::<R, W, 8>(alloc, policy, input, output),
         _ => Err(Fault::Arguments),
     }
 }
 
 /// The same at one capacity.
-fn run_at<R: Read, const CAP: usize>(
+fn run_at<R: Read, W: Write, const CAP: usize>(
     alloc: Global,
     policy: &str,
     input: &mut R,
-    text: &mut Vec<u8>,
-) -> Result<String, Fault>
-    ensures outcome { IsOutcome
-        (option_zip (Some CAP) (policy_of policy.now)) text.new.items result }
-    ensures whole { ReadsWhole (R.remaining input.old) text.old.items text.new.items result }
+    output: &mut W,
+) -> Result<(), Fault>
+    ensures run { Drives (option_zip (Some CAP) (policy_of policy.now))
+        (R.remaining input.old) (W.contents output.old) (W.contents output.new) result }
     ensures unread { option_zip (Some CAP) (policy_of policy.now) ≡ None
         → input.new ≡ input.old }
 {
     match policy {
-        "sat" => run_on::<R, CAP, Saturating>(alloc, input, text),
-        "wrap" => run_on::<R, CAP, Wrapping>(alloc, input, text),
+        "sat" => run_on::<R, W, CAP, Saturating>(alloc, input, output),
+        "wrap" => run_on::<R, W, CAP, Wrapping>(alloc, input, output),
         _ => Err(Fault::Arguments),
     }
 }
 
 /// The same under one policy. The deque is made first, then all input is read, and then every line
 /// of it.
-fn run_on<R: Read, const CAP: usize, B: RunPolicy<i64, CAP>>(
+fn run_on<R: Read, W: Write, const CAP: usize, B: RunPolicy<i64, CAP>>(
     alloc: Global,
     input: &mut R,
-    text: &mut Vec<u8>,
-) -> Result<String, Fault>
-    ensures outcome { IsOutcome (Some (CAP, B.policy)) text.new.items result }
-    ensures whole { ReadsWhole (R.remaining input.old) text.old.items text.new.items result }
+    output: &mut W,
+) -> Result<(), Fault>
+    ensures { Drives (Some (CAP, B.policy)) (R.remaining input.old)
+        (W.contents output.old) (W.contents output.new) result }
 {
     let mut deque = ArrayDeque::<i64, CAP, B>::new(alloc)?;
-    read(input, text)?;
+    let mut text = Vec::new(alloc);
+    read(input, &mut text)?;
     let calls = calls(alloc, text.as_slice())?;
     let replies = deque.run(calls)?;
-    print(alloc, replies, &deque)
+    let printed = print(alloc, replies, &deque)?;
+    write(output, printed.as_bytes())
 }
 
 /// The text of the replies, and then of the list.
