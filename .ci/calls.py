@@ -15,8 +15,8 @@ CALL = re.compile(
 HEAD = (
     '# All calls\n\n'
     'This page lists each public call of the deque and of the ring, with its type and the first sentence of its '
-    'documentation. The link leads to the call, where its contract and an example stand. A call of a trait of std, '
-    'such as `next` or `==`, stands at the `impl` of that trait. [CALLING](../crates/arraydeque/CALLING.md) explains '
+    'documentation. The link leads to the source of the call. A call of a trait of std, such as `next` or `==`, '
+    'isn\'t listed here: it stands at the `impl` of that trait. [CALLING](../crates/arraydeque/CALLING.md) explains '
     'the calls task by task.\n\n'
     '`.ci/calls.py` writes this page.\n'
 )

@@ -376,20 +376,6 @@ pub fn move_range<T: Drop, const CAP: usize, const N: usize>(
     Ok(())
 }
 
-/// Moves a deque's first items, as far as there is room, by `extend`.
-pub fn extend_first<T: Drop, const CAP: usize, const N: usize>(
-    to: &mut ArrayDeque<T, CAP, Saturating>,
-    from: &mut ArrayDeque<T, N, Saturating>,
-    count: usize,
-) -> Result<(), AllocError>
-    requires { count ≤ length from.old.items }
-    ensures { let room = CAP - length to.old.items in
-        OnOk result (to.new.items ≡ to.old.items ++ take room (take count from.old.items)) }
-{
-    let _ = to.extend(from.drain(..count)?);
-    Ok(())
-}
-
 /// Adds a deque's items at the front, as far as there is room.
 pub fn move_all_to_front<T: Drop, const CAP: usize, const N: usize>(
     to: &mut ArrayDeque<T, CAP, Saturating>,
@@ -663,6 +649,22 @@ pub fn push_masked<const CAP: usize, const N: usize>(
         to.new.items ≡ keep_last CAP (to.old.items ++ masked) }
 {
     to.extend_back(from.iter().copied().map(|item| item & 7));
+}
+
+/// Pushes a deque's items in a range, by `extend`.
+pub fn extend_range<T: Drop, const CAP: usize, const N: usize>(
+    to: &mut ArrayDeque<T, CAP, Wrapping>,
+    from: &mut ArrayDeque<T, N, Saturating>,
+    start: usize,
+    end: usize,
+) -> Result<(), AllocError>
+    requires in_order { start ≤ end }
+    requires in_bounds { end ≤ length from.old.items }
+    ensures { let part = take (end - start) (drop start from.old.items) in
+        OnOk result (to.new.items ≡ keep_last CAP (to.old.items ++ part)) }
+{
+    let _ = to.extend(from.drain(start..end)?);
+    Ok(())
 }
 
 /// Pushes copies of a deque's items, from the last to the first, by `extend`.

@@ -134,7 +134,7 @@ impl<T> Ring<T> {
         count
     }
 
-    /// Adds the items of an iterator at the back, in order. Each takes the place of the first item,
+    /// Adds the items of an iterator at the back, in order, each in the place of the first item,
     /// which is dropped. Requires a full ring of one place or more, and an iterator that ends.
     ///
     /// Start: 1 up for each item that comes. Steps: 1 take, 1 put for each.
@@ -171,8 +171,8 @@ impl<T> Ring<T> {
         self.slots = slots;
     }
 
-    /// Adds the items of an iterator at the front, one by one: the last one is the first
-    /// afterwards. Each takes the place of the last item, which is dropped. Requires a full ring of
+    /// Adds the items of an iterator at the front, one by one, each in the place of the last item,
+    /// which is dropped. The last one that comes is the first afterwards. Requires a full ring of
     /// one place or more, and an iterator that ends.
     ///
     /// Start: 1 down for each item that comes. Steps: 1 take, 1 put for each.

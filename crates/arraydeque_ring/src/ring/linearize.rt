@@ -9,9 +9,9 @@ use super::moves::move_gap;
 use crate::slots::Slots;
 
 impl<T> Ring<T> {
-    /// Lays the list in one piece that starts at the first place, so that the first slice of
-    /// `as_slices` has all items. If the list lies in one piece already, wherever that is, nothing
-    /// happens.
+    /// Lays the list in one piece, so that the first slice of `as_slices` has all items. A list
+    /// that wraps then starts at the first place. If the list lies in one piece already, wherever
+    /// that is, nothing happens.
     ///
     /// It works in place, by no more moves and exchanges than there are items.
     ///
