@@ -1,8 +1,8 @@
 """Which functions of std may ask for memory, by the toolchain's own sources of std.
 
-One asks whose signature has a refusal in its result, or as an error that its own is made of. A refusal may also become
-the error of a stream, so one of `Write`, `Read` or `BufRead` asks that returns a `Result`; and it may not be told of at
-all, so one without a `Result` asks whose body calls an allocator.
+A function asks if its signature has a refusal in its result, or as an error that its own error is made of. A refusal
+may also become the error of a stream, so a function of `Write`, `Read` or `BufRead` asks if it returns a `Result`. And
+a refusal may not be told of at all, so a function without a `Result` asks if its body calls an allocator.
 """
 import re
 import subprocess

@@ -12,8 +12,8 @@ An entry above that release's heading in CHANGELOG, a bullet or a table's row, h
 clause or field with its call or record: under 'Breaks' what is gone or has another text, what an old call or trait asks
 anew, and a call that hides a trait's; there or under 'New' an `ensures` of another text. If other places have such a
 call and clause, it names a type or policy that they lack. A release is the first commit that gave its heading a day, so
-a renamed heading makes another, and is held to the release before it, by its own section. That git's history isn't
-whole is a fault, unless ARRAYDEQUE_HISTORY is `none`.
+a renamed heading makes another, and is held to the release before it, by its own section. It is a fault if git's
+history isn't whole, unless ARRAYDEQUE_HISTORY is `none`.
 
 Not seen: whether a text says less, more or the same; what words of the toolchain mean, and private ones of `proofs`, of
 `formers` and of a private trait; a type's view and invariant; what follows from private fields, such as `Send`, or from
