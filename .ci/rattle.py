@@ -40,14 +40,15 @@ def functions(text):
 
 
 def in_loops(code):
-    """The lines of a function that stand in a loop."""
+    """The lines of a function that a loop may run more than once."""
     found, loop = [], None
     for line in code.splitlines():
         indent = len(line) - len(line.lstrip())
-        if loop is None and re.match(r"\s*(?:let .*= )?(?:'\w+: )?(?:for|while|loop)\b", line):
-            loop = indent
-        elif loop is not None and indent > loop:
+        if loop is not None and (indent > loop or line.strip() in ('', '{')):
             found.append(line)
-        elif loop is not None:
+        elif head := re.match(r"\s*(?:let .*= )?(?:'\w+: )?(for|while|loop)\b", line):
+            loop = indent
+            found += [line] if head[1] == 'while' else []
+        else:
             loop = None
     return '\n'.join(found)
