@@ -51,7 +51,7 @@ def page_of_calls():
     parts = [HEAD]
     for title, crate in PARTS:
         files = sorted((ROOT / 'crates' / crate / 'src').rglob('*.rt'))
-        files = [it for it in files if not {'slots', 'slots.rt', 'tests'} & {*it.parts}]
+        files = [it for it in files if not {'slots', 'slots.rt', 'tests'} & {*it.relative_to(ROOT).parts}]
         parts.append(f'## {title}\n\n' + '\n'.join(line for it in files for line in calls_of(it)) + '\n')
     return '\n'.join(parts)
 

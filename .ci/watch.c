@@ -1,6 +1,6 @@
 /* Laid before a program by LD_PRELOAD: counts its requests for memory, and may refuse one of them.
    REFUSED is the number of that request, counted from 1. TOLD names a file that is told at the end how many
-   requests were granted, how many regions were given back, and how many bytes were asked for. */
+   requests were granted, how many regions were given back, and how many bytes those requests were for. */
 
 extern void *__libc_malloc(unsigned long);
 extern void *__libc_calloc(unsigned long, unsigned long);

@@ -92,7 +92,8 @@ fn assert_movable(rt: &impl Abort, row: &[Option<u8>], dst: usize, src: usize, l
     }
 }
 
-/// Moves a run in a region that holds what the row has, and compares each place.
+/// Moves a run in a region that holds what the row has, and compares each place that holds a value
+/// then.
 fn move_beside(
     rt: &impl Abort,
     alloc: Global,

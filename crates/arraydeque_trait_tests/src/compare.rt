@@ -2,10 +2,9 @@
 ghost use Rattle.std.specs.Cmp.{on_per, on_po};
 ghost use Rattle.arraydeque_trait_tests.specs.Marks.{marks_eq, marks_partial_cmp, marks_per, marks_po};
 
-use arraydeque::behavior::Behavior;
-use arraydeque::{ArrayDeque, CapacityError, MakeError, Saturating, Wrapping};
+use arraydeque::{ArrayDeque, CapacityError, MakeError, Saturating};
 use arraydeque_samples::build::{deque_at, numbers, wrapping_at};
-use std::alloc::{AllocError, Global};
+use std::alloc::Global;
 use std::cell::RefCell;
 use std::cmp::Ordering;
 use std::collections::{BTreeSet, HashSet};

@@ -3,7 +3,7 @@ use arraydeque::{ArrayDeque, Saturating};
 use std::test::Fail;
 use uses::ageing::{Entry, age};
 
-/// The entries with the time that each has left, in a deque whose list starts at the place `start`.
+/// Up to four entries, each with the time that it has left.
 type Entries = ArrayDeque<Entry<u8>, 4, Saturating>;
 
 #[test]

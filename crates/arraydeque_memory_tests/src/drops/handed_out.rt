@@ -1,4 +1,5 @@
-//! What an owned iterator drops, and what moves or changes places without a drop.
+//! What an owned iterator, a run, and a refusal that becomes another error drop, and what moves or
+//! changes places without a drop.
 use super::{Drops, deque_at};
 use arraydeque::run::Call;
 use arraydeque::{ArrayDeque, MakeError, Wrapping};
@@ -123,7 +124,7 @@ fn a_run_drops_what_no_reply_hands_out(rt: HostRuntime) -> Result<(), Fail> {
     Ok(())
 }
 
-/// What a refusal for memory hands back goes once it becomes an error that has no room for it.
+/// What a refusal hands back goes once the refusal becomes an error that has no room for it.
 #[test]
 fn a_source_is_dropped_with_its_refusal(rt: HostRuntime) -> Result<(), Fail> {
     let drops = Drops::new();
@@ -141,5 +142,9 @@ fn a_source_is_dropped_with_its_refusal(rt: HostRuntime) -> Result<(), Fail> {
     let is_told = error == AllocError && io_error.kind() == io::ErrorKind::OutOfMemory;
     drop(io_error);
     assert!(rt; is_told && [before, first, second, drops.since()] == [0, 12, 3, 0]);
+    let mut deque = deque_at::<1>(rt.alloc(), &drops, 0, 1)?;
+    let refused = deque.push_back(drops.item(2)).map_err(io::Error::from);
+    let seen = [drops.since(), drops.with(refused), drops.with(deque)];
+    assert!(rt; seen == [2, 0, 1]);
     Ok(())
 }
